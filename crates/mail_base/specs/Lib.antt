@@ -1,2 +1,3 @@
 pub mod Configs
+pub mod Histories
 pub mod Metas

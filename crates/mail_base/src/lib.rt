@@ -12,7 +12,7 @@ mod token;
 mod try_copy;
 
 pub use config::Config;
-pub use fault::NoMemory;
+pub use fault::{EdgeFault, Failed, NoMemory};
 pub use rule::{Go, Item, Pattern, Piece, Rule, RuleSet, Step, Template};
 pub use same::Same;
 pub use seq::Seq;
