@@ -2,5 +2,7 @@
 #![tactic(auto)]
 
 mod logical;
+mod tokens;
 
 pub use logical::{Logical, logical_lines};
+pub use tokens::{DEFAULT_OPERATORS, push_tokens, tokens_of};
