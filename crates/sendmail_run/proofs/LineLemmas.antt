@@ -4,7 +4,7 @@ use Rattle.std.specs.List.{slice_split, position_or_len, before_first, after_fir
 use Rattle.std.specs.Str.Lines.{lines, lines_of_parts, strip_carriage_return}
 use Rattle.std.proofs.lemmas.List.Splits.{slice_split_first, slice_split_none, length-slice_split}
 use Rattle.std.proofs.lemmas.List.Sums.{position_or_len_is, take_while-cons}
-use Rattle.std.proofs.lemmas.List.{get_or_default, append_assoc}
+use Rattle.std.proofs.lemmas.List.{get_or_default, append_assoc, take_all}
 use Rattle.std.proofs.lemmas.Bool.{false_from_ne_true, cond-false, ne_eqb}
 use Rattle.memchr.specs.Find.{IsFirstByte, is_byte}
 use Rattle.sendmail_run.specs.LogicalLines.{physical_lines, is_indented}
@@ -18,6 +18,21 @@ parts_first : (x : List ℕ) (rest : List ℕ) → lines_of_parts (x ∷ slice_s
 parts_first x rest =
     let some = nonempty (slice_split (is_byte 10) rest) _ (length-slice_split (is_byte 10) rest) in
     subst (λ (q : List (List ℕ)). lines_of_parts (x ∷ q) ≡ strip_carriage_return x ∷ lines_of_parts q) (sym some.2) refl
+
+-- the first byte of a kind stands where the list before it ends
+pub first_place : (byte : ℕ) (text : List ℕ) (k : ℕ) → IsFirstByte (is_byte byte) text (Some k) → position_or_len (is_byte byte) text ≡ k
+first_place byte text k found =
+    let low : k < length text = found.0.high in
+    position_or_len_is (is_byte byte) text k 0 (omega arith) (λ j lt. false_from_ne_true _ (found.0.before j (omega arith) lt)) (λ lt. found.1)
+
+pub no_place : (byte : ℕ) (text : List ℕ) → IsFirstByte (is_byte byte) text None → position_or_len (is_byte byte) text ≡ length text
+no_place byte text none = position_or_len_is (is_byte byte) text (length text) 0 (omega arith) (λ j lt. false_from_ne_true _ (none j (omega arith) lt)) (λ lt. absurd (omega arith))
+
+pub before_found : (byte : ℕ) (text : List ℕ) (k : ℕ) → IsFirstByte (is_byte byte) text (Some k) → take k text ≡ before_first (is_byte byte) text
+before_found byte text k found = ap (λ (n : ℕ). take n text) (sym (first_place byte text k found))
+
+pub before_none : (byte : ℕ) (text : List ℕ) → IsFirstByte (is_byte byte) text None → text ≡ before_first (is_byte byte) text
+before_none byte text none = sym (ap (λ (n : ℕ). take n text) (no_place byte text none) ∙ take_all (length text) text (omega arith))
 
 -- the line before the first LF, and the lines after it
 pub lines_first : (text : List ℕ) (k : ℕ) → IsFirstByte (is_byte 10) text (Some k) → physical_lines text ≡ strip_carriage_return (take k text) ∷ physical_lines (drop (k + 1) text)

@@ -1,2 +1,5 @@
 pub mod LogicalLines
 pub mod Tokens
+pub mod Parts
+pub mod Sides
+pub mod Configuration

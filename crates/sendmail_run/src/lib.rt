@@ -1,8 +1,12 @@
 //! The program `sendmail`, as a function of its devices.
 #![tactic(auto)]
 
+mod fault;
 mod logical;
+mod sides;
 mod tokens;
 
+pub use fault::{Fault, ReadFault, Refusal};
 pub use logical::{Logical, logical_lines};
+pub use sides::{Part, Parts, metas_of};
 pub use tokens::{DEFAULT_OPERATORS, push_tokens, tokens_of};

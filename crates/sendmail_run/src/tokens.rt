@@ -44,7 +44,7 @@ pub fn push_tokens(
     Ok(())
 }
 
-fn is_gap(byte: u8) -> bool
+pub fn is_gap(byte: u8) -> bool
     ensures { result ≡ spec.is_gap byte }
 {
     byte <= b' ' || byte == 127
