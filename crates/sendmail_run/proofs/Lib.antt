@@ -1,3 +1,4 @@
 mod LineLemmas
+mod ReaderLemmas
 mod SideLemmas
 mod TokenLemmas

@@ -64,9 +64,12 @@ set_name text = filter (λ b. not (b == 34)) (stripped text)
 abbrev pub is_named : List ℕ → RuleSet → Bool
 is_named name set = list_any (λ n. str_eq_ignore_ascii_case n name) set.names
 
+abbrev pub empty_set : List ℕ → RuleSet
+empty_set name = record { names = name ∷ []; rules = [] }
+
 -- the book with a ruleset of this name
 abbrev pub with_set : List ℕ → List RuleSet → List RuleSet
-with_set name book = if list_any (is_named name) book then book else book ++ (record { names = name ∷ []; rules = [] }) ∷ []
+with_set name book = if list_any (is_named name) book then book else book ++ empty_set name ∷ []
 
 -- the book with a rule at the end of the first ruleset of this name
 abbrev pub with_rule : List ℕ → Rule → List RuleSet → List RuleSet
@@ -84,11 +87,17 @@ pub record Reading : Type 0 where
 abbrev pub first_reading : Reading
 first_reading = record { book = []; current = codes "0" }
 
+-- an S line begins its ruleset or goes on with it
+abbrev pub after_set : List ℕ → Reading → Reading
+after_set text reading = record { book = with_set (set_name text) reading.book; current = set_name text }
+
+-- an R line adds a rule to the ruleset of the last S line
+abbrev pub after_rule : List ℕ → Reading → Reading
+after_rule rule reading = record { book = with_rule reading.current (rule_of rule) (with_set reading.current reading.book); current = reading.current }
+
 abbrev pub after_line : List ℕ → Reading → Reading
 after_line [] reading = reading
-after_line (letter ∷ rest) reading =
-    if letter == 83 then record { book = with_set (set_name rest) reading.book; current = set_name rest }
-    else record { book = with_rule reading.current (rule_of rest) (with_set reading.current reading.book); current = reading.current }
+after_line (letter ∷ rest) reading = if letter == 83 then after_set rest reading else after_rule rest reading
 
 -- ---- all lines
 

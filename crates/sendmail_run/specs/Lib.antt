@@ -3,3 +3,5 @@ pub mod Tokens
 pub mod Parts
 pub mod Sides
 pub mod Configuration
+pub mod Refusals
+pub mod Readings

@@ -67,7 +67,7 @@ signs_item b = if b == 42 then Any else if b == 43 then More else One
 abbrev pub items_of_part : Part → List Item
 items_of_part (Text bytes) = map Exact (tokens_of default_operators bytes)
 items_of_part (Dollar None) = []
-items_of_part (Dollar (Some b)) = signs_item b ∷ []
+items_of_part (Dollar (Some b)) = if is_binding_sign b then signs_item b ∷ [] else []
 
 -- the items of a left side
 abbrev pub items_of : List ℕ → List Item

@@ -3,10 +3,12 @@
 
 mod fault;
 mod logical;
+mod reader;
 mod sides;
 mod tokens;
 
 pub use fault::{Fault, ReadFault, Refusal};
 pub use logical::{Logical, logical_lines};
+pub use reader::read;
 pub use sides::{Part, Parts, metas_of};
 pub use tokens::{DEFAULT_OPERATORS, push_tokens, tokens_of};

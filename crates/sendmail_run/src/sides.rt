@@ -73,7 +73,7 @@ pub fn metas_of(left: &[u8]) -> usize
 }
 
 /// Whether a right side's body has `$0`, or a number above that of the items that bind.
-pub fn refers_badly(body: &[u8], most: usize) -> bool
+pub fn has_bad_reference(body: &[u8], most: usize) -> bool
     ensures { result ≡ list_any (spec.is_bad_reference most) (parts_of body.now) }
 {
     for part in Parts(body) {
@@ -183,8 +183,8 @@ pub fn items_of(alloc: Global, left: &[u8]) -> Result<Seq<Item>, NoMemory>
     for part in Parts(left) {
         match part {
             Part::Text(bytes) => push_exact(&mut items, bytes)?,
-            Part::Dollar(Some(byte)) => items.push(signs_item(byte))?,
-            Part::Dollar(None) => {}
+            Part::Dollar(Some(byte)) if is_binding_sign(byte) => items.push(signs_item(byte))?,
+            Part::Dollar(_) => {}
         }
     }
     Ok(items)

@@ -3,7 +3,7 @@ use Rattle.std.specs.List.{list_any}
 use Rattle.sendmail_run.specs.Parts.{rest_of}
 use Rattle.sendmail_run.specs.Sides.{parts_of}
 use Rattle.sendmail_run.specs.Sides as spec
-use Rattle.sendmail_run.proofs.sides.refers_badly.Given as goal
+use Rattle.sendmail_run.proofs.sides.has_bad_reference.Given as goal
 
 abbrev pub invariant-loop-part : goal.invariant-loop-part
 invariant-loop-part l = list_any (spec.is_bad_reference l.most) (rest_of l.part-iterator) ≡ list_any (spec.is_bad_reference l.most) (parts_of l.fn.body)
