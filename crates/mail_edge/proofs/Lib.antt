@@ -1,0 +1,4 @@
+pub mod Causing
+mod Finding
+pub mod Giving
+pub mod Taking
