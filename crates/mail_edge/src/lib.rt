@@ -11,6 +11,8 @@ mod mem_source;
 mod script;
 mod sink;
 mod source;
+#[cfg(test)]
+mod tests;
 
 pub use clock::Clock;
 pub use files::{Files, LARGEST_FILE};

@@ -1,6 +1,5 @@
-ghost use Rattle.std.specs.Prelude.{◌≡◌, ◌<◌, ◌≤◌, ◌↔◌, ◌++◌, [], List, ℕ, length, take, drop, min, IfOk, OnErr, IfSome, Some, Ok, is_err};
+ghost use Rattle.std.specs.Prelude.{◌≡◌, ◌<◌, ◌≤◌, ◌↔◌, ◌++◌, [], List, ℕ, length, take, drop, min, IfOk, OnErr, Some, Ok, is_err};
 ghost use Rattle.mail_base.specs.Histories.{HasCause};
-ghost use Rattle.mail_edge.specs.Moves.{Loses};
 ghost use Rattle.mail_edge.specs.Scripts.{is_listed, after_call};
 
 use crate::script::Script;
