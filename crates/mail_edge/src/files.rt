@@ -5,7 +5,7 @@ ghost use Rattle.mail_edge.specs.Seen.{FilesSeen, text_of};
 use mail_base::{EdgeFault, Text};
 use std::alloc::Global;
 
-/// The most bytes that the text of a file has. A larger file is a fault of its device.
+/// The most bytes that the text of a file has (own). A larger file is a fault of its device.
 pub const LARGEST_FILE: usize = 67_108_864;
 
 /// Files to read, on a disk or in memory. They may tell their names and texts, which never change.
