@@ -1,0 +1,5 @@
+pub mod Causing
+mod Examples
+mod Finding
+pub mod Giving
+pub mod Taking

@@ -1,0 +1,5 @@
+pub mod Causes
+pub mod Moves
+pub mod Readings
+pub mod Scripts
+pub mod Seen

@@ -1,0 +1,25 @@
+//! The outside of the program: sources and sinks of bytes, files and a clock. Each counts its faults
+//! or readings and may tell its content, as the forms in memory do.
+#![tactic(auto)]
+
+mod clock;
+mod files;
+mod mem_clock;
+mod mem_files;
+mod mem_sink;
+mod mem_source;
+mod script;
+mod sink;
+mod source;
+#[cfg(test)]
+mod tests;
+
+pub use clock::Clock;
+pub use files::{Files, LARGEST_FILE};
+pub use mem_clock::MemClock;
+pub use mem_files::{MemFiles, SureFiles};
+pub use mem_sink::MemSink;
+pub use mem_source::{MemSource, SureSource};
+pub use script::Script;
+pub use sink::Sink;
+pub use source::Source;
