@@ -104,8 +104,8 @@ entered_place name book made place none is last =
     let new : RuleSet = record { names = name ∷ []; rules = [] } in
     subst (λ (m : List RuleSet). IsPlace name m place) (sym is)
     (place_first name (book ++ new ∷ []) place new (omega (arith, length_push book new))
-      (λ k e lt. let l : k < length book = omega arith in rw (get_or_append_left book (new ∷ []) e k l) (none k e l))
-      (rw (get_or_push book new new place (sym last)) (named_itself name [])))
+    (λ k e lt. let l : k < length book = omega arith in rw (get_or_append_left book (new ∷ []) e k l) (none k e l))
+    (rw (get_or_push book new new place (sym last)) (named_itself name [])))
 
 -- nothing is made where one has the name
 pub with_set_at : (name : List ℕ) (book : List RuleSet) (place : ℕ) → IsPlace name book place → book ≡ with_set name book

@@ -5,3 +5,4 @@ pub mod Sides
 pub mod Configuration
 pub mod Refusals
 pub mod Readings
+pub mod Words

@@ -9,8 +9,8 @@ ghost use Rattle.sendmail_run.specs.Configuration as spec;
 use crate::fault::{Fault, ReadFault, Refusal};
 use crate::logical::logical_lines;
 use crate::sides::{
-    is_unread_left, is_unread_right, items_of, left_of, metas_of, has_bad_reference, right_of, split_prefix,
-    template_of,
+    has_bad_reference, is_unread_left, is_unread_right, items_of, left_of, metas_of, right_of,
+    split_prefix, template_of,
 };
 use mail_base::{Config, NoMemory, Pattern, Rule, RuleSet, Seq, Text, TryCopy};
 use std::alloc::Global;

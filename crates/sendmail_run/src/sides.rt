@@ -7,8 +7,8 @@ ghost use Rattle.sendmail_run.specs.Tokens.{is_gap as is_gap_byte};
 ghost use Rattle.sendmail_run.specs.Sides as spec;
 
 use crate::tokens::{DEFAULT_OPERATORS, is_gap, tokens_of};
-use memchr::memchr;
 use mail_base::{Go, Item, NoMemory, Piece, Seq, Step, Template};
+use memchr::memchr;
 use std::alloc::Global;
 
 /// A part of a rule's side: a text without a dollar sign, or a dollar sign with the byte after it, if there is one.

@@ -20,11 +20,7 @@ pub fn tokens_of(alloc: Global, operators: &[u8], text: &[u8]) -> Result<Seq<Tok
 }
 
 /// Adds the tokens of a text at the end.
-pub fn push_tokens(
-    tokens: &mut Seq<Token>,
-    operators: &[u8],
-    text: &[u8],
-) -> Result<(), NoMemory>
+pub fn push_tokens(tokens: &mut Seq<Token>, operators: &[u8], text: &[u8]) -> Result<(), NoMemory>
     ensures { OnOk result (tokens.new ≡ tokens.old ++ spec.tokens_of operators.now text.now) }
 {
     let alloc = tokens.allocator();

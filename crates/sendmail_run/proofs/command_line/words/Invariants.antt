@@ -1,0 +1,10 @@
+use Rattle.std.proofs.Common.{◌≡◌, drop}
+use Rattle.sendmail_run.specs.Words.{command_line, read_words}
+use Rattle.sendmail_run.proofs.command_line.words.Given as goal
+
+-- what the rest of the words says is what all say
+abbrev pub invariant-loop-word : goal.invariant-loop-word
+invariant-loop-word l = record {
+  rest : read_words l.said l.place (drop l.word-index l.word-items) ≡ command_line l.fn.words;
+  place : l.place ≡ l.word-index;
+}

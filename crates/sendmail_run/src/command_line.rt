@@ -1,0 +1,114 @@
+ghost use Rattle.std.specs.Prelude.{◌≡◌, ◌<◌, ◌^◌, ◌+◌, [], ◌∷◌, ℕ, List, length};
+ghost use Rattle.sendmail_run.specs.declared.command_line.WordFault.TheVariants.{NoMemory as Memory};
+ghost use Rattle.sendmail_run.specs.Words.{Gives, Takes, command_line, read_words};
+
+use mail_base::{NoMemory, Seq, Text, TryCopy};
+use std::alloc::Global;
+use thiserror::Error;
+
+/// The configuration file that is read where no word names one.
+pub const DEFAULT_FILE: &[u8] = b"/etc/mail/sendmail.cf";
+
+/// What a run is to do.
+#[derive(Clone, Copy, Debug, PartialEq, Eq)]
+pub enum Job {
+    /// `-bt`: address test mode.
+    Test,
+}
+
+/// What a command line says.
+#[derive(Debug, Drop)]
+pub struct Mode {
+    /// The name of the configuration file.
+    pub file: Text,
+    pub job: Job,
+}
+
+/// Why a command line is refused.
+#[derive(Clone, Copy, Debug, PartialEq, Eq, Error)]
+pub enum WordFault {
+    /// The place of the word, counted from 0; the number of words where one is missing.
+    #[error("bad word {0}")]
+    At(u32),
+    #[error("no memory")]
+    NoMemory,
+}
+
+impl From<NoMemory> for WordFault {
+    ghost from_gives = { λ _ e. e ≡ Memory };
+
+    fn from(_error: NoMemory) -> WordFault {
+        WordFault::NoMemory
+    }
+}
+
+// What the words so far say: a mode, a configuration file, and whether the next word names that.
+#[derive(Drop)]
+struct Saying {
+    job: Option<Job>,
+    file: Option<Text>,
+    awaits_file: bool,
+}
+
+/// What a command line says, without the program's name, or the place of the word that is refused.
+pub fn words(alloc: Global, words: &Seq<Text>) -> Result<Mode, WordFault>
+    requires { length words.now < 2 ^ 32 }
+    ensures { Gives result (command_line words.now) }
+{
+    let mut said = Saying {
+        job: None,
+        file: None,
+        awaits_file: false,
+    };
+    let mut place: u32 = 0;
+    for word in words.items() {
+        said.take(alloc, word, place)?;
+        place += 1;
+    }
+    said.whole(alloc, place)
+}
+
+impl Saying {
+    fn take(&mut self, alloc: Global, word: &Text, place: u32) -> Result<(), WordFault>
+        requires { place < 2 ^ 32 }
+        ensures { (words : List (List ℕ)) → Takes result (read_words self.old place (word.now ∷ words)) (read_words self.new (place + 1) words) }
+    {
+        if self.awaits_file {
+            self.file = Some(word.copy()?);
+            self.awaits_file = false;
+            return Ok(());
+        }
+        if word.bytes() == b"-bt".as_slice() {
+            if self.job.is_some() {
+                return Err(WordFault::At(place));
+            }
+            self.job = Some(Job::Test);
+            return Ok(());
+        }
+        if !word.bytes().starts_with(b"-C") || self.file.is_some() {
+            return Err(WordFault::At(place));
+        }
+        if word.len() == 2 {
+            self.awaits_file = true;
+        } else {
+            self.file = Some(Text::of(alloc, &word.bytes()[2..])?);
+        }
+        Ok(())
+    }
+
+    fn whole(self, alloc: Global, place: u32) -> Result<Mode, WordFault>
+        ensures { Gives result (read_words self place []) }
+    {
+        if self.awaits_file {
+            return Err(WordFault::At(place));
+        }
+        let Some(job) = self.job else {
+            return Err(WordFault::At(place));
+        };
+        let file = match self.file {
+            Some(file) => file,
+            None => Text::of(alloc, DEFAULT_FILE)?,
+        };
+        Ok(Mode { file, job })
+    }
+}
