@@ -1,0 +1,4 @@
+mod Fitting
+mod Choosing
+mod Keeping
+mod Going
