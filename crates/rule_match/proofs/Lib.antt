@@ -1,4 +1,4 @@
 mod Fitting
-mod Choosing
+pub mod Choosing
 mod Keeping
 mod Going

@@ -1,7 +1,21 @@
 ghost use Rattle.std.specs.Prelude.{◌≡◌, ◌≤◌, length, take, drop};
-ghost use Rattle.rule_match.specs.Items.{meets, is_binding, same_token};
+ghost use Rattle.std.specs.List.{list_all};
+ghost use Rattle.rule_match.specs.Items.{meets, is_binding, is_plain, same_token};
 
-use mail_base::{Item, Token};
+use mail_base::{Item, Pattern, Token};
+
+/// Whether each item is a `$*`, a `$+`, a `$-` or a token.
+pub fn is_plain(pattern: &Pattern) -> bool
+    ensures { result ≡ list_all is_plain pattern.now }
+{
+    pattern.items().iter().all(|item| is_plain_item(item))
+}
+
+fn is_plain_item(item: &Item) -> bool
+    ensures { result ≡ is_plain item.now }
+{
+    matches!(item, Item::Any | Item::More | Item::One | Item::Exact(_))
+}
 
 /// Whether the two tokens are of one kind and equal without ASCII case.
 pub fn is_same(one: &Token, another: &Token) -> bool

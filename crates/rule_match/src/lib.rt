@@ -5,9 +5,12 @@ mod cuts;
 mod item;
 mod law;
 mod matcher;
+#[cfg(test)]
+mod tests;
 mod trial;
 
 pub use cuts::{Cut, Cuts};
+pub use item::is_plain;
 pub use law::{one_choice, put_in};
 pub use matcher::find;
 pub use trial::find_by_trial;
