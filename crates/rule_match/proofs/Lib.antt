@@ -1,0 +1,4 @@
+mod Fitting
+pub mod Choosing
+mod Keeping
+mod Going

@@ -1,0 +1,58 @@
+-- What an item of a rule's left side matches (Sendmail Operation Guide, R and S: rewriting rules).
+use Rattle.std.specs.Prelude.{List, [], ◌∷◌, Bool, true, false}
+use Rattle.std.specs.Str.{str_eq_ignore_ascii_case}
+use Rattle.mail_base.specs.declared.token.Token.{Token}
+use Rattle.mail_base.specs.declared.token.Token.TheVariants.{Word, Quoted, Op, Sign}
+use Rattle.mail_base.specs.declared.token.Mark.{Mark}
+use Rattle.mail_base.specs.declared.token.Mark.TheVariants.{Alt, Mailer, Host, User, End}
+use Rattle.mail_base.specs.declared.rule.Item.{Item}
+use Rattle.mail_base.specs.declared.rule.Item.TheVariants.{Any, More, One, Exact}
+
+abbrev pub same_mark : Mark → Mark → Bool
+same_mark Alt Alt = true
+same_mark Mailer Mailer = true
+same_mark Host Host = true
+same_mark User User = true
+same_mark End End = true
+same_mark _ _ = false
+
+-- tokens of one kind compare without ascii case, and those of two kinds are never the same
+abbrev pub same_token : Token → Token → Bool
+same_token (Word one) (Word another) = str_eq_ignore_ascii_case one another
+same_token (Quoted one) (Quoted another) = str_eq_ignore_ascii_case one another
+same_token (Op one) (Op another) = str_eq_ignore_ascii_case (one ∷ []) (another ∷ [])
+same_token (Sign one) (Sign another) = same_mark one another
+same_token _ _ = false
+
+-- whether the tokens are one token, and that passes the test
+abbrev pub is_one : (Token → Bool) → List Token → Bool
+is_one test (token ∷ []) = test token
+is_one test _ = false
+
+-- whether the tokens are at least one
+abbrev pub is_some_token : List Token → Bool
+is_some_token [] = false
+is_some_token _ = true
+
+-- whether these tokens are a match of the item: `$*` any, `$+` one or more, `$-` exactly one, a token itself
+abbrev pub meets : Item → List Token → Bool
+meets Any piece = true
+meets More piece = is_some_token piece
+meets One piece = is_one (λ _. true) piece
+meets (Exact token) piece = is_one (same_token token) piece
+meets _ piece = false
+
+-- the items that `meets` speaks of so far
+abbrev pub is_plain : Item → Bool
+is_plain Any = true
+is_plain More = true
+is_plain One = true
+is_plain (Exact _) = true
+is_plain _ = false
+
+-- whether `$1` to `$9` count the item
+abbrev pub is_binding : Item → Bool
+is_binding Any = true
+is_binding More = true
+is_binding One = true
+is_binding _ = false

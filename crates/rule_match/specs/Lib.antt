@@ -1,0 +1,4 @@
+pub mod Choices
+pub mod Items
+pub mod Kept
+pub mod Steps
