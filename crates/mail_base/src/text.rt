@@ -90,6 +90,13 @@ impl Text {
         Ok(self.bytes.extend_from_slice(bytes)?)
     }
 
+    /// Takes all bytes out, and keeps their memory.
+    pub fn clear(&mut self)
+        ensures { self.new ≡ [] }
+    {
+        self.bytes.clear();
+    }
+
     /// Whether the two are equal without ASCII case.
     pub fn is_folded(&self, other: &Text) -> bool
         ensures { result ≡ str_eq_ignore_ascii_case self.now other.now }

@@ -6,3 +6,4 @@ pub mod Configuration
 pub mod Refusals
 pub mod Readings
 pub mod Words
+pub mod Printing

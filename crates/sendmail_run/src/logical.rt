@@ -47,7 +47,8 @@ pub fn split_line(text: &[u8]) -> (&[u8], &[u8])
     }
 }
 
-fn without_return(line: &[u8]) -> &[u8]
+/// A line before an LF, without the one CR that may stand at its end.
+pub fn without_return(line: &[u8]) -> &[u8]
     ensures { result.now ≡ strip_carriage_return line.now }
 {
     if !line.is_empty() && line[line.len() - 1] == b'\r' {

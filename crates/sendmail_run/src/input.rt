@@ -1,0 +1,90 @@
+ghost use Rattle.std.specs.Prelude.{◌≡◌, ◌≤◌, ◌++◌, length, OnOk};
+
+use crate::answers::{MOST_LINE, answer};
+use crate::logical::without_return;
+use mail_base::{Config, NoMemory, Text};
+use std::alloc::Global;
+
+/// The most bytes that are kept of a line: its own, and a CR that may stand before its end.
+const MOST_KEPT: usize = MOST_LINE + 1;
+
+/// What came of a line of input that isn't ended yet. Of a line that is too long only the front is kept, so
+/// it holds at most 65,537 bytes.
+#[derive(Drop)]
+pub struct Partial {
+    front: Text,
+    is_cut: bool,
+}
+
+impl Partial {
+    /// Nothing of a line. It takes no memory.
+    pub fn new(alloc: Global) -> Partial {
+        Partial {
+            front: Text::new(alloc),
+            is_cut: false,
+        }
+    }
+
+    /// Whether nothing of the line came.
+    pub fn is_empty(&self) -> bool {
+        self.front.is_empty()
+    }
+
+    /// Takes more of the line. After `NoMemory` it is as before.
+    pub fn take(&mut self, bytes: &[u8]) -> Result<(), NoMemory> {
+        let room = MOST_KEPT - self.front.len();
+        if bytes.len() <= room {
+            self.front.extend(bytes)
+        } else {
+            self.front.extend(&bytes[..room])?;
+            self.is_cut = true;
+            Ok(())
+        }
+    }
+
+    /// Begins the next line.
+    pub fn clear(&mut self) {
+        self.front.clear();
+        self.is_cut = false;
+    }
+
+    /// Whether the line, which is ended now, is `/quit`.
+    pub fn is_quit(&self) -> bool {
+        !self.is_cut && without_return(self.front.bytes()) == b"/quit".as_slice()
+    }
+
+    /// Adds the answer to the line, which is ended now.
+    pub fn answer(&self, alloc: Global, config: &Config, out: &mut Text) -> Result<(), NoMemory> {
+        if self.is_cut {
+            answer_cut(self.front.bytes(), out)
+        } else {
+            answer(alloc, config, without_return(self.front.bytes()), out)
+        }
+    }
+
+    /// Adds the answer to the last line, which the end of the input ends.
+    pub fn answer_last(
+        &self,
+        alloc: Global,
+        config: &Config,
+        out: &mut Text,
+    ) -> Result<(), NoMemory> {
+        let line = self.front.bytes();
+        if self.is_cut {
+            answer_cut(line, out)
+        } else if line == b"/quit".as_slice() {
+            Ok(())
+        } else {
+            answer(alloc, config, line, out)
+        }
+    }
+}
+
+// Adds the answer to a line that is too long, of which this is the front.
+fn answer_cut(front: &[u8], out: &mut Text) -> Result<(), NoMemory> {
+    if front.first() == Some(&b'#') {
+        Ok(())
+    } else {
+        out.extend(b"line too long\n")
+    }
+}

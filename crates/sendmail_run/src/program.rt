@@ -1,0 +1,51 @@
+ghost use Rattle.std.specs.Prelude.{◌<◌, ◌^◌, length};
+
+use crate::address_test::address_test;
+use crate::command_line::{Job, WordFault, words};
+use crate::fault::ReadFault;
+use crate::outcome::Outcome;
+use crate::reader::read;
+use mail_base::{Config, EdgeFault, Seq, Text};
+use mail_edge::{Files, Sink, Source};
+use std::alloc::Global;
+
+/// The whole program, over its words without the program's name, and its devices.
+///
+/// The steps are taken in this order, and the first refusal ends the run: the words, the configuration
+/// file, its lines, the lines of input.
+pub fn sendmail<F: Files, I: Source, O: Sink>(
+    alloc: Global,
+    arguments: &Seq<Text>,
+    files: &mut F,
+    input: &mut I,
+    output: &mut O,
+) -> Outcome
+    requires { length arguments.now < 2 ^ 32 }
+{
+    let mode = match words(alloc, arguments) {
+        Ok(mode) => mode,
+        Err(WordFault::At(place)) => return Outcome::Usage(place),
+        Err(WordFault::NoMemory) => return Outcome::NoMemory,
+    };
+    match configuration(alloc, mode.file, files) {
+        Ok(config) => match mode.job {
+            Job::Test => address_test(alloc, &config, input, output),
+        },
+        Err(outcome) => outcome,
+    }
+}
+
+// The configuration that the file of that name gives.
+fn configuration<F: Files>(alloc: Global, name: Text, files: &mut F) -> Result<Config, Outcome> {
+    let text = match files.read(alloc, &name) {
+        Ok(Some(text)) => text,
+        Ok(None) => return Err(Outcome::NoFile(name)),
+        Err(EdgeFault::Failed) => return Err(Outcome::FilesFault),
+        Err(EdgeFault::NoMemory) => return Err(Outcome::NoMemory),
+    };
+    match read(alloc, text.bytes()) {
+        Ok(config) => Ok(config),
+        Err(ReadFault::Refused(refusal)) => Err(Outcome::ConfigLine(refusal.line, refusal.fault)),
+        Err(ReadFault::NoMemory) => Err(Outcome::NoMemory),
+    }
+}
