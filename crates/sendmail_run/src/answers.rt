@@ -1,7 +1,7 @@
-ghost use Rattle.std.specs.Prelude.{◌≡◌, ◌≤◌, ◌++◌, List, ℕ, length, OnOk, IsTrue};
-ghost use Rattle.mail_base.specs.declared.token.Token.{Token};
+ghost use Rattle.std.specs.Prelude.{◌≡◌, ◌≤◌, ◌++◌, List, ℕ, length, OnOk, IsTrue, codes};
+ghost use Rattle.std.specs.List.{list_any, position_or_len};
 ghost use Rattle.ruleset_run.specs.Plain.{is_plain_book};
-ghost use Rattle.sendmail_run.specs.Tokens.{tokens_of, default_operators};
+ghost use Rattle.sendmail_run.specs.Tokens.{tokens_of, default_operators, is_gap as is_gap_byte};
 ghost use Rattle.sendmail_run.specs.Printing.{Answers, AnswersRun, spaced, line_of};
 ghost use Rattle.sendmail_run.specs.Printing as spec;
 
@@ -33,15 +33,14 @@ pub fn answer(
     if line.len() > MOST_LINE {
         return out.extend(b"line too long\n");
     }
-    let name = name_of(line);
-    let address = &line[name.len()..];
-    if is_unread(line, name, address) {
+    if is_unread(line) {
         return out.extend(b"not yet\n");
     }
+    let name = name_of(line);
     if name.is_empty() {
         return out.extend(b"unknown line\n");
     }
-    answer_run(alloc, config, name, address, out)
+    answer_run(alloc, config, name, &line[name.len()..], out)
 }
 
 fn answer_run(
@@ -60,27 +59,41 @@ fn answer_run(
     }
     let set = Text::of(alloc, name)?;
     match run(alloc, config, &set, &tokens) {
-        Ok(ran) => {
-            out.extend(name)?;
-            out.extend(b" returns:")?;
-            push_spaced(ran.tokens.items(), out)?;
-            out.push(b'\n')
-        }
+        Ok(ran) => push_tokens(name, ran.tokens.items(), out),
+        Err(RunFault::NoMemory) => Err(NoMemory),
         Err(fault) => push_fault(name, &fault, out),
     }
 }
 
-fn push_fault(name: &[u8], fault: &RunFault, out: &mut Text) -> Result<(), NoMemory> {
-    let cause: &[u8] = match fault {
+// Adds the line that tells a fault, other than want of memory.
+fn push_fault(name: &[u8], fault: &RunFault, out: &mut Text) -> Result<(), NoMemory>
+    ensures { OnOk result (out.new ≡ out.old ++ line_of (name.now ++ codes " error: " ++ spec.fault_name fault.now)) }
+{
+    out.extend(name)?;
+    out.extend(b" error: ")?;
+    out.extend(fault_name(fault))?;
+    out.push(b'\n')
+}
+
+fn fault_name(fault: &RunFault) -> &'static [u8]
+    ensures { result.now ≡ spec.fault_name fault.now }
+{
+    match fault {
         RunFault::Loop => b"Loop",
         RunFault::Work => b"Work",
         RunFault::Long => b"Long",
         RunFault::NoRuleset(_) => b"NoRuleset",
-        RunFault::NoMemory => return Err(NoMemory),
-    };
+        RunFault::NoMemory => b"NoMemory",
+    }
+}
+
+// Adds the line that tells what a run returned.
+fn push_tokens(name: &[u8], tokens: &[Token], out: &mut Text) -> Result<(), NoMemory>
+    ensures { OnOk result (out.new ≡ out.old ++ line_of (name.now ++ codes " returns:" ++ spaced tokens.now)) }
+{
     out.extend(name)?;
-    out.extend(b" error: ")?;
-    out.extend(cause)?;
+    out.extend(b" returns:")?;
+    push_spaced(tokens, out)?;
     out.push(b'\n')
 }
 
@@ -130,16 +143,27 @@ fn is_quiet(line: &[u8]) -> bool
 fn name_of(line: &[u8]) -> &[u8]
     ensures { result.now ≡ spec.name_of line.now }
 {
-    for (index, byte) in line.iter().enumerate() {
-        if is_gap(*byte) {
-            return &line[..index];
-        }
-    }
-    line
+    &line[..name_length(line)]
 }
 
-fn is_unread(line: &[u8], name: &[u8], address: &[u8]) -> bool {
-    begins_command(line) || name.contains(&b',') || holds_one_of(address, b"\"\\()<>$")
+fn name_length(line: &[u8]) -> usize
+    ensures length { result ≡ position_or_len is_gap_byte line.now }
+    ensures within { result ≤ length line.now }
+{
+    for (index, byte) in line.iter().enumerate() {
+        if is_gap(*byte) {
+            return index;
+        }
+    }
+    line.len()
+}
+
+fn is_unread(line: &[u8]) -> bool
+    ensures { result ≡ spec.is_unread_line line.now }
+{
+    let name = name_of(line);
+    let address = &line[name.len()..];
+    begins_command(line) || name.contains(&b',') || holds_reserved(address)
 }
 
 fn begins_command(line: &[u8]) -> bool
@@ -151,11 +175,19 @@ fn begins_command(line: &[u8]) -> bool
     }
 }
 
-fn holds_one_of(text: &[u8], bytes: &[u8]) -> bool {
-    for byte in text {
-        if bytes.contains(byte) {
+fn holds_reserved(address: &[u8]) -> bool
+    ensures { result ≡ list_any (spec.is_one_of (codes "\"\\()<>$")) address.now }
+{
+    for byte in address {
+        if is_reserved(*byte) {
             return true;
         }
     }
     false
+}
+
+fn is_reserved(byte: u8) -> bool
+    ensures { result ≡ spec.is_one_of (codes "\"\\()<>$") byte }
+{
+    b"\"\\()<>$".contains(&byte)
 }
