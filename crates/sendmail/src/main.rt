@@ -1,0 +1,50 @@
+//! `sendmail`: the real devices around the proved program.
+#![tactic(auto)]
+
+mod disk;
+mod notice;
+mod stream;
+mod words;
+
+use crate::disk::DiskFiles;
+use crate::notice::tell;
+use crate::stream::{InputStream, OutputStream};
+use crate::words::{Asked, read_words};
+use sendmail_run::{Outcome, sendmail};
+use std::io::Write;
+use std::process::ExitCode;
+
+const HELP: &[u8] = b"usage: sendmail -bt [-C file]
+
+  -bt      address test mode: answers each line of standard input
+  -C file  reads this configuration instead of /etc/mail/sendmail.cf
+
+A line of input is the name of a ruleset and an address; the line /quit ends.
+";
+
+const VERSION: &[u8] = b"sendmail (Polkezi) 8\n";
+
+fn main(rt: HostRuntime) -> ExitCode {
+    let outcome = match read_words(&rt) {
+        Ok(Asked::Run(words)) => sendmail(
+            rt.alloc(),
+            &words,
+            &mut DiskFiles::new(&rt),
+            &mut InputStream::new(rt.stdin()),
+            &mut OutputStream::new(rt.stdout()),
+        ),
+        Ok(Asked::Help) => print(&rt, HELP),
+        Ok(Asked::Version) => print(&rt, VERSION),
+        Err(outcome) => outcome,
+    };
+    // Nobody can be told that standard error failed.
+    let _ = tell(&mut rt.stderr(), &outcome);
+    ExitCode::from(outcome.status())
+}
+
+fn print(rt: &HostRuntime, text: &[u8]) -> Outcome {
+    match rt.stdout().write_all(text) {
+        Ok(()) => Outcome::Done,
+        Err(_) => Outcome::WriteFault,
+    }
+}

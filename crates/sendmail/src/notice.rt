@@ -1,0 +1,25 @@
+// The one line on standard error that says how a run ended.
+use sendmail_run::Outcome;
+use std::io;
+use std::io::Write;
+
+/// Writes the line that says how a run ended; nothing for one that is done.
+pub fn tell(errors: &mut impl Write, outcome: &Outcome) -> io::Result<()> {
+    match outcome {
+        Outcome::Done => Ok(()),
+        Outcome::Usage(place) => writeln!(errors, "sendmail: bad word {place}"),
+        Outcome::NoFile(name) => {
+            errors.write_all(b"sendmail: no file ")?;
+            errors.write_all(name.bytes())?;
+            errors.write_all(b"\n")
+        }
+        Outcome::NoMemory => errors.write_all(b"sendmail: no memory\n"),
+        Outcome::FilesFault => errors.write_all(b"sendmail: files fault\n"),
+        Outcome::WriteFault => errors.write_all(b"sendmail: write fault\n"),
+        Outcome::ReadFault => errors.write_all(b"sendmail: read fault\n"),
+        Outcome::InputLarge => errors.write_all(b"sendmail: input too large\n"),
+        Outcome::ConfigLine(line, fault) => {
+            writeln!(errors, "sendmail: configuration line {line}: {fault}")
+        }
+    }
+}

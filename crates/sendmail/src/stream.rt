@@ -1,0 +1,60 @@
+// Standard input and output as a source and a sink. They tell nothing but how often they failed.
+ghost use Rattle.std.specs.Prelude.{◌<◌, None, length};
+
+use mail_base::Failed;
+use mail_edge::{Sink, Source};
+use std::io::{Read, Write};
+
+/// A reader as a source.
+#[derive(Drop)]
+pub struct InputStream<R> {
+    reader: R,
+    faults: u64,
+}
+
+impl<R> InputStream<R> {
+    pub fn new(reader: R) -> InputStream<R> {
+        InputStream { reader, faults: 0 }
+    }
+}
+
+impl<R: Read> Source for InputStream<R> {
+    ghost seen = { λ s. record { left = None; faults = s.faults } };
+
+    fn take(&mut self, buf: &mut [u8]) -> Result<usize, Failed> {
+        match self.reader.read(buf) {
+            Ok(count) => Ok(count),
+            Err(_) => {
+                self.faults = self.faults.saturating_add(1);
+                Err(Failed)
+            }
+        }
+    }
+}
+
+/// A writer as a sink.
+#[derive(Drop)]
+pub struct OutputStream<W> {
+    writer: W,
+    faults: u64,
+}
+
+impl<W> OutputStream<W> {
+    pub fn new(writer: W) -> OutputStream<W> {
+        OutputStream { writer, faults: 0 }
+    }
+}
+
+impl<W: Write> Sink for OutputStream<W> {
+    ghost seen = { λ s. record { written = None; faults = s.faults } };
+
+    fn give(&mut self, bytes: &[u8]) -> Result<(), Failed> {
+        match self.writer.write_all(bytes) {
+            Ok(()) => Ok(()),
+            Err(_) => {
+                self.faults = self.faults.saturating_add(1);
+                Err(Failed)
+            }
+        }
+    }
+}
