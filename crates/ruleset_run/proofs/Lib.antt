@@ -1,0 +1,4 @@
+mod Moves
+mod Parts
+mod Sets
+mod Unique

@@ -1,0 +1,5 @@
+pub mod Books
+pub mod Filling
+pub mod Fills
+pub mod Plain
+pub mod Runs

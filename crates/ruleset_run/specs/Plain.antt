@@ -1,0 +1,20 @@
+-- The rules that the runs speak of so far: left sides of `$*`, `$+`, `$-` and tokens, right sides of tokens and `$n`.
+use Rattle.std.specs.Prelude.{List, Bool, true, false, ◌&&◌}
+use Rattle.std.specs.List.{list_all}
+use Rattle.mail_base.specs.declared.rule.Rule.{Rule}
+use Rattle.mail_base.specs.declared.rule.RuleSet.{RuleSet}
+use Rattle.mail_base.specs.declared.rule.Step.{Step}
+use Rattle.mail_base.specs.declared.rule.Step.TheVariants.{Plain}
+use Rattle.mail_base.specs.declared.rule.Piece.TheVariants.{Give, Cut}
+use Rattle.rule_match.specs.Items.{is_plain}
+
+abbrev pub is_plain_step : Step → Bool
+is_plain_step (Plain (Give _)) = true
+is_plain_step (Plain (Cut _)) = true
+is_plain_step _ = false
+
+abbrev pub is_plain_rule : Rule → Bool
+is_plain_rule rule = list_all is_plain rule.left && list_all is_plain_step rule.right.steps
+
+abbrev pub is_plain_book : List RuleSet → Bool
+is_plain_book book = list_all (λ set. list_all is_plain_rule set.rules) book

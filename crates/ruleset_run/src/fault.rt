@@ -1,0 +1,32 @@
+ghost use Rattle.std.specs.Prelude.{◌≡◌};
+ghost use Rattle.ruleset_run.specs.declared.fault.RunFault.TheVariants.{NoMemory as Memory};
+
+use mail_base::{NoMemory, Text};
+use thiserror::Error;
+
+/// Why a run of a ruleset has no result.
+#[derive(Debug, Drop, PartialEq, Eq, Error)]
+pub enum RunFault {
+    /// One rule would be applied a 101st successive time.
+    #[error("Loop")]
+    Loop,
+    /// A 10,001st application would come.
+    #[error("Work")]
+    Work,
+    /// A filled list has more than 2,000 tokens.
+    #[error("Long")]
+    Long,
+    /// No ruleset has this name.
+    #[error("NoRuleset")]
+    NoRuleset(Text),
+    #[error("NoMemory")]
+    NoMemory,
+}
+
+impl From<NoMemory> for RunFault {
+    ghost from_gives = { λ _ e. e ≡ Memory };
+
+    fn from(_error: NoMemory) -> RunFault {
+        RunFault::NoMemory
+    }
+}
