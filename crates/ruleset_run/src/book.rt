@@ -13,13 +13,7 @@ pub fn rules_of<'a>(book: &'a Seq<RuleSet>, name: &Text) -> Option<&'a [Rule]>
 {
     match set_of(book, name) {
         Some(set) => Some(set.rules.items()),
-        None => {
-            if is_standard(name) {
-                Some(&[])
-            } else {
-                None
-            }
-        }
+        None => { if is_standard(name) { Some(&[]) } else { None } }
     }
 }
 

@@ -93,7 +93,11 @@ fn is_plain_rule(rule: &Rule) -> bool
 fn is_plain_right(rule: &Rule) -> bool
     ensures { result ≡ list_all is_plain_step rule.now.right.steps }
 {
-    rule.right.steps.items().iter().all(|step| is_plain_step(step))
+    rule.right
+        .steps
+        .items()
+        .iter()
+        .all(|step| is_plain_step(step))
 }
 
 fn is_plain_step(step: &Step) -> bool

@@ -7,5 +7,4 @@ ghost use Rattle.ruleset_run.specs.Runs.{Macros, Outcome, RunsSet};
 pub fn one_outcome()
     ensures { (book : List RuleSet) (name : List ℕ) (tokens : List Token) (depth work : ℕ) (macros : Macros) (one another : Outcome)
         → RunsSet book name tokens depth work macros one → RunsSet book name tokens depth work macros another → one ≡ another }
-{
-}
+{}

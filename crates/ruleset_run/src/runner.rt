@@ -28,12 +28,7 @@ pub struct Ran {
 
 /// Runs the ruleset of a name over tokens. A rule that doesn't match costs its search alone; an
 /// application makes one new list.
-pub fn run(
-    alloc: Global,
-    config: &Config,
-    set: &Text,
-    tokens: &Seq<Token>,
-) -> Result<Ran, RunFault>
+pub fn run(alloc: Global, config: &Config, set: &Text, tokens: &Seq<Token>) -> Result<Ran, RunFault>
     requires { IsTrue (is_plain_book config.now.book) }
     ensures run { Gives result (RunsSet config.now.book set.now tokens.now 0 0 []) }
     ensures only { (outcome : Outcome) → RunsSet config.now.book set.now tokens.now 0 0 [] outcome → Gives result (λ given. given ≡ outcome) }
@@ -77,13 +72,7 @@ fn run_rules(alloc: Global, rules: &[Rule], start: Ran) -> Result<Ran, RunFault>
 }
 
 /// Applies a rule to tokens that it matches, where it was applied so many times in succession before.
-fn apply(
-    alloc: Global,
-    rule: &Rule,
-    cuts: &Cuts,
-    times: u32,
-    now: &Ran,
-) -> Result<Ran, RunFault>
+fn apply(alloc: Global, rule: &Rule, cuts: &Cuts, times: u32, now: &Ran) -> Result<Ran, RunFault>
     requires choice { IsChoice rule.now.left now.now.tokens cuts.now }
     requires work { now.now.work ≤ 10000 }
     requires times { times ≤ 100 }
