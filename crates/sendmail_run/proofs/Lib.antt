@@ -1,3 +1,5 @@
+mod CuttingLemmas
+mod Examples
 mod LineLemmas
 mod ReaderLemmas
 mod SideLemmas

@@ -6,6 +6,7 @@ mod answers;
 mod command_line;
 mod fault;
 mod input;
+mod law;
 mod logical;
 mod outcome;
 mod program;
@@ -15,6 +16,7 @@ mod tokens;
 
 pub use command_line::{DEFAULT_FILE, Job, Mode, WordFault, words};
 pub use fault::{Fault, ReadFault, Refusal};
+pub use law::tokens_are_of_any_cutting;
 pub use outcome::Outcome;
 pub use program::sendmail;
 pub use reader::read;
