@@ -1,3 +1,4 @@
 pub mod Configs
 pub mod Histories
 pub mod Metas
+pub mod Names
