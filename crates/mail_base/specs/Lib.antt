@@ -1,4 +1,6 @@
 pub mod Configs
+pub mod Drawing
 pub mod Histories
 pub mod Metas
 pub mod Names
+pub mod Notes

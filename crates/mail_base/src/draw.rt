@@ -1,0 +1,41 @@
+ghost use Rattle.std.specs.Prelude.{◌≡◌, ℕ, IfOk};
+ghost use Rattle.mail_base.specs.Drawing.{Drawing, AreDrawn, HasAnswered, HasJudgeCause, IsAddress};
+
+use crate::{JudgeFault, NoMemory, Resolved, Seq, Text, TryCopy};
+use std::alloc::Global;
+
+/// A row of an address, after aliases.
+#[derive(Debug, Drop)]
+pub struct Draw {
+    pub address: Text,
+    /// The sender of this row, with its brackets.
+    pub sender: Text,
+    /// Whether the row stands for the address itself.
+    pub primary: bool,
+    pub resolved: Resolved,
+}
+
+/// What draws the rows of the receiver of returned mail.
+pub trait Draws {
+    /// All that is seen of it.
+    ghost seen: { Self → Drawing };
+
+    /// The rows of a receiver: 1 to 10,000, each with the sender `<>`. A `FilesFault` comes only
+    /// where the count of faults rose in this call.
+    fn draw(&mut self, alloc: Global, address: &Text) -> Result<Seq<Draw>, JudgeFault>
+        requires { IsAddress address.now }
+        ensures rows { IfOk result AreDrawn }
+        ensures told { HasAnswered (seen self.old) (seen self.new) address.now result }
+        ensures cause { HasJudgeCause (seen self.old).faults (seen self.new).faults result };
+}
+
+impl TryCopy for Draw {
+    fn copy(&self) -> Result<Draw, NoMemory> {
+        Ok(Draw {
+            address: self.address.copy()?,
+            sender: self.sender.copy()?,
+            primary: self.primary,
+            resolved: self.resolved.copy()?,
+        })
+    }
+}
