@@ -2,6 +2,7 @@ ghost use Rattle.std.specs.Prelude.{◌≡◌, ◌≤◌, ◌↔◌, ℕ, IfOk, 
 ghost use Rattle.mail_base.specs.Metas.{is_meta};
 
 use crate::{NoMemory, Seq, Text, Token, TryCopy};
+use std::marker::Model;
 
 /// An item of a rule's left side.
 #[derive(Debug, Drop, PartialEq, Eq)]
@@ -24,11 +25,23 @@ pub enum Item {
     Late(Text),
 }
 
-/// A rule's left side, of which at most 20 items are written with `$`.
+/// A rule's left side, of which at most 20 items are written with `$`. A contract sees it as the list of its
+/// items.
 #[derive(Debug, Drop)]
 pub struct Pattern {
-    pub items: Seq<Item>,
-    pub ghost few: { count_by is_meta items ≤ 20 },
+    items: Seq<Item>,
+}
+
+impl Model for Pattern {
+    ghost use Rattle.std.specs.Prelude.{◌≤◌, List, count_by};
+    ghost use Rattle.mail_base.specs.Metas.{is_meta};
+    ghost use Rattle.mail_base.specs.declared.rule.Item.{Item};
+
+    ghost Value = { List Item };
+
+    ghost view = { λ p. p.items };
+
+    ghost invariant = { λ p. count_by is_meta p.items ≤ 20 };
 }
 
 /// A piece of a rule's right side.
@@ -107,13 +120,20 @@ impl Pattern {
 
     /// The pattern of these items, or `None` exactly where more than 20 of them are written with `$`.
     pub fn of(items: Seq<Item>) -> Option<Pattern>
-        ensures value { IfSome result (λ pattern. pattern.items ≡ items) }
+        ensures value { IfSome result (λ pattern. pattern ≡ items) }
         ensures few { IsSome result ↔ (count_by is_meta items ≤ 20) }
     {
         if items.items().iter().filter(|item| item.is_meta()).count() > Pattern::MOST_METAS {
             return None;
         }
         Some(Pattern { items })
+    }
+
+    pub fn items(&self) -> &[Item]
+        ensures items { result.now ≡ self.now }
+        ensures few { count_by is_meta self.now ≤ 20 }
+    {
+        self.items.items()
     }
 }
 
