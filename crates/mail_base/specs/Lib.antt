@@ -1,3 +1,4 @@
+pub mod Catalogs
 pub mod Configs
 pub mod Drawing
 pub mod Histories

@@ -4,11 +4,14 @@
 #![tactic(auto)]
 
 mod bounded;
+mod catalog;
+mod classes;
 mod config;
 mod control;
 mod draw;
 mod fault;
 mod id;
+mod macros;
 mod message;
 mod note;
 mod outcome;
@@ -21,11 +24,14 @@ mod text;
 mod token;
 mod try_copy;
 
+pub use catalog::Catalog;
+pub use classes::{Classes, Member};
 pub use config::Config;
 pub use control::{Control, Draft, Entry, Parent, Row, State, Stray};
 pub use draw::{Draw, Draws};
 pub use fault::{EdgeFault, Failed, JudgeFault, NoMemory, StoreFault};
 pub use id::{Id, Kind, Name};
+pub use macros::Macros;
 pub use message::{Back, Cut, Kept, Marks, Message, Split};
 pub use note::Note;
 pub use outcome::{Outcomes, Result1};
