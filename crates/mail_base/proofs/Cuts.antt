@@ -21,5 +21,5 @@ pub noted_is_note : (xs : List ℕ) → 0 < length xs → IsNote (noted xs)
 noted_is_note xs h = record {
   some = omega (arith, length-map (take 512 xs) blanked, length-take 512 xs);
   short = omega (arith, length-map (take 512 xs) blanked, length-take 512 xs);
-  line = blanked_all (take 512 xs)
+  line = blanked_all (take 512 xs);
 }

@@ -26,8 +26,16 @@ main_group = record { name = codes "mqueue"; path = codes "/var/spool/mqueue"; r
 -- the map that is there from the start: a name that is found gets a dot
 abbrev pub host_map : MapLine
 host_map = record {
-  name = codes "host"; class = Host; keeps_case = false; match_only = false; tag = codes "."; optional = false;
-  key_column = 0; value_column = 1; separator = None; file = None
+  name = codes "host";
+  class = Host;
+  keeps_case = false;
+  match_only = false;
+  tag = codes ".";
+  optional = false;
+  key_column = 0;
+  value_column = 1;
+  separator = None;
+  file = None;
 }
 
 -- the options where no O line sets them
@@ -50,7 +58,7 @@ default_options = record {
   recipient_factor = 30_000;
   class_factor = 1_800;
   retry_factor = 90_000;
-  double_bounce_address = codes "postmaster"
+  double_bounce_address = codes "postmaster";
 }
 
 -- the configuration before any line
@@ -65,5 +73,5 @@ initial = record {
   precedences = [];
   headers = [];
   options = default_options;
-  warnings = []
+  warnings = [];
 }

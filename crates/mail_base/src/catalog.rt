@@ -96,3 +96,22 @@ impl<V: TryCopy> TryCopy for Catalog<V> {
         Ok(copied)
     }
 }
+
+#[cfg(test)]
+mod tests {
+    use super::*;
+    use std::test::Fail;
+
+    #[test]
+    fn names_keep_their_places(rt: HostRuntime) -> Result<(), Fail> {
+        let alloc = rt.alloc();
+        let mut catalog: Catalog<u64> = Catalog::new(alloc);
+        catalog.set(Text::of(alloc, b"b")?, 1)?;
+        catalog.set(Text::of(alloc, b"a")?, 2)?;
+        let copied = catalog.copy()?;
+        let (name, value) = copied.at(0).expect(&rt, "b came first");
+        assert_eq!(rt; name.bytes(), b"b".as_slice());
+        assert_eq!(rt; *value, 1);
+        Ok(())
+    }
+}

@@ -5,8 +5,8 @@ ghost use Rattle.mail_base.specs.Catalogs.{value_at};
 ghost use Rattle.mail_base.specs.Configs.{initial, first_macros, first_classes, local_host, main_group, host_map};
 
 use crate::{
-    Catalog, Classes, Group, HeaderLine, Macros, Mailer, MapClass, MapLine, Member, NoMemory, Options,
-    Precedence, RuleSet, Seq, Text, Token, TryCopy,
+    Catalog, Classes, Group, HeaderLine, Macros, Mailer, MapClass, MapLine, Member, NoMemory,
+    Options, Precedence, RuleSet, Seq, Text, Token, TryCopy,
 };
 use std::alloc::Global;
 
@@ -155,5 +155,24 @@ impl TryCopy for Config {
             options: self.options.copy()?,
             warnings: self.warnings.copy()?,
         })
+    }
+}
+
+#[cfg(test)]
+mod tests {
+    use super::*;
+    use std::test::Fail;
+
+    #[test]
+    fn presets_stand_before_any_line(rt: HostRuntime) -> Result<(), Fail> {
+        let config = Config::new(rt.alloc())?;
+        assert_eq!(rt; config.macros.values().len(), 4);
+        assert_eq!(rt; config.groups.len(), 1);
+        assert_eq!(rt; config.maps.len(), 1);
+        assert_eq!(rt; config.options.operator_chars.bytes(), b".:@[]".as_slice());
+        assert_eq!(rt; config.options.queue_return, 432_000);
+        let copied = config.copy()?;
+        assert_eq!(rt; copied.macros.values().len(), 4);
+        Ok(())
     }
 }

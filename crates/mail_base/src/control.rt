@@ -201,3 +201,28 @@ impl Same for Control {
             && self.headers.is(&other.headers)
     }
 }
+
+#[cfg(test)]
+mod tests {
+    use super::*;
+    use std::alloc::Global;
+    use std::test::Fail;
+
+    fn queued(alloc: Global) -> Result<Row, NoMemory> {
+        Ok(Row {
+            address: Text::of(alloc, b"<ann@mx.example>")?,
+            primary: true,
+            state: State::Queued(Note::cut(b"exit 75")),
+        })
+    }
+
+    #[test]
+    fn rows_are_copied_and_compared(rt: HostRuntime) -> Result<(), Fail> {
+        let row = queued(rt.alloc())?;
+        let mut copied = row.copy()?;
+        assert!(rt; row.is(&copied));
+        copied.state = State::Returned(Id::new(2));
+        assert!(rt; !row.is(&copied));
+        Ok(())
+    }
+}

@@ -187,3 +187,48 @@ impl Same for Id {
         self.number == other.number
     }
 }
+
+#[cfg(test)]
+mod tests {
+    use super::*;
+    use std::test::Fail;
+
+    #[test]
+    fn names_tell_their_ids(rt: HostRuntime) -> Result<(), Fail> {
+        let alloc = rt.alloc();
+        assert_eq!(rt;
+            Id::new(42).name(Kind::Qf).bytes(),
+            b"qfw000000000042".as_slice()
+        );
+        assert_eq!(rt;
+            Id::new(Id::MOST).name(Kind::Df).bytes(),
+            b"dfw999999999999".as_slice()
+        );
+        let temporary = Text::of(alloc, b"tfw000000000003")?;
+        assert_eq!(rt; Id::of(&temporary), Some((Kind::Tf, Id::new(3))));
+        let finished = Text::of(alloc, b"sfw999999999999")?;
+        assert_eq!(rt;
+            Id::of(&finished),
+            Some((Kind::Sf, Id::new(999_999_999_999)))
+        );
+        Ok(())
+    }
+
+    #[test]
+    fn other_names_tell_none(rt: HostRuntime) -> Result<(), Fail> {
+        let alloc = rt.alloc();
+        let others = [
+            b"".as_slice(),
+            b"dfw00000000001",
+            b"dfw0000000000001",
+            b"xfw000000000001",
+            b"dgw000000000001",
+            b"df0000000000001",
+            b"dfw00000000000a",
+        ];
+        for name in others {
+            assert_eq!(rt; Id::of(&Text::of(alloc, name)?), None);
+        }
+        Ok(())
+    }
+}

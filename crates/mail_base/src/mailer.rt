@@ -77,3 +77,30 @@ impl TryCopy for Group {
         })
     }
 }
+
+#[cfg(test)]
+mod tests {
+    use super::*;
+    use std::alloc::Global;
+    use std::test::Fail;
+
+    fn plain(alloc: Global) -> Result<Group, NoMemory> {
+        Ok(Group {
+            name: Text::of(alloc, b"bulk")?,
+            path: Text::of(alloc, b"/q/bulk")?,
+            recipients: 100,
+            runners: 1,
+            interval: None,
+            jobs: 0,
+        })
+    }
+
+    #[test]
+    fn groups_are_copied(rt: HostRuntime) -> Result<(), Fail> {
+        let group = plain(rt.alloc())?;
+        let copied = group.copy()?;
+        assert_eq!(rt; copied.path.bytes(), b"/q/bulk".as_slice());
+        assert_eq!(rt; copied.recipients, 100);
+        Ok(())
+    }
+}

@@ -137,3 +137,21 @@ impl Same for Marks {
         self == other
     }
 }
+
+#[cfg(test)]
+mod tests {
+    use super::*;
+    use std::test::Fail;
+
+    #[test]
+    fn splits_are_copied(rt: HostRuntime) -> Result<(), Fail> {
+        let alloc = rt.alloc();
+        let split = Split {
+            headers: Seq::new(alloc),
+            body: Text::of(alloc, b"hello")?,
+            block: 0,
+        };
+        assert_eq!(rt; split.copy()?.body.bytes(), b"hello".as_slice());
+        Ok(())
+    }
+}

@@ -126,3 +126,21 @@ impl Same for Note {
         self.bytes() == other.bytes()
     }
 }
+
+#[cfg(test)]
+mod tests {
+    use super::*;
+
+    #[test]
+    fn notes_are_cut_to_one_line(rt: HostRuntime) {
+        let long = Note::cut(&[b'x'; 600]).expect(&rt, "a long text has a note");
+        assert_eq!(rt; long.bytes(), [b'x'; 512].as_slice());
+        let lines = Note::cut(b"two\r\nlines").expect(&rt, "two lines have a note");
+        assert_eq!(rt; lines.bytes(), b"two  lines".as_slice());
+        assert!(rt; Note::cut(b"").is_none());
+        let exit = Note::of(b"exit 75").expect(&rt, "a line is a note");
+        assert_eq!(rt; exit.duplicate().bytes(), b"exit 75".as_slice());
+        assert!(rt; Note::of(b"two\nlines").is_none());
+        assert!(rt; Note::of(&[b'x'; 513]).is_none());
+    }
+}

@@ -49,3 +49,18 @@ impl Same for Result1 {
         }
     }
 }
+
+#[cfg(test)]
+mod tests {
+    use super::*;
+    use std::test::Fail;
+
+    #[test]
+    fn outcomes_are_copied(rt: HostRuntime) -> Result<(), Fail> {
+        let mut results = Seq::new(rt.alloc());
+        results.push(Result1::Deferred(Note::cut(b"451 later").expect(&rt, "a note")))?;
+        let copied = results.copy()?;
+        assert!(rt; copied.is(&results));
+        Ok(())
+    }
+}

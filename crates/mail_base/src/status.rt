@@ -113,3 +113,30 @@ impl Same for Status {
         self.bytes() == other.bytes()
     }
 }
+
+#[cfg(test)]
+mod tests {
+    use super::*;
+
+    #[test]
+    fn statuses_have_three_groups(rt: HostRuntime) {
+        let plain = Status::of(b"5.1.1").expect(&rt, "a status");
+        assert_eq!(rt; plain.duplicate().bytes(), b"5.1.1".as_slice());
+        let long = Status::of(b"4.123.999").expect(&rt, "the longest status");
+        assert_eq!(rt; long.bytes(), b"4.123.999".as_slice());
+        let others = [
+            b"".as_slice(),
+            b"5.1",
+            b"5..1",
+            b"5.1.",
+            b"55.1.1",
+            b"5.1.1234",
+            b"5.1.1.1",
+            b"x.1.1",
+            b"5.a.1",
+        ];
+        for bytes in others {
+            assert!(rt; Status::of(bytes).is_none());
+        }
+    }
+}

@@ -8,6 +8,14 @@ returns c =
     let maps = c.in_ok-first_maps.ensures in
     let options = c.in_ok-new.ensures in
     λ i. record {
-      macros = macros i; classes = classes i; book = c.new.ensures i; mailers = c.new-2.ensures i; groups = groups i;
-      maps = maps i; precedences = c.new-3.ensures i; headers = c.new-4.ensures i; options = options i; warnings = c.new-6.ensures i
+      macros = macros i;
+      classes = classes i;
+      book = c.new.ensures i;
+      mailers = c.new-2.ensures i;
+      groups = groups i;
+      maps = maps i;
+      precedences = c.new-3.ensures i;
+      headers = c.new-4.ensures i;
+      options = options i;
+      warnings = c.new-6.ensures i;
     }
