@@ -10,9 +10,13 @@ pub record IsAddress (address : List ℕ) : Type 0 where
   pub some : address ≢ []
   pub line : All (λ b. b ≢ 10) address
 
+-- the sender of a message that is not to be returned (RFC 5321, section 4.5.5)
+abbrev pub null_sender : List ℕ
+null_sender = codes "<>"
+
 -- a row of returned mail has the null sender
 pub record IsReturned (row : Draw) : Type 0 where
-  pub sender : row.sender ≡ codes "<>"
+  pub sender : row.sender ≡ null_sender
   pub address : IsAddress row.address
 
 -- the rows of a receiver are 1 to 10,000

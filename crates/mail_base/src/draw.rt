@@ -1,5 +1,5 @@
-ghost use Rattle.std.specs.Prelude.{◌≡◌, ℕ, IfOk, codes};
-ghost use Rattle.mail_base.specs.Drawing.{Drawing, AreDrawn, HasAnswered, HasJudgeCause, IsAddress};
+ghost use Rattle.std.specs.Prelude.{◌≡◌, ℕ, IfOk};
+ghost use Rattle.mail_base.specs.Drawing.{Drawing, AreDrawn, HasAnswered, HasJudgeCause, IsAddress, null_sender};
 
 use crate::{JudgeFault, NoMemory, Resolved, Seq, Text, TryCopy};
 use std::alloc::Global;
@@ -64,7 +64,7 @@ mod tests {
 
     fn row_of(alloc: Global, address: &Text) -> Result<Draw, NoMemory>
         ensures address { IfOk result (λ row. row.address ≡ address.now) }
-        ensures sender { IfOk result (λ row. row.sender ≡ codes "<>") }
+        ensures sender { IfOk result (λ row. row.sender ≡ null_sender) }
     {
         let resolved = Resolved::Goes(Triple {
             mailer: Text::new(alloc),
