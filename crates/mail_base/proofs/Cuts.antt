@@ -1,5 +1,5 @@
 -- A cut text as a note.
-use Rattle.std.proofs.Common.{◌≡◌, ◌≢◌, ◌==◌, ◌||◌, Bool, true, false, ℕ, zero, suc, ◌<◌, ◌≤◌, List, [], ◌∷◌, All, map, take, length, refl, sym, ◌∙◌, ap, arith, if◌then◌else◌, length-take}
+use Rattle.std.proofs.Common.{◌≡◌, ℕ, zero, suc, ◌<◌, ◌≤◌, List, [], ◌∷◌, All, map, take, length, refl, ap, arith, length-take}
 use Rattle.std.proofs.lemmas.List.{length-map}
 use Rattle.std.proofs.lemmas.List.Elements.{All-nil, All-cons}
 use Rattle.mail_base.specs.Notes.{IsLineByte, IsNote, blanked, noted}

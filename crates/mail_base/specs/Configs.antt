@@ -1,5 +1,5 @@
 -- The configuration before any line is read (Sendmail Operation Guide, the configuration file; the values of w, j and v, and some defaults, are our own).
-use Rattle.std.specs.Prelude.{ℕ, List, [], ◌∷◌, Option, None, Some, true, false, codes}
+use Rattle.std.specs.Prelude.{ℕ, List, [], ◌∷◌, None, Some, false, codes}
 use Rattle.mail_base.specs.declared.classes.Member.{Member}
 use Rattle.mail_base.specs.declared.config.Config.{Config}
 use Rattle.mail_base.specs.declared.lines.MapClass.TheVariants.{Host}

@@ -1,5 +1,5 @@
 -- The rows of the receivers of returned mail (Sendmail Operation Guide, aliases; the limit of rows is our own).
-use Rattle.std.specs.Prelude.{◌≡◌, ℕ, ◌≤◌, ◌≢◌, ◌↔◌, Bool, List, [], length, All, Result, Err, IfOk, IfErr, IsTrue, codes}
+use Rattle.std.specs.Prelude.{◌≡◌, ℕ, ◌≤◌, ◌≢◌, ◌↔◌, Bool, List, [], length, All, Result, IfOk, IfErr, IsTrue, codes}
 use Rattle.mail_base.specs.Histories.{Rose}
 use Rattle.mail_base.specs.declared.draw.Draw.{Draw}
 use Rattle.mail_base.specs.declared.fault.JudgeFault.{JudgeFault}
