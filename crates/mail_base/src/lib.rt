@@ -1,21 +1,51 @@
-//! The types that every crate shares: texts, lists, tokens, rules and the configuration. A contract
-//! sees a [`Text`] as its list of bytes and a [`Seq`] as the list of its items.
+//! The types that every crate shares: texts and lists, tokens and rules, the configuration, mail, the
+//! queue, and faults. A contract sees a [`Text`] as its list of bytes and a [`Seq`] as the list of its
+//! items.
 #![tactic(auto)]
 
+mod bounded;
+mod catalog;
+mod classes;
 mod config;
+mod control;
+mod draw;
 mod fault;
+mod id;
+mod lines;
+mod macros;
+mod mailer;
+mod message;
+mod note;
+mod options;
+mod outcome;
+mod route;
 mod rule;
 mod same;
 mod seq;
+mod status;
 mod text;
 mod token;
 mod try_copy;
 
+pub use catalog::Catalog;
+pub use classes::{Classes, Member};
 pub use config::Config;
-pub use fault::{EdgeFault, Failed, NoMemory};
+pub use control::{Control, Draft, Entry, Parent, Row, State, Stray};
+pub use draw::{Draw, Draws};
+pub use fault::{EdgeFault, Failed, JudgeFault, NoMemory, StoreFault};
+pub use id::{Id, Kind, Name};
+pub use lines::{HeaderLine, MapClass, MapLine, Precedence};
+pub use macros::Macros;
+pub use mailer::{Group, Mailer};
+pub use message::{Back, Cut, Kept, Marks, Message, Split};
+pub use note::Note;
+pub use options::{DaemonPort, Options};
+pub use outcome::{Outcomes, Result1};
+pub use route::{Cause, Resolved, RouteError, Triple};
 pub use rule::{Go, Item, Pattern, Piece, Rule, RuleSet, Step, Template};
 pub use same::Same;
 pub use seq::Seq;
+pub use status::Status;
 pub use text::Text;
 pub use token::{Mark, Token};
 pub use try_copy::TryCopy;

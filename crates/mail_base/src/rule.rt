@@ -215,3 +215,23 @@ impl TryCopy for RuleSet {
         })
     }
 }
+
+#[cfg(test)]
+mod tests {
+    use super::*;
+    use std::test::Fail;
+
+    #[test]
+    fn patterns_have_at_most_twenty_metas(rt: HostRuntime) -> Result<(), Fail> {
+        let mut items = Seq::new(rt.alloc());
+        for _ in 0..20u32 {
+            items.push(Item::Any)?;
+        }
+        items.push(Item::Exact(Token::Op(b'@')))?;
+        let pattern = Pattern::of(items.copy()?).expect(&rt, "twenty are few");
+        assert!(rt; pattern.copy()?.items == items);
+        items.push(Item::One)?;
+        assert!(rt; Pattern::of(items).is_none());
+        Ok(())
+    }
+}

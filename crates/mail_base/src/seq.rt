@@ -137,3 +137,26 @@ impl<T: PartialEq> PartialEq for Seq<T> {
 impl<T: Eq> Eq for Seq<T> {
     ghost laws = { lists_equiv T.Eq.laws };
 }
+
+#[cfg(test)]
+mod tests {
+    use super::*;
+    use std::test::Fail;
+
+    #[test]
+    fn lists_grow_and_change(rt: HostRuntime) -> Result<(), Fail> {
+        let mut list: Seq<u64> = Seq::new(rt.alloc());
+        list.push(1)?;
+        list.push(2)?;
+        list.push(3)?;
+        let copied = list.copy()?;
+        assert!(rt; copied.is(&list));
+        assert_eq!(rt; list.len(), 3);
+        list.set(1, 5);
+        assert_eq!(rt; list.get(1).copied(), Some(5));
+        list.truncate(1);
+        assert_eq!(rt; Seq::from_vec(list.into_vec()).items(), [1].as_slice());
+        assert_eq!(rt; copied.items(), [1, 2, 3].as_slice());
+        Ok(())
+    }
+}

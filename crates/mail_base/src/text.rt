@@ -158,3 +158,22 @@ impl Hash for Text {
         self.bytes.as_slice().hash(state);
     }
 }
+
+#[cfg(test)]
+mod tests {
+    use super::*;
+    use std::test::Fail;
+
+    #[test]
+    fn texts_grow_and_fold(rt: HostRuntime) -> Result<(), Fail> {
+        let alloc = rt.alloc();
+        let mut text = Text::of(alloc, b"MX")?;
+        text.push(b'.')?;
+        text.extend(b"Example")?;
+        assert_eq!(rt; text.bytes(), b"MX.Example".as_slice());
+        assert!(rt; text.is_folded(&text.folded()?));
+        assert!(rt; !text.is(&text.folded()?));
+        assert!(rt; Text::from_vec(text.copy()?.into_vec()).is(&text));
+        Ok(())
+    }
+}

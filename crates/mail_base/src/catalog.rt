@@ -1,0 +1,117 @@
+ghost use Rattle.std.specs.Prelude.{◌≡◌, ◌↔◌, [], ◌∷◌, ◌++◌, ℕ, List, None, Some, IfOk, IsTrue, OnOk, OnErr, bytes_eq, length, slice_get};
+ghost use Rattle.std.specs.Option.{option_copied, option_map};
+ghost use Rattle.mail_base.specs.Catalogs.{value_at, with_value, without_name, SetsValue};
+
+use crate::{NoMemory, Text, TryCopy};
+use indexmap::IndexMap;
+use std::alloc::Global;
+use std::marker::Model;
+
+/// Values by their names, which are compared byte by byte. A contract sees it as the list of its pairs
+/// in the order in which the names were first set.
+#[derive(Drop)]
+pub struct Catalog<V> {
+    entries: IndexMap<Text, V>,
+}
+
+impl<V> Model for Catalog<V> {
+    ghost Value = { List (List ℕ × V) };
+
+    ghost view = { λ c. c.entries.entries };
+}
+
+impl<V> Catalog<V> {
+    /// The empty catalog. It takes no memory.
+    pub fn new(alloc: Global) -> Catalog<V>
+        ensures { result ≡ [] }
+    {
+        Catalog {
+            entries: IndexMap::new(alloc),
+        }
+    }
+
+    pub fn len(&self) -> usize
+        ensures { result ≡ length self.now }
+    {
+        self.entries.len()
+    }
+
+    pub fn is_empty(&self) -> bool
+        ensures { IsTrue result ↔ (self.now ≡ []) }
+    {
+        self.entries.is_empty()
+    }
+
+    /// The value at a name. It takes no memory.
+    pub fn get(&self, name: &Text) -> Option<&V>
+        ensures { option_copied result ≡ value_at name.now self.now }
+    {
+        self.entries.get(name)
+    }
+
+    /// The pair at a place, counted from 0, or `None` past the end.
+    pub fn at(&self, index: usize) -> Option<(&Text, &V)>
+        ensures { option_map (λ p. (p.0.now, p.1.now)) result ≡ slice_get self.now index }
+    {
+        self.entries.get_index(index)
+    }
+
+    /// What the catalog takes its memory from.
+    pub fn allocator(&self) -> Global {
+        *self.entries.allocator()
+    }
+}
+
+impl<V: Drop> Catalog<V> {
+    /// Sets the value at a name: a name that is there keeps its place, and a new one goes last. After
+    /// `NoMemory` the catalog is as before.
+    #[tactic(auto, using(crate::proofs::CatalogLemmas::with_value_sets))]
+    pub fn set(&mut self, name: Text, value: V) -> Result<(), NoMemory>
+        ensures ok { OnOk result (self.new ≡ with_value name value self.old) }
+        ensures sets { OnOk result (SetsValue name (Some value) self.old self.new) }
+        ensures err { OnErr result (self.new ≡ self.old) }
+    {
+        self.entries.insert(name, value)?;
+        Ok(())
+    }
+
+    /// Takes a name out. It takes no memory.
+    pub fn remove(&mut self, name: &Text)
+        ensures { self.new ≡ without_name name.now self.old }
+    {
+        self.entries.shift_remove(name);
+    }
+}
+
+impl<V: TryCopy> TryCopy for Catalog<V> {
+    #[tactic(auto, using(crate::proofs::CatalogLemmas::next_is_new))]
+    fn copy(&self) -> Result<Catalog<V>, NoMemory> {
+        let mut copied = Catalog::new(self.allocator());
+        for index in 0..self.entries.len() {
+            let (name, value) = self.entries.get_index(index).unwrap();
+            let name = name.copy()?;
+            let value = value.copy()?;
+            copied.set(name, value)?;
+        }
+        Ok(copied)
+    }
+}
+
+#[cfg(test)]
+mod tests {
+    use super::*;
+    use std::test::Fail;
+
+    #[test]
+    fn names_keep_their_places(rt: HostRuntime) -> Result<(), Fail> {
+        let alloc = rt.alloc();
+        let mut catalog: Catalog<u64> = Catalog::new(alloc);
+        catalog.set(Text::of(alloc, b"b")?, 1)?;
+        catalog.set(Text::of(alloc, b"a")?, 2)?;
+        let copied = catalog.copy()?;
+        let (name, value) = copied.at(0).expect(&rt, "b came first");
+        assert_eq!(rt; name.bytes(), b"b".as_slice());
+        assert_eq!(rt; *value, 1);
+        Ok(())
+    }
+}

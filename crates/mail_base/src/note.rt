@@ -1,0 +1,146 @@
+ghost use Rattle.std.specs.Prelude.{◌≡◌, ◌≤◌, ◌<◌, ◌↔◌, [], All, IfOk, IfSome, IsSome, IsTrue, length, map, take};
+ghost use Rattle.mail_base.specs.Notes.{IsLineByte, IsNote, blanked, noted};
+
+use crate::bounded::filled;
+use crate::{NoMemory, Same, TryCopy};
+use arrayvec::ArrayVec;
+use std::marker::Model;
+
+/// What is noted of a row: one line of 1 to 512 bytes. A contract sees it as the list of its bytes.
+#[derive(Debug, Drop)]
+pub struct Note {
+    bytes: ArrayVec<u8, 512>,
+}
+
+impl Model for Note {
+    ghost use Rattle.std.specs.Prelude.{ℕ, List};
+    ghost use Rattle.mail_base.specs.Notes.{IsNote};
+
+    ghost Value = { List ℕ };
+
+    ghost view = { λ n. n.bytes.items };
+
+    ghost invariant = { λ n. IsNote n.bytes.items };
+
+    ghost inverse = { λ xs. record { bytes = record { items = xs } } };
+}
+
+impl Note {
+    /// The most bytes of a note.
+    pub const MOST: usize = 512;
+
+    /// The note of these bytes, or `None` exactly where they are none.
+    pub fn of(bytes: &[u8]) -> Option<Note>
+        ensures value { IfSome result (λ note. note ≡ bytes.now) }
+        ensures form { IsSome result ↔ IsNote bytes.now }
+    {
+        if bytes.is_empty() || bytes.len() > Note::MOST || !is_line(bytes) {
+            return None;
+        }
+        Some(Note {
+            bytes: filled(bytes),
+        })
+    }
+
+    /// A text as a note: CR and LF become blanks, and only the first 512 bytes stay. `None` exactly
+    /// where the text is empty.
+    pub fn cut(text: &[u8]) -> Option<Note>
+        ensures value { IfSome result (λ note. note ≡ noted text.now) }
+        ensures some { IsSome result ↔ (0 < length text.now) }
+    {
+        if text.is_empty() {
+            return None;
+        }
+        Some(Note {
+            bytes: line_of(first(text, Note::MOST)),
+        })
+    }
+
+    pub fn bytes(&self) -> &[u8]
+        ensures bytes { result.now ≡ self.now }
+        ensures note { IsNote self.now }
+    {
+        self.bytes.as_slice()
+    }
+
+    /// The same note. It takes no memory.
+    pub fn duplicate(&self) -> Note
+        ensures { result ≡ self.now }
+    {
+        Note {
+            bytes: filled(self.bytes.as_slice()),
+        }
+    }
+}
+
+// Whether no byte ends a line.
+fn is_line(bytes: &[u8]) -> bool
+    ensures { IsTrue result ↔ All IsLineByte bytes.now }
+{
+    bytes.iter().all(|byte| *byte != b'\n' && *byte != b'\r')
+}
+
+// The bytes up to that many.
+#[tactic(auto, using(crate::proofs::Cuts::take_all))]
+fn first(bytes: &[u8], most: usize) -> &[u8]
+    ensures bytes { result.now ≡ take most bytes.now }
+    ensures short { length result.now ≤ most }
+{
+    if bytes.len() > most {
+        &bytes[..most]
+    } else {
+        bytes
+    }
+}
+
+// The bytes as one line.
+fn line_of(bytes: &[u8]) -> ArrayVec<u8, 512>
+    requires { length bytes.now ≤ 512 }
+    ensures { result.items ≡ map blanked bytes.now }
+{
+    let mut line = ArrayVec::new();
+    for byte in bytes {
+        line.push(blank_of(*byte));
+    }
+    line
+}
+
+fn blank_of(byte: u8) -> u8
+    ensures { result ≡ blanked byte }
+{
+    if byte == b'\n' || byte == b'\r' {
+        b' '
+    } else {
+        byte
+    }
+}
+
+impl TryCopy for Note {
+    fn copy(&self) -> Result<Note, NoMemory> {
+        Ok(self.duplicate())
+    }
+}
+
+impl Same for Note {
+    fn is(&self, other: &Note) -> bool {
+        self.bytes() == other.bytes()
+    }
+}
+
+#[cfg(test)]
+mod tests {
+    use super::*;
+
+    #[test]
+    fn notes_are_cut_to_one_line(rt: HostRuntime) {
+        let long = Note::cut(&[b'x'; 600]).expect(&rt, "a long text has a note");
+        assert_eq!(rt; long.bytes(), [b'x'; 512].as_slice());
+        let lines = Note::cut(b"two\r\nlines").expect(&rt, "two lines have a note");
+        assert_eq!(rt; lines.bytes(), b"two  lines".as_slice());
+        assert!(rt; Note::cut(b"").is_none());
+        let exit = Note::of(b"exit 75").expect(&rt, "a line is a note");
+        assert_eq!(rt; exit.duplicate().bytes(), b"exit 75".as_slice());
+        assert!(rt; Note::of(b"two\nlines").is_none());
+        assert!(rt; Note::of(&[b'x'; 513]).is_none());
+    }
+}
