@@ -5,3 +5,4 @@ pub mod Histories
 pub mod Metas
 pub mod Names
 pub mod Notes
+pub mod Scripts

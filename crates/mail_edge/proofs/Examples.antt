@@ -2,7 +2,7 @@
 use Rattle.std.specs.Prelude.{◌≡◌, [], ◌∷◌, Some, None, codes, true, false, refl}
 use Rattle.mail_edge.specs.Seen.{FileMap, text_of}
 use Rattle.mail_edge.specs.Readings.{readings_of}
-use Rattle.mail_edge.specs.Scripts.{is_listed, after_call}
+use Rattle.mail_base.specs.Scripts.{is_listed, after_call}
 
 files : FileMap
 files = (codes "a", codes "first") ∷ (codes "b", codes "other") ∷ (codes "a", codes "third") ∷ []

@@ -1,5 +1,4 @@
 pub mod Causes
 pub mod Moves
 pub mod Readings
-pub mod Scripts
 pub mod Seen

@@ -8,7 +8,6 @@ mod mem_clock;
 mod mem_files;
 mod mem_sink;
 mod mem_source;
-mod script;
 mod sink;
 mod source;
 #[cfg(test)]
@@ -20,6 +19,5 @@ pub use mem_clock::MemClock;
 pub use mem_files::{MemFiles, SureFiles};
 pub use mem_sink::MemSink;
 pub use mem_source::{MemSource, SureSource};
-pub use script::Script;
 pub use sink::Sink;
 pub use source::Source;

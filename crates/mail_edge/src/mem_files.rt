@@ -1,12 +1,11 @@
 ghost use Rattle.std.specs.Prelude.{◌≡◌, ◌≤◌, ◌↔◌, length, All, IfOk, IfSome, IsSome, Some};
 ghost use Rattle.std.specs.Option.{option_copied};
 ghost use Rattle.mail_edge.specs.Causes.{HasEdgeCause, has_failed};
-ghost use Rattle.mail_edge.specs.Scripts.{is_listed, after_call};
+ghost use Rattle.mail_base.specs.Scripts.{is_listed, after_call};
 ghost use Rattle.mail_edge.specs.Seen.{FileMap, text_of};
 
 use crate::files::{Files, LARGEST_FILE};
-use crate::script::Script;
-use mail_base::{EdgeFault, NoMemory, Seq, Text};
+use mail_base::{EdgeFault, NoMemory, Script, Seq, Text};
 use std::alloc::Global;
 use std::marker::Model;
 

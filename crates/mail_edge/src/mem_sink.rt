@@ -1,11 +1,10 @@
 ghost use Rattle.std.specs.Prelude.{◌≡◌, ◌<◌, ◌+◌, [], ◌++◌, length, vec_capacity, OnOk, OnErr, IsErr, Some, true, false, is_err};
 ghost use Rattle.mail_base.specs.Histories.{HasCause};
 ghost use Rattle.mail_edge.specs.Moves.{GainsPart};
-ghost use Rattle.mail_edge.specs.Scripts.{is_listed, after_call};
+ghost use Rattle.mail_base.specs.Scripts.{is_listed, after_call};
 
-use crate::script::Script;
 use crate::sink::Sink;
-use mail_base::{Failed, Seq};
+use mail_base::{Failed, Script, Seq};
 use std::alloc::Global;
 
 /// What was written, in memory, some of whose calls fail. It grows, and where its growth finds no

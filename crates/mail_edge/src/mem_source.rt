@@ -1,10 +1,9 @@
 ghost use Rattle.std.specs.Prelude.{◌≡◌, ◌<◌, ◌≤◌, ◌↔◌, ◌++◌, [], List, ℕ, length, take, drop, min, IfOk, OnErr, Some, Ok, is_err};
 ghost use Rattle.mail_base.specs.Histories.{HasCause};
-ghost use Rattle.mail_edge.specs.Scripts.{is_listed, after_call};
+ghost use Rattle.mail_base.specs.Scripts.{is_listed, after_call};
 
-use crate::script::Script;
 use crate::source::Source;
-use mail_base::{Failed, Seq, Text};
+use mail_base::{Failed, Script, Seq, Text};
 use std::marker::Model;
 
 /// Bytes in memory, given as they stand, as many in a call as the buffer holds. It never fails, and

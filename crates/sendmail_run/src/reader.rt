@@ -31,7 +31,7 @@ pub fn read(alloc: Global, bytes: &[u8]) -> Result<Config, ReadFault>
         }
         reading.take(alloc, line.text.bytes())?;
     }
-    let mut config = Config::new(alloc);
+    let mut config = Config::new(alloc)?;
     config.book = Seq::from_vec(reading.book);
     Ok(config)
 }

@@ -1,7 +1,7 @@
 -- Devices in memory that fail in the calls that they were told to (own).
 use Rattle.std.specs.Prelude.{ℕ, ◌+◌, ◌-◌, ◌^◌, min, nat_eq, Bool, if◌then◌else◌}
 use Rattle.std.specs.List.{list_any}
-use Rattle.mail_edge.specs.declared.script.Script.{Script}
+use Rattle.mail_base.specs.declared.script.Script.{Script}
 
 -- a count of calls, which stands still at the greatest u64
 abbrev pub one_more : ℕ → ℕ

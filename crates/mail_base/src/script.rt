@@ -1,8 +1,8 @@
 ghost use Rattle.std.specs.Prelude.{◌≡◌, ◌≤◌, is_err};
 ghost use Rattle.mail_base.specs.Histories.{HasCause};
-ghost use Rattle.mail_edge.specs.Scripts.{is_listed, after_call, one_more};
+ghost use Rattle.mail_base.specs.Scripts.{is_listed, after_call, one_more};
 
-use mail_base::{Failed, Seq};
+use crate::{Failed, Seq};
 
 /// The calls of a device that are to fail, counted from 0, how many calls there were, and how many
 /// failed. Both counts stand still at `u64::MAX`.
