@@ -1,0 +1,5 @@
+pub mod EndLemmas
+pub mod LineLemmas
+pub mod ReadLemmas
+pub mod TakeLemmas
+pub mod StandLemmas
