@@ -3,3 +3,5 @@ pub mod LineLemmas
 pub mod ReadLemmas
 pub mod TakeLemmas
 pub mod StandLemmas
+pub mod ReadingLemmas
+pub mod RunLemmas
