@@ -8,6 +8,9 @@ mod reading;
 mod stream;
 mod under_way;
 
+#[cfg(test)]
+mod tests;
+
 pub use line::{Line, Mode};
 pub use lines::Lines;
-pub use stream::read_stream;
+pub use stream::{all_given, one_reading, read_stream};

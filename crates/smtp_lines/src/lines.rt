@@ -95,6 +95,13 @@ impl Lines {
         self.begun.turn();
     }
 
+    /// Whether the last line that was given is a command with the verb DATA, and [`Lines::data`] wasn't called since.
+    pub fn may_turn(&self) -> bool
+        ensures { result ≡ self.now.under.may_turn }
+    {
+        self.begun.may_turn()
+    }
+
     fn put(&mut self, piece: &[u8]) -> Result<(), NoMemory>
         ensures ok { OnOk result (self.new ≡ record self.old { left = self.old.left ++ piece.now }) }
         ensures err { OnErr result (self.new ≡ self.old) }

@@ -32,6 +32,12 @@ impl Begun {
         }
     }
 
+    pub(crate) fn may_turn(&self) -> bool
+        ensures { result ≡ self.now.may_turn }
+    {
+        self.may_turn
+    }
+
     /// Turns to a message.
     pub(crate) fn turn(&mut self)
         ensures { under self.new ≡ record (under self.old) { mode = Mode.Message; may_turn = false } }
