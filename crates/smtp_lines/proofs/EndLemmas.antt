@@ -101,12 +101,12 @@ pub crlf_before : (bytes : List ℕ) (n : ℕ) → ((k : ℕ) → k < n → k < 
 crlf_before bytes n h =
     crlf_none (take n bytes)
     (λ k lt cr lf.
-        let len = length-take n bytes in
-        let below : suc k < n = omega arith in
-        let within : suc k < length bytes = omega arith in
-        let lower : k < n = omega arith in
-        h k lower (omega arith)
-        (occurs bytes k within (sym (get_or-take n bytes k 0 lower) ∙ cr) (sym (get_or-take n bytes (suc k) 0 below) ∙ lf)))
+    let len = length-take n bytes in
+    let below : suc k < n = omega arith in
+    let within : suc k < length bytes = omega arith in
+    let lower : k < n = omega arith in
+    h k lower (omega arith)
+    (occurs bytes k within (sym (get_or-take n bytes k 0 lower) ∙ cr) (sym (get_or-take n bytes (suc k) 0 below) ∙ lf)))
 
 pub message_ends : (begun bytes : List ℕ) (place : ℕ) → has_end Message begun ≡ false → (ends_in_cr begun ≡ true → begins_in_lf bytes ≡ true → ⊥)
     → ((k : ℕ) → k < place → OccursAt bytes (13 ∷ 10 ∷ []) k → ⊥) → OccursAt bytes (13 ∷ 10 ∷ []) place

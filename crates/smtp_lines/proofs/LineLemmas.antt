@@ -47,22 +47,22 @@ message-front begun bytes content kept most limit is le some whole =
     let kept_len = ap length is ∙ length-take most begun in
     ⊎_elim
     (λ (cut : most < length begun).
-        let m : min (length kept + length bytes - 2) limit ≡ limit = omega arith in
-        ap (λ n. take n (kept ++ bytes)) m
-        ∙ take-append-le limit kept bytes (omega arith)
-        ∙ ap (take limit) is
-        ∙ take-take limit most begun (omega arith)
-        ∙ sym (take-append-le limit begun bytes (omega arith))
-        ∙ ap (take limit) whole
-        ∙ take-append-le limit content (13 ∷ 10 ∷ []) (omega arith))
+    let m : min (length kept + length bytes - 2) limit ≡ limit = omega arith in
+    ap (λ n. take n (kept ++ bytes)) m
+    ∙ take-append-le limit kept bytes (omega arith)
+    ∙ ap (take limit) is
+    ∙ take-take limit most begun (omega arith)
+    ∙ sym (take-append-le limit begun bytes (omega arith))
+    ∙ ap (take limit) whole
+    ∙ take-append-le limit content (13 ∷ 10 ∷ []) (omega arith))
     (λ (all : length begun ≤ most).
-        let same : kept ≡ begun = is ∙ take_all most begun all in
-        let m : min (length kept + length bytes - 2) limit ≡ min limit (length content) = omega (arith, ap length same) in
-        ap (λ n. take n (kept ++ bytes)) m
-        ∙ ap (λ x. take (min limit (length content)) (x ++ bytes)) same
-        ∙ ap (take (min limit (length content))) whole
-        ∙ take-append-le (min limit (length content)) content (13 ∷ 10 ∷ []) (omega arith)
-        ∙ take_min limit content)
+    let same : kept ≡ begun = is ∙ take_all most begun all in
+    let m : min (length kept + length bytes - 2) limit ≡ min limit (length content) = omega (arith, ap length same) in
+    ap (λ n. take n (kept ++ bytes)) m
+    ∙ ap (λ x. take (min limit (length content)) (x ++ bytes)) same
+    ∙ ap (take (min limit (length content))) whole
+    ∙ take-append-le (min limit (length content)) content (13 ∷ 10 ∷ []) (omega arith)
+    ∙ take_min limit content)
     (cases_lt most (length begun))
 
 dot_front : (limit : ℕ) (content : List ℕ) → take limit (without_dot (take (suc limit) content)) ≡ take limit (without_dot content)

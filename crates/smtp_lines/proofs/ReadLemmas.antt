@@ -141,20 +141,20 @@ pub all_read : (mode : Mode) (begun bytes : List ℕ) (lines : List Line) (now :
 all_read mode begun bytes lines now kept after_cr used left left_is so none_left =
     let none = subst (λ x. has_end now (so.begun_now ++ x) ≡ false) left_is none_left in
     record {
-  asks = sym so.quiet;
-  commands = λ is_so. absurd (false≢true is_so);
-  none = λ nil.
-      ⊎_elim
-      (λ (s : AtStart mode begun lines now so.begun_now used).
+      asks = sym so.quiet;
+      commands = λ is_so. absurd (false≢true is_so);
+      none = λ nil.
+          ⊎_elim
+          (λ (s : AtStart mode begun lines now so.begun_now used).
           subst (λ x. has_end mode x ≡ false) (ap (λ x. x ++ drop used bytes) s.same_begun ∙ ap (λ n. begun ++ drop n bytes) s.unused)
           (subst (λ m. has_end m (so.begun_now ++ drop used bytes) ≡ false) s.same_mode none))
-      (λ (l : Later lines so.begun_now). absurd (l.some_lines nil)) so.at;
-  some = λ more grant.
-      ⊎_elim
-      (λ (s : AtStart mode begun lines now so.begun_now used). absurd (more s.no_lines))
-      (λ (l : Later lines so.begun_now). subst (λ x. Reads mode (begun ++ bytes) [] lines now (x ++ drop used bytes)) l.new_line so.reads) so.at;
-  all = λ more _.
-      ⊎_elim
-      (λ (s : AtStart mode begun lines now so.begun_now used). absurd (more s.no_lines))
-      (λ (l : Later lines so.begun_now). subst (λ x. has_end now (x ++ drop used bytes) ≡ false) l.new_line none) so.at;
-}
+          (λ (l : Later lines so.begun_now). absurd (l.some_lines nil)) so.at;
+      some = λ more grant.
+          ⊎_elim
+          (λ (s : AtStart mode begun lines now so.begun_now used). absurd (more s.no_lines))
+          (λ (l : Later lines so.begun_now). subst (λ x. Reads mode (begun ++ bytes) [] lines now (x ++ drop used bytes)) l.new_line so.reads) so.at;
+      all = λ more _.
+          ⊎_elim
+          (λ (s : AtStart mode begun lines now so.begun_now used). absurd (more s.no_lines))
+          (λ (l : Later lines so.begun_now). subst (λ x. has_end now (x ++ drop used bytes) ≡ false) l.new_line none) so.at;
+    }

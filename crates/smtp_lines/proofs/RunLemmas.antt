@@ -17,8 +17,8 @@ last_at lines last some is =
     let within : n < length lines = omega arith in
     let whole : n + 1 ≡ length lines = omega arith in
     let split : lines ≡ take n lines ++ last ∷ [] =
-        sym (take_all (length lines) lines (omega arith)) ∙ sym (ap (λ m. take m lines) whole)
-        ∙ take_more lines n last within ∙ ap (λ l. take n lines ++ l ∷ []) (sym is) in
+    sym (take_all (length lines) lines (omega arith)) ∙ sym (ap (λ m. take m lines) whole)
+    ∙ take_more lines n last within ∙ ap (λ l. take n lines ++ l ∷ []) (sym is) in
     sym (ap (asked_after false) split ∙ asked_after-push false (take n lines) last)
 
 -- the reader has given these lines of these bytes, and each that asked was answered

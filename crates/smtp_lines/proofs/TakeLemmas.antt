@@ -19,10 +19,10 @@ pub kept_more : (most : ℕ) (begun bytes : List ℕ) → take most begun ++ tak
 kept_more most begun bytes =
     ⊎_elim
     (λ (cut : most < length begun).
-        let none : most - length (take most begun) ≡ 0 = omega (arith, length-take most begun) in
-        ap (λ n. take most begun ++ take n bytes) none ∙ append-nil (take most begun) ∙ sym (take-append-le most begun bytes (omega arith)))
+    let none : most - length (take most begun) ≡ 0 = omega (arith, length-take most begun) in
+    ap (λ n. take most begun ++ take n bytes) none ∙ append-nil (take most begun) ∙ sym (take-append-le most begun bytes (omega arith)))
     (λ (all : length begun ≤ most).
-        ap (λ x. x ++ take (most - length x) bytes) (take_all most begun all) ∙ sym (take_joined begun bytes most all))
+    ap (λ x. x ++ take (most - length x) bytes) (take_all most begun all) ∙ sym (take_joined begun bytes most all))
     (cases_lt most (length begun))
 
 pub ends_in_cr-append : (begun : List ℕ) (b : ℕ) (bytes : List ℕ) → ends_in_cr (begun ++ b ∷ bytes) ≡ ends_in_cr (b ∷ bytes)
@@ -47,7 +47,7 @@ pub takes_none : (old new : Under) (begun bytes : List ℕ) (lines : List Line) 
 takes_none old new begun bytes lines nil is holds none =
     let most = most_kept old.mode old.may_turn in
     let kept : old.kept ++ take (most - length old.kept) bytes ≡ take most (begun ++ bytes) =
-        ap (λ x. x ++ take (most - length x) bytes) holds.kept ∙ kept_more most begun bytes in
+    ap (λ x. x ++ take (most - length x) bytes) holds.kept ∙ kept_more most begun bytes in
     let P : Under → Type 0 = λ n. Takes old n begun bytes lines (length bytes) in
     subst P (sym is) (record {
       begun_now = begun ++ bytes;

@@ -6,10 +6,9 @@ mod line;
 mod lines;
 mod reading;
 mod stream;
-mod under_way;
-
 #[cfg(test)]
 mod tests;
+mod under_way;
 
 pub use line::{Line, Mode};
 pub use lines::Lines;

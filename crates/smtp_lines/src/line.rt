@@ -1,7 +1,6 @@
 ghost use Rattle.std.specs.Prelude.{◌≡◌};
 ghost use Rattle.smtp_lines.specs.Stream.{asks, is_data, verb_of, is_blank, mode_after, command_line, without_cr, ends_in_cr, message_line, without_dot};
 
-
 use mail_base::Text;
 
 /// How the bytes of a stream are read.

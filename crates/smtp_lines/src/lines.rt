@@ -46,7 +46,8 @@ impl Lines {
     /// with the verb DATA; what is after that is kept for [`Lines::more`]. After `NoMemory` the reader is as
     /// before, and the piece isn't taken.
     ///
-    /// Each byte is looked at once and copied twice, but for those of a line that comes in several pieces.
+    /// Each byte is looked at once and copied once, but for those of a line that comes in several pieces,
+    /// which are copied once more when it ends, and for those after a command with the verb DATA.
     pub fn feed(&mut self, piece: &[u8]) -> Result<Seq<Line>, NoMemory>
         ensures stands { IfOk result (λ lines. (s : Stream) → Stands self.old s
             → Stands self.new (given self.old.under.may_turn (received s piece.now) lines)) }
@@ -59,6 +60,9 @@ impl Lines {
             → length self.new.left < length (self.old.left ++ piece.now)) }
         ensures err { OnErr result (self.new ≡ self.old) }
     {
+        if self.start == self.left.len() {
+            return self.feed_alone(piece);
+        }
         self.put(piece)?;
         match self.more() {
             Ok(lines) => Ok(lines),
@@ -95,6 +99,27 @@ impl Lines {
         self.begun.turn();
     }
 
+    /// The same where nothing is left unread. The piece is read where it is, and room for what may be left of
+    /// it is made before.
+    fn feed_alone(&mut self, piece: &[u8]) -> Result<Seq<Line>, NoMemory>
+        requires { self.old.left ≡ [] }
+        ensures stands { IfOk result (λ lines. (s : Stream) → Stands self.old s
+            → Stands self.new (given self.old.under.may_turn (received s piece.now) lines)) }
+        ensures turns { IfOk result (λ lines. self.new.under.may_turn
+            ≡ asked_after self.old.under.may_turn lines) }
+        ensures all { IfOk result (λ lines. asked_after false lines ≡ false → self.new.left ≡ []) }
+        ensures less { IfOk result (λ lines. IsTrue (asked_after false lines)
+            → length self.new.left < length (self.old.left ++ piece.now)) }
+        ensures err { OnErr result (self.new ≡ self.old) }
+    {
+        self.left.clear();
+        self.start = 0;
+        self.left.reserve(piece.len())?;
+        let (lines, used) = self.begun.take(piece)?;
+        self.left.extend_from_slice(&piece[used..]).unwrap();
+        Ok(lines)
+    }
+
     /// Whether the last line that was given is a command with the verb DATA, and [`Lines::data`] wasn't called since.
     pub fn may_turn(&self) -> bool
         ensures { result ≡ self.now.under.may_turn }
@@ -106,7 +131,6 @@ impl Lines {
         ensures ok { OnOk result (self.new ≡ record self.old { left = self.old.left ++ piece.now }) }
         ensures err { OnErr result (self.new ≡ self.old) }
     {
-        self.start = unread(&mut self.left, self.start);
         self.left.extend_from_slice(piece)?;
         Ok(())
     }
@@ -117,17 +141,4 @@ impl Lines {
     {
         self.left.truncate(self.left.len() - count);
     }
-}
-
-/// Drops the bytes before a place, where nothing is after it, and tells where those after it are now.
-fn unread(bytes: &mut Vec<u8>, start: usize) -> usize
-    requires { start ≤ vec_len bytes.old }
-    ensures within { result ≤ vec_len bytes.new }
-    ensures rest { drop result bytes.new.items ≡ drop start bytes.old.items }
-{
-    if start < bytes.len() {
-        return start;
-    }
-    bytes.clear();
-    0
 }

@@ -137,7 +137,12 @@ pub(crate) fn read(
     'lines: loop {
         let rest = &bytes[used..];
         let Some(end) = line_end(mode, after_cr, rest) else {
-            return Ok(Gained { lines, mode, used, asks: false });
+            return Ok(Gained {
+                lines,
+                mode,
+                used,
+                asks: false,
+            });
         };
         let line = line_of(alloc, mode, kept, &rest[..end])?;
         let asks = line.asks();
@@ -147,7 +152,12 @@ pub(crate) fn read(
         after_cr = false;
         lines.push(line)?;
         if asks {
-            return Ok(Gained { lines, mode, used, asks: true });
+            return Ok(Gained {
+                lines,
+                mode,
+                used,
+                asks: true,
+            });
         }
     }
 }

@@ -73,12 +73,10 @@ pub fn one_reading()
     ensures { (bytes : List ℕ) (granted : List Bool) (lines : List Line) (last : Mode) (rest : List ℕ)
         → Reads Mode.Commands bytes granted lines last rest → has_end last rest ≡ false
         → reading_of bytes granted ≡ record { lines = lines; mode = last; rest = rest } }
-{
-}
+{}
 
 /// What a reader has given are all the lines of its stream so far, where it has left nothing unread.
 pub fn all_given()
     ensures { (r : Reader) (s : Stream) → Stands r s → r.left ≡ []
         → (reading_of s.received s.granted).lines ≡ s.lines }
-{
-}
+{}

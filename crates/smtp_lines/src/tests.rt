@@ -1,4 +1,4 @@
-use crate::{read_stream, Line, Lines};
+use crate::{Line, Lines, read_stream};
 use mail_base::{NoMemory, Seq, Text};
 use std::alloc::Global;
 use std::test::Fail;
@@ -25,23 +25,43 @@ static ROWS: [Row; 22] = [
     (b"DATA\r\na\nb\r\n.\r\n", &[true], b"C<DATA>D<a\nb>E"),
     (b"DATA\r\na\n.\nb\r\n.\r\n", &[true], b"C<DATA>D<a\n.\nb>E"),
     (b"DATA\r\na\n.\r\n.\r\n", &[true], b"C<DATA>D<a\n.>E"),
-    (b"DATA\r\na\r\n.\nb\r\n.\r\n", &[true], b"C<DATA>D<a>D<\nb>E"),
+    (
+        b"DATA\r\na\r\n.\nb\r\n.\r\n",
+        &[true],
+        b"C<DATA>D<a>D<\nb>E",
+    ),
     (b"DATA\na\r\r\n\r\r\n.\r\n", &[true], b"C<DATA>D<a\r>D<\r>E"),
     (b"DATA\r\n.\r\r\n.\r\n", &[true], b"C<DATA>D<\r>E"),
-    (b"DATA\r\n..\r\n...\r\n.x\r\n\r\n.\r\n", &[true], b"C<DATA>D<.>D<..>D<x>D<>E"),
+    (
+        b"DATA\r\n..\r\n...\r\n.x\r\n\r\n.\r\n",
+        &[true],
+        b"C<DATA>D<.>D<..>D<x>D<>E",
+    ),
     (b"DATA\r\n.\r", &[true], b"C<DATA>"),
     (b"DATA\r\n\n\r", &[true], b"C<DATA>"),
     (b"DATA x\r\nQUIT\r\n", &[], b"C<DATA x>C<QUIT>"),
     (b"dAtA\tx\n.\r\n.\r\n", &[true], b"C<dAtA\tx>EC<.>"),
-    (b"DATAX\n.\n DATA\n.\n", &[true], b"C<DATAX>C<.>C< DATA>C<.>"),
+    (
+        b"DATAX\n.\n DATA\n.\n",
+        &[true],
+        b"C<DATAX>C<.>C< DATA>C<.>",
+    ),
     (b"DATA\r\r\n.\r\n", &[true], b"C<DATA\r>C<.>"),
-    (b"DATA\r\nDATA\r\nx\r\n.\r\nDATA\r\nRSET\r\n", &[false, true], b"C<DATA>C<DATA>D<x>EC<DATA>C<RSET>"),
+    (
+        b"DATA\r\nDATA\r\nx\r\n.\r\nDATA\r\nRSET\r\n",
+        &[false, true],
+        b"C<DATA>C<DATA>D<x>EC<DATA>C<RSET>",
+    ),
     (
         b"EHLO a\r\nMAIL FROM:<b>\r\nDATA\r\n..x\r\na\n.\nb\r\n.\r\nQUIT\r\nleft",
         &[true],
         b"C<EHLO a>C<MAIL FROM:<b>>C<DATA>D<.x>D<a\n.\nb>EC<QUIT>",
     ),
-    (b"DATA\n.\r\nDATA\n.\r\nDATA\n", &[true, true], b"C<DATA>EC<DATA>EC<DATA>"),
+    (
+        b"DATA\n.\r\nDATA\n.\r\nDATA\n",
+        &[true, true],
+        b"C<DATA>EC<DATA>EC<DATA>",
+    ),
 ];
 
 fn is_cut(cuts: Cuts, place: usize, state: u64) -> bool {
@@ -101,7 +121,12 @@ fn read_cut(alloc: Global, bytes: &[u8], grants: &[bool], cuts: Cuts) -> Result<
 #[test]
 fn lines_of_a_stream_however_it_is_cut(rt: HostRuntime) -> Result<(), Fail> {
     for (bytes, grants, lines) in &ROWS {
-        for cuts in [Cuts::Nowhere, Cuts::Everywhere, Cuts::Random(1), Cuts::Random(2)] {
+        for cuts in [
+            Cuts::Nowhere,
+            Cuts::Everywhere,
+            Cuts::Random(1),
+            Cuts::Random(2),
+        ] {
             let read = read_cut(rt.alloc(), bytes, grants, cuts)?;
             assert_eq!(rt; read.bytes(), *lines, "{cuts:?}");
         }
@@ -137,7 +162,12 @@ fn a_command_of_more_than_2048_bytes_is_too_long(rt: HostRuntime) -> Result<(), 
     ];
     for (length, end, is_too_long) in &rows {
         let stream = long_command(rt.alloc(), *length, end)?;
-        for cuts in [Cuts::Nowhere, Cuts::Everywhere, Cuts::Random(3), Cuts::At(2_048)] {
+        for cuts in [
+            Cuts::Nowhere,
+            Cuts::Everywhere,
+            Cuts::Random(3),
+            Cuts::At(2_048),
+        ] {
             let pieces = pieces_of(rt.alloc(), stream.bytes(), cuts)?;
             let lines = read_stream(rt.alloc(), &pieces, &[])?;
             assert_eq!(rt; lines.len(), 2, "{length} {cuts:?}");

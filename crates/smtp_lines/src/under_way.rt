@@ -73,8 +73,9 @@ impl Begun {
     /// The line under way goes on with these bytes.
     fn go_on(&mut self, bytes: &[u8]) -> Result<(), NoMemory>
         ensures ok { OnOk result (under self.new ≡ record (under self.old) {
-            kept = (under self.old).kept ++ take (most_kept (under self.old).mode (under self.old).may_turn - length (under self.old).kept) bytes.now;
-            after_cr = cr_after (under self.old).after_cr bytes.now }) }
+          kept = (under self.old).kept ++ take (most_kept (under self.old).mode (under self.old).may_turn - length (under self.old).kept) bytes.now;
+          after_cr = cr_after (under self.old).after_cr bytes.now;
+        }) }
         ensures err { OnErr result (under self.new ≡ under self.old) }
     {
         let room = most_kept(self.mode, self.may_turn).saturating_sub(self.kept.len());
@@ -87,7 +88,11 @@ impl Begun {
     /// A line begins with these bytes.
     fn begin(&mut self, mode: Mode, may_turn: bool, bytes: &[u8]) -> Result<(), NoMemory>
         ensures ok { OnOk result (under self.new ≡ record {
-            mode = mode; may_turn = may_turn; kept = take (most_kept mode may_turn) bytes.now; after_cr = ends_in_cr bytes.now }) }
+          mode = mode;
+          may_turn = may_turn;
+          kept = take (most_kept mode may_turn) bytes.now;
+          after_cr = ends_in_cr bytes.now;
+        }) }
         ensures err { OnErr result (under self.new ≡ under self.old) }
     {
         let most = most_kept(mode, may_turn).min(bytes.len());
@@ -105,13 +110,7 @@ fn most_kept(mode: Mode, may_turn: bool) -> usize
 {
     match mode {
         Mode::Message => 16_777_219,
-        Mode::Commands => {
-            if may_turn {
-                16_777_219
-            } else {
-                2_048
-            }
-        }
+        Mode::Commands => { if may_turn { 16_777_219 } else { 2_048 } }
     }
 }
 

@@ -11,6 +11,6 @@ returns-in-Some-clause-ends c = λ begun none. let found = c.in-Some.ensures in 
 pub returns-in-None-clause-ends : goal.returns-in-None-clause-ends
 returns-in-None-clause-ends c =
     λ begun none.
-        let bytes = c.args.bytes.now in
-        lf_join begun bytes none
-        (subst (λ x. has_end Commands x ≡ false) (take-length bytes) (lf_none bytes (length bytes) (λ k lt within is. c.in-None.ensures k (omega arith) lt is)))
+    let bytes = c.args.bytes.now in
+    lf_join begun bytes none
+    (subst (λ x. has_end Commands x ≡ false) (take-length bytes) (lf_none bytes (length bytes) (λ k lt within is. c.in-None.ensures k (omega arith) lt is)))

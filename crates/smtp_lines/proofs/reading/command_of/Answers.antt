@@ -10,10 +10,10 @@ returns-then-length-gt2048 c =
 pub returns : goal.returns
 returns c =
     λ begun content is some whole.
-        let kept = c.args.kept.now in
-        let bytes = c.args.bytes.now in
-        c.command_line.ensures
-        ∙ ap command_line
-        (c.in_ok-joined.ensures
-        ∙ ap (λ n. take n (kept ++ bytes)) c.saturating_sub.ensures
-        ∙ command-short begun bytes content kept is some whole c.if-length-gt2048.false)
+    let kept = c.args.kept.now in
+    let bytes = c.args.bytes.now in
+    c.command_line.ensures
+    ∙ ap command_line
+    (c.in_ok-joined.ensures
+    ∙ ap (λ n. take n (kept ++ bytes)) c.saturating_sub.ensures
+    ∙ command-short begun bytes content kept is some whole c.if-length-gt2048.false)

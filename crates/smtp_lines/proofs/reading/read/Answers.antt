@@ -19,21 +19,21 @@ lines-init c = record {
 pub returns-in_default-clause-reads : goal.returns-in_default-clause-reads
 returns-in_default-clause-reads c =
     λ begun is none cr.
-        let so = c.lines.invariant.so_far begun is none cr in
-        all_read _ _ _ _ _ _ _ _ _ (take_rest c.args.bytes.now c.lines.used) so (c.in_default.ensures.ends so.begun_now so.none so.cr)
+    let so = c.lines.invariant.so_far begun is none cr in
+    all_read _ _ _ _ _ _ _ _ _ (take_rest c.args.bytes.now c.lines.used) so (c.in_default.ensures.ends so.begun_now so.none so.cr)
 
 pub returns-then-asks-clause-reads : goal.returns-then-asks-clause-reads
 returns-then-asks-clause-reads c =
     λ begun is none cr.
-        let so = c.lines.invariant.so_far begun is none cr in
-        let e = c.in-Some.ensures.ends so.begun_now so.none so.cr in
-        let rest = take (length c.args.bytes.now - c.lines.used) (drop c.lines.used c.args.bytes.now) in
-        let some : 0 < length (take c.in-Some.end rest) = omega (arith, length-take c.in-Some.end rest, c.in-Some.ensures.some, c.in-Some.ensures.within) in
-        let line = c.in_ok-line.ensures so.begun_now e.content so.is_kept some e.whole in
-        let P : List Line → Mode → Type 0 = λ x m. ReadsOn c.args.mode begun c.args.bytes.now x m (c.lines.used + c.in-Some.end) true in
-        subst (λ x. P x c.mode_after-mode.result) (sym c.in_ok-push.ensures.ok)
-        (subst (P (c.lines.lines ++ c.in_ok-line.line ∷ [])) (sym c.mode_after-mode.ensures)
-        (asked_line _ _ _ _ _ _ _ _ _ _ _ (take_rest c.args.bytes.now c.lines.used) so e line (sym c.asks-asks.ensures ∙ c.if-asks.true)))
+    let so = c.lines.invariant.so_far begun is none cr in
+    let e = c.in-Some.ensures.ends so.begun_now so.none so.cr in
+    let rest = take (length c.args.bytes.now - c.lines.used) (drop c.lines.used c.args.bytes.now) in
+    let some : 0 < length (take c.in-Some.end rest) = omega (arith, length-take c.in-Some.end rest, c.in-Some.ensures.some, c.in-Some.ensures.within) in
+    let line = c.in_ok-line.ensures so.begun_now e.content so.is_kept some e.whole in
+    let P : List Line → Mode → Type 0 = λ x m. ReadsOn c.args.mode begun c.args.bytes.now x m (c.lines.used + c.in-Some.end) true in
+    subst (λ x. P x c.mode_after-mode.result) (sym c.in_ok-push.ensures.ok)
+    (subst (P (c.lines.lines ++ c.in_ok-line.line ∷ [])) (sym c.mode_after-mode.ensures)
+    (asked_line _ _ _ _ _ _ _ _ _ _ _ (take_rest c.args.bytes.now c.lines.used) so e line (sym c.asks-asks.ensures ∙ c.if-asks.true)))
 
 pub lines-preserved : goal.lines-preserved
 lines-preserved c = record {

@@ -15,7 +15,7 @@ returns c =
     let length_is = inside.left.ok.0 in
     let count : c.len.result - c.args.count ≡ start + (length (drop start items) - c.args.count) = omega (arith, length-drop start items, c.len.ensures, c.self.invariant, length_is) in
     let left : drop start c.truncate.new.self.items ≡ take (length (drop start items) - c.args.count) (drop start items) =
-        ap (drop start) (c.truncate.ensures.items ∙ ap (λ n. take n items) count) ∙ drop-take start (length (drop start items) - c.args.count) items in
+    ap (drop start) (c.truncate.ensures.items ∙ ap (λ n. take n items) count) ∙ drop-take start (length (drop start items) - c.args.count) items in
     let with_left = λ (x : List ℕ). let r : Reader = record { under = under inside.begun; left = x } in r in
     let P : Reader → Type 0 = λ r. with_left (drop start c.truncate.new.self.items) ≡ record { under = r.under; left = take (length r.left - c.args.count) r.left } in
     subst P view_is (ap with_left left)
