@@ -1,10 +1,10 @@
 -- Where a line ends, over lists that are joined, and from what the searches tell.
-use Rattle.std.proofs.Common.{◌≡◌, ℕ, zero, suc, ◌+◌, ◌-◌, ◌*◌, ◌<◌, ◌≤◌, ◌==◌, Bool, true, false, List, [], ◌∷◌, ◌++◌, length, take, drop, get_or, slice_index, refl, sym, ap, subst, ◌∙◌, arith, inl, inr, ⊎_elim, append_assoc}
-use Rattle.std.proofs.lemmas.Bool.{or_parts, or_from, false_from_ne_true, and_parts, and_from, eqb-true, eq-eqb, false≢true, cases_Bool}
-use Rattle.std.proofs.lemmas.List.{take_more, take_all, length-take, get_or-take, length-append, take-append-drop}
+use Rattle.std.proofs.Common.{◌≡◌, ℕ, zero, suc, ◌+◌, ◌-◌, ◌<◌, ◌==◌, Bool, true, false, List, [], ◌∷◌, ◌++◌, length, take, get_or, slice_index, refl, sym, ap, subst, ◌∙◌, arith, append_assoc}
+use Rattle.std.proofs.lemmas.Bool.{or_parts, or_from, false_from_ne_true, and_parts, eqb-true, false≢true}
+use Rattle.std.proofs.lemmas.List.{take_more, take_all, length-take, get_or-take}
 use Rattle.memchr.specs.Find.{OccursAt}
 use Rattle.smtp_lines.specs.declared.line.Mode.TheVariants.{Commands, Message}
-use Rattle.smtp_lines.specs.Stream.{has_end, begins_with_end, ends_in_cr, end_of}
+use Rattle.smtp_lines.specs.Stream.{has_end, ends_in_cr}
 use Rattle.smtp_lines.specs.Reader.{EndsAt}
 
 -- ---- LF
@@ -85,9 +85,6 @@ begins_in_lf-take zero [] h = h
 begins_in_lf-take zero (b ∷ bytes) h = absurd (false≢true h)
 begins_in_lf-take (suc n) [] h = h
 begins_in_lf-take (suc n) (b ∷ bytes) h = h
-
-crlf : List ℕ
-crlf = 13 ∷ 10 ∷ []
 
 reads_crlf : (hay : List ℕ) (k : ℕ) → get_or hay k 0 ≡ 13 → get_or hay (suc k) 0 ≡ 10 → (j : ℕ) → j < 2 → slice_index hay (k + j) ≡ slice_index (13 ∷ 10 ∷ []) j
 reads_crlf hay k cr lf zero lt = let e : k + 0 ≡ k = omega arith in ap (λ n. get_or hay n 0) e ∙ cr

@@ -1,13 +1,13 @@
 -- Readings that are joined, and the reading of a loop so far.
-use Rattle.std.proofs.Common.{◌≡◌, ℕ, zero, suc, ◌+◌, ◌-◌, ◌<◌, ◌≤◌, Bool, true, false, List, [], ◌∷◌, ◌++◌, length, take, drop, refl, sym, ap, subst, ◌∙◌, arith, inl, inr, ◌⊎◌, ⊎_elim, append_assoc}
-use Rattle.std.proofs.lemmas.Bool.{false≢true, both_ways}
-use Rattle.std.proofs.lemmas.List.{append-nil, take-append-drop, drop-drop}
+use Rattle.std.proofs.Common.{◌≡◌, ℕ, suc, ◌+◌, Bool, true, false, List, [], ◌∷◌, ◌++◌, take, drop, refl, sym, ap, subst, ◌∙◌, arith, inl, inr, ◌⊎◌, ⊎_elim, append_assoc}
+use Rattle.std.proofs.lemmas.Bool.{false≢true}
+use Rattle.std.proofs.lemmas.List.{take-append-drop, drop-drop}
 use Rattle.smtp_lines.specs.declared.line.Line.{Line}
 use Rattle.smtp_lines.specs.declared.line.Line.TheVariants.{Command, TooLong, Data, DataEnd}
 use Rattle.smtp_lines.specs.declared.line.Mode.{Mode}
-use Rattle.smtp_lines.specs.declared.line.Mode.TheVariants.{Commands, Message}
+use Rattle.smtp_lines.specs.declared.line.Mode.TheVariants.{Commands}
 use Rattle.smtp_lines.specs.Stream.{Reads, nothing, plain, asked, has_end, ends_in_cr, end_of, line_of, asks, mode_after, granted_mode}
-use Rattle.smtp_lines.specs.Reader.{EndsAt, IsKept, enough, asked_after, awaited, mode_by, ReadsOn}
+use Rattle.smtp_lines.specs.Reader.{EndsAt, IsKept, enough, asked_after, ReadsOn}
 
 longer_eq : (content end after more : List ℕ) → content ++ (end ++ (after ++ more)) ≡ (content ++ (end ++ after)) ++ more
 longer_eq content end after more = ap (λ x. content ++ x) (sym (append_assoc end after more)) ∙ sym (append_assoc content (end ++ after) more)

@@ -1,11 +1,11 @@
 -- The one reading of a stream.
-use Rattle.std.proofs.Common.{◌≡◌, ℕ, zero, suc, ◌+◌, ◌<◌, ◌≤◌, ◌==◌, Bool, true, false, cond, List, [], ◌∷◌, ◌++◌, length, take, drop, Option, Some, None, refl, sym, ap, subst, ◌∙◌, arith}
-use Rattle.std.proofs.lemmas.Bool.{or_parts, and_right, cond-true, cond-false, false≢true}
+use Rattle.std.proofs.Common.{◌≡◌, ℕ, zero, suc, ◌<◌, ◌≤◌, ◌==◌, Bool, true, false, List, [], ◌∷◌, ◌++◌, length, drop, Some, None, refl, sym, ap, subst, ◌∙◌, arith}
+use Rattle.std.proofs.lemmas.Bool.{or_parts, and_right, cond-true, cond-false}
 use Rattle.std.proofs.lemmas.List.{length-append, append-nil}
 use Rattle.smtp_lines.specs.declared.line.Line.{Line}
 use Rattle.smtp_lines.specs.declared.line.Mode.{Mode}
 use Rattle.smtp_lines.specs.declared.line.Mode.TheVariants.{Commands, Message}
-use Rattle.smtp_lines.specs.Stream.{Reads, nothing, plain, asked, has_end, begins_with_end, end_of, line_of, asks, mode_after, granted_mode, cut, longer, Reading, first_grant, with_line, parts_by, reading_by, reading_of}
+use Rattle.smtp_lines.specs.Stream.{Reads, nothing, plain, asked, has_end, end_of, line_of, granted_mode, cut, longer, Reading, first_grant, with_line, parts_by, reading_by, reading_of}
 use Rattle.smtp_lines.specs.Reader.{awaited, mode_by, Reader, Stream, Stands}
 use Rattle.smtp_lines.specs.Runs.{Follows}
 

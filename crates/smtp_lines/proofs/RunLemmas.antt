@@ -1,11 +1,11 @@
 -- A run over a stream whose grants are known beforehand, call by call.
-use Rattle.std.proofs.Common.{◌≡◌, ℕ, zero, suc, ◌+◌, ◌-◌, ◌<◌, ◌≤◌, Bool, true, false, cond, List, [], ◌∷◌, ◌++◌, length, take, drop, get_or, refl, sym, ap, subst, ◌∙◌, arith, append_assoc}
+use Rattle.std.proofs.Common.{◌≡◌, ℕ, ◌+◌, ◌-◌, ◌<◌, Bool, true, false, cond, List, [], ◌∷◌, ◌++◌, length, take, drop, get_or, refl, sym, ap, subst, ◌∙◌, arith, append_assoc}
 use Rattle.std.specs.List.{concat}
-use Rattle.std.proofs.lemmas.Bool.{cond-true, cond-false, false≢true, both_ways}
+use Rattle.std.proofs.lemmas.Bool.{cond-true, cond-false, false≢true}
 use Rattle.std.proofs.lemmas.List.{append-nil, take_more, take_all}
 use Rattle.smtp_lines.specs.declared.line.Line.{Line}
 use Rattle.smtp_lines.specs.Stream.{asks, first_grant}
-use Rattle.smtp_lines.specs.Reader.{asked_after, awaited, Reader, Stream, Stands, received, given, granted}
+use Rattle.smtp_lines.specs.Reader.{asked_after, awaited, Reader, Stream, Stands, given, granted}
 use Rattle.smtp_lines.specs.Runs.{Follows, granted_by, ReadSoFar}
 use Rattle.smtp_lines.proofs.ReadLemmas.{asked_after-push}
 use Rattle.smtp_lines.proofs.ReadingLemmas.{follows_more}

@@ -1,12 +1,12 @@
 -- What a reader stands for, after each call.
-use Rattle.std.proofs.Common.{◌≡◌, ℕ, Bool, true, false, List, [], ◌∷◌, ◌++◌, length, take, drop, refl, sym, ap, subst, ◌∙◌}
+use Rattle.std.proofs.Common.{◌≡◌, ℕ, Bool, true, false, List, [], ◌∷◌, ◌++◌, take, drop, refl, sym, ap, subst, ◌∙◌}
 use Rattle.std.proofs.lemmas.Bool.{false≢true}
 use Rattle.std.proofs.lemmas.List.{append-nil, append_assoc}
 use Rattle.smtp_lines.specs.declared.line.Line.{Line}
 use Rattle.smtp_lines.specs.declared.line.Mode.{Mode}
 use Rattle.smtp_lines.specs.declared.line.Mode.TheVariants.{Commands, Message}
 use Rattle.smtp_lines.specs.Stream.{has_end, Reads, nothing}
-use Rattle.smtp_lines.specs.Reader.{most_kept, awaited, mode_by, Under, Holds, Takes, Reader, Stream, Stands, fresh, empty_stream, received, given, granted}
+use Rattle.smtp_lines.specs.Reader.{most_kept, awaited, mode_by, Under, Takes, Reader, Stream, Stands, fresh, empty_stream, received, given, granted}
 use Rattle.smtp_lines.proofs.EndLemmas.{crlf_from_lf}
 use Rattle.smtp_lines.proofs.ReadLemmas.{reads_more, reads_join}
 

@@ -1,11 +1,11 @@
 -- What is kept of the line under way, after some lines were taken.
-use Rattle.std.proofs.Common.{◌≡◌, ℕ, zero, suc, ◌+◌, ◌-◌, ◌<◌, ◌≤◌, ◌==◌, Bool, true, false, List, [], ◌∷◌, ◌++◌, length, take, drop, get_or, refl, sym, ap, subst, ◌∙◌, arith, ⊎_elim}
-use Rattle.std.proofs.lemmas.Bool.{false≢true, cases_lt}
+use Rattle.std.proofs.Common.{◌≡◌, ℕ, ◌+◌, ◌-◌, ◌<◌, ◌≤◌, ◌==◌, Bool, true, false, List, [], ◌∷◌, ◌++◌, length, take, drop, get_or, refl, sym, ap, subst, ◌∙◌, arith, ⊎_elim}
+use Rattle.std.proofs.lemmas.Bool.{cases_lt}
 use Rattle.std.proofs.lemmas.List.{append-nil, take_all, drop_all, take-append-le, length-take, length-append, get_or-append-add}
 use Rattle.smtp_lines.specs.declared.line.Line.{Line}
 use Rattle.smtp_lines.specs.declared.line.Mode.{Mode}
 use Rattle.smtp_lines.specs.declared.line.Mode.TheVariants.{Commands, Message}
-use Rattle.smtp_lines.specs.Stream.{has_end, ends_in_cr, asks, Reads}
+use Rattle.smtp_lines.specs.Stream.{has_end, ends_in_cr, Reads}
 use Rattle.smtp_lines.specs.Reader.{enough, most_kept, cr_after, asked_after, awaited, mode_by, ReadsOn, Under, Holds, Takes}
 use Rattle.smtp_lines.proofs.LineLemmas.{take_joined}
 
@@ -37,9 +37,6 @@ cr_after-is begun (b ∷ bytes) after_cr is = ends_in_cr-append begun b bytes
 pub asked_after-some : (a b : Bool) (lines : List Line) → (lines ≡ [] → ⊥) → asked_after a lines ≡ asked_after b lines
 asked_after-some a b [] some = absurd (some refl)
 asked_after-some a b (line ∷ lines) some = refl
-
-abbrev gone_on : Under → List ℕ → Under
-gone_on old bytes = record old { kept = old.kept ++ take (most_kept old.mode old.may_turn - length old.kept) bytes; after_cr = cr_after old.after_cr bytes }
 
 pub takes_none : (old new : Under) (begun bytes : List ℕ) (lines : List Line) → lines ≡ []
     → new ≡ record old { kept = old.kept ++ take (most_kept old.mode old.may_turn - length old.kept) bytes; after_cr = cr_after old.after_cr bytes }

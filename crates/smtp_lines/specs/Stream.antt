@@ -25,6 +25,7 @@ abbrev pub has_end : Mode → List ℕ → Bool
 has_end mode [] = false
 has_end mode (b ∷ bytes) = begins_with_end mode (b ∷ bytes) || has_end mode bytes
 
+-- the last byte is a CR
 abbrev pub ends_in_cr : List ℕ → Bool
 ends_in_cr bytes = slice_index bytes (length bytes - 1) == 13
 
@@ -49,6 +50,7 @@ abbrev pub line_of : Mode → List ℕ → Line
 line_of Commands content = command_line content
 line_of Message content = message_line content
 
+-- a space or a tab
 abbrev pub is_blank : ℕ → Bool
 is_blank b = b == 32 || b == 9
 
@@ -91,6 +93,7 @@ pub data Reads : Mode → List ℕ → List Bool → List Line → Mode → List
       → Reads (granted_mode grant) after granted lines last rest
       → Reads mode (content ++ (end_of mode ++ after)) (grant ∷ granted) (line_of mode content ∷ lines) last rest
 
+-- one more byte before a line end
 abbrev pub longer : ℕ → Option (List ℕ × List ℕ) → Option (List ℕ × List ℕ)
 longer b None = None
 longer b (Some parts) = Some (b ∷ parts.0, parts.1)

@@ -1,4 +1,4 @@
-use Rattle.std.proofs.Common.{◌++◌, take, ap, sym, ◌∙◌, arith}
+use Rattle.std.proofs.Common.{◌++◌, take, ap, ◌∙◌}
 use Rattle.smtp_lines.specs.Stream.{command_line}
 use Rattle.smtp_lines.proofs.LineLemmas.{command-long, command-short}
 use Rattle.smtp_lines.proofs.reading.command_of.Goals as goal

@@ -1,4 +1,4 @@
-use Rattle.std.proofs.Common.{◌-◌, length, take, ◌++◌, ap, sym, ◌∙◌, arith}
+use Rattle.std.proofs.Common.{◌-◌, length, take, ◌++◌, ap, sym, ◌∙◌}
 use Rattle.std.proofs.lemmas.List.{take_min}
 use Rattle.smtp_lines.proofs.LineLemmas.{take_joined}
 use Rattle.smtp_lines.proofs.reading.joined.Goals as goal

@@ -1,5 +1,4 @@
-use Rattle.std.proofs.Common.{◌+◌, ◌-◌, ◌≤◌, min, length, ◌++◌, take, ap, sym, ◌∙◌, arith}
-use Rattle.smtp_lines.specs.declared.line.Mode.TheVariants.{Message}
+use Rattle.std.proofs.Common.{◌+◌, ◌≤◌, min, ◌++◌, take, ap, ◌∙◌, arith}
 use Rattle.smtp_lines.specs.Stream.{message_line}
 use Rattle.smtp_lines.proofs.LineLemmas.{message-front, message_line-front, enough-message}
 use Rattle.smtp_lines.proofs.reading.message_line_of.Goals as goal

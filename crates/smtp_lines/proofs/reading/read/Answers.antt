@@ -1,8 +1,7 @@
-use Rattle.std.proofs.Common.{◌≡◌, ◌+◌, ◌-◌, ◌<◌, ℕ, Bool, true, false, List, ◌∷◌, [], ◌++◌, length, take, drop, ap, sym, subst, ◌∙◌, arith}
+use Rattle.std.proofs.Common.{◌+◌, ◌-◌, ◌<◌, true, false, List, ◌∷◌, [], ◌++◌, length, take, drop, ap, sym, subst, ◌∙◌, arith}
 use Rattle.std.proofs.lemmas.List.{length-take, take_rest}
 use Rattle.smtp_lines.specs.declared.line.Line.{Line}
 use Rattle.smtp_lines.specs.declared.line.Mode.{Mode}
-use Rattle.smtp_lines.specs.Stream.{asks, mode_after}
 use Rattle.smtp_lines.specs.Reader.{ReadsOn, asked_after}
 use Rattle.smtp_lines.proofs.ReadLemmas.{asked_after-push, SoFar, so_far_start, so_far_line, asked_line, all_read}
 use Rattle.smtp_lines.proofs.reading.read.Goals as goal

@@ -1,7 +1,7 @@
 use Rattle.std.proofs.Common.{◌≡◌, ◌++◌, List, Bool, false, true, drop, sym, ap, subst, ◌∙◌}
 use Rattle.smtp_lines.specs.declared.line.Line.{Line}
-use Rattle.smtp_lines.specs.Reader.{Reader, asked_after, received}
-use Rattle.smtp_lines.proofs.RunLemmas.{Answering, after_call, after_answer, at_end_of_piece, asked_after-turns}
+use Rattle.smtp_lines.specs.Reader.{asked_after, received}
+use Rattle.smtp_lines.proofs.RunLemmas.{Answering, after_call, after_answer, asked_after-turns}
 use Rattle.smtp_lines.proofs.stream.read_piece.Goals as goal
 
 pub answers-init : goal.answers-init

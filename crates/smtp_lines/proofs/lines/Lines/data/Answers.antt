@@ -1,6 +1,6 @@
-use Rattle.std.proofs.Common.{◌≡◌, true, drop, refl, ap, sym, subst, ◌∙◌}
+use Rattle.std.proofs.Common.{◌≡◌, drop, refl, ap, sym, subst, ◌∙◌}
 use Rattle.smtp_lines.specs.Views.{under}
-use Rattle.smtp_lines.specs.Reader.{Reader, Stands, granted}
+use Rattle.smtp_lines.specs.Reader.{Reader, Stands}
 use Rattle.smtp_lines.proofs.StandLemmas.{stands_at, stands_granted}
 use Rattle.smtp_lines.proofs.lines.Lines.data.Goals as goal
 

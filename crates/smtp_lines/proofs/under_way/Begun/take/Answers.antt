@@ -1,9 +1,9 @@
-use Rattle.std.proofs.Common.{◌≡◌, ◌-◌, Bool, [], ◌++◌, List, ℕ, length, take, drop, refl, ap, sym, subst, ◌∙◌, arith, true, false}
-use Rattle.std.proofs.lemmas.Bool.{iff_false, false≢true}
+use Rattle.std.proofs.Common.{◌≡◌, ◌-◌, Bool, [], ◌++◌, length, take, drop, refl, ap, sym, subst, ◌∙◌, arith, true, false}
+use Rattle.std.proofs.lemmas.Bool.{iff_false}
 use Rattle.std.proofs.lemmas.List.{take_rest, drop_all, append-nil}
 use Rattle.smtp_lines.specs.Stream.{has_end}
 use Rattle.smtp_lines.specs.Views.{under}
-use Rattle.smtp_lines.specs.Reader.{most_kept, IsKept, Holds, Under, ReadsOn}
+use Rattle.smtp_lines.specs.Reader.{most_kept, IsKept, Under, ReadsOn}
 use Rattle.smtp_lines.proofs.TakeLemmas.{enough_kept, takes_none, takes_some, asked_after-some}
 use Rattle.smtp_lines.proofs.under_way.Begun.take.Goals as goal
 
