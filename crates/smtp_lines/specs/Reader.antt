@@ -1,0 +1,121 @@
+-- What a reader of a stream keeps of it, and what it stands for.
+use Rattle.std.specs.Prelude.{◌≡◌, ℕ, ◌≤◌, Bool, true, false, List, [], ◌∷◌, ◌++◌, take, drop, Option, Some, None}
+use Rattle.smtp_lines.specs.declared.line.Line.{Line}
+use Rattle.smtp_lines.specs.declared.line.Mode.{Mode}
+use Rattle.smtp_lines.specs.declared.line.Mode.TheVariants.{Commands, Message}
+use Rattle.smtp_lines.specs.Stream.{end_of, has_end, ends_in_cr, asks, granted_mode, Reads}
+
+-- a line ends in the first n bytes after what was begun
+pub record EndsAt (mode : Mode) (begun bytes : List ℕ) (n : ℕ) : Type 0 where
+  pub content : List ℕ
+  pub whole : begun ++ take n bytes ≡ content ++ end_of mode
+  pub none : has_end mode content ≡ false
+
+-- the first line end after what was begun, if there is one
+abbrev pub Ends : Mode → List ℕ → List ℕ → Option ℕ → Type 0
+Ends mode begun bytes None = has_end mode (begun ++ bytes) ≡ false
+Ends mode begun bytes (Some n) = EndsAt mode begun bytes n
+
+-- how much of a line under way tells what it will be, whatever comes after it
+unfoldable pub enough : Mode → ℕ
+enough Commands = 2048
+enough Message = 16777219
+
+-- what is kept of a line under way is all of it, or its front where that is enough
+pub record IsKept (mode : Mode) (begun kept : List ℕ) : Type 0 where
+  pub most : ℕ
+  pub enough : enough mode ≤ most
+  pub is : kept ≡ take most begun
+
+-- whether the last of the lines asks; where there is none, as before
+abbrev pub asked_after : Bool → List Line → Bool
+asked_after asked [] = asked
+asked_after asked (line ∷ lines) = asked_after (asks line) lines
+
+-- a grant, if one is awaited
+abbrev pub awaited : Bool → Bool → List Bool
+awaited true grant = grant ∷ []
+awaited false grant = []
+
+-- how the stream goes on, if a grant is awaited by that grant
+abbrev pub mode_by : Bool → Bool → Mode → Mode
+mode_by true grant mode = granted_mode grant
+mode_by false grant mode = mode
+
+-- the lines that end in the bytes after what was begun, up to one that asks
+pub record ReadsOn (mode : Mode) (begun bytes : List ℕ) (lines : List Line) (now : Mode) (used : ℕ) (asked : Bool) : Type 0 where
+  pub asks : asked ≡ asked_after false lines
+  pub commands : asked ≡ true → now ≡ Commands
+  pub none : lines ≡ [] → has_end mode (begun ++ bytes) ≡ false
+  pub some : (lines ≡ [] → ⊥) → (grant : Bool) → Reads mode (begun ++ bytes) (awaited asked grant) lines (mode_by asked grant now) (drop used bytes)
+  pub all : (lines ≡ [] → ⊥) → asked ≡ false → has_end now (drop used bytes) ≡ false
+
+-- how much is kept of a line under way; one that may become a message's is kept as such
+unfoldable pub most_kept : Mode → Bool → ℕ
+most_kept Commands false = 2048
+most_kept Commands true = 16777219
+most_kept Message may_turn = 16777219
+
+-- whether a CR is last, where bytes come after what was there
+abbrev pub cr_after : Bool → List ℕ → Bool
+cr_after after_cr [] = after_cr
+cr_after after_cr (b ∷ bytes) = ends_in_cr (b ∷ bytes)
+
+-- what is kept of the line under way, how it is read, and whether the stream may be turned to a message
+pub record Under : Type 0 where
+  pub mode : Mode
+  pub may_turn : Bool
+  pub kept : List ℕ
+  pub after_cr : Bool
+
+-- the line under way has these bytes so far
+pub record Holds (u : Under) (begun : List ℕ) : Type 0 where
+  pub none : has_end u.mode begun ≡ false
+  pub kept : u.kept ≡ take (most_kept u.mode u.may_turn) begun
+  pub cr : ends_in_cr begun ≡ u.after_cr
+  pub commands : u.may_turn ≡ true → u.mode ≡ Commands
+
+-- the lines that were taken from so many of the bytes, and what is kept then
+pub record Takes (old new : Under) (begun bytes : List ℕ) (lines : List Line) (used : ℕ) : Type 0 where
+  pub begun_now : List ℕ
+  pub holds : Holds new begun_now
+  pub none : lines ≡ [] → (new ≡ record old { kept = new.kept; after_cr = new.after_cr }) × (begun_now ++ drop used bytes ≡ begun ++ bytes)
+  pub some : (lines ≡ [] → ⊥) → (grant : Bool) → Reads old.mode (begun ++ bytes) (awaited new.may_turn grant) lines (mode_by new.may_turn grant new.mode) (begun_now ++ drop used bytes)
+
+-- what a reader holds: the line under way, and bytes that weren't read yet
+pub record Reader : Type 0 where
+  pub under : Under
+  pub left : List ℕ
+
+-- nothing was received
+abbrev pub fresh : Reader
+fresh = record { under = record { mode = Commands; may_turn = false; kept = []; after_cr = false }; left = [] }
+
+-- a stream so far: its bytes, the grants of the lines that asked, but for one that is still awaited, and the lines that were given
+pub record Stream : Type 0 where
+  pub received : List ℕ
+  pub granted : List Bool
+  pub lines : List Line
+
+-- a reader stands for a stream where its lines were given and the bytes after them are kept or left, whatever is answered to the last one that asked
+pub record Stands (r : Reader) (s : Stream) : Type 0 where
+  pub begun : List ℕ
+  pub holds : Holds r.under begun
+  pub reads : (grant : Bool) → Reads Commands s.received (s.granted ++ awaited r.under.may_turn grant) s.lines (mode_by r.under.may_turn grant r.under.mode) (begun ++ r.left)
+
+-- the stream of which nothing has come
+abbrev pub empty_stream : Stream
+empty_stream = record { received = []; granted = []; lines = [] }
+
+-- a piece has come
+abbrev pub received : Stream → List ℕ → Stream
+received s piece = record s { received = s.received ++ piece }
+
+-- lines were given; where a line came after one that asked, that one was refused
+abbrev pub given : Bool → Stream → List Line → Stream
+given may_turn s [] = s
+given may_turn s (line ∷ lines) = record s { granted = s.granted ++ awaited may_turn false; lines = s.lines ++ (line ∷ lines) }
+
+-- the last line that asked was granted
+abbrev pub granted : Stream → Stream
+granted s = record s { granted = s.granted ++ true ∷ [] }

@@ -1,0 +1,15 @@
+//! The lines of an SMTP stream, however it is cut into pieces. [`Lines`] is fed the pieces in turn. What
+//! it gives are the lines that `specs/Stream.antt` reads off the whole stream.
+#![tactic(auto)]
+
+mod line;
+mod lines;
+mod reading;
+mod stream;
+#[cfg(test)]
+mod tests;
+mod under_way;
+
+pub use line::{Line, Mode};
+pub use lines::Lines;
+pub use stream::{all_given, one_reading, read_stream};
