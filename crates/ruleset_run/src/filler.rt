@@ -52,7 +52,7 @@ fn push_all(given: &mut Seq<Token>, more: &[Token]) -> Result<(), RunFault>
     requires { length given.old ≤ 2000 }
     ensures { Pushes result given.old more.now given.new }
 {
-    if more.len() > MOST_TOKENS - given.len() {
+    if given.len() + more.len() > MOST_TOKENS {
         return Err(RunFault::Long);
     }
     for token in more {
