@@ -1,4 +1,5 @@
 mod LineLemmas
+mod PlainLemmas
 mod ReaderLemmas
 mod SideLemmas
 mod TokenLemmas
