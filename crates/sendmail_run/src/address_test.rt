@@ -1,10 +1,10 @@
-ghost use Rattle.std.specs.Prelude.{◌≡◌, ◌<◌, ◌≤◌, ◌^◌, ◌++◌, List, [], ℕ, length, take, IfOk, OnOk, OnErr, IfSome, IsTrue, ◌↔◌};
+ghost use Rattle.std.specs.Prelude.{◌≡◌, ◌<◌, ◌≤◌, ◌^◌, ◌++◌, ◌∷◌, List, [], ℕ, false, MatchOption, length, take, IfOk, OnOk, OnErr, IfSome, IsTrue, ◌↔◌};
 ghost use Rattle.mail_base.specs.Histories.{Gains, HasCause};
 ghost use Rattle.mail_edge.specs.Moves.{Loses, GainsPart};
 ghost use Rattle.mail_edge.specs.Seen.{FilesSeen, SourceSeen};
 ghost use Rattle.ruleset_run.specs.Plain.{is_plain_book};
 ghost use Rattle.sendmail_run.specs.Runs.{Seen, Tests, seen};
-ghost use Rattle.sendmail_run.specs.Taking.{Answered, At, Stands, Went};
+ghost use Rattle.sendmail_run.specs.Taking.{Answered, At, Stands, Went, has_end};
 
 use crate::input::Partial;
 use crate::outcome::Outcome;
@@ -85,13 +85,13 @@ fn answer_piece<O: Sink>(
     ensures went { (before : Seen) (input : SourceSeen) (taken : List ℕ) → At config.now before (seen before.files input (O.seen output.old)) (taken ++ bytes.now) taken partial.old → Went config.now before (seen before.files input (O.seen output.new)) (taken ++ bytes.now) partial.new result }
     ensures later { (O.seen output.old).faults ≤ (O.seen output.new).faults }
 {
-    let Ok(answered) = answer_lines(alloc, config, partial, bytes) else {
+    let Ok(answers) = answer_lines(alloc, config, partial, bytes) else {
         return Step::Ended(Outcome::NoMemory);
     };
-    if give(output, &answered.text).is_err() {
+    let Ok(()) = give(output, &answers.text) else {
         return Step::Ended(Outcome::WriteFault);
-    }
-    if answered.is_quit {
+    };
+    if answers.is_quit {
         return Step::Ended(Outcome::Done);
     }
     Step::On
@@ -127,17 +127,27 @@ fn answer_lines(
 {
     let mut text = Text::new(alloc);
     let mut rest = bytes;
-    while let Some(end) = memchr(b'\n', rest) {
-        partial.take(&rest[..end])?;
+    while let Some(parts) = split_end(rest) {
+        partial.take(parts.0)?;
         if partial.is_quit() {
             return Ok(Answers { text, is_quit: true });
         }
         partial.answer(alloc, config, &mut text)?;
         partial.clear();
-        rest = &rest[end + 1..];
+        rest = parts.1;
     }
     partial.take(rest)?;
     Ok(Answers { text, is_quit: false })
+}
+
+// What stands before the first LF, and what stands after it.
+fn split_end(text: &[u8]) -> Option<(&[u8], &[u8])>
+    ensures { MatchOption result (has_end text.now ≡ false) (λ parts. (has_end parts.0.now ≡ false) × (text.now ≡ (parts.0.now ++ 10 ∷ []) ++ parts.1.now)) }
+{
+    match memchr(b'\n', text) {
+        Some(end) => Some((&text[..end], &text[end + 1..])),
+        None => None,
+    }
 }
 
 // Answers the last line, which the input's end ends.
@@ -147,11 +157,11 @@ fn end<O: Sink>(alloc: Global, config: &Config, partial: &Partial, output: &mut 
     ensures later { (O.seen output.old).faults ≤ (O.seen output.new).faults }
 {
     let mut text = Text::new(alloc);
-    if partial.answer_last(alloc, config, &mut text).is_err() {
+    let Ok(()) = partial.answer_last(alloc, config, &mut text) else {
         return Outcome::NoMemory;
-    }
-    if give(output, &text).is_err() {
+    };
+    let Ok(()) = give(output, &text) else {
         return Outcome::WriteFault;
-    }
+    };
     Outcome::Done
 }

@@ -1,9 +1,9 @@
-ghost use Rattle.std.specs.Prelude.{◌≡◌, ◌++◌, List, [], ℕ, length, OnOk, OnErr, IsTrue, false};
+ghost use Rattle.std.specs.Prelude.{◌≡◌, ◌<◌, ◌++◌, MatchOption, List, [], ℕ, length, OnOk, OnErr, IsTrue, false};
 ghost use Rattle.std.specs.Str.Lines.{strip_carriage_return};
 ghost use Rattle.ruleset_run.specs.Plain.{is_plain_book};
 ghost use Rattle.sendmail_run.specs.Printing.{Answers};
 ghost use Rattle.sendmail_run.specs.Printing as spec;
-ghost use Rattle.sendmail_run.specs.Taking.{Keeps, AnswersLast, cut_text};
+ghost use Rattle.sendmail_run.specs.Taking.{Keeps, AnswersLast, cut_text, most_kept};
 
 use crate::answers::{MOST_LINE, answer};
 use crate::logical::without_return;
@@ -59,7 +59,10 @@ impl Partial {
     pub fn is_quit(&self) -> bool
         ensures { (rest : List ℕ) → Keeps self.now rest → result ≡ spec.is_quit (strip_carriage_return rest) }
     {
-        !self.is_cut && without_return(self.front.bytes()) == b"/quit".as_slice()
+        match self.whole() {
+            Some(line) => without_return(line) == b"/quit".as_slice(),
+            None => false,
+        }
     }
 
     /// Adds the answer to the line, which is ended now.
@@ -67,10 +70,9 @@ impl Partial {
         requires { IsTrue (is_plain_book config.now.book) }
         ensures { OnOk result ((rest : List ℕ) → Keeps self.now rest → (text : List ℕ) × Answers config.now (strip_carriage_return rest) text × (out.new ≡ out.old ++ text)) }
     {
-        if self.is_cut {
-            answer_cut(self.front.bytes(), out)
-        } else {
-            answer(alloc, config, without_return(self.front.bytes()), out)
+        match self.whole() {
+            Some(line) => answer(alloc, config, without_return(line), out),
+            None => answer_cut(self.front.bytes(), out),
         }
     }
 
@@ -84,13 +86,21 @@ impl Partial {
         requires { IsTrue (is_plain_book config.now.book) }
         ensures { OnOk result ((rest : List ℕ) → Keeps self.now rest → (text : List ℕ) × AnswersLast config.now rest text × (out.new ≡ out.old ++ text)) }
     {
-        let line = self.front.bytes();
+        match self.whole() {
+            Some(line) if line == b"/quit".as_slice() => Ok(()),
+            Some(line) => answer(alloc, config, line, out),
+            None => answer_cut(self.front.bytes(), out),
+        }
+    }
+
+    // What came of the line, unless it is too long.
+    fn whole(&self) -> Option<&[u8]>
+        ensures { (rest : List ℕ) → Keeps self.now rest → MatchOption result (most_kept < length rest) (λ line. line.now ≡ rest) }
+    {
         if self.is_cut {
-            answer_cut(line, out)
-        } else if line == b"/quit".as_slice() {
-            Ok(())
+            None
         } else {
-            answer(alloc, config, line, out)
+            Some(self.front.bytes())
         }
     }
 }
