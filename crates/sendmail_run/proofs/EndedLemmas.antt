@@ -23,7 +23,7 @@ match_no : (b : Bool) (P Q : Type 0) → b ≡ false → MatchBool b P Q → Q
 match_no true P Q e h = absurd (cc e)
 match_no false P Q e h = h
 
-no_match : (b : Bool) (P Q : Type 0) → b ≡ false → Q → MatchBool b P Q
+pub no_match : (b : Bool) (P Q : Type 0) → b ≡ false → Q → MatchBool b P Q
 no_match true P Q e h = absurd (cc e)
 no_match false P Q e h = h
 

@@ -1,6 +1,6 @@
 -- How the answers to the lines of input go on and end.
 use Rattle.std.proofs.Common.{◌≡◌, ℕ, ◌+◌, ◌-◌, ◌<◌, ◌≤◌, List, [], ◌∷◌, ◌++◌, length, take, Bool, true, false, Option, Some, None, refl, sym, ◌∙◌, ap, subst, arith, rules, append_assoc, append-nil, length-append, inl, inr}
-use Rattle.std.specs.Prelude.{IfSome, ◌⊎◌}
+use Rattle.std.specs.Prelude.{IfSome, ◌⊎◌, ◌↔◌}
 use Rattle.mail_base.specs.declared.config.Config.{Config}
 use Rattle.mail_base.specs.Histories.{Gains, Rose}
 use Rattle.mail_base.proofs.Gaining.{gains_none, gains_join}
@@ -8,6 +8,7 @@ use Rattle.mail_edge.specs.Seen.{SourceSeen, SinkSeen, FilesSeen}
 use Rattle.mail_edge.specs.Moves.{Loses, GainsPart}
 use Rattle.mail_edge.proofs.Giving.{part_whole, part_none, part_join}
 use Rattle.mail_edge.proofs.Taking.{loses_none, loses_join}
+use Rattle.mail_edge.proofs.Causing.{rose_since}
 use Rattle.sendmail_run.specs.declared.input.Partial.{Partial}
 use Rattle.sendmail_run.specs.declared.outcome.Outcome.TheVariants as ends
 use Rattle.sendmail_run.specs.LogicalLines.{physical_lines}
@@ -18,7 +19,7 @@ use Rattle.sendmail_run.proofs.EndedLemmas.{stands_none, stands_printed, stands_
 
 -- before anything is taken
 pub at_start : (config : Config) (files : FilesSeen) (i : SourceSeen) (o : SinkSeen) (partial : Partial) → Keeps partial [] → At config (seen files i o) (seen files i o) [] [] partial
-at_start config files i o partial keeps = record { text = []; takes = loses_none i.left; writes = gains_none o.written; stands = stands_none config partial keeps }
+at_start config files i o partial keeps = record { text = []; takes = loses_none i.left; writes = gains_none o.written; stands = stands_none config partial keeps; input = omega arith; output = omega arith }
 
 -- no memory before anything is taken
 pub none_taken : (config : Config) (files : FilesSeen) (i : SourceSeen) (o : SinkSeen) → IsBroken config (seen files i o) (seen files i o)
@@ -29,9 +30,9 @@ none_taken config files i o = record {
 
 -- more is taken
 pub at_taken : (config : Config) (before : Seen) (files : FilesSeen) (i0 i1 : SourceSeen) (o : SinkSeen) (all taken bytes : List ℕ) (partial : Partial)
-    → At config before (seen files i0 o) all taken partial → Loses i0.left i1.left bytes → At config before (seen files i1 o) (all ++ bytes) taken partial
-at_taken config before files i0 i1 o all taken bytes partial at loses = record {
-  text = at.text; takes = loses_join before.input.left i0.left i1.left all bytes at.takes loses; writes = at.writes; stands = at.stands;
+    → At config before (seen files i0 o) all taken partial → Loses i0.left i1.left bytes → i0.faults ≤ i1.faults → At config before (seen files i1 o) (all ++ bytes) taken partial
+at_taken config before files i0 i1 o all taken bytes partial at loses later = record {
+  text = at.text; takes = loses_join before.input.left i0.left i1.left all bytes at.takes loses; writes = at.writes; stands = at.stands; input = omega (arith, at.input); output = at.output;
 }
 
 -- the ended lines are answered
@@ -70,11 +71,11 @@ front_of config all before now partial whole false stands part = record {
 
 -- the answers to a piece broke off
 pub at_write_fault : (config : Config) (before : Seen) (files : FilesSeen) (i : SourceSeen) (o0 o1 : SinkSeen) (all taken : List ℕ) (old new : Partial) (answers : List ℕ) (quit : Bool)
-    → At config before (seen files i o0) all taken old → ((text : List ℕ) → Stands config taken old text → Answered config all new (text ++ answers) quit) → GainsPart o0.written o1.written answers → IsBroken config before (seen files i o1)
-at_write_fault config before files i o0 o1 all taken old new answers quit at answered part = record {
+    → At config before (seen files i o0) all taken old → ((text : List ℕ) → Stands config taken old text → Answered config all new (text ++ answers) quit) → GainsPart o0.written o1.written answers → Rose o0.faults o1.faults → Tests config before (seen files i o1) ends.WriteFault
+at_write_fault config before files i o0 o1 all taken old new answers quit at answered part rose = (record {
   taken = all; takes = at.takes;
   writes = front_of config all before (seen files i o1) new (at.text ++ answers) quit (answered at.text at.stands) (part_join before.output.written o0.written o1.written at.text answers at.writes part);
-}
+}, rose_since before.output.faults o0.faults o1.faults at.output rose)
 
 -- the line `/quit` came
 pub at_quit : (config : Config) (before : Seen) (files : FilesSeen) (i : SourceSeen) (o0 o1 : SinkSeen) (all taken : List ℕ) (old new : Partial) (answers : List ℕ) (quit : Bool)
@@ -85,10 +86,10 @@ at_quit config before files i o0 o1 all taken old new answers quit at answered i
 
 -- the piece was answered
 pub at_on : (config : Config) (before : Seen) (files : FilesSeen) (i : SourceSeen) (o0 o1 : SinkSeen) (all taken : List ℕ) (old new : Partial) (answers : List ℕ) (quit : Bool)
-    → At config before (seen files i o0) all taken old → ((text : List ℕ) → Stands config taken old text → Answered config all new (text ++ answers) quit) → quit ≡ false → Gains o0.written o1.written answers → At config before (seen files i o1) all all new
-at_on config before files i o0 o1 all taken old new answers quit at answered is gains =
+    → At config before (seen files i o0) all taken old → ((text : List ℕ) → Stands config taken old text → Answered config all new (text ++ answers) quit) → quit ≡ false → Gains o0.written o1.written answers → o0.faults ≤ o1.faults → At config before (seen files i o1) all all new
+at_on config before files i o0 o1 all taken old new answers quit at answered is gains later =
     let stands : Stands config all new (at.text ++ answers) = subst (λ (q : Bool). Answered config all new (at.text ++ answers) q) is (answered at.text at.stands) in
-    record { text = at.text ++ answers; takes = at.takes; writes = gains_join before.output.written o0.written o1.written at.text answers at.writes gains; stands = stands }
+    record { text = at.text ++ answers; takes = at.takes; writes = gains_join before.output.written o0.written o1.written at.text answers at.writes gains; stands = stands; input = at.input; output = omega (arith, at.output) }
 
 -- the input came to its end
 pub at_end : (config : Config) (before : Seen) (files : FilesSeen) (i : SourceSeen) (o0 o1 : SinkSeen) (taken : List ℕ) (partial : Partial) (out : List ℕ) → IfSome i.left (λ left. left ≡ [])
@@ -102,14 +103,38 @@ at_end config before files i o0 o1 taken partial out over at answer gains =
     }
 
 pub at_end_fault : (config : Config) (before : Seen) (files : FilesSeen) (i : SourceSeen) (o0 o1 : SinkSeen) (taken : List ℕ) (partial : Partial) (out : List ℕ)
-    → At config before (seen files i o0) taken taken partial → ((rest : List ℕ) → Keeps partial rest → (a : List ℕ) × AnswersLast config rest a × (out ≡ a)) → GainsPart o0.written o1.written out → IsBroken config before (seen files i o1)
-at_end_fault config before files i o0 o1 taken partial out at answer part =
+    → At config before (seen files i o0) taken taken partial → ((rest : List ℕ) → Keeps partial rest → (a : List ℕ) × AnswersLast config rest a × (out ≡ a)) → GainsPart o0.written o1.written out → Rose o0.faults o1.faults → Tests config before (seen files i o1) ends.WriteFault
+at_end_fault config before files i o0 o1 taken partial out at answer part rose =
     let a = answer at.stands.rest at.stands.keeps in
     let last : AnswersLast config at.stands.rest out = subst (λ (t : List ℕ). AnswersLast config at.stands.rest t) (sym a.2) a.1 in
-    record {
+    (record {
       taken = taken; takes = at.takes;
       writes = record {
         first = physical_lines taken; later = []; lines = sym (append-nil (physical_lines taken)); text = at.text ++ out; printed = stands_last config taken at.text out partial at.stands last;
         written = part_join before.output.written o0.written o1.written at.text out at.writes part;
       };
-    }
+    }, rose_since before.output.faults o0.faults o1.faults at.output rose)
+
+pub at_read_fault : (config : Config) (before : Seen) (files : FilesSeen) (i0 i1 : SourceSeen) (o : SinkSeen) (taken : List ℕ) (partial : Partial)
+    → At config before (seen files i0 o) taken taken partial → i1.left ≡ i0.left → Rose i0.faults i1.faults → Tests config before (seen files i1 o) ends.ReadFault
+at_read_fault config before files i0 i1 o taken partial at same rose =
+    ((taken, at_cut_off config before files i0 i1 o taken partial at same), rose_since before.input.faults i0.faults i1.faults at.input rose)
+
+pub at_large : (config : Config) (before : Seen) (files : FilesSeen) (i : SourceSeen) (o : SinkSeen) (taken : List ℕ) (partial : Partial)
+    → At config before (seen files i o) taken taken partial → length taken ≡ 4294967296 → Tests config before (seen files i o) ends.InputLarge
+at_large config before files i o taken partial at large = (taken, at_cut_off config before files i i o taken partial at refl, large)
+
+-- nothing comes at the end
+pub at_same : (config : Config) (before : Seen) (files : FilesSeen) (i0 i1 : SourceSeen) (o : SinkSeen) (taken bytes : List ℕ) (partial : Partial)
+    → At config before (seen files i0 o) taken taken partial → Loses i0.left i1.left (take 0 bytes) → i0.faults ≤ i1.faults → At config before (seen files i1 o) taken taken partial
+at_same config before files i0 i1 o taken bytes partial at loses later =
+    subst (λ (all : List ℕ). At config before (seen files i1 o) all taken partial) (append-nil taken) (at_taken config before files i0 i1 o taken taken [] partial at loses later)
+
+-- and nothing is left there
+pub left_none : (a b : Option (List ℕ)) (bytes : List ℕ) (count : ℕ) → Loses a b (take count bytes) → IfSome a (λ left. (count ≡ 0) ↔ (left ≡ [])) → count ≡ 0 → IfSome b (λ left. left ≡ [])
+left_none None None bytes count h end none = tt
+left_none None (Some y) bytes count h end none = absurd h
+left_none (Some x) None bytes count h end none = absurd h
+left_none (Some x) (Some y) bytes count h end none =
+    let all : x ≡ [] = end.0 none in
+    sym (h ∙ ap (λ (n : ℕ). take n bytes ++ y) none) ∙ all

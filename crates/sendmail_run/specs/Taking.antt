@@ -69,6 +69,8 @@ pub record At (config : Config) (before now : Seen) (all taken : List ℕ) (part
   pub takes : Takes before now all
   pub writes : Writes before now text
   pub stands : Stands config taken partial text
+  pub input : before.input.faults ≤ now.input.faults
+  pub output : before.output.faults ≤ now.output.faults
 
 -- a piece of the input was answered, or it ended the run
 abbrev pub Went : Config → Seen → Seen → List ℕ → Partial → Step → Type 0

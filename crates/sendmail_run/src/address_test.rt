@@ -37,8 +37,9 @@ pub fn address_test<I: Source, O: Sink>(
     let mut partial = Partial::new(alloc);
     let mut total: u64 = 0;
     while total < MOST_INPUT {
-        let Ok(count) = take_most(input, &mut buffer, MOST_INPUT - total) else {
-            return Outcome::ReadFault;
+        let count = match take_most(input, &mut buffer, MOST_INPUT - total) {
+            Ok(count) => count,
+            Err(_) => return Outcome::ReadFault,
         };
         if count == 0 {
             return end(alloc, config, &partial, output);
@@ -88,13 +89,16 @@ fn answer_piece<O: Sink>(
     let Ok(answers) = answer_lines(alloc, config, partial, bytes) else {
         return Step::Ended(Outcome::NoMemory);
     };
-    let Ok(()) = give(output, &answers.text) else {
-        return Step::Ended(Outcome::WriteFault);
-    };
-    if answers.is_quit {
-        return Step::Ended(Outcome::Done);
+    match give(output, &answers.text) {
+        Ok(()) => {
+            if answers.is_quit {
+                Step::Ended(Outcome::Done)
+            } else {
+                Step::On
+            }
+        }
+        Err(_) => Step::Ended(Outcome::WriteFault),
     }
-    Step::On
 }
 
 fn give<O: Sink>(output: &mut O, text: &Text) -> Result<(), Failed>
@@ -160,8 +164,8 @@ fn end<O: Sink>(alloc: Global, config: &Config, partial: &Partial, output: &mut 
     let Ok(()) = partial.answer_last(alloc, config, &mut text) else {
         return Outcome::NoMemory;
     };
-    let Ok(()) = give(output, &text) else {
-        return Outcome::WriteFault;
-    };
-    Outcome::Done
+    match give(output, &text) {
+        Ok(()) => Outcome::Done,
+        Err(_) => Outcome::WriteFault,
+    }
 }

@@ -21,4 +21,4 @@ returns-then-is_quit c = λ taken text s.
 pub returns : goal.returns
 returns c = λ taken text s.
     let so = c.loop-parts.invariant taken text s in
-    tail_step c.args.config.now c.args.bytes.now taken text so.0 c.loop-parts.rest.now c.loop-parts.text c.loop-parts.partial _ so.1 so.2 c.in-None.ensures (λ r k. c.in_ok-take-2.ensures.ok r k)
+    tail_step c.args.config.now c.args.bytes.now taken text so.0 c.loop-parts.rest.now c.loop-parts.text c.loop-parts.partial _ so.1 so.2 c.in_default.ensures (λ r k. c.in_ok-take-2.ensures.ok r k)
