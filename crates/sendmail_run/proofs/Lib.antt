@@ -2,6 +2,7 @@ mod EndedLemmas
 mod KeepLemmas
 mod LineLemmas
 mod PlainLemmas
+mod ProgramLemmas
 mod ReaderLemmas
 mod SideLemmas
 mod TestLemmas

@@ -1,5 +1,6 @@
 -- How the answers to the lines of input go on and end.
 use Rattle.std.proofs.Common.{◌≡◌, ℕ, ◌+◌, ◌-◌, ◌<◌, ◌≤◌, List, [], ◌∷◌, ◌++◌, length, take, Bool, true, false, Option, Some, None, refl, sym, ◌∙◌, ap, subst, arith, rules, append_assoc, append-nil, length-append, inl, inr}
+use Rattle.std.proofs.lemmas.List.{length-take-le}
 use Rattle.std.specs.Prelude.{IfSome, ◌⊎◌, ◌↔◌}
 use Rattle.mail_base.specs.declared.config.Config.{Config}
 use Rattle.mail_base.specs.Histories.{Gains, Rose}
@@ -125,10 +126,10 @@ pub at_large : (config : Config) (before : Seen) (files : FilesSeen) (i : Source
 at_large config before files i o taken partial at large = (taken, at_cut_off config before files i i o taken partial at refl, large)
 
 -- nothing comes at the end
-pub at_same : (config : Config) (before : Seen) (files : FilesSeen) (i0 i1 : SourceSeen) (o : SinkSeen) (taken bytes : List ℕ) (partial : Partial)
-    → At config before (seen files i0 o) taken taken partial → Loses i0.left i1.left (take 0 bytes) → i0.faults ≤ i1.faults → At config before (seen files i1 o) taken taken partial
-at_same config before files i0 i1 o taken bytes partial at loses later =
-    subst (λ (all : List ℕ). At config before (seen files i1 o) all taken partial) (append-nil taken) (at_taken config before files i0 i1 o taken taken [] partial at loses later)
+pub at_same : (config : Config) (before : Seen) (files : FilesSeen) (i0 i1 : SourceSeen) (o : SinkSeen) (taken bytes : List ℕ) (count : ℕ) (partial : Partial)
+    → At config before (seen files i0 o) taken taken partial → Loses i0.left i1.left (take count bytes) → count ≡ 0 → i0.faults ≤ i1.faults → At config before (seen files i1 o) taken taken partial
+at_same config before files i0 i1 o taken bytes count partial at loses none later =
+    subst (λ (all : List ℕ). At config before (seen files i1 o) all taken partial) (append-nil taken) (at_taken config before files i0 i1 o taken taken [] partial at (subst (λ (n : ℕ). Loses i0.left i1.left (take n bytes)) none loses) later)
 
 -- and nothing is left there
 pub left_none : (a b : Option (List ℕ)) (bytes : List ℕ) (count : ℕ) → Loses a b (take count bytes) → IfSome a (λ left. (count ≡ 0) ↔ (left ≡ [])) → count ≡ 0 → IfSome b (λ left. left ≡ [])
@@ -138,3 +139,9 @@ left_none (Some x) None bytes count h end none = absurd h
 left_none (Some x) (Some y) bytes count h end none =
     let all : x ≡ [] = end.0 none in
     sym (h ∙ ap (λ (n : ℕ). take n bytes ++ y) none) ∙ all
+
+pub same_count : (n : ℕ) → n ≤ n
+same_count n = omega arith
+
+pub taken_length : (taken bytes : List ℕ) (total count : ℕ) → length taken ≡ total → count ≤ length bytes → length (taken ++ take count bytes) ≡ total + count
+taken_length taken bytes total count is le = omega (arith, is, length-append taken (take count bytes), length-take-le count bytes le)

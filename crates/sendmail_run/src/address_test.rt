@@ -11,7 +11,7 @@ use crate::outcome::Outcome;
 use mail_base::{Config, Failed, NoMemory, Text};
 use mail_edge::{Sink, Source};
 use memchr::memchr;
-use std::alloc::Global;
+use std::alloc::{AllocError, Global};
 
 /// The most bytes that are taken of the input.
 pub const MOST_INPUT: u64 = 1 << 32;
@@ -31,13 +31,36 @@ pub fn address_test<I: Source, O: Sink>(
     ensures input { (I.seen input.old).faults ≤ (I.seen input.new).faults }
     ensures output { (O.seen output.old).faults ≤ (O.seen output.new).faults }
 {
-    let Ok(mut buffer) = vec![in alloc; 0u8; PIECE] else {
+    let Ok(mut buffer) = zeros(alloc, PIECE) else {
         return Outcome::NoMemory;
     };
+    answer_all(alloc, config, input, output, &mut buffer)
+}
+
+fn zeros(alloc: Global, size: usize) -> Result<Vec<u8>, AllocError>
+    ensures { IfOk result (λ zeros. length zeros.items ≡ size) }
+{
+    vec![in alloc; 0u8; size]
+}
+
+// Answers each line, taking as many bytes at once as the buffer holds.
+fn answer_all<I: Source, O: Sink>(
+    alloc: Global,
+    config: &Config,
+    input: &mut I,
+    output: &mut O,
+    buffer: &mut [u8],
+) -> Outcome
+    requires plain { IsTrue (is_plain_book config.now.book) }
+    requires buffer { 0 < length buffer.old }
+    ensures tests { (files : FilesSeen) → Tests config.now (seen files (I.seen input.old) (O.seen output.old)) (seen files (I.seen input.new) (O.seen output.new)) result }
+    ensures input { (I.seen input.old).faults ≤ (I.seen input.new).faults }
+    ensures output { (O.seen output.old).faults ≤ (O.seen output.new).faults }
+{
     let mut partial = Partial::new(alloc);
     let mut total: u64 = 0;
     while total < MOST_INPUT {
-        let count = match take_most(input, &mut buffer, MOST_INPUT - total) {
+        let count = match take_most(input, buffer, MOST_INPUT - total) {
             Ok(count) => count,
             Err(_) => return Outcome::ReadFault,
         };
