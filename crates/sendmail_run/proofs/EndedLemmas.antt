@@ -140,7 +140,12 @@ stands_none config partial keeps = record { raws = []; rest = []; cut = record {
 
 pub stands_tail : (config : Config) (taken x text : List ℕ) (old new : Partial) → Stands config taken old text → has_end x ≡ false → ((rest : List ℕ) → Keeps old rest → Keeps new (rest ++ x)) → Stands config (taken ++ x) new text
 stands_tail config taken x text old new s none keeps = record {
-  raws = s.raws; rest = s.rest ++ x; cut = cut_more taken s.raws s.rest x s.cut none; printed = s.printed; on = s.on; keeps = keeps s.rest s.keeps;
+  raws = s.raws;
+  rest = s.rest ++ x;
+  cut = cut_more taken s.raws s.rest x s.cut none;
+  printed = s.printed;
+  on = s.on;
+  keeps = keeps s.rest s.keeps;
 }
 
 pub stands_line : (config : Config) (taken text out0 out1 : List ℕ) (old new : Partial) → Stands config taken old (text ++ out0) → ((rest : List ℕ) → Keeps old rest → false ≡ is_quit (strip_carriage_return rest))
@@ -150,10 +155,12 @@ stands_line config taken text out0 out1 old new s quit answer keeps =
     let a = answer s.rest s.keeps in
     let more : lines_of (s.raws ++ s.rest ∷ []) ≡ lines_of s.raws ++ strip_carriage_return s.rest ∷ [] = map-append strip_carriage_return s.raws (s.rest ∷ []) in
     let printed : Printed config (lines_of s.raws ++ strip_carriage_return s.rest ∷ []) ((text ++ out0) ++ a.0) =
-      printed_more config (lines_of s.raws) (strip_carriage_return s.rest ∷ []) (text ++ out0) a.0 s.printed s.on (printed_one config (strip_carriage_return s.rest) a.0 other a.1) in
+    printed_more config (lines_of s.raws) (strip_carriage_return s.rest ∷ []) (text ++ out0) a.0 s.printed s.on (printed_one config (strip_carriage_return s.rest) a.0 other a.1) in
     let whole : (text ++ out0) ++ a.0 ≡ text ++ out1 = append_assoc text out0 a.0 ∙ ap (λ (q : List ℕ). text ++ q) (sym a.2) in
     record {
-      raws = s.raws ++ s.rest ∷ []; rest = []; cut = cut_end taken s.raws s.rest s.cut;
+      raws = s.raws ++ s.rest ∷ [];
+      rest = [];
+      cut = cut_end taken s.raws s.rest s.cut;
       printed = subst (λ (q : List ℕ). Printed config (lines_of (s.raws ++ s.rest ∷ [])) q) whole (subst (λ (ls : List (List ℕ)). Printed config ls ((text ++ out0) ++ a.0)) (sym more) printed);
       on = ap (list_any is_quit) more ∙ none_joined is_quit (lines_of s.raws) (strip_carriage_return s.rest ∷ []) s.on (or_false (is_quit (strip_carriage_return s.rest)) false other refl);
       keeps = keeps;
@@ -169,11 +176,11 @@ stands_quit config taken text old more s quit =
     let flat : (taken ++ 10 ∷ []) ++ more ≡ flat_map with_end raws ++ more = ap (λ (x : List ℕ). x ++ more) (cut.whole ∙ append-nil (flat_map with_end raws)) in
     let ls : lines_of raws ≡ lines_of s.raws ++ q ∷ [] = map-append strip_carriage_return s.raws (s.rest ∷ []) in
     let lines : physical_lines ((taken ++ 10 ∷ []) ++ more) ≡ lines_of s.raws ++ (q ∷ physical_lines more) =
-      ap physical_lines flat ∙ lines_cut raws more cut.each ∙ ap (λ (x : List (List ℕ)). x ++ physical_lines more) ls ∙ append_assoc (lines_of s.raws) (q ∷ []) (physical_lines more) in
+    ap physical_lines flat ∙ lines_cut raws more cut.each ∙ ap (λ (x : List (List ℕ)). x ++ physical_lines more) ls ∙ append_assoc (lines_of s.raws) (q ∷ []) (physical_lines more) in
     let printed : Printed config (lines_of s.raws ++ (q ∷ physical_lines more)) (text ++ []) =
-      printed_more config (lines_of s.raws) (q ∷ physical_lines more) text [] s.printed s.on (yes_match (is_quit q) _ _ yes refl) in
+    printed_more config (lines_of s.raws) (q ∷ physical_lines more) text [] s.printed s.on (yes_match (is_quit q) _ _ yes refl) in
     let here : list_any is_quit (lines_of raws) ≡ true =
-      ap (list_any is_quit) ls ∙ list_any-append is_quit (lines_of s.raws) (q ∷ []) ∙ or_right (list_any is_quit (lines_of s.raws)) (is_quit q || false) (or_left (is_quit q) false yes) in
+    ap (list_any is_quit) ls ∙ list_any-append is_quit (lines_of s.raws) (q ∷ []) ∙ or_right (list_any is_quit (lines_of s.raws)) (is_quit q || false) (or_left (is_quit q) false yes) in
     record {
       printed = subst (λ (t : List ℕ). Printed config (physical_lines ((taken ++ 10 ∷ []) ++ more)) t) (append-nil text) (subst (λ (x : List (List ℕ)). Printed config x (text ++ [])) (sym lines) printed);
       quit = ap (list_any is_quit) (ap ended_lines flat ∙ ended_lines_cut raws more cut.each) ∙ list_any-append is_quit (lines_of raws) (ended_lines more) ∙ or_left (list_any is_quit (lines_of raws)) (list_any is_quit (ended_lines more)) here;
@@ -214,9 +221,9 @@ stands_last config taken text a partial s h =
 pub none_before : (text : List ℕ) (k : ℕ) → IsFirstByte (is_byte 10) text (Some k) → has_end (take k text) ≡ false
 none_before text k found =
     list_any_none (is_byte 10) (take k text) (λ j d lt.
-      let low : j < k = omega (arith, length-take k text) in
-      let high : j < length text = omega (arith, found.0.high) in
-      ap (is_byte 10) (get_or-take k text j d low ∙ get_or_default text j d 0 high) ∙ false_from_ne_true _ (found.0.before j (omega arith) low))
+    let low : j < k = omega (arith, length-take k text) in
+    let high : j < length text = omega (arith, found.0.high) in
+    ap (is_byte 10) (get_or-take k text j d low ∙ get_or_default text j d 0 high) ∙ false_from_ne_true _ (found.0.before j (omega arith) low))
 
 pub none_at_all : (text : List ℕ) → IsFirstByte (is_byte 10) text None → has_end text ≡ false
 none_at_all text none = list_any_none (is_byte 10) text (λ j d lt. ap (is_byte 10) (get_or_default text j d 0 lt) ∙ false_from_ne_true _ (none j (omega arith) lt))
@@ -238,9 +245,11 @@ pub line_step : (config : Config) (bytes taken text front rest x after out0 out1
     → (more : List ℕ) × (bytes ≡ more ++ after) × Stands config (taken ++ more) p2 (text ++ out1)
 line_step config bytes taken text front rest x after out0 out1 p0 p1 p2 whole stands none split keeps quit answer fresh =
     let tail = stands_tail config (taken ++ front) x (text ++ out0) p0 p1 stands none keeps in
-    let line = stands_line config ((taken ++ front) ++ x) text out0 out1 p1 p2 tail quit answer fresh in
-    (front ++ (x ++ 10 ∷ []), whole ∙ ap (λ (q : List ℕ). front ++ q) split ∙ sym (append_assoc front (x ++ 10 ∷ []) after),
-     subst (λ (t : List ℕ). Stands config t p2 (text ++ out1)) (regroup4 taken front x (10 ∷ [])) line)
+    let line = stands_line config ((taken ++ front) ++ x) text out0 out1 p1 p2 tail quit answer fresh in (
+      front ++ (x ++ 10 ∷ []),
+      whole ∙ ap (λ (q : List ℕ). front ++ q) split ∙ sym (append_assoc front (x ++ 10 ∷ []) after),
+      subst (λ (t : List ℕ). Stands config t p2 (text ++ out1)) (regroup4 taken front x (10 ∷ [])) line,
+    )
 
 pub quit_step : (config : Config) (bytes taken text front rest x after out : List ℕ) (p0 p1 : Partial) → bytes ≡ front ++ rest → Stands config (taken ++ front) p0 (text ++ out)
     → has_end x ≡ false → rest ≡ (x ++ 10 ∷ []) ++ after → ((r : List ℕ) → Keeps p0 r → Keeps p1 (r ++ x)) → ((r : List ℕ) → Keeps p1 r → true ≡ is_quit (strip_carriage_return r))
@@ -249,7 +258,7 @@ quit_step config bytes taken text front rest x after out p0 p1 whole stands none
     let tail = stands_tail config (taken ++ front) x (text ++ out) p0 p1 stands none keeps in
     let quits = stands_quit config ((taken ++ front) ++ x) (text ++ out) p1 after tail quit in
     let all : taken ++ bytes ≡ (((taken ++ front) ++ x) ++ 10 ∷ []) ++ after =
-      ap (λ (q : List ℕ). taken ++ q) (whole ∙ ap (λ (q : List ℕ). front ++ q) split) ∙ sym (ap (λ (q : List ℕ). q ++ after) (regroup4 taken front x (10 ∷ [])) ∙ append_assoc taken (front ++ (x ++ 10 ∷ [])) after ∙ ap (λ (q : List ℕ). taken ++ q) (append_assoc front (x ++ 10 ∷ []) after)) in
+    ap (λ (q : List ℕ). taken ++ q) (whole ∙ ap (λ (q : List ℕ). front ++ q) split) ∙ sym (ap (λ (q : List ℕ). q ++ after) (regroup4 taken front x (10 ∷ [])) ∙ append_assoc taken (front ++ (x ++ 10 ∷ [])) after ∙ ap (λ (q : List ℕ). taken ++ q) (append_assoc front (x ++ 10 ∷ []) after)) in
     subst (λ (t : List ℕ). Quits config t (text ++ out)) (sym all) quits
 
 pub tail_step : (config : Config) (bytes taken text front rest out : List ℕ) (p0 p1 : Partial) → bytes ≡ front ++ rest → Stands config (taken ++ front) p0 (text ++ out)

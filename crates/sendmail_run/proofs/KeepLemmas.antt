@@ -31,9 +31,10 @@ kept_all m room rest front more bytes was now f w r le e n = by (ltb m (length r
   by true is =
       let lt : m < length rest = ltb-true m (length rest) is in
       let len : length (take m rest) ≡ m = length-take-le m rest (omega arith) in
-      let none : bytes ≡ [] = nothing bytes (omega (arith, ap length f)) in
-      (e ∙ ap (λ (q : List ℕ). front ++ q) none ∙ append-nil front ∙ f ∙ sym (take-append-le m rest bytes (omega arith)),
-       n ∙ w ∙ is ∙ sym (lt-ltb m (length (rest ++ bytes)) (omega (arith, length-append rest bytes))))
+      let none : bytes ≡ [] = nothing bytes (omega (arith, ap length f)) in (
+        e ∙ ap (λ (q : List ℕ). front ++ q) none ∙ append-nil front ∙ f ∙ sym (take-append-le m rest bytes (omega arith)),
+        n ∙ w ∙ is ∙ sym (lt-ltb m (length (rest ++ bytes)) (omega (arith, length-append rest bytes))),
+      )
   by false is =
       let le2 : length rest ≤ m = at_most m (length rest) is in
       let whole : front ≡ rest = f ∙ take_all m rest le2 in
@@ -48,15 +49,17 @@ kept_front m room rest front more bytes f r lt e = by (ltb m (length rest)) refl
   by true is =
       let less : m < length rest = ltb-true m (length rest) is in
       let len : length (take m rest) ≡ m = length-take-le m rest (omega arith) in
-      let zero_room : room ≡ 0 = omega (arith, ap length f) in
-      (e ∙ ap (λ (q : ℕ). front ++ take q bytes) zero_room ∙ append-nil front ∙ f ∙ sym (take-append-le m rest bytes (omega arith)),
-       sym (lt-ltb m (length (rest ++ bytes)) (omega (arith, length-append rest bytes))))
+      let zero_room : room ≡ 0 = omega (arith, ap length f) in (
+        e ∙ ap (λ (q : ℕ). front ++ take q bytes) zero_room ∙ append-nil front ∙ f ∙ sym (take-append-le m rest bytes (omega arith)),
+        sym (lt-ltb m (length (rest ++ bytes)) (omega (arith, length-append rest bytes))),
+      )
   by false is =
       let le2 : length rest ≤ m = at_most m (length rest) is in
       let whole : front ≡ rest = f ∙ take_all m rest le2 in
-      let sum : m ≡ length rest + room = omega (arith, ap length whole) in
-      (e ∙ ap (λ (q : List ℕ). q ++ take room bytes) whole ∙ sym (take-append-add rest bytes room) ∙ ap (λ (k : ℕ). take k (rest ++ bytes)) (sym sum),
-       sym (lt-ltb m (length (rest ++ bytes)) (omega (arith, length-append rest bytes))))
+      let sum : m ≡ length rest + room = omega (arith, ap length whole) in (
+        e ∙ ap (λ (q : List ℕ). q ++ take room bytes) whole ∙ sym (take-append-add rest bytes room) ∙ ap (λ (k : ℕ). take k (rest ++ bytes)) (sym sum),
+        sym (lt-ltb m (length (rest ++ bytes)) (omega (arith, length-append rest bytes))),
+      )
 
 -- what is kept is all, or more came than is kept
 pub kept_whole : (m : ℕ) (rest front : List ℕ) (was : Bool) → front ≡ take m rest → was ≡ ltb m (length rest) → was ≡ false → front ≡ rest

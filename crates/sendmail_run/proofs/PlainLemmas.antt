@@ -98,15 +98,15 @@ plain_lines : (lines : List Logical) (reading : Reading) (config : Config) → i
 plain_lines [] reading config h is =
     let book : reading.book ≡ config.book = cc (ap (λ (r : Result Config Refusal). books r reading.book) is) in
     subst (λ (b : List RuleSet). is_plain_book b ≡ true) book h where
-  books : Result Config Refusal → List RuleSet → List RuleSet
-  books (Ok c) b = c.book
-  books (Err e) b = b
+      books : Result Config Refusal → List RuleSet → List RuleSet
+      books (Ok c) b = c.book
+      books (Err e) b = b
 plain_lines (line ∷ lines) reading config h is =
     by (fault_of line.text) is (λ e. plain_lines lines (after_line line.text reading) config (plain_after line.text reading h) e) where
-  by : (fault : Option Fault) → refused_or fault line.number (read_lines (after_line line.text reading) lines) ≡ Ok config
-      → (read_lines (after_line line.text reading) lines ≡ Ok config → is_plain_book config.book ≡ true) → is_plain_book config.book ≡ true
-  by (Some fault) e later = absurd (cc e)
-  by None e later = later e
+      by : (fault : Option Fault) → refused_or fault line.number (read_lines (after_line line.text reading) lines) ≡ Ok config
+          → (read_lines (after_line line.text reading) lines ≡ Ok config → is_plain_book config.book ≡ true) → is_plain_book config.book ≡ true
+      by (Some fault) e later = absurd (cc e)
+      by None e later = later e
 
 -- the book of a configuration is plain
 pub plain_configuration : (bytes : List ℕ) (config : Config) → configuration bytes ≡ Ok config → is_plain_book config.book ≡ true

@@ -17,7 +17,8 @@ cut_files config f g h k i0 i1 o0 o1 taken is = record { text = is.text; takes =
 
 broken_files : (config : Config) (f g h k : FilesSeen) (i0 i1 : SourceSeen) (o0 o1 : SinkSeen) → IsBroken config (seen f i0 o0) (seen g i1 o1) → IsBroken config (seen h i0 o0) (seen k i1 o1)
 broken_files config f g h k i0 i1 o0 o1 is = record {
-  taken = is.taken; takes = is.takes;
+  taken = is.taken;
+  takes = is.takes;
   writes = record { first = is.writes.first; later = is.writes.later; lines = is.writes.lines; text = is.writes.text; printed = is.writes.printed; written = is.writes.written };
 }
 

@@ -25,7 +25,8 @@ at_start config files i o partial keeps = record { text = []; takes = loses_none
 -- no memory before anything is taken
 pub none_taken : (config : Config) (files : FilesSeen) (i : SourceSeen) (o : SinkSeen) → IsBroken config (seen files i o) (seen files i o)
 none_taken config files i o = record {
-  taken = []; takes = loses_none i.left;
+  taken = [];
+  takes = loses_none i.left;
   writes = record { first = []; later = []; lines = refl; text = []; printed = refl; written = part_none o.written [] };
 }
 
@@ -33,7 +34,12 @@ none_taken config files i o = record {
 pub at_taken : (config : Config) (before : Seen) (files : FilesSeen) (i0 i1 : SourceSeen) (o : SinkSeen) (all taken bytes : List ℕ) (partial : Partial)
     → At config before (seen files i0 o) all taken partial → Loses i0.left i1.left bytes → i0.faults ≤ i1.faults → At config before (seen files i1 o) (all ++ bytes) taken partial
 at_taken config before files i0 i1 o all taken bytes partial at loses later = record {
-  text = at.text; takes = loses_join before.input.left i0.left i1.left all bytes at.takes loses; writes = at.writes; stands = at.stands; input = omega (arith, at.input); output = at.output;
+  text = at.text;
+  takes = loses_join before.input.left i0.left i1.left all bytes at.takes loses;
+  writes = at.writes;
+  stands = at.stands;
+  input = omega (arith, at.input);
+  output = at.output;
 }
 
 -- the ended lines are answered
@@ -51,10 +57,15 @@ at_cut_off config before files i0 i1 o taken partial at same = record {
 pub at_broken : (config : Config) (before : Seen) (files : FilesSeen) (i : SourceSeen) (o : SinkSeen) (taken more : List ℕ) (partial : Partial)
     → At config before (seen files i o) (taken ++ more) taken partial → IsBroken config before (seen files i o)
 at_broken config before files i o taken more partial at = record {
-  taken = taken ++ more; takes = at.takes;
+  taken = taken ++ more;
+  takes = at.takes;
   writes = record {
-    first = lines_of at.stands.raws; later = physical_lines (at.stands.rest ++ more); lines = stands_front config taken at.text partial more at.stands;
-    text = at.text; printed = at.stands.printed; written = part_whole before.output.written o.written at.text at.writes;
+    first = lines_of at.stands.raws;
+    later = physical_lines (at.stands.rest ++ more);
+    lines = stands_front config taken at.text partial more at.stands;
+    text = at.text;
+    printed = at.stands.printed;
+    written = part_whole before.output.written o.written at.text at.writes;
   };
 }
 
@@ -66,17 +77,25 @@ at_broken_last config before files i o taken partial at =
 front_of : (config : Config) (all : List ℕ) (before : Seen) (now : Seen) (partial : Partial) (whole : List ℕ) (quit : Bool) → Answered config all partial whole quit → GainsPart before.output.written now.output.written whole → WritesFront config all before now
 front_of config all before now partial whole true quits part = record { first = physical_lines all; later = []; lines = sym (append-nil (physical_lines all)); text = whole; printed = quits.printed; written = part }
 front_of config all before now partial whole false stands part = record {
-  first = lines_of stands.raws; later = physical_lines (stands.rest ++ []); lines = ap physical_lines (sym (append-nil all)) ∙ stands_front config all whole partial [] stands;
-  text = whole; printed = stands.printed; written = part;
+  first = lines_of stands.raws;
+  later = physical_lines (stands.rest ++ []);
+  lines = ap physical_lines (sym (append-nil all)) ∙ stands_front config all whole partial [] stands;
+  text = whole;
+  printed = stands.printed;
+  written = part;
 }
 
 -- the answers to a piece broke off
 pub at_write_fault : (config : Config) (before : Seen) (files : FilesSeen) (i : SourceSeen) (o0 o1 : SinkSeen) (all taken : List ℕ) (old new : Partial) (answers : List ℕ) (quit : Bool)
     → At config before (seen files i o0) all taken old → ((text : List ℕ) → Stands config taken old text → Answered config all new (text ++ answers) quit) → GainsPart o0.written o1.written answers → Rose o0.faults o1.faults → Tests config before (seen files i o1) ends.WriteFault
-at_write_fault config before files i o0 o1 all taken old new answers quit at answered part rose = (record {
-  taken = all; takes = at.takes;
-  writes = front_of config all before (seen files i o1) new (at.text ++ answers) quit (answered at.text at.stands) (part_join before.output.written o0.written o1.written at.text answers at.writes part);
-}, rose_since before.output.faults o0.faults o1.faults at.output rose)
+at_write_fault config before files i o0 o1 all taken old new answers quit at answered part rose = (
+  record {
+    taken = all;
+    takes = at.takes;
+    writes = front_of config all before (seen files i o1) new (at.text ++ answers) quit (answered at.text at.stands) (part_join before.output.written o0.written o1.written at.text answers at.writes part);
+  },
+  rose_since before.output.faults o0.faults o1.faults at.output rose,
+)
 
 -- the line `/quit` came
 pub at_quit : (config : Config) (before : Seen) (files : FilesSeen) (i : SourceSeen) (o0 o1 : SinkSeen) (all taken : List ℕ) (old new : Partial) (answers : List ℕ) (quit : Bool)
@@ -99,22 +118,33 @@ at_end config before files i o0 o1 taken partial out over at answer gains =
     let a = answer at.stands.rest at.stands.keeps in
     let last : AnswersLast config at.stands.rest out = subst (λ (t : List ℕ). AnswersLast config at.stands.rest t) (sym a.2) a.1 in
     record {
-      taken = taken; text = at.text ++ out; takes = at.takes; writes = gains_join before.output.written o0.written o1.written at.text out at.writes gains;
-      printed = stands_last config taken at.text out partial at.stands last; over = inl over;
+      taken = taken;
+      text = at.text ++ out;
+      takes = at.takes;
+      writes = gains_join before.output.written o0.written o1.written at.text out at.writes gains;
+      printed = stands_last config taken at.text out partial at.stands last;
+      over = inl over;
     }
 
 pub at_end_fault : (config : Config) (before : Seen) (files : FilesSeen) (i : SourceSeen) (o0 o1 : SinkSeen) (taken : List ℕ) (partial : Partial) (out : List ℕ)
     → At config before (seen files i o0) taken taken partial → ((rest : List ℕ) → Keeps partial rest → (a : List ℕ) × AnswersLast config rest a × (out ≡ a)) → GainsPart o0.written o1.written out → Rose o0.faults o1.faults → Tests config before (seen files i o1) ends.WriteFault
 at_end_fault config before files i o0 o1 taken partial out at answer part rose =
     let a = answer at.stands.rest at.stands.keeps in
-    let last : AnswersLast config at.stands.rest out = subst (λ (t : List ℕ). AnswersLast config at.stands.rest t) (sym a.2) a.1 in
-    (record {
-      taken = taken; takes = at.takes;
-      writes = record {
-        first = physical_lines taken; later = []; lines = sym (append-nil (physical_lines taken)); text = at.text ++ out; printed = stands_last config taken at.text out partial at.stands last;
-        written = part_join before.output.written o0.written o1.written at.text out at.writes part;
-      };
-    }, rose_since before.output.faults o0.faults o1.faults at.output rose)
+    let last : AnswersLast config at.stands.rest out = subst (λ (t : List ℕ). AnswersLast config at.stands.rest t) (sym a.2) a.1 in (
+      record {
+        taken = taken;
+        takes = at.takes;
+        writes = record {
+          first = physical_lines taken;
+          later = [];
+          lines = sym (append-nil (physical_lines taken));
+          text = at.text ++ out;
+          printed = stands_last config taken at.text out partial at.stands last;
+          written = part_join before.output.written o0.written o1.written at.text out at.writes part;
+        };
+      },
+      rose_since before.output.faults o0.faults o1.faults at.output rose,
+    )
 
 pub at_read_fault : (config : Config) (before : Seen) (files : FilesSeen) (i0 i1 : SourceSeen) (o : SinkSeen) (taken : List ℕ) (partial : Partial)
     → At config before (seen files i0 o) taken taken partial → i1.left ≡ i0.left → Rose i0.faults i1.faults → Tests config before (seen files i1 o) ends.ReadFault

@@ -157,14 +157,20 @@ fn answer_lines(
     while let Some(parts) = split_end(rest) {
         partial.take(parts.0)?;
         if partial.is_quit() {
-            return Ok(Answers { text, is_quit: true });
+            return Ok(Answers {
+                text,
+                is_quit: true,
+            });
         }
         partial.answer(alloc, config, &mut text)?;
         partial.clear();
         rest = parts.1;
     }
     partial.take(rest)?;
-    Ok(Answers { text, is_quit: false })
+    Ok(Answers {
+        text,
+        is_quit: false,
+    })
 }
 
 // What stands before the first LF, and what stands after it.

@@ -17,9 +17,11 @@ loop-total-preserved g c = record {
       let so = c.loop-total.invariant.at files in
       let bytes : List ℕ = take c.in-Ok.count c.take_most.new.buffer in
       let taken = at_taken c.args.config.now (seen files (g.I.Source.seen c.args.input.now) (g.O.Sink.seen c.args.output.now)) files (g.I.Source.seen c.loop-total.input) (g.I.Source.seen c.take_most.new.input) (g.O.Sink.seen c.loop-total.output)
-        so.0 so.0 bytes c.loop-total.partial so.2 c.in-Ok.ensures.taken c.in-Ok.ensures.cause.later in
-      (so.0 ++ bytes, taken_length so.0 c.take_most.new.buffer c.loop-total.total c.in-Ok.count so.1 c.in-Ok.ensures.bound,
-       c.in-On.ensures.went (seen files (g.I.Source.seen c.args.input.now) (g.O.Sink.seen c.args.output.now)) (g.I.Source.seen c.take_most.new.input) so.0 taken);
+      so.0 so.0 bytes c.loop-total.partial so.2 c.in-Ok.ensures.taken c.in-Ok.ensures.cause.later in (
+        so.0 ++ bytes,
+        taken_length so.0 c.take_most.new.buffer c.loop-total.total c.in-Ok.count so.1 c.in-Ok.ensures.bound,
+        c.in-On.ensures.went (seen files (g.I.Source.seen c.args.input.now) (g.O.Sink.seen c.args.output.now)) (g.I.Source.seen c.take_most.new.input) so.0 taken,
+      );
   most = omega (arith, c.in-Ok.ensures.most, c.loop-total-test.true);
   input = omega (arith, c.in-Ok.ensures.cause.later, c.loop-total.invariant.input);
   output = omega (arith, c.answer_piece.ensures.later, c.loop-total.invariant.output);
@@ -37,14 +39,14 @@ returns-then-count-eq0-clause-tests g c = λ files.
     c.end.ensures.tests (seen files (g.I.Source.seen c.args.input.now) (g.O.Sink.seen c.args.output.now)) (g.I.Source.seen c.take_most.new.input) so.0
     (left_none (g.I.Source.seen c.loop-total.input).left (g.I.Source.seen c.take_most.new.input).left c.take_most.new.buffer c.in-Ok.count c.in-Ok.ensures.taken c.in-Ok.ensures.end c.if-count-eq0.true)
     (at_same c.args.config.now (seen files (g.I.Source.seen c.args.input.now) (g.O.Sink.seen c.args.output.now)) files (g.I.Source.seen c.loop-total.input) (g.I.Source.seen c.take_most.new.input) (g.O.Sink.seen c.loop-total.output)
-     so.0 c.take_most.new.buffer c.in-Ok.count c.loop-total.partial so.2 c.in-Ok.ensures.taken c.if-count-eq0.true c.in-Ok.ensures.cause.later)
+    so.0 c.take_most.new.buffer c.in-Ok.count c.loop-total.partial so.2 c.in-Ok.ensures.taken c.if-count-eq0.true c.in-Ok.ensures.cause.later)
 
 pub returns-in-Ended-clause-tests : goal.returns-in-Ended-clause-tests
 returns-in-Ended-clause-tests g c = λ files.
     let so = c.loop-total.invariant.at files in
     let bytes : List ℕ = take c.in-Ok.count c.take_most.new.buffer in
     let taken = at_taken c.args.config.now (seen files (g.I.Source.seen c.args.input.now) (g.O.Sink.seen c.args.output.now)) files (g.I.Source.seen c.loop-total.input) (g.I.Source.seen c.take_most.new.input) (g.O.Sink.seen c.loop-total.output)
-      so.0 so.0 bytes c.loop-total.partial so.2 c.in-Ok.ensures.taken c.in-Ok.ensures.cause.later in
+    so.0 so.0 bytes c.loop-total.partial so.2 c.in-Ok.ensures.taken c.in-Ok.ensures.cause.later in
     c.in-Ended.ensures.went (seen files (g.I.Source.seen c.args.input.now) (g.O.Sink.seen c.args.output.now)) (g.I.Source.seen c.take_most.new.input) so.0 taken
 
 pub returns-clause-tests : goal.returns-clause-tests

@@ -15,4 +15,4 @@ pub returns-in-Ok-configuration-clause-complete : goal.returns-in-Ok-configurati
 returns-in-Ok-configuration-clause-complete g c =
     completes c.args.arguments.now (seen (g.F.Files.seen c.args.files.now) (g.I.Source.seen c.args.input.now) (g.O.Sink.seen c.args.output.now)) (seen (g.F.Files.seen c.configuration.new.files) (g.I.Source.seen c.address_test.new.input) (g.O.Sink.seen c.address_test.new.output)) c.address_test.result
     (ends_answered c.args.arguments.now (g.F.Files.seen c.args.files.now) (g.F.Files.seen c.configuration.new.files) (g.I.Source.seen c.args.input.now) (g.I.Source.seen c.address_test.new.input) (g.O.Sink.seen c.args.output.now) (g.O.Sink.seen c.address_test.new.output)
-     c.in-Ok.mode c.in-Ok-configuration.config c.address_test.result c.in-Ok.ensures c.in-Ok-configuration.ensures.begins (λ files. c.address_test.ensures.tests files))
+    c.in-Ok.mode c.in-Ok-configuration.config c.address_test.result c.in-Ok.ensures c.in-Ok-configuration.ensures.begins (λ files. c.address_test.ensures.tests files))
