@@ -1,6 +1,11 @@
 mod CuttingLemmas
+mod EndedLemmas
 mod Examples
+mod KeepLemmas
 mod LineLemmas
+mod PlainLemmas
+mod ProgramLemmas
 mod ReaderLemmas
 mod SideLemmas
+mod TestLemmas
 mod TokenLemmas

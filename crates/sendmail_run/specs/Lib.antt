@@ -7,3 +7,6 @@ pub mod Refusals
 pub mod Readings
 pub mod Words
 pub mod Printing
+pub mod Runs
+pub mod Taking
+pub mod Beginning

@@ -1,10 +1,17 @@
-use crate::answers::answer;
+ghost use Rattle.std.specs.Prelude.{◌≡◌, ◌<◌, ◌≤◌, ◌^◌, ◌++◌, ◌∷◌, List, [], ℕ, false, MatchOption, length, take, IfOk, OnOk, OnErr, IfSome, IsTrue, ◌↔◌};
+ghost use Rattle.mail_base.specs.Histories.{Gains, HasCause};
+ghost use Rattle.mail_edge.specs.Moves.{Loses, GainsPart};
+ghost use Rattle.mail_edge.specs.Seen.{FilesSeen, SourceSeen};
+ghost use Rattle.ruleset_run.specs.Plain.{is_plain_book};
+ghost use Rattle.sendmail_run.specs.Runs.{Seen, Tests, seen};
+ghost use Rattle.sendmail_run.specs.Taking.{Answered, At, Stands, Went, has_end};
+
 use crate::input::Partial;
 use crate::outcome::Outcome;
-use mail_base::{Config, NoMemory, Text};
+use mail_base::{Config, Failed, NoMemory, Text};
 use mail_edge::{Sink, Source};
 use memchr::memchr;
-use std::alloc::Global;
+use std::alloc::{AllocError, Global};
 
 /// The most bytes that are taken of the input.
 pub const MOST_INPUT: u64 = 1 << 32;
@@ -18,92 +25,176 @@ pub fn address_test<I: Source, O: Sink>(
     config: &Config,
     input: &mut I,
     output: &mut O,
-) -> Outcome {
-    let Ok(mut buffer) = vec![in alloc; 0u8; PIECE] else {
+) -> Outcome
+    requires { IsTrue (is_plain_book config.now.book) }
+    ensures tests { (files : FilesSeen) → Tests config.now (seen files (I.seen input.old) (O.seen output.old)) (seen files (I.seen input.new) (O.seen output.new)) result }
+    ensures input { (I.seen input.old).faults ≤ (I.seen input.new).faults }
+    ensures output { (O.seen output.old).faults ≤ (O.seen output.new).faults }
+{
+    let Ok(mut buffer) = zeros(alloc, PIECE) else {
         return Outcome::NoMemory;
     };
+    answer_all(alloc, config, input, output, &mut buffer)
+}
+
+fn zeros(alloc: Global, size: usize) -> Result<Vec<u8>, AllocError>
+    ensures { IfOk result (λ zeros. length zeros.items ≡ size) }
+{
+    vec![in alloc; 0u8; size]
+}
+
+// Answers each line, taking as many bytes at once as the buffer holds.
+fn answer_all<I: Source, O: Sink>(
+    alloc: Global,
+    config: &Config,
+    input: &mut I,
+    output: &mut O,
+    buffer: &mut [u8],
+) -> Outcome
+    requires plain { IsTrue (is_plain_book config.now.book) }
+    requires buffer { 0 < length buffer.old }
+    ensures tests { (files : FilesSeen) → Tests config.now (seen files (I.seen input.old) (O.seen output.old)) (seen files (I.seen input.new) (O.seen output.new)) result }
+    ensures input { (I.seen input.old).faults ≤ (I.seen input.new).faults }
+    ensures output { (O.seen output.old).faults ≤ (O.seen output.new).faults }
+{
     let mut partial = Partial::new(alloc);
     let mut total: u64 = 0;
     while total < MOST_INPUT {
-        let Ok(count) = input.take(&mut buffer) else {
-            return Outcome::ReadFault;
+        let count = match take_most(input, buffer, MOST_INPUT - total) {
+            Ok(count) => count,
+            Err(_) => return Outcome::ReadFault,
         };
         if count == 0 {
             return end(alloc, config, &partial, output);
         }
         total += count as u64;
-        match piece(alloc, config, &mut partial, &buffer[..count], output) {
-            Ok(Went::On) => {}
-            Ok(Went::Quit) => return Outcome::Done,
-            Err(outcome) => return outcome,
+        match answer_piece(alloc, config, &mut partial, &buffer[..count], output) {
+            Step::On => {}
+            Step::Ended(outcome) => return outcome,
         }
     }
     Outcome::InputLarge
 }
 
-// How a piece of the input leaves it.
-#[derive(Clone, Copy)]
-enum Went {
+// Takes bytes of the input, as many as the buffer holds and at most so many.
+fn take_most<I: Source>(input: &mut I, buffer: &mut [u8], most: u64) -> Result<usize, Failed>
+    requires buffer { 0 < length buffer.old }
+    requires most { 0 < most }
+    ensures bound { IfOk result (λ count. count ≤ length buffer.new) }
+    ensures most { IfOk result (λ count. count ≤ most) }
+    ensures taken { IfOk result (λ count. Loses (I.seen input.old).left (I.seen input.new).left (take count buffer.new)) }
+    ensures end { IfOk result (λ count. IfSome (I.seen input.old).left (λ bytes. (count ≡ 0) ↔ (bytes ≡ []))) }
+    ensures kept { OnErr result ((I.seen input.new).left ≡ (I.seen input.old).left) }
+    ensures cause { HasCause (I.seen input.old).faults (I.seen input.new).faults result }
+{
+    let room = (buffer.len() as u64).min(most) as usize;
+    input.take(&mut buffer[..room])
+}
+
+// How a piece of the input leaves the run.
+enum Step {
     On,
-    Quit,
+    Ended(Outcome),
 }
 
 // Answers the lines that a piece of the input ends.
-fn piece<O: Sink>(
+fn answer_piece<O: Sink>(
     alloc: Global,
     config: &Config,
     partial: &mut Partial,
     bytes: &[u8],
     output: &mut O,
-) -> Result<Went, Outcome> {
-    let mut out = Text::new(alloc);
-    let Ok(went) = answer_lines(alloc, config, partial, bytes, &mut out) else {
-        return Err(Outcome::NoMemory);
+) -> Step
+    requires { IsTrue (is_plain_book config.now.book) }
+    ensures went { (before : Seen) (input : SourceSeen) (taken : List ℕ) → At config.now before (seen before.files input (O.seen output.old)) (taken ++ bytes.now) taken partial.old → Went config.now before (seen before.files input (O.seen output.new)) (taken ++ bytes.now) partial.new result }
+    ensures later { (O.seen output.old).faults ≤ (O.seen output.new).faults }
+{
+    let Ok(answers) = answer_lines(alloc, config, partial, bytes) else {
+        return Step::Ended(Outcome::NoMemory);
     };
-    give(output, &out)?;
-    Ok(went)
+    match give(output, &answers.text) {
+        Ok(()) => {
+            if answers.is_quit {
+                Step::Ended(Outcome::Done)
+            } else {
+                Step::On
+            }
+        }
+        Err(_) => Step::Ended(Outcome::WriteFault),
+    }
 }
 
-fn give<O: Sink>(output: &mut O, out: &Text) -> Result<(), Outcome> {
-    if out.is_empty() {
+fn give<O: Sink>(output: &mut O, text: &Text) -> Result<(), Failed>
+    ensures written { OnOk result (Gains (O.seen output.old).written (O.seen output.new).written text.now) }
+    ensures part { OnErr result (GainsPart (O.seen output.old).written (O.seen output.new).written text.now) }
+    ensures cause { HasCause (O.seen output.old).faults (O.seen output.new).faults result }
+{
+    if text.is_empty() {
         return Ok(());
     }
-    match output.give(out.bytes()) {
-        Ok(()) => Ok(()),
-        Err(_) => Err(Outcome::WriteFault),
-    }
+    output.give(text.bytes())
 }
 
-// Adds the answers to the lines that are ended, and keeps what came of the next.
+// The answers to the lines that a piece ends, up to the line `/quit` where that is among them.
+#[derive(Drop)]
+struct Answers {
+    text: Text,
+    is_quit: bool,
+}
+
+// Answers the lines that are ended, and keeps what came of the next.
 fn answer_lines(
     alloc: Global,
     config: &Config,
     partial: &mut Partial,
     bytes: &[u8],
-    out: &mut Text,
-) -> Result<Went, NoMemory> {
+) -> Result<Answers, NoMemory>
+    requires { IsTrue (is_plain_book config.now.book) }
+    ensures { IfOk result (λ answers. (taken text : List ℕ) → Stands config.now taken partial.old text → Answered config.now (taken ++ bytes.now) partial.new (text ++ answers.text) answers.is_quit) }
+{
+    let mut text = Text::new(alloc);
     let mut rest = bytes;
-    while let Some(end) = memchr(b'\n', rest) {
-        partial.take(&rest[..end])?;
+    while let Some(parts) = split_end(rest) {
+        partial.take(parts.0)?;
         if partial.is_quit() {
-            return Ok(Went::Quit);
+            return Ok(Answers {
+                text,
+                is_quit: true,
+            });
         }
-        partial.answer(alloc, config, out)?;
+        partial.answer(alloc, config, &mut text)?;
         partial.clear();
-        rest = &rest[end + 1..];
+        rest = parts.1;
     }
     partial.take(rest)?;
-    Ok(Went::On)
+    Ok(Answers {
+        text,
+        is_quit: false,
+    })
+}
+
+// What stands before the first LF, and what stands after it.
+fn split_end(text: &[u8]) -> Option<(&[u8], &[u8])>
+    ensures { MatchOption result (has_end text.now ≡ false) (λ parts. (has_end parts.0.now ≡ false) × (text.now ≡ (parts.0.now ++ 10 ∷ []) ++ parts.1.now)) }
+{
+    match memchr(b'\n', text) {
+        Some(end) => Some((&text[..end], &text[end + 1..])),
+        None => None,
+    }
 }
 
 // Answers the last line, which the input's end ends.
-fn end<O: Sink>(alloc: Global, config: &Config, partial: &Partial, output: &mut O) -> Outcome {
-    let mut out = Text::new(alloc);
-    if partial.answer_last(alloc, config, &mut out).is_err() {
+fn end<O: Sink>(alloc: Global, config: &Config, partial: &Partial, output: &mut O) -> Outcome
+    requires { IsTrue (is_plain_book config.now.book) }
+    ensures tests { (before : Seen) (input : SourceSeen) (taken : List ℕ) → IfSome input.left (λ left. left ≡ []) → At config.now before (seen before.files input (O.seen output.old)) taken taken partial.now → Tests config.now before (seen before.files input (O.seen output.new)) result }
+    ensures later { (O.seen output.old).faults ≤ (O.seen output.new).faults }
+{
+    let mut text = Text::new(alloc);
+    let Ok(()) = partial.answer_last(alloc, config, &mut text) else {
         return Outcome::NoMemory;
-    }
-    match give(output, &out) {
+    };
+    match give(output, &text) {
         Ok(()) => Outcome::Done,
-        Err(outcome) => outcome,
+        Err(_) => Outcome::WriteFault,
     }
 }

@@ -5,8 +5,8 @@ ghost use Rattle.sendmail_run.specs.Tokens.{tokens_of, default_operators, is_gap
 ghost use Rattle.sendmail_run.specs.Printing.{Answers, AnswersRun, spaced, line_of};
 ghost use Rattle.sendmail_run.specs.Printing as spec;
 
-use crate::tokens::{DEFAULT_OPERATORS, is_gap};
 use crate::tokens;
+use crate::tokens::{DEFAULT_OPERATORS, is_gap};
 use mail_base::{Config, Mark, NoMemory, Seq, Text, Token};
 use ruleset_run::{RunFault, run};
 use std::alloc::Global;
@@ -18,12 +18,7 @@ pub const MOST_LINE: usize = 65_536;
 const MOST_TOKENS: usize = 2_000;
 
 /// Adds the text that a line of input is answered with. After `NoMemory` a part of it may have been added.
-pub fn answer(
-    alloc: Global,
-    config: &Config,
-    line: &[u8],
-    out: &mut Text,
-) -> Result<(), NoMemory>
+pub fn answer(alloc: Global, config: &Config, line: &[u8], out: &mut Text) -> Result<(), NoMemory>
     requires { IsTrue (is_plain_book config.now.book) }
     ensures { OnOk result ((text : List ℕ) × Answers config.now line.now text × (out.new ≡ out.old ++ text)) }
 {

@@ -1,4 +1,9 @@
-ghost use Rattle.std.specs.Prelude.{◌≡◌, ◌≤◌, ◌++◌, length, OnOk};
+ghost use Rattle.std.specs.Prelude.{◌≡◌, ◌<◌, ◌++◌, MatchOption, List, [], ℕ, length, OnOk, OnErr, IsTrue, false};
+ghost use Rattle.std.specs.Str.Lines.{strip_carriage_return};
+ghost use Rattle.ruleset_run.specs.Plain.{is_plain_book};
+ghost use Rattle.sendmail_run.specs.Printing.{Answers};
+ghost use Rattle.sendmail_run.specs.Printing as spec;
+ghost use Rattle.sendmail_run.specs.Taking.{Keeps, AnswersLast, cut_text, most_kept};
 
 use crate::answers::{MOST_LINE, answer};
 use crate::logical::without_return;
@@ -18,21 +23,21 @@ pub struct Partial {
 
 impl Partial {
     /// Nothing of a line. It takes no memory.
-    pub fn new(alloc: Global) -> Partial {
+    pub fn new(alloc: Global) -> Partial
+        ensures { Keeps result [] }
+    {
         Partial {
             front: Text::new(alloc),
             is_cut: false,
         }
     }
 
-    /// Whether nothing of the line came.
-    pub fn is_empty(&self) -> bool {
-        self.front.is_empty()
-    }
-
     /// Takes more of the line. After `NoMemory` it is as before.
-    pub fn take(&mut self, bytes: &[u8]) -> Result<(), NoMemory> {
-        let room = MOST_KEPT - self.front.len();
+    pub fn take(&mut self, bytes: &[u8]) -> Result<(), NoMemory>
+        ensures ok { OnOk result ((rest : List ℕ) → Keeps self.old rest → Keeps self.new (rest ++ bytes.now)) }
+        ensures err { OnErr result (self.new ≡ self.old) }
+    {
+        let room = MOST_KEPT.saturating_sub(self.front.len());
         if bytes.len() <= room {
             self.front.extend(bytes)
         } else {
@@ -43,45 +48,67 @@ impl Partial {
     }
 
     /// Begins the next line.
-    pub fn clear(&mut self) {
+    pub fn clear(&mut self)
+        ensures { Keeps self.new [] }
+    {
         self.front.clear();
         self.is_cut = false;
     }
 
     /// Whether the line, which is ended now, is `/quit`.
-    pub fn is_quit(&self) -> bool {
-        !self.is_cut && without_return(self.front.bytes()) == b"/quit".as_slice()
-    }
-
-    /// Adds the answer to the line, which is ended now.
-    pub fn answer(&self, alloc: Global, config: &Config, out: &mut Text) -> Result<(), NoMemory> {
-        if self.is_cut {
-            answer_cut(self.front.bytes(), out)
-        } else {
-            answer(alloc, config, without_return(self.front.bytes()), out)
+    pub fn is_quit(&self) -> bool
+        ensures { (rest : List ℕ) → Keeps self.now rest → result ≡ spec.is_quit (strip_carriage_return rest) }
+    {
+        match self.whole() {
+            Some(line) => without_return(line) == b"/quit".as_slice(),
+            None => false,
         }
     }
 
-    /// Adds the answer to the last line, which the end of the input ends.
+    /// Adds the answer to the line, which is ended now.
+    pub fn answer(&self, alloc: Global, config: &Config, out: &mut Text) -> Result<(), NoMemory>
+        requires { IsTrue (is_plain_book config.now.book) }
+        ensures { OnOk result ((rest : List ℕ) → Keeps self.now rest → (text : List ℕ) × Answers config.now (strip_carriage_return rest) text × (out.new ≡ out.old ++ text)) }
+    {
+        match self.whole() {
+            Some(line) => answer(alloc, config, without_return(line), out),
+            None => answer_cut(self.front.bytes(), out),
+        }
+    }
+
+    /// Adds the answer to the last line, which the end of the input ends. An empty one is no line.
     pub fn answer_last(
         &self,
         alloc: Global,
         config: &Config,
         out: &mut Text,
-    ) -> Result<(), NoMemory> {
-        let line = self.front.bytes();
+    ) -> Result<(), NoMemory>
+        requires { IsTrue (is_plain_book config.now.book) }
+        ensures { OnOk result ((rest : List ℕ) → Keeps self.now rest → (text : List ℕ) × AnswersLast config.now rest text × (out.new ≡ out.old ++ text)) }
+    {
+        match self.whole() {
+            Some(line) if line == b"/quit".as_slice() => Ok(()),
+            Some(line) => answer(alloc, config, line, out),
+            None => answer_cut(self.front.bytes(), out),
+        }
+    }
+
+    // What came of the line, unless it is too long.
+    fn whole(&self) -> Option<&[u8]>
+        ensures { (rest : List ℕ) → Keeps self.now rest → MatchOption result (most_kept < length rest) (λ line. line.now ≡ rest) }
+    {
         if self.is_cut {
-            answer_cut(line, out)
-        } else if line == b"/quit".as_slice() {
-            Ok(())
+            None
         } else {
-            answer(alloc, config, line, out)
+            Some(self.front.bytes())
         }
     }
 }
 
 // Adds the answer to a line that is too long, of which this is the front.
-fn answer_cut(front: &[u8], out: &mut Text) -> Result<(), NoMemory> {
+fn answer_cut(front: &[u8], out: &mut Text) -> Result<(), NoMemory>
+    ensures { OnOk result (out.new ≡ out.old ++ cut_text front.now) }
+{
     if front.first() == Some(&b'#') {
         Ok(())
     } else {

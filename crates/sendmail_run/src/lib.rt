@@ -12,6 +12,8 @@ mod outcome;
 mod program;
 mod reader;
 mod sides;
+#[cfg(test)]
+mod tests;
 mod tokens;
 
 pub use command_line::{DEFAULT_FILE, Job, Mode, WordFault, words};

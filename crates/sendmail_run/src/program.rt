@@ -1,7 +1,10 @@
-ghost use Rattle.std.specs.Prelude.{◌<◌, ◌^◌, length};
+ghost use Rattle.std.specs.Prelude.{◌≡◌, ◌<◌, ◌≤◌, ◌^◌, length, List, ℕ};
+ghost use Rattle.mail_edge.specs.Seen.{SourceSeen, SinkSeen};
+ghost use Rattle.sendmail_run.specs.Runs.{Completes, Ends, IsLater, seen};
+ghost use Rattle.sendmail_run.specs.Beginning.{Begins};
 
 use crate::address_test::address_test;
-use crate::command_line::{Job, WordFault, words};
+use crate::command_line::{Job, Mode, WordFault, words};
 use crate::fault::ReadFault;
 use crate::outcome::Outcome;
 use crate::reader::read;
@@ -21,6 +24,9 @@ pub fn sendmail<F: Files, I: Source, O: Sink>(
     output: &mut O,
 ) -> Outcome
     requires { length arguments.now < 2 ^ 32 }
+    ensures ends { Ends arguments.now (seen (F.seen files.old) (I.seen input.old) (O.seen output.old)) (seen (F.seen files.new) (I.seen input.new) (O.seen output.new)) result }
+    ensures later { IsLater (seen (F.seen files.old) (I.seen input.old) (O.seen output.old)) (seen (F.seen files.new) (I.seen input.new) (O.seen output.new)) }
+    ensures complete { Completes arguments.now (seen (F.seen files.old) (I.seen input.old) (O.seen output.old)) (seen (F.seen files.new) (I.seen input.new) (O.seen output.new)) result }
 {
     let mode = match words(alloc, arguments) {
         Ok(mode) => mode,
@@ -36,7 +42,11 @@ pub fn sendmail<F: Files, I: Source, O: Sink>(
 }
 
 // The configuration that the file of that name gives.
-fn configuration<F: Files>(alloc: Global, name: Text, files: &mut F) -> Result<Config, Outcome> {
+fn configuration<F: Files>(alloc: Global, name: Text, files: &mut F) -> Result<Config, Outcome>
+    ensures begins { Begins name (F.seen files.old) (F.seen files.new) result }
+    ensures map { (F.seen files.new).map ≡ (F.seen files.old).map }
+    ensures later { (F.seen files.old).faults ≤ (F.seen files.new).faults }
+{
     let text = match files.read(alloc, &name) {
         Ok(Some(text)) => text,
         Ok(None) => return Err(Outcome::NoFile(name)),

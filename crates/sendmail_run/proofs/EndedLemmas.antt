@@ -1,0 +1,271 @@
+-- Lines of input that are ended, the rest behind them, and the text that answers them.
+use Rattle.std.proofs.Common.{◌≡◌, ℕ, zero, suc, ◌+◌, ◌-◌, ◌<◌, ◌≤◌, List, [], ◌∷◌, ◌++◌, length, take, drop, get_or, Bool, true, false, cond, ◌||◌, eqb, Option, Some, None, refl, sym, ◌∙◌, ap, subst, arith, rules, append_assoc, append-nil, add-one, length-append}
+use Rattle.std.specs.Prelude.{map, MatchBool}
+use Rattle.std.specs.List.{slice_split, list_any, flat_map, All}
+use Rattle.std.specs.Str.Lines.{lines_of_parts, strip_carriage_return}
+use Rattle.std.proofs.lemmas.List.Splits.{slice_split_at, slice_split_none, length-slice_split}
+use Rattle.std.proofs.lemmas.List.Folds.{list_any-append, list_any_at, list_any_none}
+use Rattle.std.proofs.lemmas.List.{map-append, get_or-take, get_or_default, length-take}
+use Rattle.std.proofs.lemmas.Grind.{flat_map-append}
+use Rattle.std.proofs.lemmas.Bool.{false_from_ne_true, cond-true, cond-false, ne_eqb, eqb-true}
+use Rattle.std.proofs.Math.Seq.{split_at}
+use Rattle.memchr.specs.Find.{IsFirstByte, is_byte}
+use Rattle.mail_base.specs.declared.config.Config.{Config}
+use Rattle.sendmail_run.specs.declared.input.Partial.{Partial}
+use Rattle.sendmail_run.specs.LogicalLines.{physical_lines}
+use Rattle.sendmail_run.specs.Printing.{Printed, Answers, is_quit}
+use Rattle.sendmail_run.specs.Runs.{ended, ended_lines, holds_quit}
+use Rattle.sendmail_run.specs.Taking.{has_end, with_end, lines_of, Keeps, Cut, Stands, Quits, AnswersLast}
+
+-- ---- tests
+
+match_no : (b : Bool) (P Q : Type 0) → b ≡ false → MatchBool b P Q → Q
+match_no true P Q e h = absurd (cc e)
+match_no false P Q e h = h
+
+pub no_match : (b : Bool) (P Q : Type 0) → b ≡ false → Q → MatchBool b P Q
+no_match true P Q e h = absurd (cc e)
+no_match false P Q e h = h
+
+yes_match : (b : Bool) (P Q : Type 0) → b ≡ true → P → MatchBool b P Q
+yes_match true P Q e h = h
+yes_match false P Q e h = absurd (cc e)
+
+or_false : (x y : Bool) → x ≡ false → y ≡ false → (x || y) ≡ false
+or_false true y p q = absurd (cc p)
+or_false false y p q = q
+
+or_left : (x y : Bool) → x ≡ true → (x || y) ≡ true
+or_left true y p = refl
+or_left false y p = absurd (cc p)
+
+or_right : (x y : Bool) → y ≡ true → (x || y) ≡ true
+or_right true y p = refl
+or_right false y p = p
+
+neither : (x y : Bool) → (x || y) ≡ false → (x ≡ false) × (y ≡ false)
+neither true y p = absurd (cc p)
+neither false y p = (refl, p)
+
+none_at : (p : ℕ → Bool) (xs : List ℕ) → list_any p xs ≡ false → All (λ x. p x ≡ false) xs
+none_at p xs h k d lt = false_from_ne_true (p (get_or xs k d)) (λ yes. let here = list_any_at p xs k d lt yes in cc)
+
+none_joined : {X : Type 0} (p : X → Bool) (xs ys : List X) → list_any p xs ≡ false → list_any p ys ≡ false → list_any p (xs ++ ys) ≡ false
+none_joined p xs ys h k = list_any-append p xs ys ∙ or_false (list_any p xs) (list_any p ys) h k
+
+-- ---- physical lines
+
+nonempty : (ps : List (List ℕ)) (n : ℕ) → length ps ≡ n + 1 → (first : List ℕ) × (more : List (List ℕ)) × (ps ≡ first ∷ more)
+nonempty [] n e = absurd (omega (arith, e))
+nonempty (p ∷ ps) n e = (p, ps, refl)
+
+parts_first : (x rest : List ℕ) → lines_of_parts (x ∷ slice_split (is_byte 10) rest) ≡ strip_carriage_return x ∷ lines_of_parts (slice_split (is_byte 10) rest)
+parts_first x rest =
+    let some = nonempty (slice_split (is_byte 10) rest) _ (length-slice_split (is_byte 10) rest) in
+    subst (λ (q : List (List ℕ)). lines_of_parts (x ∷ q) ≡ strip_carriage_return x ∷ lines_of_parts q) (sym some.2) refl
+
+lines_at : (raw tail : List ℕ) → has_end raw ≡ false → physical_lines (raw ++ 10 ∷ tail) ≡ strip_carriage_return raw ∷ physical_lines tail
+lines_at raw tail none = ap lines_of_parts (slice_split_at (is_byte 10) raw 10 tail (none_at (is_byte 10) raw none) refl) ∙ parts_first raw tail
+
+regroup : (raw : List ℕ) (raws : List (List ℕ)) (more : List ℕ) → flat_map with_end (raw ∷ raws) ++ more ≡ raw ++ 10 ∷ (flat_map with_end raws ++ more)
+regroup raw raws more = append_assoc (raw ++ 10 ∷ []) (flat_map with_end raws) more ∙ append_assoc raw (10 ∷ []) (flat_map with_end raws ++ more)
+
+lines_cut : (raws : List (List ℕ)) (more : List ℕ) → list_any has_end raws ≡ false → physical_lines (flat_map with_end raws ++ more) ≡ lines_of raws ++ physical_lines more
+lines_cut [] more none = refl
+lines_cut (raw ∷ raws) more none =
+    let parts = neither (has_end raw) (list_any has_end raws) none in
+    ap physical_lines (regroup raw raws more) ∙ lines_at raw (flat_map with_end raws ++ more) parts.0 ∙ ap (λ (ls : List (List ℕ)). strip_carriage_return raw ∷ ls) (lines_cut raws more parts.1)
+
+one_part : (text : List ℕ) → 0 < length text → lines_of_parts (text ∷ []) ≡ text ∷ []
+one_part [] some = absurd (omega arith)
+one_part (b ∷ bs) some = cond-false _ [] ((b ∷ bs) ∷ []) (ne_eqb (length (b ∷ bs)) 0 (λ e. absurd (omega (arith, e))))
+
+line_last : (b : ℕ) (bs : List ℕ) → has_end (b ∷ bs) ≡ false → physical_lines (b ∷ bs) ≡ (b ∷ bs) ∷ []
+line_last b bs none = ap lines_of_parts (slice_split_none (is_byte 10) (b ∷ bs) (none_at (is_byte 10) (b ∷ bs) none)) ∙ one_part (b ∷ bs) (omega arith)
+
+-- ---- the ended front
+
+ended_more : (x more : List ℕ) → ended (x ++ 10 ∷ more) ≡ x ++ 10 ∷ ended more
+ended_more [] more = refl
+ended_more (b ∷ bs) more =
+    let there : has_end (bs ++ 10 ∷ more) ≡ true = list_any-append (is_byte 10) bs (10 ∷ more) ∙ or_right (has_end bs) true refl in
+    cond-true (is_byte 10 b || has_end (bs ++ 10 ∷ more)) (b ∷ ended (bs ++ 10 ∷ more)) [] (or_right (is_byte 10 b) (has_end (bs ++ 10 ∷ more)) there)
+    ∙ ap (λ (q : List ℕ). b ∷ q) (ended_more bs more)
+
+ended_none : (x : List ℕ) → has_end x ≡ false → ended x ≡ []
+ended_none [] none = refl
+ended_none (b ∷ bs) none = cond-false (has_end (b ∷ bs)) (b ∷ ended bs) [] none
+
+ended_cut : (raws : List (List ℕ)) (more : List ℕ) → ended (flat_map with_end raws ++ more) ≡ flat_map with_end raws ++ ended more
+ended_cut [] more = refl
+ended_cut (raw ∷ raws) more =
+    ap ended (regroup raw raws more) ∙ ended_more raw (flat_map with_end raws ++ more) ∙ ap (λ (q : List ℕ). raw ++ 10 ∷ q) (ended_cut raws more) ∙ sym (regroup raw raws (ended more))
+
+ended_lines_cut : (raws : List (List ℕ)) (more : List ℕ) → list_any has_end raws ≡ false → ended_lines (flat_map with_end raws ++ more) ≡ lines_of raws ++ ended_lines more
+ended_lines_cut raws more none = ap physical_lines (ended_cut raws more) ∙ lines_cut raws (ended more) none
+
+-- ---- what is cut so far
+
+cut_more : (taken : List ℕ) (raws : List (List ℕ)) (rest x : List ℕ) → Cut taken raws rest → has_end x ≡ false → Cut (taken ++ x) raws (rest ++ x)
+cut_more taken raws rest x cut none = record {
+  whole = ap (λ (q : List ℕ). q ++ x) cut.whole ∙ append_assoc (flat_map with_end raws) rest x;
+  each = cut.each;
+  last = none_joined (is_byte 10) rest x cut.last none;
+}
+
+cut_end : (taken : List ℕ) (raws : List (List ℕ)) (rest : List ℕ) → Cut taken raws rest → Cut (taken ++ 10 ∷ []) (raws ++ rest ∷ []) []
+cut_end taken raws rest cut = record {
+  whole = ap (λ (q : List ℕ). q ++ 10 ∷ []) cut.whole ∙ append_assoc (flat_map with_end raws) rest (10 ∷ [])
+      ∙ sym (append-nil (flat_map with_end (raws ++ rest ∷ [])) ∙ flat_map-append with_end raws (rest ∷ []) ∙ ap (λ (q : List ℕ). flat_map with_end raws ++ q) (append-nil (rest ++ 10 ∷ [])));
+  each = none_joined has_end raws (rest ∷ []) cut.each (or_false (has_end rest) false cut.last refl);
+  last = refl;
+}
+
+-- ---- the text so far
+
+pub printed_more : (config : Config) (ls ms : List (List ℕ)) (t u : List ℕ) → Printed config ls t → list_any is_quit ls ≡ false → Printed config ms u → Printed config (ls ++ ms) (t ++ u)
+printed_more config [] ms t u is none h = subst (λ (q : List ℕ). Printed config ms (q ++ u)) (sym is) h
+printed_more config (l ∷ ls) ms t u is none h =
+    let parts = neither (is_quit l) (list_any is_quit ls) none in
+    let first = match_no (is_quit l) _ _ parts.0 is in
+    no_match (is_quit l) _ _ parts.0 (first.0, first.1 ++ u, first.2, printed_more config ls ms first.1 u first.3 parts.1 h, ap (λ (q : List ℕ). q ++ u) first.4 ∙ append_assoc first.0 first.1 u)
+
+printed_one : (config : Config) (l a : List ℕ) → is_quit l ≡ false → Answers config l a → Printed config (l ∷ []) a
+printed_one config l a other h = no_match (is_quit l) _ _ other (a, [], h, refl, sym (append-nil a))
+
+-- ---- where the answers stand
+
+pub stands_none : (config : Config) (partial : Partial) → Keeps partial [] → Stands config [] partial []
+stands_none config partial keeps = record { raws = []; rest = []; cut = record { whole = refl; each = refl; last = refl }; printed = refl; on = refl; keeps = keeps }
+
+pub stands_tail : (config : Config) (taken x text : List ℕ) (old new : Partial) → Stands config taken old text → has_end x ≡ false → ((rest : List ℕ) → Keeps old rest → Keeps new (rest ++ x)) → Stands config (taken ++ x) new text
+stands_tail config taken x text old new s none keeps = record {
+  raws = s.raws;
+  rest = s.rest ++ x;
+  cut = cut_more taken s.raws s.rest x s.cut none;
+  printed = s.printed;
+  on = s.on;
+  keeps = keeps s.rest s.keeps;
+}
+
+pub stands_line : (config : Config) (taken text out0 out1 : List ℕ) (old new : Partial) → Stands config taken old (text ++ out0) → ((rest : List ℕ) → Keeps old rest → false ≡ is_quit (strip_carriage_return rest))
+    → ((rest : List ℕ) → Keeps old rest → (a : List ℕ) × Answers config (strip_carriage_return rest) a × (out1 ≡ out0 ++ a)) → Keeps new [] → Stands config (taken ++ 10 ∷ []) new (text ++ out1)
+stands_line config taken text out0 out1 old new s quit answer keeps =
+    let other : is_quit (strip_carriage_return s.rest) ≡ false = sym (quit s.rest s.keeps) in
+    let a = answer s.rest s.keeps in
+    let more : lines_of (s.raws ++ s.rest ∷ []) ≡ lines_of s.raws ++ strip_carriage_return s.rest ∷ [] = map-append strip_carriage_return s.raws (s.rest ∷ []) in
+    let printed : Printed config (lines_of s.raws ++ strip_carriage_return s.rest ∷ []) ((text ++ out0) ++ a.0) =
+    printed_more config (lines_of s.raws) (strip_carriage_return s.rest ∷ []) (text ++ out0) a.0 s.printed s.on (printed_one config (strip_carriage_return s.rest) a.0 other a.1) in
+    let whole : (text ++ out0) ++ a.0 ≡ text ++ out1 = append_assoc text out0 a.0 ∙ ap (λ (q : List ℕ). text ++ q) (sym a.2) in
+    record {
+      raws = s.raws ++ s.rest ∷ [];
+      rest = [];
+      cut = cut_end taken s.raws s.rest s.cut;
+      printed = subst (λ (q : List ℕ). Printed config (lines_of (s.raws ++ s.rest ∷ [])) q) whole (subst (λ (ls : List (List ℕ)). Printed config ls ((text ++ out0) ++ a.0)) (sym more) printed);
+      on = ap (list_any is_quit) more ∙ none_joined is_quit (lines_of s.raws) (strip_carriage_return s.rest ∷ []) s.on (or_false (is_quit (strip_carriage_return s.rest)) false other refl);
+      keeps = keeps;
+    }
+
+pub stands_quit : (config : Config) (taken text : List ℕ) (old : Partial) (more : List ℕ) → Stands config taken old text → ((rest : List ℕ) → Keeps old rest → true ≡ is_quit (strip_carriage_return rest))
+    → Quits config ((taken ++ 10 ∷ []) ++ more) text
+stands_quit config taken text old more s quit =
+    let yes : is_quit (strip_carriage_return s.rest) ≡ true = sym (quit s.rest s.keeps) in
+    let q : List ℕ = strip_carriage_return s.rest in
+    let raws : List (List ℕ) = s.raws ++ s.rest ∷ [] in
+    let cut = cut_end taken s.raws s.rest s.cut in
+    let flat : (taken ++ 10 ∷ []) ++ more ≡ flat_map with_end raws ++ more = ap (λ (x : List ℕ). x ++ more) (cut.whole ∙ append-nil (flat_map with_end raws)) in
+    let ls : lines_of raws ≡ lines_of s.raws ++ q ∷ [] = map-append strip_carriage_return s.raws (s.rest ∷ []) in
+    let lines : physical_lines ((taken ++ 10 ∷ []) ++ more) ≡ lines_of s.raws ++ (q ∷ physical_lines more) =
+    ap physical_lines flat ∙ lines_cut raws more cut.each ∙ ap (λ (x : List (List ℕ)). x ++ physical_lines more) ls ∙ append_assoc (lines_of s.raws) (q ∷ []) (physical_lines more) in
+    let printed : Printed config (lines_of s.raws ++ (q ∷ physical_lines more)) (text ++ []) =
+    printed_more config (lines_of s.raws) (q ∷ physical_lines more) text [] s.printed s.on (yes_match (is_quit q) _ _ yes refl) in
+    let here : list_any is_quit (lines_of raws) ≡ true =
+    ap (list_any is_quit) ls ∙ list_any-append is_quit (lines_of s.raws) (q ∷ []) ∙ or_right (list_any is_quit (lines_of s.raws)) (is_quit q || false) (or_left (is_quit q) false yes) in
+    record {
+      printed = subst (λ (t : List ℕ). Printed config (physical_lines ((taken ++ 10 ∷ []) ++ more)) t) (append-nil text) (subst (λ (x : List (List ℕ)). Printed config x (text ++ [])) (sym lines) printed);
+      quit = ap (list_any is_quit) (ap ended_lines flat ∙ ended_lines_cut raws more cut.each) ∙ list_any-append is_quit (lines_of raws) (ended_lines more) ∙ or_left (list_any is_quit (lines_of raws)) (list_any is_quit (ended_lines more)) here;
+    }
+
+-- the ended lines of what was taken
+stands_lines : (config : Config) (taken text : List ℕ) (partial : Partial) → (s : Stands config taken partial text) → ended_lines taken ≡ lines_of s.raws
+stands_lines config taken text partial s =
+    ap ended_lines s.cut.whole ∙ ended_lines_cut s.raws s.rest s.cut.each ∙ ap (λ (q : List ℕ). lines_of s.raws ++ physical_lines q) (ended_none s.rest s.cut.last) ∙ append-nil (lines_of s.raws)
+
+pub stands_printed : (config : Config) (taken text : List ℕ) (partial : Partial) → Stands config taken partial text → Printed config (ended_lines taken) text
+stands_printed config taken text partial s = subst (λ (ls : List (List ℕ)). Printed config ls text) (sym (stands_lines config taken text partial s)) s.printed
+
+pub stands_on : (config : Config) (taken text : List ℕ) (partial : Partial) → Stands config taken partial text → holds_quit taken ≡ false
+stands_on config taken text partial s = ap (list_any is_quit) (stands_lines config taken text partial s) ∙ s.on
+
+-- the lines that are answered stand in front, whatever comes behind
+pub stands_front : (config : Config) (taken text : List ℕ) (partial : Partial) (more : List ℕ) → (s : Stands config taken partial text) → physical_lines (taken ++ more) ≡ lines_of s.raws ++ physical_lines (s.rest ++ more)
+stands_front config taken text partial more s =
+    ap (λ (q : List ℕ). physical_lines (q ++ more)) s.cut.whole ∙ ap physical_lines (append_assoc (flat_map with_end s.raws) s.rest more) ∙ lines_cut s.raws (s.rest ++ more) s.cut.each
+
+-- the last line
+last_printed : (config : Config) (rest a : List ℕ) → has_end rest ≡ false → AnswersLast config rest a → Printed config (physical_lines rest) a
+last_printed config [] a none h = h
+last_printed config (b ∷ bs) a none h = subst (λ (ls : List (List ℕ)). Printed config ls a) (sym (line_last b bs none)) (by (is_quit (b ∷ bs)) h) where
+  by : (quit : Bool) → MatchBool quit (a ≡ []) (Answers config (b ∷ bs) a) → MatchBool quit (a ≡ []) ((first : List ℕ) × (rest : List ℕ) × Answers config (b ∷ bs) first × (rest ≡ []) × (a ≡ first ++ rest))
+  by true k = k
+  by false k = (a, [], k, refl, sym (append-nil a))
+
+pub stands_last : (config : Config) (taken text a : List ℕ) (partial : Partial) → (s : Stands config taken partial text) → AnswersLast config s.rest a → Printed config (physical_lines taken) (text ++ a)
+stands_last config taken text a partial s h =
+    let lines : physical_lines taken ≡ lines_of s.raws ++ physical_lines s.rest = ap physical_lines s.cut.whole ∙ lines_cut s.raws s.rest s.cut.each in
+    subst (λ (ls : List (List ℕ)). Printed config ls (text ++ a)) (sym lines)
+    (printed_more config (lines_of s.raws) (physical_lines s.rest) text a s.printed s.on (last_printed config s.rest a s.cut.last h))
+
+-- ---- the first LF
+
+pub none_before : (text : List ℕ) (k : ℕ) → IsFirstByte (is_byte 10) text (Some k) → has_end (take k text) ≡ false
+none_before text k found =
+    list_any_none (is_byte 10) (take k text) (λ j d lt.
+    let low : j < k = omega (arith, length-take k text) in
+    let high : j < length text = omega (arith, found.0.high) in
+    ap (is_byte 10) (get_or-take k text j d low ∙ get_or_default text j d 0 high) ∙ false_from_ne_true _ (found.0.before j (omega arith) low))
+
+pub none_at_all : (text : List ℕ) → IsFirstByte (is_byte 10) text None → has_end text ≡ false
+none_at_all text none = list_any_none (is_byte 10) text (λ j d lt. ap (is_byte 10) (get_or_default text j d 0 lt) ∙ false_from_ne_true _ (none j (omega arith) lt))
+
+pub cut_at : (text : List ℕ) (k : ℕ) → IsFirstByte (is_byte 10) text (Some k) → text ≡ (take k text ++ 10 ∷ []) ++ drop (k + 1) text
+cut_at text k found =
+    let high : k < length text = found.0.high in
+    let byte : get_or text k 0 ≡ 10 = eqb-true (get_or text k 0) 10 found.1 in
+    split_at text k 0 high ∙ ap (λ (b : ℕ). take k text ++ b ∷ drop (suc k) text) byte ∙ ap (λ (n : ℕ). take k text ++ 10 ∷ drop n text) (sym (add-one k)) ∙ sym (append_assoc (take k text) (10 ∷ []) (drop (k + 1) text))
+
+-- ---- a step of the answers to a piece
+
+regroup4 : (a b c d : List ℕ) → ((a ++ b) ++ c) ++ d ≡ a ++ (b ++ (c ++ d))
+regroup4 a b c d = simp append_assoc
+
+pub line_step : (config : Config) (bytes taken text front rest x after out0 out1 : List ℕ) (p0 p1 p2 : Partial) → bytes ≡ front ++ rest → Stands config (taken ++ front) p0 (text ++ out0)
+    → has_end x ≡ false → rest ≡ (x ++ 10 ∷ []) ++ after → ((r : List ℕ) → Keeps p0 r → Keeps p1 (r ++ x)) → ((r : List ℕ) → Keeps p1 r → false ≡ is_quit (strip_carriage_return r))
+    → ((r : List ℕ) → Keeps p1 r → (a : List ℕ) × Answers config (strip_carriage_return r) a × (out1 ≡ out0 ++ a)) → Keeps p2 []
+    → (more : List ℕ) × (bytes ≡ more ++ after) × Stands config (taken ++ more) p2 (text ++ out1)
+line_step config bytes taken text front rest x after out0 out1 p0 p1 p2 whole stands none split keeps quit answer fresh =
+    let tail = stands_tail config (taken ++ front) x (text ++ out0) p0 p1 stands none keeps in
+    let line = stands_line config ((taken ++ front) ++ x) text out0 out1 p1 p2 tail quit answer fresh in (
+      front ++ (x ++ 10 ∷ []),
+      whole ∙ ap (λ (q : List ℕ). front ++ q) split ∙ sym (append_assoc front (x ++ 10 ∷ []) after),
+      subst (λ (t : List ℕ). Stands config t p2 (text ++ out1)) (regroup4 taken front x (10 ∷ [])) line,
+    )
+
+pub quit_step : (config : Config) (bytes taken text front rest x after out : List ℕ) (p0 p1 : Partial) → bytes ≡ front ++ rest → Stands config (taken ++ front) p0 (text ++ out)
+    → has_end x ≡ false → rest ≡ (x ++ 10 ∷ []) ++ after → ((r : List ℕ) → Keeps p0 r → Keeps p1 (r ++ x)) → ((r : List ℕ) → Keeps p1 r → true ≡ is_quit (strip_carriage_return r))
+    → Quits config (taken ++ bytes) (text ++ out)
+quit_step config bytes taken text front rest x after out p0 p1 whole stands none split keeps quit =
+    let tail = stands_tail config (taken ++ front) x (text ++ out) p0 p1 stands none keeps in
+    let quits = stands_quit config ((taken ++ front) ++ x) (text ++ out) p1 after tail quit in
+    let all : taken ++ bytes ≡ (((taken ++ front) ++ x) ++ 10 ∷ []) ++ after =
+    ap (λ (q : List ℕ). taken ++ q) (whole ∙ ap (λ (q : List ℕ). front ++ q) split) ∙ sym (ap (λ (q : List ℕ). q ++ after) (regroup4 taken front x (10 ∷ [])) ∙ append_assoc taken (front ++ (x ++ 10 ∷ [])) after ∙ ap (λ (q : List ℕ). taken ++ q) (append_assoc front (x ++ 10 ∷ []) after)) in
+    subst (λ (t : List ℕ). Quits config t (text ++ out)) (sym all) quits
+
+pub tail_step : (config : Config) (bytes taken text front rest out : List ℕ) (p0 p1 : Partial) → bytes ≡ front ++ rest → Stands config (taken ++ front) p0 (text ++ out)
+    → has_end rest ≡ false → ((r : List ℕ) → Keeps p0 r → Keeps p1 (r ++ rest)) → Stands config (taken ++ bytes) p1 (text ++ out)
+tail_step config bytes taken text front rest out p0 p1 whole stands none keeps =
+    subst (λ (t : List ℕ). Stands config t p1 (text ++ out)) (append_assoc taken front rest ∙ ap (λ (q : List ℕ). taken ++ q) (sym whole))
+    (stands_tail config (taken ++ front) rest (text ++ out) p0 p1 stands none keeps)
+
+pub shorter : (rest x after : List ℕ) → rest ≡ (x ++ 10 ∷ []) ++ after → length after < length rest
+shorter rest x after e = omega (arith, ap length e, length-append (x ++ 10 ∷ []) after, length-append x (10 ∷ []))

@@ -1,0 +1,165 @@
+-- How a run ends, and what it took and wrote by then (Sendmail Installation and Operation Guide, "Command Line Flags" and "Address Testing Mode"; the outcomes are own).
+use Rattle.std.specs.Prelude.{◌≡◌, ℕ, ◌^◌, ◌<◌, ◌≤◌, List, [], ◌∷◌, ◌++◌, length, Bool, true, false, ◌==◌, if◌then◌else◌, Option, Some, None, IfSome, Result, Ok, Err, ◌⊎◌}
+use Rattle.std.specs.List.{list_any}
+use Rattle.mail_base.specs.declared.config.Config.{Config}
+use Rattle.mail_base.specs.Histories.{Gains, Rose}
+use Rattle.mail_edge.specs.Seen.{SourceSeen, SinkSeen, FilesSeen, FileMap, text_of}
+use Rattle.mail_edge.specs.Moves.{Loses, GainsPart}
+use Rattle.sendmail_run.specs.declared.command_line.Mode.{Mode}
+use Rattle.sendmail_run.specs.declared.fault.Fault.{Fault}
+use Rattle.sendmail_run.specs.declared.outcome.Outcome.{Outcome}
+use Rattle.sendmail_run.specs.declared.outcome.Outcome.TheVariants as ends
+use Rattle.sendmail_run.specs.LogicalLines.{physical_lines}
+use Rattle.sendmail_run.specs.Configuration.{configuration}
+use Rattle.sendmail_run.specs.Words.{command_line}
+use Rattle.sendmail_run.specs.Printing.{Printed, is_quit}
+
+-- ---- lines of input
+
+-- the front of a text up to and including its last LF (10)
+abbrev pub ended : List ℕ → List ℕ
+ended [] = []
+ended (b ∷ bs) = if list_any (λ c. c == 10) (b ∷ bs) then b ∷ ended bs else []
+
+-- the lines that an LF ends
+abbrev pub ended_lines : List ℕ → List (List ℕ)
+ended_lines text = physical_lines (ended text)
+
+-- a line `/quit` is among those that an LF ends
+abbrev pub holds_quit : List ℕ → Bool
+holds_quit text = list_any is_quit (ended_lines text)
+
+-- ---- what a run does to its devices
+
+-- what is seen of the files, the input and the output at one moment
+pub record Seen : Type 0 where
+  pub files : FilesSeen
+  pub input : SourceSeen
+  pub output : SinkSeen
+
+abbrev pub seen : FilesSeen → SourceSeen → SinkSeen → Seen
+seen files input output = record { files = files; input = input; output = output }
+
+-- nothing was taken and nothing was written
+pub record IsIdle (before after : Seen) : Type 0 where
+  pub input : after.input ≡ before.input
+  pub output : after.output ≡ before.output
+
+-- these bytes were taken of the input
+abbrev pub Takes : Seen → Seen → List ℕ → Type 0
+Takes before after taken = Loses before.input.left after.input.left taken
+
+-- this text was written
+abbrev pub Writes : Seen → Seen → List ℕ → Type 0
+Writes before after text = Gains before.output.written after.output.written text
+
+-- what was written is a front of what the first lines of the input are answered with
+pub record WritesFront (config : Config) (taken : List ℕ) (before after : Seen) : Type 0 where
+  pub first : List (List ℕ)
+  pub later : List (List ℕ)
+  pub lines : physical_lines taken ≡ first ++ later
+  pub text : List ℕ
+  pub printed : Printed config first text
+  pub written : GainsPart before.output.written after.output.written text
+
+-- ---- how the lines of input are answered
+
+-- all lines up to the end of the input or `/quit` were answered
+pub record IsDone (config : Config) (before after : Seen) : Type 0 where
+  pub taken : List ℕ
+  pub text : List ℕ
+  pub takes : Takes before after taken
+  pub writes : Writes before after text
+  pub printed : Printed config (physical_lines taken) text
+  pub over : IfSome after.input.left (λ left. left ≡ []) ⊎ (holds_quit taken ≡ true)
+
+-- all lines that are ended were answered, and none of them is `/quit`
+pub record IsCutOff (config : Config) (before after : Seen) (taken : List ℕ) : Type 0 where
+  pub text : List ℕ
+  pub takes : Takes before after taken
+  pub writes : Writes before after text
+  pub printed : Printed config (ended_lines taken) text
+  pub on : holds_quit taken ≡ false
+
+-- the answers broke off, be it within a line
+pub record IsBroken (config : Config) (before after : Seen) : Type 0 where
+  pub taken : List ℕ
+  pub takes : Takes before after taken
+  pub writes : WritesFront config taken before after
+
+-- how address test mode ends: no other outcome is its own
+abbrev pub Tests : Config → Seen → Seen → Outcome → Type 0
+Tests config before after ends.Done = IsDone config before after
+Tests config before after ends.ReadFault = ((taken : List ℕ) × IsCutOff config before after taken) × Rose before.input.faults after.input.faults
+Tests config before after ends.InputLarge = (taken : List ℕ) × IsCutOff config before after taken × (length taken ≡ 2 ^ 32)
+Tests config before after ends.WriteFault = IsBroken config before after × Rose before.output.faults after.output.faults
+Tests config before after ends.NoMemory = IsBroken config before after
+Tests config before after (ends.Usage place) = ⊥
+Tests config before after (ends.NoFile name) = ⊥
+Tests config before after ends.FilesFault = ⊥
+Tests config before after (ends.ConfigLine line fault) = ⊥
+
+-- ---- the whole run
+
+-- the file of that name has this text, or has none; nothing is said where the files aren't told
+abbrev pub HasText : FilesSeen → List ℕ → Option (List ℕ) → Type 0
+HasText files name text = IfSome files.map (λ map. text_of map name ≡ text)
+
+-- the words are taken, and the file that they name has this text
+pub record HasFile (words : List (List ℕ)) (files : FilesSeen) (bytes : List ℕ) : Type 0 where
+  pub mode : Mode
+  pub said : command_line words ≡ Ok mode
+  pub text : HasText files mode.file (Some bytes)
+
+-- the words are taken, and the file that they name is a configuration
+pub record HasConfig (words : List (List ℕ)) (files : FilesSeen) (config : Config) : Type 0 where
+  pub bytes : List ℕ
+  pub file : HasFile words files bytes
+  pub read : configuration bytes ≡ Ok config
+
+-- the configuration was read, and then the lines of input were answered
+abbrev pub Answered : List (List ℕ) → Seen → Seen → Outcome → Type 0
+Answered words before after outcome = (config : Config) × HasConfig words before.files config × Tests config before after outcome
+
+-- how a run ends, by its outcome
+abbrev pub Ends : List (List ℕ) → Seen → Seen → Outcome → Type 0
+Ends words before after (ends.Usage place) = (command_line words ≡ Err place) × IsIdle before after × (after.files ≡ before.files)
+Ends words before after (ends.NoFile name) = ((mode : Mode) × (command_line words ≡ Ok mode) × (name ≡ mode.file)) × HasText before.files name None × IsIdle before after
+Ends words before after ends.FilesFault = ((mode : Mode) × (command_line words ≡ Ok mode)) × Rose before.files.faults after.files.faults × IsIdle before after
+Ends words before after (ends.ConfigLine line fault) = ((bytes : List ℕ) × HasFile words before.files bytes × (configuration bytes ≡ Err (record { line = line; fault = fault }))) × IsIdle before after
+Ends words before after ends.NoMemory = IsIdle before after ⊎ Answered words before after ends.NoMemory
+Ends words before after ends.Done = Answered words before after ends.Done
+Ends words before after ends.ReadFault = Answered words before after ends.ReadFault
+Ends words before after ends.InputLarge = Answered words before after ends.InputLarge
+Ends words before after ends.WriteFault = Answered words before after ends.WriteFault
+
+-- no count of faults falls, and the files stay as they are
+pub record IsLater (before after : Seen) : Type 0 where
+  pub map : after.files.map ≡ before.files.map
+  pub files : before.files.faults ≤ after.files.faults
+  pub input : before.input.faults ≤ after.input.faults
+  pub output : before.output.faults ≤ after.output.faults
+
+-- no device failed
+pub record IsSound (before after : Seen) : Type 0 where
+  pub files : ¬ (Rose before.files.faults after.files.faults)
+  pub input : ¬ (Rose before.input.faults after.input.faults)
+  pub output : ¬ (Rose before.output.faults after.output.faults)
+
+-- the words, the file and its lines are all taken, of files that are told, and fewer than 2^32 bytes come in
+pub record IsReady (words : List (List ℕ)) (before : Seen) : Type 0 where
+  pub mode : Mode
+  pub said : command_line words ≡ Ok mode
+  pub map : FileMap
+  pub told : before.files.map ≡ Some map
+  pub bytes : List ℕ
+  pub there : text_of map mode.file ≡ Some bytes
+  pub config : Config
+  pub read : configuration bytes ≡ Ok config
+  pub left : List ℕ
+  pub coming : before.input.left ≡ Some left
+  pub few : length left < 2 ^ 32
+
+-- a run that is ready and that no device fails comes to its end, unless memory runs out
+abbrev pub Completes : List (List ℕ) → Seen → Seen → Outcome → Type 0
+Completes words before after outcome = IsReady words before → IsSound before after → (outcome ≡ ends.Done) ⊎ (outcome ≡ ends.NoMemory)

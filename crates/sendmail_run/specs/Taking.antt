@@ -1,0 +1,78 @@
+-- Where the answers to the lines of input stand, as code has them.
+use Rattle.std.specs.Prelude.{◌≡◌, ℕ, ◌≤◌, List, [], ◌∷◌, ◌++◌, length, map, take, Bool, true, false, nat_lt, ◌==◌, if◌then◌else◌, codes, IfSome, MatchBool}
+use Rattle.std.specs.List.{list_any, list_all, flat_map}
+use Rattle.std.specs.Str.Lines.{strip_carriage_return}
+use Rattle.mail_base.specs.declared.config.Config.{Config}
+use Rattle.sendmail_run.specs.declared.input.Partial.{Partial}
+use Rattle.sendmail_run.specs.declared.outcome.Outcome.{Outcome}
+use Rattle.sendmail_run.specs.declared.address_test.Step.{Step}
+use Rattle.sendmail_run.specs.declared.address_test.Step.TheVariants.{On, Ended}
+use Rattle.sendmail_run.specs.Printing.{Printed, Answers, is_quit, line_of}
+use Rattle.sendmail_run.specs.LogicalLines.{physical_lines}
+use Rattle.sendmail_run.specs.Runs.{Seen, Tests, Takes, Writes, holds_quit}
+
+abbrev pub has_end : List ℕ → Bool
+has_end text = list_any (λ c. c == 10) text
+
+abbrev pub with_end : List ℕ → List ℕ
+with_end raw = raw ++ 10 ∷ []
+
+abbrev pub lines_of : List (List ℕ) → List (List ℕ)
+lines_of raws = map strip_carriage_return raws
+
+-- the most bytes that are kept of a line: those of the longest, and a CR before its LF
+unfoldable pub most_kept : ℕ
+most_kept = 65537
+
+-- what is kept of a line, of which so much came
+pub record Keeps (partial : Partial) (rest : List ℕ) : Type 0 where
+  pub front : partial.front ≡ take most_kept rest
+  pub cut : partial.is_cut ≡ nat_lt most_kept (length rest)
+
+-- a text is these lines, each with its LF, and the rest
+pub record Cut (taken : List ℕ) (raws : List (List ℕ)) (rest : List ℕ) : Type 0 where
+  pub whole : taken ≡ flat_map with_end raws ++ rest
+  pub each : list_any has_end raws ≡ false
+  pub last : has_end rest ≡ false
+
+-- the ended lines of what was taken are answered with the text, and the rest is kept
+pub record Stands (config : Config) (taken : List ℕ) (partial : Partial) (text : List ℕ) : Type 0 where
+  pub raws : List (List ℕ)
+  pub rest : List ℕ
+  pub cut : Cut taken raws rest
+  pub printed : Printed config (lines_of raws) text
+  pub on : list_any is_quit (lines_of raws) ≡ false
+  pub keeps : Keeps partial rest
+
+-- the line `/quit` came, and the lines before it are answered with the text
+pub record Quits (config : Config) (taken : List ℕ) (text : List ℕ) : Type 0 where
+  pub printed : Printed config (physical_lines taken) text
+  pub quit : holds_quit taken ≡ true
+
+-- the answer to the last line, which no LF ends: `/quit` prints nothing
+abbrev pub AnswersLast : Config → List ℕ → List ℕ → Type 0
+AnswersLast config line text = MatchBool (is_quit line) (text ≡ []) (Answers config line text)
+
+-- the answer to a line that is too long, by its front
+abbrev pub cut_text : List ℕ → List ℕ
+cut_text [] = line_of (codes "line too long")
+cut_text (b ∷ bs) = if b == 35 then [] else line_of (codes "line too long")
+
+-- the text holds the answers to the lines that bytes end, up to the line `/quit` where that is among them
+abbrev pub Answered : Config → List ℕ → Partial → List ℕ → Bool → Type 0
+Answered config taken partial text true = Quits config taken text
+Answered config taken partial text false = Stands config taken partial text
+
+-- all these bytes were taken since the start, and the answers to the ended lines of a front of them were written
+pub record At (config : Config) (before now : Seen) (all taken : List ℕ) (partial : Partial) : Type 0 where
+  pub text : List ℕ
+  pub takes : Takes before now all
+  pub writes : Writes before now text
+  pub stands : Stands config taken partial text
+  pub input : before.input.faults ≤ now.input.faults
+  pub output : before.output.faults ≤ now.output.faults
+
+-- a piece of the input was answered, or it ended the run
+abbrev pub Went : Config → Seen → Seen → List ℕ → Partial → Step → Type 0
+Went config before now all partial On = At config before now all all partial
+Went config before now all partial (Ended outcome) = Tests config before now outcome

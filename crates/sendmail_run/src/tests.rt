@@ -1,0 +1,224 @@
+ghost use Rattle.std.specs.Prelude.{None};
+
+use crate::{Fault, Outcome, sendmail};
+use mail_base::{Failed, Seq, Text};
+use mail_edge::{MemFiles, MemSink, MemSource, Source, SureFiles, SureSource};
+use std::alloc::{AllocError, Global};
+use std::test::Fail;
+
+// A run over devices in memory, and which calls of the files, the input and the output are to fail.
+#[derive(Drop)]
+struct Run {
+    words: &'static [u8],
+    config: &'static [u8],
+    input: &'static [u8],
+    files_fail: &'static [u64],
+    input_fails: &'static [u64],
+    output_fails: &'static [u64],
+}
+
+const ERIC: &[u8] = b"S5\nR$-:$+\t$@ $2 @ $1\n";
+
+fn calls(alloc: Global, failing: &[u64]) -> Result<Seq<u64>, AllocError> {
+    Ok(Seq::from_vec(Vec::from_slice(alloc, failing)?))
+}
+
+fn words_of(alloc: Global, line: &[u8]) -> Result<Seq<Text>, Fail> {
+    let mut words = Vec::new(alloc);
+    if !line.is_empty() {
+        for word in line.split(|byte| *byte == b' ') {
+            words.push(Text::of(alloc, word)?)?;
+        }
+    }
+    Ok(Seq::from_vec(words))
+}
+
+impl Run {
+    fn of(words: &'static [u8], config: &'static [u8], input: &'static [u8]) -> Run {
+        Run {
+            words,
+            config,
+            input,
+            files_fail: &[],
+            input_fails: &[],
+            output_fails: &[],
+        }
+    }
+
+    // How the run ends, and what it wrote.
+    fn ends(&self, alloc: Global) -> Result<(Outcome, Vec<u8>), Fail> {
+        let words = words_of(alloc, self.words)?;
+        let mut list = Vec::new(alloc);
+        list.push((Text::of(alloc, b"row1.cf")?, Text::of(alloc, self.config)?))?;
+        let sure = SureFiles::new(Seq::from_vec(list)).ok_or("a large text")?;
+        let mut files = MemFiles::new(sure, calls(alloc, self.files_fail)?);
+        let mut input = MemSource::new(
+            Text::of(alloc, self.input)?,
+            calls(alloc, self.input_fails)?,
+        );
+        let mut output = MemSink::new(alloc, calls(alloc, self.output_fails)?);
+        if words.len() > 100 {
+            return Err("many words".into());
+        }
+        let outcome = sendmail(alloc, &words, &mut files, &mut input, &mut output);
+        Ok((outcome, output.written))
+    }
+}
+
+fn printed(alloc: Global, config: &'static [u8], input: &'static [u8]) -> Result<Vec<u8>, Fail> {
+    let (outcome, text) = Run::of(b"-bt -Crow1.cf", config, input).ends(alloc)?;
+    if matches!(outcome, Outcome::Done) {
+        Ok(text)
+    } else {
+        Err("the run isn't done".into())
+    }
+}
+
+#[test]
+fn an_address_is_rewritten(rt: HostRuntime) -> Result<(), Fail> {
+    let text = printed(rt.alloc(), ERIC, b"5 UCBARPA:eric\n")?;
+    assert_eq!(rt; text.as_slice(), b"5 returns: eric @ UCBARPA\n".as_slice());
+    Ok(())
+}
+
+#[test]
+fn the_least_match_is_taken(rt: HostRuntime) -> Result<(), Fail> {
+    let text = printed(rt.alloc(), b"S1\nR$* . $*\t$@ $1 : $2\n", b"1 a.b.c")?;
+    assert_eq!(rt; text.as_slice(), b"1 returns: a : b . c\n".as_slice());
+    Ok(())
+}
+
+#[test]
+fn a_rule_that_always_applies_is_a_loop(rt: HostRuntime) -> Result<(), Fail> {
+    let text = printed(rt.alloc(), b"S1\nR$*\t$1 x\n", b"1 a\n")?;
+    assert_eq!(rt; text.as_slice(), b"1 error: Loop\n".as_slice());
+    Ok(())
+}
+
+#[test]
+fn each_form_of_a_line_is_answered(rt: HostRuntime) -> Result<(), Fail> {
+    let text = printed(
+        rt.alloc(),
+        b"SA\r\n",
+        b"A\n\n# no\n9 a\n/map\n x\r\n/quit\nA b\n",
+    )?;
+    assert_eq!(rt;
+        text.as_slice(),
+        b"A returns:\n9 error: NoRuleset\nnot yet\nunknown line\n".as_slice()
+    );
+    Ok(())
+}
+
+#[test]
+fn the_first_faulty_line_is_named(rt: HostRuntime) -> Result<(), Fail> {
+    let alloc = rt.alloc();
+    for (config, line, fault) in [
+        (b"S1\nR$*\n".as_slice(), 2, Fault::NoTab),
+        (b"S1\r\nR$-\t$2\r\n", 2, Fault::BadReference),
+        (b"S1\nR$-\t$1\n # more\nR$* \n", 4, Fault::NoTab),
+        (b"S1\n\nDx\nR$*\n", 3, Fault::NotYet),
+    ] {
+        let (outcome, text) = Run::of(b"-bt -C row1.cf", config, b"1 a\n").ends(alloc)?;
+        assert!(rt; matches!(outcome, Outcome::ConfigLine(at, why) if at == line && why == fault));
+        assert!(rt; text.is_empty());
+    }
+    Ok(())
+}
+
+#[test]
+fn words_are_refused_at_their_place(rt: HostRuntime) -> Result<(), Fail> {
+    let alloc = rt.alloc();
+    for (words, place) in [
+        (b"-bt -bd".as_slice(), 1),
+        (b"", 0),
+        (b"-C", 1),
+        (b"-q30m", 0),
+    ] {
+        let (outcome, text) = Run::of(words, ERIC, b"5 a:b\n").ends(alloc)?;
+        assert!(rt; matches!(outcome, Outcome::Usage(at) if at == place));
+        assert!(rt; text.is_empty());
+    }
+    let (outcome, _) = Run::of(b"-bt", ERIC, b"").ends(alloc)?;
+    assert!(rt;
+        matches!(outcome, Outcome::NoFile(name) if name.bytes() == b"/etc/mail/sendmail.cf".as_slice())
+    );
+    Ok(())
+}
+
+#[test]
+fn a_call_that_fails_ends_the_run(rt: HostRuntime) -> Result<(), Fail> {
+    let alloc = rt.alloc();
+    let mut run = Run::of(b"-bt -Crow1.cf", ERIC, b"5 a:b\n5 c:d");
+    run.output_fails = &[1];
+    let (outcome, text) = run.ends(alloc)?;
+    assert!(rt; matches!(outcome, Outcome::WriteFault));
+    assert_eq!(rt; text.as_slice(), b"5 returns: b @ a\n".as_slice());
+    run.input_fails = &[1];
+    let (outcome, text) = run.ends(alloc)?;
+    assert!(rt; matches!(outcome, Outcome::ReadFault));
+    assert_eq!(rt; text.as_slice(), b"5 returns: b @ a\n".as_slice());
+    run.files_fail = &[0];
+    let (outcome, text) = run.ends(alloc)?;
+    assert!(rt; matches!(outcome, Outcome::FilesFault));
+    assert!(rt; text.is_empty());
+    Ok(())
+}
+
+// Gives what another source gives, a byte at a time.
+#[derive(Drop)]
+struct ByBytes<S>(S);
+
+impl<S: Source> Source for ByBytes<S> {
+    ghost seen = { λ b. S.seen b.0 };
+
+    fn take(&mut self, buf: &mut [u8]) -> Result<usize, Failed> {
+        self.0.take(&mut buf[..1])
+    }
+}
+
+// Gives bytes without end, and tells none of them.
+#[derive(Drop)]
+struct Endless;
+
+impl Source for Endless {
+    ghost seen = { λ _. record { left = None; faults = 0 } };
+
+    fn take(&mut self, buf: &mut [u8]) -> Result<usize, Failed> {
+        Ok(buf.len())
+    }
+}
+
+// How a run over another input ends, and what it wrote.
+fn ends_over<I: Source>(alloc: Global, input: &mut I) -> Result<(Outcome, Vec<u8>), Fail> {
+    let words = words_of(alloc, b"-bt -Crow1.cf")?;
+    let mut list = Vec::new(alloc);
+    list.push((Text::of(alloc, b"row1.cf")?, Text::of(alloc, ERIC)?))?;
+    let mut files = SureFiles::new(Seq::from_vec(list)).ok_or("a large text")?;
+    let mut output = MemSink::new(alloc, calls(alloc, &[])?);
+    if words.len() > 100 {
+        return Err("many words".into());
+    }
+    let outcome = sendmail(alloc, &words, &mut files, input, &mut output);
+    Ok((outcome, output.written))
+}
+
+#[test]
+fn an_input_may_be_cut_anywhere(rt: HostRuntime) -> Result<(), Fail> {
+    let alloc = rt.alloc();
+    let text = Text::of(alloc, b"5 a:b\r\n\n5 c:d\n/quit\n5 e:f\n")?;
+    let (outcome, text) = ends_over(alloc, &mut ByBytes(SureSource::new(text)))?;
+    assert!(rt; matches!(outcome, Outcome::Done));
+    assert_eq!(rt;
+        text.as_slice(),
+        b"5 returns: b @ a\n5 returns: d @ c\n".as_slice()
+    );
+    Ok(())
+}
+
+#[test]
+fn an_input_without_end_is_large(rt: HostRuntime) -> Result<(), Fail> {
+    let (outcome, text) = ends_over(rt.alloc(), &mut Endless)?;
+    assert!(rt; matches!(outcome, Outcome::InputLarge));
+    assert!(rt; text.is_empty());
+    Ok(())
+}
