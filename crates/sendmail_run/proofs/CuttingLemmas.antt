@@ -70,38 +70,53 @@ module _ (operators : List ℕ) where
   Cut text = (pieces : List Cutting) × Cuts operators text pieces
 
   gap_cut : (b : ℕ) (bs : List ℕ) → is_gap b ≡ true → Cut bs → Cut (b ∷ bs)
-  gap_cut b bs gap cut = (Gap b ∷ cut.0, record {
-    whole = ap (λ (t : List ℕ). b ∷ t) cut.1.whole;
-    each = and_from (is_gap b) (list_all (is_piece operators) cut.0) gap cut.1.each;
-    apart = cut.1.apart;
-  })
+  gap_cut b bs gap cut = (
+    Gap b ∷ cut.0,
+    record {
+      whole = ap (λ (t : List ℕ). b ∷ t) cut.1.whole;
+      each = and_from (is_gap b) (list_all (is_piece operators) cut.0) gap cut.1.each;
+      apart = cut.1.apart;
+    },
+  )
 
   operator_cut : (b : ℕ) (bs : List ℕ) → is_gap b ≡ false → is_operator operators b ≡ true → Cut bs → Cut (b ∷ bs)
-  operator_cut b bs gap operator cut = (Operator b ∷ cut.0, record {
-    whole = ap (λ (t : List ℕ). b ∷ t) cut.1.whole;
-    each = and_from (not (is_gap b) && is_operator operators b) (list_all (is_piece operators) cut.0) (and_from (not (is_gap b)) (is_operator operators b) (not_from_false _ gap) operator) cut.1.each;
-    apart = cut.1.apart;
-  })
+  operator_cut b bs gap operator cut = (
+    Operator b ∷ cut.0,
+    record {
+      whole = ap (λ (t : List ℕ). b ∷ t) cut.1.whole;
+      each = and_from (not (is_gap b) && is_operator operators b) (list_all (is_piece operators) cut.0) (and_from (not (is_gap b)) (is_operator operators b) (not_from_false _ gap) operator) cut.1.each;
+      apart = cut.1.apart;
+    },
+  )
 
   one_word : (b : ℕ) → is_word_byte operators b ≡ true → list_all (is_word_byte operators) (b ∷ []) ≡ true
   one_word b h = and_from (is_word_byte operators b) true h refl
 
   word_cut : (b : ℕ) (bs : List ℕ) → is_word_byte operators b ≡ true → (pieces : List Cutting) → Cuts operators bs pieces → Cut (b ∷ bs)
-  word_cut b bs h [] cuts = (Run (b ∷ []) ∷ [], record {
-    whole = ap (λ (t : List ℕ). b ∷ t) cuts.whole;
-    each = and_from (list_all (is_word_byte operators) (b ∷ [])) true (one_word b h) refl;
-    apart = refl;
-  })
-  word_cut b bs h (Gap c ∷ ps) cuts = (Run (b ∷ []) ∷ Gap c ∷ ps, record {
-    whole = ap (λ (t : List ℕ). b ∷ t) cuts.whole;
-    each = and_from (list_all (is_word_byte operators) (b ∷ [])) (list_all (is_piece operators) (Gap c ∷ ps)) (one_word b h) cuts.each;
-    apart = cuts.apart;
-  })
-  word_cut b bs h (Operator c ∷ ps) cuts = (Run (b ∷ []) ∷ Operator c ∷ ps, record {
-    whole = ap (λ (t : List ℕ). b ∷ t) cuts.whole;
-    each = and_from (list_all (is_word_byte operators) (b ∷ [])) (list_all (is_piece operators) (Operator c ∷ ps)) (one_word b h) cuts.each;
-    apart = cuts.apart;
-  })
+  word_cut b bs h [] cuts = (
+    Run (b ∷ []) ∷ [],
+    record {
+      whole = ap (λ (t : List ℕ). b ∷ t) cuts.whole;
+      each = and_from (list_all (is_word_byte operators) (b ∷ [])) true (one_word b h) refl;
+      apart = refl;
+    },
+  )
+  word_cut b bs h (Gap c ∷ ps) cuts = (
+    Run (b ∷ []) ∷ Gap c ∷ ps,
+    record {
+      whole = ap (λ (t : List ℕ). b ∷ t) cuts.whole;
+      each = and_from (list_all (is_word_byte operators) (b ∷ [])) (list_all (is_piece operators) (Gap c ∷ ps)) (one_word b h) cuts.each;
+      apart = cuts.apart;
+    },
+  )
+  word_cut b bs h (Operator c ∷ ps) cuts = (
+    Run (b ∷ []) ∷ Operator c ∷ ps,
+    record {
+      whole = ap (λ (t : List ℕ). b ∷ t) cuts.whole;
+      each = and_from (list_all (is_word_byte operators) (b ∷ [])) (list_all (is_piece operators) (Operator c ∷ ps)) (one_word b h) cuts.each;
+      apart = cuts.apart;
+    },
+  )
   word_cut b bs h (Run [] ∷ ps) cuts = absurd (cc cuts.each)
   word_cut b bs h (Run (c ∷ cs) ∷ ps) cuts =
       let p = and_parts (list_all (is_word_byte operators) (c ∷ cs)) (list_all (is_piece operators) ps) cuts.each in (

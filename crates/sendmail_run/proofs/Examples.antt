@@ -32,23 +32,23 @@ an_address = refl
 -- ---- configurations
 
 eric : configuration (codes "S5\nR$-:$+\t$@ $2 @ $1\n") ≡ Ok (record initial {
-    book = (record {
-      names = codes "5" ∷ [];
-      rules = (record {
-        left = One ∷ Exact (Op 58) ∷ More ∷ [];
-        right = record { go = Return; steps = Plain (Cut 2) ∷ Plain (Give (Op 64)) ∷ Plain (Cut 1) ∷ [] };
-      }) ∷ [];
+  book = (record {
+    names = codes "5" ∷ [];
+    rules = (record {
+      left = One ∷ Exact (Op 58) ∷ More ∷ [];
+      right = record { go = Return; steps = Plain (Cut 2) ∷ Plain (Give (Op 64)) ∷ Plain (Cut 1) ∷ [] };
     }) ∷ [];
-  })
+  }) ∷ [];
+})
 eric = refl
 
 -- rules before any S line are of set 0, and a set goes on where its name comes again
 sets_go_on : configuration (codes "Ra\tb\nS \"x\"\nS0\n") ≡ Ok (record initial {
-    book = (record {
-      names = codes "0" ∷ [];
-      rules = (record { left = Exact (Word (codes "a")) ∷ []; right = record { go = Again; steps = Plain (Give (Word (codes "b"))) ∷ [] } }) ∷ [];
-    }) ∷ (record { names = codes "x" ∷ []; rules = [] }) ∷ [];
-  })
+  book = (record {
+    names = codes "0" ∷ [];
+    rules = (record { left = Exact (Word (codes "a")) ∷ []; right = record { go = Again; steps = Plain (Give (Word (codes "b"))) ∷ [] } }) ∷ [];
+  }) ∷ (record { names = codes "x" ∷ []; rules = [] }) ∷ [];
+})
 sets_go_on = refl
 
 without_tab : configuration (codes "S1\nR$*\n") ≡ Err (record { line = 2; fault = NoTab })

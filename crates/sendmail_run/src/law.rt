@@ -7,5 +7,4 @@ ghost use Rattle.sendmail_run.specs.Tokens.{Cutting, Cuts, token_of, tokens_of};
 pub fn tokens_are_of_any_cutting()
     ensures some { (operators text : List ℕ) → (pieces : List Cutting) × Cuts operators text pieces }
     ensures any { (operators text : List ℕ) (pieces : List Cutting) → Cuts operators text pieces → tokens_of operators text ≡ flat_map token_of pieces }
-{
-}
+{}
