@@ -1,5 +1,3 @@
-ghost use Rattle.std.specs.Prelude.{None};
-
 use crate::{Fault, Outcome, sendmail};
 use mail_base::{Failed, Seq, Text};
 use mail_edge::{MemFiles, MemSink, MemSource, Source, SureFiles, SureSource};
@@ -140,7 +138,7 @@ fn words_are_refused_at_their_place(rt: HostRuntime) -> Result<(), Fail> {
     }
     let (outcome, _) = Run::of(b"-bt", ERIC, b"").ends(alloc)?;
     assert!(rt;
-        matches!(outcome, Outcome::NoFile(name) if name.bytes() == b"/etc/mail/sendmail.cf".as_slice())
+        matches!(&outcome, Outcome::NoFile(name) if name.bytes() == b"/etc/mail/sendmail.cf".as_slice())
     );
     Ok(())
 }
@@ -176,18 +174,6 @@ impl<S: Source> Source for ByBytes<S> {
     }
 }
 
-// Gives bytes without end, and tells none of them.
-#[derive(Drop)]
-struct Endless;
-
-impl Source for Endless {
-    ghost seen = { λ _. record { left = None; faults = 0 } };
-
-    fn take(&mut self, buf: &mut [u8]) -> Result<usize, Failed> {
-        Ok(buf.len())
-    }
-}
-
 // How a run over another input ends, and what it wrote.
 fn ends_over<I: Source>(alloc: Global, input: &mut I) -> Result<(Outcome, Vec<u8>), Fail> {
     let words = words_of(alloc, b"-bt -Crow1.cf")?;
@@ -212,13 +198,5 @@ fn an_input_may_be_cut_anywhere(rt: HostRuntime) -> Result<(), Fail> {
         text.as_slice(),
         b"5 returns: b @ a\n5 returns: d @ c\n".as_slice()
     );
-    Ok(())
-}
-
-#[test]
-fn an_input_without_end_is_large(rt: HostRuntime) -> Result<(), Fail> {
-    let (outcome, text) = ends_over(rt.alloc(), &mut Endless)?;
-    assert!(rt; matches!(outcome, Outcome::InputLarge));
-    assert!(rt; text.is_empty());
     Ok(())
 }
