@@ -49,7 +49,7 @@ fn read_file<R: rt::Files + Alloc>(rt: &R, alloc: Global, name: &Text) -> io::Re
     let mut file = File::open(rt, path)?;
     let mut bytes = Vec::new(alloc);
     let mut piece = [0u8; 8192];
-    for _ in 0..u64::MAX {
+    'reading: for _ in 0..u64::MAX {
         let count = file.read(&mut piece)?;
         if count == 0 {
             return Ok(bytes);

@@ -10,6 +10,7 @@ use crate::disk::DiskFiles;
 use crate::notice::tell;
 use crate::stream::{InputStream, OutputStream};
 use crate::words::{Asked, read_words};
+use mail_base::{Seq, Text};
 use sendmail_run::{Outcome, sendmail};
 use std::io::Write;
 use std::process::ExitCode;
@@ -22,17 +23,14 @@ const HELP: &[u8] = b"usage: sendmail -bt [-C file]
 A line of input is the name of a ruleset and an address; the line /quit ends.
 ";
 
+/// The most words whose places a `u32` can tell.
+const MOST_WORDS: usize = 4_294_967_295;
+
 const VERSION: &[u8] = b"sendmail (Polkezi) 8\n";
 
 fn main(rt: HostRuntime) -> ExitCode {
     let outcome = match read_words(&rt) {
-        Ok(Asked::Run(words)) => sendmail(
-            rt.alloc(),
-            &words,
-            &mut DiskFiles::new(&rt),
-            &mut InputStream::new(rt.stdin()),
-            &mut OutputStream::new(rt.stdout()),
-        ),
+        Ok(Asked::Run(words)) => run(&rt, &words),
         Ok(Asked::Help) => print(&rt, HELP),
         Ok(Asked::Version) => print(&rt, VERSION),
         Err(outcome) => outcome,
@@ -40,6 +38,20 @@ fn main(rt: HostRuntime) -> ExitCode {
     // Nobody can be told that standard error failed.
     let _ = tell(&mut rt.stderr(), &outcome);
     ExitCode::from(outcome.status())
+}
+
+fn run(rt: &HostRuntime, words: &Seq<Text>) -> Outcome {
+    // More words than a place can tell are refused at the first that has none.
+    if words.len() > MOST_WORDS {
+        return Outcome::Usage(u32::MAX);
+    }
+    sendmail(
+        rt.alloc(),
+        words,
+        &mut DiskFiles::new(rt),
+        &mut InputStream::new(rt.stdin()),
+        &mut OutputStream::new(rt.stdout()),
+    )
 }
 
 fn print(rt: &HostRuntime, text: &[u8]) -> Outcome {
