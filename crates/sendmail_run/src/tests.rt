@@ -1,3 +1,5 @@
+ghost use Rattle.std.specs.Prelude.{None};
+
 use crate::{Fault, Outcome, sendmail};
 use mail_base::{Failed, Seq, Text};
 use mail_edge::{MemFiles, MemSink, MemSource, Source, SureFiles, SureSource};
@@ -14,6 +16,15 @@ struct Run {
     input_fails: &'static [u64],
     output_fails: &'static [u64],
 }
+
+// The calls that are to fail: none, the first, the second, the third.
+const NEVER: &[u64] = &[];
+
+const FIRST: &[u64] = &[0];
+
+const SECOND: &[u64] = &[1];
+
+const THIRD: &[u64] = &[2];
 
 const ERIC: &[u8] = b"S5\nR$-:$+\t$@ $2 @ $1\n";
 
@@ -37,9 +48,9 @@ impl Run {
             words,
             config,
             input,
-            files_fail: &[],
-            input_fails: &[],
-            output_fails: &[],
+            files_fail: NEVER,
+            input_fails: NEVER,
+            output_fails: NEVER,
         }
     }
 
@@ -115,6 +126,12 @@ fn the_first_faulty_line_is_named(rt: HostRuntime) -> Result<(), Fail> {
         (b"S1\r\nR$-\t$2\r\n", 2, Fault::BadReference),
         (b"S1\nR$-\t$1\n # more\nR$* \n", 4, Fault::NoTab),
         (b"S1\n\nDx\nR$*\n", 3, Fault::NotYet),
+        (b"S1\nR$-\n\t$1\n $2\n", 2, Fault::BadReference),
+        (
+            b"R$*$*$*$*$*$*$*$*$*$*$*$*$*$*$*$*$*$*$*$*$*\tx\n",
+            1,
+            Fault::TooManyMetas,
+        ),
     ] {
         let (outcome, text) = Run::of(b"-bt -C row1.cf", config, b"1 a\n").ends(alloc)?;
         assert!(rt; matches!(outcome, Outcome::ConfigLine(at, why) if at == line && why == fault));
@@ -146,19 +163,26 @@ fn words_are_refused_at_their_place(rt: HostRuntime) -> Result<(), Fail> {
 #[test]
 fn a_call_that_fails_ends_the_run(rt: HostRuntime) -> Result<(), Fail> {
     let alloc = rt.alloc();
-    let mut run = Run::of(b"-bt -Crow1.cf", ERIC, b"5 a:b\n5 c:d");
-    run.output_fails = &[1];
-    let (outcome, text) = run.ends(alloc)?;
-    assert!(rt; matches!(outcome, Outcome::WriteFault));
-    assert_eq!(rt; text.as_slice(), b"5 returns: b @ a\n".as_slice());
-    run.input_fails = &[1];
-    let (outcome, text) = run.ends(alloc)?;
-    assert!(rt; matches!(outcome, Outcome::ReadFault));
-    assert_eq!(rt; text.as_slice(), b"5 returns: b @ a\n".as_slice());
-    run.files_fail = &[0];
-    let (outcome, text) = run.ends(alloc)?;
-    assert!(rt; matches!(outcome, Outcome::FilesFault));
-    assert!(rt; text.is_empty());
+    let one = b"5 returns: b @ a\n".as_slice();
+    let both = b"5 returns: b @ a\n5 returns: d @ c\n".as_slice();
+    for (files_fail, input_fails, output_fails, status, wanted) in [
+        (FIRST, FIRST, FIRST, 72, b"".as_slice()),
+        (SECOND, NEVER, NEVER, 0, both),
+        (NEVER, FIRST, NEVER, 74, b""),
+        (NEVER, SECOND, NEVER, 74, one),
+        (NEVER, THIRD, NEVER, 0, both),
+        (NEVER, NEVER, FIRST, 73, b""),
+        (NEVER, NEVER, SECOND, 73, one),
+        (NEVER, NEVER, THIRD, 0, both),
+    ] {
+        let mut run = Run::of(b"-bt -Crow1.cf", ERIC, b"5 a:b\n5 c:d");
+        run.files_fail = files_fail;
+        run.input_fails = input_fails;
+        run.output_fails = output_fails;
+        let (outcome, text) = run.ends(alloc)?;
+        assert_eq!(rt; outcome.status(), status);
+        assert_eq!(rt; text.as_slice(), wanted);
+    }
     Ok(())
 }
 
@@ -174,13 +198,25 @@ impl<S: Source> Source for ByBytes<S> {
     }
 }
 
+// Gives bytes without end, and tells none of them.
+#[derive(Drop)]
+struct Endless;
+
+impl Source for Endless {
+    ghost seen = { λ _. record { left = None; faults = 0 } };
+
+    fn take(&mut self, buf: &mut [u8]) -> Result<usize, Failed> {
+        Ok(buf.len())
+    }
+}
+
 // How a run over another input ends, and what it wrote.
 fn ends_over<I: Source>(alloc: Global, input: &mut I) -> Result<(Outcome, Vec<u8>), Fail> {
     let words = words_of(alloc, b"-bt -Crow1.cf")?;
     let mut list = Vec::new(alloc);
     list.push((Text::of(alloc, b"row1.cf")?, Text::of(alloc, ERIC)?))?;
     let mut files = SureFiles::new(Seq::from_vec(list)).ok_or("a large text")?;
-    let mut output = MemSink::new(alloc, calls(alloc, &[])?);
+    let mut output = MemSink::new(alloc, calls(alloc, NEVER)?);
     if words.len() > 100 {
         return Err("many words".into());
     }
@@ -198,5 +234,29 @@ fn an_input_may_be_cut_anywhere(rt: HostRuntime) -> Result<(), Fail> {
         text.as_slice(),
         b"5 returns: b @ a\n5 returns: d @ c\n".as_slice()
     );
+    Ok(())
+}
+
+#[test]
+fn an_input_without_end_is_large(rt: HostRuntime) -> Result<(), Fail> {
+    let (outcome, text) = ends_over(rt.alloc(), &mut Endless)?;
+    assert!(rt; matches!(outcome, Outcome::InputLarge));
+    assert!(rt; text.is_empty());
+    Ok(())
+}
+
+#[test]
+fn a_line_may_be_too_long(rt: HostRuntime) -> Result<(), Fail> {
+    let alloc = rt.alloc();
+    let mut bytes = Vec::new(alloc);
+    for length in [65_537u32, 65_536] {
+        for _ in 0..length {
+            bytes.push(b',')?;
+        }
+        bytes.push(b'\n')?;
+    }
+    let (outcome, text) = ends_over(alloc, &mut SureSource::new(Text::from_vec(bytes)))?;
+    assert!(rt; matches!(outcome, Outcome::Done));
+    assert_eq!(rt; text.as_slice(), b"line too long\nnot yet\n".as_slice());
     Ok(())
 }
