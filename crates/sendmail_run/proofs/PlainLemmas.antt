@@ -111,3 +111,19 @@ plain_lines (line ∷ lines) reading config h is =
 -- the book of a configuration is plain
 pub plain_configuration : (bytes : List ℕ) (config : Config) → configuration bytes ≡ Ok config → is_plain_book config.book ≡ true
 plain_configuration bytes config is = plain_lines (logical_lines bytes) first_reading config refl is
+
+quiet_lines : (lines : List Logical) (reading : Reading) (config : Config) → read_lines reading lines ≡ Ok config → config.warnings ≡ []
+quiet_lines [] reading config is = sym (ap (λ (r : Result Config Refusal). warnings r) is) where
+  warnings : Result Config Refusal → List ℕ
+  warnings (Ok c) = c.warnings
+  warnings (Err e) = []
+quiet_lines (line ∷ lines) reading config is =
+    by (fault_of line.text) is (λ e. quiet_lines lines (after_line line.text reading) config e) where
+      by : (fault : Option Fault) → refused_or fault line.number (read_lines (after_line line.text reading) lines) ≡ Ok config
+          → (read_lines (after_line line.text reading) lines ≡ Ok config → config.warnings ≡ []) → config.warnings ≡ []
+      by (Some fault) e later = absurd (cc e)
+      by None e later = later e
+
+-- no line is ignored so far
+pub quiet_configuration : (bytes : List ℕ) (config : Config) → configuration bytes ≡ Ok config → config.warnings ≡ []
+quiet_configuration bytes config is = quiet_lines (logical_lines bytes) first_reading config is

@@ -13,21 +13,25 @@ use Rattle.mail_edge.proofs.Causing.{rose_since}
 use Rattle.sendmail_run.specs.declared.input.Partial.{Partial}
 use Rattle.sendmail_run.specs.declared.outcome.Outcome.TheVariants as ends
 use Rattle.sendmail_run.specs.LogicalLines.{physical_lines}
-use Rattle.sendmail_run.specs.Printing.{Printed}
-use Rattle.sendmail_run.specs.Runs.{Seen, seen, Tests, IsDone, IsCutOff, IsBroken, WritesFront, holds_quit}
+use Rattle.sendmail_run.specs.Printing.{Printed, Prints, warnings_text}
+use Rattle.sendmail_run.specs.Runs.{Seen, seen, Tests, IsDone, IsCutOff, IsBroken, WritesFront, holds_quit, ended_lines}
 use Rattle.sendmail_run.specs.Taking.{Keeps, Stands, Quits, At, Answered, AnswersLast, lines_of}
 use Rattle.sendmail_run.proofs.EndedLemmas.{stands_none, stands_printed, stands_on, stands_front, stands_last}
 
+-- without warnings the answers alone are printed
+prints : (config : Config) (lines : List (List ℕ)) (text : List ℕ) → config.warnings ≡ [] → Printed config lines text → Prints config lines text
+prints config lines text quiet printed = (text, printed, ap (λ (numbers : List ℕ). warnings_text numbers ++ text) (sym quiet))
+
 -- before anything is taken
-pub at_start : (config : Config) (files : FilesSeen) (i : SourceSeen) (o : SinkSeen) (partial : Partial) → Keeps partial [] → At config (seen files i o) (seen files i o) [] [] partial
-at_start config files i o partial keeps = record { text = []; takes = loses_none i.left; writes = gains_none o.written; stands = stands_none config partial keeps; input = omega arith; output = omega arith }
+pub at_start : (config : Config) → config.warnings ≡ [] → (files : FilesSeen) (i : SourceSeen) (o : SinkSeen) (partial : Partial) → Keeps partial [] → At config (seen files i o) (seen files i o) [] [] partial
+at_start config quiet files i o partial keeps = record { quiet = quiet; text = []; takes = loses_none i.left; writes = gains_none o.written; stands = stands_none config partial keeps; input = omega arith; output = omega arith }
 
 -- no memory before anything is taken
-pub none_taken : (config : Config) (files : FilesSeen) (i : SourceSeen) (o : SinkSeen) → IsBroken config (seen files i o) (seen files i o)
-none_taken config files i o = record {
+pub none_taken : (config : Config) → config.warnings ≡ [] → (files : FilesSeen) (i : SourceSeen) (o : SinkSeen) → IsBroken config (seen files i o) (seen files i o)
+none_taken config quiet files i o = record {
   taken = [];
   takes = loses_none i.left;
-  writes = record { first = []; later = []; lines = refl; text = []; printed = refl; written = part_none o.written [] };
+  writes = record { first = []; later = []; lines = refl; text = []; printed = prints config [] [] quiet refl; written = part_none o.written [] };
 }
 
 -- more is taken
@@ -38,6 +42,7 @@ at_taken config before files i0 i1 o all taken bytes partial at loses later = re
   takes = loses_join before.input.left i0.left i1.left all bytes at.takes loses;
   writes = at.writes;
   stands = at.stands;
+  quiet = at.quiet;
   input = omega (arith, at.input);
   output = at.output;
 }
@@ -49,7 +54,7 @@ at_cut_off config before files i0 i1 o taken partial at same = record {
   text = at.text;
   takes = subst (λ (left : Option (List ℕ)). Loses before.input.left left taken) (sym same) at.takes;
   writes = at.writes;
-  printed = stands_printed config taken at.text partial at.stands;
+  printed = prints config (ended_lines taken) at.text at.quiet (stands_printed config taken at.text partial at.stands);
   on = stands_on config taken at.text partial at.stands;
 }
 
@@ -64,7 +69,7 @@ at_broken config before files i o taken more partial at = record {
     later = physical_lines (at.stands.rest ++ more);
     lines = stands_front config taken at.text partial more at.stands;
     text = at.text;
-    printed = at.stands.printed;
+    printed = prints config (lines_of at.stands.raws) at.text at.quiet at.stands.printed;
     written = part_whole before.output.written o.written at.text at.writes;
   };
 }
@@ -74,14 +79,14 @@ pub at_broken_last : (config : Config) (before : Seen) (files : FilesSeen) (i : 
 at_broken_last config before files i o taken partial at =
     at_broken config before files i o taken [] partial (subst (λ (all : List ℕ). At config before (seen files i o) all taken partial) (sym (append-nil taken)) at)
 
-front_of : (config : Config) (all : List ℕ) (before : Seen) (now : Seen) (partial : Partial) (whole : List ℕ) (quit : Bool) → Answered config all partial whole quit → GainsPart before.output.written now.output.written whole → WritesFront config all before now
-front_of config all before now partial whole true quits part = record { first = physical_lines all; later = []; lines = sym (append-nil (physical_lines all)); text = whole; printed = quits.printed; written = part }
-front_of config all before now partial whole false stands part = record {
+front_of : (config : Config) → config.warnings ≡ [] → (all : List ℕ) (before : Seen) (now : Seen) (partial : Partial) (whole : List ℕ) (quit : Bool) → Answered config all partial whole quit → GainsPart before.output.written now.output.written whole → WritesFront config all before now
+front_of config quiet all before now partial whole true quits part = record { first = physical_lines all; later = []; lines = sym (append-nil (physical_lines all)); text = whole; printed = prints config (physical_lines all) whole quiet quits.printed; written = part }
+front_of config quiet all before now partial whole false stands part = record {
   first = lines_of stands.raws;
   later = physical_lines (stands.rest ++ []);
   lines = ap physical_lines (sym (append-nil all)) ∙ stands_front config all whole partial [] stands;
   text = whole;
-  printed = stands.printed;
+  printed = prints config (lines_of stands.raws) whole quiet stands.printed;
   written = part;
 }
 
@@ -92,7 +97,7 @@ at_write_fault config before files i o0 o1 all taken old new answers quit at ans
   record {
     taken = all;
     takes = at.takes;
-    writes = front_of config all before (seen files i o1) new (at.text ++ answers) quit (answered at.text at.stands) (part_join before.output.written o0.written o1.written at.text answers at.writes part);
+    writes = front_of config at.quiet all before (seen files i o1) new (at.text ++ answers) quit (answered at.text at.stands) (part_join before.output.written o0.written o1.written at.text answers at.writes part);
   },
   rose_since before.output.faults o0.faults o1.faults at.output rose,
 )
@@ -102,14 +107,14 @@ pub at_quit : (config : Config) (before : Seen) (files : FilesSeen) (i : SourceS
     → At config before (seen files i o0) all taken old → ((text : List ℕ) → Stands config taken old text → Answered config all new (text ++ answers) quit) → quit ≡ true → Gains o0.written o1.written answers → IsDone config before (seen files i o1)
 at_quit config before files i o0 o1 all taken old new answers quit at answered is gains =
     let quits : Quits config all (at.text ++ answers) = subst (λ (q : Bool). Answered config all new (at.text ++ answers) q) is (answered at.text at.stands) in
-    record { taken = all; text = at.text ++ answers; takes = at.takes; writes = gains_join before.output.written o0.written o1.written at.text answers at.writes gains; printed = quits.printed; over = inr quits.quit }
+    record { taken = all; text = at.text ++ answers; takes = at.takes; writes = gains_join before.output.written o0.written o1.written at.text answers at.writes gains; printed = prints config (physical_lines all) (at.text ++ answers) at.quiet quits.printed; over = inr quits.quit }
 
 -- the piece was answered
 pub at_on : (config : Config) (before : Seen) (files : FilesSeen) (i : SourceSeen) (o0 o1 : SinkSeen) (all taken : List ℕ) (old new : Partial) (answers : List ℕ) (quit : Bool)
     → At config before (seen files i o0) all taken old → ((text : List ℕ) → Stands config taken old text → Answered config all new (text ++ answers) quit) → quit ≡ false → Gains o0.written o1.written answers → o0.faults ≤ o1.faults → At config before (seen files i o1) all all new
 at_on config before files i o0 o1 all taken old new answers quit at answered is gains later =
     let stands : Stands config all new (at.text ++ answers) = subst (λ (q : Bool). Answered config all new (at.text ++ answers) q) is (answered at.text at.stands) in
-    record { text = at.text ++ answers; takes = at.takes; writes = gains_join before.output.written o0.written o1.written at.text answers at.writes gains; stands = stands; input = at.input; output = omega (arith, at.output) }
+    record { text = at.text ++ answers; takes = at.takes; writes = gains_join before.output.written o0.written o1.written at.text answers at.writes gains; stands = stands; quiet = at.quiet; input = at.input; output = omega (arith, at.output) }
 
 -- the input came to its end
 pub at_end : (config : Config) (before : Seen) (files : FilesSeen) (i : SourceSeen) (o0 o1 : SinkSeen) (taken : List ℕ) (partial : Partial) (out : List ℕ) → IfSome i.left (λ left. left ≡ [])
@@ -122,7 +127,7 @@ at_end config before files i o0 o1 taken partial out over at answer gains =
       text = at.text ++ out;
       takes = at.takes;
       writes = gains_join before.output.written o0.written o1.written at.text out at.writes gains;
-      printed = stands_last config taken at.text out partial at.stands last;
+      printed = prints config (physical_lines taken) (at.text ++ out) at.quiet (stands_last config taken at.text out partial at.stands last);
       over = inl over;
     }
 
@@ -139,7 +144,7 @@ at_end_fault config before files i o0 o1 taken partial out at answer part rose =
           later = [];
           lines = sym (append-nil (physical_lines taken));
           text = at.text ++ out;
-          printed = stands_last config taken at.text out partial at.stands last;
+          printed = prints config (physical_lines taken) (at.text ++ out) at.quiet (stands_last config taken at.text out partial at.stands last);
           written = part_join before.output.written o0.written o1.written at.text out at.writes part;
         };
       },

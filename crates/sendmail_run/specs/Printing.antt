@@ -1,5 +1,6 @@
 -- What address test mode prints (Sendmail Installation and Operation Guide, "Address Testing Mode"; the printed forms are own).
 use Rattle.std.specs.Prelude.{◌≡◌, ℕ, List, [], ◌∷◌, ◌++◌, length, take, drop, bytes_eq, Bool, true, false, ◌||◌, ◌&&◌, ◌==◌, nat_lt, if◌then◌else◌, codes, Result, Ok, Err, MatchBool}
+use Rattle.std.specs.Fmt.{decimal}
 use Rattle.std.specs.List.{list_any, flat_map, before_first}
 use Rattle.mail_base.specs.declared.token.Token.{Token}
 use Rattle.mail_base.specs.declared.token.Token.TheVariants.{Word, Quoted, Op, Sign}
@@ -48,6 +49,10 @@ fault_name NoMemory = codes "NoMemory"
 abbrev pub outcome_text : List ℕ → Outcome → List ℕ
 outcome_text name (Ok done) = line_of (name ++ codes " returns:" ++ spaced done.tokens)
 outcome_text name (Err fault) = line_of (name ++ codes " error: " ++ fault_name fault)
+
+-- a line for each line of the configuration that is ignored
+abbrev pub warnings_text : List ℕ → List ℕ
+warnings_text numbers = flat_map (λ number. line_of (codes "warning: line " ++ decimal number ++ codes " ignored")) numbers
 
 -- the name of a set: what stands before the first white space
 abbrev pub name_of : List ℕ → List ℕ
@@ -119,3 +124,7 @@ Printed config [] text = text ≡ []
 Printed config (line ∷ lines) text =
     MatchBool (is_quit line) (text ≡ [])
     ((first : List ℕ) × (rest : List ℕ) × Answers config line first × Printed config lines rest × (text ≡ first ++ rest))
+
+-- what is printed for lines of input: the warnings first, and then the answers
+abbrev pub Prints : Config → List (List ℕ) → List ℕ → Type 0
+Prints config lines text = (answers : List ℕ) × Printed config lines answers × (text ≡ warnings_text config.warnings ++ answers)

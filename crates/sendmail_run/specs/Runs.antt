@@ -12,7 +12,7 @@ use Rattle.sendmail_run.specs.declared.outcome.Outcome.TheVariants as ends
 use Rattle.sendmail_run.specs.LogicalLines.{physical_lines}
 use Rattle.sendmail_run.specs.Configuration.{configuration}
 use Rattle.sendmail_run.specs.Words.{command_line}
-use Rattle.sendmail_run.specs.Printing.{Printed, is_quit}
+use Rattle.sendmail_run.specs.Printing.{Prints, is_quit}
 
 -- ---- lines of input
 
@@ -59,7 +59,7 @@ pub record WritesFront (config : Config) (taken : List ℕ) (before after : Seen
   pub later : List (List ℕ)
   pub lines : physical_lines taken ≡ first ++ later
   pub text : List ℕ
-  pub printed : Printed config first text
+  pub printed : Prints config first text
   pub written : GainsPart before.output.written after.output.written text
 
 -- ---- how the lines of input are answered
@@ -70,7 +70,7 @@ pub record IsDone (config : Config) (before after : Seen) : Type 0 where
   pub text : List ℕ
   pub takes : Takes before after taken
   pub writes : Writes before after text
-  pub printed : Printed config (physical_lines taken) text
+  pub printed : Prints config (physical_lines taken) text
   pub over : IfSome after.input.left (λ left. left ≡ []) ⊎ (holds_quit taken ≡ true)
 
 -- all lines that are ended were answered, and none of them is `/quit`
@@ -78,7 +78,7 @@ pub record IsCutOff (config : Config) (before after : Seen) (taken : List ℕ) :
   pub text : List ℕ
   pub takes : Takes before after taken
   pub writes : Writes before after text
-  pub printed : Printed config (ended_lines taken) text
+  pub printed : Prints config (ended_lines taken) text
   pub on : holds_quit taken ≡ false
 
 -- the answers broke off, be it within a line

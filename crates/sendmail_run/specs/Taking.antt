@@ -69,6 +69,7 @@ pub record At (config : Config) (before now : Seen) (all taken : List ℕ) (part
   pub takes : Takes before now all
   pub writes : Writes before now text
   pub stands : Stands config taken partial text
+  pub quiet : config.warnings ≡ []
   pub input : before.input.faults ≤ now.input.faults
   pub output : before.output.faults ≤ now.output.faults
 

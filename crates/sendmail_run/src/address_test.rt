@@ -26,7 +26,8 @@ pub fn address_test<I: Source, O: Sink>(
     input: &mut I,
     output: &mut O,
 ) -> Outcome
-    requires { IsTrue (is_plain_book config.now.book) }
+    requires plain { IsTrue (is_plain_book config.now.book) }
+    requires quiet { config.now.warnings ≡ [] }
     ensures tests { (files : FilesSeen) → Tests config.now (seen files (I.seen input.old) (O.seen output.old)) (seen files (I.seen input.new) (O.seen output.new)) result }
     ensures input { (I.seen input.old).faults ≤ (I.seen input.new).faults }
     ensures output { (O.seen output.old).faults ≤ (O.seen output.new).faults }
@@ -52,6 +53,7 @@ fn answer_all<I: Source, O: Sink>(
     buffer: &mut [u8],
 ) -> Outcome
     requires plain { IsTrue (is_plain_book config.now.book) }
+    requires quiet { config.now.warnings ≡ [] }
     requires buffer { 0 < length buffer.old }
     ensures tests { (files : FilesSeen) → Tests config.now (seen files (I.seen input.old) (O.seen output.old)) (seen files (I.seen input.new) (O.seen output.new)) result }
     ensures input { (I.seen input.old).faults ≤ (I.seen input.new).faults }

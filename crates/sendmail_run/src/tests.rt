@@ -211,10 +211,14 @@ impl Source for Endless {
 }
 
 // How a run over another input ends, and what it wrote.
-fn ends_over<I: Source>(alloc: Global, input: &mut I) -> Result<(Outcome, Vec<u8>), Fail> {
+fn ends_over<I: Source>(
+    alloc: Global,
+    config: &[u8],
+    input: &mut I,
+) -> Result<(Outcome, Vec<u8>), Fail> {
     let words = words_of(alloc, b"-bt -Crow1.cf")?;
     let mut list = Vec::new(alloc);
-    list.push((Text::of(alloc, b"row1.cf")?, Text::of(alloc, ERIC)?))?;
+    list.push((Text::of(alloc, b"row1.cf")?, Text::of(alloc, config)?))?;
     let mut files = SureFiles::new(Seq::from_vec(list)).ok_or("a large text")?;
     let mut output = MemSink::new(alloc, calls(alloc, NEVER)?);
     if words.len() > 100 {
@@ -227,19 +231,30 @@ fn ends_over<I: Source>(alloc: Global, input: &mut I) -> Result<(Outcome, Vec<u8
 #[test]
 fn an_input_may_be_cut_anywhere(rt: HostRuntime) -> Result<(), Fail> {
     let alloc = rt.alloc();
-    let text = Text::of(alloc, b"5 a:b\r\n\n5 c:d\n/quit\n5 e:f\n")?;
-    let (outcome, text) = ends_over(alloc, &mut ByBytes(SureSource::new(text)))?;
-    assert!(rt; matches!(outcome, Outcome::Done));
-    assert_eq!(rt;
-        text.as_slice(),
-        b"5 returns: b @ a\n5 returns: d @ c\n".as_slice()
-    );
+    for (config, input, wanted) in [
+        (
+            ERIC,
+            b"5 a:b\r\n\n5 UCBARPA:eric\n/quit\n5 e:f\n".as_slice(),
+            b"5 returns: b @ a\n5 returns: eric @ UCBARPA\n".as_slice(),
+        ),
+        (
+            b"S1\nR$* . $*\t$@ $1 : $2\n",
+            b"1 a.b.c",
+            b"1 returns: a : b . c\n",
+        ),
+        (b"S1\nR$*\t$1 x\n", b"1 a\n", b"1 error: Loop\n"),
+    ] {
+        let input = Text::of(alloc, input)?;
+        let (outcome, text) = ends_over(alloc, config, &mut ByBytes(SureSource::new(input)))?;
+        assert!(rt; matches!(outcome, Outcome::Done));
+        assert_eq!(rt; text.as_slice(), wanted);
+    }
     Ok(())
 }
 
 #[test]
 fn an_input_without_end_is_large(rt: HostRuntime) -> Result<(), Fail> {
-    let (outcome, text) = ends_over(rt.alloc(), &mut Endless)?;
+    let (outcome, text) = ends_over(rt.alloc(), ERIC, &mut Endless)?;
     assert!(rt; matches!(outcome, Outcome::InputLarge));
     assert!(rt; text.is_empty());
     Ok(())
@@ -255,7 +270,7 @@ fn a_line_may_be_too_long(rt: HostRuntime) -> Result<(), Fail> {
         }
         bytes.push(b'\n')?;
     }
-    let (outcome, text) = ends_over(alloc, &mut SureSource::new(Text::from_vec(bytes)))?;
+    let (outcome, text) = ends_over(alloc, ERIC, &mut SureSource::new(Text::from_vec(bytes)))?;
     assert!(rt; matches!(outcome, Outcome::Done));
     assert_eq!(rt; text.as_slice(), b"line too long\nnot yet\n".as_slice());
     Ok(())

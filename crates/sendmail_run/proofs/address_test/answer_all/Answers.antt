@@ -5,7 +5,7 @@ use Rattle.sendmail_run.proofs.address_test.answer_all.Goals as goal
 
 pub loop-total-init : goal.loop-total-init
 loop-total-init g c = record {
-  at = λ files. ([], refl, at_start c.args.config.now files (g.I.Source.seen c.args.input.now) (g.O.Sink.seen c.args.output.now) c.new-partial.result c.new-partial.ensures);
+  at = λ files. ([], refl, at_start c.args.config.now c.requires.quiet files (g.I.Source.seen c.args.input.now) (g.O.Sink.seen c.args.output.now) c.new-partial.result c.new-partial.ensures);
   most = omega arith;
   input = same_count (g.I.Source.seen c.args.input.now).faults;
   output = same_count (g.O.Sink.seen c.args.output.now).faults;

@@ -1,10 +1,13 @@
 use Rattle.sendmail_run.specs.Runs.{seen}
-use Rattle.sendmail_run.proofs.PlainLemmas.{plain_configuration}
+use Rattle.sendmail_run.proofs.PlainLemmas.{plain_configuration, quiet_configuration}
 use Rattle.sendmail_run.proofs.ProgramLemmas.{ends_answered, completes}
 use Rattle.sendmail_run.proofs.program.sendmail.Goals as goal
 
 pub address_test-requires : goal.address_test-requires
-address_test-requires g c = plain_configuration c.in-Ok-configuration.ensures.begins.0 c.in-Ok-configuration.config c.in-Ok-configuration.ensures.begins.2
+address_test-requires g c = record {
+  plain = plain_configuration c.in-Ok-configuration.ensures.begins.0 c.in-Ok-configuration.config c.in-Ok-configuration.ensures.begins.2;
+  quiet = quiet_configuration c.in-Ok-configuration.ensures.begins.0 c.in-Ok-configuration.config c.in-Ok-configuration.ensures.begins.2;
+}
 
 pub returns-in-Ok-configuration-clause-ends : goal.returns-in-Ok-configuration-clause-ends
 returns-in-Ok-configuration-clause-ends g c =
