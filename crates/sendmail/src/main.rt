@@ -4,6 +4,8 @@
 mod disk;
 mod notice;
 mod stream;
+#[cfg(test)]
+mod tests;
 mod words;
 
 use crate::disk::DiskFiles;

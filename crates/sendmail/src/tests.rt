@@ -1,0 +1,82 @@
+use crate::disk::DiskFiles;
+use crate::notice::tell;
+use crate::stream::{InputStream, OutputStream};
+use mail_base::{EdgeFault, Failed, Text};
+use mail_edge::{Files, Sink, Source};
+use sendmail_run::Outcome;
+use std::io::{ErrorKind, Read, Write};
+use std::test::Fail;
+use std::{fs, io};
+
+// Fails in every call.
+#[derive(Drop)]
+struct Broken;
+
+impl Read for Broken {
+    fn read(&mut self, _buf: &mut [u8]) -> io::Result<usize> {
+        Err(io::Error::from(ErrorKind::Other))
+    }
+}
+
+impl Write for Broken {
+    fn write(&mut self, _bytes: &[u8]) -> io::Result<usize> {
+        Err(io::Error::from(ErrorKind::Other))
+    }
+
+    fn flush(&mut self) -> io::Result<()> {
+        Ok(())
+    }
+}
+
+#[test]
+fn a_reader_is_a_source(rt: HostRuntime) -> Result<(), Fail> {
+    let mut buf = [0u8; 4];
+    let mut input = InputStream::new(b"bytes".as_slice());
+    assert_eq!(rt; input.take(&mut buf)?, 4);
+    assert_eq!(rt; buf.as_slice(), b"byte".as_slice());
+    assert_eq!(rt; input.take(&mut buf)?, 1);
+    assert_eq!(rt; input.take(&mut buf)?, 0);
+    assert_eq!(rt; InputStream::new(Broken).take(&mut buf), Err(Failed));
+    Ok(())
+}
+
+#[test]
+fn a_writer_is_a_sink(rt: HostRuntime) -> Result<(), Fail> {
+    let mut written = Vec::new(rt.alloc());
+    OutputStream::new(&mut written).give(b"bytes")?;
+    assert_eq!(rt; written.as_slice(), b"bytes".as_slice());
+    assert_eq!(rt; OutputStream::new(Broken).give(b"bytes"), Err(Failed));
+    Ok(())
+}
+
+#[test]
+fn a_disk_has_files(rt: HostRuntime) -> Result<(), Fail> {
+    let alloc = rt.alloc();
+    let name = Text::of(alloc, b"/tmp/sendmail-files-of-a-disk")?;
+    fs::write(&rt, "/tmp/sendmail-files-of-a-disk", b"S5\xff\n".as_slice())?;
+    let mut files = DiskFiles::new(&rt);
+    let there = files.read(alloc, &name)?;
+    assert!(rt; matches!(&there, Some(text) if text.bytes() == b"S5\xff\n".as_slice()));
+    fs::remove_file(&rt, "/tmp/sendmail-files-of-a-disk")?;
+    assert!(rt; files.read(alloc, &name)?.is_none());
+    let directory = Text::of(alloc, b"/tmp")?;
+    assert!(rt; matches!(files.read(alloc, &directory), Err(EdgeFault::Failed)));
+    Ok(())
+}
+
+#[test]
+fn an_outcome_is_told_in_a_line(rt: HostRuntime) -> Result<(), Fail> {
+    let mut line = Vec::new(rt.alloc());
+    tell(&mut line, &Outcome::Done)?;
+    tell(&mut line, &Outcome::Usage(3))?;
+    tell(
+        &mut line,
+        &Outcome::NoFile(Text::of(rt.alloc(), b"row1.cf")?),
+    )?;
+    tell(&mut line, &Outcome::InputLarge)?;
+    assert_eq!(rt;
+        line.as_slice(),
+        b"sendmail: bad word 3\nsendmail: no file row1.cf\nsendmail: input too large\n".as_slice()
+    );
+    Ok(())
+}
