@@ -79,7 +79,7 @@ fn add_set(config: &mut Config, name: &str, rules: Seq<Rule>) -> Result<(), Fail
 }
 
 fn config_of(rules: Seq<Rule>) -> Result<Config, Fail> {
-    let mut config = Config::new(rules.allocator());
+    let mut config = Config::new(rules.allocator())?;
     add_set(&mut config, "Set", rules)?;
     Ok(config)
 }
@@ -260,7 +260,7 @@ fn fills_two_thousand_tokens(rt: HostRuntime) -> Result<(), Fail> {
 
 #[test]
 fn finds_the_set(rt: HostRuntime) -> Result<(), Fail> {
-    let mut config = Config::new(rt.alloc());
+    let mut config = Config::new(rt.alloc())?;
     for (name, right) in [("one", "1x"), ("ONE", "1y"), ("3", "1z")] {
         let mut rules = Seq::new(rt.alloc());
         add_rule(&mut rules, "*", Go::Return, right)?;
