@@ -1,0 +1,5 @@
+pub mod Calling
+pub mod Finding
+pub mod Naming
+pub mod Placing
+pub mod Recording
