@@ -1,5 +1,5 @@
 -- The first file at a place, found by going over the files in order.
-use Rattle.std.proofs.Common.{◌≡◌, ℕ, suc, ◌+◌, ◌<◌, true, false, List, ◌∷◌, length, drop, get_or, Some, sym, ◌∙◌, ap, add-one, drop-cons}
+use Rattle.std.proofs.Common.{◌≡◌, ℕ, suc, ◌+◌, ◌<◌, true, false, ◌∷◌, length, drop, get_or, Some, sym, ◌∙◌, ap, add-one, drop-cons}
 use Rattle.std.specs.Prelude.{if◌then◌else◌}
 use Rattle.spool_disk.specs.declared.file.File.{File}
 use Rattle.spool_disk.specs.Disk.{Place, FileMap, lies_at, bytes_at}

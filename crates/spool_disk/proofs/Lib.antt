@@ -3,3 +3,4 @@ pub mod Finding
 pub mod Naming
 pub mod Placing
 pub mod Recording
+pub mod Stopping

@@ -1,9 +1,9 @@
 -- The names of the files in a directory, sorted and each once.
-use Rattle.std.proofs.Common.{◌≡◌, ⊎_elim, ℕ, true, false, Bool, List, [], ◌∷◌, Option, Some, IsSome, true≢false, refl, sym, ◌∙◌, ap, subst, arith}
+use Rattle.std.proofs.Common.{◌≡◌, ⊎_elim, ℕ, true, false, Bool, List, [], ◌∷◌, Option, Some, IsSome, true≢false, refl, sym, subst, arith}
 use Rattle.std.specs.Prelude.{◌&&◌, bytes_eq, nat_eq, if◌then◌else◌}
 use Rattle.std.specs.List.{Contains, dedup}
-use Rattle.std.specs.List.Sorted.{IsPermutation, IsSorted, IsSortedBy}
-use Rattle.std.specs.Ordering.{nat_cmp, is_lt}
+use Rattle.std.specs.List.Sorted.{IsPermutation, IsSorted}
+use Rattle.std.specs.Ordering.{nat_cmp}
 use Rattle.std.specs.Cmp.Lexicographic.{slice_cmp, pointwise, bytes_decides, texts_ties, nat_list_cmp_total, nat_list_eq_equiv}
 use Rattle.std.proofs.lemmas.List.Elements.{Contains-append_left, Contains-append_right, Contains-append_cases, Contains-push, Contains-push_cases}
 use Rattle.std.proofs.lemmas.List.Kept.{IsStrictlySortedBy-dedup, Contains-dedup, Contains-from_dedup}

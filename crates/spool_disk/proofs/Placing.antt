@@ -1,12 +1,12 @@
 -- What changes do to the files at each place.
-use Rattle.std.proofs.Common.{◌≡◌, ℕ, true, false, Bool, List, [], ◌∷◌, ◌++◌, Option, Some, None, is_some, IsSome, true≢false, inl, inr, refl, sym, ◌∙◌, ap}
+use Rattle.std.proofs.Common.{◌≡◌, ℕ, true, false, Bool, List, [], ◌∷◌, ◌++◌, Option, Some, None, is_some, IsSome, true≢false, inl, inr, refl, sym, ◌∙◌, ap, subst}
 use Rattle.std.specs.Prelude.{◌≢◌, ◌&&◌, not, bytes_eq, cond, if◌then◌else◌}
 use Rattle.std.specs.Cmp.{first_so, second_so}
 use Rattle.std.specs.Cmp.Lexicographic.{bytes_decides}
 use Rattle.spool_disk.specs.declared.file.File.{File}
 use Rattle.spool_disk.specs.declared.change.Change.{Change}
 use Rattle.spool_disk.specs.declared.change.Change.TheVariants.{Write, Rename, Remove}
-use Rattle.spool_disk.specs.Disk.{Place, FileMap, lies_at, bytes_at, IsImage, IsDone, HasWritten, HasRenamed, HasRemoved}
+use Rattle.spool_disk.specs.Disk.{Place, FileMap, lies_at, bytes_at, IsSame, IsImage, IsDone, HasWritten, HasRenamed, HasRemoved}
 use Rattle.spool_disk.specs.Changes.{without_file, with_file, with_renamed, after}
 
 -- a file lies at no other place
@@ -15,6 +15,16 @@ alone p q file h k =
     let dirs = (bytes_decides p.0 file.dir).0 (first_so (bytes_eq p.0 file.dir) (bytes_eq p.1 file.name) h) ∙ sym ((bytes_decides q.0 file.dir).0 (first_so (bytes_eq q.0 file.dir) (bytes_eq q.1 file.name) k)) in
     let names = (bytes_decides p.1 file.name).0 (second_so (bytes_eq p.0 file.dir) (bytes_eq p.1 file.name) h) ∙ sym ((bytes_decides q.1 file.name).0 (second_so (bytes_eq q.0 file.dir) (bytes_eq q.1 file.name) k)) in
     λ i. (dirs i, names i)
+
+same_place : Place → Place → Bool
+same_place p q = bytes_eq p.0 q.0 && bytes_eq p.1 q.1
+
+places_decide : (p q : Place) → (same_place p q ≡ true → p ≡ q) × (p ≡ q → same_place p q ≡ true)
+unfolding same_place
+places_decide p q = (
+  λ h. let dirs = (bytes_decides p.0 q.0).0 (first_so (bytes_eq p.0 q.0) (bytes_eq p.1 q.1) h) in let names = (bytes_decides p.1 q.1).0 (second_so (bytes_eq p.0 q.0) (bytes_eq p.1 q.1) h) in λ i. (dirs i, names i),
+  λ e. λ i. (bytes_decides p.0 q.0).1 (ap (λ r. r.0) e) i && (bytes_decides p.1 q.1).1 (ap (λ r. r.1) e) i,
+)
 
 -- a file lies at its own place
 own_place : (place : Place) (bytes : List ℕ) → lies_at place (record { dir = place.0; name = place.1; bytes = bytes }) ≡ true
@@ -71,6 +81,16 @@ has_written dir name bytes files = record { holds = holds_now (dir, name) bytes 
 pub has_removed : (dir name : List ℕ) (files : FileMap) → HasRemoved (dir, name) files (after (Remove dir name) files)
 has_removed dir name files = record { gone = is_gone (dir, name) files; others = λ p ne. others_stay p (dir, name) files ne }
 
+put_back_step : (p place : Place) (bytes : List ℕ) (files : FileMap) (b : Bool) → (b ≡ true → p ≡ place) → (p ≡ place → b ≡ true) → bytes_at files place ≡ Some bytes → bytes_at (with_file place bytes (without_file place files)) p ≡ bytes_at files p
+put_back_step p place bytes files true same apart e = subst (λ q. bytes_at (with_file place bytes (without_file place files)) q ≡ bytes_at files q) (sym (same refl)) (holds_now place bytes (without_file place files) ∙ sym e)
+put_back_step p place bytes files false same apart e =
+    let ne : p ≢ place = λ q. true≢false (sym (apart q)) in
+    others_now p place bytes (without_file place files) ne ∙ others_stay p place files ne
+
+-- a file that is written as it was
+put_back : (place : Place) (bytes : List ℕ) (files : FileMap) → bytes_at files place ≡ Some bytes → IsSame files (with_file place bytes (without_file place files))
+put_back place bytes files e = λ p. put_back_step p place bytes files (same_place p place) (places_decide p place).0 (places_decide p place).1 e
+
 renamed_by : (dir from to : List ℕ) (files : FileMap) (o : Option (List ℕ)) → from ≢ to → bytes_at files (dir, from) ≡ o → IsSome o → HasRenamed dir from to files (with_renamed dir from to o files)
 renamed_by dir from to files None ne e h = absurd (true≢false (sym h))
 renamed_by dir from to files (Some bytes) ne e h =
@@ -97,3 +117,14 @@ pub image_of_done : (change : Change) (old new : FileMap) → IsDone change old 
 image_of_done (Write dir name bytes) old new h = h.others
 image_of_done (Rename dir from to) old new h = inr h
 image_of_done (Remove dir name) old new h = inr h
+
+swapped_by : (dir from to : List ℕ) (files : FileMap) (o : Option (List ℕ)) (b : Bool) → (b ≡ true → from ≡ to) → (from ≡ to → b ≡ true) → bytes_at files (dir, from) ≡ o → IsImage (Rename dir from to) files (with_renamed dir from to o files)
+swapped_by dir from to files None b same apart e = inl (λ p. refl)
+swapped_by dir from to files (Some bytes) false same apart e = inr (renamed_by dir from to files (Some bytes) (λ q. true≢false (sym (apart q))) e refl)
+swapped_by dir from to files (Some bytes) true same apart e = inl (subst (λ q. IsSame files (with_file (dir, q) bytes (without_file (dir, from) files))) (same refl) (put_back (dir, from) bytes files e))
+
+-- what a change makes of the files is one of its images
+pub image_after : (change : Change) (files : FileMap) → IsImage change files (after change files)
+image_after (Write dir name bytes) files = (has_written dir name bytes files).others
+image_after (Rename dir from to) files = swapped_by dir from to files (bytes_at files (dir, from)) (bytes_eq from to) (bytes_decides from to).0 (bytes_decides from to).1 refl
+image_after (Remove dir name) files = inr (has_removed dir name files)

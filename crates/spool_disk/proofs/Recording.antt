@@ -1,5 +1,5 @@
 -- A record that grows by a call is a call of the trait.
-use Rattle.std.proofs.Common.{◌≡◌, inl, inr, ⊎_elim, ℕ, ◌+◌, ◌≤◌, ◌<◌, List, [], ◌∷◌, ◌++◌, length, take, drop, Some, None, Bool, true, false, true≢false, refl, sym, ◌∙◌, ap, subst, arith, length-drop}
+use Rattle.std.proofs.Common.{◌≡◌, inl, inr, ⊎_elim, ℕ, ◌≤◌, ◌<◌, List, [], ◌∷◌, ◌++◌, length, take, drop, true, false, true≢false, refl, sym, ◌∙◌, ap, subst, arith, length-drop}
 use Rattle.std.specs.Prelude.{◌⊎◌, Result, Ok, Err, IsOk, is_ok}
 use Rattle.std.proofs.lemmas.List.{take_all, take-append-le, drop-append-le, drop_all, length_push}
 use Rattle.std.proofs.lemmas.Bool.{cases_lt}

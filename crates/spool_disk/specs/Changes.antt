@@ -1,6 +1,5 @@
 -- What changes make of files in memory, and what a stop in one of them may leave (own).
 use Rattle.std.specs.Prelude.{◌≡◌, ℕ, ◌≤◌, List, [], ◌∷◌, ◌++◌, length, take, drop, Option, Some, None, Bool, true, not, filter, if◌then◌else◌}
-use Rattle.spool_disk.specs.declared.file.File.{File}
 use Rattle.spool_disk.specs.declared.change.Change.{Change}
 use Rattle.spool_disk.specs.declared.change.Change.TheVariants.{Write, Rename, Remove}
 use Rattle.spool_disk.specs.declared.attempt.Attempt.{Attempt}

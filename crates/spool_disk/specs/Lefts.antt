@@ -1,6 +1,6 @@
 -- The laws of a spool in memory (own).
 use Rattle.std.specs.Prelude.{◌≡◌, ℕ, ◌≤◌, List, length, take, drop, Some, refl}
-use Rattle.std.proofs.Common.{sym, ◌∙◌, ap, subst, arith}
+use Rattle.std.proofs.Common.{sym, ap, arith}
 use Rattle.std.proofs.lemmas.List.{take_all, drop_all}
 use Rattle.spool_disk.specs.declared.attempt.Attempt.{Attempt}
 use Rattle.spool_disk.specs.Disk.{FileMap}

@@ -4,3 +4,4 @@ pub mod Disk
 pub mod Lefts
 pub mod Listings
 pub mod Spooled
+pub mod Stops

@@ -1,5 +1,5 @@
 -- The names of the files in a directory (own).
-use Rattle.std.specs.Prelude.{◌↔◌, ℕ, List, [], ◌∷◌, bytes_eq, if◌then◌else◌, Option, Some, None, IsSome, Contains, IfSome}
+use Rattle.std.specs.Prelude.{◌↔◌, ℕ, List, [], ◌∷◌, bytes_eq, if◌then◌else◌, Option, IsSome, Contains, IfSome}
 use Rattle.std.specs.Cmp.Lexicographic.{slice_cmp}
 use Rattle.std.specs.Ordering.{nat_cmp}
 use Rattle.std.specs.List.Sorted.{IsStrictlySortedBy}

@@ -8,6 +8,7 @@ mod file;
 mod listing;
 mod mem_spool;
 mod spool;
+mod stop_spool;
 #[cfg(test)]
 mod tests;
 
@@ -16,3 +17,4 @@ pub use change::Change;
 pub use file::File;
 pub use mem_spool::MemSpool;
 pub use spool::Spool;
+pub use stop_spool::StopSpool;

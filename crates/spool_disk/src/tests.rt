@@ -1,8 +1,15 @@
-ghost use Rattle.std.specs.Prelude.{None};
+ghost use Rattle.std.specs.Prelude.{◌≡◌, ◌≢◌, IfOk, IfSome, IsSome, IsOk, Some, None};
+ghost use Rattle.mail_base.specs.Histories.{HasCause};
+ghost use Rattle.spool_disk.specs.Causes.{HasEdgeCause};
+ghost use Rattle.spool_disk.specs.Disk.{bytes_at, IsImage, IsDone};
+ghost use Rattle.spool_disk.specs.Listings.{IsListing};
+ghost use Rattle.spool_disk.specs.Spooled.{Calls, Reads};
+ghost use Rattle.spool_disk.specs.declared.change.Change.TheVariants.{Write, Rename, Remove};
 
-use crate::Spool;
-use mail_base::{EdgeFault, Failed, Seq, Text};
+use crate::{File, MemSpool, Spool, StopSpool};
+use mail_base::{EdgeFault, Failed, NoMemory, Seq, Text};
 use std::alloc::Global;
+use std::test::Fail;
 
 // A spool that tells nothing, as the real one, and whose reads fail.
 #[derive(Drop)]
@@ -44,4 +51,98 @@ impl Spool for Quiet {
     fn remove(&mut self, _dir: &Text, _name: &Text) -> Result<(), Failed> {
         Ok(())
     }
+}
+
+fn listed_in<S: Spool>(alloc: Global, spool: &mut S, dir: &Text) -> Result<Seq<Text>, EdgeFault>
+    ensures names { IfOk result (λ names. IsListing (S.seen spool.old).told dir.now names) }
+    ensures call { Reads (S.seen spool.old) (S.seen spool.new) }
+    ensures cause { HasEdgeCause (S.seen spool.old).faults (S.seen spool.new).faults result }
+{
+    spool.list(alloc, dir)
+}
+
+fn bytes_in<S: Spool>(
+    alloc: Global,
+    spool: &mut S,
+    dir: &Text,
+    name: &Text,
+) -> Result<Option<Text>, EdgeFault>
+    ensures bytes { IfOk result (λ bytes. IfSome (S.seen spool.old).told (λ files. bytes ≡ bytes_at files (dir.now, name.now))) }
+    ensures call { Reads (S.seen spool.old) (S.seen spool.new) }
+    ensures cause { HasEdgeCause (S.seen spool.old).faults (S.seen spool.new).faults result }
+{
+    spool.read(alloc, dir, name)
+}
+
+fn written<S: Spool>(spool: &mut S, dir: &Text, name: &Text, bytes: &Text) -> Result<(), Failed>
+    ensures call { Calls (S.seen spool.old) (S.seen spool.new) (IsImage (Write dir.now name.now bytes.now)) (IsDone (Write dir.now name.now bytes.now)) (IsOk result) }
+    ensures cause { HasCause (S.seen spool.old).faults (S.seen spool.new).faults result }
+{
+    spool.write_new(dir, name, bytes)
+}
+
+fn removed<S: Spool>(spool: &mut S, dir: &Text, name: &Text) -> Result<(), Failed>
+    ensures call { Calls (S.seen spool.old) (S.seen spool.new) (IsImage (Remove dir.now name.now)) (IsDone (Remove dir.now name.now)) (IsOk result) }
+    ensures cause { HasCause (S.seen spool.old).faults (S.seen spool.new).faults result }
+{
+    spool.remove(dir, name)
+}
+
+fn renamed<S: Spool>(spool: &mut S, dir: &Text, from: &Text, to: &Text) -> Result<(), Failed>
+    requires apart { from.now ≢ to.now }
+    requires there { IfSome (S.seen spool.old).told (λ files. IsSome (bytes_at files (dir.now, from.now))) }
+    ensures call { Calls (S.seen spool.old) (S.seen spool.new) (IsImage (Rename dir.now from.now to.now)) (IsDone (Rename dir.now from.now to.now)) (IsOk result) }
+    ensures cause { HasCause (S.seen spool.old).faults (S.seen spool.new).faults result }
+{
+    spool.rename(dir, from, to)
+}
+
+// Writes a file in the directory q.
+fn put<S: Spool>(alloc: Global, spool: &mut S, name: &[u8], bytes: &[u8]) -> Result<(), Fail> {
+    let dir = Text::of(alloc, b"q")?;
+    let name = Text::of(alloc, name)?;
+    let bytes = Text::of(alloc, bytes)?;
+    Ok(written(spool, &dir, &name, &bytes)?)
+}
+
+// The names and the bytes of the files of the directory q, each with a space behind it.
+fn shown<S: Spool>(alloc: Global, spool: &mut S) -> Result<Text, Fail> {
+    let dir = Text::of(alloc, b"q")?;
+    let mut text = Text::new(alloc);
+    for name in listed_in(alloc, spool, &dir)?.items() {
+        text.extend(name.bytes())?;
+        text.push(b'=')?;
+        if let Some(bytes) = bytes_in(alloc, spool, &dir, name)? {
+            text.extend(bytes.bytes())?;
+        }
+        text.push(b' ')?;
+    }
+    Ok(text)
+}
+
+fn calls(alloc: Global, failing: &[u64]) -> Result<Seq<u64>, NoMemory> {
+    Ok(Seq::from_vec(Vec::from_slice(alloc, failing)?))
+}
+
+fn two_files(alloc: Global, failing: &[u64]) -> Result<MemSpool, Fail> {
+    let mut spool = MemSpool::new(alloc, calls(alloc, failing)?);
+    put(alloc, &mut spool, b"qf2", b"second")?;
+    put(alloc, &mut spool, b"df1", b"first")?;
+    Ok(spool)
+}
+
+#[test]
+fn files_are_listed_in_order_and_read(rt: HostRuntime) -> Result<(), Fail> {
+    let alloc = rt.alloc();
+    let mut spool = two_files(alloc, &[])?;
+    assert_eq!(rt;
+        shown(alloc, &mut spool)?.bytes(),
+        b"df1=first qf2=second ".as_slice()
+    );
+    put(alloc, &mut spool, b"df1", b"again")?;
+    assert_eq!(rt;
+        shown(alloc, &mut spool)?.bytes(),
+        b"df1=again qf2=second ".as_slice()
+    );
+    Ok(())
 }

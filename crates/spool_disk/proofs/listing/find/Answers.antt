@@ -1,5 +1,5 @@
 -- The test of a file's place decides whether it is found or passed by.
-use Rattle.std.proofs.Common.{◌≡◌, ◌∙◌, sym, true, false, arith}
+use Rattle.std.proofs.Common.{◌≡◌, ◌∙◌, true, false, arith}
 use Rattle.spool_disk.specs.Disk.{lies_at}
 use Rattle.spool_disk.proofs.Finding.{found_here, passed_by}
 use Rattle.spool_disk.proofs.listing.find.Goals as goal

@@ -1,5 +1,5 @@
 -- The closure compares names byte by byte.
-use Rattle.std.proofs.Common.{◌≡◌, rules, List, ℕ, ◌∙◌, ap}
+use Rattle.std.proofs.Common.{◌≡◌, rules, ◌∙◌}
 use Rattle.std.specs.Ordering.{nat_cmp, is_lt}
 use Rattle.std.specs.Cmp.Lexicographic.{slice_cmp}
 use Rattle.std.specs.List.Sorted.{IsSorted}

@@ -1,6 +1,6 @@
 -- What the closure keeps is what the definition keeps.
-use Rattle.std.proofs.Common.{◌≡◌, rules, refl, sym, ◌∙◌, ap}
-use Rattle.std.specs.Prelude.{not, filter}
+use Rattle.std.proofs.Common.{rules, ◌∙◌, ap}
+use Rattle.std.specs.Prelude.{not}
 use Rattle.std.proofs.lemmas.Fn.{filter_same}
 use Rattle.spool_disk.specs.declared.file.File.{File}
 use Rattle.spool_disk.specs.Disk.{lies_at}
