@@ -1,8 +1,9 @@
-ghost use Rattle.std.specs.Prelude.{◌≡◌, ◌≢◌, IfOk, IfSome, IsSome, IsOk, Some, None};
+ghost use Rattle.std.specs.Prelude.{◌≡◌, ◌≢◌, [], IfOk, IfSome, IsSome, IsOk, Some, None};
 ghost use Rattle.mail_base.specs.Histories.{HasCause};
 ghost use Rattle.spool_disk.specs.Causes.{HasEdgeCause};
 ghost use Rattle.spool_disk.specs.Disk.{bytes_at, IsImage, IsDone};
 ghost use Rattle.spool_disk.specs.Listings.{IsListing};
+ghost use Rattle.spool_disk.specs.Samples.{draft_place, one_draft};
 ghost use Rattle.spool_disk.specs.Spooled.{Calls, Reads};
 ghost use Rattle.spool_disk.specs.declared.change.Change.TheVariants.{Write, Rename, Remove};
 
@@ -98,7 +99,7 @@ fn renamed<S: Spool>(spool: &mut S, dir: &Text, from: &Text, to: &Text) -> Resul
 }
 
 // Writes a file in the directory q.
-fn put<S: Spool>(alloc: Global, spool: &mut S, name: &[u8], bytes: &[u8]) -> Result<(), Fail> {
+fn put<S: Spool>(alloc: Global, spool: &mut S, name: &[u8], bytes: &[u8]) -> Result<(), EdgeFault> {
     let dir = Text::of(alloc, b"q")?;
     let name = Text::of(alloc, name)?;
     let bytes = Text::of(alloc, bytes)?;
@@ -106,7 +107,7 @@ fn put<S: Spool>(alloc: Global, spool: &mut S, name: &[u8], bytes: &[u8]) -> Res
 }
 
 // The names and the bytes of the files of the directory q, each with a space behind it.
-fn shown<S: Spool>(alloc: Global, spool: &mut S) -> Result<Text, Fail> {
+fn shown<S: Spool>(alloc: Global, spool: &mut S) -> Result<Text, EdgeFault> {
     let dir = Text::of(alloc, b"q")?;
     let mut text = Text::new(alloc);
     for name in listed_in(alloc, spool, &dir)?.items() {
@@ -124,7 +125,7 @@ fn calls(alloc: Global, failing: &[u64]) -> Result<Seq<u64>, NoMemory> {
     Ok(Seq::from_vec(Vec::from_slice(alloc, failing)?))
 }
 
-fn two_files(alloc: Global, failing: &[u64]) -> Result<MemSpool, Fail> {
+fn two_files(alloc: Global, failing: &[u64]) -> Result<MemSpool, EdgeFault> {
     let mut spool = MemSpool::new(alloc, calls(alloc, failing)?);
     put(alloc, &mut spool, b"qf2", b"second")?;
     put(alloc, &mut spool, b"df1", b"first")?;
@@ -143,6 +144,132 @@ fn files_are_listed_in_order_and_read(rt: HostRuntime) -> Result<(), Fail> {
     assert_eq!(rt;
         shown(alloc, &mut spool)?.bytes(),
         b"df1=again qf2=second ".as_slice()
+    );
+    Ok(())
+}
+
+// A spool that begins with one file.
+fn one_file(alloc: Global, failing: &[u64]) -> Result<MemSpool, NoMemory>
+    ensures { IfOk result (λ spool. (spool.start ≡ one_draft) × (spool.past ≡ [])) }
+{
+    let mut files = Seq::new(alloc);
+    files.push(File {
+        dir: Text::of(alloc, b"q")?,
+        name: Text::of(alloc, b"tf1")?,
+        bytes: Text::of(alloc, b"control")?,
+    })?;
+    Ok(MemSpool::of(alloc, files, calls(alloc, failing)?))
+}
+
+// Renames that file.
+fn published<S: Spool>(alloc: Global, spool: &mut S) -> Result<(), EdgeFault>
+    requires { IfSome (S.seen spool.old).told (λ files. IsSome (bytes_at files draft_place)) }
+{
+    let dir = Text::of(alloc, b"q")?;
+    let from = Text::of(alloc, b"tf1")?;
+    let to = Text::of(alloc, b"qf1")?;
+    Ok(renamed(spool, &dir, &from, &to)?)
+}
+
+fn unlinked<S: Spool>(alloc: Global, spool: &mut S, name: &[u8]) -> Result<(), EdgeFault> {
+    let dir = Text::of(alloc, b"q")?;
+    let name = Text::of(alloc, name)?;
+    Ok(removed(spool, &dir, &name)?)
+}
+
+#[test]
+fn a_file_is_renamed_and_removed(rt: HostRuntime) -> Result<(), Fail> {
+    let alloc = rt.alloc();
+    let mut spool = one_file(alloc, &[])?;
+    published(alloc, &mut spool)?;
+    assert_eq!(rt;
+        shown(alloc, &mut spool)?.bytes(),
+        b"qf1=control ".as_slice()
+    );
+    unlinked(alloc, &mut spool, b"qf1")?;
+    assert!(rt; shown(alloc, &mut spool)?.is_empty());
+    Ok(())
+}
+
+#[test]
+fn calls_fail_as_listed_and_change_nothing(rt: HostRuntime) -> Result<(), Fail> {
+    let alloc = rt.alloc();
+    let mut spool = one_file(alloc, &[0, 1, 2])?;
+    assert!(rt; put(alloc, &mut spool, b"df1", b"first").is_err());
+    assert!(rt; unlinked(alloc, &mut spool, b"tf1").is_err());
+    assert!(rt; shown(alloc, &mut spool).is_err());
+    assert_eq!(rt;
+        shown(alloc, &mut spool)?.bytes(),
+        b"tf1=control ".as_slice()
+    );
+    assert_eq!(rt; (spool.script.calls, spool.script.faults), (5, 3));
+    Ok(())
+}
+
+#[test]
+fn a_spool_that_tells_nothing_needs_no_proof(rt: HostRuntime) -> Result<(), Fail> {
+    let alloc = rt.alloc();
+    let mut spool = Quiet { faults: 0 };
+    put(alloc, &mut spool, b"df1", b"first")?;
+    published(alloc, &mut spool)?;
+    unlinked(alloc, &mut spool, b"qf1")?;
+    let text = Text::of(alloc, b"q")?;
+    assert!(rt; bytes_in(alloc, &mut spool, &text, &text).is_err());
+    assert_eq!(rt; spool.faults, 1);
+    Ok(())
+}
+
+// What each of the images of a stop shows, each with a line end behind it.
+fn all_shown(alloc: Global, spool: &StopSpool) -> Result<Text, EdgeFault> {
+    let mut text = Text::new(alloc);
+    for mut image in spool.images()?.into_vec() {
+        text.extend(shown(alloc, &mut image)?.bytes())?;
+        text.push(b'\n')?;
+    }
+    Ok(text)
+}
+
+// Writes df1 and takes tf1 away, up to the stop.
+fn until_the_stop(alloc: Global, passes: u64) -> Result<StopSpool, EdgeFault> {
+    let mut spool = StopSpool::new(one_file(alloc, &[])?, passes);
+    if put(alloc, &mut spool, b"df1", b"body").is_ok()
+        && unlinked(alloc, &mut spool, b"tf1").is_ok()
+    {
+        return Ok(spool);
+    }
+    Ok(spool)
+}
+
+#[test]
+fn a_stop_leaves_some_of_its_images(rt: HostRuntime) -> Result<(), Fail> {
+    let alloc = rt.alloc();
+    let in_the_write =
+        b"tf1=control \ndf1= tf1=control \ndf1=bo tf1=control \ndf1=body tf1=control \n";
+    let in_the_removal = b"df1=body tf1=control \ndf1=body \n";
+    assert_eq!(rt;
+        all_shown(alloc, &until_the_stop(alloc, 0)?)?.bytes(),
+        in_the_write.as_slice()
+    );
+    assert_eq!(rt;
+        all_shown(alloc, &until_the_stop(alloc, 1)?)?.bytes(),
+        in_the_removal.as_slice()
+    );
+    assert_eq!(rt;
+        all_shown(alloc, &until_the_stop(alloc, 2)?)?.bytes(),
+        b"df1=body \n".as_slice()
+    );
+    Ok(())
+}
+
+#[test]
+fn every_call_after_a_stop_fails(rt: HostRuntime) -> Result<(), Fail> {
+    let alloc = rt.alloc();
+    let mut spool = StopSpool::new(one_file(alloc, &[])?, 0);
+    assert!(rt; published(alloc, &mut spool).is_err());
+    assert!(rt; shown(alloc, &mut spool).is_err());
+    assert_eq!(rt;
+        all_shown(alloc, &spool)?.bytes(),
+        b"tf1=control \nqf1=control \n".as_slice()
     );
     Ok(())
 }
