@@ -1,4 +1,5 @@
 pub mod Calling
+mod Examples
 pub mod Finding
 pub mod Naming
 pub mod Placing

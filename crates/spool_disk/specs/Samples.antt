@@ -1,5 +1,5 @@
 -- A file, for examples (own).
-use Rattle.std.specs.Prelude.{ℕ, List, [], ◌∷◌, codes}
+use Rattle.std.specs.Prelude.{[], ◌∷◌, codes}
 use Rattle.spool_disk.specs.Disk.{Place, FileMap}
 
 -- the file tf1 of the directory q

@@ -12,7 +12,7 @@ use mail_base::{EdgeFault, Failed, NoMemory, Seq, Text};
 use std::alloc::Global;
 use std::test::Fail;
 
-// A spool that tells nothing, as the real one, and whose reads fail.
+// A spool that tells nothing, as the real one, and all of whose reads fail.
 #[derive(Drop)]
 struct Quiet {
     faults: u64,
@@ -27,8 +27,9 @@ impl Spool for Quiet {
 
     ghost earlier = { λ s t u c le h. h };
 
-    fn list(&mut self, alloc: Global, _dir: &Text) -> Result<Seq<Text>, EdgeFault> {
-        Ok(Seq::new(alloc))
+    fn list(&mut self, _alloc: Global, _dir: &Text) -> Result<Seq<Text>, EdgeFault> {
+        self.faults = self.faults.saturating_add(1);
+        Err(EdgeFault::Failed)
     }
 
     fn read(
