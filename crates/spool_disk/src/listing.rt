@@ -1,0 +1,86 @@
+ghost use Rattle.std.specs.Prelude.{◌≡◌, IfOk, Some};
+ghost use Rattle.spool_disk.specs.Listings.{IsListing, names_of};
+ghost use Rattle.std.specs.Option.{option_copied};
+ghost use Rattle.spool_disk.specs.Disk.{bytes_at};
+ghost use Rattle.spool_disk.specs.Changes.{without_file, with_file};
+
+use crate::File;
+use mail_base::{NoMemory, Seq, Text, TryCopy};
+use std::alloc::Global;
+
+// The bytes of the first file at that place.
+fn find<'a>(files: &'a [File], dir: &Text, name: &Text) -> Option<&'a Text>
+    ensures { option_copied result ≡ bytes_at files.now (dir.now, name.now) }
+{
+    for file in files {
+        if file.is_at(dir, name) {
+            return Some(&file.bytes);
+        }
+    }
+    None
+}
+
+// A copy of the bytes of the first file at that place.
+pub(crate) fn copied(
+    alloc: Global,
+    files: &[File],
+    dir: &Text,
+    name: &Text,
+) -> Result<Option<Text>, NoMemory>
+    ensures { IfOk result (λ bytes. bytes ≡ bytes_at files.now (dir.now, name.now)) }
+{
+    match find(files, dir, name) {
+        None => Ok(None),
+        Some(bytes) => Ok(Some(Text::of(alloc, bytes.bytes())?)),
+    }
+}
+
+// The files that don't lie at that place.
+pub(crate) fn without(files: Seq<File>, dir: &Text, name: &Text) -> Seq<File>
+    ensures { result ≡ without_file (dir.now, name.now) files }
+{
+    let mut kept = files.into_vec();
+    kept.retain(|file| !file.is_at(dir, name));
+    Seq::from_vec(kept)
+}
+
+// The files with one that holds these bytes in the place of those that lie where it does.
+pub(crate) fn put(
+    files: Seq<File>,
+    dir: &Text,
+    name: &Text,
+    bytes: &Text,
+) -> Result<Seq<File>, NoMemory>
+    ensures { IfOk result (λ now. now ≡ with_file (dir.now, name.now) bytes.now files) }
+{
+    let mut kept = without(files, dir, name);
+    kept.push(File {
+        dir: dir.copy()?,
+        name: name.copy()?,
+        bytes: bytes.copy()?,
+    })?;
+    Ok(kept)
+}
+
+// The names of the files in that directory, in the order of the files.
+fn collected(alloc: Global, files: &[File], dir: &Text) -> Result<Vec<Text>, NoMemory>
+    ensures { IfOk result (λ names. names.items ≡ names_of files.now dir.now) }
+{
+    let mut names = Vec::new(alloc);
+    for file in files {
+        if dir.bytes() == file.dir.bytes() {
+            names.push(Text::of(alloc, file.name.bytes())?)?;
+        }
+    }
+    Ok(names)
+}
+
+// The names of the files in that directory, sorted by their bytes, each once.
+pub(crate) fn names_in(alloc: Global, files: &[File], dir: &Text) -> Result<Seq<Text>, NoMemory>
+    ensures { IfOk result (λ names. IsListing (Some files.now) dir.now names) }
+{
+    let mut names = collected(alloc, files, dir)?;
+    names.sort_by(|one, other| one.bytes().cmp(other.bytes()))?;
+    names.dedup();
+    Ok(Seq::from_vec(names))
+}
