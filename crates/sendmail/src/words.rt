@@ -3,6 +3,7 @@ use mail_base::{NoMemory, Seq, Text};
 use sendmail_run::Outcome;
 use std::alloc::Global;
 use std::env;
+use std::io::ErrorKind;
 
 /// What is asked for.
 #[derive(Drop)]
@@ -14,8 +15,10 @@ pub enum Asked {
 
 /// What the words after the program's name ask for.
 pub fn read_words(rt: &HostRuntime) -> Result<Asked, Outcome> {
-    let Ok(arguments) = env::args(rt) else {
-        return Err(Outcome::Usage(bad_word()));
+    let arguments = match env::args(rt) {
+        Ok(arguments) => arguments,
+        Err(error) if error.kind() == ErrorKind::OutOfMemory => return Err(Outcome::NoMemory),
+        Err(_) => return Err(Outcome::Usage(bad_word())),
     };
     let mut words = Seq::new(rt.alloc());
     for argument in arguments.skip(1) {
