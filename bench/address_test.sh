@@ -18,15 +18,9 @@ printf 'S5\nR$-:$+\t$@ $2 @ $1\n' > "$work/one.cf"
 for _ in $(seq 20000); do echo '5 UCBARPA:eric'; done > "$work/lines"
 
 for name in one many; do
-    python3 - "$program" "$work/$name.cf" "$work/lines" "$name" <<'P'
-import resource, subprocess, sys, time
-program, config, lines, name = sys.argv[1:]
-start = time.perf_counter()
-with open(lines) as text:
-    answers = subprocess.run([program, "-bt", "-C" + config], stdin=text, stdout=subprocess.PIPE, check=True).stdout
-seconds = time.perf_counter() - start
-count = answers.count(b"\n")
-peak = resource.getrusage(resource.RUSAGE_CHILDREN).ru_maxrss
-print(f"{name}: {count} lines, {count / seconds:.0f} lines per second, {peak} KiB at most")
-P
+    begun=$(date +%s%N)
+    /usr/bin/time -f %M -o "$work/peak" "$program" -bt "-C$work/$name.cf" < "$work/lines" > "$work/answers"
+    ended=$(date +%s%N)
+    count=$(wc -l < "$work/answers")
+    echo "$name: $count lines, $((count * 1000000000 / (ended - begun))) lines per second, $(cat "$work/peak") KiB at most"
 done
