@@ -1,4 +1,5 @@
 pub mod Catalogs
+pub mod Causes
 pub mod Configs
 pub mod Drawing
 pub mod Histories

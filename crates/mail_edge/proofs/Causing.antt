@@ -2,7 +2,7 @@
 use Rattle.std.proofs.Common.{ℕ, ◌≤◌, Result, Ok, Err, arith}
 use Rattle.mail_base.specs.Histories.{Rose, HasCause}
 use Rattle.mail_base.specs.declared.fault.EdgeFault.{EdgeFault}
-use Rattle.mail_edge.specs.Causes.{HasEdgeCause}
+use Rattle.mail_base.specs.Causes.{HasEdgeCause}
 
 -- a count that rose since a moment rose since each one before
 pub rose_since : (a b c : ℕ) → a ≤ b → Rose b c → Rose a c

@@ -1,4 +1,3 @@
-pub mod Causes
 pub mod Moves
 pub mod Readings
 pub mod Seen

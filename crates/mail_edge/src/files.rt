@@ -1,5 +1,5 @@
 ghost use Rattle.std.specs.Prelude.{◌≡◌, ◌≤◌, length, IfOk, IfSome};
-ghost use Rattle.mail_edge.specs.Causes.{HasEdgeCause};
+ghost use Rattle.mail_base.specs.Causes.{HasEdgeCause};
 ghost use Rattle.mail_edge.specs.Seen.{FilesSeen, text_of};
 
 use mail_base::{EdgeFault, Text};

@@ -1,6 +1,6 @@
 ghost use Rattle.std.specs.Prelude.{◌≡◌, ◌≤◌, ◌↔◌, length, All, IfOk, IfSome, IsSome, Some};
 ghost use Rattle.std.specs.Option.{option_copied};
-ghost use Rattle.mail_edge.specs.Causes.{HasEdgeCause, has_failed};
+ghost use Rattle.mail_base.specs.Causes.{HasEdgeCause, has_failed};
 ghost use Rattle.mail_base.specs.Scripts.{is_listed, after_call};
 ghost use Rattle.mail_edge.specs.Seen.{FileMap, text_of};
 

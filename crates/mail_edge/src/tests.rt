@@ -1,6 +1,6 @@
 ghost use Rattle.std.specs.Prelude.{◌≡◌, ◌<◌, ◌≤◌, ◌+◌, ◌-◌, ◌^◌, ◌++◌, ◌∷◌, [], IfOk, IfSome, OnOk, OnErr, None};
 ghost use Rattle.mail_base.specs.Histories.{Gains, HasCause};
-ghost use Rattle.mail_edge.specs.Causes.{HasEdgeCause};
+ghost use Rattle.mail_base.specs.Causes.{HasEdgeCause};
 ghost use Rattle.mail_edge.specs.Moves.{GainsPart};
 ghost use Rattle.mail_edge.specs.Seen.{text_of};
 

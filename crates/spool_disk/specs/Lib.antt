@@ -1,4 +1,3 @@
-pub mod Causes
 pub mod Changes
 pub mod Disk
 pub mod Lefts

@@ -1,7 +1,7 @@
 ghost use Rattle.std.specs.Prelude.{◌≡◌, ◌≢◌, ◌≤◌, ◌++◌, ◌∷◌, [], true, IfOk, OnOk, OnErr, IsErr, IsOk, IsSome, Some, is_ok, is_err};
 ghost use Rattle.mail_base.specs.Histories.{HasCause};
 ghost use Rattle.mail_base.specs.Scripts.{is_listed, after_call, one_more};
-ghost use Rattle.spool_disk.specs.Causes.{HasEdgeCause, has_failed};
+ghost use Rattle.mail_base.specs.Causes.{HasEdgeCause, has_failed};
 ghost use Rattle.spool_disk.specs.Changes.{after_all, record_seen, past_with};
 ghost use Rattle.spool_disk.specs.Disk.{bytes_at, IsImage, IsDone};
 ghost use Rattle.spool_disk.specs.Listings.{IsListing};

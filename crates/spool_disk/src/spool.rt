@@ -1,6 +1,6 @@
 ghost use Rattle.std.specs.Prelude.{◌≡◌, ◌≢◌, ◌≤◌, ℕ, IfOk, IfSome, IsSome, IsOk, Some};
 ghost use Rattle.mail_base.specs.Histories.{HasCause};
-ghost use Rattle.spool_disk.specs.Causes.{HasEdgeCause};
+ghost use Rattle.mail_base.specs.Causes.{HasEdgeCause};
 ghost use Rattle.spool_disk.specs.Disk.{FileMap, bytes_at, IsImage, IsDone};
 ghost use Rattle.spool_disk.specs.Listings.{IsListing};
 ghost use Rattle.spool_disk.specs.Spooled.{Spooled, Calls, Reads};

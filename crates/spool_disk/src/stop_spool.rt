@@ -1,7 +1,7 @@
 ghost use Rattle.std.specs.Prelude.{◌≡◌, ◌≢◌, ◌≤◌, ◌+◌, ◌++◌, ◌∷◌, [], ◌⊎◌, ◌&&◌, ◌||◌, true, false, not, All, IfOk, OnOk, OnErr, IsErr, IsOk, IsSome, Some, is_ok, is_err, map, option_copied, if◌then◌else◌};
 ghost use Rattle.mail_base.specs.Histories.{HasCause, Rose};
 ghost use Rattle.mail_base.specs.Scripts.{is_listed};
-ghost use Rattle.spool_disk.specs.Causes.{HasEdgeCause, has_failed};
+ghost use Rattle.mail_base.specs.Causes.{HasEdgeCause, has_failed};
 ghost use Rattle.spool_disk.specs.Changes.{after, after_all, record_seen};
 ghost use Rattle.spool_disk.specs.Disk.{bytes_at, IsImage, IsDone};
 ghost use Rattle.spool_disk.specs.Lefts.{left_now, left_at_rest, left_earlier};

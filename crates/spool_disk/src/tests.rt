@@ -1,6 +1,6 @@
 ghost use Rattle.std.specs.Prelude.{◌≡◌, ◌≢◌, [], IfOk, IfSome, IsSome, IsOk, Some, None};
 ghost use Rattle.mail_base.specs.Histories.{HasCause};
-ghost use Rattle.spool_disk.specs.Causes.{HasEdgeCause};
+ghost use Rattle.mail_base.specs.Causes.{HasEdgeCause};
 ghost use Rattle.spool_disk.specs.Disk.{bytes_at, IsImage, IsDone};
 ghost use Rattle.spool_disk.specs.Listings.{IsListing};
 ghost use Rattle.spool_disk.specs.Samples.{draft_place, one_draft};
