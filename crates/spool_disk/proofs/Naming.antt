@@ -10,7 +10,7 @@ use Rattle.std.proofs.lemmas.List.Kept.{IsStrictlySortedBy-dedup, Contains-dedup
 use Rattle.std.proofs.lemmas.List.Sorted.{Contains-permutation, IsPermutation-sym}
 use Rattle.spool_disk.specs.declared.file.File.{File}
 use Rattle.spool_disk.specs.Disk.{FileMap, bytes_at}
-use Rattle.spool_disk.specs.Listings.{IsListing, names_of}
+use Rattle.spool_disk.specs.Listings.{IsListing, IsAscending, AreSameNames, names_of}
 
 nothing_there : {X : Type 0} (y : X) → Contains [] y → ⊥
 nothing_there y h = omega (arith, h.1)
@@ -38,12 +38,22 @@ named : (files : FileMap) (dir name : List ℕ) → IsSome (bytes_at files (dir,
 named [] dir name h = absurd (true≢false (sym h))
 named (file ∷ files) dir name h = named_step file (names_of files dir) name (bytes_at files (dir, name)) (bytes_eq dir file.dir) (bytes_eq name file.name) (bytes_decides name file.name).0 (named files dir name) h
 
--- names that were sorted and then each taken once
-pub listed : (files : FileMap) (dir : List ℕ) (names sorted last : List (List ℕ)) → names ≡ names_of files dir → IsPermutation names sorted → IsSorted (slice_cmp nat_cmp) sorted → last ≡ dedup (pointwise nat_eq) sorted → IsListing (Some files) dir last
-listed files dir names sorted last is moved up once = record {
-  ascending = rw once (IsStrictlySortedBy-dedup nat_list_cmp_total texts_ties sorted up);
+-- names that were sorted, and then each taken once
+pub sorted_once : (names sorted last : List (List ℕ)) → IsPermutation names sorted → IsSorted (slice_cmp nat_cmp) sorted → last ≡ dedup (pointwise nat_eq) sorted → IsAscending last × AreSameNames names last
+sorted_once names sorted last moved up once = (
+  rw once (IsStrictlySortedBy-dedup nat_list_cmp_total texts_ties sorted up),
+  λ name. (
+    λ h. subst (λ q. Contains q name) (sym once) (Contains-dedup nat_list_eq_equiv (λ x y e. (bytes_decides x y).0 e) sorted name (Contains-permutation names sorted name moved h)),
+    λ h. Contains-permutation sorted names name (IsPermutation-sym names sorted moved) (Contains-from_dedup (pointwise nat_eq) sorted name (subst (λ q. Contains q name) once h)),
+  ),
+)
+
+-- the names of a directory's files, sorted and each once
+pub listed : (files : FileMap) (dir : List ℕ) (names last : List (List ℕ)) → names ≡ names_of files dir → IsAscending last → AreSameNames names last → IsListing (Some files) dir last
+listed files dir names last is up same = record {
+  ascending = up;
   exactly = λ name. (
-    λ h. held files dir name (subst (λ q. Contains q name) is (Contains-permutation sorted names name (IsPermutation-sym names sorted moved) (Contains-from_dedup (pointwise nat_eq) sorted name (subst (λ q. Contains q name) once h)))),
-    λ h. subst (λ q. Contains q name) (sym once) (Contains-dedup nat_list_eq_equiv (λ x y e. (bytes_decides x y).0 e) sorted name (Contains-permutation names sorted name moved (subst (λ q. Contains q name) (sym is) (named files dir name h)))),
+    λ h. held files dir name (subst (λ q. Contains q name) is ((same name).1 h)),
+    λ h. (same name).0 (subst (λ q. Contains q name) (sym is) (named files dir name h)),
   );
 }

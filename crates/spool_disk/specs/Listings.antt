@@ -13,6 +13,10 @@ IsAscending names = IsStrictlySortedBy (slice_cmp nat_cmp) names
 abbrev pub AreNames : FileMap → List ℕ → List (List ℕ) → Type 0
 AreNames files dir names = (name : List ℕ) → Contains names name ↔ IsSome (bytes_at files (dir, name))
 
+-- the same names, in any order and number
+abbrev pub AreSameNames : List (List ℕ) → List (List ℕ) → Type 0
+AreSameNames names others = (name : List ℕ) → Contains names name ↔ Contains others name
+
 -- names that ascend, and are exactly those of the directory where the files are told
 pub record IsListing (told : Option FileMap) (dir : List ℕ) (names : List (List ℕ)) : Type 0 where
   pub ascending : IsAscending names

@@ -15,6 +15,7 @@ mod tests;
 pub use attempt::Attempt;
 pub use change::Change;
 pub use file::File;
+pub use listing::sorted_names;
 pub use mem_spool::MemSpool;
 pub use spool::Spool;
 pub use stop_spool::StopSpool;

@@ -1,5 +1,5 @@
 ghost use Rattle.std.specs.Prelude.{◌≡◌, IfOk, Some};
-ghost use Rattle.spool_disk.specs.Listings.{IsListing, names_of};
+ghost use Rattle.spool_disk.specs.Listings.{IsListing, IsAscending, AreSameNames, names_of};
 ghost use Rattle.std.specs.Option.{option_copied};
 ghost use Rattle.spool_disk.specs.Disk.{bytes_at};
 ghost use Rattle.spool_disk.specs.Changes.{without_file, with_file};
@@ -76,10 +76,20 @@ fn collected(alloc: Global, files: &[File], dir: &Text) -> Result<Vec<Text>, NoM
 }
 
 // The names of the files in that directory, sorted by their bytes, each once.
+
 pub(crate) fn names_in(alloc: Global, files: &[File], dir: &Text) -> Result<Seq<Text>, NoMemory>
     ensures { IfOk result (λ names. IsListing (Some files.now) dir.now names) }
 {
-    let mut names = collected(alloc, files, dir)?;
+    let names = collected(alloc, files, dir)?;
+    Ok(sorted_names(names)?)
+}
+
+/// Names as a spool lists them: sorted by their bytes, each once.
+pub fn sorted_names(names: Vec<Text>) -> Result<Seq<Text>, NoMemory>
+    ensures ascending { IfOk result IsAscending }
+    ensures same { IfOk result (AreSameNames names.items) }
+{
+    let mut names = names;
     names.sort_by(|one, other| one.bytes().cmp(other.bytes()))?;
     names.dedup();
     Ok(Seq::from_vec(names))
