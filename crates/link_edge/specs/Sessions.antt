@@ -62,16 +62,21 @@ opens session (HungUp other) = false
 abbrev pub NumbersOnce : List FloorEvent → Type 0
 NumbersOnce history = (session : ℕ) → count_by (opens session) history ≤ 1
 
--- an event that may stand behind a history: an opening has a number that wasn't used, and all else is of an open session
+-- an event that may stand behind a history: an opening has a number that wasn't used, an end or a hang-up is of an open session, and a piece or a send of one to which no send has failed
 abbrev pub Follows : List FloorEvent → FloorEvent → Type 0
 Follows history (Took (Opens session peer)) = count_by (opens session) history ≡ 0
-Follows history (Took (Brings session bytes)) = is_open session history ≡ true
+Follows history (Took (Brings session bytes)) = is_sound session history ≡ true
 Follows history (Took (Closes session)) = is_open session history ≡ true
 Follows history (Took Rests) = Unit {0}
 Follows history (Took Stops) = Unit {0}
 Follows history (Sent session bytes) = is_sound session history ≡ true
 Follows history (Unsent session) = is_sound session history ≡ true
 Follows history (HungUp session) = is_open session history ≡ true
+
+-- events that may stand behind a history, each behind those before it
+abbrev pub AllFollow : List FloorEvent → List FloorEvent → Type 0
+AllFollow history [] = Unit {0}
+AllFollow history (event ∷ events) = Follows history event × AllFollow (history ++ event ∷ []) events
 
 -- a send, and whether all of it was sent
 abbrev pub send_event : ℕ → List ℕ → Bool → FloorEvent

@@ -24,8 +24,8 @@ pub trait Floor {
 
     /// Waits a little for something to come. The buffer has at least 64 bytes; a peer's address, or the
     /// bytes that came, are put at its front, and what stands behind them is not spoken of. A turn that
-    /// failed tells nothing. Where content is told, no session number is opened twice, and pieces and ends
-    /// are of sessions that are open.
+    /// failed tells nothing. Where content is told, no session number is opened twice, ends are of
+    /// sessions that are open, and pieces of those to which no send has failed.
     fn turn(&mut self, buf: &mut [u8]) -> Result<Turn, Failed>
         requires { 64 ≤ length buf.old }
         ensures told { GainsTurn (seen self.old).told (seen self.new).told result buf.new }

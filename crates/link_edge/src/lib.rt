@@ -4,10 +4,12 @@
 
 mod event;
 mod floor;
+mod one_floor;
 mod place;
 mod turn;
 
 pub use event::{Event, FloorEvent};
 pub use floor::Floor;
+pub use one_floor::{OneFloor, Stage};
 pub use place::Place;
 pub use turn::Turn;
