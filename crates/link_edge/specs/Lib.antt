@@ -1,4 +1,5 @@
 pub mod Heard
 pub mod Sessions
 pub mod Single
+pub mod Tellings
 pub mod Turns

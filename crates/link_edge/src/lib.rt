@@ -6,6 +6,7 @@ mod event;
 mod floor;
 mod one_floor;
 mod place;
+mod telling;
 mod turn;
 
 pub use event::{Event, FloorEvent};
