@@ -4,6 +4,7 @@
 
 mod event;
 mod floor;
+mod law;
 mod one_floor;
 mod place;
 mod telling;
@@ -11,6 +12,7 @@ mod turn;
 
 pub use event::{Event, FloorEvent};
 pub use floor::Floor;
+pub use law::{numbers_are_used_once, sessions_follow_events};
 pub use one_floor::{OneFloor, Stage};
 pub use place::Place;
 pub use turn::Turn;
