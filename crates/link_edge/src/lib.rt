@@ -4,9 +4,11 @@
 
 mod event;
 mod floor;
+mod hearing;
 mod law;
 mod one_floor;
 mod place;
+mod step;
 mod telling;
 mod turn;
 
@@ -15,4 +17,5 @@ pub use floor::Floor;
 pub use law::{numbers_are_used_once, sessions_follow_events};
 pub use one_floor::{OneFloor, Stage};
 pub use place::Place;
+pub use step::Step;
 pub use turn::Turn;
