@@ -1,0 +1,5 @@
+pub mod Following
+pub mod Keeping
+pub mod Leaving
+pub mod Sessioning
+pub mod Sounding

@@ -1,0 +1,6 @@
+pub mod Heard
+pub mod Sessions
+pub mod Single
+pub mod Steps
+pub mod Tellings
+pub mod Turns

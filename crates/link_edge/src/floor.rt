@@ -1,0 +1,50 @@
+ghost use Rattle.std.specs.Prelude.{◌≡◌, ◌≤◌, ℕ, length, IfOk, IfSome, is_ok};
+ghost use Rattle.mail_base.specs.Histories.{Gains, HasCause};
+ghost use Rattle.link_edge.specs.Heard.{Heard, KeepsCounts};
+ghost use Rattle.link_edge.specs.Sessions.{Follows, sent_in, hung_up_in};
+ghost use Rattle.link_edge.specs.Turns.{Fits, GainsTurn, told_of};
+
+use crate::{Place, Turn};
+use mail_base::{Failed, Text};
+
+/// Sessions with those who connect, at a port, on standard input and output, or in memory. It may tell
+/// what happened, in order; whether it does never changes. It has a count of faults of its own, which
+/// `begin` and `turn` raise, and one for each session, which `send` raises; no count ever falls. A floor may
+/// keep one count for several sessions.
+pub trait Floor {
+    /// All that is seen of it.
+    ghost seen: { Self → Heard };
+
+    /// Begins at that place. After so many sessions were closed, each turn is `Stop`; 0 is no limit. It
+    /// isn't told.
+    fn begin(&mut self, place: &Place, most: u64) -> Result<(), Failed>
+        ensures told { (seen self.new).told ≡ (seen self.old).told }
+        ensures cause { HasCause (seen self.old).faults (seen self.new).faults result }
+        ensures counts { KeepsCounts (seen self.old) (seen self.new) };
+
+    /// Waits a little for something to come. The buffer has at least 64 bytes; a peer's address, or the
+    /// bytes that came, are put at its front, and what stands behind them is not spoken of. A turn that
+    /// failed tells nothing. Where content is told, no session number is opened twice, ends are of
+    /// sessions that are open, and pieces of those to which no send has failed.
+    fn turn(&mut self, buf: &mut [u8]) -> Result<Turn, Failed>
+        requires { 64 ≤ length buf.old }
+        ensures told { GainsTurn (seen self.old).told (seen self.new).told result buf.new }
+        ensures fits { IfOk result (λ turn. Fits turn buf.new) }
+        ensures follows { IfOk result (λ turn. IfSome (seen self.old).told (λ history. Follows history (told_of turn buf.new))) }
+        ensures cause { HasCause (seen self.old).faults (seen self.new).faults result }
+        ensures counts { KeepsCounts (seen self.old) (seen self.new) };
+
+    /// Sends all of the bytes to a session. After `Failed` a part of them was sent, at their front. It is
+    /// told, with its answer, where the session is open and no send to it has failed before.
+    fn send(&mut self, session: u64, bytes: &Text) -> Result<(), Failed>
+        ensures told { Gains (seen self.old).told (seen self.new).told (sent_in (seen self.old).told session bytes.now (is_ok result)) }
+        ensures cause { HasCause ((seen self.old).session_faults session) ((seen self.new).session_faults session) result }
+        ensures others { (other : ℕ) → (seen self.old).session_faults other ≤ (seen self.new).session_faults other }
+        ensures own { (seen self.new).faults ≡ (seen self.old).faults };
+
+    /// Ends a session. It can't fail, and takes no memory. It is told where the session is open.
+    fn hang_up(&mut self, session: u64)
+        ensures told { Gains (seen self.old).told (seen self.new).told (hung_up_in (seen self.old).told session) }
+        ensures own { (seen self.new).faults ≡ (seen self.old).faults }
+        ensures counts { KeepsCounts (seen self.old) (seen self.new) };
+}
