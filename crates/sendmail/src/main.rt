@@ -1,8 +1,19 @@
 //! `sendmail`: the real devices around the proved program.
 #![tactic(auto)]
 
+mod clock;
+mod directory;
 mod disk;
+mod floor;
+#[cfg(test)]
+mod floor_tests;
 mod notice;
+mod path;
+mod port;
+mod queue_dirs;
+#[cfg(test)]
+mod queue_tests;
+mod sending;
 mod stream;
 #[cfg(test)]
 mod tests;

@@ -1,0 +1,138 @@
+// The program's floor: standard input and output, or a port. It tells nothing but its counts.
+ghost use Rattle.std.specs.Prelude.{◌≡◌, ◌≤◌, IfOk, None, length};
+ghost use Rattle.link_edge.specs.Turns.{Fits};
+
+use crate::port::Port;
+use crate::stream::{InputStream, OutputStream};
+use link_edge::{Floor, OneFloor, Place, Turn};
+use mail_base::{Failed, Text};
+use std::io;
+use std::io::{ErrorKind, Read, Write};
+
+/// One session on a reader and a writer, or, once it began at a port, many there.
+#[derive(Drop)]
+pub struct SystemFloor<R, W> {
+    site: Site<R, W>,
+    faults: u64,
+    send_faults: u64,
+}
+
+/// Where the sessions are.
+#[derive(Drop)]
+struct Site<R, W> {
+    rt: HostRuntime,
+    standard: OneFloor<InputStream<R>, OutputStream<W>>,
+    port: Option<Port>,
+}
+
+impl<R: Read, W: Write> SystemFloor<R, W> {
+    pub fn new(rt: HostRuntime, reader: R, writer: W) -> SystemFloor<R, W> {
+        SystemFloor {
+            site: Site {
+                rt,
+                standard: OneFloor::new(InputStream::new(reader), OutputStream::new(writer)),
+                port: None,
+            },
+            faults: 0,
+            send_faults: 0,
+        }
+    }
+
+    /// How often `begin` and `turn` failed.
+    pub fn faults(&self) -> u64 {
+        self.faults
+    }
+
+    /// The port that is listened at, where it is one.
+    pub fn port(&self) -> io::Result<u16> {
+        match &self.site.port {
+            Some(port) => Ok(port.address()?.port()),
+            None => Err(io::Error::from(ErrorKind::NotConnected)),
+        }
+    }
+}
+
+impl<R: Read, W: Write> Site<R, W> {
+    fn begin(&mut self, place: &Place, most: u64) -> io::Result<()> {
+        match place {
+            Place::Standard => Ok(()),
+            Place::Port { address, port } => {
+                let address = str::from_utf8(address.bytes()).map_err(|_| io::Error::from(
+                    ErrorKind::InvalidInput,
+                ))?;
+                let address = if address.is_empty() { "::" } else { address };
+                let alloc = self.rt.alloc();
+                self.port = Some(Port::bind(&self.rt, alloc, address, *port, most)?);
+                Ok(())
+            }
+        }
+    }
+
+    fn turn(&mut self, buf: &mut [u8]) -> Result<Turn, Failed>
+        requires { 64 ≤ length buf.old }
+        ensures { IfOk result (λ turn. Fits turn buf.new) }
+    {
+        match &mut self.port {
+            None => self.standard.turn(buf),
+            Some(port) => match port.turn(self.rt.alloc(), buf) {
+                Ok(turn) => Ok(turn),
+                Err(_) => Err(Failed),
+            },
+        }
+    }
+
+    fn send(&mut self, session: u64, bytes: &Text) -> Result<(), Failed> {
+        match &mut self.port {
+            None => self.standard.send(session, bytes),
+            Some(port) => match port.send(&self.rt, session, bytes.bytes()) {
+                Ok(()) => Ok(()),
+                Err(_) => Err(Failed),
+            },
+        }
+    }
+
+    fn hang_up(&mut self, session: u64) {
+        match &mut self.port {
+            None => self.standard.hang_up(session),
+            Some(port) => port.hang_up(session),
+        }
+    }
+}
+
+impl<R: Read, W: Write> Floor for SystemFloor<R, W> {
+    ghost seen = { λ f. record { told = None; faults = f.faults; session_faults = λ _. f.send_faults } };
+
+    fn begin(&mut self, place: &Place, most: u64) -> Result<(), Failed> {
+        match self.site.begin(place, most) {
+            Ok(()) => Ok(()),
+            Err(_) => {
+                self.faults = self.faults.saturating_add(1);
+                Err(Failed)
+            }
+        }
+    }
+
+    fn turn(&mut self, buf: &mut [u8]) -> Result<Turn, Failed> {
+        match self.site.turn(buf) {
+            Ok(turn) => Ok(turn),
+            Err(Failed) => {
+                self.faults = self.faults.saturating_add(1);
+                Err(Failed)
+            }
+        }
+    }
+
+    fn send(&mut self, session: u64, bytes: &Text) -> Result<(), Failed> {
+        match self.site.send(session, bytes) {
+            Ok(()) => Ok(()),
+            Err(Failed) => {
+                self.send_faults = self.send_faults.saturating_add(1);
+                Err(Failed)
+            }
+        }
+    }
+
+    fn hang_up(&mut self, session: u64) {
+        self.site.hang_up(session);
+    }
+}
