@@ -1,7 +1,7 @@
 -- Why a value is refused, and at which place (Sendmail Installation and Operation Guide, "O: Set Option"; the places are our own).
 use Rattle.std.specs.Prelude.{◌≡◌, ℕ, ◌+◌, ◌<◌, List, [], ◌++◌, length, take}
 
--- a text of the grammar begins with these bytes, where a text is in it that means some number
+-- some text that means a number begins with these bytes
 abbrev pub Begins : (List ℕ → ℕ → Type 0) → List ℕ → Type 0
 Begins Means front = (rest : List ℕ) × (n : ℕ) × Means (front ++ rest) n
 

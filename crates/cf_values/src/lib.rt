@@ -5,6 +5,7 @@
 mod bad;
 mod digit;
 mod flag;
+mod law;
 mod numeral;
 #[cfg(test)]
 mod tests;
@@ -14,6 +15,7 @@ mod unit;
 
 pub use bad::Bad;
 pub use flag::flags;
+pub use law::one_meaning;
 pub use numeral::number;
 pub use timespan::time;
 pub use unit::TimeUnit;
