@@ -1,0 +1,6 @@
+pub mod DigitLemmas
+pub mod ParseLemmas
+pub mod StandLemmas
+pub mod RefusalLemmas
+pub mod NumberLemmas
+pub mod TimeLemmas

@@ -1,0 +1,5 @@
+pub mod Refusals
+pub mod Numbers
+pub mod Times
+pub mod Flags
+pub mod Stages

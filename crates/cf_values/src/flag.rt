@@ -1,0 +1,24 @@
+ghost use Rattle.std.specs.Prelude.{◌≡◌, IfOk};
+ghost use Rattle.cf_values.specs.Flags.{is_white, flags_of};
+
+use mail_base::{NoMemory, Text};
+
+/// The flags of a text: its bytes without the white space among them, which is a space, a tab, any byte below 32,
+/// and 127. It refuses no text (Sendmail Installation and Operation Guide, "M: Define Mailer").
+pub fn flags(text: &Text) -> Result<Text, NoMemory>
+    ensures { IfOk result (λ flags. flags ≡ flags_of text.now) }
+{
+    let bytes = text
+        .bytes()
+        .iter()
+        .copied()
+        .filter(|byte| !is_white(*byte))
+        .collect(text.allocator())?;
+    Ok(Text::from_vec(bytes))
+}
+
+fn is_white(byte: u8) -> bool
+    ensures { result ≡ is_white byte }
+{
+    byte <= b' ' || byte == 127
+}

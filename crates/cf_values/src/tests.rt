@@ -1,0 +1,186 @@
+use crate::{Bad, TimeUnit, flags, number, time};
+use mail_base::{NoMemory, Text};
+use std::alloc::Global;
+use std::test::Fail;
+
+/// A text and the unit of a number without a letter, and what the time is.
+type TimeRow = (&'static [u8], TimeUnit, Result<u64, Bad>);
+
+/// A text and the most that its number may be, and what the number is.
+type NumberRow = (&'static [u8], u64, Result<u64, Bad>);
+
+static TIMES: [TimeRow; 16] = [
+    (b"2w", TimeUnit::Second, Ok(1_209_600)),
+    (b"5d", TimeUnit::Second, Ok(432_000)),
+    (b"4h", TimeUnit::Second, Ok(14_400)),
+    (b"30m", TimeUnit::Second, Ok(1_800)),
+    (b"45s", TimeUnit::Day, Ok(45)),
+    (b"1h30m", TimeUnit::Day, Ok(5_400)),
+    (b"1s2m3h4d5w", TimeUnit::Day, Ok(3_380_521)),
+    (b"30m1h30m", TimeUnit::Day, Ok(7_200)),
+    (b"007d", TimeUnit::Second, Ok(604_800)),
+    (b"0", TimeUnit::Minute, Ok(0)),
+    (b"3", TimeUnit::Week, Ok(1_814_400)),
+    (b"5", TimeUnit::Day, Ok(432_000)),
+    (b"4", TimeUnit::Hour, Ok(14_400)),
+    (b"5d6", TimeUnit::Minute, Ok(432_360)),
+    (b"7", TimeUnit::Second, Ok(7)),
+    (b"1h30", TimeUnit::Hour, Ok(111_600)),
+];
+
+static BAD_TIMES: [TimeRow; 12] = [
+    (b"", TimeUnit::Day, Err(Bad { place: 0 })),
+    (b"d", TimeUnit::Day, Err(Bad { place: 0 })),
+    (b"x", TimeUnit::Day, Err(Bad { place: 0 })),
+    (b" 5d", TimeUnit::Day, Err(Bad { place: 0 })),
+    (b"-5d", TimeUnit::Day, Err(Bad { place: 0 })),
+    (b"5x", TimeUnit::Day, Err(Bad { place: 1 })),
+    (b"5D", TimeUnit::Day, Err(Bad { place: 1 })),
+    (b"1x2y", TimeUnit::Day, Err(Bad { place: 1 })),
+    (b"5dd", TimeUnit::Day, Err(Bad { place: 2 })),
+    (b"1h 30m", TimeUnit::Day, Err(Bad { place: 2 })),
+    (b"1h30m\n", TimeUnit::Day, Err(Bad { place: 5 })),
+    (
+        b"99999999999999999999999999999999x",
+        TimeUnit::Day,
+        Err(Bad { place: 32 }),
+    ),
+];
+
+static LONG_TIMES: [TimeRow; 10] = [
+    (b"1152921504606846976s", TimeUnit::Day, Ok(1 << 60)),
+    (
+        b"1152921504606846977s",
+        TimeUnit::Day,
+        Err(Bad { place: 20 }),
+    ),
+    (b"1152921504606846976", TimeUnit::Second, Ok(1 << 60)),
+    (
+        b"1152921504606846977",
+        TimeUnit::Second,
+        Err(Bad { place: 19 }),
+    ),
+    (
+        b"1906285556558w",
+        TimeUnit::Day,
+        Ok(1_152_921_504_606_278_400),
+    ),
+    (b"1906285556559w", TimeUnit::Day, Err(Bad { place: 14 })),
+    (
+        b"1152921504606846970s6",
+        TimeUnit::Second,
+        Ok(1_152_921_504_606_846_976),
+    ),
+    (
+        b"1152921504606846970s7",
+        TimeUnit::Second,
+        Err(Bad { place: 21 }),
+    ),
+    (
+        b"999999999999999999999999999999w1s",
+        TimeUnit::Day,
+        Err(Bad { place: 33 }),
+    ),
+    (
+        b"999999999999999999999999999999",
+        TimeUnit::Second,
+        Err(Bad { place: 30 }),
+    ),
+];
+
+static NUMBERS: [NumberRow; 15] = [
+    (b"0", 999_999_999, Ok(0)),
+    (b"25", 999_999_999, Ok(25)),
+    (b"999999999", 999_999_999, Ok(999_999_999)),
+    (b"1000000000", 999_999_999, Err(Bad { place: 10 })),
+    (b"000000000000000000000000000025", 999_999_999, Ok(25)),
+    (
+        b"999999999999999999999999999999",
+        999_999_999,
+        Err(Bad { place: 30 }),
+    ),
+    (b"18446744073709551615", u64::MAX, Ok(u64::MAX)),
+    (b"18446744073709551616", u64::MAX, Err(Bad { place: 20 })),
+    (b"1", 0, Err(Bad { place: 1 })),
+    (b"", 999_999_999, Err(Bad { place: 0 })),
+    (b"x1", 999_999_999, Err(Bad { place: 0 })),
+    (b"-1", 999_999_999, Err(Bad { place: 0 })),
+    (b"1 2", 999_999_999, Err(Bad { place: 1 })),
+    (b"12x", 999_999_999, Err(Bad { place: 2 })),
+    (b"1000000000x", 999_999_999, Err(Bad { place: 10 })),
+];
+
+fn time_of(alloc: Global, row: &TimeRow) -> Result<Result<u64, Bad>, NoMemory> {
+    Ok(time(&Text::of(alloc, row.0)?, row.1))
+}
+
+fn number_of(alloc: Global, row: &NumberRow) -> Result<Result<u64, Bad>, NoMemory> {
+    Ok(number(&Text::of(alloc, row.0)?, row.1))
+}
+
+fn flags_of(alloc: Global, bytes: &[u8]) -> Result<Text, NoMemory> {
+    flags(&Text::of(alloc, bytes)?)
+}
+
+#[test]
+fn times_add_up(rt: HostRuntime) -> Result<(), Fail> {
+    for row in &TIMES {
+        assert_eq!(rt; time_of(rt.alloc(), row)?, row.2);
+    }
+    Ok(())
+}
+
+#[test]
+fn a_time_is_refused_at_the_first_byte_out_of_form(rt: HostRuntime) -> Result<(), Fail> {
+    for row in &BAD_TIMES {
+        assert_eq!(rt; time_of(rt.alloc(), row)?, row.2);
+    }
+    Ok(())
+}
+
+#[test]
+fn a_time_of_more_than_2_to_the_60_seconds_is_refused_at_its_end(
+    rt: HostRuntime,
+) -> Result<(), Fail> {
+    for row in &LONG_TIMES {
+        assert_eq!(rt; time_of(rt.alloc(), row)?, row.2);
+    }
+    Ok(())
+}
+
+#[test]
+fn numbers_up_to_the_most_are_read(rt: HostRuntime) -> Result<(), Fail> {
+    for row in &NUMBERS {
+        assert_eq!(rt; number_of(rt.alloc(), row)?, row.2);
+    }
+    Ok(())
+}
+
+#[test]
+fn flags_lose_their_white_space(rt: HostRuntime) -> Result<(), Fail> {
+    let rows = [
+        (b"".as_slice(), b"".as_slice()),
+        (b" \t\r\n\x00\x1f\x7f", b""),
+        (b" l s\tDFMP m\n", b"lsDFMPm"),
+        (b"5\xff!a5", b"5\xff!a5"),
+    ];
+    for (text, kept) in rows {
+        assert_eq!(rt; flags_of(rt.alloc(), text)?.bytes(), kept);
+    }
+    Ok(())
+}
+
+#[test]
+fn units_have_their_letters(rt: HostRuntime) {
+    for (letter, unit) in [
+        (b'w', TimeUnit::Week),
+        (b'd', TimeUnit::Day),
+        (b'h', TimeUnit::Hour),
+        (b'm', TimeUnit::Minute),
+        (b's', TimeUnit::Second),
+    ] {
+        assert_eq!(rt; TimeUnit::of(letter), Some(unit));
+    }
+    assert_eq!(rt; TimeUnit::of(b'W'), None);
+    assert_eq!(rt; TimeUnit::Hour.seconds(), 3_600);
+}
