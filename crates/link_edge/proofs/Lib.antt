@@ -3,3 +3,4 @@ pub mod Keeping
 pub mod Leaving
 pub mod Sessioning
 pub mod Sounding
+pub mod Stepping
