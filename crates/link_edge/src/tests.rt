@@ -63,6 +63,19 @@ fn sent<F: Floor>(
     Ok(())
 }
 
+// One turn, through the trait alone.
+fn next<F: Floor>(floor: &mut F) -> Result<Turn, Failed> {
+    floor.turn(&mut [0u8; 64])
+}
+
+fn begin<F: Floor>(floor: &mut F) -> Result<(), Failed> {
+    floor.begin(&Place::Standard, 0)
+}
+
+fn hang_up<F: Floor>(floor: &mut F, session: u64) {
+    floor.hang_up(session);
+}
+
 fn calls(alloc: Global, failing: &[u64]) -> Result<Seq<u64>, AllocError> {
     Ok(Seq::from_vec(Vec::from_slice(alloc, failing)?))
 }
@@ -92,7 +105,7 @@ fn one_session(
 fn a_script_brings_its_steps_and_stops(rt: HostRuntime) -> Result<(), Fail> {
     let alloc = rt.alloc();
     let mut floor = two_sessions(alloc, &[], &[])?;
-    floor.begin(&Place::Standard, 0)?;
+    begin(&mut floor)?;
     assert_eq!(rt;
         taken(alloc, &mut floor, 8)?.bytes(),
         b"NOOPQUIT|".as_slice()
@@ -112,8 +125,8 @@ fn sends_and_hang_ups_are_told_while_a_session_is_open(rt: HostRuntime) -> Resul
     taken(alloc, &mut floor, 2)?;
     sent(alloc, &mut floor, 1, b"220")?;
     assert!(rt; matches!(sent(alloc, &mut floor, 2, b"220"), Err(EdgeFault::Failed)));
-    floor.hang_up(2);
-    floor.hang_up(2);
+    hang_up(&mut floor, 2);
+    hang_up(&mut floor, 2);
     taken(alloc, &mut floor, 2)?;
     assert_eq!(rt;
         told(alloc, &floor)?.bytes(),
@@ -126,7 +139,7 @@ fn sends_and_hang_ups_are_told_while_a_session_is_open(rt: HostRuntime) -> Resul
 fn turns_fail_as_listed_and_go_on(rt: HostRuntime) -> Result<(), Fail> {
     let alloc = rt.alloc();
     let mut floor = two_sessions(alloc, &[0, 2], &[])?;
-    assert_eq!(rt; floor.begin(&Place::Standard, 0), Err(Failed));
+    assert_eq!(rt; begin(&mut floor), Err(Failed));
     assert!(rt; matches!(taken(alloc, &mut floor, 2), Err(EdgeFault::Failed)));
     taken(alloc, &mut floor, 1)?;
     assert_eq!(rt;
@@ -156,7 +169,7 @@ fn long_bytes_come_in_pieces(rt: HostRuntime) -> Result<(), Fail> {
     let mut floor = long_script(alloc, 70)?;
     assert_eq!(rt; taken(alloc, &mut floor, 4)?.len(), 70);
     assert_eq!(rt; floor.seen().len(), 4);
-    assert_eq!(rt; floor.turn(&mut [0u8; 64]), Ok(Turn::Stop));
+    assert_eq!(rt; next(&mut floor), Ok(Turn::Stop));
     Ok(())
 }
 
@@ -180,13 +193,13 @@ fn one_session_ends_where_its_source_fails_or_it_is_hung_up(rt: HostRuntime) -> 
     let alloc = rt.alloc();
     let mut broken = one_session(alloc, &[0], &[])?;
     assert_eq!(rt; taken(alloc, &mut broken, 4)?.bytes(), b"|".as_slice());
-    assert_eq!(rt; broken.turn(&mut [0u8; 64]), Ok(Turn::Stop));
+    assert_eq!(rt; next(&mut broken), Ok(Turn::Stop));
     let mut hung = one_session(alloc, &[], &[])?;
-    hung.begin(&Place::Standard, 1)?;
-    hung.hang_up(2);
-    assert_eq!(rt; hung.turn(&mut [0u8; 64]), Ok(Turn::Opened(1, 0)));
-    hung.hang_up(1);
-    assert_eq!(rt; hung.turn(&mut [0u8; 64]), Ok(Turn::Stop));
+    begin(&mut hung)?;
+    hang_up(&mut hung, 2);
+    assert_eq!(rt; next(&mut hung), Ok(Turn::Opened(1, 0)));
+    hang_up(&mut hung, 1);
+    assert_eq!(rt; next(&mut hung), Ok(Turn::Stop));
     Ok(())
 }
 
