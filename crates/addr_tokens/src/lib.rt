@@ -1,0 +1,15 @@
+//! The tokens of an address: [`tokens`] cuts a text into its tokens, and [`join`] joins tokens to a text.
+//! `specs/Pieces.antt` says what a cutting is, and `specs/Scans.antt` which fault is the first.
+#![tactic(auto)]
+
+mod ending;
+mod fault;
+mod front;
+mod gathering;
+mod joining;
+mod scan;
+mod table;
+
+pub use fault::ScanFault;
+pub use joining::join;
+pub use scan::tokens;
