@@ -1,6 +1,6 @@
 -- The pieces that a text is cut into (Sendmail Installation and Operation Guide, "R and S: Rewriting Rules" and its option OperatorChars; for quoted strings and comments RFC 5322 sections 3.2.1, 3.2.2 and 3.2.4).
-use Rattle.std.specs.Prelude.{◌≡◌, ◌≢◌, ℕ, Bool, true, false, not, ◌&&◌, ◌||◌, ◌==◌, nat_le, nat_lt, List, [], ◌∷◌, ◌++◌, codes, AllByRecursion}
-use Rattle.std.specs.List.{list_any, flat_map}
+use Rattle.std.specs.Prelude.{◌≡◌, ◌≢◌, ℕ, Bool, true, false, not, ◌&&◌, ◌||◌, ◌==◌, nat_le, nat_lt, List, [], ◌∷◌, ◌++◌, codes}
+use Rattle.std.specs.List.{list_any, flat_map, AllByRecursion}
 use Rattle.mail_base.specs.declared.token.Token.{Token}
 use Rattle.mail_base.specs.declared.token.Token.TheVariants.{Word, Quoted, Op}
 
@@ -41,22 +41,22 @@ is_comment_byte b = not (b == 92) && not (b == 40) && not (b == 41)
 
 -- bytes of a word: a backslash stands with the byte that it quotes, whatever that is
 pub data InWord (operators : List ℕ) : List ℕ → Type 0 where
-  nothing : InWord operators []
-  byte : (b : ℕ) (more : List ℕ) → is_word_byte operators b ≡ true → InWord operators more → InWord operators (b ∷ more)
-  pair : (b : ℕ) (more : List ℕ) → InWord operators more → InWord operators (92 ∷ b ∷ more)
+  word_nothing : InWord operators []
+  word_plain : (b : ℕ) (more : List ℕ) → is_word_byte operators b ≡ true → InWord operators more → InWord operators (b ∷ more)
+  word_escaped : (b : ℕ) (more : List ℕ) → InWord operators more → InWord operators (92 ∷ b ∷ more)
 
 -- what may stand between two double quotes: no byte below 32 and no 127, not behind a backslash either
 pub data InQuotes : List ℕ → Type 0 where
-  nothing : InQuotes []
-  byte : (b : ℕ) (more : List ℕ) → is_quotable b ≡ true → InQuotes more → InQuotes (b ∷ more)
-  pair : (b : ℕ) (more : List ℕ) → is_control b ≡ false → InQuotes more → InQuotes (92 ∷ b ∷ more)
+  quote_nothing : InQuotes []
+  quote_plain : (b : ℕ) (more : List ℕ) → is_quotable b ≡ true → InQuotes more → InQuotes (b ∷ more)
+  quote_escaped : (b : ℕ) (more : List ℕ) → is_control b ≡ false → InQuotes more → InQuotes (92 ∷ b ∷ more)
 
 -- what may stand between two parentheses; comments nest
 pub data InComment : List ℕ → Type 0 where
-  nothing : InComment []
-  byte : (b : ℕ) (more : List ℕ) → is_comment_byte b ≡ true → InComment more → InComment (b ∷ more)
-  pair : (b : ℕ) (more : List ℕ) → InComment more → InComment (92 ∷ b ∷ more)
-  comment : (inside more : List ℕ) → InComment inside → InComment more → InComment (40 ∷ (inside ++ 41 ∷ more))
+  comment_nothing : InComment []
+  comment_plain : (b : ℕ) (more : List ℕ) → is_comment_byte b ≡ true → InComment more → InComment (b ∷ more)
+  comment_escaped : (b : ℕ) (more : List ℕ) → InComment more → InComment (92 ∷ b ∷ more)
+  comment_nested : (inside more : List ℕ) → InComment inside → InComment more → InComment (40 ∷ (inside ++ 41 ∷ more))
 
 pub data Piece : Type 0 where
   White : (byte : ℕ) → Piece

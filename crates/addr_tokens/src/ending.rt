@@ -1,4 +1,4 @@
-ghost use Rattle.std.specs.Prelude.{◌≡◌, ◌≤◌, ℕ, List, false, length, drop};
+ghost use Rattle.std.specs.Prelude.{◌≡◌, ◌<◌, ◌≤◌, ℕ, List, [], false, true, length, drop};
 ghost use Rattle.addr_tokens.specs.Reader.{IsTable, past_word, past_quote, past_comment};
 ghost use Rattle.addr_tokens.specs.Views.{ending_in, IsWithin};
 
@@ -78,7 +78,11 @@ pub(crate) fn comment_end(text: &[u8]) -> Ending
 }
 
 /// At the end of the text, which a backslash may stand before.
-fn end(quoted: bool, text: &[u8]) -> Ending {
+fn end(quoted: bool, text: &[u8]) -> Ending
+    requires { quoted ≡ true → 0 < length text.now }
+    ensures within { IsWithin text.now result }
+    ensures ends { ending_in text.now result ≡ past_quote quoted [] }
+{
     if quoted {
         Ending::Bad(text.len().saturating_sub(1))
     } else {

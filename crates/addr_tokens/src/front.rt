@@ -1,4 +1,4 @@
-ghost use Rattle.std.specs.Prelude.{◌≡◌, ◌+◌, ◌^◌, ◌<◌, ◌≤◌, ℕ, List, length, drop, slice_index, Ok, Err, IfOk, IfErr};
+ghost use Rattle.std.specs.Prelude.{◌≡◌, ◌+◌, ◌^◌, ◌<◌, ◌≤◌, ℕ, List, false, length, drop, slice_index, Ok, Err, IfOk, IfErr};
 ghost use Rattle.addr_tokens.specs.Reader as reader;
 ghost use Rattle.addr_tokens.specs.Reader.{IsTable};
 ghost use Rattle.addr_tokens.specs.Views.{piece_of, size_of};

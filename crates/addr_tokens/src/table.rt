@@ -1,9 +1,10 @@
-ghost use Rattle.std.specs.Prelude.{◌≡◌, ℕ, List};
+ghost use Rattle.std.specs.Prelude.{◌≡◌, ◌<◌, ◌==◌, ◌||◌, ℕ, List, false, slice_index_or};
+ghost use Rattle.std.specs.List.{list_any};
 ghost use Rattle.addr_tokens.specs.Pieces as spec;
 ghost use Rattle.addr_tokens.specs.Reader.{IsTable};
 
 /// These are operators always, beside the parentheses, which make comments.
-const FIXED_OPERATORS: [u8; 4] = *b"<>,;";
+const FIXED_OPERATORS: &[u8] = b"<>,;";
 
 /// Which bytes are operators.
 #[derive(Drop)]
@@ -16,12 +17,8 @@ impl Table {
         ensures { IsTable operators.now result.listed }
     {
         let mut listed = [false; 256];
-        for byte in operators {
-            listed[usize::from(*byte)] = true;
-        }
-        for byte in FIXED_OPERATORS {
-            listed[usize::from(byte)] = true;
-        }
+        list(&mut listed, operators);
+        list(&mut listed, FIXED_OPERATORS);
         Table { listed }
     }
 
@@ -38,6 +35,15 @@ impl Table {
             → result ≡ spec.is_word_byte operators byte }
     {
         !is_white(byte) && !is_special(byte) && !self.is_listed(byte)
+    }
+}
+
+fn list(listed: &mut [bool; 256], bytes: &[u8])
+    ensures { (b : ℕ) → b < 256 → slice_index_or listed.new b false
+        ≡ (slice_index_or listed.old b false || list_any (λ o. o == b) bytes.now) }
+{
+    'bytes: for byte in bytes {
+        listed[usize::from(*byte)] = true;
     }
 }
 

@@ -1,0 +1,13 @@
+mod TableLemmas
+mod WordLemmas
+mod QuoteLemmas
+mod CommentLemmas
+mod StepLemmas
+mod FrontLemmas
+mod FirstLemmas
+mod ReadingLemmas
+mod JudgeLemmas
+mod OutcomeLemmas
+mod ScanLemmas
+mod JoinLemmas
+mod GatherLemmas
