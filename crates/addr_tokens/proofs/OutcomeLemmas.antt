@@ -1,5 +1,5 @@
 -- The answer for a text is its tokens, or its first fault, and the only one.
-use Rattle.std.proofs.Common.{◌≡◌, ◌≢◌, ℕ, zero, suc, ◌+◌, ◌<◌, ◌≤◌, ◌==◌, ◌⊎◌, inl, inr, ⊎_elim, unwrap_or, Bool, true, false, not, cond, List, [], ◌∷◌, ◌++◌, length, Option, Some, None, Result, Ok, Err, refl, sym, ◌∙◌, ap, subst, arith}
+use Rattle.std.proofs.Common.{◌≡◌, ◌≢◌, ℕ, zero, suc, ◌+◌, ◌<◌, ◌≤◌, ◌==◌, ◌⊎◌, inl, inr, ⊎_elim, unwrap_or, nat_le, Bool, true, false, not, cond, List, [], ◌∷◌, ◌++◌, length, Option, Some, None, Result, Ok, Err, refl, sym, ◌∙◌, ap, subst, arith}
 use Rattle.std.specs.List.{flat_map, AllByRecursion, list_any}
 use Rattle.std.specs.Option.{is_some}
 use Rattle.std.proofs.lemmas.Bool.{cond-true, cond-false, or_right, le-leb, lt-leb, leb-true, leb-false, false≢true}
@@ -23,9 +23,9 @@ long_limited : (tokens : List Token) → most_tokens < length tokens → limited
 long_limited tokens lt = cond-false _ _ _ (lt-leb _ _ lt)
 
 -- the pieces of a front
-each_front : {P : Piece → Type 0} (front after : List Piece) → AllByRecursion P (front ++ after) → AllByRecursion P front
-each_front [] after each = tt
-each_front (piece ∷ front) after each = (each.0, each_front front after each.1)
+each_front : (P : Piece → Type 0) (front after : List Piece) → AllByRecursion P (front ++ after) → AllByRecursion P front
+each_front P [] after each = tt
+each_front P (piece ∷ front) after each = (each.0, each_front P front after each.1)
 
 apart_front : (front after : List Piece) → are_apart (front ++ after) ≡ true → are_apart front ≡ true
 apart_front [] after apart = refl
@@ -168,7 +168,7 @@ module _ (operators : List ℕ) where
   cut_front : (text : List ℕ) (pieces front after : List Piece) → pieces ≡ front ++ after → Cuts operators text pieces → Cuts operators (flat_map bytes_of front) front
   cut_front text pieces front after whole cut = record {
     whole = refl;
-    each = each_front front after (subst (AllByRecursion (IsPiece operators)) whole cut.each);
+    each = each_front (IsPiece operators) front after (subst (AllByRecursion (IsPiece operators)) whole cut.each);
     apart = apart_front front after (ap are_apart (sym whole) ∙ cut.apart);
   }
 

@@ -142,7 +142,7 @@ module _ (operators : List ℕ) where
       (ne_eqb b 92 (λ e. false≢true (ap is_white (sym e) ∙ w)))
       (and_left _ _ (and_left _ _ (not_from_true _ w)))
 
-  operator_none : (b : ℕ) (bs : List ℕ) → is_operator operators b ≡ true → NoWord operators (b ∷ bs)
+  pub operator_none : (b : ℕ) (bs : List ℕ) → is_operator operators b ≡ true → NoWord operators (b ∷ bs)
   operator_none b bs o =
       let p = listed_parts operators b (is_listed operators b) o in
       byte_none b bs (special_parts b p.1).1 (and_right _ _ (not_from_true _ p.2))
@@ -181,7 +181,7 @@ module _ (operators : List ℕ) where
   apart_rest (Run bytes) (Run more ∷ ps) h = absurd (false≢true h)
 
   -- the same, for a text that the code takes apart
-  reading_first : (place : ℕ) (text : List ℕ) (piece : Piece) (rest : List ℕ) → first_on operators place text ≡ Ok (piece, rest) → reading_of operators place text ≡ with_piece piece (reading_of operators (place + length (bytes_of piece)) rest)
+  pub reading_first : (place : ℕ) (text : List ℕ) (piece : Piece) (rest : List ℕ) → first_on operators place text ≡ Ok (piece, rest) → reading_of operators place text ≡ with_piece piece (reading_of operators (place + length (bytes_of piece)) rest)
   reading_first place [] piece rest is = absurd (cc is)
   reading_first place (b ∷ bs) piece rest is = reading_more place b bs piece rest is
 

@@ -20,17 +20,28 @@ pub fn tokens(
     ensures tokens { IfOk result (λ tokens. AreTokens operators.now angles text.now tokens) }
     ensures fault { IfErr result (λ fault. ExplainsFault operators.now angles text.now fault) }
 {
-    let table = Table::of(operators.bytes());
+    scan(alloc, text.bytes(), operators.bytes(), angles)
+}
+
+fn scan(
+    alloc: Global,
+    text: &[u8],
+    operators: &[u8],
+    angles: bool,
+) -> Result<Seq<Token>, ScanFault>
+    ensures tokens { IfOk result (λ tokens. AreTokens operators.now angles text.now tokens) }
+    ensures fault { IfErr result (λ fault. ExplainsFault operators.now angles text.now fault) }
+{
+    let table = Table::of(operators);
     let mut open = Angles::new(alloc, angles);
     let mut gathering = Gathering::new(alloc);
-    let mut rest = text.bytes();
-    let mut place = 0;
-    'pieces: while !rest.is_empty() {
-        let front = first_of(&table, rest, place)?;
-        open.note(front, place)?;
+    let mut place = 0usize;
+    'pieces: while place < text.len() {
+        let rest = &text[place..];
+        let front = first_of(&table, rest, place as u64)?;
+        open.note(front, place as u64)?;
         gathering.add(front, rest)?;
-        place += front.size() as u64;
-        rest = &rest[front.size()..];
+        place += front.size();
     }
     open.end()?;
     gathering.tokens()
