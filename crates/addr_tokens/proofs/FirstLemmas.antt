@@ -1,13 +1,13 @@
 -- The first piece of a text.
-use Rattle.std.proofs.Common.{◌≡◌, ◌≢◌, ℕ, suc, ◌+◌, ◌-◌, ◌<◌, ◌≤◌, ◌==◌, ◌⊎◌, inl, inr, ⊎_elim, Bool, true, false, not, ◌&&◌, ◌||◌, cond, List, [], ◌∷◌, ◌++◌, length, take, Ok, Err, refl, sym, ◌∙◌, ap, subst, arith}
+use Rattle.std.proofs.Common.{◌≡◌, ◌≢◌, ℕ, ◌+◌, ◌-◌, ◌<◌, ◌≤◌, ◌==◌, Bool, true, false, not, ◌&&◌, cond, List, [], ◌∷◌, ◌++◌, length, Ok, Err, refl, sym, ◌∙◌, ap, subst, arith}
 use Rattle.std.proofs.lemmas.Bool.{cond-true, cond-false, and_parts, and_from, or_from, not-true, not_from_false, eqb-true, eq-eqb, ne_eqb}
 use Rattle.std.proofs.lemmas.List.{append_assoc, append-nil, length-append}
 use Rattle.addr_tokens.specs.declared.fault.ScanFault.{ScanFault}
 use Rattle.addr_tokens.specs.declared.fault.ScanFault.TheVariants.{Unbalanced, BadQuote, Long}
-use Rattle.addr_tokens.specs.Pieces.{InWord, word_nothing, word_plain, word_escaped, IsComment, IsQuotation, IsRun, IsPiece, Piece, White, Comment, Quotation, Operator, Run, bytes_of, is_white, is_special, is_listed, is_operator, is_word_byte}
+use Rattle.addr_tokens.specs.Pieces.{InWord, word_nothing, word_plain, word_escaped, IsPiece, Piece, White, Comment, Quotation, Operator, Run, bytes_of, is_white, is_special, is_listed, is_word_byte}
 use Rattle.addr_tokens.specs.Scans.{Stops, closing, opening, opening_ended, backslash, quote, quote_ended, quoted_control, escaped_control}
 use Rattle.addr_tokens.specs.Reader.{Ending, Closed, Unclosed, Bad, First, first_of, first_word, first_quote, first_comment, front_of, past_word, past_quote, past_comment}
-use Rattle.addr_tokens.proofs.WordLemmas.{ReadsWord, NoWord, word_read, word_stops, past_word-append, front_is, special_parts, behind}
+use Rattle.addr_tokens.proofs.WordLemmas.{NoWord, word_read, word_stops, past_word-append, front_is, special_parts}
 use Rattle.addr_tokens.proofs.QuoteLemmas.{QuoteEnds, SpoilsQuote, spoilt_end, spoilt_byte, spoilt_pair, quote_read, past_quote-append}
 use Rattle.addr_tokens.proofs.CommentLemmas.{CommentEnds, comment_read, past_comment-append, past_comment-open, past_comment-ended}
 
@@ -201,4 +201,3 @@ module _ (operators : List ℕ) where
   piece_some (Operator b) is = omega arith
   piece_some (Run []) is = absurd (is.some refl)
   piece_some (Run (b ∷ bs)) is = omega arith
-

@@ -1,5 +1,5 @@
 -- A quoted string or a comment that is closed, as the piece at the front of a text.
-use Rattle.std.proofs.Common.{◌≡◌, ℕ, ◌+◌, ◌-◌, ◌≤◌, ◌<◌, List, length, take, drop, Ok, refl, sym, ◌∙◌, ap, arith}
+use Rattle.std.proofs.Common.{◌≡◌, ℕ, ◌+◌, ◌≤◌, ◌<◌, List, length, take, drop, Ok, sym, ◌∙◌, ap, arith}
 use Rattle.std.proofs.lemmas.List.{drop-drop, length-drop}
 use Rattle.addr_tokens.specs.Pieces.{Comment, Quotation}
 use Rattle.addr_tokens.specs.Reader.{Ending, Closed, first_comment, first_quote, front_of}

@@ -1,10 +1,9 @@
 -- Tokens that are gathered up to their limit.
-use Rattle.std.proofs.Common.{◌≡◌, ℕ, ◌+◌, ◌<◌, ◌≤◌, Bool, true, false, List, [], ◌∷◌, ◌++◌, length, Result, Ok, Err, OnOk, OnErr, refl, sym, ◌∙◌, ap, arith}
-use Rattle.std.proofs.lemmas.Bool.{cond-true, cond-false, lt-leb, le-leb}
-use Rattle.std.proofs.lemmas.List.{append-nil, append_assoc, length-append}
+use Rattle.std.proofs.Common.{◌≡◌, ◌<◌, ◌≤◌, Bool, true, false, List, [], ◌++◌, length, Result, Ok, Err, OnOk, OnErr, refl, sym, ap, arith}
+use Rattle.std.proofs.lemmas.Bool.{cond-false, lt-leb}
+use Rattle.std.proofs.lemmas.List.{append_assoc, length-append}
 use Rattle.mail_base.specs.declared.token.Token.{Token}
 use Rattle.addr_tokens.specs.declared.fault.ScanFault.{ScanFault}
-use Rattle.addr_tokens.specs.declared.fault.ScanFault.TheVariants.{Long}
 use Rattle.addr_tokens.specs.Scans.{most_tokens}
 use Rattle.addr_tokens.specs.Reader.{gathered, limited, with_tokens}
 

@@ -1,8 +1,8 @@
 -- Joining by neighbours, and from the left.
-use Rattle.std.proofs.Common.{◌≡◌, ℕ, Bool, true, false, List, [], ◌∷◌, ◌++◌, Option, refl, sym, ◌∙◌, ap}
+use Rattle.std.proofs.Common.{◌≡◌, ℕ, false, List, [], ◌∷◌, ◌++◌, Option, refl, ap}
 use Rattle.std.proofs.lemmas.List.{append-nil}
 use Rattle.mail_base.specs.declared.token.Token.{Token}
-use Rattle.addr_tokens.specs.Joins.{joined, between, token_bytes, is_string, blank_bytes}
+use Rattle.addr_tokens.specs.Joins.{joined, between, token_bytes, is_string}
 use Rattle.addr_tokens.specs.Reader.{joined_on}
 
 joined_next : (blank : Option ℕ) (token : Token) (tokens : List Token) → token_bytes token ++ joined_on (is_string token) blank tokens ≡ joined blank (token ∷ tokens)

@@ -1,16 +1,16 @@
 -- The angles of pieces, and the answer.
-use Rattle.std.proofs.Common.{◌≡◌, ◌≢◌, ℕ, zero, suc, ◌+◌, ◌<◌, ◌≤◌, ◌==◌, ◌⊎◌, inl, inr, ⊎_elim, unwrap_or, Bool, true, false, cond, List, [], ◌∷◌, ◌++◌, length, Option, Some, None, Result, Ok, Err, refl, sym, ◌∙◌, ap, subst, arith}
+use Rattle.std.proofs.Common.{◌≡◌, ℕ, suc, ◌+◌, ◌==◌, ◌⊎◌, inl, inr, ⊎_elim, unwrap_or, Bool, true, false, cond, List, [], ◌∷◌, ◌++◌, length, Option, Some, None, Result, Ok, Err, refl, sym, ◌∙◌, ap, subst, arith}
 use Rattle.std.specs.List.{flat_map}
 use Rattle.std.specs.Option.{is_some}
-use Rattle.std.proofs.lemmas.Bool.{cond-true, cond-false, eqb-true, false≢true}
-use Rattle.std.proofs.lemmas.List.{append_assoc, append-nil, length-append, nil_from_length}
+use Rattle.std.proofs.lemmas.Bool.{cond-false, eqb-true}
+use Rattle.std.proofs.lemmas.List.{append_assoc, length-append}
 use Rattle.mail_base.specs.declared.token.Token.{Token}
 use Rattle.mail_base.specs.declared.token.Token.TheVariants.{Word, Quoted, Op, Sign}
 use Rattle.addr_tokens.specs.declared.fault.ScanFault.{ScanFault}
-use Rattle.addr_tokens.specs.declared.fault.ScanFault.TheVariants.{Unbalanced, BadQuote, Long}
+use Rattle.addr_tokens.specs.declared.fault.ScanFault.TheVariants.{Unbalanced}
 use Rattle.addr_tokens.specs.Pieces.{Piece, White, Comment, Quotation, Operator, Run, bytes_of, token_of, tokens_of}
 use Rattle.addr_tokens.specs.Scans.{opened, less}
-use Rattle.addr_tokens.specs.Reader.{note_angle, close_angle, with_tokens, judge_on, judge_end, judged}
+use Rattle.addr_tokens.specs.Reader.{note_angle, with_tokens, judge_on, judge_end, judged}
 
 abbrev pub Answer : Type 0
 Answer = Result (List Token) ScanFault

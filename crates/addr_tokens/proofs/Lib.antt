@@ -11,3 +11,4 @@ mod OutcomeLemmas
 mod ScanLemmas
 mod JoinLemmas
 mod GatherLemmas
+mod AgainLemmas

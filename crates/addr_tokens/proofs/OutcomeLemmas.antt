@@ -1,19 +1,19 @@
 -- The answer for a text is its tokens, or its first fault, and the only one.
-use Rattle.std.proofs.Common.{◌≡◌, ◌≢◌, ℕ, zero, suc, ◌+◌, ◌<◌, ◌≤◌, ◌==◌, ◌⊎◌, inl, inr, ⊎_elim, unwrap_or, nat_le, Bool, true, false, not, cond, List, [], ◌∷◌, ◌++◌, length, Option, Some, None, Result, Ok, Err, refl, sym, ◌∙◌, ap, subst, arith}
+use Rattle.std.proofs.Common.{◌≡◌, ℕ, ◌+◌, ◌<◌, ◌≤◌, ◌==◌, ◌⊎◌, inl, inr, ⊎_elim, unwrap_or, nat_le, Bool, true, false, cond, List, [], ◌∷◌, ◌++◌, length, Option, Some, None, Ok, Err, refl, sym, ◌∙◌, ap, subst, arith}
 use Rattle.std.specs.List.{flat_map, AllByRecursion, list_any}
 use Rattle.std.specs.Option.{is_some}
 use Rattle.std.proofs.lemmas.Bool.{cond-true, cond-false, or_right, le-leb, lt-leb, leb-true, leb-false, false≢true}
 use Rattle.std.proofs.lemmas.List.{append_assoc, append-nil, length-append, nil_from_length}
 use Rattle.mail_base.specs.declared.token.Token.{Token}
-use Rattle.mail_base.specs.declared.token.Token.TheVariants.{Word, Quoted, Op, Sign}
+use Rattle.mail_base.specs.declared.token.Token.TheVariants.{Op}
 use Rattle.addr_tokens.specs.declared.fault.ScanFault.{ScanFault}
 use Rattle.addr_tokens.specs.declared.fault.ScanFault.TheVariants.{Unbalanced, BadQuote, Long, NoMemory}
-use Rattle.addr_tokens.specs.Pieces.{IsPiece, Piece, White, Comment, Quotation, Operator, Run, bytes_of, token_of, tokens_of, are_apart, Cuts, is_operator, is_listed}
-use Rattle.addr_tokens.specs.Scans.{opened, less, most_tokens, Stops, MayGoOn, AreBalanced, AreTokens, HasFault, stops, right_angle, left_angle, long, ExplainsFault}
-use Rattle.addr_tokens.specs.Reader.{Reading, reading_of, with_tokens, judge_on, judge_end, judged, gathered, limited, outcome_of}
+use Rattle.addr_tokens.specs.Pieces.{IsPiece, Piece, White, Comment, Quotation, Operator, Run, bytes_of, tokens_of, are_apart, Cuts, is_operator}
+use Rattle.addr_tokens.specs.Scans.{opened, most_tokens, Stops, MayGoOn, AreBalanced, AreTokens, HasFault, stops, right_angle, left_angle, long, ExplainsFault}
+use Rattle.addr_tokens.specs.Reader.{Reading, reading_of, with_tokens, judge_end, judged, gathered, limited, outcome_of}
 use Rattle.addr_tokens.proofs.WordLemmas.{NoWord}
-use Rattle.addr_tokens.proofs.FirstLemmas.{first_is, first_on, stop_none}
-use Rattle.addr_tokens.proofs.ReadingLemmas.{IsEnd, Reads, reads, before, reading_first, reading_of-pieces, reading_at_stop, operator_none, apart_rest}
+use Rattle.addr_tokens.proofs.FirstLemmas.{first_is, stop_none}
+use Rattle.addr_tokens.proofs.ReadingLemmas.{IsEnd, reads, before, reading_first, reading_of-pieces, reading_at_stop, operator_none}
 use Rattle.addr_tokens.proofs.JudgeLemmas.{Answer, unchecked, opened-append, tokens_of-append, Lone, Opens, Stays, Passes, verdict, closes_more}
 
 short_limited : (tokens : List Token) → length tokens ≤ most_tokens → limited tokens ≡ Ok tokens
@@ -59,6 +59,15 @@ lone_closed pieces l =
 
 count_of : (m n : ℕ) → Some m ≡ Some n → m ≡ n
 count_of m n e = ap (λ o. unwrap_or o 0) e
+
+same_tokens : (answer : Answer) (one other : List Token) → answer ≡ Ok one → answer ≡ Ok other → one ≡ other
+same_tokens answer one other a b = cc
+
+same_fault : (answer : Answer) (one other : ScanFault) → answer ≡ Err one → answer ≡ Err other → one ≡ other
+same_fault answer one other a b = cc
+
+never_both : (answer : Answer) (tokens : List Token) (fault : ScanFault) → answer ≡ Ok tokens → answer ≡ Err fault → ⊥
+never_both answer tokens fault a b = cc
 
 module _ (operators : List ℕ) where
   -- ---- each statement says what is answered
@@ -177,8 +186,8 @@ module _ (operators : List ℕ) where
       let n : length (flat_map bytes_of l.front) ≡ 0 + length (flat_map bytes_of l.front) = omega arith in
       let after = flat_map bytes_of l.after ++ rest in
       let e : text ≡ flat_map bytes_of l.front ++ 62 ∷ after =
-          whole ∙ ap (λ x. x ++ rest) (sym cut.whole ∙ ap (flat_map bytes_of) l.whole ∙ flat_map-both l.front (Operator 62 ∷ l.after))
-          ∙ append_assoc (flat_map bytes_of l.front) (62 ∷ flat_map bytes_of l.after) rest in
+      whole ∙ ap (λ x. x ++ rest) (sym cut.whole ∙ ap (flat_map bytes_of) l.whole ∙ flat_map-both l.front (Operator 62 ∷ l.after))
+      ∙ append_assoc (flat_map bytes_of l.front) (62 ∷ flat_map bytes_of l.after) rest in
       subst (λ k. HasFault operators true text (Unbalanced k)) n
       (subst (λ x. HasFault operators true x (Unbalanced (length (flat_map bytes_of l.front)))) (sym e)
       (right_angle (flat_map bytes_of l.front) after l.front refl (cut_front front pieces l.front (Operator 62 ∷ l.after) l.whole cut) l.closed))
@@ -222,6 +231,30 @@ module _ (operators : List ℕ) where
 
   pub tokens_of_answer : (angles : Bool) (text : List ℕ) (tokens : List Token) → outcome_of operators angles text ≡ Ok tokens → AreTokens operators angles text tokens
   tokens_of_answer angles text tokens is = subst (Means angles text) is (answer_means angles text)
+
+  -- ---- there is one
+
+  pub one_cut : (text : List ℕ) (one other : List Piece) → Cuts operators text one → Cuts operators text other → one ≡ other
+  one_cut text one other a b = ap (λ r. r.pieces) (sym (whole_reading text one a) ∙ whole_reading text other b)
+
+  abbrev pub Some_answer : Bool → List ℕ → Type 0
+  Some_answer angles text = ((tokens : List Token) × AreTokens operators angles text tokens) ⊎ ((fault : ScanFault) × HasFault operators angles text fault)
+
+  answer_by : (angles : Bool) (text : List ℕ) (answer : Answer) → Means angles text answer → Some_answer angles text
+  answer_by angles text (Ok tokens) means = inl (tokens, means)
+  answer_by angles text (Err fault) means = inr (fault, means)
+
+  pub some_answer : (angles : Bool) (text : List ℕ) → Some_answer angles text
+  some_answer angles text = answer_by angles text (outcome_of operators angles text) (answer_means angles text)
+
+  pub one_tokens : (angles : Bool) (text : List ℕ) (one other : List Token) → AreTokens operators angles text one → AreTokens operators angles text other → one ≡ other
+  one_tokens angles text one other a b = same_tokens (outcome_of operators angles text) one other (tokens_answered angles text one a) (tokens_answered angles text other b)
+
+  pub one_fault : (angles : Bool) (text : List ℕ) (one other : ScanFault) → HasFault operators angles text one → HasFault operators angles text other → one ≡ other
+  one_fault angles text one other a b = same_fault (outcome_of operators angles text) one other (fault_answered angles text one a) (fault_answered angles text other b)
+
+  pub not_both : (angles : Bool) (text : List ℕ) (tokens : List Token) (fault : ScanFault) → AreTokens operators angles text tokens → HasFault operators angles text fault → ⊥
+  not_both angles text tokens fault a b = never_both (outcome_of operators angles text) tokens fault (tokens_answered angles text tokens a) (fault_answered angles text fault b)
 
   explains : (angles : Bool) (text : List ℕ) (fault : ScanFault) → HasFault operators angles text fault → ExplainsFault operators angles text fault
   explains angles text (Unbalanced place) has = has

@@ -1,7 +1,7 @@
 -- Quoted strings: how one ends.
-use Rattle.std.proofs.Common.{◌≡◌, ℕ, ◌+◌, ◌==◌, Bool, true, false, not, ◌&&◌, cond, List, [], ◌∷◌, ◌++◌, length, refl, sym, ◌∙◌, ap, subst}
-use Rattle.std.proofs.lemmas.Bool.{cond-true, cond-false, and_parts, and_from, not-true, not_from_false, eqb-true}
-use Rattle.std.proofs.lemmas.List.{append_assoc, append-nil}
+use Rattle.std.proofs.Common.{◌≡◌, ℕ, ◌==◌, Bool, true, false, not, ◌&&◌, cond, List, [], ◌∷◌, ◌++◌, length, refl, sym, ◌∙◌, ap, subst}
+use Rattle.std.proofs.lemmas.Bool.{cond-false, and_parts, and_from, not-true, not_from_false, eqb-true}
+use Rattle.std.proofs.lemmas.List.{append_assoc}
 use Rattle.addr_tokens.specs.Pieces.{InQuotes, quote_nothing, quote_plain, quote_escaped, is_control, is_quotable}
 use Rattle.addr_tokens.specs.Reader.{Ending, Closed, Unclosed, Bad, past_quote}
 use Rattle.addr_tokens.proofs.WordLemmas.{behind}

@@ -1,14 +1,14 @@
 -- The pieces of a text, one after another.
-use Rattle.std.proofs.Common.{◌≡◌, ◌≢◌, ℕ, zero, suc, ◌+◌, ◌-◌, ◌<◌, ◌≤◌, ◌==◌, Bool, true, false, not, ◌&&◌, List, [], ◌∷◌, ◌++◌, length, Option, Some, None, Result, Ok, Err, refl, sym, ◌∙◌, ap, subst, arith}
-use Rattle.std.proofs.lemmas.Bool.{cond-true, cond-false, and_left, and_right, not_from_true, ne_eqb, false≢true}
-use Rattle.std.proofs.lemmas.List.{append_assoc, append-nil, length-append}
+use Rattle.std.proofs.Common.{◌≡◌, ℕ, zero, suc, ◌+◌, ◌<◌, ◌≤◌, ◌==◌, true, false, List, [], ◌∷◌, ◌++◌, length, Option, Some, None, Ok, Err, refl, sym, ◌∙◌, ap, subst, arith}
+use Rattle.std.proofs.lemmas.Bool.{cond-false, and_left, and_right, not_from_true, ne_eqb, false≢true}
+use Rattle.std.proofs.lemmas.List.{append_assoc, length-append}
 use Rattle.std.specs.List.{flat_map, AllByRecursion}
 use Rattle.addr_tokens.specs.declared.fault.ScanFault.{ScanFault}
-use Rattle.addr_tokens.specs.Pieces.{IsPiece, Piece, White, Comment, Quotation, Operator, Run, bytes_of, are_apart, Cuts, is_white, is_special, is_listed, is_operator, is_word_byte}
+use Rattle.addr_tokens.specs.Pieces.{IsPiece, Piece, White, Comment, Quotation, Operator, Run, bytes_of, are_apart, Cuts, is_white, is_listed, is_operator, is_word_byte}
 use Rattle.addr_tokens.specs.Scans.{Stops, closing, opening, opening_ended, backslash, quote, quote_ended, quoted_control, escaped_control}
 use Rattle.addr_tokens.specs.Reader.{First, first_of, Reading, with_piece, read_on, reading_by, reading_of, past_word}
 use Rattle.addr_tokens.proofs.WordLemmas.{NoWord, past_word-append, special_parts}
-use Rattle.addr_tokens.proofs.FirstLemmas.{IsFirst, FirstReads, Follows, first_read, first_on, first_is, stop_is, stop_none, piece_some, past-length, listed_parts}
+use Rattle.addr_tokens.proofs.FirstLemmas.{IsFirst, FirstReads, Follows, first_read, first_on, first_is, stop_is, piece_some, past-length, listed_parts}
 
 -- a stop has a byte
 stop_length : (text : List ℕ) (place : ℕ) (fault : ScanFault) → Stops text place fault → text ≡ [] → ⊥

@@ -1,9 +1,9 @@
 -- One byte of a text, as it is read.
-use Rattle.std.proofs.Common.{◌≡◌, ℕ, zero, suc, ◌+◌, ◌-◌, ◌<◌, ◌==◌, Bool, true, false, cond, List, ◌∷◌, length, drop, refl, sym, ◌∙◌, ap, get_or, arith}
-use Rattle.std.proofs.lemmas.Bool.{cond-true, cond-false, eq-eqb, ne_eqb, not-false, not-true}
+use Rattle.std.proofs.Common.{◌≡◌, ℕ, zero, suc, ◌+◌, ◌-◌, ◌<◌, true, false, List, ◌∷◌, length, drop, refl, ◌∙◌, ap, get_or, arith}
+use Rattle.std.proofs.lemmas.Bool.{cond-true, cond-false, eq-eqb, ne_eqb}
 use Rattle.std.proofs.lemmas.List.{drop_more}
 use Rattle.addr_tokens.specs.Pieces.{is_word_byte}
-use Rattle.addr_tokens.specs.Reader.{past_word, past_comment, closed_by, Ending}
+use Rattle.addr_tokens.specs.Reader.{past_word, past_comment}
 
 module _ (text : List ℕ) (i : ℕ) (within : i < length text) where
   abbrev b : ℕ

@@ -1,5 +1,5 @@
 -- The table of operators.
-use Rattle.std.proofs.Common.{◌≡◌, ℕ, suc, ◌+◌, ◌<◌, ◌==◌, eqb, Bool, true, false, ◌||◌, List, [], ◌∷◌, length, drop, refl, sym, ◌∙◌, ap, ⊎_elim, get_or, set, arith}
+use Rattle.std.proofs.Common.{◌≡◌, ℕ, ◌+◌, ◌<◌, ◌==◌, Bool, true, false, ◌||◌, List, length, drop, sym, ◌∙◌, ap, ⊎_elim, get_or, set}
 use Rattle.std.specs.List.{list_any}
 use Rattle.std.proofs.lemmas.Bool.{cases_eq, eq-eqb, ne_eqb, or_left, or_right}
 use Rattle.std.proofs.lemmas.List.{get_or-set_same, get_or-set_other, drop_more}

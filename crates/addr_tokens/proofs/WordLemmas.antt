@@ -1,8 +1,8 @@
 -- Words: what is read of one is one, and one is read.
-use Rattle.std.proofs.Common.{◌≡◌, ℕ, suc, ◌+◌, ◌-◌, ◌<◌, ◌≤◌, ◌==◌, Bool, true, false, not, ◌&&◌, ◌||◌, cond, List, [], ◌∷◌, ◌++◌, length, take, drop, refl, sym, ◌∙◌, ap, subst, arith}
+use Rattle.std.proofs.Common.{◌≡◌, ℕ, ◌-◌, ◌≤◌, ◌==◌, Bool, true, false, not, ◌&&◌, ◌||◌, cond, List, [], ◌∷◌, ◌++◌, length, take, drop, refl, sym, ◌∙◌, ap, subst, arith}
 use Rattle.std.proofs.lemmas.Bool.{cond-true, cond-false, and_parts, not-true, or_parts, eqb-true}
-use Rattle.std.proofs.lemmas.List.{length-append, append_assoc, take_at, take-append-drop, length-drop}
-use Rattle.addr_tokens.specs.Pieces.{InWord, word_nothing, word_plain, word_escaped, is_word_byte, is_white, is_special, is_listed, is_operator}
+use Rattle.std.proofs.lemmas.List.{length-append, take_at, length-drop}
+use Rattle.addr_tokens.specs.Pieces.{InWord, word_nothing, word_plain, word_escaped, is_word_byte, is_white, is_special, is_listed}
 use Rattle.addr_tokens.specs.Reader.{past_word, front_of}
 
 -- a backslash that stands before the text

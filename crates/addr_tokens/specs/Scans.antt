@@ -1,11 +1,11 @@
 -- The tokens of a text, and its first fault (Sendmail Installation and Operation Guide, "R and S: Rewriting Rules"; RFC 5322 section 3.2).
-use Rattle.std.specs.Prelude.{◌≡◌, ℕ, suc, zero, ◌+◌, ◌<◌, ◌≤◌, Bool, true, false, ◌==◌, List, [], ◌∷◌, ◌++◌, length, Option, Some, None, is_some, if◌then◌else◌}
+use Rattle.std.specs.Prelude.{◌≡◌, ℕ, suc, zero, ◌+◌, ◌<◌, ◌≤◌, Bool, true, ◌==◌, List, [], ◌∷◌, ◌++◌, length, Option, Some, None, is_some, if◌then◌else◌}
 use Rattle.std.specs.List.{flat_map}
 use Rattle.mail_base.specs.declared.token.Token.{Token}
-use Rattle.mail_base.specs.declared.token.Token.TheVariants.{Word, Quoted, Op, Sign}
+use Rattle.mail_base.specs.declared.token.Token.TheVariants.{Op}
 use Rattle.addr_tokens.specs.declared.fault.ScanFault.{ScanFault}
 use Rattle.addr_tokens.specs.declared.fault.ScanFault.TheVariants.{Unbalanced, BadQuote, Long, NoMemory}
-use Rattle.addr_tokens.specs.Pieces.{InWord, InQuotes, InComment, Piece, Operator, bytes_of, Cuts, tokens_of, is_control}
+use Rattle.addr_tokens.specs.Pieces.{InQuotes, InComment, Piece, Operator, bytes_of, Cuts, tokens_of, is_control}
 
 -- the most tokens that a text may have
 unfoldable pub most_tokens : ℕ

@@ -36,7 +36,7 @@ pub(crate) fn first_of(table: &Table, text: &[u8], place: u64) -> Result<Front, 
     ensures within { IfOk result (λ front. size_of front ≤ length text.now) }
     ensures piece { IfOk result (λ front. (operators : List ℕ) → IsTable operators table.now.listed
         → reader.first_of operators place (slice_index text.now 0) (drop 1 text.now)
-            ≡ Ok (piece_of front text.now, drop (size_of front) text.now)) }
+        ≡ Ok (piece_of front text.now, drop (size_of front) text.now)) }
     ensures fault { IfErr result (λ fault. (operators : List ℕ) → IsTable operators table.now.listed
         → reader.first_of operators place (slice_index text.now 0) (drop 1 text.now) ≡ Err fault) }
 {
@@ -59,7 +59,7 @@ fn run_of(table: &Table, text: &[u8], place: u64) -> Result<Front, ScanFault>
     ensures within { IfOk result (λ front. size_of front ≤ length text.now) }
     ensures piece { IfOk result (λ front. (operators : List ℕ) → IsTable operators table.now.listed
         → reader.first_word place text.now (reader.past_word operators false text.now)
-            ≡ Ok (piece_of front text.now, drop (size_of front) text.now)) }
+        ≡ Ok (piece_of front text.now, drop (size_of front) text.now)) }
     ensures fault { IfErr result (λ fault. (operators : List ℕ) → IsTable operators table.now.listed
         → reader.first_word place text.now (reader.past_word operators false text.now) ≡ Err fault) }
 {

@@ -39,7 +39,7 @@ impl Angles {
         ensures checked { self.new.checked ≡ self.old.checked }
         ensures places { OnOk result ((text : List ℕ)
             → note_angle self.old.checked place (reverse self.old.places.items) (piece_of front text)
-                ≡ Ok (reverse self.new.places.items)) }
+            ≡ Ok (reverse self.new.places.items)) }
         ensures fault { IfErr result (λ fault. fault ≢ Memory → (text : List ℕ)
             → note_angle self.old.checked place (reverse self.old.places.items) (piece_of front text) ≡ Err fault) }
     {
@@ -108,7 +108,7 @@ impl Gathering {
         requires { size_of front ≤ length text.now }
         ensures { OnOk result ((more : Result (List TheToken) TheFault)
             → gathered self.new.is_long self.new.tokens more
-                ≡ gathered self.old.is_long self.old.tokens (with_tokens (token_of (piece_of front text.now)) more)) }
+            ≡ gathered self.old.is_long self.old.tokens (with_tokens (token_of (piece_of front text.now)) more)) }
     {
         if !is_token(front) {
             return Ok(());

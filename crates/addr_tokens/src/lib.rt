@@ -7,9 +7,13 @@ mod fault;
 mod front;
 mod gathering;
 mod joining;
+mod law;
 mod scan;
 mod table;
+#[cfg(test)]
+mod tests;
 
 pub use fault::ScanFault;
 pub use joining::join;
+pub use law::{cut_again, one_answer, one_cutting};
 pub use scan::tokens;

@@ -23,12 +23,7 @@ pub fn tokens(
     scan(alloc, text.bytes(), operators.bytes(), angles)
 }
 
-fn scan(
-    alloc: Global,
-    text: &[u8],
-    operators: &[u8],
-    angles: bool,
-) -> Result<Seq<Token>, ScanFault>
+fn scan(alloc: Global, text: &[u8], operators: &[u8], angles: bool) -> Result<Seq<Token>, ScanFault>
     ensures tokens { IfOk result (λ tokens. AreTokens operators.now angles text.now tokens) }
     ensures fault { IfErr result (λ fault. ExplainsFault operators.now angles text.now fault) }
 {

@@ -1,4 +1,4 @@
-use Rattle.std.proofs.Common.{◌≡◌, ◌+◌, ◌-◌, ◌<◌, Bool, true, false, length, drop, sym, ◌∙◌, ap, arith}
+use Rattle.std.proofs.Common.{◌≡◌, ◌+◌, ◌<◌, Bool, true, false, length, drop, sym, ◌∙◌, ap, arith}
 use Rattle.addr_tokens.specs.Reader.{past_comment}
 use Rattle.addr_tokens.proofs.StepLemmas.{comment_escaped_byte, comment_backslash, comment_opening, comment_closing, comment_byte}
 use Rattle.addr_tokens.proofs.ending.comment_end.Goals as goal

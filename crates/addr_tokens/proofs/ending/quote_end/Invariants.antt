@@ -1,4 +1,4 @@
-use Rattle.std.proofs.Common.{◌≡◌, ℕ, ◌<◌, true, false, drop}
+use Rattle.std.proofs.Common.{◌≡◌, ◌<◌, true, false, drop}
 use Rattle.addr_tokens.specs.Reader.{past_quote}
 use Rattle.addr_tokens.proofs.ending.quote_end.Given as goal
 

@@ -1,4 +1,4 @@
-use Rattle.std.proofs.Common.{◌≡◌, ℕ, ◌+◌, ◌-◌, ◌<◌, Bool, true, false, List, ◌∷◌, length, drop, sym, ◌∙◌, ap, arith}
+use Rattle.std.proofs.Common.{◌≡◌, ℕ, ◌+◌, ◌<◌, Bool, true, false, List, length, drop, sym, ◌∙◌, ap, arith}
 use Rattle.std.proofs.lemmas.Bool.{both_ways}
 use Rattle.addr_tokens.specs.Reader.{past_word, IsTable}
 use Rattle.addr_tokens.proofs.StepLemmas.{word_escaped_byte, word_backslash, word_byte, backslash_last}

@@ -1,7 +1,6 @@
-use Rattle.std.proofs.Common.{◌≡◌, ◌+◌, ◌≤◌, ℕ, subst, false, List, length, drop, reverse, Bool, refl, sym, ◌∙◌, ap, arith}
+use Rattle.std.proofs.Common.{◌+◌, ℕ, subst, drop, reverse, Bool, sym, arith}
 use Rattle.std.proofs.lemmas.List.{take_rest}
 use Rattle.std.proofs.lemmas.Result.{err_from_is_err_and, IfOk-weaker, MatchResult-weaker}
-use Rattle.mail_base.specs.declared.token.Token.{Token}
 use Rattle.addr_tokens.specs.Reader.{gathered, outcome_on}
 use Rattle.addr_tokens.proofs.ScanLemmas.{At, front_fails, angle_fails, at_next, end_fails, all_fails, all_tokens}
 use Rattle.addr_tokens.proofs.scan.scan.Goals as goal
@@ -30,7 +29,7 @@ returns-in_err-note-clause-fault c =
 pub pieces-preserved : goal.pieces-preserved
 pieces-preserved c =
     let next = at_next c.args.operators.now c.args.angles c.args.text.now _ c.pieces.place _ _ _ c.pieces.invariant.so _ (take_rest c.args.text.now c.pieces.place) c.pieces-test.true c.in_ok-front.front c.in_ok-front.ensures.within
-            (c.in_ok-front.ensures.piece c.args.operators.now c.pieces.invariant.table) (reverse c.note.new.self.places.items) c.add.new.self.is_long c.add.new.self.tokens (c.in_ok-note.ensures.places _) c.in_ok-add.ensures in
+    (c.in_ok-front.ensures.piece c.args.operators.now c.pieces.invariant.table) (reverse c.note.new.self.places.items) c.add.new.self.is_long c.add.new.self.tokens (c.in_ok-note.ensures.places _) c.in_ok-add.ensures in
     let P : Bool → ℕ → Type 0 = λ k n. At c.args.operators.now c.args.angles c.args.text.now k (c.pieces.place + n) (reverse c.note.new.self.places.items) c.add.new.self.is_long c.add.new.self.tokens in
     record {
       table = c.pieces.invariant.table;

@@ -1,4 +1,4 @@
-use Rattle.std.proofs.Common.{◌≤◌, arith}
+use Rattle.std.proofs.Common.{arith}
 use Rattle.addr_tokens.proofs.GatherLemmas.{most, too_many, still_short}
 use Rattle.addr_tokens.proofs.gathering.Gathering.add.Goals as goal
 

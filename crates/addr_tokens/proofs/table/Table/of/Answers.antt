@@ -1,4 +1,4 @@
-use Rattle.std.proofs.Common.{◌≡◌, ◌<◌, ◌==◌, ◌||◌, false, ℕ, get_or, replicate, ◌∙◌, ap, arith}
+use Rattle.std.proofs.Common.{◌==◌, ◌||◌, false, ◌∙◌, ap}
 use Rattle.std.specs.List.{list_any}
 use Rattle.std.proofs.lemmas.List.{get_or-replicate}
 use Rattle.addr_tokens.specs.Pieces.{fixed_operators}
