@@ -1,0 +1,14 @@
+mod TableLemmas
+mod WordLemmas
+mod QuoteLemmas
+mod CommentLemmas
+mod StepLemmas
+mod FrontLemmas
+mod FirstLemmas
+mod ReadingLemmas
+mod JudgeLemmas
+mod OutcomeLemmas
+mod ScanLemmas
+mod JoinLemmas
+mod GatherLemmas
+mod AgainLemmas

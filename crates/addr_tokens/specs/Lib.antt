@@ -1,0 +1,5 @@
+pub mod Pieces
+pub mod Scans
+pub mod Joins
+pub mod Reader
+pub mod Views

@@ -1,0 +1,226 @@
+use crate::{ScanFault, join, tokens};
+use mail_base::{Mark, NoMemory, Seq, Text, Token};
+use std::alloc::Global;
+use std::test::Fail;
+
+/// A text, and its answer as `shown` writes it.
+type Row = (&'static [u8], &'static [u8]);
+
+/// By the operators `.:@[]`, where angles aren't checked.
+static PLAIN: [Row; 56] = [
+    (b"", b""),
+    (b"ann", b"W:ann"),
+    (b"ann@mx.example", b"W:ann O:@ W:mx O:. W:example"),
+    (b" ann\t@ mx ", b"W:ann O:@ W:mx"),
+    (b"a\0b\x1fc\x7fd\ne", b"W:a W:b W:c W:d W:e"),
+    (b"a\x80\xffb", b"W:a\x80\xffb"),
+    (b"a.:@[]b", b"W:a O:. O:: O:@ O:[ O:] W:b"),
+    (b"a<b>,;c", b"W:a O:< W:b O:> O:, O:; W:c"),
+    (b"><", b"O:> O:<"),
+    (b"a!b%c#d$e", b"W:a!b%c#d$e"),
+    (b"()", b""),
+    (b"(c)a@b", b"W:a O:@ W:b"),
+    (b"a(c)b", b"W:a W:b"),
+    (b"a@(c)b", b"W:a O:@ W:b"),
+    (b"a@b(c)", b"W:a O:@ W:b"),
+    (b"a (b) (c) d", b"W:a W:d"),
+    (b"a((b)(c(d)))e", b"W:a W:e"),
+    (b"(\\))a", b"W:a"),
+    (b"(\\()a", b"W:a"),
+    (b"(a\\\\)b", b"W:b"),
+    (b"(\")a\"b\"", b"W:a Q:\"b\""),
+    (b"(\0\x7f\n<>@)a", b"W:a"),
+    (b"\"\"", b"Q:\"\""),
+    (b"\"a b\"@c", b"Q:\"a b\" O:@ W:c"),
+    (b"a\"b\"c", b"W:a Q:\"b\" W:c"),
+    (b"\"a\"\"b\"", b"Q:\"a\" Q:\"b\""),
+    (b"\"a\\\"b\"", b"Q:\"a\\\"b\""),
+    (b"\"a\\\\\"b", b"Q:\"a\\\\\" W:b"),
+    (b"\"(\"a\")\"", b"Q:\"(\" W:a Q:\")\""),
+    (b"\"<@,\x80\"", b"Q:\"<@,\x80\""),
+    (b"a\\@b@c", b"W:a\\@b O:@ W:c"),
+    (b"\\\"a", b"W:\\\"a"),
+    (b"\\(a\\)", b"W:\\(a\\)"),
+    (b"a\\ b c", b"W:a\\ b W:c"),
+    (b"a\\\0b", b"W:a\\\0b"),
+    (b"\\\\\\\\", b"W:\\\\\\\\"),
+    (b"@\\<>", b"O:@ W:\\< O:>"),
+    (b")", b"Unbalanced 0"),
+    (b"ab )c", b"Unbalanced 3"),
+    (b"(a))", b"Unbalanced 3"),
+    (b"(", b"Unbalanced 0"),
+    (b"a (b", b"Unbalanced 2"),
+    (b"a (b (c", b"Unbalanced 2"),
+    (b"a (b (c) d", b"Unbalanced 2"),
+    (b"(a)(b\\)", b"Unbalanced 3"),
+    (b"\"", b"BadQuote 0"),
+    (b"a \"b", b"BadQuote 2"),
+    (b"a \"b\\\"", b"BadQuote 2"),
+    (b"\"a\tb\"", b"BadQuote 2"),
+    (b"\"a\x7f", b"BadQuote 2"),
+    (b"\"a\\\x1fb\"", b"BadQuote 3"),
+    (b"\\", b"BadQuote 0"),
+    (b"ab\\\\\\", b"BadQuote 4"),
+    (b"\"ab\\", b"BadQuote 3"),
+    (b"(ab(\\", b"BadQuote 4"),
+    (b") \"", b"Unbalanced 0"),
+];
+
+/// By the operators `.:@[]`, where angles are checked.
+static ANGLES: [Row; 17] = [
+    (b"<>", b"O:< O:>"),
+    (b"a<b@c>", b"W:a O:< W:b O:@ W:c O:>"),
+    (b"<<a>b>", b"O:< O:< W:a O:> W:b O:>"),
+    (b"(<)\"<\"\\<", b"Q:\"<\" W:\\<"),
+    (b">", b"Unbalanced 0"),
+    (b"a<b>c>d", b"Unbalanced 5"),
+    (b"><", b"Unbalanced 0"),
+    (b"<", b"Unbalanced 0"),
+    (b"<a<b>", b"Unbalanced 0"),
+    (b"<a<b", b"Unbalanced 2"),
+    (b"<<a><b><c", b"Unbalanced 7"),
+    (b"< (", b"Unbalanced 2"),
+    (b"< \"a", b"BadQuote 2"),
+    (b"> \"a", b"Unbalanced 0"),
+    (b"<)>", b"Unbalanced 1"),
+    (b"<\\", b"BadQuote 1"),
+    (b"a> )", b"Unbalanced 1"),
+];
+
+/// By operators that are white space, quote or comment, and by `!`.
+static ODD: [Row; 6] = [
+    (b"a b", b"W:a W:b"),
+    (b"a\x7fb", b"W:a W:b"),
+    (b"\"a\"(b)", b"Q:\"a\""),
+    (b"a\\!b!c", b"W:a\\!b O:! W:c"),
+    (b"a.b@c<", b"W:a.b@c O:<"),
+    (b")", b"Unbalanced 0"),
+];
+
+fn show(text: &mut Text, tag: &[u8], bytes: &[u8]) -> Result<(), NoMemory> {
+    if !text.is_empty() {
+        text.push(b' ')?;
+    }
+    text.extend(tag)?;
+    text.extend(bytes)
+}
+
+fn show_tokens(alloc: Global, tokens: &Seq<Token>) -> Result<Text, NoMemory> {
+    let mut text = Text::new(alloc);
+    for token in tokens.items() {
+        match token {
+            Token::Word(word) => show(&mut text, b"W:", word.bytes())?,
+            Token::Quoted(quoted) => show(&mut text, b"Q:", quoted.bytes())?,
+            Token::Op(byte) => show(&mut text, b"O:", &[*byte])?,
+            Token::Sign(_) => show(&mut text, b"S", b"")?,
+        }
+    }
+    Ok(text)
+}
+
+fn show_fault(alloc: Global, fault: ScanFault) -> Result<Text, NoMemory> {
+    let name = format!(in alloc; "{fault}")?;
+    Text::of(alloc, name.as_bytes())
+}
+
+/// The answer for a text, as the tables write it.
+fn shown(alloc: Global, text: &[u8], operators: &[u8], angles: bool) -> Result<Text, NoMemory> {
+    let text = Text::of(alloc, text)?;
+    let operators = Text::of(alloc, operators)?;
+    match tokens(alloc, &text, &operators, angles) {
+        Ok(tokens) => show_tokens(alloc, &tokens),
+        Err(fault) => show_fault(alloc, fault),
+    }
+}
+
+#[test]
+fn tokens_and_faults_by_the_rules(rt: HostRuntime) -> Result<(), Fail> {
+    for (text, answer) in &PLAIN {
+        let shown = shown(rt.alloc(), text, b".:@[]", false)?;
+        assert_eq!(rt; shown.bytes(), *answer);
+    }
+    Ok(())
+}
+
+#[test]
+fn angles_where_they_are_checked(rt: HostRuntime) -> Result<(), Fail> {
+    for (text, answer) in &ANGLES {
+        let shown = shown(rt.alloc(), text, b".:@[]", true)?;
+        assert_eq!(rt; shown.bytes(), *answer);
+    }
+    Ok(())
+}
+
+#[test]
+fn white_space_and_quotes_are_no_operators(rt: HostRuntime) -> Result<(), Fail> {
+    for (text, answer) in &ODD {
+        let shown = shown(rt.alloc(), text, b"! \x7f\0\"\\()", false)?;
+        assert_eq!(rt; shown.bytes(), *answer);
+    }
+    Ok(())
+}
+
+/// So many times a byte, and then an end.
+fn repeated(alloc: Global, byte: u8, count: usize, end: &[u8]) -> Result<Text, NoMemory> {
+    let mut text = Text::new(alloc);
+    for _ in 0..count {
+        text.push(byte)?;
+    }
+    text.extend(end)?;
+    Ok(text)
+}
+
+/// The answer for such a text, or how many tokens it has.
+fn counted(alloc: Global, text: &Text) -> Result<Text, NoMemory> {
+    let operators = Text::new(alloc);
+    match tokens(alloc, text, &operators, true) {
+        Ok(tokens) => {
+            let count = tokens.len();
+            let name = format!(in alloc; "{count} tokens")?;
+            Text::of(alloc, name.as_bytes())
+        }
+        Err(fault) => show_fault(alloc, fault),
+    }
+}
+
+#[test]
+fn at_most_2000_tokens_and_any_depth(rt: HostRuntime) -> Result<(), Fail> {
+    let rows: [(u8, usize, &[u8], &[u8]); 7] = [
+        (b',', 2_000, b"", b"2000 tokens"),
+        (b',', 2_001, b"", b"Long"),
+        (b',', 5_000, b"\"", b"BadQuote 5000"),
+        (b'<', 5_000, b"", b"Unbalanced 4999"),
+        (b'(', 100_000, b"", b"Unbalanced 0"),
+        (b'(', 100_000, b"\\", b"BadQuote 100000"),
+        (b' ', 100_000, b")", b"Unbalanced 100000"),
+    ];
+    for (byte, count, end, answer) in &rows {
+        let text = repeated(rt.alloc(), *byte, *count, end)?;
+        let shown = counted(rt.alloc(), &text)?;
+        assert_eq!(rt; shown.bytes(), *answer);
+    }
+    Ok(())
+}
+
+fn sample(alloc: Global) -> Result<Seq<Token>, NoMemory> {
+    let mut tokens = Seq::new(alloc);
+    tokens.push(Token::Word(Text::of(alloc, b"ann")?))?;
+    tokens.push(Token::Word(Text::of(alloc, b"b")?))?;
+    tokens.push(Token::Quoted(Text::of(alloc, b"\"c d\"")?))?;
+    tokens.push(Token::Op(b'@'))?;
+    for mark in [Mark::Alt, Mark::Mailer, Mark::Host, Mark::User, Mark::End] {
+        tokens.push(Token::Sign(mark))?;
+    }
+    tokens.push(Token::Word(Text::of(alloc, b"mx")?))?;
+    Ok(tokens)
+}
+
+#[test]
+fn a_blank_stands_between_words_alone(rt: HostRuntime) -> Result<(), Fail> {
+    let tokens = sample(rt.alloc())?;
+    let spaced = join(rt.alloc(), &tokens, Some(b' '))?;
+    let close = join(rt.alloc(), &tokens, None)?;
+    assert_eq!(rt; spaced.bytes(), b"ann b \"c d\"@$|$#$@$:$.mx".as_slice());
+    assert_eq!(rt; close.bytes(), b"annb\"c d\"@$|$#$@$:$.mx".as_slice());
+    Ok(())
+}
