@@ -1,0 +1,4 @@
+pub mod Numbers
+pub mod SheetLemmas
+pub mod RoomLemmas
+pub mod StatusLemmas

@@ -1,0 +1,5 @@
+pub mod Reading
+pub mod Room
+pub mod Sheets
+pub mod Spelling
+pub mod Valid
