@@ -13,11 +13,15 @@ pub record Front {X : Type 0} (spelling : X → List ℕ) (form : X → Type 0) 
 pub record NoFront {X : Type 0} (spelling : X → List ℕ) (form : X → Type 0) (follows : List ℕ → Type 0) (bytes : List ℕ) : Type 0 where
   pub none : (y : X) (after : List ℕ) → form y → follows after → bytes ≡ spelling y ++ after → ⊥
 
--- a reader that answers so has read what is spelled at the front; a value and the rest are seen by view
+-- why a reader stops: nothing that it reads is spelled at the front, or there was no memory
+abbrev pub Stops : {X : Type 0} → (X → List ℕ) → (X → Type 0) → (List ℕ → Type 0) → List ℕ → Stop → Type 0
+Stops spelling form follows bytes Outside = NoFront spelling form follows bytes
+Stops spelling form follows bytes Memory = Unit {0}
+
+-- a reader that answers so has read what is spelled at the front; its answer is seen as a value and a rest
 abbrev pub Reads : {R X : Type 0} → (R → X) → (R → List ℕ) → (X → List ℕ) → (X → Type 0) → (List ℕ → Type 0) → List ℕ → Result R Stop → Type 0
 Reads value rest spelling form follows bytes (Ok r) = Front spelling form follows bytes (value r) (rest r)
-Reads value rest spelling form follows bytes (Err Outside) = NoFront spelling form follows bytes
-Reads value rest spelling form follows bytes (Err Memory) = Unit {0}
+Reads value rest spelling form follows bytes (Err e) = Stops spelling form follows bytes e
 
 -- the whole bytes spell a value, and no other one
 pub record Whole {X : Type 0} (spelling : X → List ℕ) (form : X → Type 0) (bytes : List ℕ) (x : X) : Type 0 where

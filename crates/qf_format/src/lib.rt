@@ -2,11 +2,20 @@
 //! `specs/Spelling.antt`, and which controls have one in `specs/Valid.antt`.
 #![tactic(auto)]
 
+mod field;
+mod header;
 mod lengths;
+mod line;
+mod number;
 mod paper;
+mod parsing;
+mod part;
 mod printing;
+mod row;
+mod state;
 mod stop;
 
 pub use lengths::room;
 pub use paper::Paper;
+pub use parsing::parse;
 pub use printing::{print, print_into};
