@@ -1,22 +1,17 @@
 -- The parts of a control text as a control.
-use Rattle.std.proofs.Common.{◌≡◌, ◌≢◌, ℕ, ◌<◌, ◌^◌, Bool, true, false, List, [], ◌∷◌, ◌++◌, Option, Some, None, refl, sym, arith, ℤ}
-use Rattle.std.specs.Prelude.{All, FitsSigned, codes, slice_index}
-use Rattle.std.specs.Int.{w64, w128}
+use Rattle.std.proofs.Common.{ℕ, List, [], ◌∷◌, ◌++◌, refl, arith}
 use Rattle.std.specs.List.{flat_map}
-use Rattle.std.specs.Fmt.{decimal, signed_decimal}
 use Rattle.mail_base.specs.declared.control.Control.{Control}
-use Rattle.mail_base.specs.declared.control.Parent.{Parent}
 use Rattle.mail_base.specs.declared.control.Row.{Row}
 use Rattle.mail_base.specs.declared.message.Kept.{Kept}
-use Rattle.mail_base.specs.declared.message.Marks.{Marks}
 use Rattle.qf_format.specs.declared.part.Place.{Place}
 use Rattle.qf_format.specs.declared.part.Order.{Order}
 use Rattle.qf_format.specs.declared.part.Envelope.{Envelope}
 use Rattle.qf_format.specs.declared.stop.Stop.{Stop}
-use Rattle.qf_format.specs.Parts.{AnyBool, AnyMarks, At, EachHeader, IsEnvelope, IsOrder, IsParentOrNone, IsPlace, IsSmall, NotAt, envelope_text, order_text, place_text, control_front}
+use Rattle.qf_format.specs.Parts.{At, EachHeader, IsEnvelope, IsOrder, IsPlace, NotAt, envelope_text, order_text, place_text, control_front}
 use Rattle.qf_format.specs.Reading.{Front, Stops, Anything}
-use Rattle.qf_format.specs.Spelling.{eight_line, header_lines, kept_lines, line, marks_line, order_lines, parent_line, place_lines, row_lines, sender_lines, spelled}
-use Rattle.qf_format.specs.Valid.{AreKept, AreRows, IsLine, IsRevision, IsSender, IsValid}
+use Rattle.qf_format.specs.Spelling.{header_lines, kept_lines, order_lines, place_lines, row_lines, sender_lines}
+use Rattle.qf_format.specs.Valid.{AreKept, AreRows, IsValid}
 use Rattle.qf_format.proofs.ReadLemmas.{both, BothFormed, front_then, Retold, front_as}
 use Rattle.qf_format.proofs.ListLemmas.{stop_first, stop_second, stop_as}
 

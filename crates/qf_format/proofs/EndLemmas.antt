@@ -1,15 +1,14 @@
 -- The last line of a control text, and the whole text.
-use Rattle.std.proofs.Common.{◌≡◌, ◌≢◌, ℕ, Bool, true, false, List, [], ◌∷◌, ◌++◌, Option, Some, None, Result, Ok, Err, refl, sym, ap, subst, ◌∙◌}
-use Rattle.std.specs.Prelude.{IsTrue, codes, nat_eq}
-use Rattle.std.specs.Cmp.Lexicographic.{pointwise}
+use Rattle.std.proofs.Common.{◌≡◌, ℕ, List, ◌++◌, Err, refl}
+use Rattle.std.specs.Prelude.{codes}
 use Rattle.mail_base.specs.declared.control.Control.{Control}
 use Rattle.qf_format.specs.declared.stop.Stop.{Stop}
 use Rattle.qf_format.specs.declared.stop.Stop.TheVariants.{Outside, Memory}
 use Rattle.qf_format.specs.Parts.{At, Parses, control_front}
-use Rattle.qf_format.specs.Reading.{Front, NoFront, Stops, Whole, NoWhole}
+use Rattle.qf_format.specs.Reading.{Front, Stops, Whole, NoWhole}
 use Rattle.qf_format.specs.Spelling.{line, spelled}
 use Rattle.qf_format.specs.Valid.{IsValid}
-use Rattle.qf_format.proofs.ReadLemmas.{ended, whole_at_end, none_at_end, none_before_end}
+use Rattle.qf_format.proofs.ReadLemmas.{whole_at_end, none_at_end, none_before_end}
 
 abbrev end : List ℕ
 end = line (codes ".")

@@ -1,6 +1,6 @@
 -- Headers as they are read.
-use Rattle.std.proofs.Common.{◌≡◌, ℕ, suc, ◌+◌, ◌-◌, ◌<◌, ◌≤◌, Bool, true, false, List, [], ◌∷◌, ◌++◌, length, get_or, take, drop, Option, Some, None, refl, sym, ap, subst, ◌∙◌, append_assoc, arith, length-append, length-take, drop-cons, inl, inr}
-use Rattle.std.specs.Prelude.{◌⊎◌, All, slice_index}
+use Rattle.std.proofs.Common.{◌≡◌, ℕ, suc, ◌+◌, ◌<◌, ◌≤◌, List, [], ◌∷◌, ◌++◌, length, get_or, take, drop, Some, None, refl, sym, ap, subst, ◌∙◌, append_assoc, arith, length-append, length-take, drop-cons, inl, inr}
+use Rattle.std.specs.Prelude.{◌⊎◌, slice_index}
 use Rattle.std.specs.List.{flat_map}
 use Rattle.std.proofs.Math.ListN.{get_or-append}
 use Rattle.std.proofs.Math.Seq.{take-append_seam, get_or-append_seam}
@@ -10,7 +10,7 @@ use Rattle.qf_format.specs.declared.stop.Stop.{Stop}
 use Rattle.qf_format.specs.declared.stop.Stop.TheVariants.{Outside, Memory}
 use Rattle.qf_format.specs.Reading.{Front, NoFront, Stops}
 use Rattle.qf_format.specs.Parts.{At, NotAt, NotBlank, EachHeader, EndsAt, IsHeaderEnd}
-use Rattle.qf_format.specs.Spelling.{line, header_lines}
+use Rattle.qf_format.specs.Spelling.{header_lines}
 use Rattle.qf_format.specs.Valid.{IsBlank, IsHeader}
 use Rattle.qf_format.proofs.ListLemmas.{ReadSoFar, none_so_far, one_more, all_read, stuck}
 

@@ -1,5 +1,5 @@
 -- The digits of numbers.
-use Rattle.std.proofs.Common.{◌≡◌, ℕ, zero, suc, ◌-◌, ◌+◌, ◌*◌, ◌/◌, ◌%◌, ◌^◌, ◌<◌, ◌≤◌, List, [], ◌∷◌, ◌++◌, Option, Some, None, Result, Ok, Err, length, get_or, take, refl, sym, ap, subst, ◌∙◌, arith, length-append, add-one}
+use Rattle.std.proofs.Common.{◌≡◌, ℕ, zero, suc, ◌-◌, ◌+◌, ◌*◌, ◌/◌, ◌%◌, ◌^◌, ◌<◌, ◌≤◌, List, [], ◌∷◌, ◌++◌, Result, Ok, Err, length, get_or, take, refl, sym, ap, subst, ◌∙◌, arith, length-append}
 use Rattle.std.proofs.Math.ListN.{get_or-append}
 use Rattle.std.specs.Fmt.{decimal}
 use Rattle.std.proofs.lemmas.Fmt.{decimal_digit, decimal_step_wide, decimal_by_steps_wide, decimal_is_IsNumeral_wide}
@@ -10,7 +10,7 @@ use Rattle.std.proofs.Math.Seq.{take-suc}
 use Rattle.std.specs.Str.Parse.{AllDigits, IsNumeral, digits_value}
 use Rattle.std.specs.Char.{digit_value}
 use Rattle.qf_format.specs.Parts.{IsPlain}
-use Rattle.qf_format.specs.Reading.{Whole, NoWhole, Spells}
+use Rattle.qf_format.specs.Reading.{NoWhole, Spells}
 use Rattle.std.specs.Str.{IsUtf8}
 use Rattle.std.specs.Str.Parse.{ParsesUnsigned}
 use Rattle.std.specs.Result.{result_ok}

@@ -1,5 +1,5 @@
 -- Readers one after the other, and what they read within each other.
-use Rattle.std.proofs.Common.{◌≡◌, ℕ, List, [], ◌∷◌, ◌++◌, refl, sym, ap, subst, ◌∙◌, append_assoc}
+use Rattle.std.proofs.Common.{◌≡◌, ℕ, List, ◌++◌, sym, ap, subst, ◌∙◌, append_assoc}
 use Rattle.qf_format.specs.Reading.{Front, NoFront, Whole, NoWhole}
 
 -- ---- one after the other

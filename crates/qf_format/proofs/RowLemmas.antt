@@ -1,6 +1,6 @@
 -- Rows as they are read.
-use Rattle.std.proofs.Common.{◌≡◌, ℕ, ◌<◌, ◌≤◌, Bool, true, false, List, [], ◌∷◌, ◌++◌, length, refl, sym, ap, subst, ◌∙◌, arith, length-append}
-use Rattle.std.specs.Prelude.{All, IsTrue, codes}
+use Rattle.std.proofs.Common.{◌≡◌, ℕ, ◌<◌, ◌≤◌, Bool, false, List, [], ◌∷◌, ◌++◌, length, refl, ap, arith, length-append}
+use Rattle.std.specs.Prelude.{IsTrue, codes}
 use Rattle.std.proofs.lemmas.Bool.{false≢true}
 use Rattle.std.specs.List.{flat_map}
 use Rattle.mail_base.specs.declared.control.Row.{Row}
@@ -8,7 +8,7 @@ use Rattle.mail_base.specs.declared.control.State.{State}
 use Rattle.qf_format.specs.declared.stop.Stop.{Stop}
 use Rattle.qf_format.specs.Reading.{Front, NoFront, Stops, Anything}
 use Rattle.qf_format.specs.Parts.{address_line, At, NotAt, EachRow}
-use Rattle.qf_format.specs.Spelling.{line, flags, row_lines, state_text}
+use Rattle.qf_format.specs.Spelling.{line, row_lines, state_text}
 use Rattle.qf_format.specs.Valid.{AreRows, most_rows, IsAddress, IsRow, IsState}
 use Rattle.qf_format.proofs.ReadLemmas.{both, BothFormed, front_then, Retold, front_as}
 use Rattle.qf_format.proofs.ListLemmas.{ReadSoFar, none_so_far, one_more, all_read, stuck, front_narrow, front_away, none_narrow, stop_first, stop_second, stop_as}

@@ -1,14 +1,13 @@
 -- What became of a row, as it is written.
-use Rattle.std.proofs.Common.{◌≡◌, ℕ, suc, ◌-◌, ◌+◌, ◌<◌, ◌≤◌, Bool, true, false, List, [], ◌∷◌, ◌++◌, Option, Some, None, length, get_or, take, drop, refl, sym, ap, subst, ◌∙◌, append_assoc, arith, inl, inr}
-use Rattle.std.specs.Prelude.{◌⊎◌, ◌≢◌, ◌==◌, All, IfSome, codes, position}
+use Rattle.std.proofs.Common.{◌≡◌, ℕ, ◌+◌, true, List, [], ◌∷◌, ◌++◌, Some, None, take, drop, refl, sym, ap, subst, ◌∙◌, arith}
+use Rattle.std.specs.Prelude.{◌≢◌, ◌==◌, position}
 use Rattle.std.proofs.lemmas.List.Elements.{All-weaker}
 use Rattle.mail_base.specs.Notes.{IsNote, is_status}
 use Rattle.mail_base.specs.declared.control.State.{State}
 use Rattle.mail_base.specs.declared.control.State.TheVariants.{Queued, Sent, Failed, Returned, Dead}
-use Rattle.qf_format.specs.Reading.{Whole, NoWhole, Spells}
-use Rattle.qf_format.specs.Parts.{queued_text}
+use Rattle.qf_format.specs.Reading.{Whole, NoWhole}
 use Rattle.qf_format.specs.Spelling.{cause, state_text, id_text}
-use Rattle.qf_format.specs.Valid.{IsCause, IsId, IsState}
+use Rattle.qf_format.specs.Valid.{IsCause, IsState}
 use Rattle.qf_format.proofs.FieldLemmas.{Without, IsFirst, split_once, first_at, none_in}
 use Rattle.qf_format.proofs.StatusLemmas.{IsStatusByte, status_in}
 

@@ -1,6 +1,6 @@
 -- What is written of values has no LF, and values are read within lines.
-use Rattle.std.proofs.Common.{◌≡◌, ℕ, suc, ◌+◌, ◌^◌, ◌<◌, ◌≤◌, true, List, [], ◌∷◌, ◌++◌, Option, Some, None, Result, Ok, Err, refl, sym, subst, arith, ℤ, pos, negsuc}
-use Rattle.std.specs.Prelude.{◌≢◌, All, FitsSigned, codes}
+use Rattle.std.proofs.Common.{◌≡◌, ℕ, suc, ◌^◌, ◌<◌, true, List, [], ◌∷◌, ◌++◌, Some, None, arith, ℤ, pos, negsuc}
+use Rattle.std.specs.Prelude.{◌≢◌, FitsSigned}
 use Rattle.std.specs.Int.{w64, w128}
 use Rattle.std.specs.Fmt.{decimal, signed_decimal}
 use Rattle.std.specs.Str.Parse.{AllDigits}
@@ -15,10 +15,10 @@ use Rattle.mail_base.specs.declared.control.State.TheVariants.{Queued, Sent, Fai
 use Rattle.qf_format.specs.declared.stop.Stop.{Stop}
 use Rattle.qf_format.specs.declared.stop.Stop.TheVariants.{Outside, Memory}
 use Rattle.qf_format.specs.Parts.{IsSmall}
-use Rattle.qf_format.specs.Reading.{Front, NoFront, Reads, Stops, Whole, NoWhole, Anything}
-use Rattle.qf_format.specs.Spelling.{line, cause, id_text, state_text}
+use Rattle.qf_format.specs.Reading.{Stops, Anything}
+use Rattle.qf_format.specs.Spelling.{cause, id_text, state_text}
 use Rattle.qf_format.specs.Valid.{IsLine, IsId, IsCause, IsState, IsRevision}
-use Rattle.qf_format.proofs.ReadLemmas.{framed, none_around}
+use Rattle.qf_format.proofs.ReadLemmas.{none_around}
 use Rattle.qf_format.proofs.SignedLemmas.{are_digits}
 use Rattle.qf_format.proofs.StatusLemmas.{IsStatusByte, status_in}
 

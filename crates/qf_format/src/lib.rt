@@ -19,3 +19,6 @@ pub use lengths::room;
 pub use paper::Paper;
 pub use parsing::parse;
 pub use printing::{print, print_into};
+
+#[cfg(test)]
+mod tests;

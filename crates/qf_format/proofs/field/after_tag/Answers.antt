@@ -1,4 +1,3 @@
-use Rattle.std.proofs.Common.{List, ℕ}
 use Rattle.qf_format.proofs.FieldLemmas.{after_some, after_none}
 use Rattle.qf_format.proofs.field.after_tag.Goals as goal
 

@@ -1,13 +1,12 @@
 use Rattle.std.proofs.Common.{◌++◌}
 use Rattle.std.specs.Prelude.{FitsSigned}
-use Rattle.std.specs.Int.{w64, w128}
-use Rattle.std.specs.Fmt.{decimal, signed_decimal}
+use Rattle.std.specs.Int.{w128}
+use Rattle.std.specs.Fmt.{signed_decimal}
 use Rattle.std.proofs.lemmas.Result.{err_from_is_err_and}
 use Rattle.std.proofs.lemmas.Int.{to_z-of_z}
-use Rattle.qf_format.specs.Parts.{IsSmall}
 use Rattle.qf_format.specs.Reading.{Anything}
 use Rattle.qf_format.specs.Spelling.{line}
-use Rattle.qf_format.specs.Valid.{IsLine, IsRevision}
+use Rattle.qf_format.specs.Valid.{IsLine}
 use Rattle.qf_format.proofs.ReadLemmas.{within, none_within}
 use Rattle.qf_format.proofs.TextLemmas.{priority_line, stops_within}
 use Rattle.qf_format.proofs.line.priority_line.Goals as goal

@@ -1,9 +1,6 @@
 use Rattle.std.proofs.Common.{◌++◌}
-use Rattle.std.specs.Prelude.{FitsSigned}
-use Rattle.std.specs.Int.{w64, w128}
-use Rattle.std.specs.Fmt.{decimal, signed_decimal}
+use Rattle.std.specs.Fmt.{decimal}
 use Rattle.std.proofs.lemmas.Result.{err_from_is_err_and}
-use Rattle.qf_format.specs.Parts.{IsSmall}
 use Rattle.qf_format.specs.Reading.{Anything}
 use Rattle.qf_format.specs.Spelling.{line}
 use Rattle.qf_format.specs.Valid.{IsLine, IsRevision}

@@ -1,6 +1,4 @@
 use Rattle.std.proofs.Common.{◌≡◌, true, false, subst, refl}
-use Rattle.std.specs.Fmt.{decimal}
-use Rattle.std.specs.Result.{result_ok}
 use Rattle.std.specs.Str.Parse.{ParsesUnsigned}
 use Rattle.qf_format.proofs.Numbers.{reads_number, no_plain, no_text}
 use Rattle.qf_format.proofs.number.number_of.Goals as goal

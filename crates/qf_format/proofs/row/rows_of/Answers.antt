@@ -1,4 +1,4 @@
-use Rattle.std.proofs.Common.{arith, refl, ap, length}
+use Rattle.std.proofs.Common.{arith, refl}
 use Rattle.std.proofs.lemmas.Result.{err_from_is_err_and}
 use Rattle.qf_format.proofs.RowLemmas.{are_rows, no_empty, not_few, rows_away, rows_stop, rows_whole, some_rows}
 use Rattle.qf_format.proofs.row.rows_of.Goals as goal
