@@ -1,0 +1,4 @@
+pub mod Constructs
+pub mod Expansion
+pub mod Insides
+pub mod Readings
