@@ -1,8 +1,8 @@
 -- The expansion of a text (Sendmail Installation and Operation Guide, macros and conditionals; the limits and the order of refusals are our own).
-use Rattle.std.specs.Prelude.{ℕ, zero, suc, List, [], ◌∷◌, ◌++◌, map, Bool, true, false, if◌then◌else◌, Result, Ok, Err, codes, unwrap_or}
+use Rattle.std.specs.Prelude.{ℕ, zero, suc, List, [], ◌∷◌, ◌++◌, map, Bool, true, false, if◌then◌else◌, Result, Ok, Err, codes, unwrap_or, ◌≡◌}
 use Rattle.mail_base.specs.Catalogs.{value_at}
 use Rattle.cf_macros.specs.declared.fault.ExpandFault.{ExpandFault}
-use Rattle.cf_macros.specs.declared.fault.ExpandFault.TheVariants.{Unclosed, Deep, Large}
+use Rattle.cf_macros.specs.declared.fault.ExpandFault.TheVariants.{Unclosed, Deep, Large, NoMemory}
 use Rattle.cf_macros.specs.Readings.{Parts, Nothing, Bytes, Refer, Choose, Broken, Reading, Last, BeforeElse, BeforeEnd, reading}
 
 -- what happens in an expansion, in reading order: a byte is given, a reference is followed, or something is refused
@@ -60,3 +60,10 @@ outcome references bytes (Fails fault ∷ acts) = Err fault
 -- the expansion of a text: at most ten levels of references, 10,000 references and 1,048,576 bytes
 unfoldable pub value : List ℕ → List (List ℕ × List ℕ) → Result (List ℕ) ExpandFault
 value text macros = outcome 10_000 1_048_576 (whole (followed 10 macros) (reading 0 0 text))
+
+-- the expansion is refused for this cause; want of memory may come at any time
+abbrev pub IsRefused : ExpandFault → Result (List ℕ) ExpandFault → Type 0
+IsRefused (Unclosed place) expansion = expansion ≡ Err (Unclosed place)
+IsRefused Deep expansion = expansion ≡ Err Deep
+IsRefused Large expansion = expansion ≡ Err Large
+IsRefused NoMemory expansion = Unit {0}

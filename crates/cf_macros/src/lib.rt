@@ -3,8 +3,12 @@
 #![tactic(auto)]
 
 mod construct;
+mod expansion;
 mod fault;
 mod level;
+mod run;
 mod scan;
+mod steps;
 
+pub use expansion::expand;
 pub use fault::ExpandFault;
