@@ -175,4 +175,39 @@ mod tests {
         assert_eq!(rt; copied.macros.values().len(), 4);
         Ok(())
     }
+
+    fn mailer(alloc: Global) -> Result<Mailer, NoMemory> {
+        Ok(Mailer {
+            name: Text::of(alloc, b"Local")?,
+            path: Text::of(alloc, b"/bin/mail")?,
+            flags: Text::new(alloc),
+            envelope_from: None,
+            header_from: None,
+            envelope_to: None,
+            header_to: None,
+            args: Seq::new(alloc),
+            line_end: Text::of(alloc, b"\n")?,
+            most: 0,
+            group: None,
+            batch: 100,
+        })
+    }
+
+    fn with_mailer(alloc: Global) -> Result<Config, NoMemory> {
+        let mut config = Config::new(alloc)?;
+        config
+            .mailers
+            .set(Text::of(alloc, b"local")?, mailer(alloc)?)?;
+        Ok(config)
+    }
+
+    #[test]
+    fn mailers_are_found_without_case(rt: HostRuntime) -> Result<(), Fail> {
+        let config = with_mailer(rt.alloc())?;
+        let found = config.mailer(&Text::of(rt.alloc(), b"LOCAL")?)?;
+        let found = found.expect(&rt, "a mailer");
+        assert_eq!(rt; found.path.bytes(), b"/bin/mail".as_slice());
+        assert!(rt; config.mailer(&Text::new(rt.alloc()))?.is_none());
+        Ok(())
+    }
 }

@@ -225,4 +225,101 @@ mod tests {
         assert!(rt; !row.is(&copied));
         Ok(())
     }
+
+    fn kept(alloc: Global) -> Result<Kept, NoMemory> {
+        Ok(Kept {
+            protocol: Text::of(alloc, b"ESMTP")?,
+            helo: Text::of(alloc, b"c.example")?,
+            client: Text::new(alloc),
+        })
+    }
+
+    fn headers(alloc: Global) -> Result<Seq<Text>, NoMemory> {
+        let mut headers = Seq::new(alloc);
+        headers.push(Text::of(alloc, b"Subject: hi")?)?;
+        Ok(headers)
+    }
+
+    fn rows(alloc: Global) -> Result<Seq<Row>, NoMemory> {
+        let mut rows = Seq::new(alloc);
+        rows.push(queued(alloc)?)?;
+        Ok(rows)
+    }
+
+    fn child(alloc: Global) -> Result<Control, NoMemory> {
+        let rows = rows(alloc)?;
+        let headers = headers(alloc)?;
+        let kept = kept(alloc)?;
+        Ok(Control {
+            revision: 3,
+            parent: Some(Parent {
+                id: Id::new(1),
+                revision: 2,
+            }),
+            group: Text::of(alloc, b"mqueue")?,
+            created: 1_767_225_600,
+            last_try: 0,
+            tries: 0,
+            priority: 30_022,
+            class: -60,
+            marks: Marks {
+                bounce: true,
+                double: false,
+                warned: false,
+            },
+            eight: true,
+            sender: Text::of(alloc, b"<>")?,
+            kept,
+            rows,
+            headers,
+        })
+    }
+
+    #[test]
+    fn controls_are_copied_and_compared(rt: HostRuntime) -> Result<(), Fail> {
+        let control = child(rt.alloc())?;
+        let mut copied = control.copy()?;
+        assert!(rt; copied.is(&control));
+        copied.marks.double = true;
+        assert!(rt; !copied.is(&control));
+        Ok(())
+    }
+
+    #[test]
+    fn entries_are_copied(rt: HostRuntime) -> Result<(), Fail> {
+        let entry = Entry {
+            id: Id::new(7),
+            dir: Text::of(rt.alloc(), b"/q")?,
+            control: child(rt.alloc())?,
+        };
+        let copied = entry.copy()?;
+        assert!(rt; copied.id.is(&entry.id) && copied.dir.is(&entry.dir));
+        assert!(rt; copied.control.is(&entry.control));
+        Ok(())
+    }
+
+    #[test]
+    fn drafts_are_copied(rt: HostRuntime) -> Result<(), Fail> {
+        let draft = Draft {
+            id: None,
+            dir: Text::of(rt.alloc(), b"/q/bulk")?,
+            control: child(rt.alloc())?,
+        };
+        let copied = draft.copy()?;
+        assert!(rt; copied.id.is_none() && copied.dir.is(&draft.dir));
+        assert!(rt; copied.control.is(&draft.control));
+        Ok(())
+    }
+
+    #[test]
+    fn strays_are_copied(rt: HostRuntime) -> Result<(), Fail> {
+        let stray = Stray {
+            dir: Text::of(rt.alloc(), b"/q")?,
+            name: Text::of(rt.alloc(), b"qfAAA123")?,
+        };
+        let copied = stray.copy()?;
+        assert_eq!(rt; copied.dir.bytes(), b"/q".as_slice());
+        assert_eq!(rt; copied.name.bytes(), b"qfAAA123".as_slice());
+        Ok(())
+    }
 }

@@ -81,6 +81,7 @@ impl TryCopy for Group {
 #[cfg(test)]
 mod tests {
     use super::*;
+    use crate::Same;
     use std::alloc::Global;
     use std::test::Fail;
 
@@ -101,6 +102,38 @@ mod tests {
         let copied = group.copy()?;
         assert_eq!(rt; copied.path.bytes(), b"/q/bulk".as_slice());
         assert_eq!(rt; copied.recipients, 100);
+        Ok(())
+    }
+
+    fn smtp(alloc: Global) -> Result<Mailer, NoMemory> {
+        let mut args = Seq::new(alloc);
+        args.push(Text::of(alloc, b"TCP")?)?;
+        args.push(Text::of(alloc, b"$h")?)?;
+        Ok(Mailer {
+            name: Text::of(alloc, b"smtp")?,
+            path: Text::of(alloc, b"[IPC]")?,
+            flags: Text::of(alloc, b"mDFMuX")?,
+            envelope_from: None,
+            header_from: None,
+            envelope_to: Some(Text::of(alloc, b"11")?),
+            header_to: None,
+            args,
+            line_end: Text::of(alloc, b"\r\n")?,
+            most: 0,
+            group: Some(Text::of(alloc, b"bulk")?),
+            batch: 100,
+        })
+    }
+
+    #[test]
+    fn mailers_are_copied(rt: HostRuntime) -> Result<(), Fail> {
+        let mailer = smtp(rt.alloc())?;
+        let copied = mailer.copy()?;
+        assert_eq!(rt; copied.flags.bytes(), b"mDFMuX".as_slice());
+        assert!(rt; copied.args.is(&mailer.args));
+        assert!(rt; copied.envelope_to.is(&mailer.envelope_to) && copied.envelope_from.is_none());
+        assert!(rt; copied.group.is(&mailer.group));
+        assert_eq!(rt; copied.batch, 100);
         Ok(())
     }
 }

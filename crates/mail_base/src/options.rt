@@ -105,3 +105,39 @@ impl TryCopy for Options {
         })
     }
 }
+
+#[cfg(test)]
+mod tests {
+    use super::*;
+    use std::test::Fail;
+
+    #[test]
+    fn options_are_copied(rt: HostRuntime) -> Result<(), Fail> {
+        let copied = Options::new(rt.alloc())?.copy()?;
+        assert_eq!(rt;
+            copied.queue_directory.bytes(),
+            b"/var/spool/mqueue".as_slice()
+        );
+        assert_eq!(rt; copied.hosts_file.bytes(), b"/etc/hosts".as_slice());
+        assert_eq!(rt;
+            copied.double_bounce_address.bytes(),
+            b"postmaster".as_slice()
+        );
+        assert_eq!(rt; copied.max_hop_count, 25);
+        assert!(rt; copied.queue_warn.is_none());
+        Ok(())
+    }
+
+    #[test]
+    fn ports_are_copied(rt: HostRuntime) -> Result<(), Fail> {
+        let port = DaemonPort {
+            port: 587,
+            address: Some(Text::of(rt.alloc(), b"127.0.0.1")?),
+        };
+        let copied = port.copy()?;
+        assert_eq!(rt; copied.port, 587);
+        let address = copied.address.expect(&rt, "an address");
+        assert_eq!(rt; address.bytes(), b"127.0.0.1".as_slice());
+        Ok(())
+    }
+}

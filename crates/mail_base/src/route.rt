@@ -120,3 +120,63 @@ impl Same for Triple {
         self.mailer.is(&other.mailer) && self.host.is(&other.host) && self.user.is(&other.user)
     }
 }
+
+#[cfg(test)]
+mod tests {
+    use super::*;
+    use std::alloc::Global;
+    use std::test::Fail;
+
+    fn ann(alloc: Global) -> Result<Triple, NoMemory> {
+        Ok(Triple {
+            mailer: Text::of(alloc, b"local")?,
+            host: Text::new(alloc),
+            user: Text::of(alloc, b"ann")?,
+        })
+    }
+
+    fn unknown(alloc: Global, status: Status) -> Result<RouteError, NoMemory> {
+        Ok(RouteError {
+            code: 554,
+            status,
+            text: Text::of(alloc, b"Unknown mailer uucp")?,
+            cause: Cause::UnknownMailer(Text::of(alloc, b"uucp")?),
+        })
+    }
+
+    #[test]
+    fn triples_are_copied_and_compared(rt: HostRuntime) -> Result<(), Fail> {
+        let triple = ann(rt.alloc())?;
+        let mut copied = triple.copy()?;
+        assert!(rt; copied.is(&triple));
+        copied.user.push(b'e')?;
+        assert!(rt; !copied.is(&triple));
+        Ok(())
+    }
+
+    #[test]
+    fn routes_are_copied(rt: HostRuntime) -> Result<(), Fail> {
+        let status = Status::of(b"5.3.5").expect(&rt, "a status");
+        let refused = Resolved::Refuses(unknown(rt.alloc(), status)?);
+        if let Resolved::Refuses(error) = refused.copy()? {
+            assert_eq!(rt; error.code, 554);
+            assert_eq!(rt; error.status.bytes(), b"5.3.5".as_slice());
+            assert_eq!(rt; error.text.bytes(), b"Unknown mailer uucp".as_slice());
+        } else {
+            assert!(rt; false);
+        }
+        Ok(())
+    }
+
+    #[test]
+    fn causes_are_copied(rt: HostRuntime) -> Result<(), Fail> {
+        let cause = Cause::NoRuleset(Text::of(rt.alloc(), b"parse")?);
+        if let Cause::NoRuleset(name) = cause.copy()? {
+            assert_eq!(rt; name.bytes(), b"parse".as_slice());
+        } else {
+            assert!(rt; false);
+        }
+        assert!(rt; matches!(&Cause::Loop.copy()?, Cause::Loop));
+        Ok(())
+    }
+}

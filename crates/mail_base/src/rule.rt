@@ -219,6 +219,7 @@ impl TryCopy for RuleSet {
 #[cfg(test)]
 mod tests {
     use super::*;
+    use std::alloc::Global;
     use std::test::Fail;
 
     #[test]
@@ -232,6 +233,58 @@ mod tests {
         assert!(rt; pattern.copy()?.items == items);
         items.push(Item::One)?;
         assert!(rt; Pattern::of(items).is_none());
+        Ok(())
+    }
+
+    fn lookup(alloc: Global) -> Result<Step, NoMemory> {
+        let mut key = Seq::new(alloc);
+        key.push(Piece::Cut(1))?;
+        Ok(Step::Lookup {
+            name: Text::of(alloc, b"host")?,
+            key,
+            args: Seq::new(alloc),
+            fallback: None,
+        })
+    }
+
+    fn template(alloc: Global) -> Result<Template, NoMemory> {
+        let mut steps = Seq::new(alloc);
+        steps.push(Step::Plain(Piece::Give(Token::Op(b'@'))))?;
+        steps.push(lookup(alloc)?)?;
+        steps.push(Step::Call)?;
+        Ok(Template {
+            go: Go::Next,
+            steps,
+        })
+    }
+
+    fn set_of(alloc: Global, left: Pattern) -> Result<RuleSet, NoMemory> {
+        let mut names = Seq::new(alloc);
+        names.push(Text::of(alloc, b"parse")?)?;
+        let right = template(alloc)?;
+        let mut rules = Seq::new(alloc);
+        rules.push(Rule { left, right })?;
+        Ok(RuleSet { names, rules })
+    }
+
+    #[test]
+    fn right_sides_are_copied(rt: HostRuntime) -> Result<(), Fail> {
+        let right = template(rt.alloc())?;
+        let copied = right.copy()?;
+        assert!(rt; copied == right);
+        assert!(rt; copied.go == Go::Next);
+        assert_eq!(rt; copied.steps.len(), 3);
+        Ok(())
+    }
+
+    #[test]
+    fn rulesets_are_copied(rt: HostRuntime) -> Result<(), Fail> {
+        let left = Pattern::of(Seq::new(rt.alloc())).expect(&rt, "none are few");
+        let copied = set_of(rt.alloc(), left)?.copy()?;
+        assert_eq!(rt; copied.names.len(), 1);
+        let rule = copied.rules.get(0).expect(&rt, "one rule");
+        assert!(rt; rule.left.items().is_empty());
+        assert_eq!(rt; rule.right.steps.len(), 3);
         Ok(())
     }
 }

@@ -48,3 +48,22 @@ impl Script {
         self.faults = self.faults.saturating_add(1);
     }
 }
+
+#[cfg(test)]
+mod tests {
+    use super::*;
+    use std::test::Fail;
+
+    #[test]
+    fn listed_calls_fail(rt: HostRuntime) -> Result<(), Fail> {
+        let mut failing = Seq::new(rt.alloc());
+        failing.push(1)?;
+        let mut script = Script::new(failing);
+        assert!(rt; script.call().is_ok());
+        assert!(rt; script.call().is_err());
+        assert!(rt; script.call().is_ok());
+        assert_eq!(rt; script.calls, 3);
+        assert_eq!(rt; script.faults, 1);
+        Ok(())
+    }
+}

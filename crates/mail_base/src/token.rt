@@ -63,3 +63,29 @@ impl Same for Token {
         }
     }
 }
+
+#[cfg(test)]
+mod tests {
+    use super::*;
+    use std::test::Fail;
+
+    #[test]
+    fn tokens_are_copied_and_compared(rt: HostRuntime) -> Result<(), Fail> {
+        let word = Token::Word(Text::of(rt.alloc(), b"ann")?);
+        let quoted = Token::Quoted(Text::of(rt.alloc(), b"ann")?);
+        assert!(rt; word.copy()?.is(&word));
+        assert!(rt; quoted.copy()?.is(&quoted));
+        assert!(rt; !word.is(&quoted));
+        assert!(rt; !Token::Op(b'@').is(&Token::Op(b'.')));
+        Ok(())
+    }
+
+    #[test]
+    fn signs_are_copied_and_compared(rt: HostRuntime) -> Result<(), Fail> {
+        let sign = Token::Sign(Mark::User);
+        assert!(rt; sign.copy()?.is(&sign));
+        assert!(rt; !sign.is(&Token::Sign(Mark::Host)));
+        assert!(rt; Mark::Alt.copy()?.is(&Mark::Alt));
+        Ok(())
+    }
+}
