@@ -13,12 +13,12 @@ unfolding reading
 reading-skips place zero text = let e : 0 + place ≡ place = omega arith in rw e refl
 reading-skips place (suc skipped) [] = refl
 reading-skips place (suc skipped) (byte ∷ text) =
-  let e : skipped + suc place ≡ suc skipped + place = omega arith in
-  reading-skips (suc place) skipped text ∙ ap (λ n. reading n 0 (drop skipped text)) e
+    let e : skipped + suc place ≡ suc skipped + place = omega arith in
+    reading-skips (suc place) skipped text ∙ ap (λ n. reading n 0 (drop skipped text)) e
 
 -- a text that isn't empty, by its first construct
 pub reading-first : (place : ℕ) (text : List ℕ) → 0 < length text → 1 ≤ (first_piece text).width →
-  reading place 0 text ≡ before (first_piece text).kind place (first_piece text) (reading (place + (first_piece text).width) 0 (drop (first_piece text).width text))
+    reading place 0 text ≡ before (first_piece text).kind place (first_piece text) (reading (place + (first_piece text).width) 0 (drop (first_piece text).width text))
 unfolding reading
 reading-first place [] h moves = absurd (omega arith)
 reading-first place (byte ∷ text) h moves = cut (first_piece (byte ∷ text)) moves
@@ -29,9 +29,9 @@ reading-first place (byte ∷ text) h moves = cut (first_piece (byte ∷ text)) 
         skips : (width : ℕ) → 1 ≤ width → reading (suc place) (width - 1) text ≡ reading (place + width) 0 (drop width (byte ∷ text))
         skips zero moves = absurd (omega arith)
         skips (suc width) moves =
-          let e : suc width - 1 ≡ width = omega arith in
-          let f : width + suc place ≡ place + suc width = omega arith in
-          rw e (reading-skips (suc place) width text ∙ ap (λ n. reading n 0 (drop width text)) f)
+            let e : suc width - 1 ≡ width = omega arith in
+            let f : width + suc place ≡ place + suc width = omega arith in
+            rw e (reading-skips (suc place) width text ∙ ap (λ n. reading n 0 (drop width text)) f)
 
 drop-nil : (n : ℕ) → drop {A = ℕ} n [] ≡ []
 drop-nil zero = refl
@@ -56,10 +56,10 @@ rest-end (byte ∷ text) (suc place) h = ap (reading (suc place) 0) (gone text p
 
 -- the rest of a text at a place, by the construct there
 pub rest-first : (text : List ℕ) (place : ℕ) → 0 < length (drop place text) → 1 ≤ (first_piece (drop place text)).width →
-  rest_at text place ≡ before (first_piece (drop place text)).kind place (first_piece (drop place text)) (rest_at text (place + (first_piece (drop place text)).width))
+    rest_at text place ≡ before (first_piece (drop place text)).kind place (first_piece (drop place text)) (rest_at text (place + (first_piece (drop place text)).width))
 rest-first text place h moves =
-  reading-first place (drop place text) h moves
-  ∙ ap (λ t. before (first_piece (drop place text)).kind place (first_piece (drop place text)) (reading (place + (first_piece (drop place text)).width) 0 t)) (drop-again (first_piece (drop place text)).width place text)
+    reading-first place (drop place text) h moves
+    ∙ ap (λ t. before (first_piece (drop place text)).kind place (first_piece (drop place text)) (reading (place + (first_piece (drop place text)).width) 0 t)) (drop-again (first_piece (drop place text)).width place text)
 
 pub past-put : (front : Parts → Parts) (rest : Reading) (ends : ℕ) → past (suc ends) (put front rest) ≡ past (suc ends) rest
 past-put front (Last parts) ends = refl
@@ -81,31 +81,31 @@ past-before Unclosed place found rest ends h = absurd (h refl)
 
 -- the rest of a text at a place, by the construct that the code found there
 pub rest-found : (text front : List ℕ) (place : ℕ) (found : Construct) → front ≡ drop place text → place < length text → Shows found (first_piece front) (length front) →
-  rest_at text place ≡ before found.kind place (piece found.kind found.text.now found.width) (rest_at text (place + found.width))
+    rest_at text place ≡ before found.kind place (piece found.kind found.text.now found.width) (rest_at text (place + found.width))
 rest-found text front place found e h shows =
-  let there : 0 < length (drop place text) = omega (arith, length-drop place text) in
-  let same : first_piece front ≡ first_piece (drop place text) = ap first_piece e in
-  let width : found.width ≡ (first_piece (drop place text)).width = shows.width ∙ ap (λ p. p.width) same in
-  let kind : found.kind ≡ (first_piece (drop place text)).kind = shows.kind ∙ ap (λ p. p.kind) same in
-  let shown : found.text.now ≡ (first_piece (drop place text)).text = shows.text ∙ ap (λ p. p.text) same in
-  let goes : 1 ≤ (first_piece (drop place text)).width = omega (arith, width, shows.moves) in
-  rest-first text place there goes ∙ sym (rw (kind, width, shown) refl)
+    let there : 0 < length (drop place text) = omega (arith, length-drop place text) in
+    let same : first_piece front ≡ first_piece (drop place text) = ap first_piece e in
+    let width : found.width ≡ (first_piece (drop place text)).width = shows.width ∙ ap (λ p. p.width) same in
+    let kind : found.kind ≡ (first_piece (drop place text)).kind = shows.kind ∙ ap (λ p. p.kind) same in
+    let shown : found.text.now ≡ (first_piece (drop place text)).text = shows.text ∙ ap (λ p. p.text) same in
+    let goes : 1 ≤ (first_piece (drop place text)).width = omega (arith, width, shows.moves) in
+    rest-first text place there goes ∙ sym (rw (kind, width, shown) refl)
 
 -- one step of a scan
 pub scan-step : (text front : List ℕ) (place ends : ℕ) (found : Construct) → front ≡ drop place text → place < length text → Shows found (first_piece front) (length front) → (found.kind ≡ Unclosed → ⊥) → 1 ≤ ends →
-  past ends (rest_at text place) ≡ past (ends_behind found.kind ends) (rest_at text (place + found.width))
+    past ends (rest_at text place) ≡ past (ends_behind found.kind ends) (rest_at text (place + found.width))
 scan-step text front place zero found e h shows known some = absurd (omega arith)
 scan-step text front place (suc ends) found e h shows known some =
-  ap (past (suc ends)) (rest-found text front place found e h shows)
-  ∙ past-before found.kind place (piece found.kind found.text.now found.width) (rest_at text (place + found.width)) ends known
+    ap (past (suc ends)) (rest-found text front place found e h shows)
+    ∙ past-before found.kind place (piece found.kind found.text.now found.width) (rest_at text (place + found.width)) ends known
 
 -- a scan ends where something is unclosed
 pub scan-unclosed : (text front : List ℕ) (place ends : ℕ) (found : Construct) → front ≡ drop place text → place < length text → Shows found (first_piece front) (length front) → found.kind ≡ Unclosed → 1 ≤ ends →
-  past ends (rest_at text place) ≡ None
+    past ends (rest_at text place) ≡ None
 scan-unclosed text front place zero found e h shows known some = absurd (omega arith)
 scan-unclosed text front place (suc ends) found e h shows known some =
-  ap (past (suc ends)) (rest-found text front place found e h shows)
-  ∙ ap (λ k. past (suc ends) (before k place (piece found.kind found.text.now found.width) (rest_at text (place + found.width)))) known
+    ap (past (suc ends)) (rest-found text front place found e h shows)
+    ∙ ap (λ k. past (suc ends) (before k place (piece found.kind found.text.now found.width) (rest_at text (place + found.width)))) known
 
 pub scan-end : (text : List ℕ) (place ends : ℕ) → length text ≤ place → 1 ≤ ends → past ends (rest_at text place) ≡ None
 scan-end text place zero h some = absurd (omega arith)
@@ -144,50 +144,50 @@ pub behind-of-past : (rest : Reading) (after : Option Reading) → past 1 rest �
 behind-of-past rest after e = then-some (behind_end rest) after e
 
 mark-behind : (text : List ℕ) (kind : Kind) (place passed : ℕ) (found : Piece) → (kind ≡ Unclosed → ⊥) → (kind ≡ Else → ⊥) → (kind ≡ End → ⊥) → IsBehind text kind (place + found.width) (Some passed) →
-  SameBehind (before kind place found (rest_at text (place + found.width))) (rest_at text passed)
+    SameBehind (before kind place found (rest_at text (place + found.width))) (rest_at text passed)
 mark-behind text Plain place passed found a b d e =
-  let f : place + found.width ≡ passed = cc in
-  same-to (put (Bytes found.text) (rest_at text (place + found.width))) (rest_at text (place + found.width)) (rest_at text passed) (same-put (Bytes found.text) (rest_at text (place + found.width))) (ap (rest_at text) f)
+    let f : place + found.width ≡ passed = cc in
+    same-to (put (Bytes found.text) (rest_at text (place + found.width))) (rest_at text (place + found.width)) (rest_at text passed) (same-put (Bytes found.text) (rest_at text (place + found.width))) (ap (rest_at text) f)
 mark-behind text Reference place passed found a b d e =
-  let f : place + found.width ≡ passed = cc in
-  same-to (put (Refer found.text) (rest_at text (place + found.width))) (rest_at text (place + found.width)) (rest_at text passed) (same-put (Refer found.text) (rest_at text (place + found.width))) (ap (rest_at text) f)
+    let f : place + found.width ≡ passed = cc in
+    same-to (put (Refer found.text) (rest_at text (place + found.width))) (rest_at text (place + found.width)) (rest_at text passed) (same-put (Refer found.text) (rest_at text (place + found.width))) (ap (rest_at text) f)
 mark-behind text Test place passed found a b d e =
-  let there : behind_end (rest_at text (place + found.width)) ≡ Some (rest_at text passed) = behind-of-past (rest_at text (place + found.width)) (Some (rest_at text passed)) e.0 in
-  rw there (same-put (Choose found.text (first_part (rest_at text (place + found.width))) (second_part (rest_at text (place + found.width)))) (rest_at text passed))
+    let there : behind_end (rest_at text (place + found.width)) ≡ Some (rest_at text passed) = behind-of-past (rest_at text (place + found.width)) (Some (rest_at text passed)) e.0 in
+    rw there (same-put (Choose found.text (first_part (rest_at text (place + found.width))) (second_part (rest_at text (place + found.width)))) (rest_at text passed))
 mark-behind text Else place passed found a b d e = absurd (b refl)
 mark-behind text End place passed found a b d e = absurd (d refl)
 mark-behind text Unclosed place passed found a b d e = absurd (a refl)
 
 pub mark-step : (text front : List ℕ) (place passed : ℕ) (found : Construct) → front ≡ drop place text → place < length text → Shows found (first_piece front) (length front) → (found.kind ≡ Unclosed → ⊥) → (found.kind ≡ Else → ⊥) → (found.kind ≡ End → ⊥) → IsBehind text found.kind (place + found.width) (Some passed) →
-  SameBehind (rest_at text place) (rest_at text passed)
+    SameBehind (rest_at text place) (rest_at text passed)
 mark-step text front place passed found e h shows a b d behind =
-  same-along (rest_at text place) (before found.kind place (piece found.kind found.text.now found.width) (rest_at text (place + found.width))) (rest_at text passed)
+    same-along (rest_at text place) (before found.kind place (piece found.kind found.text.now found.width) (rest_at text (place + found.width))) (rest_at text passed)
     (rest-found text front place found e h shows)
     (mark-behind text found.kind place passed (piece found.kind found.text.now found.width) a b d behind)
 
 mark-open : (text : List ℕ) (kind : Kind) (place : ℕ) (found : Piece) → (kind ≡ Else → ⊥) → (kind ≡ End → ⊥) → IsBehind text kind (place + found.width) None →
-  SameBehind (before kind place found (rest_at text (place + found.width))) (Last Nothing)
+    SameBehind (before kind place found (rest_at text (place + found.width))) (Last Nothing)
 mark-open text Plain place found b d e = cc
 mark-open text Reference place found b d e = cc
 mark-open text Test place found b d e =
-  let there : behind_end (rest_at text (place + found.width)) ≡ None = behind-of-past (rest_at text (place + found.width)) None e in
-  rw there (record { second = refl; behind = refl })
+    let there : behind_end (rest_at text (place + found.width)) ≡ None = behind-of-past (rest_at text (place + found.width)) None e in
+    rw there (record { second = refl; behind = refl })
 mark-open text Else place found b d e = absurd (b refl)
 mark-open text End place found b d e = absurd (d refl)
 mark-open text Unclosed place found b d e = record { second = refl; behind = refl }
 
 pub mark-none : (text front : List ℕ) (place : ℕ) (found : Construct) → front ≡ drop place text → place < length text → Shows found (first_piece front) (length front) → (found.kind ≡ Else → ⊥) → (found.kind ≡ End → ⊥) → IsBehind text found.kind (place + found.width) None →
-  SameBehind (rest_at text place) (Last Nothing)
+    SameBehind (rest_at text place) (Last Nothing)
 mark-none text front place found e h shows b d behind =
-  same-along (rest_at text place) (before found.kind place (piece found.kind found.text.now found.width) (rest_at text (place + found.width))) (Last Nothing)
+    same-along (rest_at text place) (before found.kind place (piece found.kind found.text.now found.width) (rest_at text (place + found.width))) (Last Nothing)
     (rest-found text front place found e h shows)
     (mark-open text found.kind place (piece found.kind found.text.now found.width) b d behind)
 
 -- the rest by the construct there, where its kind is known
 pub rest-kind : (text front : List ℕ) (place : ℕ) (found : Construct) (kind : Kind) → front ≡ drop place text → place < length text → Shows found (first_piece front) (length front) → found.kind ≡ kind →
-  rest_at text place ≡ before kind place (piece kind found.text.now found.width) (rest_at text (place + found.width))
+    rest_at text place ≡ before kind place (piece kind found.text.now found.width) (rest_at text (place + found.width))
 rest-kind text front place found kind e h shows k =
-  rest-found text front place found e h shows ∙ ap (λ kind. before kind place (piece kind found.text.now found.width) (rest_at text (place + found.width))) k
+    rest-found text front place found e h shows ∙ ap (λ kind. before kind place (piece kind found.text.now found.width) (rest_at text (place + found.width))) k
 
 pub same-end : (text : List ℕ) (place : ℕ) → length text ≤ place → SameBehind (rest_at text place) (Last Nothing)
 same-end text place h = rw (rest-end text place h) (record { second = refl; behind = refl })

@@ -54,15 +54,15 @@ goes-alike old new was o n g e = goes-same old new was None (λ f. rw (o, n, g, 
 
 pub goes-refer : (old new : Level) (was : Given) (name : List ℕ) → old.tests ≡ false → new.tests ≡ false → new.gave ≡ old.gave → new.depth ≡ old.depth → level_rest old ≡ put (Refer name) (level_rest new) → Goes old was new was (Some name)
 goes-refer old new was name o n g d e = goes-same old new was (Some name) (λ f.
-  let first : inside f old.depth (level_rest old) ≡ f name ++ inside f old.depth (level_rest new) = ap (inside f old.depth) e ∙ inside-put f (Refer name) (f name) (λ parts. refl) old.depth (level_rest new) in
-  rw (o, n, g, d, first) refl)
+    let first : inside f old.depth (level_rest old) ≡ f name ++ inside f old.depth (level_rest new) = ap (inside f old.depth) e ∙ inside-put f (Refer name) (f name) (λ parts. refl) old.depth (level_rest new) in
+    rw (o, n, g, d, first) refl)
 
 pub goes-test : (old new : Level) (was : Given) (name : List ℕ) (after : Reading) → old.tests ≡ false → new.tests ≡ true → new.gave ≡ old.gave → new.depth ≡ suc old.depth → behind_end (level_rest new) ≡ Some after →
-  level_rest old ≡ closing old.place name (level_rest new) (behind_end (level_rest new)) → Goes old was new was (Some name)
+    level_rest old ≡ closing old.place name (level_rest new) (behind_end (level_rest new)) → Goes old was new was (Some name)
 goes-test old new was name after o n g d b e = goes-same old new was (Some name) (λ f.
-  let first : inside f old.depth (level_rest old) ≡ silent (f name) ++ (if gives_any (f name) then inside f (suc old.depth) (level_rest new) else inside_other f (suc old.depth) (level_rest new)) =
+    let first : inside f old.depth (level_rest old) ≡ silent (f name) ++ (if gives_any (f name) then inside f (suc old.depth) (level_rest new) else inside_other f (suc old.depth) (level_rest new)) =
     ap (inside f old.depth) (e ∙ ap (closing old.place name (level_rest new)) b) ∙ inside-choose f old.place name (level_rest new) after old.depth b in
-  rw (o, n, g, d, first) refl)
+    rw (o, n, g, d, first) refl)
 
 refuses-broken : (f : List ℕ → List Act) (depth place : ℕ) → Refuses (Unclosed place) (above false (inside f depth (Last (Broken place))))
 refuses-broken f zero place = record { more = []; acts = refl }
@@ -105,12 +105,12 @@ other-behind f zero rest after h s b = absurd (omega arith)
 other-behind f (suc depth) rest after h s b = let d : suc depth - 1 ≡ depth = omega arith in rw (s, b, d) refl
 
 pub resumes-behind : (outer new : Level) (gave : Bool) (place : ℕ) → outer.tests ≡ true → gave ≡ false → IsAt outer place (outer.depth - 1) new →
-  second_part (level_rest outer) ≡ Nothing → behind_end (level_rest outer) ≡ Some (rest_at outer.text.now place) → Resumes outer gave new
+    second_part (level_rest outer) ≡ Nothing → behind_end (level_rest outer) ≡ Some (rest_at outer.text.now place) → Resumes outer gave new
 resumes-behind outer new gave place t g at s b = record {
   same = λ f.
-    let moved : inside f new.depth (level_rest new) ≡ inside_other f outer.depth (level_rest outer) =
+      let moved : inside f new.depth (level_rest new) ≡ inside_other f outer.depth (level_rest outer) =
       ap (λ d. inside f d (level_rest new)) at.inside ∙ ap (inside f (outer.depth - 1)) (ap (λ t. rest_at t new.place) at.same ∙ ap (rest_at outer.text.now) at.there)
       ∙ sym (other-behind f outer.depth (level_rest outer) (rest_at outer.text.now place) (outer.waits t) s b) in
-    rw (t, g, at.reads, at.gave, moved) refl;
+      rw (t, g, at.reads, at.gave, moved) refl;
   reads = at.reads;
 }

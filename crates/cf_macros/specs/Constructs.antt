@@ -23,8 +23,8 @@ braced (Some length) = Word length
 abbrev pub name_at : List ℕ → Naming
 name_at [] = Nameless
 name_at (byte ∷ text) =
-  if byte == 123 then braced (position (λ other. other == 125) text)
-  else if is_name byte then Letter else Nameless
+    if byte == 123 then braced (position (λ other. other == 125) text)
+    else if is_name byte then Letter else Nameless
 
 -- what a construct is, its name or else the bytes that it stands for, and how many bytes of the text it takes; where something is unclosed, the bytes up to its own sign
 pub record Piece : Type 0 where
@@ -52,19 +52,19 @@ test_of text Nameless = piece Plain (take 2 text) 2
 -- a dollar sign and the byte behind it
 abbrev pub dollar_piece : List ℕ → ℕ → Piece
 dollar_piece text next =
-  if next == 36 then piece Plain (take 1 text) 2
-  else if next == 124 then piece Else [] 2
-  else if next == 46 then piece End [] 2
-  else if next == 63 then test_of text (name_at (drop 2 text))
-  else if next == 38 then reference_at 2 text (name_at (drop 2 text))
-  else reference_at 1 text (name_at (drop 1 text))
+    if next == 36 then piece Plain (take 1 text) 2
+    else if next == 124 then piece Else [] 2
+    else if next == 46 then piece End [] 2
+    else if next == 63 then test_of text (name_at (drop 2 text))
+    else if next == 38 then reference_at 2 text (name_at (drop 2 text))
+    else reference_at 1 text (name_at (drop 1 text))
 
 -- the first construct of a text that isn't empty
 abbrev pub first_piece : List ℕ → Piece
 first_piece [] = piece Plain [] 1
 first_piece (byte ∷ []) = piece Plain (byte ∷ []) 1
 first_piece (byte ∷ next ∷ rest) =
-  if byte == 36 then dollar_piece (byte ∷ next ∷ rest) next else piece Plain (byte ∷ []) 1
+    if byte == 36 then dollar_piece (byte ∷ next ∷ rest) next else piece Plain (byte ∷ []) 1
 
 -- what the naming takes is within so many bytes
 abbrev pub IsWithin : Naming → ℕ → Type 0

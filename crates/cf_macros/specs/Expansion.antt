@@ -30,7 +30,7 @@ acts_of followed Nothing = []
 acts_of followed (Bytes bytes parts) = map Gives bytes ++ acts_of followed parts
 acts_of followed (Refer name parts) = followed name ++ acts_of followed parts
 acts_of followed (Choose name shown other parts) =
-  silent (followed name) ++ ((if gives_any (followed name) then acts_of followed shown else acts_of followed other) ++ acts_of followed parts)
+    silent (followed name) ++ ((if gives_any (followed name) then acts_of followed shown else acts_of followed other) ++ acts_of followed parts)
 acts_of followed (Broken place) = Fails (Unclosed place) ∷ []
 
 -- outside conditionals, `$|` and `$.` stand for themselves

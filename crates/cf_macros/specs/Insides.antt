@@ -71,7 +71,7 @@ IsBehind text Unclosed next passed = passed ≡ Some next
 -- the other part of the conditional begins there, or there is none and the conditional ends there, or nothing closes it
 abbrev pub IsMark : List ℕ → ℕ → Mark → Type 0
 IsMark text from (OtherPart place) =
-  (second_part (rest_at text from) ≡ first_part (rest_at text place)) × (behind_end (rest_at text from) ≡ behind_end (rest_at text place)) × (from ≤ place) × (place ≤ length text)
+    (second_part (rest_at text from) ≡ first_part (rest_at text place)) × (behind_end (rest_at text from) ≡ behind_end (rest_at text place)) × (from ≤ place) × (place ≤ length text)
 IsMark text from (Behind place) =
-  (second_part (rest_at text from) ≡ Nothing) × (behind_end (rest_at text from) ≡ Some (rest_at text place)) × (from ≤ place) × (place ≤ length text)
+    (second_part (rest_at text from) ≡ Nothing) × (behind_end (rest_at text from) ≡ Some (rest_at text place)) × (from ≤ place) × (place ≤ length text)
 IsMark text from NoMark = (second_part (rest_at text from) ≡ Nothing) × (behind_end (rest_at text from) ≡ None)

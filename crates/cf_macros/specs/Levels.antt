@@ -30,7 +30,7 @@ waiting false gave acts other over = above (either over.given gave) (over.acts +
 
 abbrev pub under : (List ℕ → List Act) → Level → Above → Above
 under followed level over =
-  waiting level.tests level.gave (inside followed level.depth (level_rest level)) (inside_other followed level.depth (level_rest level)) over
+    waiting level.tests level.gave (inside followed level.depth (level_rest level)) (inside_other followed level.depth (level_rest level)) over
 
 -- a stack of levels, of which the first has so many levels left
 abbrev pub stacked : ℕ → List (List ℕ × List ℕ) → List Level → Above → Above

@@ -61,4 +61,4 @@ unfoldable pub reading : ℕ → ℕ → List ℕ → Reading
 reading place skipped [] = Last Nothing
 reading place (suc skipped) (byte ∷ text) = reading (suc place) skipped text
 reading place zero (byte ∷ text) =
-  let found = first_piece (byte ∷ text) in before found.kind place found (reading (suc place) (found.width - 1) text)
+    let found = first_piece (byte ∷ text) in before found.kind place found (reading (suc place) (found.width - 1) text)

@@ -3,12 +3,18 @@
 #![tactic(auto)]
 
 mod construct;
+mod dates;
 mod expansion;
 mod fault;
+mod form;
 mod level;
 mod run;
 mod scan;
 mod steps;
+#[cfg(test)]
+mod tests;
 
+pub use dates::date;
 pub use expansion::expand;
 pub use fault::ExpandFault;
+pub use form::Form;

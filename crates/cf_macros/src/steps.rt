@@ -194,7 +194,10 @@ impl<'a> Level<'a> {
     {
         let found = first_piece(rest(self.text, self.place));
         match found.kind {
-            Kind::Plain => Ok((self.give(given, found.text, self.place + found.width)?, None)),
+            Kind::Plain => Ok((
+                self.give(given, found.text, self.place + found.width)?,
+                None,
+            )),
             Kind::Reference => Ok((self.refer(found), Some(found.text))),
             Kind::Test => Ok((self.test(found)?, Some(found.text))),
             Kind::Else => Ok((self.pass_else(given, found)?, None)),
@@ -204,7 +207,10 @@ impl<'a> Level<'a> {
     }
 
     /// Reads on to the next reference or test, whose name it gives, or to the end of the text.
-    pub(crate) fn read(self, given: &mut Given) -> Result<(Level<'a>, Option<&'a [u8]>), ExpandFault>
+    pub(crate) fn read(
+        self,
+        given: &mut Given,
+    ) -> Result<(Level<'a>, Option<&'a [u8]>), ExpandFault>
         requires { self.tests ≡ false }
         ensures goes { IfOk result (λ step. Goes self.entry given.old step.0 given.new (option_copied step.1)) }
         ensures end { IfOk result (λ step. IfNone step.1 (IsAtEnd step.0)) }

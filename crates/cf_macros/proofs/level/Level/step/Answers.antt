@@ -7,7 +7,7 @@ use Rattle.cf_macros.proofs.level.Level.step.Goals as goal
 
 pub give-requires-clause-gives : goal.give-requires-clause-gives
 give-requires-clause-gives c =
-  gives-next c.args.self c.first_piece-found.result.text.now (c.args.self.place + c.first_piece-found.result.width)
+    gives-next c.args.self c.first_piece-found.result.text.now (c.args.self.place + c.first_piece-found.result.width)
     (rest-kind _ _ _ c.first_piece-found.result Plain c.rest.ensures c.requires.unfinished c.first_piece-found.ensures c.in-Plain.is)
     (omega (arith, c.first_piece-found.ensures.moves))
     (found-within _ _ _ c.first_piece-found.result c.rest.ensures c.requires.unfinished c.first_piece-found.ensures)
@@ -32,6 +32,6 @@ returns-in_ok-test-in-Test-clause-goes c = c.in_ok-test-in-Test.ensures.goes c.a
 
 pub returns-in-Unclosed-clause-err : goal.returns-in-Unclosed-clause-err
 returns-in-Unclosed-clause-err c =
-  let e = rest-kind _ _ _ c.first_piece-found.result Unclosed c.rest.ensures c.requires.unfinished c.first_piece-found.ensures c.in-Unclosed.is in
-  let p : c.args.self.place + (c.first_piece-found.result.width - 1) ≡ c.args.self.place + c.first_piece-found.result.width - 1 = omega (arith, c.first_piece-found.ensures.moves) in
-  stops-broken c.args.self c.args.given.now _ c.requires.reads (e ∙ ap (λ place. Last (Broken place)) p)
+    let e = rest-kind _ _ _ c.first_piece-found.result Unclosed c.rest.ensures c.requires.unfinished c.first_piece-found.ensures c.in-Unclosed.is in
+    let p : c.args.self.place + (c.first_piece-found.result.width - 1) ≡ c.args.self.place + c.first_piece-found.result.width - 1 = omega (arith, c.first_piece-found.ensures.moves) in
+    stops-broken c.args.self c.args.given.now _ c.requires.reads (e ∙ ap (λ place. Last (Broken place)) p)

@@ -9,5 +9,5 @@ returns-then-not-is_closed-clause-err c = λ was. stops-unclosed c.args.self was
 
 pub returns-clause-goes : goal.returns-clause-goes
 returns-clause-goes c = λ was.
-  let after = there (is_closed c.args.self.depth) (behind_end (rest_at c.args.self.text.now (c.args.self.place + c.args.found.width))) (c.if-not-is_closed.ensures.closed refl) in
-  goes-test c.args.self _ was c.args.found.text.now after.0 c.requires.reads refl refl (omega arith) after.1 c.requires.rest
+    let after = there (is_closed c.args.self.depth) (behind_end (rest_at c.args.self.text.now (c.args.self.place + c.args.found.width))) (c.if-not-is_closed.ensures.closed refl) in
+    goes-test c.args.self _ was c.args.found.text.now after.0 c.requires.reads refl refl (omega arith) after.1 c.requires.rest
