@@ -1,9 +1,8 @@
 -- What comes first inside the conditionals that are open around a rest.
-use Rattle.std.proofs.Common.{◌≡◌, ℕ, zero, suc, List, [], ◌∷◌, ◌++◌, map, refl, ap, sym, ◌∙◌, append_assoc, Option, None, Some, Bool, true, false, if◌then◌else◌}
-use Rattle.std.specs.Prelude.{codes}
-use Rattle.cf_macros.specs.Readings.{Parts, Nothing, Bytes, Refer, Choose, Broken, Reading, Last, BeforeElse, BeforeEnd, put, first_part, second_part, behind_end, closing}
-use Rattle.cf_macros.specs.Expansion.{Act, Gives, Follows, Fails, acts_of, whole, silent, gives_any}
-use Rattle.cf_macros.specs.Insides.{is_closed, if_there, inside, inside_other, beyond}
+use Rattle.std.proofs.Common.{◌≡◌, ℕ, zero, suc, List, ◌++◌, refl, ap, sym, ◌∙◌, append_assoc, Option, None, Some, Bool, true, false, if◌then◌else◌}
+use Rattle.cf_macros.specs.Readings.{Parts, Choose, Reading, Last, BeforeElse, BeforeEnd, put, first_part, second_part, behind_end, closing}
+use Rattle.cf_macros.specs.Expansion.{Act, acts_of, silent, gives_any}
+use Rattle.cf_macros.specs.Insides.{is_closed, if_there, inside, inside_other}
 
 -- something in front comes first
 pub inside-put : (followed : List ℕ → List Act) (front : Parts → Parts) (first : List Act) → ((parts : Parts) → acts_of followed (front parts) ≡ first ++ acts_of followed parts) →

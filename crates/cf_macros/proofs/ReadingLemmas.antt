@@ -1,10 +1,10 @@
 -- How a reading goes on behind a construct.
-use Rattle.std.proofs.Common.{◌≡◌, ℕ, zero, suc, ◌+◌, ◌-◌, ◌<◌, ◌≤◌, List, [], ◌∷◌, ◌++◌, length, drop, refl, ap, sym, ◌∙◌, arith, Option, None, Some, subst, add-one, length-drop}
+use Rattle.std.proofs.Common.{◌≡◌, ℕ, zero, suc, ◌+◌, ◌-◌, ◌<◌, ◌≤◌, List, [], ◌∷◌, length, drop, refl, ap, sym, ◌∙◌, arith, Option, None, Some, length-drop}
 use Rattle.cf_macros.specs.declared.construct.Construct.{Construct}
 use Rattle.cf_macros.specs.declared.construct.Kind.{Kind}
 use Rattle.cf_macros.specs.declared.construct.Kind.TheVariants.{Plain, Reference, Test, Else, End, Unclosed}
 use Rattle.cf_macros.specs.Constructs.{Piece, piece, first_piece, Shows}
-use Rattle.cf_macros.specs.Readings.{Parts, Nothing, Bytes, Refer, Choose, Broken, Reading, Last, BeforeElse, BeforeEnd, put, first_part, second_part, behind_end, closing, before, reading}
+use Rattle.cf_macros.specs.Readings.{Parts, Nothing, Bytes, Refer, Choose, Reading, Last, BeforeElse, BeforeEnd, put, first_part, second_part, behind_end, closing, before, reading}
 use Rattle.cf_macros.specs.Insides.{rest_at, past, then_rest, ends_behind, IsBehind}
 
 -- skipping is dropping

@@ -1,19 +1,18 @@
 -- How a run goes on where a level ends, and where a reference is followed.
-use Rattle.std.proofs.Common.{◌≡◌, ℕ, zero, suc, ◌+◌, ◌-◌, ◌<◌, ◌≤◌, List, [], ◌∷◌, ◌++◌, length, refl, ap, sym, ◌∙◌, arith, append-nil, length-append, Option, None, Some, Result, Ok, Err, Bool, true, false, Bor}
+use Rattle.std.proofs.Common.{◌≡◌, ℕ, zero, suc, ◌+◌, ◌-◌, ◌<◌, ◌≤◌, List, [], ◌∷◌, ◌++◌, length, refl, ap, sym, ◌∙◌, arith, append-nil, length-append, Option, None, Some, Ok, Err, false, Bor}
 use Rattle.std.specs.Prelude.{is_some, option_copied, unwrap_or, IfNone}
 use Rattle.mail_base.specs.Catalogs.{value_at}
-use Rattle.cf_macros.specs.declared.fault.ExpandFault.{ExpandFault}
-use Rattle.cf_macros.specs.declared.fault.ExpandFault.TheVariants.{Unclosed, Deep, Large, NoMemory}
+use Rattle.cf_macros.specs.declared.fault.ExpandFault.TheVariants.{Deep, Large}
 use Rattle.cf_macros.specs.declared.level.Level.{Level}
 use Rattle.cf_macros.specs.declared.level.Given.{Given}
 use Rattle.cf_macros.specs.declared.run.Run.{Run}
 use Rattle.cf_macros.specs.Readings.{Nothing, Last, reading}
 use Rattle.cf_macros.specs.Expansion.{Act, Follows, Fails, whole, followed, outcome, value}
 use Rattle.cf_macros.specs.Insides.{rest_at, inside}
-use Rattle.cf_macros.specs.Levels.{Above, above, under, stacked, top, told, room, ending, state, is_silent, level_rest, Goes, IsAtEnd, IsNew, Resumes}
-use Rattle.cf_macros.specs.Runs.{left, comes_to, Continues, Finishes}
+use Rattle.cf_macros.specs.Levels.{above, stacked, top, told, room, ending, state, is_silent, level_rest, Goes, IsAtEnd, IsNew, Resumes}
+use Rattle.cf_macros.specs.Runs.{left, comes_to, Finishes}
 use Rattle.cf_macros.proofs.ReadingLemmas.{rest-end}
-use Rattle.cf_macros.proofs.StackLemmas.{stacked-append, stacked-follows, following, ending-refuses, told-none}
+use Rattle.cf_macros.proofs.StackLemmas.{stacked-append, stacked-follows, ending-refuses, told-none}
 
 -- nothing is left of a level at its end
 top-end : (f : List ℕ → List Act) (level : Level) → IsAtEnd level → top f level None ≡ above level.gave []

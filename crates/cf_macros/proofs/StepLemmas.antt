@@ -1,16 +1,14 @@
 -- How a level goes on at each kind of construct.
-use Rattle.std.proofs.Common.{◌≡◌, ℕ, zero, suc, ◌+◌, ◌-◌, ◌<◌, ◌≤◌, List, [], ◌∷◌, ◌++◌, length, map, refl, ap, sym, ◌∙◌, arith, Option, None, Some, Bool, true, false, if◌then◌else◌}
+use Rattle.std.proofs.Common.{◌≡◌, ℕ, zero, suc, ◌-◌, ◌<◌, ◌≤◌, List, [], ◌++◌, length, map, refl, ap, sym, ◌∙◌, arith, Option, None, Some, Bool, true, false, if◌then◌else◌}
 use Rattle.std.specs.Prelude.{codes}
-use Rattle.cf_macros.specs.declared.fault.ExpandFault.{ExpandFault}
 use Rattle.cf_macros.specs.declared.fault.ExpandFault.TheVariants.{Unclosed}
 use Rattle.cf_macros.specs.declared.level.Level.{Level}
 use Rattle.cf_macros.specs.declared.level.Given.{Given}
-use Rattle.cf_macros.specs.Readings.{Parts, Nothing, Bytes, Refer, Choose, Broken, Reading, Last, BeforeElse, BeforeEnd, put, first_part, second_part, behind_end, closing}
-use Rattle.cf_macros.specs.Expansion.{Act, Gives, Follows, Fails, acts_of, whole, silent, gives_any}
-use Rattle.cf_macros.specs.Insides.{rest_at, is_closed, if_there, inside, inside_other, beyond}
-use Rattle.cf_macros.specs.Levels.{Above, above, either, waiting, under, top, Goes, StopsBy, level_rest, Resumes, GivesNext, IsAt}
+use Rattle.cf_macros.specs.Readings.{Nothing, Bytes, Refer, Broken, Reading, Last, BeforeElse, BeforeEnd, put, second_part, behind_end, closing}
+use Rattle.cf_macros.specs.Expansion.{Act, Gives, silent, gives_any}
+use Rattle.cf_macros.specs.Insides.{rest_at, is_closed, if_there, inside, inside_other}
+use Rattle.cf_macros.specs.Levels.{above, Goes, StopsBy, level_rest, Resumes, GivesNext, IsAt}
 use Rattle.cf_macros.proofs.InsideLemmas.{inside-put, closed-put, closed-closing, inside-choose}
-use Rattle.cf_macros.proofs.ReadingLemmas.{rest-end}
 use Rattle.cf_macros.proofs.StackLemmas.{goes-same, stops-refused, Refuses}
 
 -- behind `$|`, inside a conditional

@@ -1,5 +1,5 @@
 -- The first construct of a text that names macros (Sendmail Installation and Operation Guide, macros and conditionals; which bytes are no names is our own).
-use Rattle.std.specs.Prelude.{ℕ, List, [], ◌∷◌, Bool, Option, None, Some, if◌then◌else◌, ◌==◌, not, nat_eq, take, drop, codes, ◌+◌, ◌≤◌, ◌≡◌}
+use Rattle.std.specs.Prelude.{ℕ, List, [], ◌∷◌, Bool, Option, None, Some, if◌then◌else◌, ◌==◌, not, take, drop, codes, ◌+◌, ◌≤◌, ◌≡◌}
 use Rattle.std.specs.List.{list_any, position}
 use Rattle.cf_macros.specs.declared.construct.Construct.{Construct}
 use Rattle.cf_macros.specs.declared.construct.Kind.{Kind}

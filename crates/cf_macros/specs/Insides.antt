@@ -1,10 +1,10 @@
 -- The rest of a text inside the conditionals that are open around it.
-use Rattle.std.specs.Prelude.{ℕ, zero, suc, List, [], ◌++◌, Option, None, Some, Bool, true, false, ◌≡◌, ◌<◌, ◌≤◌, length, drop}
+use Rattle.std.specs.Prelude.{ℕ, zero, suc, List, [], ◌++◌, Option, None, Some, Bool, true, false, ◌≡◌, ◌≤◌, length, drop}
 use Rattle.cf_macros.specs.declared.construct.Kind.{Kind}
 use Rattle.cf_macros.specs.declared.construct.Kind.TheVariants.{Plain, Reference, Test, Else, End, Unclosed}
 use Rattle.cf_macros.specs.declared.scan.Mark.{Mark}
 use Rattle.cf_macros.specs.declared.scan.Mark.TheVariants.{OtherPart, Behind, NoMark}
-use Rattle.cf_macros.specs.Readings.{Parts, Nothing, Reading, first_part, second_part, behind_end, reading}
+use Rattle.cf_macros.specs.Readings.{Nothing, Reading, first_part, second_part, behind_end, reading}
 use Rattle.cf_macros.specs.Expansion.{Act, acts_of, whole}
 
 -- a text from a place on

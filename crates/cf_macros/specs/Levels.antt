@@ -1,5 +1,5 @@
 -- What the levels of references under way stand for, from the text that is expanded up to the value that is read.
-use Rattle.std.specs.Prelude.{ℕ, zero, suc, List, [], ◌∷◌, ◌++◌, map, Option, None, Some, Bool, true, false, if◌then◌else◌, not, Result, Ok, Err, ◌≡◌, ◌<◌, ◌≤◌, ◌+◌, ◌-◌, length}
+use Rattle.std.specs.Prelude.{ℕ, List, [], ◌∷◌, ◌++◌, map, Option, None, Some, Bool, true, false, if◌then◌else◌, Result, Ok, Err, ◌≡◌, ◌<◌, ◌≤◌, ◌-◌, length}
 use Rattle.cf_macros.specs.declared.fault.ExpandFault.{ExpandFault}
 use Rattle.cf_macros.specs.declared.fault.ExpandFault.TheVariants.{Unclosed, Deep, Large, NoMemory}
 use Rattle.cf_macros.specs.declared.level.Level.{Level}

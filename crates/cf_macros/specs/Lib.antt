@@ -1,5 +1,4 @@
 pub mod Constructs
-pub mod Dates
 pub mod Expansion
 pub mod Insides
 pub mod Levels

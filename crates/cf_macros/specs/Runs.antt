@@ -1,5 +1,5 @@
 -- What a run of the work list stands for: the levels that wait, the one on top, what has been given and how many references were followed.
-use Rattle.std.specs.Prelude.{ℕ, List, Option, None, Some, Result, Ok, Err, ◌≡◌, ◌≤◌, ◌-◌, false}
+use Rattle.std.specs.Prelude.{ℕ, List, Option, None, Some, Result, Ok, Err, ◌≡◌, ◌-◌}
 use Rattle.cf_macros.specs.declared.fault.ExpandFault.{ExpandFault}
 use Rattle.cf_macros.specs.declared.fault.ExpandFault.TheVariants.{Unclosed, Deep, Large, NoMemory}
 use Rattle.cf_macros.specs.declared.run.Run.{Run}

@@ -1,12 +1,10 @@
-//! The values of macros in a text, and the dates that macros have. `specs/Expansion.antt` says what
+//! The values of macros in a text. `specs/Expansion.antt` says what
 //! [`expand`] gives.
 #![tactic(auto)]
 
 mod construct;
-mod dates;
 mod expansion;
 mod fault;
-mod form;
 mod level;
 mod run;
 mod scan;
@@ -14,7 +12,5 @@ mod steps;
 #[cfg(test)]
 mod tests;
 
-pub use dates::date;
 pub use expansion::expand;
 pub use fault::ExpandFault;
-pub use form::Form;

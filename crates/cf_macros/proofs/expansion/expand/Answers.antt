@@ -1,4 +1,4 @@
-use Rattle.std.proofs.Common.{refl, arith}
+use Rattle.std.proofs.Common.{arith}
 use Rattle.cf_macros.proofs.RunLemmas.{begins, is-new}
 use Rattle.cf_macros.proofs.expansion.expand.Goals as goal
 

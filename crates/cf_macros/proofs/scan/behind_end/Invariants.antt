@@ -1,4 +1,4 @@
-use Rattle.std.proofs.Common.{length, ◌-◌, ◌≡◌, ◌<◌, ◌≤◌, ◌+◌}
+use Rattle.std.proofs.Common.{length, ◌-◌, ◌≡◌, ◌≤◌, ◌+◌}
 use Rattle.cf_macros.specs.Insides.{past, rest_at}
 use Rattle.cf_macros.proofs.scan.behind_end.Given as goal
 

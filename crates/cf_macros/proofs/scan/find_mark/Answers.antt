@@ -1,8 +1,7 @@
-use Rattle.std.proofs.Common.{◌≡◌, ◌∙◌, ◌+◌, ◌≤◌, length, drop, length-drop, refl, arith, sym, ap}
+use Rattle.std.proofs.Common.{◌∙◌, arith, ap}
 use Rattle.cf_macros.specs.declared.construct.Kind.TheVariants.{Else, End, Unclosed}
 use Rattle.cf_macros.specs.Readings.{second_part, behind_end}
-use Rattle.cf_macros.specs.Insides.{rest_at}
-use Rattle.cf_macros.proofs.ReadingLemmas.{mark-step, mark-none, rest-kind, same-end, same-along, SameBehind, found-within, behind-bounds}
+use Rattle.cf_macros.proofs.ReadingLemmas.{mark-step, mark-none, rest-kind, same-end, found-within, behind-bounds}
 use Rattle.cf_macros.proofs.scan.find_mark.Goals as goal
 
 pub returns-in-Unclosed : goal.returns-in-Unclosed

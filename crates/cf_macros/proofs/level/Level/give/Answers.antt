@@ -1,4 +1,4 @@
-use Rattle.std.proofs.Common.{◌≡◌, refl}
+use Rattle.std.proofs.Common.{refl}
 use Rattle.std.proofs.lemmas.Result.{err_from_is_err_and}
 use Rattle.cf_macros.specs.Insides.{inside, rest_at}
 use Rattle.cf_macros.proofs.StackLemmas.{goes-give, stops-refusal}

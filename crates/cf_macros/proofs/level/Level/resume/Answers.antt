@@ -1,4 +1,3 @@
-use Rattle.std.proofs.Common.{refl}
 use Rattle.cf_macros.proofs.StepLemmas.{resumes-behind}
 use Rattle.cf_macros.proofs.level.Level.resume.Goals as goal
 
