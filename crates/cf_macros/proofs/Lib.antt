@@ -1,0 +1,5 @@
+pub mod ReadingLemmas
+pub mod InsideLemmas
+pub mod RunLemmas
+pub mod StackLemmas
+pub mod StepLemmas

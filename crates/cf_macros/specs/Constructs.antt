@@ -1,0 +1,82 @@
+-- The first construct of a text that names macros (Sendmail Installation and Operation Guide, macros and conditionals; which bytes are no names is our own).
+use Rattle.std.specs.Prelude.{ℕ, List, [], ◌∷◌, Bool, Option, None, Some, if◌then◌else◌, ◌==◌, not, take, drop, codes, ◌+◌, ◌≤◌, ◌≡◌}
+use Rattle.std.specs.List.{list_any, position}
+use Rattle.cf_macros.specs.declared.construct.Construct.{Construct}
+use Rattle.cf_macros.specs.declared.construct.Kind.{Kind}
+use Rattle.cf_macros.specs.declared.construct.Kind.TheVariants.{Plain, Reference, Test, Else, End, Unclosed}
+use Rattle.cf_macros.specs.declared.construct.Naming.{Naming}
+use Rattle.cf_macros.specs.declared.construct.Naming.TheVariants.{Letter, Word, Open, Nameless}
+
+-- the bytes that are no names of macros without braces
+abbrev pub nameless_bytes : List ℕ
+nameless_bytes = codes "0123456789*+-@:#>[]()=~$&?|.{"
+
+abbrev pub is_name : ℕ → Bool
+is_name byte = not (list_any (λ other. other == byte) nameless_bytes)
+
+-- the word in braces, whose text begins behind the first of them
+abbrev pub braced : Option ℕ → Naming
+braced None = Open
+braced (Some length) = Word length
+
+-- what stands where a name may stand: one byte, a word in braces by its length, a brace that nothing closes, or no name
+abbrev pub name_at : List ℕ → Naming
+name_at [] = Nameless
+name_at (byte ∷ text) =
+    if byte == 123 then braced (position (λ other. other == 125) text)
+    else if is_name byte then Letter else Nameless
+
+-- what a construct is, its name or else the bytes that it stands for, and how many bytes of the text it takes; where something is unclosed, the bytes up to its own sign
+pub record Piece : Type 0 where
+  pub kind : Kind
+  pub text : List ℕ
+  pub width : ℕ
+
+abbrev pub piece : Kind → List ℕ → ℕ → Piece
+piece kind text width = record { kind = kind; text = text; width = width }
+
+-- `$x`, `${x}`, and with an offset of 2 `$&x` and `$&{x}`
+abbrev pub reference_at : ℕ → List ℕ → Naming → Piece
+reference_at offset text Letter = piece Reference (take 1 (drop offset text)) (offset + 1)
+reference_at offset text (Word length) = piece Reference (take length (drop (offset + 1) text)) (offset + length + 2)
+reference_at offset text Open = piece Unclosed [] (offset + 1)
+reference_at offset text Nameless = piece Plain (take 2 text) 2
+
+-- `$?x` and `$?{x}`; one whose brace is unclosed is unclosed itself
+abbrev pub test_of : List ℕ → Naming → Piece
+test_of text Letter = piece Test (take 1 (drop 2 text)) 3
+test_of text (Word length) = piece Test (take length (drop 3 text)) (length + 4)
+test_of text Open = piece Unclosed [] 1
+test_of text Nameless = piece Plain (take 2 text) 2
+
+-- a dollar sign and the byte behind it
+abbrev pub dollar_piece : List ℕ → ℕ → Piece
+dollar_piece text next =
+    if next == 36 then piece Plain (take 1 text) 2
+    else if next == 124 then piece Else [] 2
+    else if next == 46 then piece End [] 2
+    else if next == 63 then test_of text (name_at (drop 2 text))
+    else if next == 38 then reference_at 2 text (name_at (drop 2 text))
+    else reference_at 1 text (name_at (drop 1 text))
+
+-- the first construct of a text that isn't empty
+abbrev pub first_piece : List ℕ → Piece
+first_piece [] = piece Plain [] 1
+first_piece (byte ∷ []) = piece Plain (byte ∷ []) 1
+first_piece (byte ∷ next ∷ rest) =
+    if byte == 36 then dollar_piece (byte ∷ next ∷ rest) next else piece Plain (byte ∷ []) 1
+
+-- what the naming takes is within so many bytes
+abbrev pub IsWithin : Naming → ℕ → Type 0
+IsWithin Letter bytes = 1 ≤ bytes
+IsWithin (Word length) bytes = length + 2 ≤ bytes
+IsWithin Open bytes = 1 ≤ bytes
+IsWithin Nameless bytes = Unit {0}
+
+-- the construct is that piece, and takes a front of so many bytes
+pub record Shows (found : Construct) (wanted : Piece) (bytes : ℕ) : Type 0 where
+  pub kind : found.kind ≡ wanted.kind
+  pub text : found.text.now ≡ wanted.text
+  pub width : found.width ≡ wanted.width
+  pub moves : 1 ≤ found.width
+  pub within : found.width ≤ bytes

@@ -1,0 +1,6 @@
+pub mod Constructs
+pub mod Expansion
+pub mod Insides
+pub mod Levels
+pub mod Readings
+pub mod Runs

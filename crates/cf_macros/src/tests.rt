@@ -1,0 +1,187 @@
+use crate::{ExpandFault, expand};
+use mail_base::{Macros, NoMemory, Text};
+use std::alloc::Global;
+use std::test::Fail;
+
+// Eleven macros a to k, each of which names the next, ten o to y of which each names the next ten times,
+// and others.
+const SETTINGS: [(&str, &str); 28] = [
+    ("a", "$b"),
+    ("b", "$c"),
+    ("c", "$d"),
+    ("d", "$e"),
+    ("e", "$f"),
+    ("f", "$g"),
+    ("g", "$h"),
+    ("h", "$i"),
+    ("i", "$j"),
+    ("j", "$k"),
+    ("k", "end"),
+    ("o", "$p$p$p$p$p$p$p$p$p$p"),
+    ("p", "$q$q$q$q$q$q$q$q$q$q"),
+    ("q", "$r$r$r$r$r$r$r$r$r$r"),
+    ("r", "$s$s$s$s$s$s$s$s$s$s"),
+    ("s", "$t$t$t$t$t$t$t$t$t$t"),
+    ("t", "$u$u$u$u$u$u$u$u$u$u"),
+    ("u", "$v$v$v$v$v$v$v$v$v$v"),
+    ("v", "$w$w$w$w$w$w$w$w$w$w"),
+    ("w", "$x$x$x$x$x$x$x$x$x$x"),
+    ("x", "dot"),
+    ("y", "a$?zb$|c$.d"),
+    ("E", ""),
+    ("N", "$E$U"),
+    ("S", "set"),
+    ("mail", "long"),
+    ("O", "x$?S"),
+    ("B", "xy${S"),
+];
+
+fn settings(alloc: Global) -> Result<Macros, NoMemory> {
+    let mut macros = Macros::new(alloc);
+    for (name, value) in SETTINGS {
+        macros.set(
+            &Text::of(alloc, name.as_bytes())?,
+            &Text::of(alloc, value.as_bytes())?,
+        )?;
+    }
+    Ok(macros)
+}
+
+// What the text gives, or `!` and the refusal.
+fn outcome(alloc: Global, macros: &Macros, text: &str) -> Result<Text, NoMemory> {
+    match expand(alloc, &Text::of(alloc, text.as_bytes())?, macros) {
+        Ok(given) => Ok(given),
+        Err(ExpandFault::Unclosed(place)) => {
+            let mut told = Text::of(alloc, b"!unclosed at ")?;
+            told.push(b'0' + (place % 10) as u8)?;
+            Ok(told)
+        }
+        Err(ExpandFault::Deep) => Text::of(alloc, b"!deep"),
+        Err(ExpandFault::Large) => Text::of(alloc, b"!large"),
+        Err(ExpandFault::NoMemory) => Err(NoMemory),
+    }
+}
+
+// The first case of which the text doesn't come to what is wanted.
+fn first_wrong<'a>(alloc: Global, cases: &[(&'a str, &str)]) -> Result<Option<&'a str>, NoMemory> {
+    let macros = settings(alloc)?;
+    for (text, wanted) in cases {
+        if outcome(alloc, &macros, text)?.bytes() != wanted.as_bytes() {
+            return Ok(Some(*text));
+        }
+    }
+    Ok(None)
+}
+
+fn repeated(alloc: Global, bytes: &str, count: usize) -> Result<Text, NoMemory> {
+    let mut text = Text::new(alloc);
+    for _ in 0..count {
+        text.extend(bytes.as_bytes())?;
+    }
+    Ok(text)
+}
+
+#[test]
+fn conditional_macro(rt: HostRuntime) -> Result<(), Fail> {
+    let alloc = rt.alloc();
+    let mut macros = settings(alloc)?;
+    let unset = outcome(alloc, &macros, "$y")?;
+    assert_eq!(rt; unset.bytes(), b"acd".as_slice());
+    macros.set(&Text::of(alloc, b"z")?, &Text::of(alloc, b"1")?)?;
+    assert_eq!(rt; outcome(alloc, &macros, "$y")?.bytes(), b"abd".as_slice());
+    Ok(())
+}
+
+const VALUES: [(&str, &str); 22] = [
+    ("", ""),
+    ("plain", "plain"),
+    ("$S-${S}-$&S-$&{S}", "set-set-set-set"),
+    ("${mail}.$mail", "long.ail"),
+    ("<$U><${unset}><$&U>", "<><><>"),
+    ("$$S $$", "$S $"),
+    (
+        "$1 $* $+ $- $@ $: $# $> $[ $] $( $) $= $~ $0 $9",
+        "$1 $* $+ $- $@ $: $# $> $[ $] $( $) $= $~ $0 $9",
+    ),
+    ("a$|b$.c", "a$|b$.c"),
+    ("$", "$"),
+    ("a$?", "a$?"),
+    ("$?1x", "$?1x"),
+    ("$&+S", "$&+S"),
+    ("$?Syes$.!", "yes!"),
+    ("$?Uyes$.!", "!"),
+    ("$?Syes$|no$.!", "yes!"),
+    ("$?{unset}yes$|no$.!", "no!"),
+    ("$?Eyes$|no$.", "no"),
+    ("$?Nyes$|no$.", "no"),
+    ("$?S[$?Uu$|v$.]$|w$.", "[v]"),
+    ("$?U[$?Su$|v$.]$|w$?Sx$|y$.$.z", "wxz"),
+    ("$?Sa$|b$|c$.d", "ad"),
+    ("$?Ua$|b$|c$.d", "bd"),
+];
+
+const REFUSALS: [(&str, &str); 14] = [
+    ("${S", "!unclosed at 1"),
+    ("ab$&{S", "!unclosed at 4"),
+    ("a$?Sb", "!unclosed at 1"),
+    ("a$?{Sb", "!unclosed at 1"),
+    ("$?Sa$|b${x", "!unclosed at 0"),
+    ("$?Sa$.$?Ub$?Sc$.", "!unclosed at 6"),
+    ("abc$O", "!unclosed at 1"),
+    ("$B", "!unclosed at 3"),
+    ("$?U$O$.ok", "ok"),
+    ("$b", "end"),
+    ("$a", "!deep"),
+    ("$?ax$.", "!deep"),
+    ("$a${", "!deep"),
+    ("$?U$a$|ok$.", "ok"),
+];
+
+#[test]
+fn values_by_the_first_construct(rt: HostRuntime) -> Result<(), Fail> {
+    assert_eq!(rt; first_wrong(rt.alloc(), &VALUES)?, None);
+    Ok(())
+}
+
+#[test]
+fn refusals_in_reading_order(rt: HostRuntime) -> Result<(), Fail> {
+    assert_eq!(rt; first_wrong(rt.alloc(), &REFUSALS)?, None);
+    Ok(())
+}
+
+// Whether so many references to the empty macro are followed.
+fn follows(alloc: Global, count: usize) -> Result<bool, NoMemory> {
+    let text = repeated(alloc, "$E", count)?;
+    Ok(expand(alloc, &text, &settings(alloc)?) != Err(ExpandFault::Large))
+}
+
+#[test]
+fn ten_thousand_references(rt: HostRuntime) -> Result<(), Fail> {
+    assert!(rt; follows(rt.alloc(), 10_000)?);
+    assert!(rt; !follows(rt.alloc(), 10_001)?);
+    Ok(())
+}
+
+#[test]
+fn a_macro_bomb_ends_at_its_limit(rt: HostRuntime) -> Result<(), Fail> {
+    assert_eq!(rt;
+        first_wrong(rt.alloc(), &[("$o", "!large"), ("$?ox$.", "!large")])?,
+        None
+    );
+    Ok(())
+}
+
+// How many bytes a test of many bytes and then so many bytes give.
+fn size(alloc: Global, count: usize) -> Result<usize, ExpandFault> {
+    let mut text = Text::of(alloc, b"$?x")?;
+    text.extend(repeated(alloc, "b", count)?.bytes())?;
+    text.extend(b"$.")?;
+    Ok(expand(alloc, &text, &settings(alloc)?)?.len())
+}
+
+#[test]
+fn a_mebibyte_and_no_more(rt: HostRuntime) -> Result<(), Fail> {
+    assert_eq!(rt; size(rt.alloc(), 1_048_576), Ok(1_048_576));
+    assert_eq!(rt; size(rt.alloc(), 1_048_577), Err(ExpandFault::Large));
+    Ok(())
+}
