@@ -15,8 +15,8 @@ pub trait Floor {
     /// All that is seen of it.
     ghost seen: { Self → Heard };
 
-    /// Begins at that place. After so many sessions were closed, each turn is `Stop`; 0 is no limit. It
-    /// isn't told.
+    /// Begins at that place. `most` is how many sessions are wanted, and 0 is no limit: a floor at a port
+    /// answers `Stop` once so many were closed, and those in memory end by themselves. It isn't told.
     fn begin(&mut self, place: &Place, most: u64) -> Result<(), Failed>
         ensures told { (seen self.new).told ≡ (seen self.old).told }
         ensures cause { HasCause (seen self.old).faults (seen self.new).faults result }

@@ -19,9 +19,9 @@ use std::alloc::Global;
 ///
 /// Some of its calls fail: those of `begin` and `turn`, which are counted together from 0, as `turns` lists
 /// them, and those of `send` as `sends` does. A call also fails where it finds no memory, and `starved` counts
-/// those. A call that fails takes no step and sends nothing, and a send that isn't told goes nowhere. The count of a session is the number of its sends
-/// that are told as failed; a failed send that isn't told, since its session is not open or a send to it had
-/// failed, counts for all of them.
+/// those. A call that fails takes no step and sends nothing, and a send that isn't told goes nowhere. The
+/// count of a session is the number of its sends that are told as failed; a failed send that isn't told,
+/// since its session is not open or a send to it had failed, counts for all of them.
 #[derive(Debug, Drop)]
 pub struct ScriptFloor {
     steps: Seq<Step>,
