@@ -108,9 +108,10 @@ fn without_line(alloc: Global, place: usize) -> Result<Text, NoMemory> {
 fn swapped(alloc: Global, place: usize) -> Result<Text, NoMemory> {
     let mut text = Text::new(alloc);
     for (at, line) in LINES.iter().enumerate() {
+        let is_next = at > place && at - place == 1;
         let from = if at == place {
             at + 1
-        } else if at == place + 1 {
+        } else if is_next {
             place
         } else {
             at
