@@ -9,8 +9,10 @@ use Rattle.sendmail_run.specs.declared.command_line.Job.{Job}
 use Rattle.sendmail_run.specs.declared.command_line.Job.TheVariants.{Test}
 use Rattle.sendmail_run.specs.declared.command_line.Mode.{Mode}
 use Rattle.sendmail_run.specs.declared.command_line.Saying.{Saying}
-use Rattle.sendmail_run.specs.Words.{command_line, read_words, whole}
-use Rattle.sendmail_run.specs.CommandLines.{Flag, Does, Joined, Apart, spelling, jobs_in, files_in, IsFile, IsCommandLine, BeginsOne, IsBadWord, IsCutShort, IsRefusedAt}
+use Rattle.sendmail_run.specs.declared.command_line.WordFault.{WordFault}
+use Rattle.sendmail_run.specs.declared.command_line.WordFault.TheVariants.{At, NoMemory}
+use Rattle.sendmail_run.specs.Words.{command_line, read_words, Gives, Fails}
+use Rattle.sendmail_run.specs.CommandLines.{Flag, Does, Joined, Apart, spelling, jobs_in, files_in, IsFile, IsCommandLine, BeginsOne, IsBadWord, IsCutShort, IsRefusedAt, Fails as Refuses, Gives as Says}
 
 abbrev said : Option Job → Option (List ℕ) → Bool → Saying
 said job file awaits = record { job = job; file = file; awaits_file = awaits }
@@ -202,15 +204,15 @@ over (word ∷ words) s start = over_turn word words s start (λ next. over word
 
 -- ---- what is taken is written in options
 
-record Says (job : Option Job) (file : Option (List ℕ)) (words : List (List ℕ)) (mode : Mode) : Type 0 where
+record Written (job : Option Job) (file : Option (List ℕ)) (words : List (List ℕ)) (mode : Mode) : Type 0 where
   flags : List Flag
   written : words ≡ flat_map spelling flags
   jobs : listed job ++ flat_map jobs_in flags ≡ mode.job ∷ []
   files : IsFile (listed file ++ flat_map files_in flags) mode.file
 
 abbrev SaysAfter : Bool → Option Job → Option (List ℕ) → List (List ℕ) → Mode → Type 0
-SaysAfter true job file words mode = (name : List ℕ) × (later : List (List ℕ)) × (words ≡ name ∷ later) × Says job (Some name) later mode
-SaysAfter false job file words mode = Says job file words mode
+SaysAfter true job file words mode = (name : List ℕ) × (later : List (List ℕ)) × (words ≡ name ∷ later) × Written job (Some name) later mode
+SaysAfter false job file words mode = Written job file words mode
 
 abbrev Reads : List (List ℕ) → Option Job → Option (List ℕ) → Bool → ℕ → Mode → Type 0
 Reads words job file awaits start mode = read_words (said job file awaits) start words ≡ Ok mode → SaysAfter awaits job file words mode
@@ -343,3 +345,34 @@ refused_is words place (inl is) =
 refused_is words place (inr is) =
     over words (said None None false) 0 (one_begins words is.good) (λ mode e. is.short mode (is_line words mode e))
     ∙ ap (λ (p : ℕ). Err p) (omega (arith, is.at))
+
+-- ---- the law
+
+pub one_mode : (words : List (List ℕ)) (mode other : Mode) → IsCommandLine words mode → IsCommandLine words other → mode ≡ other
+one_mode words mode other is also = ok_of mode other (sym (line_is words mode is) ∙ line_is words other also)
+
+pub one_place : (words : List (List ℕ)) (place other : ℕ) → IsRefusedAt words place → IsRefusedAt words other → place ≡ other
+one_place words place other is also = same_place place other (sym (refused_is words place is) ∙ refused_is words other also)
+
+pub not_both : (words : List (List ℕ)) (mode : Mode) (place : ℕ) → IsCommandLine words mode → ¬ (IsRefusedAt words place)
+not_both words mode place line is = let both = sym (line_is words mode line) ∙ refused_is words place is in cc both
+
+pub not_failed : (words : List (List ℕ)) (mode : Mode) (fault : WordFault) (place : ℕ) → IsCommandLine words mode → fault ≡ At place → ¬ (Refuses fault words)
+not_failed words mode fault place line at is = not_both words mode place line (subst (λ (f : WordFault). Refuses f words) at is)
+
+either_of : (words : List (List ℕ)) (read : Result Mode ℕ) → command_line words ≡ read → ((mode : Mode) × IsCommandLine words mode) ⊎ ((place : ℕ) × IsRefusedAt words place)
+either_of words (Ok mode) e = inl (mode, is_line words mode e)
+either_of words (Err place) e = inr (place, is_refused words place e)
+
+pub either : (words : List (List ℕ)) → ((mode : Mode) × IsCommandLine words mode) ⊎ ((place : ℕ) × IsRefusedAt words place)
+either words = either_of words (command_line words) refl
+
+-- ---- what the code returns
+
+fault_says : (words : List (List ℕ)) (fault : WordFault) → Fails fault (command_line words) → Says (Err fault) words
+fault_says words (At place) is = is_refused words place is
+fault_says words NoMemory is = is
+
+pub gives_says : (words : List (List ℕ)) (result : Result Mode WordFault) → Gives result (command_line words) → Says result words
+gives_says words (Ok mode) is = is_line words mode is
+gives_says words (Err fault) is = fault_says words fault is
