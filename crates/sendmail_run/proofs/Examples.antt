@@ -1,5 +1,6 @@
 -- Worked examples of the definitions.
 use Rattle.std.specs.Prelude.{◌≡◌, ℕ, List, [], ◌∷◌, ◌++◌, Some, None, Ok, Err, codes, refl}
+use Rattle.std.proofs.Common.{inl, inr}
 use Rattle.mail_base.specs.Configs.{initial}
 use Rattle.mail_base.specs.declared.token.Token.TheVariants.{Word, Op}
 use Rattle.mail_base.specs.declared.rule.Item.TheVariants.{Any, More, One, Exact}
@@ -11,7 +12,8 @@ use Rattle.sendmail_run.specs.declared.command_line.Job.TheVariants.{Test}
 use Rattle.sendmail_run.specs.LogicalLines.{logical_lines}
 use Rattle.sendmail_run.specs.Tokens.{tokens_of, default_operators}
 use Rattle.sendmail_run.specs.Configuration.{configuration}
-use Rattle.sendmail_run.specs.Words.{command_line}
+use Rattle.sendmail_run.specs.CommandLines.{Does, Joined, Apart, IsCommandLine, IsRefusedAt}
+use Rattle.sendmail_run.proofs.CommandLemmas.{is_refused}
 
 -- ---- logical lines
 
@@ -66,23 +68,29 @@ not_yet = refl
 
 -- ---- command lines
 
-test_mode : command_line (codes "-bt" ∷ codes "-Crow1.cf" ∷ []) ≡ Ok (record { file = codes "row1.cf"; job = Test })
-test_mode = refl
+test_mode : IsCommandLine (codes "-bt" ∷ codes "-Crow1.cf" ∷ []) (record { file = codes "row1.cf"; job = Test })
+test_mode = record { flags = Does Test ∷ Joined 114 (codes "ow1.cf") ∷ []; written = refl; job = refl; file = inl refl }
 
-default_file : command_line (codes "-bt" ∷ []) ≡ Ok (record { file = codes "/etc/mail/sendmail.cf"; job = Test })
-default_file = refl
+default_file : IsCommandLine (codes "-bt" ∷ []) (record { file = codes "/etc/mail/sendmail.cf"; job = Test })
+default_file = record { flags = Does Test ∷ []; written = refl; job = refl; file = inr (refl, refl) }
 
-a_file_of_its_own_word : command_line (codes "-C" ∷ codes "-bt" ∷ codes "-bt" ∷ []) ≡ Ok (record { file = codes "-bt"; job = Test })
-a_file_of_its_own_word = refl
+a_file_of_its_own_word : IsCommandLine (codes "-C" ∷ codes "-bt" ∷ codes "-bt" ∷ []) (record { file = codes "-bt"; job = Test })
+a_file_of_its_own_word = record { flags = Apart (codes "-bt") ∷ Does Test ∷ []; written = refl; job = refl; file = inl refl }
 
-no_such_mode : command_line (codes "-bt" ∷ codes "-bd" ∷ []) ≡ Err 1
-no_such_mode = refl
+no_such_mode : IsRefusedAt (codes "-bt" ∷ codes "-bd" ∷ []) 1
+no_such_mode = is_refused (codes "-bt" ∷ codes "-bd" ∷ []) 1 refl
 
-no_words : command_line [] ≡ Err 0
-no_words = refl
+a_second_mode : IsRefusedAt (codes "-bt" ∷ codes "-bt" ∷ []) 1
+a_second_mode = is_refused (codes "-bt" ∷ codes "-bt" ∷ []) 1 refl
 
-no_file : command_line (codes "-C" ∷ []) ≡ Err 1
-no_file = refl
+a_second_file : IsRefusedAt (codes "-Ca" ∷ codes "-C" ∷ codes "b" ∷ codes "-bt" ∷ []) 1
+a_second_file = is_refused (codes "-Ca" ∷ codes "-C" ∷ codes "b" ∷ codes "-bt" ∷ []) 1 refl
 
-a_time : command_line (codes "-q30m" ∷ codes "-bt" ∷ []) ≡ Err 0
-a_time = refl
+no_words : IsRefusedAt [] 0
+no_words = is_refused [] 0 refl
+
+no_file : IsRefusedAt (codes "-bt" ∷ codes "-C" ∷ []) 2
+no_file = is_refused (codes "-bt" ∷ codes "-C" ∷ []) 2 refl
+
+a_time : IsRefusedAt (codes "-q30m" ∷ codes "-bt" ∷ []) 0
+a_time = is_refused (codes "-q30m" ∷ codes "-bt" ∷ []) 0 refl

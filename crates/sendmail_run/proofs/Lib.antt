@@ -1,3 +1,4 @@
+mod CommandLemmas
 mod CuttingLemmas
 mod EndedLemmas
 mod Examples

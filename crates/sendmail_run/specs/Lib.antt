@@ -5,6 +5,7 @@ pub mod Sides
 pub mod Configuration
 pub mod Refusals
 pub mod Readings
+pub mod CommandLines
 pub mod Words
 pub mod Printing
 pub mod Runs

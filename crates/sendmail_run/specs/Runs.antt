@@ -11,7 +11,7 @@ use Rattle.sendmail_run.specs.declared.outcome.Outcome.{Outcome}
 use Rattle.sendmail_run.specs.declared.outcome.Outcome.TheVariants as ends
 use Rattle.sendmail_run.specs.LogicalLines.{physical_lines}
 use Rattle.sendmail_run.specs.Configuration.{configuration}
-use Rattle.sendmail_run.specs.Words.{command_line}
+use Rattle.sendmail_run.specs.CommandLines.{IsCommandLine, IsRefusedAt}
 use Rattle.sendmail_run.specs.Printing.{Prints, is_quit}
 
 -- ---- lines of input
@@ -108,7 +108,7 @@ HasText files name text = IfSome files.map (λ map. text_of map name ≡ text)
 -- the words are taken, and the file that they name has this text
 pub record HasFile (words : List (List ℕ)) (files : FilesSeen) (bytes : List ℕ) : Type 0 where
   pub mode : Mode
-  pub said : command_line words ≡ Ok mode
+  pub said : IsCommandLine words mode
   pub text : HasText files mode.file (Some bytes)
 
 -- the words are taken, and the file that they name is a configuration
@@ -123,9 +123,9 @@ Answered words before after outcome = (config : Config) × HasConfig words befor
 
 -- how a run ends, by its outcome
 abbrev pub Ends : List (List ℕ) → Seen → Seen → Outcome → Type 0
-Ends words before after (ends.Usage place) = (command_line words ≡ Err place) × IsIdle before after × (after.files ≡ before.files)
-Ends words before after (ends.NoFile name) = ((mode : Mode) × (command_line words ≡ Ok mode) × (name ≡ mode.file)) × HasText before.files name None × IsIdle before after
-Ends words before after ends.FilesFault = ((mode : Mode) × (command_line words ≡ Ok mode)) × Rose before.files.faults after.files.faults × IsIdle before after
+Ends words before after (ends.Usage place) = IsRefusedAt words place × IsIdle before after × (after.files ≡ before.files)
+Ends words before after (ends.NoFile name) = ((mode : Mode) × IsCommandLine words mode × (name ≡ mode.file)) × HasText before.files name None × IsIdle before after
+Ends words before after ends.FilesFault = ((mode : Mode) × IsCommandLine words mode) × Rose before.files.faults after.files.faults × IsIdle before after
 Ends words before after (ends.ConfigLine line fault) = ((bytes : List ℕ) × HasFile words before.files bytes × (configuration bytes ≡ Err (record { line = line; fault = fault }))) × IsIdle before after
 Ends words before after ends.NoMemory = IsIdle before after ⊎ Answered words before after ends.NoMemory
 Ends words before after ends.Done = Answered words before after ends.Done
@@ -149,7 +149,7 @@ pub record IsSound (before after : Seen) : Type 0 where
 -- the words, the file and its lines are all taken, of files that are told, and fewer than 2^32 bytes come in
 pub record IsReady (words : List (List ℕ)) (before : Seen) : Type 0 where
   pub mode : Mode
-  pub said : command_line words ≡ Ok mode
+  pub said : IsCommandLine words mode
   pub map : FileMap
   pub told : before.files.map ≡ Some map
   pub bytes : List ℕ

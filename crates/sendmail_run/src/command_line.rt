@@ -1,5 +1,6 @@
 ghost use Rattle.std.specs.Prelude.{◌≡◌, ◌<◌, ◌^◌, ◌+◌, [], ◌∷◌, ℕ, List, length};
 ghost use Rattle.sendmail_run.specs.declared.command_line.WordFault.TheVariants.{NoMemory as Memory};
+ghost use Rattle.sendmail_run.specs.CommandLines.{Gives as Says};
 ghost use Rattle.sendmail_run.specs.Words.{Gives, Takes, command_line, read_words};
 
 use mail_base::{NoMemory, Seq, Text, TryCopy};
@@ -52,6 +53,14 @@ struct Saying {
 
 /// What a command line says, without the program's name, or the place of the word that is refused.
 pub fn words(alloc: Global, words: &Seq<Text>) -> Result<Mode, WordFault>
+    requires { length words.now < 2 ^ 32 }
+    ensures { Says result words.now }
+{
+    mode_of(alloc, words)
+}
+
+// The same, as it is read word by word.
+fn mode_of(alloc: Global, words: &Seq<Text>) -> Result<Mode, WordFault>
     requires { length words.now < 2 ^ 32 }
     ensures { Gives result (command_line words.now) }
 {

@@ -1,5 +1,7 @@
-ghost use Rattle.std.specs.Prelude.{◌≡◌, List, ℕ};
+ghost use Rattle.std.specs.Prelude.{◌≡◌, ◌⊎◌, List, ℕ};
 ghost use Rattle.std.specs.List.{flat_map};
+ghost use Rattle.sendmail_run.specs.declared.command_line.Mode.{Mode};
+ghost use Rattle.sendmail_run.specs.CommandLines.{IsCommandLine, IsRefusedAt};
 ghost use Rattle.sendmail_run.specs.Tokens.{Cutting, Cuts, token_of, tokens_of};
 
 /// Each text without quotes, backslashes and parentheses is cut in some way, and its tokens are those of
@@ -7,4 +9,13 @@ ghost use Rattle.sendmail_run.specs.Tokens.{Cutting, Cuts, token_of, tokens_of};
 pub fn tokens_are_of_any_cutting()
     ensures some { (operators text : List ℕ) → (pieces : List Cutting) × Cuts operators text pieces }
     ensures any { (operators text : List ℕ) (pieces : List Cutting) → Cuts operators text pieces → tokens_of operators text ≡ flat_map token_of pieces }
+{}
+
+/// Words are a command line or are refused at a place, and never both; its mode and the place are the only
+/// ones.
+pub fn words_are_taken_or_refused()
+    ensures each { (words : List (List ℕ)) → ((mode : Mode) × IsCommandLine words mode) ⊎ ((place : ℕ) × IsRefusedAt words place) }
+    ensures apart { (words : List (List ℕ)) (mode : Mode) (place : ℕ) → IsCommandLine words mode → ¬ (IsRefusedAt words place) }
+    ensures mode { (words : List (List ℕ)) (mode other : Mode) → IsCommandLine words mode → IsCommandLine words other → mode ≡ other }
+    ensures place { (words : List (List ℕ)) (place other : ℕ) → IsRefusedAt words place → IsRefusedAt words other → place ≡ other }
 {}

@@ -18,7 +18,7 @@ mod tokens;
 
 pub use command_line::{DEFAULT_FILE, Job, Mode, WordFault, words};
 pub use fault::{Fault, ReadFault, Refusal};
-pub use law::tokens_are_of_any_cutting;
+pub use law::{tokens_are_of_any_cutting, words_are_taken_or_refused};
 pub use outcome::Outcome;
 pub use program::sendmail;
 pub use reader::read;

@@ -1,6 +1,6 @@
 use Rattle.std.proofs.Common.{◌≡◌, drop}
 use Rattle.sendmail_run.specs.Words.{command_line, read_words}
-use Rattle.sendmail_run.proofs.command_line.words.Given as goal
+use Rattle.sendmail_run.proofs.command_line.mode_of.Given as goal
 
 -- what the rest of the words says is what all say
 abbrev pub invariant-loop-word : goal.invariant-loop-word
