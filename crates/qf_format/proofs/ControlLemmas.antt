@@ -14,6 +14,7 @@ use Rattle.qf_format.specs.Spelling.{header_lines, kept_lines, order_lines, plac
 use Rattle.qf_format.specs.Valid.{AreKept, AreRows, IsValid}
 use Rattle.qf_format.proofs.ReadLemmas.{both, BothFormed, front_then, Retold, front_as}
 use Rattle.qf_format.proofs.ListLemmas.{stop_first, stop_second, stop_as}
+use Rattle.qf_format.proofs.ApartLemmas.{Apart, apart_then, apart_as}
 
 abbrev s1 : Place → List ℕ
 s1 = place_text
@@ -190,3 +191,6 @@ stop5 bytes r1 r2 r3 r4 x1 x2 x3 x4 h1 h2 h3 h4 e n = lift5 bytes e (stop_second
 
 pub stop6 : (bytes r1 r2 r3 r4 r5 : List ℕ) (x1 : Place) (x2 : Order) (x3 : Envelope) (x4 : Kept) (x5 : List Row) → Front s1 v1 n1 bytes x1 r1 → Front s2 v2 n2 r1 x2 r2 → Front s3 v3 n3 r2 x3 r3 → Front s4 v4 n4 r3 x4 r4 → Front s5 v5 n5 r4 x5 r5 → (e : Stop) → Stops s6 v6 n6 r5 e → Stops control_front IsValid n6 bytes e
 stop6 bytes r1 r2 r3 r4 r5 x1 x2 x3 x4 x5 h1 h2 h3 h4 h5 e n = lift6 bytes e (stop_second t5 w5 n5 s6 v6 n6 on6 bytes ((((x1, x2), x3), x4), x5) r5 (so_far5 bytes r1 r2 r3 r4 r5 x1 x2 x3 x4 x5 h1 h2 h3 h4 h5) e n)
+
+pub apart_all : Apart s1 v1 n1 → Apart s2 v2 n2 → Apart s3 v3 n3 → Apart s4 v4 n4 → Apart s5 v5 n5 → Apart s6 v6 n6 → Apart control_front IsValid n6
+apart_all a1 a2 a3 a4 a5 a6 = apart_as t6 w6 control_front IsValid made parted n6 retold (apart_then t5 w5 n5 s6 v6 n6 on6 (apart_then t4 w4 n4 s5 v5 n5 on5 (apart_then t3 w3 n3 s4 v4 n4 on4 (apart_then t2 w2 n2 s3 v3 n3 on3 (apart_then t1 w1 n1 s2 v2 n2 on2 a1 a2) a3) a4) a5) a6)

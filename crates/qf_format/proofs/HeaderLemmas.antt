@@ -13,6 +13,7 @@ use Rattle.qf_format.specs.Parts.{At, NotAt, NotBlank, EachHeader, EndsAt, IsHea
 use Rattle.qf_format.specs.Spelling.{header_lines}
 use Rattle.qf_format.specs.Valid.{IsBlank, IsHeader}
 use Rattle.qf_format.proofs.ListLemmas.{ReadSoFar, none_so_far, one_more, all_read, stuck}
+use Rattle.qf_format.proofs.ApartLemmas.{Apart, list_apart}
 
 blank_or_not : (b : ℕ) → IsBlank b ⊎ (IsBlank b → ⊥)
 blank_or_not b = elim (cases_eq b 32) [
@@ -144,3 +145,27 @@ header_stops bytes xs rest r h Memory n = tt
 
 pub header_shorter : (rest x after : List ℕ) → Front header_lines IsHeader NotBlank rest x after → length after < length rest
 header_shorter rest x after a = omega (arith, ap length a.parts, length-append (x ++ 10 ∷ []) after)
+
+-- ---- headers are told apart
+
+ends_once : (x y r q : List ℕ) → IsHeader x → IsHeader y → NotBlank r → NotBlank q → (x ++ 10 ∷ []) ++ r ≡ (y ++ 10 ∷ []) ++ q → length y ≡ length x
+ends_once x y r q h k m n e = elim (cases_order (length y) (length x)) [
+  | inl same ↦ same
+  | inr other ↦ elim other [
+    | inl less ↦ absurd (none_before ((x ++ 10 ∷ []) ++ r) x r h m refl (length y) less (at_end ((x ++ 10 ∷ []) ++ r) y q k n e))
+    | inr more ↦ absurd (none_before ((x ++ 10 ∷ []) ++ r) y q k n e (length x) more (at_end ((x ++ 10 ∷ []) ++ r) x r h m refl))
+  ]
+]
+
+pub header_apart : Apart header_lines IsHeader NotBlank
+header_apart x y r q h k m n e =
+    let text : List ℕ = (x ++ 10 ∷ []) ++ r in
+    let inner : text ≡ (y ++ 10 ∷ []) ++ q = tag_tail text ((y ++ 10 ∷ []) ++ q) e in
+    let long : length x < length text = omega (arith, length-append (x ++ 10 ∷ []) r, length-append x (10 ∷ [])) in
+    let whole = header_parts text (length x) long (at_end text x r h m refl).0 in
+    let one = same_cut text x r (length x) (append_assoc x (10 ∷ []) r) whole refl in
+    let two = same_cut text y q (length x) (inner ∙ append_assoc y (10 ∷ []) q) whole (ends_once x y r q h k m n inner) in
+    (one.0 ∙ sym two.0, one.1 ∙ sym two.1)
+
+pub headers_apart : Apart (flat_map header_lines) EachHeader (At 46)
+headers_apart = list_apart header_lines IsHeader NotBlank (At 46) 72 header_begins header_ends header_on header_apart

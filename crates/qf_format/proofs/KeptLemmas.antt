@@ -8,6 +8,7 @@ use Rattle.qf_format.specs.Spelling.{kept_lines, line}
 use Rattle.qf_format.specs.Valid.{AreKept, IsLine}
 use Rattle.qf_format.proofs.ReadLemmas.{both, BothFormed, front_then, Retold, front_as}
 use Rattle.qf_format.proofs.ListLemmas.{stop_first, stop_second, stop_as}
+use Rattle.qf_format.proofs.ApartLemmas.{Apart, apart_then, apart_as}
 
 abbrev s1 : List ℕ → List ℕ
 s1 = λ y. line (codes "$r" ++ y)
@@ -102,3 +103,6 @@ stop2 bytes r1 x1 h1 e n = lift2 bytes e (stop_second t1 w1 n1 s2 v2 n2 on2 byte
 
 pub stop3 : (bytes r1 r2 : List ℕ) (x1 : List ℕ) (x2 : List ℕ) → Front s1 v1 n1 bytes x1 r1 → Front s2 v2 n2 r1 x2 r2 → (e : Stop) → Stops s3 v3 n3 r2 e → Stops kept_lines AreKept n3 bytes e
 stop3 bytes r1 r2 x1 x2 h1 h2 e n = lift3 bytes e (stop_second t2 w2 n2 s3 v3 n3 on3 bytes (x1, x2) r2 (so_far2 bytes r1 r2 x1 x2 h1 h2) e n)
+
+pub apart_all : Apart s1 v1 n1 → Apart s2 v2 n2 → Apart s3 v3 n3 → Apart kept_lines AreKept n3
+apart_all a1 a2 a3 = apart_as t3 w3 kept_lines AreKept made parted n3 retold (apart_then t2 w2 n2 s3 v3 n3 on3 (apart_then t1 w1 n1 s2 v2 n2 on2 a1 a2) a3)

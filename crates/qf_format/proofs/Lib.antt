@@ -17,3 +17,6 @@ pub mod EnvelopeLemmas
 pub mod KeptLemmas
 pub mod ControlLemmas
 pub mod EndLemmas
+pub mod ApartLemmas
+pub mod OnceLemmas
+pub mod LawLemmas

@@ -10,6 +10,7 @@ use Rattle.qf_format.specs.Reading.{Front, Stops, Anything}
 use Rattle.qf_format.specs.Spelling.{line}
 use Rattle.qf_format.proofs.ReadLemmas.{both, BothFormed, front_then, Retold, front_as}
 use Rattle.qf_format.proofs.ListLemmas.{stop_first, stop_second, stop_as}
+use Rattle.qf_format.proofs.ApartLemmas.{Apart, apart_then, apart_as}
 
 abbrev s1 : ℕ → List ℕ
 s1 = λ y. line (codes "T" ++ decimal y)
@@ -158,3 +159,6 @@ stop4 bytes r1 r2 r3 x1 x2 x3 h1 h2 h3 e n = lift4 bytes e (stop_second t3 w3 n3
 
 pub stop5 : (bytes r1 r2 r3 r4 : List ℕ) (x1 : ℕ) (x2 : ℕ) (x3 : ℕ) (x4 : ℤ) → Front s1 v1 n1 bytes x1 r1 → Front s2 v2 n2 r1 x2 r2 → Front s3 v3 n3 r2 x3 r3 → Front s4 v4 n4 r3 x4 r4 → (e : Stop) → Stops s5 v5 n5 r4 e → Stops order_text IsOrder n5 bytes e
 stop5 bytes r1 r2 r3 r4 x1 x2 x3 x4 h1 h2 h3 h4 e n = lift5 bytes e (stop_second t4 w4 n4 s5 v5 n5 on5 bytes (((x1, x2), x3), x4) r4 (so_far4 bytes r1 r2 r3 r4 x1 x2 x3 x4 h1 h2 h3 h4) e n)
+
+pub apart_all : Apart s1 v1 n1 → Apart s2 v2 n2 → Apart s3 v3 n3 → Apart s4 v4 n4 → Apart s5 v5 n5 → Apart order_text IsOrder n5
+apart_all a1 a2 a3 a4 a5 = apart_as t5 w5 order_text IsOrder made parted n5 retold (apart_then t4 w4 n4 s5 v5 n5 on5 (apart_then t3 w3 n3 s4 v4 n4 on4 (apart_then t2 w2 n2 s3 v3 n3 on3 (apart_then t1 w1 n1 s2 v2 n2 on2 a1 a2) a3) a4) a5)

@@ -22,7 +22,7 @@ digits_free : (ds : List ℕ) → AllDigits 10 ds → Without 32 ds
 digits_free [] h = All-nil (λ b. b ≢ 32)
 digits_free (d ∷ ds) h = let r = digit_from_value d h.0 in All-cons (λ b. b ≢ 32) d ds (λ e. omega (arith, r.0, e)) (digits_free ds h.1)
 
-id_free : (n : ℕ) → IsId n → Without 32 (id_text n)
+pub id_free : (n : ℕ) → IsId n → Without 32 (id_text n)
 id_free n h = All-cons (λ b. b ≢ 32) 119 (digits 12 n) (λ e. omega arith) (digits_free (digits 12 n) (are_digits 12 n (omega arith)).each)
 
 -- ---- the text
@@ -54,7 +54,7 @@ no_space bytes h = record { none = λ p k e. none_in 32 bytes (id_text p.id) (de
 
 -- ---- the line
 
-parent_is_line : (p : Parent) → IsParent p → IsLine (parent_text p)
+pub parent_is_line : (p : Parent) → IsParent p → IsLine (parent_text p)
 parent_is_line p h = All-append (λ b. b ≢ 10) (id_text p.id) (32 ∷ decimal p.revision) (id_line p.id h.id) (All-cons (λ b. b ≢ 10) 32 (decimal p.revision) (λ e. omega arith) (revision_line p.revision h.revision))
 
 abbrev framed_parent : List ℕ → List ℕ

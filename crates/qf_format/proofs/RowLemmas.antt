@@ -12,15 +12,16 @@ use Rattle.qf_format.specs.Spelling.{line, row_lines, state_text}
 use Rattle.qf_format.specs.Valid.{AreRows, most_rows, IsAddress, IsRow, IsState}
 use Rattle.qf_format.proofs.ReadLemmas.{both, BothFormed, front_then, Retold, front_as}
 use Rattle.qf_format.proofs.ListLemmas.{ReadSoFar, none_so_far, one_more, all_read, stuck, front_narrow, front_away, none_narrow, stop_first, stop_second, stop_as}
+use Rattle.qf_format.proofs.ApartLemmas.{Apart, apart_then, apart_as, apart_fewer, list_apart}
 use Rattle.qf_format.specs.declared.stop.Stop.TheVariants.{Outside, Memory}
 
-abbrev AddressText : Bool × List ℕ → List ℕ
+abbrev pub AddressText : Bool × List ℕ → List ℕ
 AddressText p = address_line p.0 p.1
 
-abbrev AddressForm : Bool × List ℕ → Type 0
+abbrev pub AddressForm : Bool × List ℕ → Type 0
 AddressForm p = IsAddress p.1
 
-abbrev state_line_text : State → List ℕ
+abbrev pub state_line_text : State → List ℕ
 state_line_text s = line (codes "e" ++ state_text s)
 
 abbrev Parted : Type 0
@@ -120,3 +121,11 @@ no_empty xs e a = omega (arith, a.some, ap length e)
 pub some_rows : (xs : List Row) → (xs ≡ [] → IsTrue false) → 0 < length xs
 some_rows [] h = absurd (false≢true (h refl))
 some_rows (x ∷ xs) h = omega arith
+
+-- ---- rows are told apart
+
+pub row_apart : Apart AddressText AddressForm Anything → Apart state_line_text IsState Anything → Apart row_lines IsRow Anything
+row_apart a b = apart_as PartedText PartedForm row_lines IsRow row_from row_to Anything retold (apart_then AddressText AddressForm Anything state_line_text IsState Anything on a b)
+
+pub rows_apart : Apart row_lines IsRow Anything → Apart (flat_map row_lines) AreRows (NotAt 82)
+rows_apart a = apart_fewer (flat_map row_lines) EachRow AreRows (NotAt 82) rows_weaker (list_apart row_lines IsRow Anything (NotAt 82) 82 row_begins row_ends row_on a)

@@ -85,7 +85,7 @@ none_dead bytes rest e w = none_of 68 Dead (λ s m. refl) (λ s m h. h) has_dead
 not_blank : (b : ℕ) → IsStatusByte b → b ≢ 32
 not_blank b h e = omega (arith, h.low, e)
 
-no_blank : (s : List ℕ) → is_status s ≡ true → Without 32 s
+pub no_blank : (s : List ℕ) → is_status s ≡ true → Without 32 s
 no_blank s h = All-weaker IsStatusByte (λ b. b ≢ 32) not_blank s (status_in s h).each
 
 -- where the status ends

@@ -22,7 +22,7 @@ use Rattle.qf_format.proofs.ReadLemmas.{none_around}
 use Rattle.qf_format.proofs.SignedLemmas.{are_digits}
 use Rattle.qf_format.proofs.StatusLemmas.{IsStatusByte, status_in}
 
-abbrev NotLf : ℕ → Type 0
+abbrev pub NotLf : ℕ → Type 0
 NotLf b = b ≢ 10
 
 digits_line : (ds : List ℕ) → AllDigits 10 ds → IsLine ds

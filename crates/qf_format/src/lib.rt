@@ -4,6 +4,7 @@
 
 mod field;
 mod header;
+mod law;
 mod lengths;
 mod line;
 mod number;
@@ -15,6 +16,7 @@ mod row;
 mod state;
 mod stop;
 
+pub use law::one_spelling;
 pub use lengths::room;
 pub use paper::Paper;
 pub use parsing::parse;
