@@ -1,3 +1,4 @@
+pub mod DateLemmas
 pub mod ReadingLemmas
 pub mod InsideLemmas
 pub mod RunLemmas

@@ -1,4 +1,5 @@
 pub mod Constructs
+pub mod Dates
 pub mod Expansion
 pub mod Insides
 pub mod Levels

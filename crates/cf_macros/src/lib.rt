@@ -1,10 +1,14 @@
-//! The values of macros in a text. `specs/Expansion.antt` says what
-//! [`expand`] gives.
+//! The values of macros in a text, and the dates that macros have. `specs/Expansion.antt` says what
+//! [`expand`] gives, and `specs/Dates.antt` what [`date`] gives.
 #![tactic(auto)]
 
 mod construct;
+#[cfg(test)]
+mod date_tests;
+mod dates;
 mod expansion;
 mod fault;
+mod form;
 mod level;
 mod run;
 mod scan;
@@ -12,5 +16,7 @@ mod steps;
 #[cfg(test)]
 mod tests;
 
+pub use dates::date;
 pub use expansion::expand;
 pub use fault::ExpandFault;
+pub use form::Form;
