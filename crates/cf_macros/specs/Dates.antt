@@ -6,13 +6,15 @@ use Rattle.cf_macros.specs.declared.form.Form.{Form}
 use Rattle.cf_macros.specs.declared.form.Form.TheVariants.{Mail, Unix, Short}
 use Rattle.cf_macros.specs.declared.form.Civil.{Civil}
 
--- a moment above the year 3000 counts as its beginning
+-- a moment above the beginning of the year 3000 counts as that
 abbrev pub counted : ℕ → ℕ
 counted moment = min moment 32_503_680_000
 
+-- the two digits of a number below 100
 abbrev pub two : ℕ → List ℕ
 two number = (48 + number / 10) ∷ (48 + number % 10) ∷ []
 
+-- the four digits of a number below 10,000
 abbrev pub four : ℕ → List ℕ
 four number = two (number / 100 % 100) ++ two (number % 100)
 
@@ -28,10 +30,11 @@ weekday_name weekday = take 3 (drop (3 * weekday) (codes "MonTueWedThuFriSatSun"
 abbrev pub month_name : ℕ → List ℕ
 month_name month = take 3 (drop (3 * (month - 1)) (codes "JanFebMarAprMayJunJulAugSepOctNovDec"))
 
+-- the hour, the minute and the second, with a colon between
 abbrev pub clock : Civil → List ℕ
 clock civil = two civil.hour ++ 58 ∷ two civil.minute ++ 58 ∷ two civil.second
 
--- `Thu, 1 Jan 2026 00:00:00 +0000`, `Thu Jan  1 00:00:00 2026` and `202601010000`
+-- a date in each form: `Thu, 1 Jan 2026 00:00:00 +0000`, `Thu Jan  1 00:00:00 2026` and `202601010000`
 abbrev pub shown : Form → Civil → List ℕ
 shown Mail civil =
     weekday_name civil.weekday ++ codes ", " ++ padded [] civil.day ++ 32 ∷ month_name civil.month ++ 32 ∷ four civil.year ++ 32 ∷ clock civil ++ codes " +0000"
