@@ -1,5 +1,5 @@
 // The system's clock. It tells nothing but how often it was read.
-ghost use Rattle.std.specs.Prelude.{None};
+ghost use Rattle.std.specs.Prelude.{◌≡◌, None};
 
 use mail_edge::Clock;
 use std::time::{SystemTime, UNIX_EPOCH};
@@ -13,7 +13,9 @@ pub struct SystemClock {
 }
 
 impl SystemClock {
-    pub fn new(rt: HostRuntime) -> SystemClock {
+    pub fn new(rt: HostRuntime) -> SystemClock
+        ensures { result.readings ≡ 0 }
+    {
         SystemClock {
             rt,
             readings: 0,

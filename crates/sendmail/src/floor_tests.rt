@@ -72,7 +72,7 @@ fn two_sessions_are_served_in_turn(rt: HostRuntime) -> Result<(), Fail> {
     let mut floor = listening(&rt, 2)?;
     let mut first = client(&rt, &floor)?;
     assert!(rt; next(&mut floor, &mut buf) == Turn::Opened(1, 9));
-    assert_eq!(rt; &buf[..9], b"127.0.0.1".as_slice());
+    assert!(rt; buf.starts_with(b"127.0.0.1"));
     let mut second = client(&rt, &floor)?;
     assert!(rt; next(&mut floor, &mut buf) == Turn::Opened(2, 9));
     second.write_all(b"NOOP\r\n")?;
