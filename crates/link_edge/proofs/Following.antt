@@ -1,6 +1,6 @@
 -- Events that may stand behind a history.
-use Rattle.std.proofs.Common.{◌≡◌, ℕ, ◌+◌, ◌≤◌, Bool, true, false, cond, List, [], ◌∷◌, ◌++◌, Some, refl, sym, ◌∙◌, ap, subst, arith, append_assoc, append-nil}
-use Rattle.std.specs.Prelude.{count_by, nat_eq}
+use Rattle.std.proofs.Common.{◌≡◌, ℕ, ◌+◌, ◌≤◌, Bool, true, false, cond, List, [], ◌∷◌, ◌++◌, Some, refl, sym, subst, arith, append_assoc, append-nil}
+use Rattle.std.specs.Prelude.{count_by}
 use mathlib.Core.Bool.{true≢false}
 use Rattle.std.proofs.lemmas.Bool.{cond_both, eqb-true}
 use Rattle.link_edge.specs.declared.event.Event.TheVariants.{Opens, Brings, Closes, Rests, Stops}
@@ -13,14 +13,14 @@ use Rattle.link_edge.proofs.Sessioning.{count_push}
 pub follow_join : (history some more : List FloorEvent) → AllFollow history some → AllFollow (history ++ some) more → AllFollow history (some ++ more)
 follow_join history [] more h k = let P : List FloorEvent → Type 0 = λ xs. AllFollow xs more in subst P (append-nil history) k
 follow_join history (event ∷ events) more h k =
-  let P : List FloorEvent → Type 0 = λ xs. AllFollow xs more in
-  (h.0, follow_join (history ++ event ∷ []) events more h.1 (subst P (sym (append_assoc history (event ∷ []) events)) k))
+    let P : List FloorEvent → Type 0 = λ xs. AllFollow xs more in
+    (h.0, follow_join (history ++ event ∷ []) events more h.1 (subst P (sym (append_assoc history (event ∷ []) events)) k))
 
 -- what is told of a send follows
 pub send_follows : (history : List FloorEvent) (session : ℕ) (bytes : List ℕ) (whole : Bool) → AllFollow history (sent_in (Some history) session bytes whole)
 send_follows history session bytes whole =
-  let P : List FloorEvent → Type 0 = λ xs. AllFollow history xs in
-  cond_both (is_sound session history) (send_event session bytes whole ∷ []) [] P (λ sound. (sent_as history session bytes whole sound, tt)) (λ unsound. tt)
+    let P : List FloorEvent → Type 0 = λ xs. AllFollow history xs in
+    cond_both (is_sound session history) (send_event session bytes whole ∷ []) [] P (λ sound. (sent_as history session bytes whole sound, tt)) (λ unsound. tt)
   where
     sent_as : (history : List FloorEvent) (session : ℕ) (bytes : List ℕ) (whole : Bool) → is_sound session history ≡ true → Follows history (send_event session bytes whole)
     sent_as history session bytes true sound = sound
@@ -29,8 +29,8 @@ send_follows history session bytes whole =
 -- what is told of a hang-up follows
 pub hang_up_follows : (history : List FloorEvent) (session : ℕ) → AllFollow history (hung_up_in (Some history) session)
 hang_up_follows history session =
-  let P : List FloorEvent → Type 0 = λ xs. AllFollow history xs in
-  cond_both (is_open session history) (HungUp session ∷ []) [] P (λ live. (live, tt)) (λ dead. tt)
+    let P : List FloorEvent → Type 0 = λ xs. AllFollow history xs in
+    cond_both (is_open session history) (HungUp session ∷ []) [] P (λ live. (live, tt)) (λ dead. tt)
 
 -- an opening that follows has a number that wasn't used
 unused_number : (n : ℕ) (history : List FloorEvent) (event : FloorEvent) → Follows history event → opens n event ≡ true → count_by (opens n) history ≡ 0
@@ -55,5 +55,5 @@ once_one history event once follows = λ n. let P : ℕ → Type 0 = λ m. m ≤
 pub once_all : (history events : List FloorEvent) → NumbersOnce history → AllFollow history events → NumbersOnce (history ++ events)
 once_all history [] once follow = let P : List FloorEvent → Type 0 = λ xs. NumbersOnce xs in subst P (sym (append-nil history)) once
 once_all history (event ∷ events) once follow =
-  let P : List FloorEvent → Type 0 = λ xs. NumbersOnce xs in
-  subst P (append_assoc history (event ∷ []) events) (once_all (history ++ event ∷ []) events (once_one history event once follow.0) follow.1)
+    let P : List FloorEvent → Type 0 = λ xs. NumbersOnce xs in
+    subst P (append_assoc history (event ∷ []) events) (once_all (history ++ event ∷ []) events (once_one history event once follow.0) follow.1)

@@ -1,6 +1,6 @@
 -- What a floor in memory keeps beside its history, as that grows.
-use Rattle.std.proofs.Common.{◌≡◌, ℕ, ◌+◌, ◌<◌, ◌≤◌, Bool, true, false, cond, List, [], ◌∷◌, ◌++◌, length, refl, sym, ◌∙◌, ap, arith, suc}
-use Rattle.std.specs.Prelude.{count_by, nat_eq}
+use Rattle.std.proofs.Common.{◌≡◌, ℕ, ◌+◌, ◌<◌, ◌≤◌, true, false, cond, List, [], ◌∷◌, ◌++◌, length, refl, sym, ◌∙◌, ap, arith}
+use Rattle.std.specs.Prelude.{count_by}
 use mathlib.Core.Bool.{true≢false}
 use Rattle.std.proofs.lemmas.Bool.{ne_eqb}
 use Rattle.std.proofs.lemmas.List.{length-append}
@@ -33,8 +33,8 @@ kept_more told now event live live_now sound sound_now opened opened_now before 
   sound_is = sound_is ∙ ap (λ xs. sound_after xs event) kept.sound_is ∙ sym (ap sound_in is ∙ sound_push told event);
   opened_is = opened_is ∙ ap (λ n. n + cond (is_opening event) 1 0) kept.opened_is ∙ sym (ap (count_by is_opening) is ∙ count_push is_opening told event);
   unused = λ n above.
-    let below : opened < n = omega (arith, opened_is) in
-    ap (count_by (opens n)) is ∙ count_push (opens n) told event ∙ ap (λ q. q + cond (opens n event) 1 0) (kept.unused n below) ∙ ap (λ b. 0 + cond b 1 0) (unused n above);
+      let below : opened < n = omega (arith, opened_is) in
+      ap (count_by (opens n)) is ∙ count_push (opens n) told event ∙ ap (λ q. q + cond (opens n event) 1 0) (kept.unused n below) ∙ ap (λ b. 0 + cond b 1 0) (unused n above);
   room = room;
 }
 
@@ -62,10 +62,10 @@ opened_few told live sound opened capacity kept = omega (arith, kept.opened_is, 
 -- an event that leaves each session as it is
 pub kept_quiet : (told now : List FloorEvent) (event : FloorEvent) (live sound : List ℕ) (opened before after : ℕ) → IsKept told live sound opened before → is_quiet event ≡ true → now ≡ told ++ event ∷ [] → length now + length live + length sound ≤ after → IsKept now live sound opened after
 kept_quiet told now event live sound opened before after kept quiet is room =
-  let all = leaves_all event quiet in
-  kept_more told now event live live sound sound opened opened before after kept is (sym (all.live live)) (sym (all.sound sound)) (sym (ap (λ b. opened + cond b 1 0) all.opening ∙ omega arith)) (λ n above. all.unused n) room
+    let all = leaves_all event quiet in
+    kept_more told now event live live sound sound opened opened before after kept is (sym (all.live live)) (sym (all.sound sound)) (sym (ap (λ b. opened + cond b 1 0) all.opening ∙ omega arith)) (λ n above. all.unused n) room
 
 -- a session more
 pub kept_open : (told now : List FloorEvent) (number : ℕ) (peer : List ℕ) (live live_now sound sound_now : List ℕ) (opened before after : ℕ) → IsKept told live sound opened before → number ≡ opened + 1 → now ≡ told ++ Took (Opens number peer) ∷ [] → live_now ≡ live ++ number ∷ [] → sound_now ≡ sound ++ number ∷ [] → length now + length live + length sound + 2 ≤ after → IsKept now live_now sound_now number after
 kept_open told now number peer live live_now sound sound_now opened before after kept is_number is live_is sound_is room =
-  kept_more told now (Took (Opens number peer)) live live_now sound sound_now opened number before after kept is live_is sound_is is_number (λ n above. ne_eqb number n (λ e. omega arith)) (omega (arith, ap length live_is, ap length sound_is, length-append live (number ∷ []), length-append sound (number ∷ [])))
+    kept_more told now (Took (Opens number peer)) live live_now sound sound_now opened number before after kept is live_is sound_is is_number (λ n above. ne_eqb number n (λ e. omega arith)) (omega (arith, ap length live_is, ap length sound_is, length-append live (number ∷ []), length-append sound (number ∷ [])))

@@ -2,7 +2,7 @@
 use Rattle.std.proofs.Common.{◌≡◌, ℕ, Bool, true, false, cond, not, ◌&&◌, ◌||◌, List, [], ◌∷◌, ◌++◌, refl, sym, ◌∙◌, ap}
 use Rattle.std.specs.Prelude.{nat_eq}
 use mathlib.Core.Bool.{true≢false}
-use Rattle.std.proofs.lemmas.Bool.{eqb-true, eq-eqb, or_right, or_left, or_cases, and_parts, and_from}
+use Rattle.std.proofs.lemmas.Bool.{eqb-true, eq-eqb, or_right, or_left, and_parts, and_from}
 use Rattle.std.proofs.lemmas.List.Folds.{list_any-append, fold_along}
 use Rattle.link_edge.specs.declared.event.Event.TheVariants.{Opens, Brings, Closes, Rests, Stops}
 use Rattle.link_edge.specs.declared.event.FloorEvent.{FloorEvent}
@@ -54,8 +54,8 @@ within_less gone some all h = λ s t. h s (and_parts (is_among s some) (not (nat
 within_both : (gone : ℕ) (some all : List ℕ) → Within some all → Within (without gone some) (without gone all)
 unfolding Within
 within_both gone some all h = λ s t.
-  let parts = and_parts (is_among s some) (not (nat_eq s gone)) (sym (among_without s gone some) ∙ t) in
-  among_without s gone all ∙ and_from (is_among s all) (not (nat_eq s gone)) (h s parts.0) parts.1
+    let parts = and_parts (is_among s some) (not (nat_eq s gone)) (sym (among_without s gone some) ∙ t) in
+    among_without s gone all ∙ and_from (is_among s all) (not (nat_eq s gone)) (h s parts.0) parts.1
 
 -- after one event more the sound sessions are still among the open ones
 within_event : (some all : List ℕ) (event : FloorEvent) → Within some all → Within (sound_after some event) (open_after all event)
@@ -76,4 +76,4 @@ sound_is_open history session sound = fold_along sound_after open_after Within w
 -- a session that was just opened is sound
 pub opened_is_sound : (history : List FloorEvent) (session : ℕ) (peer : List ℕ) → is_sound session (history ++ Took (Opens session peer) ∷ []) ≡ true
 opened_is_sound history session peer =
-  ap (is_among session) (sound_push history (Took (Opens session peer))) ∙ among_push session session _ ∙ or_right _ _ (or_left (nat_eq session session) false (eq-eqb session session refl))
+    ap (is_among session) (sound_push history (Took (Opens session peer))) ∙ among_push session session _ ∙ or_right _ _ (or_left (nat_eq session session) false (eq-eqb session session refl))

@@ -1,5 +1,5 @@
 ghost use Rattle.std.specs.Prelude.{◌≡◌, ◌≤◌, ◌&&◌, [], length, take, drop, min, not, nat_eq, nat_le, IfOk, OnErr};
-ghost use Rattle.link_edge.specs.Steps.{IsHeard, is_peer, step_event, without_said};
+ghost use Rattle.link_edge.specs.Steps.{IsHeard, is_peer, rest_at, step_event, step_rest, without_said};
 ghost use Rattle.link_edge.specs.declared.event.Event.TheVariants.{Rests};
 ghost use Rattle.link_edge.specs.declared.event.FloorEvent.TheVariants.{Took};
 ghost use Rattle.link_edge.specs.declared.step.Step.TheVariants.{Open, Say, Close};
@@ -8,23 +8,27 @@ use crate::telling::Telling;
 use crate::{Event, FloorEvent, Step, Turn};
 use mail_base::{NoMemory, Text};
 
-// The turn of a step of which the first bytes came before. Where there is no memory to tell it, nothing
-// changes but the buffer.
+// The turn of a step of which the first bytes came before, and how many came by now where the step isn't
+// done. Where there is no memory to tell it, nothing changes but the buffer.
 pub(crate) fn hear(
     told: &mut Telling,
     step: &Step,
     said: usize,
     buf: &mut [u8],
-) -> Result<Turn, NoMemory>
+) -> Result<(Turn, Option<usize>), NoMemory>
     requires { 64 ≤ length buf.old }
-    ensures heard { IfOk result (λ turn. IsHeard told.old told.new (step_event told.old (length buf.old) (without_said said step.now)) turn buf.new) }
+    ensures heard { IfOk result (λ turn. IsHeard told.old told.new (step_event told.old (length buf.old) (without_said said step.now)) turn.0 buf.new) }
+    ensures left { IfOk result (λ turn. rest_at step.now turn.1 ≡ step_rest told.old (length buf.old) (without_said said step.now)) }
     ensures kept { OnErr result (told.new ≡ told.old) }
 {
     match step {
-        Step::Open(peer) => hear_opening(told, peer, buf),
-        Step::Say(session, bytes) => hear_bytes(told, *session, bytes, said, buf),
-        Step::Close(session) => hear_end(told, *session, buf),
-        Step::Rest => rest(told, buf),
+        Step::Open(peer) => Ok((hear_opening(told, peer, buf)?, None)),
+        Step::Say(session, bytes) => {
+            let (turn, count) = hear_bytes(told, *session, bytes, said, buf)?;
+            Ok((turn, count))
+        }
+        Step::Close(session) => Ok((hear_end(told, *session, buf)?, None)),
+        Step::Rest => Ok((rest(told, buf)?, None)),
     }
 }
 
@@ -51,26 +55,31 @@ fn hear_opening(told: &mut Telling, peer: &Text, buf: &mut [u8]) -> Result<Turn,
     Ok(Turn::Opened(session, count))
 }
 
-// Bytes of a session, without the first.
+// Bytes of a session, without the first, and how many came by now where more are left.
 fn hear_bytes(
     told: &mut Telling,
     session: u64,
     bytes: &Text,
     said: usize,
     buf: &mut [u8],
-) -> Result<Turn, NoMemory>
+) -> Result<(Turn, Option<usize>), NoMemory>
     requires { 64 ≤ length buf.old }
-    ensures heard { IfOk result (λ turn. IsHeard told.old told.new (step_event told.old (length buf.old) (Say session (drop said bytes.now))) turn buf.new) }
+    ensures heard { IfOk result (λ turn. IsHeard told.old told.new (step_event told.old (length buf.old) (Say session (drop said bytes.now))) turn.0 buf.new) }
+    ensures left { IfOk result (λ turn. rest_at (Say session bytes.now) turn.1 ≡ step_rest told.old (length buf.old) (Say session (drop said bytes.now))) }
     ensures kept { OnErr result (told.new ≡ told.old) }
 {
     let left = behind(bytes.bytes(), said);
     if left.is_empty() || !told.is_sound(session) {
-        return rest(told, buf);
+        return Ok((rest(told, buf)?, None));
     }
     let count = copy_front(left, buf);
     let piece = Text::of(bytes.allocator(), &left[..count])?;
     told.pass(FloorEvent::Took(Event::Brings(session, piece)))?;
-    Ok(Turn::Piece(session, count))
+    if count < left.len() {
+        Ok((Turn::Piece(session, count), Some(said + count)))
+    } else {
+        Ok((Turn::Piece(session, count), None))
+    }
 }
 
 // A session that is ended by its peer.

@@ -8,8 +8,11 @@ mod hearing;
 mod law;
 mod one_floor;
 mod place;
+mod script_floor;
 mod step;
 mod telling;
+#[cfg(test)]
+mod tests;
 mod turn;
 
 pub use event::{Event, FloorEvent};
@@ -17,5 +20,6 @@ pub use floor::Floor;
 pub use law::{numbers_are_used_once, sessions_follow_events};
 pub use one_floor::{OneFloor, Stage};
 pub use place::Place;
+pub use script_floor::ScriptFloor;
 pub use step::Step;
 pub use turn::Turn;

@@ -74,7 +74,12 @@ impl Telling {
         self.sound.reserve(1)?;
         let number = number_after(self.opened, &self.told);
         let owed = owed(&self.told, &self.live, &self.sound);
-        add(&mut self.told, owed, 2, FloorEvent::Took(Event::Opens(number, peer)))?;
+        add(
+            &mut self.told,
+            owed,
+            2,
+            FloorEvent::Took(Event::Opens(number, peer)),
+        )?;
         self.live.push_reserved(number);
         self.sound.push_reserved(number);
         self.opened = number;
@@ -98,7 +103,12 @@ impl Telling {
         ensures kept { OnErr result (self.new ≡ self.old) }
     {
         let owed = owed(&self.told, &self.live, &self.sound);
-        add(&mut self.told, owed, 0, FloorEvent::Took(Event::Closes(session)))?;
+        add(
+            &mut self.told,
+            owed,
+            0,
+            FloorEvent::Took(Event::Closes(session)),
+        )?;
         leave(&mut self.live, session);
         leave(&mut self.sound, session);
         Ok(())
@@ -143,7 +153,12 @@ fn owed(told: &Vec<FloorEvent>, live: &[u64], sound: &[u64]) -> usize
 }
 
 // Adds an event, and keeps room for what is owed and more.
-fn add(told: &mut Vec<FloorEvent>, owed: usize, more: usize, event: FloorEvent) -> Result<(), NoMemory>
+fn add(
+    told: &mut Vec<FloorEvent>,
+    owed: usize,
+    more: usize,
+    event: FloorEvent,
+) -> Result<(), NoMemory>
     ensures told { OnOk result (told.new.items ≡ told.old.items ++ event ∷ []) }
     ensures room { OnOk result (length told.new.items + owed + more ≤ vec_capacity told.new) }
     ensures kept { OnErr result (told.new.items ≡ told.old.items) }

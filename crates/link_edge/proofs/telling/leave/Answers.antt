@@ -1,8 +1,7 @@
 -- What is kept is what has another number, and that is fewer where the number was there.
-use Rattle.std.proofs.Common.{rules, ◌≡◌, ◌+◌, ◌≤◌, length, subst, sym}
+use Rattle.std.proofs.Common.{rules, ◌+◌, ◌≤◌, length, subst, sym}
 use Rattle.std.specs.Prelude.{ℕ, List, not, nat_eq}
 use Rattle.std.proofs.lemmas.Fn.{filter_same}
-use Rattle.link_edge.specs.Sessions.{without}
 use Rattle.link_edge.proofs.Leaving.{without_fewer}
 use Rattle.link_edge.proofs.telling.leave.Goals as goal
 
