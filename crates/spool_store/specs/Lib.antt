@@ -1,0 +1,4 @@
+pub mod Tables
+pub mod Standing
+pub mod Moves
+pub mod Stages
