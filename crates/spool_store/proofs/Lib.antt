@@ -1,0 +1,6 @@
+pub mod MovesLemmas
+mod FileNames
+mod PlaceLemmas
+mod TableLemmas
+mod StageLemmas
+mod OpenLemmas

@@ -94,11 +94,15 @@ impl Store {
         if self.broken {
             return Err(SpoolFault);
         }
-        if put_entry(spool, &change).is_err() {
-            self.broken = true;
-            return Err(SpoolFault);
+        match put_entry(spool, &change) {
+            Ok(()) => {
+                self.next = change.id.number() + 1;
+                Ok(change.id)
+            }
+            Err(_failed) => {
+                self.broken = true;
+                Err(SpoolFault)
+            }
         }
-        self.next = change.id.number() + 1;
-        Ok(change.id)
     }
 }
