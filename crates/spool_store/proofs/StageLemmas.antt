@@ -27,8 +27,8 @@ without files file p e = alike files (file ∷ []) [] p (later file [] p e) ∙ 
 written : (dirs : List (List ℕ)) (files : FileMap) (file : File) (f g : FileMap) → bytes_at files (place_of file) ≡ None → AreFiles dirs files f → HasWritten (place_of file) file.bytes f g → AreFiles dirs (files ++ file ∷ []) g
 written dirs files file f g fresh are h = λ p among. ⊎_elim
     (λ (t : lies_at p file ≡ true).
-        let is : p ≡ place_of file = only_own p file t in
-        ap (bytes_at g) is ∙ h.holds ∙ sym (here file [] p t) ∙ sym (behind files (file ∷ []) p (ap (bytes_at files) is ∙ fresh)))
+    let is : p ≡ place_of file = only_own p file t in
+    ap (bytes_at g) is ∙ h.holds ∙ sym (here file [] p t) ∙ sym (behind files (file ∷ []) p (ap (bytes_at files) is ∙ fresh)))
     (λ (e : lies_at p file ≡ false). h.others p (not_own p file e) ∙ are p among ∙ sym (without files file p e))
     (decided (lies_at p file))
 
@@ -55,26 +55,26 @@ published dirs files s f g fresh are r = λ p among.
     let tf : File = draft_file s in
     ⊎_elim
     (λ (t : lies_at p qf ≡ true).
-        let is : p ≡ place_of qf = only_own p qf t in
-        let inside : Contains dirs s.entry.dir = subst (λ (q : Place). Contains dirs q.0) is among in
-        ap (bytes_at g) is ∙ r.holds ∙ are (place_of tf) inside
-        ∙ behind files (df ∷ tf ∷ []) (place_of tf) (fresh Tf)
-        ∙ later df (tf ∷ []) (place_of tf) (named_apart (place_of tf) df (tf_apart_df s.entry.id s.entry.id))
-        ∙ here tf [] (place_of tf) (at_own tf)
-        ∙ sym (here qf (df ∷ []) p t)
-        ∙ sym (behind files (qf ∷ df ∷ []) p (ap (bytes_at files) is ∙ fresh Qf)))
+    let is : p ≡ place_of qf = only_own p qf t in
+    let inside : Contains dirs s.entry.dir = subst (λ (q : Place). Contains dirs q.0) is among in
+    ap (bytes_at g) is ∙ r.holds ∙ are (place_of tf) inside
+    ∙ behind files (df ∷ tf ∷ []) (place_of tf) (fresh Tf)
+    ∙ later df (tf ∷ []) (place_of tf) (named_apart (place_of tf) df (tf_apart_df s.entry.id s.entry.id))
+    ∙ here tf [] (place_of tf) (at_own tf)
+    ∙ sym (here qf (df ∷ []) p t)
+    ∙ sym (behind files (qf ∷ df ∷ []) p (ap (bytes_at files) is ∙ fresh Qf)))
     (λ (e : lies_at p qf ≡ false). ⊎_elim
-        (λ (t : lies_at p tf ≡ true).
-            let is : p ≡ place_of tf = only_own p tf t in
-            ap (bytes_at g) is ∙ r.gone
-            ∙ sym (ap (bytes_at (files ++ qf ∷ df ∷ [])) is
-                ∙ behind files (qf ∷ df ∷ []) (place_of tf) (fresh Tf)
-                ∙ later qf (df ∷ []) (place_of tf) (named_apart (place_of tf) qf (tf_apart_qf s.entry.id s.entry.id))
-                ∙ later df [] (place_of tf) (named_apart (place_of tf) df (tf_apart_df s.entry.id s.entry.id))))
-        (λ (d : lies_at p tf ≡ false).
-            r.others p (not_own p tf d) (not_own p qf e) ∙ are p among
-            ∙ alike files (df ∷ tf ∷ []) (qf ∷ df ∷ []) p (ap (λ (o : Option (List ℕ)). if lies_at p df then Some df.bytes else o) (later tf [] p d) ∙ sym (later qf (df ∷ []) p e)))
-        (decided (lies_at p tf)))
+    (λ (t : lies_at p tf ≡ true).
+    let is : p ≡ place_of tf = only_own p tf t in
+    ap (bytes_at g) is ∙ r.gone
+    ∙ sym (ap (bytes_at (files ++ qf ∷ df ∷ [])) is
+    ∙ behind files (qf ∷ df ∷ []) (place_of tf) (fresh Tf)
+    ∙ later qf (df ∷ []) (place_of tf) (named_apart (place_of tf) qf (tf_apart_qf s.entry.id s.entry.id))
+    ∙ later df [] (place_of tf) (named_apart (place_of tf) df (tf_apart_df s.entry.id s.entry.id))))
+    (λ (d : lies_at p tf ≡ false).
+    r.others p (not_own p tf d) (not_own p qf e) ∙ are p among
+    ∙ alike files (df ∷ tf ∷ []) (qf ∷ df ∷ []) p (ap (λ (o : Option (List ℕ)). if lies_at p df then Some df.bytes else o) (later tf [] p d) ∙ sym (later qf (df ∷ []) p e)))
+    (decided (lies_at p tf)))
     (decided (lies_at p qf))
 
 -- what a commit is about: a sound table, and its first free id, which is within its range

@@ -65,12 +65,7 @@ impl Store {
         if self.next > Id::MOST {
             return Err(StoreFault::IdsSpent);
         }
-        Ok(Change::of(
-            self.dirs.allocator(),
-            Id::new(self.next),
-            draft,
-            body,
-        )?)
+        Ok(Change::of(self.dirs.allocator(), Id::new(self.next), draft, body)?)
     }
 
     /// Commits a change: its body, then its control text, each whole before the next, and then the
