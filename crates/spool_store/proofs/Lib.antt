@@ -4,4 +4,3 @@ mod PlaceLemmas
 mod TableLemmas
 mod StageLemmas
 mod OpenLemmas
-mod SampleLemmas

@@ -1,14 +1,13 @@
 -- What a listing says of the files, and calls that only read.
-use Rattle.std.proofs.Common.{◌≡◌, ◌≢◌, ◌⊎◌, inl, inr, ⊎_elim, ℕ, ◌≤◌, ◌<◌, List, [], ◌∷◌, ◌+◌, ◌++◌, take, length, get_or, Option, Some, None, IsSome, Bool, true, false, true≢false, refl, sym, ◌∙◌, ap, subst, arith}
-use Rattle.std.specs.Prelude.{IfSome, IsTrue, Contains, not}
+use Rattle.std.proofs.Common.{◌≡◌, ◌≢◌, inl, inr, ⊎_elim, ℕ, ◌<◌, List, [], ◌∷◌, ◌+◌, ◌++◌, take, length, get_or, Option, Some, None, IsSome, Bool, true, false, true≢false, refl, sym, ◌∙◌, ap, subst, arith}
+use Rattle.std.specs.Prelude.{IfSome, Contains, not}
 use Rattle.std.proofs.Math.Nat.{le_refl, le_trans}
 use Rattle.std.proofs.lemmas.List.{take_more}
-use Rattle.std.proofs.lemmas.List.Elements.{Contains-append_left, Contains-append_right, Contains-append_cases, Contains-push, Contains-push_cases}
-use Rattle.spool_disk.specs.Disk.{Place, FileMap, bytes_at}
+use Rattle.std.proofs.lemmas.List.Elements.{Contains-append_left, Contains-append_cases, Contains-push, Contains-push_cases}
+use Rattle.spool_disk.specs.Disk.{FileMap, bytes_at}
 use Rattle.spool_disk.specs.Listings.{IsListing}
-use Rattle.spool_disk.specs.Spooled.{Spooled, Calls, Leads, Reads, Rests}
-use Rattle.spool_store.specs.Standing.{AreEmpty, IsUsed, IsClean}
-use Rattle.spool_store.specs.Tables.{start}
+use Rattle.spool_disk.specs.Spooled.{Spooled, Leads, Reads, Rests}
+use Rattle.spool_store.specs.Standing.{AreEmpty, IsUsed}
 
 nothing_there : {X : Type 0} (y : X) → Contains [] y → ⊥
 nothing_there y h = omega (arith, h.1)

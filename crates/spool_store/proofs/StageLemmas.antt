@@ -1,5 +1,5 @@
 -- The files after each call of a commit.
-use Rattle.std.proofs.Common.{◌≡◌, ◌≢◌, ◌⊎◌, inl, inr, ⊎_elim, ℕ, ◌≤◌, List, [], ◌∷◌, ◌++◌, Option, Some, None, Bool, true, false, true≢false, refl, sym, ◌∙◌, ap, subst, arith, append_assoc}
+use Rattle.std.proofs.Common.{◌≡◌, ◌≢◌, ◌⊎◌, inl, inr, ⊎_elim, ℕ, ◌≤◌, List, [], ◌∷◌, ◌++◌, Option, Some, None, true, false, true≢false, sym, ◌∙◌, ap, subst, arith, append_assoc}
 use Rattle.std.specs.Prelude.{Contains, if◌then◌else◌}
 use Rattle.std.proofs.lemmas.List.{append-nil}
 use Rattle.mail_base.specs.declared.control.Draft.{Draft}
@@ -13,7 +13,7 @@ use Rattle.spool_store.specs.Tables.{Stored, Table, Command, IsSound, after, sto
 use Rattle.spool_store.specs.Tables.Command.{Accept}
 use Rattle.spool_store.specs.Standing.{AreFiles, IsClean, IsUnfinished, StandsFor, IsEither, control_file, body_file, files_of}
 use Rattle.spool_store.specs.Stages.{HasBody, HasDraft, draft_file}
-use Rattle.spool_store.proofs.FileNames.{tf_apart_df, tf_apart_qf, qf_apart_df}
+use Rattle.spool_store.proofs.FileNames.{tf_apart_df, tf_apart_qf}
 use Rattle.spool_store.proofs.PlaceLemmas.{place_of, at_own, only_own, named_apart, decided, here, later, behind, alike}
 use Rattle.spool_store.proofs.TableLemmas.{free_at, files_more}
 

@@ -1,20 +1,18 @@
 -- How a table grows, and which names its files don't have.
-use Rattle.std.proofs.Common.{◌≡◌, ◌≢◌, ⊎_elim, inl, inr, ℕ, ◌+◌, ◌<◌, ◌≤◌, List, [], ◌∷◌, ◌++◌, None, refl, sym, ◌∙◌, ap, subst, arith, Less}
-use Rattle.std.specs.Prelude.{map, All, Contains}
-use Rattle.std.specs.List.{AllByRecursion, flat_map}
+use Rattle.std.proofs.Common.{◌≡◌, ◌≢◌, ℕ, ◌+◌, ◌<◌, ◌≤◌, List, [], ◌∷◌, ◌++◌, None, refl, sym, ◌∙◌, subst, arith, Less}
+use Rattle.std.specs.Prelude.{All, Contains}
+use Rattle.std.specs.List.{AllByRecursion}
 use Rattle.std.specs.List.Sorted.{IsStrictlySortedBy}
 use Rattle.std.specs.Ordering.{nat_cmp}
-use Rattle.std.proofs.Math.Nat.{le_trans}
 use Rattle.std.proofs.lemmas.Grind.{flat_map-append}
 use Rattle.std.specs.Cmp.{nat_cmp_is}
 use Rattle.std.proofs.lemmas.List.{map-append}
 use Rattle.std.proofs.lemmas.List.Elements.{All-nil, All-head, All-tail, All-push, All-cons, All-map}
 use Rattle.mail_base.specs.declared.control.Draft.{Draft}
 use Rattle.mail_base.specs.declared.id.Kind.{Kind}
-use Rattle.mail_base.specs.declared.id.Kind.TheVariants.{Df, Qf, Tf}
+use Rattle.mail_base.specs.declared.id.Kind.TheVariants.{Df, Qf}
 use Rattle.mail_base.specs.Names.{name_of}
-use Rattle.spool_disk.specs.declared.file.File.{File}
-use Rattle.spool_disk.specs.Disk.{Place, FileMap, bytes_at}
+use Rattle.spool_disk.specs.Disk.{Place, bytes_at}
 use Rattle.spool_store.specs.Tables.{Stored, Table, Command, IsSound, after, applied, ids, stored, start}
 use Rattle.spool_store.specs.Tables.Command.{Accept}
 use Rattle.spool_store.specs.Standing.{control_file, body_file, files_of}

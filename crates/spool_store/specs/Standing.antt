@@ -1,5 +1,5 @@
 -- The files that a table stands in (own; df, qf and tf are those of the Sendmail Installation and Operation Guide, "The queue").
-use Rattle.std.specs.Prelude.{◌≡◌, ◌⊎◌, ℕ, ◌≤◌, List, [], ◌∷◌, None, Some, Contains, IsSome}
+use Rattle.std.specs.Prelude.{◌≡◌, ◌⊎◌, ℕ, ◌≤◌, List, [], ◌∷◌, None, Contains, IsSome}
 use Rattle.std.specs.List.{flat_map}
 use Rattle.mail_base.specs.Names.{name_of}
 use Rattle.mail_base.specs.declared.id.Kind.TheVariants.{Df, Qf, Tf}
