@@ -4,3 +4,4 @@ mod PlaceLemmas
 mod TableLemmas
 mod StageLemmas
 mod OpenLemmas
+mod SampleLemmas

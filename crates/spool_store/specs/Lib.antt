@@ -2,3 +2,4 @@ pub mod Tables
 pub mod Standing
 pub mod Moves
 pub mod Stages
+pub mod Samples
