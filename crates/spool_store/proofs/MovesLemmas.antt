@@ -1,0 +1,67 @@
+-- Moves join, and a call is one.
+use Rattle.std.proofs.Common.{◌≡◌, inl, inr, ⊎_elim, Option, Some, None, Result, Ok, Err, refl, subst}
+use Rattle.std.specs.Prelude.{IsOk}
+use Rattle.std.proofs.Math.Nat.{le_refl, le_trans}
+use Rattle.spool_disk.specs.Disk.{FileMap}
+use Rattle.spool_disk.specs.Spooled.{Spooled, Calls, Leads}
+use Rattle.spool_store.specs.Moves.{Moves, Becomes, Ends}
+
+becomes_none : (c : Option FileMap) (Q P S : FileMap → Type 0) → Becomes None c Q S → Becomes None c P S
+becomes_none None Q P S k = tt
+becomes_none (Some i) Q P S k = absurd k
+
+becomes_join : (a b c : Option FileMap) (P Q S : FileMap → Type 0) → Becomes a b P Q → Becomes b c Q S → Becomes a c P S
+becomes_join None None c P Q S h k = becomes_none c Q P S k
+becomes_join None (Some g) c P Q S h k = absurd h
+becomes_join (Some f) None c P Q S h k = absurd h
+becomes_join (Some f) (Some g) None P Q S h k = absurd k
+becomes_join (Some f) (Some g) (Some i) P Q S h k = λ p. k (h p)
+
+-- what the told files are after a run
+told_after : (a b : Option FileMap) (P Q : FileMap → Type 0) → Becomes a b P Q → (f : FileMap) → a ≡ Some f → P f → (g : FileMap) × (b ≡ Some g) × Q g
+told_after None b P Q h f e p = cc
+told_after (Some d) None P Q h f e p = absurd h
+told_after (Some d) (Some g) P Q h f e p = let same : f ≡ d = cc e in (g, refl, h (subst P same p))
+
+pub moves_join : (a b c : Spooled) (P Q S R : FileMap → Type 0) → Moves a b P Q R → Moves b c Q S R → Moves a c P S R
+moves_join a b c P Q S R h k = record {
+  later = le_trans h.later k.later;
+  now = becomes_join a.told b.told c.told P Q S h.now k.now;
+  images = λ f e p t x le left.
+      let m = told_after a.told b.told P Q h.now f e p in
+      ⊎_elim (h.images f e p t x le) (λ r. inr r) (k.images m.0 m.1 m.2 t x (le_trans le h.later) left);
+  kept = λ t x left. k.kept t x (h.kept t x left);
+}
+
+becomes_by : (a b : Option FileMap) (Image Done : FileMap → FileMap → Type 0) (well : Type 0) (P Q : FileMap → Type 0) → Leads a b Image Done well → ((f g : FileMap) → P f → Image f g → (well → Done f g) → Q g) → Becomes a b P Q
+becomes_by None None Image Done well P Q h leads = tt
+becomes_by None (Some g) Image Done well P Q h leads = absurd h
+becomes_by (Some f) None Image Done well P Q h leads = absurd h
+becomes_by (Some f) (Some g) Image Done well P Q h leads = λ p. leads f g p h.0 h.1
+
+-- a call whose images have R, and that leads to Q
+moves_by : (a b : Spooled) (Image Done : FileMap → FileMap → Type 0) (well : Type 0) (P Q R : FileMap → Type 0) → Calls a b Image Done well → ((f g : FileMap) → P f → Image f g → R g) → ((f g : FileMap) → P f → Image f g → (well → Done f g) → Q g) → Moves a b P Q R
+moves_by a b Image Done well P Q R h safe leads = record {
+  later = h.later;
+  now = becomes_by a.told b.told Image Done well P Q h.now leads;
+  images = λ f e p t x le left. ⊎_elim (λ before. inl before) (λ i. inr (safe f x p i)) (h.images f e t x le left);
+  kept = h.kept;
+}
+
+-- the same for a call with a result
+pub moves_call : {T E : Type 0} (a b : Spooled) (Image Done : FileMap → FileMap → Type 0) (r : Result T E) (P Q R : FileMap → Type 0) → Calls a b Image Done (IsOk r) → ((f g : FileMap) → P f → Image f g → R g) → ((f g : FileMap) → P f → Done f g → Q g) → Moves a b P (Ends r Q R) R
+moves_call a b Image Done (Ok x) P Q R h safe leads = moves_by a b Image Done _ P Q R h safe (λ f g p i d. leads f g p (d refl))
+moves_call a b Image Done (Err e) P Q R h safe leads = moves_by a b Image Done _ P R R h safe (λ f g p i d. safe f g p i)
+
+becomes_same : (a : Option FileMap) (P Q : FileMap → Type 0) → ((f : FileMap) → P f → Q f) → Becomes a a P Q
+becomes_same None P Q to = tt
+becomes_same (Some f) P Q to = λ p. to f p
+
+-- a run that does nothing
+pub moves_none : (a : Spooled) (P Q R : FileMap → Type 0) → ((f : FileMap) → P f → Q f) → Moves a a P Q R
+moves_none a P Q R to = record {
+  later = le_refl a.moment;
+  now = becomes_same a.told P Q to;
+  images = λ f e p t x le left. inl left;
+  kept = λ t x left. left;
+}

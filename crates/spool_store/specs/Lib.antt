@@ -1,0 +1,5 @@
+pub mod Tables
+pub mod Standing
+pub mod Moves
+pub mod Stages
+pub mod Samples

@@ -1,0 +1,52 @@
+ghost use Rattle.std.specs.Prelude.{◌≡◌, ◌≤◌, IfOk};
+ghost use Rattle.mail_base.specs.Names.{name_of};
+ghost use Rattle.mail_base.specs.declared.id.Kind.TheVariants.{Df as BodyKind, Qf as ControlKind, Tf as DraftKind};
+ghost use Rattle.qf_format.specs.Spelling.{spelled};
+ghost use Rattle.qf_format.specs.Valid.{IsValid};
+
+use mail_base::{Draft, Id, Kind, NoMemory, Text};
+use qf_format::print;
+use std::alloc::Global;
+
+/// A new entry with its id, ready to be committed: it holds every text that the commit writes. Dropped,
+/// it leaves the store and the spool as they were.
+#[derive(Debug, Drop)]
+pub struct Change {
+    pub(crate) id: Id,
+    pub(crate) draft: Draft,
+    pub(crate) body: Text,
+    pub(crate) control: Text,
+    pub(crate) df: Text,
+    pub(crate) tf: Text,
+    pub(crate) qf: Text,
+    pub ghost within: { id ≤ 999_999_999_999 },
+    pub ghost printed: { control ≡ spelled draft.control },
+    pub ghost df_is: { df ≡ name_of BodyKind id },
+    pub ghost tf_is: { tf ≡ name_of DraftKind id },
+    pub ghost qf_is: { qf ≡ name_of ControlKind id },
+}
+
+impl Change {
+    // The change that commits a draft with its body under an id.
+    pub(crate) fn of(alloc: Global, id: Id, draft: Draft, body: Text) -> Result<Change, NoMemory>
+        requires within { id ≤ 999_999_999_999 }
+        requires valid { IsValid draft.control }
+        ensures id { IfOk result (λ change. change.id ≡ id) }
+        ensures draft { IfOk result (λ change. change.draft ≡ draft) }
+        ensures body { IfOk result (λ change. change.body ≡ body) }
+    {
+        let control = print(&draft.control)?;
+        let df = Text::of(alloc, id.name(Kind::Df).bytes())?;
+        let tf = Text::of(alloc, id.name(Kind::Tf).bytes())?;
+        let qf = Text::of(alloc, id.name(Kind::Qf).bytes())?;
+        Ok(Change {
+            id,
+            draft,
+            body,
+            control,
+            df,
+            tf,
+            qf,
+        })
+    }
+}
