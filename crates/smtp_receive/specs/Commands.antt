@@ -1,7 +1,7 @@
 -- The commands of a session (RFC 5321 sections 2.4, 4.1.1 and 4.1.2; that paths may lack their angles is our own).
 use denote.Ref.{Bor}
 use Rattle.std.specs.Prelude.{◌≡◌, ℕ, suc, ◌+◌, ◌-◌, slice_index, ◌==◌, nat_lt, Bool, true, false, not, ◌||◌, ◌&&◌, List, [], ◌∷◌, ◌++◌, length, take, drop, Option, Some, None, option_map, Result, Ok, Err, if◌then◌else◌, codes}
-use Rattle.std.specs.List.{list_any, prefix_len, position_or_len, suffix_len, after_first}
+use Rattle.std.specs.List.{list_any, prefix_len, position_or_len, suffix_len}
 use Rattle.std.specs.Str.{str_eq_ignore_ascii_case}
 use Rattle.smtp_lines.specs.Stream.{is_blank, verb_of}
 use Rattle.smtp_receive.specs.declared.command.Verb.{Verb}
@@ -89,9 +89,13 @@ path_parts (b ∷ text) =
 abbrev pub is_colon : ℕ → Bool
 is_colon b = b == 58
 
--- without the source route, which begins with an @ and ends at the first colon
+-- a path with a source route begins with an @, and has a colon at that place
+abbrev pub has_route : List ℕ → ℕ → Bool
+has_route path colon = slice_index path 0 == 64 && nat_lt colon (length path)
+
+-- without the source route, which ends at the first colon
 abbrev pub without_route : List ℕ → List ℕ
-without_route path = if slice_index path 0 == 64 && list_any is_colon path then after_first is_colon path else path
+without_route path = if has_route path (position_or_len is_colon path) then drop (position_or_len is_colon path + 1) path else path
 
 abbrev pub is_not_at : ℕ → Bool
 is_not_at b = not (b == 64)

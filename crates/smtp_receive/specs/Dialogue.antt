@@ -1,5 +1,5 @@
 -- The replies and the messages of a session, as a function of all its lines (RFC 5321 sections 3.3 and 4.1.4).
-use Rattle.std.specs.Prelude.{◌≡◌, ℕ, Bool, true, false, List, [], ◌∷◌, ◌++◌, length, Option, Some, None, is_some, unwrap_or, option_map, Result, Ok, Err, reverse, if◌then◌else◌, codes}
+use Rattle.std.specs.Prelude.{◌≡◌, ℕ, Bool, true, false, ◌||◌, List, [], ◌∷◌, ◌++◌, length, Option, Some, None, is_some, unwrap_or, option_map, Result, Ok, Err, reverse, if◌then◌else◌, codes}
 use Rattle.smtp_lines.specs.declared.line.Line.{Line}
 use Rattle.smtp_lines.specs.declared.line.Line.TheVariants.{Command, TooLong, Data as DataLine, DataEnd}
 use Rattle.mail_base.specs.declared.message.Kept.{Kept}
@@ -66,9 +66,9 @@ ends_by (Gives message) = false
 ends_by Takes = false
 ends_by Lacks = true
 
--- whether an exchange ends the transaction: as said, or as the end of data
+-- whether an exchange ends the transaction: as the end of data, or as said
 abbrev pub ends : Exchange → Bool
-ends e = ends_by e.answer || is_data_end e.line
+ends e = is_data_end e.line || ends_by e.answer
 
 abbrev pub path_from : Option Order → Option (List ℕ)
 path_from (Some (From path)) = Some (bracketed path)

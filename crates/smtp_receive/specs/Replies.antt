@@ -47,4 +47,4 @@ closing_text host = codes "221 2.0.0 " ++ host ++ codes " closing connection" ++
 
 -- the final reply to a message that is stored, with its id
 abbrev pub stored_text : ℕ → List ℕ
-stored_text id = codes "250 2.0.0 w" ++ digits 12 id ++ codes " Message accepted for delivery" ++ crlf
+stored_text id = codes "250 2.0.0 " ++ (codes "w" ++ digits 12 id) ++ codes " Message accepted for delivery" ++ crlf

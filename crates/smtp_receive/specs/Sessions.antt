@@ -1,5 +1,5 @@
 -- What a session keeps of its lines, and what it stands for.
-use Rattle.std.specs.Prelude.{◌≡◌, ℕ, Bool, true, false, not, ◌&&◌, is_some, List, [], ◌∷◌, ◌++◌, Option, Some, None, Unit, min, reverse, if◌then◌else◌}
+use Rattle.std.specs.Prelude.{◌≡◌, ℕ, ◌+◌, length, Bool, true, false, not, ◌&&◌, is_some, List, [], ◌∷◌, ◌++◌, Option, Some, None, min, reverse, if◌then◌else◌}
 use Rattle.smtp_lines.specs.declared.line.Line.{Line}
 use Rattle.smtp_receive.specs.declared.received.Did.{Did}
 use Rattle.smtp_receive.specs.declared.gathered.Gathered.{Gathered}
@@ -17,9 +17,9 @@ abbrev pub is_some_line : List (List ℕ) → Bool
 is_some_line [] = false
 is_some_line (line ∷ lines) = true
 
--- a line put onto the last header
+-- a line put onto the last header, or alone
 abbrev pub onto_last : List ℕ → List (List ℕ) → List (List ℕ)
-onto_last line [] = []
+onto_last line [] = line ∷ []
 onto_last line (header ∷ []) = (header ++ (crlf ++ line)) ∷ []
 onto_last line (header ∷ next ∷ headers) = header ∷ onto_last line (next ∷ headers)
 
@@ -27,9 +27,19 @@ onto_last line (header ∷ next ∷ headers) = header ∷ onto_last line (next �
 abbrev pub header_added : List ℕ → List (List ℕ) → List (List ℕ)
 header_added line headers = if is_continuation line then onto_last line headers else headers ++ line ∷ []
 
+-- a line of the header block was added, and the rest stays
+pub record AddsHeader (old new : Gathered) (line : List ℕ) : Type 0 where
+  pub size : new.size ≡ old.size
+  pub block : new.block ≡ counted (old.block + length line + 2)
+  pub headers : new.headers.items ≡ header_added line old.headers.items
+  pub has_header : new.has_header ≡ true
+  pub body : new.body ≡ old.body
+  pub has_body : new.has_body ≡ old.has_body
+
 -- what is kept is the split of the lines
 pub record IsSplit (g : Gathered) (lines : List (List ℕ)) : Type 0 where
   pub headers : g.headers.items ≡ headers_of lines
+  pub has_header : g.has_header ≡ is_some_line (block_of false lines)
   pub block : g.block ≡ counted (size_of (block_of false lines))
   pub body : g.body ≡ body_of lines
   pub has_body : g.has_body ≡ is_some_line (rest_of false lines)

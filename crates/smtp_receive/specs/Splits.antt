@@ -12,9 +12,13 @@ is_name_byte b = nat_le 33 b && nat_le b 126 && not (b == 58)
 abbrev pub is_plain : ℕ → Bool
 is_plain b = not (b == 13) && not (b == 10)
 
+-- the same, where its name has so many bytes
+abbrev pub is_header_by : List ℕ → ℕ → Bool
+is_header_by line n = (nat_lt 0 n && nat_lt n (length line)) && (slice_index line n == 58 && list_all is_plain line)
+
 -- a header's first line: a name, a colon, bytes without CR or LF
 abbrev pub is_header : List ℕ → Bool
-is_header line = nat_lt 0 (prefix_len is_name_byte line) && slice_index line (prefix_len is_name_byte line) == 58 && list_all is_plain line
+is_header line = is_header_by line (prefix_len is_name_byte line)
 
 -- a line that goes on with a header
 abbrev pub is_continuation : List ℕ → Bool

@@ -1,4 +1,4 @@
-ghost use Rattle.std.specs.Prelude.{◌≡◌, ◌≤◌, length};
+ghost use Rattle.std.specs.Prelude.{◌≡◌, ◌≤◌, Some, length};
 ghost use Rattle.std.specs.List.{prefix_len, list_any};
 ghost use Rattle.smtp_lines.specs.Stream.{is_blank, verb_of};
 ghost use Rattle.smtp_receive.specs.Commands as spec;
@@ -55,8 +55,8 @@ pub(crate) fn read_command(line: &[u8]) -> Result<Command<'_>, LineFault>
         Some(Verb::Helo) => greeting(argument),
         Some(Verb::Mail) => sender(argument),
         Some(Verb::Rcpt) => recipient(argument),
-        Some(Verb::Data) => alone(Command::Data, argument),
-        Some(Verb::Quit) => alone(Command::Quit, argument),
+        Some(Verb::Data) => data(argument),
+        Some(Verb::Quit) => quit(argument),
     }
 }
 
@@ -123,7 +123,7 @@ fn stripped(text: &[u8]) -> &[u8]
 }
 
 fn greeting(argument: &[u8]) -> Result<Command<'_>, LineFault>
-    ensures { spec.as_read result ≡ spec.order_by (Option.Some Verb.Helo) argument.now }
+    ensures { spec.as_read result ≡ spec.order_by (Some Verb.Helo) argument.now }
 {
     if argument.is_empty() {
         return Err(LineFault::ArgumentNeeded);
@@ -131,24 +131,33 @@ fn greeting(argument: &[u8]) -> Result<Command<'_>, LineFault>
     Ok(Command::Helo(argument))
 }
 
-fn alone<'a>(command: Command<'a>, argument: &[u8]) -> Result<Command<'a>, LineFault>
-    ensures { spec.as_read result ≡ spec.lone_order (spec.as_order command) argument.now }
+fn data(argument: &[u8]) -> Result<Command<'static>, LineFault>
+    ensures { spec.as_read result ≡ spec.order_by (Some Verb.Data) argument.now }
 {
     if argument.is_empty() {
-        return Ok(command);
+        return Ok(Command::Data);
+    }
+    Err(LineFault::NoArgument)
+}
+
+fn quit(argument: &[u8]) -> Result<Command<'static>, LineFault>
+    ensures { spec.as_read result ≡ spec.order_by (Some Verb.Quit) argument.now }
+{
+    if argument.is_empty() {
+        return Ok(Command::Quit);
     }
     Err(LineFault::NoArgument)
 }
 
 fn sender(argument: &[u8]) -> Result<Command<'_>, LineFault>
-    ensures { spec.as_read result ≡ spec.order_by (Option.Some Verb.Mail) argument.now }
+    ensures { spec.as_read result ≡ spec.order_by (Some Verb.Mail) argument.now }
 {
     let path = path_after(Verb::Mail, b"FROM:", argument)?;
     Ok(Command::Mail(path))
 }
 
 fn recipient(argument: &[u8]) -> Result<Command<'_>, LineFault>
-    ensures { spec.as_read result ≡ spec.order_by (Option.Some Verb.Rcpt) argument.now }
+    ensures { spec.as_read result ≡ spec.order_by (Some Verb.Rcpt) argument.now }
 {
     let path = path_after(Verb::Rcpt, b"TO:", argument)?;
     Ok(Command::Rcpt(path))

@@ -1,6 +1,7 @@
 ghost use Rattle.std.specs.Prelude.{◌≡◌, ◌+◌, ◌++◌, ◌∷◌, [], List, ℕ, Bool, length, true, false, IfOk, OnOk};
+ghost use Rattle.smtp_receive.specs.Replies.{crlf};
 ghost use Rattle.smtp_receive.specs.Splits as spec;
-ghost use Rattle.smtp_receive.specs.Sessions.{counted, header_added, onto_last, Gathers, IsSplit};
+ghost use Rattle.smtp_receive.specs.Sessions.{counted, header_added, onto_last, AddsHeader, Gathers, IsSplit};
 
 use crate::header::{belongs, is_continuation};
 use mail_base::{NoMemory, Text};
@@ -14,6 +15,8 @@ pub(crate) struct Gathered {
     /// The bytes of the header block's lines with CR LF.
     pub(crate) block: u64,
     pub(crate) headers: Vec<Text>,
+    /// Whether there is a header.
+    pub(crate) has_header: bool,
     pub(crate) body: Text,
     /// Whether a line after the header block has come.
     pub(crate) has_body: bool,
@@ -28,6 +31,7 @@ impl Gathered {
             size: 0,
             block: 0,
             headers: Vec::new(alloc),
+            has_header: false,
             body: Text::new(alloc),
             has_body: false,
         }
@@ -48,14 +52,12 @@ impl Gathered {
     fn split(&mut self, line: &[u8]) -> Result<(), NoMemory>
         ensures size { self.new.size ≡ self.old.size }
         ensures split { OnOk result ((lines : List (List ℕ)) → IsSplit self.old lines
-            → spec.is_too_large (spec.size_of (lines ++ line.now ∷ [])) ≡ false
             → IsSplit self.new (lines ++ line.now ∷ [])) }
     {
         if self.has_body {
             return self.add_body(line);
         }
-        let begun = !self.headers.is_empty();
-        if belongs(begun, line) {
+        if belongs(self.has_header, line) {
             return self.add_header(line);
         }
         self.has_body = true;
@@ -74,38 +76,58 @@ impl Gathered {
     }
 
     fn add_header(&mut self, line: &[u8]) -> Result<(), NoMemory>
-        ensures ok { OnOk result (self.new ≡ record self.old {
-          headers = record self.new.headers { items = header_added line.now self.old.headers.items };
-          block = counted (self.old.block + length line.now + 2);
-        }) }
+        ensures ok { OnOk result (AddsHeader self.old self.new line.now) }
         ensures size { self.new.size ≡ self.old.size }
     {
         self.block = size_with(self.block, line.len());
-        if is_continuation(line) {
-            return self.extend_header(line);
-        }
-        let header = Text::of(*self.headers.allocator(), line)?;
-        self.headers.push(header)?;
-        Ok(())
-    }
-
-    fn extend_header(&mut self, line: &[u8]) -> Result<(), NoMemory>
-        ensures ok { OnOk result (self.new ≡ record self.old {
-          headers = record self.new.headers { items = onto_last line.now self.old.headers.items };
-        }) }
-        ensures size { self.new.size ≡ self.old.size }
-    {
-        let Some(mut header) = self.headers.pop() else {
-            return Ok(());
-        };
-        header.extend(b"\r\n")?;
-        header.extend(line)?;
-        self.headers.push(header)?;
-        Ok(())
+        self.has_header = true;
+        add_line(&mut self.headers, line)
     }
 }
 
+fn add_line(headers: &mut Vec<Text>, line: &[u8]) -> Result<(), NoMemory>
+    ensures { OnOk result (headers.new.items ≡ header_added line.now headers.old.items) }
+{
+    if is_continuation(line) {
+        return extend_last(headers, line);
+    }
+    let header = Text::of(*headers.allocator(), line)?;
+    put(headers, header)
+}
+
+#[tactic(auto, using(crate::proofs::SplitLemmas::onto_last_push))]
+fn extend_last(headers: &mut Vec<Text>, line: &[u8]) -> Result<(), NoMemory>
+    ensures { OnOk result (headers.new.items ≡ onto_last line.now headers.old.items) }
+{
+    match headers.pop() {
+        Some(header) => {
+            let longer = extended(header, line)?;
+            put(headers, longer)
+        }
+        None => {
+            let header = Text::of(*headers.allocator(), line)?;
+            put(headers, header)
+        }
+    }
+}
+
+fn extended(mut header: Text, line: &[u8]) -> Result<Text, NoMemory>
+    ensures { IfOk result (λ longer. longer ≡ header ++ (crlf ++ line.now)) }
+{
+    header.extend(b"\r\n")?;
+    header.extend(line)?;
+    Ok(header)
+}
+
+fn put(headers: &mut Vec<Text>, header: Text) -> Result<(), NoMemory>
+    ensures { OnOk result (headers.new.items ≡ headers.old.items ++ header ∷ []) }
+{
+    headers.push(header)?;
+    Ok(())
+}
+
 /// A size with a line more and its end. Above the limit it counts no further.
+#[tactic(auto, unfolding(crate::specs::Sessions::counted))]
 fn size_with(size: u64, length: usize) -> u64
     ensures { result ≡ counted (size + length + 2) }
 {
@@ -114,12 +136,14 @@ fn size_with(size: u64, length: usize) -> u64
         .min(16_777_217)
 }
 
+#[tactic(auto, unfolding(crate::specs::Splits::is_too_large))]
 pub(crate) fn is_too_large(size: u64) -> bool
     ensures { result ≡ spec.is_too_large size }
 {
     size > 16_777_216
 }
 
+#[tactic(auto, unfolding(crate::specs::Splits::is_large_block))]
 pub(crate) fn is_large_block(size: u64) -> bool
     ensures { result ≡ spec.is_large_block size }
 {

@@ -15,8 +15,13 @@ pub(crate) fn belongs(begun: bool, line: &[u8]) -> bool
 pub(crate) fn is_header(line: &[u8]) -> bool
     ensures { result ≡ spec.is_header line.now }
 {
-    let end = name_end(line);
-    end > 0 && end < line.len() && line[end] == b':' && is_line(line)
+    is_header_by(line, name_end(line))
+}
+
+fn is_header_by(line: &[u8], end: usize) -> bool
+    ensures { result ≡ spec.is_header_by line.now end }
+{
+    (end > 0 && end < line.len()) && (line[end] == b':' && is_line(line))
 }
 
 /// Whether a line goes on with a header.

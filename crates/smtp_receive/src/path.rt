@@ -1,5 +1,5 @@
-ghost use Rattle.std.specs.Prelude.{◌≡◌, ◌-◌, ◌≤◌, ◌<◌, length, IfSome, option_map};
-ghost use Rattle.std.specs.List.{prefix_len, suffix_len, list_any, before_first, after_first};
+ghost use Rattle.std.specs.Prelude.{◌≡◌, ◌≤◌, ◌<◌, length, IfSome, option_map};
+ghost use Rattle.std.specs.List.{position_or_len};
 ghost use Rattle.smtp_lines.specs.Stream.{is_blank};
 ghost use Rattle.smtp_receive.specs.Commands as spec;
 
@@ -85,6 +85,7 @@ fn angle_parts(text: &[u8]) -> Option<Parts<'_>>
     })
 }
 
+#[tactic(auto, using(crate::proofs::PathLemmas::steps))]
 fn path_end(text: &[u8]) -> Option<usize>
     ensures end { result ≡ spec.path_end Quote.Outside text.now }
     ensures within { IfSome result (λ end. end < length text.now) }
@@ -116,15 +117,30 @@ pub(crate) fn word_end(text: &[u8]) -> usize
 pub(crate) fn without_route(path: &[u8]) -> &[u8]
     ensures { result.now ≡ spec.without_route path.now }
 {
-    if path.is_empty() || path[0] != b'@' {
-        return path;
-    }
-    for (place, byte) in path.iter().enumerate() {
-        if *byte == b':' {
-            return &path[place + 1..];
-        }
+    let end = colon_place(path);
+    if has_route(path, end) {
+        return &path[end + 1..];
     }
     path
+}
+
+fn has_route(path: &[u8], end: usize) -> bool
+    ensures { result ≡ spec.has_route path.now end }
+{
+    !path.is_empty() && path[0] == b'@' && end < path.len()
+}
+
+/// How many bytes stand before the first colon.
+fn colon_place(path: &[u8]) -> usize
+    ensures end { result ≡ position_or_len spec.is_colon path.now }
+    ensures within { result ≤ length path.now }
+{
+    for (place, byte) in path.iter().enumerate() {
+        if *byte == b':' {
+            return place;
+        }
+    }
+    path.len()
 }
 
 /// Whether the path or its local part is above its limit.

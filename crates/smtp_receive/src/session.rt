@@ -1,7 +1,7 @@
-ghost use Rattle.std.specs.Prelude.{◌≡◌, ◌∷◌, ◌++◌, [], List, ℕ, Some, None, true, false, is_some, IfOk, OnErr, codes};
-ghost use Rattle.smtp_receive.specs.Dialogue.{Heard, Exchange, did_of, answer_to, bracketed, mail_reply, rcpt_reply, to_reply, data_reply, path_reply, fault_reply, message_answer};
+ghost use Rattle.std.specs.Prelude.{◌≡◌, ◌∷◌, ◌++◌, [], List, ℕ, Option, Some, None, true, false, is_some, take, IfOk, OnOk, OnErr, codes};
+ghost use Rattle.smtp_receive.specs.Dialogue.{Heard, Exchange, did_of, answer_to, bracketed, with_text, mail_reply, rcpt_reply, to_reply, data_reply, path_reply, fault_reply, message_answer};
 ghost use Rattle.smtp_receive.specs.Replies.{crlf, text_of, hello_text, closing_text, greeting_text, stored_text, shown_host};
-ghost use Rattle.smtp_receive.specs.Sessions.{Stands, Remembers, Knows, Keeps, Goes, Gathers, BeginsMessage, answer_of, takes_recipient};
+ghost use Rattle.smtp_receive.specs.Sessions.{Stands, Remembers, Knows, Keeps, Goes, Gathers, Holds, BeginsMessage, answer_of, takes_recipient};
 
 use crate::command::{Command, LineFault, Verb, read_command};
 use crate::gathered::{Gathered, is_large_block, is_too_large};
@@ -59,22 +59,18 @@ impl Session {
         ensures err { (host peer : List ℕ) (heard : List Heard) → Remembers self.old host peer heard
             → OnErr result (Remembers self.new host peer heard) }
     {
-        match line {
-            Line::Command(text) => self.command(text.bytes()),
-            Line::TooLong => self.say(Reply::LineTooLong),
-            Line::Data(text) => self.data(text.bytes()),
-            Line::DataEnd => self.data_end(),
-        }
+        self.answer(line)
     }
 
     /// The final reply, 250, to the message that the last line gave, once it is stored under this id.
+    #[tactic(auto, using(crate::proofs::ReplyLemmas::name_long))]
     pub fn stored(&self, id: &Id) -> Result<Text, NoMemory>
         ensures { IfOk result (λ text. text ≡ stored_text id.now) }
     {
-        let mut text = Text::of(self.host.allocator(), b"250 2.0.0 ")?;
-        text.extend(&id.name(Kind::Qf).bytes()[2..])?;
-        text.extend(b" Message accepted for delivery\r\n")?;
-        Ok(text)
+        let name = id.name(Kind::Qf);
+        let (_kind, text) = name.bytes().split_at(2);
+        let back = b" Message accepted for delivery";
+        host_text(self.host.allocator(), b"250 2.0.0 ", text, back)
     }
 
     /// Ends the transaction, after 452 4.3.1 was replied to a line. It takes no memory. Of a message
@@ -99,6 +95,20 @@ impl Session {
         ensures { IfOk result (λ did. did ≡ Did.Reply (text_of reply)) }
     {
         Ok(Did::Reply(reply.text(self.host.allocator())?))
+    }
+
+    fn answer(&mut self, line: &Line) -> Result<Did, NoMemory>
+        ensures goes { (host peer : List ℕ) (before : List Exchange) → Keeps self.old host peer before
+            → IfOk result (λ did. Goes self.new host peer before line.now did) }
+        ensures err { (host peer : List ℕ) (before : List Exchange) → Knows self.old host peer before
+            → OnErr result (Knows self.new host peer before) }
+    {
+        match line {
+            Line::Command(text) => self.command(text.bytes()),
+            Line::TooLong => self.say(Reply::LineTooLong),
+            Line::Data(text) => self.data(text.bytes()),
+            Line::DataEnd => self.data_end(),
+        }
     }
 
     fn command(&mut self, line: &[u8]) -> Result<Did, NoMemory>
@@ -193,10 +203,7 @@ impl Session {
         ensures err { (host peer : List ℕ) (before : List Exchange) → Knows self.old host peer before
             → OnErr result (Knows self.new host peer before) }
     {
-        match &mut self.message {
-            Some(message) => message.add(line)?,
-            None => {}
-        }
+        add_line(&mut self.message, line)?;
         Ok(Did::Taken)
     }
 
@@ -264,10 +271,18 @@ impl Session {
 fn shown(host: &[u8]) -> &[u8]
     ensures { result.now ≡ shown_host host.now }
 {
-    if host.len() > 255 {
-        return &host[..255];
+    first(host, 255)
+}
+
+#[tactic(auto, using(crate::proofs::ReplyLemmas::take_short))]
+fn first(bytes: &[u8], most: usize) -> &[u8]
+    ensures { result.now ≡ take most bytes.now }
+{
+    if bytes.len() > most {
+        &bytes[..most]
+    } else {
+        bytes
     }
-    host
 }
 
 fn bracketed(alloc: Global, path: &[u8]) -> Result<Text, NoMemory>
@@ -302,5 +317,15 @@ fn path_reply(verb: Verb, given: bool, reply: Reply) -> Reply
         (Verb::Mail, true) => Reply::SenderGiven,
         (Verb::Rcpt, false) => Reply::NeedMail,
         _ => reply,
+    }
+}
+
+fn add_line(message: &mut Option<Gathered>, line: &[u8]) -> Result<(), NoMemory>
+    ensures { OnOk result ((lines : Option (List (List ℕ))) → Holds message.old lines
+        → Holds message.new (with_text (Line.Data line.now) lines)) }
+{
+    match message {
+        Some(gathered) => gathered.add(line),
+        None => Ok(()),
     }
 }
