@@ -24,7 +24,6 @@ counted_size lines line size is =
 
 -- ---- the header block
 
-
 -- whether the block has begun after lines
 abbrev pub begun_by : Bool → List (List ℕ) → Bool
 begun_by begun [] = begun

@@ -16,4 +16,4 @@ returns-then-is_empty-clause-split c =
 
 pub returns-clause-split : goal.returns-clause-split
 returns-clause-split c =
-    split_first c.add_body.result c.args.self.now c.add_body.new.self c.args.line.now c.if-self.false (sym c.belongs.ensures ∙ c.if-belongs.false) (sym c.is_empty.ensures ∙ c.if-is_empty.false) c.add_body.ensures.ok
+    split_first c.add_body-2.result c.args.self.now c.add_body-2.new.self c.args.line.now c.if-self.false (sym c.belongs.ensures ∙ c.if-belongs.false) (sym c.is_empty.ensures ∙ c.if-is_empty.false) c.add_body-2.ensures.ok

@@ -13,7 +13,7 @@ returns-then-is_too_large c =
 pub returns-then-is_large_block : goal.returns-then-is_large_block
 returns-then-is_large_block c =
     λ lines g.
-    said_answer c.say.result c.args.self.now.host (message_answer c.args.kept c.args.sender c.args.recipient lines) HeaderTooLarge (message_block c.args.kept c.args.sender c.args.recipient c.args.message lines g (sym c.is_too_large.ensures ∙ c.if-is_too_large.false) (sym c.is_large_block.ensures ∙ c.if-is_large_block.true)) c.say.ensures
+    said_answer c.say-then-is_large_block.result c.args.self.now.host (message_answer c.args.kept c.args.sender c.args.recipient lines) HeaderTooLarge (message_block c.args.kept c.args.sender c.args.recipient c.args.message lines g (sym c.is_too_large.ensures ∙ c.if-is_too_large.false) (sym c.is_large_block.ensures ∙ c.if-is_large_block.true)) c.say-then-is_large_block.ensures
 
 pub returns : goal.returns
 returns c =
