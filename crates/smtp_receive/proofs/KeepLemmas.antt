@@ -1,7 +1,7 @@
 -- What a session keeps after one exchange more.
 use Rattle.std.proofs.Common.{◌≡◌, ℕ, Bool, true, false, List, [], ◌∷◌, ◌++◌, Option, Some, None, is_some, option_map, Result, Ok, Err, IfOk, OnOk, OnErr, refl, sym, ap, subst, ◌∙◌, ⊎_elim, unwrap_or, reverse, codes}
 use Rattle.std.proofs.lemmas.Bool.{false≢true, cases_Bool, cond-true, cond-false}
-use Rattle.std.proofs.lemmas.List.{reverse-append}
+use Rattle.std.proofs.lemmas.List.{reverse-append, reverse-reverse}
 use Rattle.smtp_lines.specs.declared.line.Line.{Line}
 use Rattle.smtp_lines.specs.declared.line.Line.TheVariants.{Command, TooLong, Data as DataLine, DataEnd}
 use Rattle.mail_base.specs.declared.message.Kept.{Kept}
@@ -18,7 +18,7 @@ use Rattle.smtp_receive.specs.declared.command.LineFault.TheVariants.{BadByte as
 use Rattle.smtp_receive.specs.Commands.{Order, Greet, From, To, Begin, End, order_of, is_nothing}
 use Rattle.smtp_receive.specs.Replies.{text_of, hello_text, closing_text, shown_host}
 use Rattle.smtp_receive.specs.Splits.{headers_of, body_of, block_of, size_of, is_too_large, is_large_block}
-use Rattle.smtp_receive.specs.Dialogue.{Answer, Says, Greets, Closes, Gives, Takes, Lacks, Exchange, Heard, bracketed, ends, sender_in, recipient_in, lines_in, helo_in, kept_in, helo_by, with_text, path_from, path_to, argument_in, order_in, or_else, mail_reply, rcpt_reply, to_reply, data_reply, path_reply, fault_reply, command_answer, message_answer, end_answer, answer_to, exchange_of, exchanges, did_of}
+use Rattle.smtp_receive.specs.Dialogue.{Answer, Says, Greets, Closes, Gives, Takes, Lacks, Exchange, Heard, bracketed, ends, sender_in, recipient_in, lines_in, helo_in, kept_in, helo_by, with_text, path_from, path_to, argument_in, order_in, or_else, mail_reply, rcpt_reply, to_reply, data_reply, path_reply, fault_reply, command_answer, message_answer, end_answer, answer_to, exchange_of, exchanges, dialogue, did_of}
 use Rattle.smtp_receive.specs.Sessions.{counted, IsSplit, Gathers, Holds, Knows, Keeps, Goes, BeginsMessage, Stands, takes_recipient, answer_of}
 use Rattle.smtp_receive.proofs.SplitLemmas.{exact_size, same_too_large, same_large_block}
 
@@ -478,3 +478,10 @@ cleared s sender recipient message no_sender no_recipient no_message =
     ap (λ x. record s { sender = x; recipient = recipient; message = message }) no_sender
     ∙ ap (λ x. record s { sender = None; recipient = x; message = message }) no_recipient
     ∙ ap (λ x. record s { sender = None; recipient = None; message = x }) no_message
+
+pub dialogue_more : (peer : List ℕ) (heard : List Heard) (next : Heard) → dialogue peer (heard ++ next ∷ []) ≡ dialogue peer heard ++ exchange_of peer (reverse (dialogue peer heard)) next ∷ []
+dialogue_more peer heard next =
+    let es : List Exchange = exchanges peer (reverse heard) in
+    ap reverse (heard_more peer heard next)
+    ∙ reverse-append (exchange_of peer es next ∷ []) es
+    ∙ ap (λ b. reverse es ++ exchange_of peer b next ∷ []) (sym (reverse-reverse es))

@@ -5,6 +5,7 @@
 mod command;
 mod gathered;
 mod header;
+mod law;
 mod path;
 mod received;
 mod reply;
@@ -12,5 +13,6 @@ mod session;
 #[cfg(test)]
 mod tests;
 
+pub use law::one_exchange_a_line;
 pub use received::{Did, Received};
 pub use session::Session;
