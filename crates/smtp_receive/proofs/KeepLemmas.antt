@@ -1,5 +1,5 @@
 -- What a session keeps after one exchange more.
-use Rattle.std.proofs.Common.{◌≡◌, ℕ, Bool, true, false, List, [], ◌∷◌, ◌++◌, Option, Some, None, is_some, option_map, Result, Ok, Err, IfOk, OnOk, OnErr, refl, sym, ap, subst, ◌∙◌, ⊎_elim, unwrap_or, reverse, codes}
+use Rattle.std.proofs.Common.{◌≡◌, ℕ, Bool, true, false, cond, ◌||◌, List, [], ◌∷◌, ◌++◌, Option, Some, None, is_some, option_map, Result, Ok, Err, IfOk, OnOk, OnErr, refl, sym, ap, subst, ◌∙◌, ⊎_elim, unwrap_or, reverse, codes}
 use Rattle.std.proofs.lemmas.Bool.{false≢true, cases_Bool, cond-true, cond-false}
 use Rattle.std.proofs.lemmas.List.{reverse-append, reverse-reverse}
 use Rattle.smtp_lines.specs.declared.line.Line.{Line}
@@ -18,7 +18,7 @@ use Rattle.smtp_receive.specs.declared.command.LineFault.TheVariants.{BadByte as
 use Rattle.smtp_receive.specs.Commands.{Order, Greet, From, To, Begin, End, order_of, is_nothing}
 use Rattle.smtp_receive.specs.Replies.{text_of, hello_text, closing_text, shown_host}
 use Rattle.smtp_receive.specs.Splits.{headers_of, body_of, block_of, size_of, is_too_large, is_large_block}
-use Rattle.smtp_receive.specs.Dialogue.{Answer, Says, Greets, Closes, Gives, Takes, Lacks, Exchange, Heard, bracketed, ends, sender_in, recipient_in, lines_in, helo_in, kept_in, helo_by, with_text, path_from, path_to, argument_in, order_in, or_else, mail_reply, rcpt_reply, to_reply, data_reply, path_reply, fault_reply, command_answer, message_answer, end_answer, answer_to, exchange_of, exchanges, dialogue, did_of}
+use Rattle.smtp_receive.specs.Dialogue.{Answer, Says, Greets, Closes, Gives, Takes, Lacks, Exchange, Heard, bracketed, ends, ends_by, is_data_end, is_grant, sender_told, recipient_told, sender_in, recipient_in, lines_in, helo_in, kept_in, helo_by, with_text, path_from, path_to, argument_in, order_in, or_else, mail_reply, rcpt_reply, to_reply, data_reply, path_reply, fault_reply, command_answer, message_answer, end_answer, answer_to, exchange_of, exchanges, dialogue, did_of}
 use Rattle.smtp_receive.specs.Sessions.{counted, IsSplit, Gathers, Holds, Knows, Keeps, Goes, BeginsMessage, Stands, takes_recipient, answer_of}
 use Rattle.smtp_receive.proofs.SplitLemmas.{exact_size, same_too_large, same_large_block}
 
@@ -485,3 +485,26 @@ dialogue_more peer heard next =
     ap reverse (heard_more peer heard next)
     ∙ reverse-append (exchange_of peer es next ∷ []) es
     ∙ ap (λ b. reverse es ++ exchange_of peer b next ∷ []) (sym (reverse-reverse es))
+
+-- the lines of the message under way after an exchange that ends nothing
+abbrev lines_after : Exchange → List Exchange → Option (List (List ℕ))
+lines_after e before = cond (is_grant e.answer) (Some []) (with_text e.line (lines_in before))
+
+keep_ended : (s n : Session) (host peer : List ℕ) (before : List Exchange) (e : Exchange) → e.line ≡ DataEnd → Knows s host peer (e ∷ before) → n ≡ record s { sender = None; recipient = None; message = None }
+    → Keeps n host peer (e ∷ before)
+keep_ended s n host peer before e is k new =
+    let ended : ends e ≡ true = ap (λ l. is_data_end l || ends_by e.answer) is in
+    subst (λ x. Keeps x host peer (e ∷ before)) (sym new)
+    (record {
+      knows = record { host_is = k.host_is; peer_is = k.peer_is; helo_is = k.helo_is };
+      sender_is = sym (cond-true (ends e) None (or_else (sender_told e) (sender_in before)) ended);
+      recipient_is = sym (cond-true (ends e) None (or_else (recipient_told e) (recipient_in before)) ended);
+      message_is = subst (λ l. Holds None l) (sym (cond-true (ends e) None (lines_after e before) ended)) tt;
+    })
+
+pub stands_ended : (s n : Session) (host peer : List ℕ) (heard : List Heard) (last : Heard) → last.line ≡ DataEnd → Knows s host peer (exchanges peer (reverse (heard ++ last ∷ []))) → n ≡ record s { sender = None; recipient = None; message = None }
+    → Stands n host peer (heard ++ last ∷ [])
+stands_ended s n host peer heard last is k new =
+    let es : List Exchange = exchanges peer (reverse heard) in
+    subst (λ all. Keeps n host peer all) (sym (heard_more peer heard last))
+    (keep_ended s n host peer es (exchange_of peer es last) is (subst (λ all. Knows s host peer all) (heard_more peer heard last) k) new)

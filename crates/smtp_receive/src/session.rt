@@ -78,6 +78,9 @@ impl Session {
     pub fn reset(&mut self)
         ensures stands { (host peer : List ℕ) (heard : List Heard) (line : Line) → Remembers self.old host peer heard
             → Stands self.new host peer (heard ++ record { line = line; short = true } ∷ []) }
+        // The same after the end of data whose message was given, where its 250 was no longer made.
+        ensures ended { (host peer : List ℕ) (heard : List Heard) (last : Heard) → last.line ≡ Line.DataEnd
+            → Remembers self.old host peer (heard ++ last ∷ []) → Stands self.new host peer (heard ++ last ∷ []) }
         ensures reset { self.new ≡ record self.old { sender = None; recipient = None; message = None } }
     {
         self.sender = None;
