@@ -1,0 +1,510 @@
+-- What a session keeps after one exchange more.
+use Rattle.std.proofs.Common.{◌≡◌, ℕ, Bool, true, false, cond, ◌||◌, List, [], ◌∷◌, ◌++◌, Option, Some, None, is_some, option_map, Result, Ok, Err, IfOk, OnOk, OnErr, refl, sym, ap, subst, ◌∙◌, ⊎_elim, unwrap_or, reverse, codes}
+use Rattle.std.proofs.lemmas.Bool.{false≢true, cases_Bool, cond-true, cond-false}
+use Rattle.std.proofs.lemmas.List.{reverse-append, reverse-reverse}
+use Rattle.smtp_lines.specs.declared.line.Line.{Line}
+use Rattle.smtp_lines.specs.declared.line.Line.TheVariants.{Command, TooLong, Data as DataLine, DataEnd}
+use Rattle.mail_base.specs.declared.message.Kept.{Kept}
+use Rattle.smtp_receive.specs.declared.session.Session.{Session}
+use Rattle.smtp_receive.specs.declared.gathered.Gathered.{Gathered}
+use Rattle.smtp_receive.specs.declared.received.Did.{Did}
+use Rattle.smtp_receive.specs.declared.received.Did.TheVariants.{Reply as Replied, Message, Taken, Bye}
+use Rattle.smtp_receive.specs.declared.reply.Reply.{Reply}
+use Rattle.smtp_receive.specs.declared.reply.Reply.TheVariants.{LineTooLong, BadByte, Unrecognized, ArgumentNeeded, NoArgument, SenderGiven, NeedMail, NeedRcpt, SyntaxError, PathTooLong, ParameterNotKnown, UserRequired, TooManyRecipients, SenderOk, RecipientOk, EnterMail, MessageTooLarge, HeaderTooLarge}
+use Rattle.smtp_receive.specs.declared.command.Verb.{Verb}
+use Rattle.smtp_receive.specs.declared.command.Verb.TheVariants.{Helo, Mail, Rcpt, Data, Quit}
+use Rattle.smtp_receive.specs.declared.command.LineFault.{LineFault}
+use Rattle.smtp_receive.specs.declared.command.LineFault.TheVariants.{BadByte as HasBadByte, Unknown, ArgumentNeeded as LacksArgument, NoArgument as HasArgument, Syntax, PathTooLong as HasLongPath, Parameter}
+use Rattle.smtp_receive.specs.Commands.{Order, Greet, From, To, Begin, End, order_of, is_nothing}
+use Rattle.smtp_receive.specs.Replies.{text_of, hello_text, closing_text, shown_host}
+use Rattle.smtp_receive.specs.Splits.{headers_of, body_of, block_of, size_of, is_too_large, is_large_block}
+use Rattle.smtp_receive.specs.Dialogue.{Answer, Says, Greets, Closes, Gives, Takes, Lacks, Exchange, Heard, bracketed, ends, ends_by, is_data_end, is_grant, sender_told, recipient_told, sender_in, recipient_in, lines_in, helo_in, kept_in, helo_by, with_text, path_from, path_to, argument_in, order_in, or_else, mail_reply, rcpt_reply, to_reply, data_reply, path_reply, fault_reply, command_answer, message_answer, end_answer, answer_to, exchange_of, exchanges, dialogue, did_of}
+use Rattle.smtp_receive.specs.Sessions.{counted, IsSplit, Gathers, Holds, Knows, Keeps, Goes, BeginsMessage, Stands, takes_recipient, answer_of}
+use Rattle.smtp_receive.proofs.SplitLemmas.{exact_size, same_too_large, same_large_block}
+
+-- nothing that a session keeps is told by what came since
+pub keep_same : (s : Session) (host peer : List ℕ) (before after : List Exchange) → Keeps s host peer before
+    → helo_in after ≡ helo_in before → sender_in after ≡ sender_in before → recipient_in after ≡ recipient_in before → lines_in after ≡ lines_in before
+    → Keeps s host peer after
+keep_same s host peer before after k helo sender recipient lines = record {
+  knows = record { host_is = k.knows.host_is; peer_is = k.knows.peer_is; helo_is = k.knows.helo_is ∙ sym helo };
+  sender_is = k.sender_is ∙ sym sender;
+  recipient_is = k.recipient_is ∙ sym recipient;
+  message_is = subst (λ l. Holds s.message l) (sym lines) k.message_is;
+}
+
+-- the replies that tell something
+abbrev pub tells : Reply → Bool
+tells LineTooLong = false
+tells BadByte = false
+tells Unrecognized = false
+tells ArgumentNeeded = false
+tells NoArgument = false
+tells SenderGiven = false
+tells NeedMail = false
+tells NeedRcpt = false
+tells SyntaxError = false
+tells PathTooLong = false
+tells ParameterNotKnown = false
+tells UserRequired = false
+tells TooManyRecipients = false
+tells SenderOk = true
+tells RecipientOk = true
+tells EnterMail = true
+tells MessageTooLarge = false
+tells HeaderTooLarge = false
+
+pub quiet : (s : Session) (host peer : List ℕ) (before : List Exchange) (text : List ℕ) (reply : Reply) → tells reply ≡ false → Keeps s host peer before
+    → Keeps s host peer (record { line = Command text; answer = Says reply } ∷ before)
+quiet s host peer before text LineTooLong h k = keep_same s host peer before (record { line = Command text; answer = Says LineTooLong } ∷ before) k refl refl refl refl
+quiet s host peer before text BadByte h k = keep_same s host peer before (record { line = Command text; answer = Says BadByte } ∷ before) k refl refl refl refl
+quiet s host peer before text Unrecognized h k = keep_same s host peer before (record { line = Command text; answer = Says Unrecognized } ∷ before) k refl refl refl refl
+quiet s host peer before text ArgumentNeeded h k = keep_same s host peer before (record { line = Command text; answer = Says ArgumentNeeded } ∷ before) k refl refl refl refl
+quiet s host peer before text NoArgument h k = keep_same s host peer before (record { line = Command text; answer = Says NoArgument } ∷ before) k refl refl refl refl
+quiet s host peer before text SenderGiven h k = keep_same s host peer before (record { line = Command text; answer = Says SenderGiven } ∷ before) k refl refl refl refl
+quiet s host peer before text NeedMail h k = keep_same s host peer before (record { line = Command text; answer = Says NeedMail } ∷ before) k refl refl refl refl
+quiet s host peer before text NeedRcpt h k = keep_same s host peer before (record { line = Command text; answer = Says NeedRcpt } ∷ before) k refl refl refl refl
+quiet s host peer before text SyntaxError h k = keep_same s host peer before (record { line = Command text; answer = Says SyntaxError } ∷ before) k refl refl refl refl
+quiet s host peer before text PathTooLong h k = keep_same s host peer before (record { line = Command text; answer = Says PathTooLong } ∷ before) k refl refl refl refl
+quiet s host peer before text ParameterNotKnown h k = keep_same s host peer before (record { line = Command text; answer = Says ParameterNotKnown } ∷ before) k refl refl refl refl
+quiet s host peer before text UserRequired h k = keep_same s host peer before (record { line = Command text; answer = Says UserRequired } ∷ before) k refl refl refl refl
+quiet s host peer before text TooManyRecipients h k = keep_same s host peer before (record { line = Command text; answer = Says TooManyRecipients } ∷ before) k refl refl refl refl
+quiet s host peer before text SenderOk h k = absurd (false≢true (sym h))
+quiet s host peer before text RecipientOk h k = absurd (false≢true (sym h))
+quiet s host peer before text EnterMail h k = absurd (false≢true (sym h))
+quiet s host peer before text MessageTooLarge h k = keep_same s host peer before (record { line = Command text; answer = Says MessageTooLarge } ∷ before) k refl refl refl refl
+quiet s host peer before text HeaderTooLarge h k = keep_same s host peer before (record { line = Command text; answer = Says HeaderTooLarge } ∷ before) k refl refl refl refl
+
+-- an answer, once it is known
+pub goes_by : (n : Session) (host peer : List ℕ) (before : List Exchange) (line : Line) (did : Did) (answer : Answer) → answer_to peer before line ≡ answer
+    → did ≡ did_of (shown_host host) answer → Keeps n host peer (record { line = line; answer = answer } ∷ before) → Goes n host peer before line did
+goes_by n host peer before line did answer is did_is keeps = record {
+  did_is = did_is ∙ sym (ap (did_of (shown_host host)) is);
+  keeps = subst (λ a. Keeps n host peer (record { line = line; answer = a } ∷ before)) (sym is) keeps;
+}
+
+-- the answer to a command of that order, by what the session keeps
+answer_is : (s : Session) (host peer : List ℕ) (before : List Exchange) (text : List ℕ) (order : Result Order LineFault) → Keeps s host peer before → order_of text ≡ order
+    → answer_to peer before (Command text) ≡ command_answer (is_some s.sender) (is_some s.recipient) order
+answer_is s host peer before text order k is =
+    ap (command_answer (is_some (sender_in before)) (is_some (recipient_in before))) is
+    ∙ ap (λ o. command_answer (is_some o) (is_some (recipient_in before)) order) (sym k.sender_is)
+    ∙ ap (λ o. command_answer (is_some s.sender) (is_some o) order) (sym k.recipient_is)
+
+-- ---- HELO
+
+pub goes_helo : (s n : Session) (host peer : List ℕ) (before : List Exchange) (text argument : List ℕ) (did : Did) → Keeps s host peer before → order_of text ≡ Ok (Greet argument)
+    → did ≡ Replied (hello_text s.host) → n ≡ record s { helo = argument; sender = None; recipient = None; message = None } → Goes n host peer before (Command text) did
+goes_helo s n host peer before text argument did k is did_is new =
+    goes_by n host peer before (Command text) did Greets (answer_is s host peer before text (Ok (Greet argument)) k is)
+    (did_is ∙ ap (λ h. Replied (hello_text h)) k.knows.host_is)
+    (subst (λ x. Keeps x host peer (record { line = Command text; answer = Greets } ∷ before)) (sym new)
+    (record {
+      knows = record { host_is = k.knows.host_is; peer_is = k.knows.peer_is; helo_is = sym (ap (λ o. unwrap_or (argument_in (order_in o)) (helo_in before)) is) };
+      sender_is = refl;
+      recipient_is = refl;
+      message_is = tt;
+    }))
+
+-- ---- MAIL
+
+keep_mail : (s : Session) (host peer : List ℕ) (before : List Exchange) (text path : List ℕ) → Keeps s host peer before → order_of text ≡ Ok (From path)
+    → Keeps (record s { sender = Some (bracketed path) }) host peer (record { line = Command text; answer = Says SenderOk } ∷ before)
+keep_mail s host peer before text path k is = record {
+  knows = record { host_is = k.knows.host_is; peer_is = k.knows.peer_is; helo_is = k.knows.helo_is };
+  sender_is = sym (ap (λ o. or_else (path_from (order_in o)) (sender_in before)) is);
+  recipient_is = k.recipient_is;
+  message_is = k.message_is;
+}
+
+pub goes_mail : (s n : Session) (host peer : List ℕ) (before : List Exchange) (text path : List ℕ) (did : Did) → Keeps s host peer before → order_of text ≡ Ok (From path)
+    → did ≡ Replied (text_of (mail_reply (is_some s.sender) SenderOk)) → (is_some s.sender ≡ true → n ≡ s)
+    → (is_some s.sender ≡ false → n ≡ record s { sender = Some (bracketed path) }) → Goes n host peer before (Command text) did
+goes_mail s n host peer before text path did k is did_is given new =
+    let answer = answer_is s host peer before text (Ok (From path)) k is in
+    ⊎_elim
+    (λ met.
+    goes_by n host peer before (Command text) did (Says SenderGiven) (answer ∙ ap (λ b. Says (mail_reply b SenderOk)) met)
+    (did_is ∙ ap (λ b. Replied (text_of (mail_reply b SenderOk))) met)
+    (subst (λ x. Keeps x host peer (record { line = Command text; answer = Says SenderGiven } ∷ before)) (sym (given met)) (quiet s host peer before text SenderGiven refl k)))
+    (λ unmet.
+    goes_by n host peer before (Command text) did (Says SenderOk) (answer ∙ ap (λ b. Says (mail_reply b SenderOk)) unmet)
+    (did_is ∙ ap (λ b. Replied (text_of (mail_reply b SenderOk))) unmet)
+    (subst (λ x. Keeps x host peer (record { line = Command text; answer = Says SenderOk } ∷ before)) (sym (new unmet)) (keep_mail s host peer before text path k is)))
+    (cases_Bool (is_some s.sender))
+
+-- ---- RCPT
+
+rcpt_yes : (sender recipient : Option (List ℕ)) (path : List ℕ) → takes_recipient sender recipient path ≡ true → rcpt_reply (is_some sender) (to_reply path (is_some recipient)) ≡ RecipientOk
+rcpt_yes None recipient path h = absurd (false≢true h)
+rcpt_yes (Some sender) recipient [] h = absurd (false≢true h)
+rcpt_yes (Some sender) (Some recipient) (b ∷ path) h = absurd (false≢true h)
+rcpt_yes (Some sender) None (b ∷ path) h = refl
+
+rcpt_no : (sender recipient : Option (List ℕ)) (path : List ℕ) → takes_recipient sender recipient path ≡ false → tells (rcpt_reply (is_some sender) (to_reply path (is_some recipient))) ≡ false
+rcpt_no None recipient path h = refl
+rcpt_no (Some sender) recipient [] h = refl
+rcpt_no (Some sender) (Some recipient) (b ∷ path) h = refl
+rcpt_no (Some sender) None (b ∷ path) h = absurd (false≢true (sym h))
+
+keep_rcpt : (s : Session) (host peer : List ℕ) (before : List Exchange) (text path : List ℕ) → Keeps s host peer before → order_of text ≡ Ok (To path)
+    → Keeps (record s { recipient = Some (bracketed path) }) host peer (record { line = Command text; answer = Says RecipientOk } ∷ before)
+keep_rcpt s host peer before text path k is = record {
+  knows = record { host_is = k.knows.host_is; peer_is = k.knows.peer_is; helo_is = k.knows.helo_is };
+  sender_is = k.sender_is;
+  recipient_is = sym (ap (λ o. or_else (path_to (order_in o)) (recipient_in before)) is);
+  message_is = k.message_is;
+}
+
+pub goes_rcpt : (s n : Session) (host peer : List ℕ) (before : List Exchange) (text path : List ℕ) (did : Did) → Keeps s host peer before → order_of text ≡ Ok (To path)
+    → did ≡ Replied (text_of (rcpt_reply (is_some s.sender) (to_reply path (is_some s.recipient)))) → (takes_recipient s.sender s.recipient path ≡ false → n ≡ s)
+    → (takes_recipient s.sender s.recipient path ≡ true → n ≡ record s { recipient = Some (bracketed path) }) → Goes n host peer before (Command text) did
+goes_rcpt s n host peer before text path did k is did_is refused new =
+    let answer = answer_is s host peer before text (Ok (To path)) k is in
+    let reply : Reply = rcpt_reply (is_some s.sender) (to_reply path (is_some s.recipient)) in
+    ⊎_elim
+    (λ met.
+    let ok = rcpt_yes s.sender s.recipient path met in
+    goes_by n host peer before (Command text) did (Says RecipientOk) (answer ∙ ap Says ok) (did_is ∙ ap (λ r. Replied (text_of r)) ok)
+    (subst (λ x. Keeps x host peer (record { line = Command text; answer = Says RecipientOk } ∷ before)) (sym (new met)) (keep_rcpt s host peer before text path k is)))
+    (λ unmet.
+    goes_by n host peer before (Command text) did (Says reply) answer did_is
+    (subst (λ x. Keeps x host peer (record { line = Command text; answer = Says reply } ∷ before)) (sym (refused unmet)) (quiet s host peer before text reply (rcpt_no s.sender s.recipient path unmet) k)))
+    (cases_Bool (takes_recipient s.sender s.recipient path))
+
+-- ---- DATA
+
+keep_begin : (s n : Session) (host peer : List ℕ) (before : List Exchange) (text : List ℕ) → Keeps s host peer before → BeginsMessage s n
+    → Keeps n host peer (record { line = Command text; answer = Says EnterMail } ∷ before)
+keep_begin s n host peer before text k b =
+    subst (λ x. Keeps x host peer (record { line = Command text; answer = Says EnterMail } ∷ before)) (sym b.same)
+    (record {
+      knows = record { host_is = k.knows.host_is; peer_is = k.knows.peer_is; helo_is = k.knows.helo_is };
+      sender_is = k.sender_is;
+      recipient_is = k.recipient_is;
+      message_is = b.begins;
+    })
+
+pub goes_begin : (s n : Session) (host peer : List ℕ) (before : List Exchange) (text : List ℕ) (did : Did) → Keeps s host peer before → order_of text ≡ Ok Begin
+    → did ≡ Replied (text_of (data_reply (is_some s.recipient))) → (is_some s.recipient ≡ false → n ≡ s) → (is_some s.recipient ≡ true → BeginsMessage s n)
+    → Goes n host peer before (Command text) did
+goes_begin s n host peer before text did k is did_is refused new =
+    let answer = answer_is s host peer before text (Ok Begin) k is in
+    ⊎_elim
+    (λ met.
+    goes_by n host peer before (Command text) did (Says EnterMail) (answer ∙ ap (λ b. Says (data_reply b)) met) (did_is ∙ ap (λ b. Replied (text_of (data_reply b))) met)
+    (keep_begin s n host peer before text k (new met)))
+    (λ unmet.
+    goes_by n host peer before (Command text) did (Says NeedRcpt) (answer ∙ ap (λ b. Says (data_reply b)) unmet) (did_is ∙ ap (λ b. Replied (text_of (data_reply b))) unmet)
+    (subst (λ x. Keeps x host peer (record { line = Command text; answer = Says NeedRcpt } ∷ before)) (sym (refused unmet)) (quiet s host peer before text NeedRcpt refl k)))
+    (cases_Bool (is_some s.recipient))
+
+-- ---- QUIT, and commands that have a fault
+
+pub goes_quit : (s : Session) (host peer : List ℕ) (before : List Exchange) (text : List ℕ) (did : Did) → Keeps s host peer before → order_of text ≡ Ok End
+    → did ≡ Bye (closing_text s.host) → Goes s host peer before (Command text) did
+goes_quit s host peer before text did k is did_is =
+    goes_by s host peer before (Command text) did Closes (answer_is s host peer before text (Ok End) k is) (did_is ∙ ap (λ h. Bye (closing_text h)) k.knows.host_is)
+    (keep_same s host peer before (record { line = Command text; answer = Closes } ∷ before) k refl refl refl refl)
+
+path_quiet : (verb : Verb) (given : Bool) (reply : Reply) → tells reply ≡ false → tells (path_reply verb given reply) ≡ false
+path_quiet Helo given reply h = h
+path_quiet Mail true reply h = refl
+path_quiet Mail false reply h = h
+path_quiet Rcpt true reply h = h
+path_quiet Rcpt false reply h = refl
+path_quiet Data given reply h = h
+path_quiet Quit given reply h = h
+
+fault_quiet : (given : Bool) (fault : LineFault) → tells (fault_reply given fault) ≡ false
+fault_quiet given HasBadByte = refl
+fault_quiet given Unknown = refl
+fault_quiet given LacksArgument = refl
+fault_quiet given HasArgument = refl
+fault_quiet given (Syntax verb) = path_quiet verb given SyntaxError refl
+fault_quiet given (HasLongPath verb) = path_quiet verb given PathTooLong refl
+fault_quiet given (Parameter verb) = path_quiet verb given ParameterNotKnown refl
+
+pub goes_fault : (s : Session) (host peer : List ℕ) (before : List Exchange) (text : List ℕ) (fault : LineFault) (did : Did) → Keeps s host peer before → order_of text ≡ Err fault
+    → did ≡ Replied (text_of (fault_reply (is_some s.sender) fault)) → Goes s host peer before (Command text) did
+goes_fault s host peer before text fault did k is did_is =
+    goes_by s host peer before (Command text) did (Says (fault_reply (is_some s.sender) fault)) (answer_is s host peer before text (Err fault) k is) did_is
+    (quiet s host peer before text (fault_reply (is_some s.sender) fault) (fault_quiet (is_some s.sender) fault) k)
+
+-- ---- lines that are no commands
+
+pub goes_long : (s : Session) (host peer : List ℕ) (before : List Exchange) (did : Did) → Keeps s host peer before → did ≡ Replied (text_of LineTooLong) → Goes s host peer before TooLong did
+goes_long s host peer before did k did_is =
+    goes_by s host peer before TooLong did (Says LineTooLong) refl did_is (keep_same s host peer before (record { line = TooLong; answer = Says LineTooLong } ∷ before) k refl refl refl refl)
+
+pub goes_data : (s n : Session) (host peer : List ℕ) (before : List Exchange) (text : List ℕ) (did : Did) → Keeps s host peer before → did ≡ Taken → n ≡ record s { message = n.message }
+    → ((lines : Option (List (List ℕ))) → Holds s.message lines → Holds n.message (with_text (DataLine text) lines)) → Goes n host peer before (DataLine text) did
+goes_data s n host peer before text did k did_is new holds =
+    goes_by n host peer before (DataLine text) did Takes refl did_is
+    (subst (λ x. Keeps x host peer (record { line = DataLine text; answer = Takes } ∷ before)) (sym new)
+    (record {
+      knows = record { host_is = k.knows.host_is; peer_is = k.knows.peer_is; helo_is = k.knows.helo_is };
+      sender_is = k.sender_is;
+      recipient_is = k.recipient_is;
+      message_is = holds (lines_in before) k.message_is;
+    }))
+
+helo_none : (answer : Answer) → helo_by answer None ≡ None
+helo_none (Says reply) = refl
+helo_none Greets = refl
+helo_none Closes = refl
+helo_none (Gives message) = refl
+helo_none Takes = refl
+helo_none Lacks = refl
+
+keep_end : (s n : Session) (host peer : List ℕ) (before : List Exchange) (answer : Answer) → Keeps s host peer before → n ≡ record s { sender = None; recipient = None; message = None }
+    → Keeps n host peer (record { line = DataEnd; answer = answer } ∷ before)
+keep_end s n host peer before answer k new =
+    subst (λ x. Keeps x host peer (record { line = DataEnd; answer = answer } ∷ before)) (sym new)
+    (record {
+      knows = record { host_is = k.knows.host_is; peer_is = k.knows.peer_is; helo_is = k.knows.helo_is ∙ sym (ap (λ o. unwrap_or o (helo_in before)) (helo_none answer)) };
+      sender_is = refl;
+      recipient_is = refl;
+      message_is = tt;
+    })
+
+pub goes_end : (s n : Session) (host peer : List ℕ) (before : List Exchange) (did : Did) → Keeps s host peer before → n ≡ record s { sender = None; recipient = None; message = None }
+    → did ≡ did_of (shown_host host) (end_answer (kept_in peer before) s.sender s.recipient (lines_in before)) → Goes n host peer before DataEnd did
+goes_end s n host peer before did k new did_is =
+    goes_by n host peer before DataEnd did (end_answer (kept_in peer before) s.sender s.recipient (lines_in before))
+    (ap (λ o. end_answer (kept_in peer before) o (recipient_in before) (lines_in before)) (sym k.sender_is)
+    ∙ ap (λ o. end_answer (kept_in peer before) s.sender o (lines_in before)) (sym k.recipient_is))
+    did_is (keep_end s n host peer before (end_answer (kept_in peer before) s.sender s.recipient (lines_in before)) k new)
+
+pub kept_is : (s : Session) (host peer : List ℕ) (before : List Exchange) (kept : Kept) → Knows s host peer before → kept ≡ record { protocol = codes "SMTP"; helo = s.helo; client = s.peer } → kept ≡ kept_in peer before
+kept_is s host peer before kept k is =
+    let P : List ℕ → List ℕ → Kept = λ h p. record { protocol = codes "SMTP"; helo = h; client = p } in
+    is ∙ ap (λ h. P h s.peer) k.helo_is ∙ ap (P (helo_in before)) k.peer_is
+
+-- where no message is under way the end of data gets no reply
+pub end_nothing : (kept : Kept) (sender recipient : Option (List ℕ)) (lines : Option (List (List ℕ))) → Holds None lines → end_answer kept sender recipient lines ≡ Takes
+end_nothing kept None recipient lines h = refl
+end_nothing kept (Some sender) None lines h = refl
+end_nothing kept (Some sender) (Some recipient) None h = refl
+end_nothing kept (Some sender) (Some recipient) (Some lines) h = absurd h
+
+pub end_no_sender : (kept : Kept) (sender recipient : Option (List ℕ)) (lines : Option (List (List ℕ))) → sender ≡ None → end_answer kept sender recipient lines ≡ Takes
+end_no_sender kept sender recipient lines is = ap (λ o. end_answer kept o recipient lines) is
+
+pub end_no_recipient : (kept : Kept) (sender : List ℕ) (recipient : Option (List ℕ)) (lines : Option (List (List ℕ))) → recipient ≡ None → end_answer kept (Some sender) recipient lines ≡ Takes
+end_no_recipient kept sender recipient lines is = ap (λ o. end_answer kept (Some sender) o lines) is
+
+-- the end of a message under way
+pub end_message : (kept : Kept) (sender recipient : List ℕ) (g : Gathered) (lines : Option (List (List ℕ))) (host : List ℕ) (did : Did) → Holds (Some g) lines
+    → ((all : List (List ℕ)) → Gathers g all → did ≡ did_of host (message_answer kept sender recipient all)) → did ≡ did_of host (end_answer kept (Some sender) (Some recipient) lines)
+end_message kept sender recipient g None host did h is = absurd h
+end_message kept sender recipient g (Some lines) host did h is = is lines h
+
+-- ---- a session's lines
+
+pub heard_more : (peer : List ℕ) (heard : List Heard) (h : Heard) → exchanges peer (reverse (heard ++ h ∷ [])) ≡ exchange_of peer (exchanges peer (reverse heard)) h ∷ exchanges peer (reverse heard)
+heard_more peer heard h = ap (exchanges peer) (reverse-append heard (h ∷ []))
+
+pub stands_more : (n : Session) (host peer : List ℕ) (heard : List Heard) (line : Line) (did : Did) → Goes n host peer (exchanges peer (reverse heard)) line did
+    → Stands n host peer (heard ++ record { line = line; short = false } ∷ [])
+stands_more n host peer heard line did goes =
+    subst (λ es. Keeps n host peer es) (sym (heard_more peer heard (record { line = line; short = false }))) goes.keeps
+
+lack_ends : (line : Line) → ends (record { line = line; answer = Lacks }) ≡ true
+lack_ends (Command text) = refl
+lack_ends TooLong = refl
+lack_ends (DataLine text) = refl
+lack_ends DataEnd = refl
+
+no_lines : (before : List Exchange) (line : Line) → lines_in (record { line = line; answer = Lacks } ∷ before) ≡ None
+no_lines before (Command text) = refl
+no_lines before TooLong = refl
+no_lines before (DataLine text) = refl
+no_lines before DataEnd = refl
+
+keep_reset : (s n : Session) (host peer : List ℕ) (before : List Exchange) (line : Line) → Knows s host peer before → n ≡ record s { sender = None; recipient = None; message = None }
+    → Keeps n host peer (record { line = line; answer = Lacks } ∷ before)
+keep_reset s n host peer before line k new =
+    subst (λ x. Keeps x host peer (record { line = line; answer = Lacks } ∷ before)) (sym new)
+    (record {
+      knows = record { host_is = k.host_is; peer_is = k.peer_is; helo_is = k.helo_is };
+      sender_is = sym (cond-true (ends (record { line = line; answer = Lacks })) None (sender_in before) (lack_ends line));
+      recipient_is = sym (cond-true (ends (record { line = line; answer = Lacks })) None (recipient_in before) (lack_ends line));
+      message_is = subst (λ l. Holds None l) (sym (no_lines before line)) tt;
+    })
+
+pub stands_reset : (s n : Session) (host peer : List ℕ) (heard : List Heard) (line : Line) → Knows s host peer (exchanges peer (reverse heard)) → n ≡ record s { sender = None; recipient = None; message = None }
+    → Stands n host peer (heard ++ record { line = line; short = true } ∷ [])
+stands_reset s n host peer heard line k new =
+    subst (λ es. Keeps n host peer es) (sym (heard_more peer heard (record { line = line; short = true }))) (keep_reset s n host peer (exchanges peer (reverse heard)) line k new)
+
+-- ---- the message
+
+pub message_large : (kept : Kept) (sender recipient : List ℕ) (g : Gathered) (lines : List (List ℕ)) → Gathers g lines → is_too_large g.size ≡ true
+    → message_answer kept sender recipient lines ≡ Says MessageTooLarge
+message_large kept sender recipient g lines gathers large =
+    cond-true (is_too_large (size_of lines)) _ _ (sym (same_too_large (size_of lines)) ∙ sym (ap is_too_large gathers.size) ∙ large)
+
+within : (g : Gathered) (lines : List (List ℕ)) → Gathers g lines → is_too_large g.size ≡ false → is_too_large (size_of lines) ≡ false
+within g lines gathers small = sym (same_too_large (size_of lines)) ∙ sym (ap is_too_large gathers.size) ∙ small
+
+pub message_block : (kept : Kept) (sender recipient : List ℕ) (g : Gathered) (lines : List (List ℕ)) → Gathers g lines → is_too_large g.size ≡ false → is_large_block g.block ≡ true
+    → message_answer kept sender recipient lines ≡ Says HeaderTooLarge
+message_block kept sender recipient g lines gathers small large =
+    let split = gathers.split small in
+    cond-false (is_too_large (size_of lines)) _ _ (within g lines gathers small)
+    ∙ cond-true (is_large_block (size_of (block_of false lines))) _ _ (sym (same_large_block (size_of (block_of false lines))) ∙ sym (ap is_large_block split.block) ∙ large)
+
+pub message_whole : (kept : Kept) (sender recipient : List ℕ) (g : Gathered) (lines : List (List ℕ)) → Gathers g lines → is_too_large g.size ≡ false → is_large_block g.block ≡ false
+    → message_answer kept sender recipient lines ≡ Gives (record { sender = sender; recipient = recipient; headers = g.headers.items; body = g.body; size = g.size; kept = kept })
+message_whole kept sender recipient g lines gathers small large =
+    let split = gathers.split small in
+    let exact = exact_size (size_of lines) (sym (ap is_too_large gathers.size) ∙ small) in
+    cond-false (is_too_large (size_of lines)) _ _ (within g lines gathers small)
+    ∙ cond-false (is_large_block (size_of (block_of false lines))) _ _ (sym (same_large_block (size_of (block_of false lines))) ∙ sym (ap is_large_block split.block) ∙ large)
+    ∙ ap (λ h. Gives (record { sender = sender; recipient = recipient; headers = h; body = body_of lines; size = size_of lines; kept = kept })) (sym split.headers)
+    ∙ ap (λ b. Gives (record { sender = sender; recipient = recipient; headers = g.headers.items; body = b; size = size_of lines; kept = kept })) (sym split.body)
+    ∙ ap (λ n. Gives (record { sender = sender; recipient = recipient; headers = g.headers.items; body = g.body; size = n; kept = kept })) (sym exact ∙ sym gathers.size)
+
+-- ---- the same of a result
+
+pub helo_goes : {E : Type 0} (r : Result Did E) (s n : Session) (host peer : List ℕ) (before : List Exchange) (text argument : List ℕ) → Keeps s host peer before → order_of text ≡ Ok (Greet argument)
+    → IfOk r (λ did. did ≡ Replied (hello_text s.host)) → IfOk r (λ _. n ≡ record s { helo = argument; sender = None; recipient = None; message = None }) → IfOk r (λ did. Goes n host peer before (Command text) did)
+helo_goes (Err e) s n host peer before text argument k is did new = tt
+helo_goes (Ok d) s n host peer before text argument k is did new = goes_helo s n host peer before text argument d k is did new
+
+pub mail_goes : {E : Type 0} (r : Result Did E) (s n : Session) (host peer : List ℕ) (before : List Exchange) (text path : List ℕ) → Keeps s host peer before → order_of text ≡ Ok (From path)
+    → IfOk r (λ did. did ≡ Replied (text_of (mail_reply (is_some s.sender) SenderOk))) → IfOk r (λ _. is_some s.sender ≡ true → n ≡ s)
+    → IfOk r (λ _. is_some s.sender ≡ false → n ≡ record s { sender = Some (bracketed path) }) → IfOk r (λ did. Goes n host peer before (Command text) did)
+mail_goes (Err e) s n host peer before text path k is did given new = tt
+mail_goes (Ok d) s n host peer before text path k is did given new = goes_mail s n host peer before text path d k is did given new
+
+pub rcpt_goes : {E : Type 0} (r : Result Did E) (s n : Session) (host peer : List ℕ) (before : List Exchange) (text path : List ℕ) → Keeps s host peer before → order_of text ≡ Ok (To path)
+    → IfOk r (λ did. did ≡ Replied (text_of (rcpt_reply (is_some s.sender) (to_reply path (is_some s.recipient))))) → IfOk r (λ _. takes_recipient s.sender s.recipient path ≡ false → n ≡ s)
+    → IfOk r (λ _. takes_recipient s.sender s.recipient path ≡ true → n ≡ record s { recipient = Some (bracketed path) }) → IfOk r (λ did. Goes n host peer before (Command text) did)
+rcpt_goes (Err e) s n host peer before text path k is did refused new = tt
+rcpt_goes (Ok d) s n host peer before text path k is did refused new = goes_rcpt s n host peer before text path d k is did refused new
+
+pub begin_goes : {E : Type 0} (r : Result Did E) (s n : Session) (host peer : List ℕ) (before : List Exchange) (text : List ℕ) → Keeps s host peer before → order_of text ≡ Ok Begin
+    → IfOk r (λ did. did ≡ Replied (text_of (data_reply (is_some s.recipient)))) → IfOk r (λ _. is_some s.recipient ≡ false → n ≡ s)
+    → IfOk r (λ _. is_some s.recipient ≡ true → BeginsMessage s n) → IfOk r (λ did. Goes n host peer before (Command text) did)
+begin_goes (Err e) s n host peer before text k is did refused new = tt
+begin_goes (Ok d) s n host peer before text k is did refused new = goes_begin s n host peer before text d k is did refused new
+
+pub quit_goes : {E : Type 0} (r : Result Did E) (s : Session) (host peer : List ℕ) (before : List Exchange) (text : List ℕ) → Keeps s host peer before → order_of text ≡ Ok End
+    → IfOk r (λ did. did ≡ Bye (closing_text s.host)) → IfOk r (λ did. Goes s host peer before (Command text) did)
+quit_goes (Err e) s host peer before text k is did = tt
+quit_goes (Ok d) s host peer before text k is did = goes_quit s host peer before text d k is did
+
+pub fault_goes : {E : Type 0} (r : Result Did E) (s : Session) (host peer : List ℕ) (before : List Exchange) (text : List ℕ) (fault : LineFault) (reply : Reply) → Keeps s host peer before → order_of text ≡ Err fault
+    → reply ≡ fault_reply (is_some s.sender) fault → IfOk r (λ did. did ≡ Replied (text_of reply)) → IfOk r (λ did. Goes s host peer before (Command text) did)
+fault_goes (Err e) s host peer before text fault reply k is reply_is did = tt
+fault_goes (Ok d) s host peer before text fault reply k is reply_is did = goes_fault s host peer before text fault d k is (did ∙ ap (λ x. Replied (text_of x)) reply_is)
+
+pub long_goes : {E : Type 0} (r : Result Did E) (s : Session) (host peer : List ℕ) (before : List Exchange) (line : Line) → line ≡ TooLong → Keeps s host peer before
+    → IfOk r (λ did. did ≡ Replied (text_of LineTooLong)) → IfOk r (λ did. Goes s host peer before line did)
+long_goes (Err e) s host peer before line is k did = tt
+long_goes (Ok d) s host peer before line is k did = subst (λ l. Goes s host peer before l d) (sym is) (goes_long s host peer before d k did)
+
+pub line_did : {E : Type 0} (r : Result Did E) (n : Session) (host peer : List ℕ) (heard : List Heard) (line : Line) → IfOk r (λ did. Goes n host peer (exchanges peer (reverse heard)) line did)
+    → IfOk r (λ did. did ≡ did_of (shown_host host) (answer_of peer heard line))
+line_did (Err e) n host peer heard line goes = tt
+line_did (Ok d) n host peer heard line goes = goes.did_is
+
+pub line_stands : {E : Type 0} (r : Result Did E) (n : Session) (host peer : List ℕ) (heard : List Heard) (line : Line) → IfOk r (λ did. Goes n host peer (exchanges peer (reverse heard)) line did)
+    → IfOk r (λ _. Stands n host peer (heard ++ record { line = line; short = false } ∷ []))
+line_stands (Err e) n host peer heard line goes = tt
+line_stands (Ok d) n host peer heard line goes = stands_more n host peer heard line d goes
+
+-- ---- after want of memory
+
+pub still_known : {T E : Type 0} (r : Result T E) (s n : Session) (host peer : List ℕ) (before : List Exchange) → Knows s host peer before → OnErr r (n ≡ s) → OnErr r (Knows n host peer before)
+still_known (Ok d) s n host peer before k same = tt
+still_known (Err e) s n host peer before k same = subst (λ x. Knows x host peer before) (sym same) k
+
+pub known_as : {T E : Type 0} (r : Result T E) (s n : Session) (host peer : List ℕ) (before : List Exchange) → n.host ≡ s.host → n.peer ≡ s.peer → n.helo ≡ s.helo → Knows s host peer before → OnErr r (Knows n host peer before)
+known_as (Ok d) s n host peer before host_same peer_same helo_same k = tt
+known_as (Err e) s n host peer before host_same peer_same helo_same k = record { host_is = host_same ∙ k.host_is; peer_is = peer_same ∙ k.peer_is; helo_is = helo_same ∙ k.helo_is }
+
+-- ---- lines of a message
+
+holds_some : (g n : Gathered) (text : List ℕ) → ((all : List (List ℕ)) → Gathers g all → Gathers n (all ++ text ∷ [])) → (lines : Option (List (List ℕ))) → Holds (Some g) lines → Holds (Some n) (with_text (DataLine text) lines)
+holds_some g n text more None h = h
+holds_some g n text more (Some all) h = more all h
+
+pub holds_more : {T E : Type 0} (r : Result T E) (m : Option Gathered) (g n : Gathered) (text : List ℕ) → m ≡ Some g → OnOk r ((all : List (List ℕ)) → Gathers g all → Gathers n (all ++ text ∷ []))
+    → OnOk r ((lines : Option (List (List ℕ))) → Holds m lines → Holds (Some n) (with_text (DataLine text) lines))
+holds_more (Err e) m g n text is more = tt
+holds_more (Ok u) m g n text is more = λ lines h. holds_some g n text more lines (subst (λ x. Holds x lines) is h)
+
+nothing_held : (text : List ℕ) (lines : Option (List (List ℕ))) → Holds None lines → Holds None (with_text (DataLine text) lines)
+nothing_held text None h = h
+nothing_held text (Some all) h = absurd h
+
+pub holds_none : (m : Option Gathered) (text : List ℕ) → m ≡ None → (lines : Option (List (List ℕ))) → Holds m lines → Holds m (with_text (DataLine text) lines)
+holds_none m text is lines h = subst (λ x. Holds x (with_text (DataLine text) lines)) (sym is) (nothing_held text lines (subst (λ x. Holds x lines) is h))
+
+-- ---- the end of data of a result
+
+pub end_goes : {E : Type 0} (r : Result Did E) (s n : Session) (host peer : List ℕ) (before : List Exchange) (sender recipient : List ℕ) (g : Gathered) (kept : Kept) (shown : List ℕ) → Keeps s host peer before
+    → n ≡ record s { sender = None; recipient = None; message = None } → s.sender ≡ Some sender → s.recipient ≡ Some recipient → s.message ≡ Some g
+    → kept ≡ record { protocol = codes "SMTP"; helo = s.helo; client = s.peer } → shown ≡ s.host
+    → ((lines : List (List ℕ)) → Gathers g lines → IfOk r (λ did. did ≡ did_of shown (message_answer kept sender recipient lines)))
+    → IfOk r (λ did. Goes n host peer before DataEnd did)
+end_goes (Err e) s n host peer before sender recipient g kept shown k new sender_is recipient_is message_is kept_as shown_is answer = tt
+end_goes (Ok d) s n host peer before sender recipient g kept shown k new sender_is recipient_is message_is kept_as shown_is answer =
+    let holds : Holds (Some g) (lines_in before) = subst (λ m. Holds m (lines_in before)) message_is k.message_is in
+    goes_end s n host peer before d k new
+    (end_message kept sender recipient g (lines_in before) shown d holds answer
+    ∙ ap (λ h. did_of h (end_answer kept (Some sender) (Some recipient) (lines_in before))) (shown_is ∙ k.knows.host_is)
+    ∙ ap (λ x. did_of (shown_host host) (end_answer x (Some sender) (Some recipient) (lines_in before))) (kept_is s host peer before kept k.knows kept_as)
+    ∙ ap (λ o. did_of (shown_host host) (end_answer (kept_in peer before) o (Some recipient) (lines_in before))) (sym sender_is)
+    ∙ ap (λ o. did_of (shown_host host) (end_answer (kept_in peer before) s.sender o (lines_in before))) (sym recipient_is))
+
+-- where no message is under way
+pub end_takes : (s n : Session) (host peer : List ℕ) (before : List Exchange) → Keeps s host peer before → n ≡ record s { sender = None; recipient = None; message = None }
+    → end_answer (kept_in peer before) s.sender s.recipient (lines_in before) ≡ Takes → Goes n host peer before DataEnd Taken
+end_takes s n host peer before k new takes = goes_end s n host peer before Taken k new (sym (ap (did_of (shown_host host)) takes))
+
+-- ---- a reply in words
+
+pub said_answer : {E : Type 0} (r : Result Did E) (host : List ℕ) (answer : Answer) (reply : Reply) → answer ≡ Says reply → IfOk r (λ did. did ≡ Replied (text_of reply)) → IfOk r (λ did. did ≡ did_of host answer)
+said_answer (Err e) host answer reply is said = tt
+said_answer (Ok d) host answer reply is said = said ∙ sym (ap (did_of host) is)
+
+pub cleared : (s : Session) (sender recipient : Option (List ℕ)) (message : Option Gathered) → sender ≡ None → recipient ≡ None → message ≡ None
+    → record s { sender = sender; recipient = recipient; message = message } ≡ record s { sender = None; recipient = None; message = None }
+cleared s sender recipient message no_sender no_recipient no_message =
+    ap (λ x. record s { sender = x; recipient = recipient; message = message }) no_sender
+    ∙ ap (λ x. record s { sender = None; recipient = x; message = message }) no_recipient
+    ∙ ap (λ x. record s { sender = None; recipient = None; message = x }) no_message
+
+pub dialogue_more : (peer : List ℕ) (heard : List Heard) (next : Heard) → dialogue peer (heard ++ next ∷ []) ≡ dialogue peer heard ++ exchange_of peer (reverse (dialogue peer heard)) next ∷ []
+dialogue_more peer heard next =
+    let es : List Exchange = exchanges peer (reverse heard) in
+    ap reverse (heard_more peer heard next)
+    ∙ reverse-append (exchange_of peer es next ∷ []) es
+    ∙ ap (λ b. reverse es ++ exchange_of peer b next ∷ []) (sym (reverse-reverse es))
+
+-- the lines of the message under way after an exchange that ends nothing
+abbrev lines_after : Exchange → List Exchange → Option (List (List ℕ))
+lines_after e before = cond (is_grant e.answer) (Some []) (with_text e.line (lines_in before))
+
+keep_ended : (s n : Session) (host peer : List ℕ) (before : List Exchange) (e : Exchange) → e.line ≡ DataEnd → Knows s host peer (e ∷ before) → n ≡ record s { sender = None; recipient = None; message = None }
+    → Keeps n host peer (e ∷ before)
+keep_ended s n host peer before e is k new =
+    let ended : ends e ≡ true = ap (λ l. is_data_end l || ends_by e.answer) is in
+    subst (λ x. Keeps x host peer (e ∷ before)) (sym new)
+    (record {
+      knows = record { host_is = k.host_is; peer_is = k.peer_is; helo_is = k.helo_is };
+      sender_is = sym (cond-true (ends e) None (or_else (sender_told e) (sender_in before)) ended);
+      recipient_is = sym (cond-true (ends e) None (or_else (recipient_told e) (recipient_in before)) ended);
+      message_is = subst (λ l. Holds None l) (sym (cond-true (ends e) None (lines_after e before) ended)) tt;
+    })
+
+pub stands_ended : (s n : Session) (host peer : List ℕ) (heard : List Heard) (last : Heard) → last.line ≡ DataEnd → Knows s host peer (exchanges peer (reverse (heard ++ last ∷ []))) → n ≡ record s { sender = None; recipient = None; message = None }
+    → Stands n host peer (heard ++ last ∷ [])
+stands_ended s n host peer heard last is k new =
+    let es : List Exchange = exchanges peer (reverse heard) in
+    subst (λ all. Keeps n host peer all) (sym (heard_more peer heard last))
+    (keep_ended s n host peer es (exchange_of peer es last) is (subst (λ all. Knows s host peer all) (heard_more peer heard last) k) new)

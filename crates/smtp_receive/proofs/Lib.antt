@@ -1,0 +1,4 @@
+pub mod PathLemmas
+pub mod SplitLemmas
+pub mod KeepLemmas
+pub mod ReplyLemmas

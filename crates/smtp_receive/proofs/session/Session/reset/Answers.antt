@@ -1,0 +1,12 @@
+use Rattle.std.proofs.Common.{refl, None}
+use Rattle.smtp_receive.proofs.KeepLemmas.{stands_reset, stands_ended}
+use Rattle.smtp_receive.proofs.session.Session.reset.Goals as goal
+
+pub returns-clause-stands : goal.returns-clause-stands
+returns-clause-stands c =
+    λ host peer heard line k.
+    stands_reset c.args.self.now (record c.args.self.now { sender = None; recipient = None; message = None }) host peer heard line k refl
+
+pub returns-clause-ended : goal.returns-clause-ended
+returns-clause-ended c = λ host peer heard last is k.
+    stands_ended c.args.self.now (record c.args.self.now { sender = None; recipient = None; message = None }) host peer heard last is k refl

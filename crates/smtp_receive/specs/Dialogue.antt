@@ -1,0 +1,235 @@
+-- The replies and the messages of a session, as a function of all its lines (RFC 5321 sections 3.3 and 4.1.4).
+use Rattle.std.specs.Prelude.{◌≡◌, ℕ, Bool, true, false, ◌||◌, List, [], ◌∷◌, ◌++◌, length, Option, Some, None, is_some, unwrap_or, option_map, Result, Ok, Err, reverse, if◌then◌else◌, codes}
+use Rattle.smtp_lines.specs.declared.line.Line.{Line}
+use Rattle.smtp_lines.specs.declared.line.Line.TheVariants.{Command, TooLong, Data as DataLine, DataEnd}
+use Rattle.mail_base.specs.declared.message.Kept.{Kept}
+use Rattle.smtp_receive.specs.declared.received.Received.{Received}
+use Rattle.smtp_receive.specs.declared.received.Did.{Did}
+use Rattle.smtp_receive.specs.declared.received.Did.TheVariants.{Reply as Replied, Message, Taken, Bye}
+use Rattle.smtp_receive.specs.declared.reply.Reply.{Reply}
+use Rattle.smtp_receive.specs.declared.reply.Reply.TheVariants.{LineTooLong, BadByte, Unrecognized, ArgumentNeeded, NoArgument, SenderGiven, NeedMail, NeedRcpt, SyntaxError, PathTooLong, ParameterNotKnown, UserRequired, TooManyRecipients, SenderOk, RecipientOk, EnterMail, MessageTooLarge, HeaderTooLarge}
+use Rattle.smtp_receive.specs.declared.command.Verb.{Verb}
+use Rattle.smtp_receive.specs.declared.command.Verb.TheVariants.{Helo, Mail, Rcpt, Data, Quit}
+use Rattle.smtp_receive.specs.declared.command.LineFault.{LineFault}
+use Rattle.smtp_receive.specs.declared.command.LineFault.TheVariants.{BadByte as HasBadByte, Unknown, ArgumentNeeded as LacksArgument, NoArgument as HasArgument, Syntax, PathTooLong as HasLongPath, Parameter}
+use Rattle.smtp_receive.specs.Commands.{Order, Greet, From, To, Begin, End, order_of, is_nothing}
+use Rattle.smtp_receive.specs.Replies.{text_of, hello_text, closing_text}
+use Rattle.smtp_receive.specs.Splits.{headers_of, body_of, block_of, size_of, is_too_large, is_large_block}
+
+-- how a line is answered: with words, 250 to HELO, 221 to QUIT, a message, no reply, or 452 4.3.1 Out of memory
+pub data Answer : Type 0 where
+  Says : Reply → Answer
+  Greets : Answer
+  Closes : Answer
+  Gives : Received → Answer
+  Takes : Answer
+  Lacks : Answer
+
+-- a line and its answer
+pub record Exchange : Type 0 where
+  pub line : Line
+  pub answer : Answer
+
+-- a line, and whether it was answered by 452 4.3.1 for want of memory
+pub record Heard : Type 0 where
+  pub line : Line
+  pub short : Bool
+
+-- the order that was read, if there was one
+abbrev pub order_in : Result Order LineFault → Option Order
+order_in (Ok order) = Some order
+order_in (Err fault) = None
+
+-- what a line asks for, if it is a command
+abbrev pub asked : Line → Option Order
+asked (Command text) = order_in (order_of text)
+asked TooLong = None
+asked (DataLine text) = None
+asked DataEnd = None
+
+-- a path with its angles
+abbrev pub bracketed : List ℕ → List ℕ
+bracketed path = 60 ∷ path ++ 62 ∷ []
+
+abbrev pub is_data_end : Line → Bool
+is_data_end (Command text) = false
+is_data_end TooLong = false
+is_data_end (DataLine text) = false
+is_data_end DataEnd = true
+
+-- a HELO that is accepted and want of memory end a transaction
+abbrev pub ends_by : Answer → Bool
+ends_by (Says reply) = false
+ends_by Greets = true
+ends_by Closes = false
+ends_by (Gives message) = false
+ends_by Takes = false
+ends_by Lacks = true
+
+-- whether an exchange ends the transaction: as the end of data, or as said
+abbrev pub ends : Exchange → Bool
+ends e = is_data_end e.line || ends_by e.answer
+
+abbrev pub path_from : Option Order → Option (List ℕ)
+path_from (Some (From path)) = Some (bracketed path)
+path_from _ = None
+
+abbrev pub path_to : Option Order → Option (List ℕ)
+path_to (Some (To path)) = Some (bracketed path)
+path_to _ = None
+
+abbrev pub argument_in : Option Order → Option (List ℕ)
+argument_in (Some (Greet argument)) = Some argument
+argument_in _ = None
+
+abbrev pub sender_by : Answer → Option Order → Option (List ℕ)
+sender_by (Says SenderOk) order = path_from order
+sender_by _ order = None
+
+abbrev pub recipient_by : Answer → Option Order → Option (List ℕ)
+recipient_by (Says RecipientOk) order = path_to order
+recipient_by _ order = None
+
+abbrev pub helo_by : Answer → Option Order → Option (List ℕ)
+helo_by Greets order = argument_in order
+helo_by _ order = None
+
+-- the sender of a MAIL that is accepted
+abbrev pub sender_told : Exchange → Option (List ℕ)
+sender_told e = sender_by e.answer (asked e.line)
+
+-- the recipient of an RCPT that is accepted
+abbrev pub recipient_told : Exchange → Option (List ℕ)
+recipient_told e = recipient_by e.answer (asked e.line)
+
+-- the argument of a HELO that is accepted
+abbrev pub helo_told : Exchange → Option (List ℕ)
+helo_told e = helo_by e.answer (asked e.line)
+
+-- whether the answer is 354
+abbrev pub is_grant : Answer → Bool
+is_grant (Says EnterMail) = true
+is_grant _ = false
+
+abbrev pub or_else : Option (List ℕ) → Option (List ℕ) → Option (List ℕ)
+or_else (Some told) earlier = Some told
+or_else None earlier = earlier
+
+-- the latest that exchanges tell since a transaction ended last; here and below the latest exchange is first
+abbrev pub latest : (Exchange → Option (List ℕ)) → List Exchange → Option (List ℕ)
+latest told [] = None
+latest told (e ∷ before) = if ends e then None else or_else (told e) (latest told before)
+
+-- the sender of the transaction under way
+abbrev pub sender_in : List Exchange → Option (List ℕ)
+sender_in before = latest sender_told before
+
+-- its recipient: there is one at most
+abbrev pub recipient_in : List Exchange → Option (List ℕ)
+recipient_in before = latest recipient_told before
+
+abbrev pub with_text : Line → Option (List (List ℕ)) → Option (List (List ℕ))
+with_text (Command text) lines = lines
+with_text TooLong lines = lines
+with_text (DataLine text) lines = option_map (λ earlier. earlier ++ text ∷ []) lines
+with_text DataEnd lines = lines
+
+-- the lines of the message under way, which are those since the 354; none where none is under way
+abbrev pub lines_in : List Exchange → Option (List (List ℕ))
+lines_in [] = None
+lines_in (e ∷ before) = if ends e then None else if is_grant e.answer then Some [] else with_text e.line (lines_in before)
+
+-- the argument of the latest HELO that was accepted, or nothing
+abbrev pub helo_in : List Exchange → List ℕ
+helo_in [] = []
+helo_in (e ∷ before) = unwrap_or (helo_told e) (helo_in before)
+
+-- the macros that are kept with a message
+abbrev pub kept_in : List ℕ → List Exchange → Kept
+kept_in peer before = record { protocol = codes "SMTP"; helo = helo_in before; client = peer }
+
+-- MAIL: the reply, but where the transaction has a sender
+abbrev pub mail_reply : Bool → Reply → Reply
+mail_reply true reply = SenderGiven
+mail_reply false reply = reply
+
+-- RCPT: the reply, but where the transaction has no sender
+abbrev pub rcpt_reply : Bool → Reply → Reply
+rcpt_reply true reply = reply
+rcpt_reply false reply = NeedMail
+
+-- the reply to an RCPT in the grammar, by whether there is a recipient
+abbrev pub to_reply : List ℕ → Bool → Reply
+to_reply path full = if is_nothing path then UserRequired else if full then TooManyRecipients else RecipientOk
+
+-- the reply to DATA, by whether there is a recipient
+abbrev pub data_reply : Bool → Reply
+data_reply true = EnterMail
+data_reply false = NeedRcpt
+
+-- the reply to a path out of the grammar or the limits, by whether there is a sender
+abbrev pub path_reply : Verb → Bool → Reply → Reply
+path_reply Mail given reply = mail_reply given reply
+path_reply Rcpt given reply = rcpt_reply given reply
+path_reply Helo given reply = reply
+path_reply Data given reply = reply
+path_reply Quit given reply = reply
+
+-- the reply to a command that has a fault, by whether there is a sender
+abbrev pub fault_reply : Bool → LineFault → Reply
+fault_reply given HasBadByte = BadByte
+fault_reply given Unknown = Unrecognized
+fault_reply given LacksArgument = ArgumentNeeded
+fault_reply given HasArgument = NoArgument
+fault_reply given (Syntax verb) = path_reply verb given SyntaxError
+fault_reply given (HasLongPath verb) = path_reply verb given PathTooLong
+fault_reply given (Parameter verb) = path_reply verb given ParameterNotKnown
+
+-- the answer to a command, by whether there are a sender and a recipient
+abbrev pub command_answer : Bool → Bool → Result Order LineFault → Answer
+command_answer given full (Err fault) = Says (fault_reply given fault)
+command_answer given full (Ok (Greet argument)) = Greets
+command_answer given full (Ok (From path)) = Says (mail_reply given SenderOk)
+command_answer given full (Ok (To path)) = Says (rcpt_reply given (to_reply path full))
+command_answer given full (Ok Begin) = Says (data_reply full)
+command_answer given full (Ok End) = Closes
+
+-- the answer to the end of a message of these lines
+abbrev pub message_answer : Kept → List ℕ → List ℕ → List (List ℕ) → Answer
+message_answer kept sender recipient lines =
+    if is_too_large (size_of lines) then Says MessageTooLarge
+    else if is_large_block (size_of (block_of false lines)) then Says HeaderTooLarge
+    else Gives (record { sender = sender; recipient = recipient; headers = headers_of lines; body = body_of lines; size = size_of lines; kept = kept })
+
+-- the same where a message may be under way; the end of data that were dropped gets no reply
+abbrev pub end_answer : Kept → Option (List ℕ) → Option (List ℕ) → Option (List (List ℕ)) → Answer
+end_answer kept (Some sender) (Some recipient) (Some lines) = message_answer kept sender recipient lines
+end_answer kept _ _ _ = Takes
+
+-- the answer to a line after what came before it
+abbrev pub answer_to : List ℕ → List Exchange → Line → Answer
+answer_to peer before (Command text) = command_answer (is_some (sender_in before)) (is_some (recipient_in before)) (order_of text)
+answer_to peer before TooLong = Says LineTooLong
+answer_to peer before (DataLine text) = Takes
+answer_to peer before DataEnd = end_answer (kept_in peer before) (sender_in before) (recipient_in before) (lines_in before)
+
+abbrev pub exchange_of : List ℕ → List Exchange → Heard → Exchange
+exchange_of peer before heard = record { line = heard.line; answer = if heard.short then Lacks else answer_to peer before heard.line }
+
+-- the exchanges of a session, of which the latest is first
+abbrev pub exchanges : List ℕ → List Heard → List Exchange
+exchanges peer [] = []
+exchanges peer (heard ∷ earlier) = exchange_of peer (exchanges peer earlier) heard ∷ exchanges peer earlier
+
+-- the dialogue of a session with a peer: each line with its answer
+abbrev pub dialogue : List ℕ → List Heard → List Exchange
+dialogue peer heard = reverse (exchanges peer (reverse heard))
+
+-- what is done at an answer, where there was memory
+abbrev pub did_of : List ℕ → Answer → Did
+did_of host (Says reply) = Replied (text_of reply)
+did_of host Greets = Replied (hello_text host)
+did_of host Closes = Bye (closing_text host)
+did_of host (Gives message) = Message message
+did_of host Takes = Taken
+did_of host Lacks = Taken

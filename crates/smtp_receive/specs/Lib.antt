@@ -1,0 +1,5 @@
+pub mod Commands
+pub mod Replies
+pub mod Splits
+pub mod Dialogue
+pub mod Sessions

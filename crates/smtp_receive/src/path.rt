@@ -1,0 +1,172 @@
+ghost use Rattle.std.specs.Prelude.{◌≡◌, ◌≤◌, ◌<◌, length, IfSome, option_map};
+ghost use Rattle.std.specs.List.{position_or_len};
+ghost use Rattle.smtp_lines.specs.Stream.{is_blank};
+ghost use Rattle.smtp_receive.specs.Commands as spec;
+
+/// Where a byte stands, as to quoted strings.
+#[derive(Clone, Copy, Debug, PartialEq, Eq)]
+pub(crate) enum Quote {
+    Outside,
+    Inside,
+    /// After a backslash in one.
+    Escaped,
+}
+
+impl Quote {
+    fn after(self, byte: u8) -> Quote
+        ensures { result ≡ spec.quote_after self byte }
+    {
+        match self {
+            Quote::Outside => {
+                if byte == b'"' {
+                    return Quote::Inside;
+                }
+                Quote::Outside
+            }
+            Quote::Inside => {
+                if byte == b'\\' {
+                    return Quote::Escaped;
+                }
+                if byte == b'"' {
+                    return Quote::Outside;
+                }
+                Quote::Inside
+            }
+            Quote::Escaped => Quote::Inside,
+        }
+    }
+
+    fn ends_path(self, byte: u8) -> bool
+        ensures { result ≡ spec.ends_path self byte }
+    {
+        match self {
+            Quote::Outside => byte == b'>',
+            Quote::Inside => false,
+            Quote::Escaped => false,
+        }
+    }
+}
+
+/// A path, and what is after it.
+#[derive(Clone, Copy, Debug)]
+pub(crate) struct Parts<'a> {
+    pub(crate) front: &'a [u8],
+    pub(crate) back: &'a [u8],
+}
+
+pub(crate) fn is_blank(byte: u8) -> bool
+    ensures { result ≡ is_blank byte }
+{
+    byte == b' ' || byte == b'\t'
+}
+
+/// The path at the front of a text, without its angles, or `None` where it doesn't end.
+pub(crate) fn path_parts(text: &[u8]) -> Option<Parts<'_>>
+    ensures { option_map spec.parts_of result ≡ spec.path_parts text.now }
+{
+    let (first, rest) = text.split_first()?;
+    if *first == b'<' {
+        return angle_parts(rest);
+    }
+    let end = word_end(text);
+    Some(Parts {
+        front: &text[..end],
+        back: &text[end..],
+    })
+}
+
+fn angle_parts(text: &[u8]) -> Option<Parts<'_>>
+    ensures { option_map spec.parts_of result ≡ spec.angle_parts text.now (spec.path_end Quote.Outside text.now) }
+{
+    let end = path_end(text)?;
+    Some(Parts {
+        front: &text[..end],
+        back: &text[end + 1..],
+    })
+}
+
+#[tactic(auto, using(crate::proofs::PathLemmas::steps))]
+fn path_end(text: &[u8]) -> Option<usize>
+    ensures end { result ≡ spec.path_end Quote.Outside text.now }
+    ensures within { IfSome result (λ end. end < length text.now) }
+{
+    let mut quote = Quote::Outside;
+    for (place, byte) in text.iter().enumerate() {
+        if quote.ends_path(*byte) {
+            return Some(place);
+        }
+        quote = quote.after(*byte);
+    }
+    None
+}
+
+/// How many bytes stand before the first blank.
+pub(crate) fn word_end(text: &[u8]) -> usize
+    ensures end { result ≡ spec.word_end text.now }
+    ensures within { result ≤ length text.now }
+{
+    for (place, byte) in text.iter().enumerate() {
+        if is_blank(*byte) {
+            return place;
+        }
+    }
+    text.len()
+}
+
+/// The path without its source route.
+pub(crate) fn without_route(path: &[u8]) -> &[u8]
+    ensures { result.now ≡ spec.without_route path.now }
+{
+    let end = colon_place(path);
+    if has_route(path, end) {
+        return &path[end + 1..];
+    }
+    path
+}
+
+fn has_route(path: &[u8], end: usize) -> bool
+    ensures { result ≡ spec.has_route path.now end }
+{
+    !path.is_empty() && path[0] == b'@' && end < path.len()
+}
+
+/// How many bytes stand before the first colon.
+fn colon_place(path: &[u8]) -> usize
+    ensures end { result ≡ position_or_len spec.is_colon path.now }
+    ensures within { result ≤ length path.now }
+{
+    for (place, byte) in path.iter().enumerate() {
+        if *byte == b':' {
+            return place;
+        }
+    }
+    path.len()
+}
+
+/// Whether the path or its local part is above its limit.
+pub(crate) fn is_too_long(path: &[u8]) -> bool
+    ensures { result ≡ spec.is_too_long path.now }
+{
+    path.len() > 254 || local_part(path).len() > 64
+}
+
+fn local_part(path: &[u8]) -> &[u8]
+    ensures { result.now ≡ spec.local_part path.now }
+{
+    let end = last_at_end(path);
+    if end == 0 {
+        return path;
+    }
+    &path[..end - 1]
+}
+
+fn last_at_end(path: &[u8]) -> usize
+    ensures end { result ≡ spec.last_at_end path.now }
+    ensures within { result ≤ length path.now }
+{
+    let mut end = path.len();
+    while end > 0 && path[end - 1] != b'@' {
+        end -= 1;
+    }
+    end
+}

@@ -1,0 +1,334 @@
+ghost use Rattle.std.specs.Prelude.{◌≡◌, ◌∷◌, ◌++◌, [], List, ℕ, Option, Some, None, true, false, is_some, take, IfOk, OnOk, OnErr, codes};
+ghost use Rattle.smtp_receive.specs.Dialogue.{Heard, Exchange, did_of, answer_to, bracketed, with_text, mail_reply, rcpt_reply, to_reply, data_reply, path_reply, fault_reply, message_answer};
+ghost use Rattle.smtp_receive.specs.Replies.{crlf, text_of, hello_text, closing_text, greeting_text, stored_text, shown_host};
+ghost use Rattle.smtp_receive.specs.Sessions.{Stands, Remembers, Knows, Keeps, Goes, Gathers, Holds, BeginsMessage, answer_of, takes_recipient};
+
+use crate::command::{Command, LineFault, Verb, read_command};
+use crate::gathered::{Gathered, is_large_block, is_too_large};
+use crate::received::{Did, Received};
+use crate::reply::{Reply, host_text};
+use mail_base::{Id, Kept, Kind, NoMemory, Seq, Text, TryCopy};
+use smtp_lines::Line;
+use std::alloc::Global;
+
+/// A session with a peer, which is given the lines of its stream in turn.
+///
+/// It holds at most 16,777,216 bytes of a message under way. It keeps its allocator.
+#[derive(Debug, Drop)]
+pub struct Session {
+    /// As replies show it.
+    host: Text,
+    peer: Text,
+    /// The argument of the latest HELO.
+    helo: Text,
+    sender: Option<Text>,
+    recipient: Option<Text>,
+    message: Option<Gathered>,
+}
+
+impl Session {
+    /// A session of which no line has come. In replies the host is cut at 255 bytes.
+    pub fn new(alloc: Global, host: &Text, peer: &Text) -> Result<Session, NoMemory>
+        ensures { IfOk result (λ session. Stands session host.now peer.now []) }
+    {
+        Ok(Session {
+            host: Text::of(alloc, shown(host.bytes()))?,
+            peer: Text::of(alloc, peer.bytes())?,
+            helo: Text::new(alloc),
+            sender: None,
+            recipient: None,
+            message: None,
+        })
+    }
+
+    /// The greeting, 220.
+    pub fn greeting(&self) -> Result<Text, NoMemory>
+        ensures { (host peer : List ℕ) (heard : List Heard) → Remembers self.now host peer heard
+            → IfOk result (λ text. text ≡ greeting_text (shown_host host)) }
+    {
+        self.with_host(b"220 ", b" ESMTP ready")
+    }
+
+    /// Answers a line of the session's stream. After `NoMemory` the caller replies 452 4.3.1 and
+    /// calls [`Session::reset`].
+    pub fn line(&mut self, line: &Line) -> Result<Did, NoMemory>
+        ensures did { (host peer : List ℕ) (heard : List Heard) → Stands self.old host peer heard
+            → IfOk result (λ did. did ≡ did_of (shown_host host) (answer_of peer heard line.now)) }
+        ensures stands { (host peer : List ℕ) (heard : List Heard) → Stands self.old host peer heard
+            → IfOk result (λ _. Stands self.new host peer (heard ++ record { line = line.now; short = false } ∷ [])) }
+        ensures err { (host peer : List ℕ) (heard : List Heard) → Remembers self.old host peer heard
+            → OnErr result (Remembers self.new host peer heard) }
+    {
+        self.answer(line)
+    }
+
+    /// The final reply, 250, to the message that the last line gave, once it is stored under this id.
+    #[tactic(auto, using(crate::proofs::ReplyLemmas::name_long))]
+    pub fn stored(&self, id: &Id) -> Result<Text, NoMemory>
+        ensures { IfOk result (λ text. text ≡ stored_text id.now) }
+    {
+        let name = id.name(Kind::Qf);
+        let (_kind, text) = name.bytes().split_at(2);
+        let back = b" Message accepted for delivery";
+        host_text(self.host.allocator(), b"250 2.0.0 ", text, back)
+    }
+
+    /// Ends the transaction, after 452 4.3.1 was replied to a line. It takes no memory. Of a message
+    /// under way the rest gets no reply.
+    pub fn reset(&mut self)
+        ensures stands { (host peer : List ℕ) (heard : List Heard) (line : Line) → Remembers self.old host peer heard
+            → Stands self.new host peer (heard ++ record { line = line; short = true } ∷ []) }
+        // The same after the end of data whose message was given, where its 250 was no longer made.
+        ensures ended { (host peer : List ℕ) (heard : List Heard) (last : Heard) → last.line ≡ Line.DataEnd
+            → Remembers self.old host peer (heard ++ last ∷ []) → Stands self.new host peer (heard ++ last ∷ []) }
+        ensures reset { self.new ≡ record self.old { sender = None; recipient = None; message = None } }
+    {
+        self.sender = None;
+        self.recipient = None;
+        self.message = None;
+    }
+
+    fn with_host(&self, front: &[u8], back: &[u8]) -> Result<Text, NoMemory>
+        ensures { IfOk result (λ text. text ≡ front.now ++ self.now.host ++ back.now ++ crlf) }
+    {
+        host_text(self.host.allocator(), front, self.host.bytes(), back)
+    }
+
+    fn say(&self, reply: Reply) -> Result<Did, NoMemory>
+        ensures { IfOk result (λ did. did ≡ Did.Reply (text_of reply)) }
+    {
+        Ok(Did::Reply(reply.text(self.host.allocator())?))
+    }
+
+    fn answer(&mut self, line: &Line) -> Result<Did, NoMemory>
+        ensures goes { (host peer : List ℕ) (before : List Exchange) → Keeps self.old host peer before
+            → IfOk result (λ did. Goes self.new host peer before line.now did) }
+        ensures err { (host peer : List ℕ) (before : List Exchange) → Knows self.old host peer before
+            → OnErr result (Knows self.new host peer before) }
+    {
+        match line {
+            Line::Command(text) => self.command(text.bytes()),
+            Line::TooLong => self.say(Reply::LineTooLong),
+            Line::Data(text) => self.data(text.bytes()),
+            Line::DataEnd => self.data_end(),
+        }
+    }
+
+    fn command(&mut self, line: &[u8]) -> Result<Did, NoMemory>
+        ensures goes { (host peer : List ℕ) (before : List Exchange) → Keeps self.old host peer before
+            → IfOk result (λ did. Goes self.new host peer before (Line.Command line.now) did) }
+        ensures err { (host peer : List ℕ) (before : List Exchange) → Knows self.old host peer before
+            → OnErr result (Knows self.new host peer before) }
+    {
+        match read_command(line) {
+            Ok(Command::Helo(argument)) => self.helo(argument),
+            Ok(Command::Mail(path)) => self.mail(path),
+            Ok(Command::Rcpt(path)) => self.rcpt(path),
+            Ok(Command::Data) => self.begin_data(),
+            Ok(Command::Quit) => self.quit(),
+            Err(fault) => self.say(fault_reply(self.sender.is_some(), fault)),
+        }
+    }
+
+    fn helo(&mut self, argument: &[u8]) -> Result<Did, NoMemory>
+        ensures did { IfOk result (λ did. did ≡ Did.Reply (hello_text self.old.host)) }
+        ensures ok { IfOk result (λ _. self.new ≡ record self.old { helo = argument.now; sender = None; recipient = None; message = None }) }
+        ensures err { OnErr result (self.new ≡ self.old) }
+    {
+        let reply = self.with_host(b"250 ", b" Hello")?;
+        self.helo = Text::of(self.host.allocator(), argument)?;
+        self.reset();
+        Ok(Did::Reply(reply))
+    }
+
+    fn mail(&mut self, path: &[u8]) -> Result<Did, NoMemory>
+        ensures did { IfOk result (λ did. did ≡ Did.Reply (text_of (mail_reply (is_some self.old.sender) Reply.SenderOk))) }
+        ensures given { IfOk result (λ _. is_some self.old.sender ≡ true → self.new ≡ self.old) }
+        ensures ok { IfOk result (λ _. is_some self.old.sender ≡ false
+            → self.new ≡ record self.old { sender = Some (bracketed path.now) }) }
+        ensures err { OnErr result (self.new ≡ self.old) }
+    {
+        if self.sender.is_some() {
+            return self.say(Reply::SenderGiven);
+        }
+        let reply = self.say(Reply::SenderOk)?;
+        self.sender = Some(bracketed(self.host.allocator(), path)?);
+        Ok(reply)
+    }
+
+    fn rcpt(&mut self, path: &[u8]) -> Result<Did, NoMemory>
+        ensures did { IfOk result (λ did. did ≡ Did.Reply (text_of (rcpt_reply (is_some self.old.sender)
+            (to_reply path.now (is_some self.old.recipient))))) }
+        ensures refused { IfOk result (λ _. takes_recipient self.old.sender self.old.recipient path.now ≡ false
+            → self.new ≡ self.old) }
+        ensures ok { IfOk result (λ _. takes_recipient self.old.sender self.old.recipient path.now ≡ true
+            → self.new ≡ record self.old { recipient = Some (bracketed path.now) }) }
+        ensures err { OnErr result (self.new ≡ self.old) }
+    {
+        if self.sender.is_none() {
+            return self.say(Reply::NeedMail);
+        }
+        if path.is_empty() {
+            return self.say(Reply::UserRequired);
+        }
+        if self.recipient.is_some() {
+            return self.say(Reply::TooManyRecipients);
+        }
+        let reply = self.say(Reply::RecipientOk)?;
+        self.recipient = Some(bracketed(self.host.allocator(), path)?);
+        Ok(reply)
+    }
+
+    fn begin_data(&mut self) -> Result<Did, NoMemory>
+        ensures did { IfOk result (λ did. did ≡ Did.Reply (text_of (data_reply (is_some self.old.recipient)))) }
+        ensures refused { IfOk result (λ _. is_some self.old.recipient ≡ false → self.new ≡ self.old) }
+        ensures ok { IfOk result (λ _. is_some self.old.recipient ≡ true
+            → BeginsMessage self.old self.new) }
+        ensures err { OnErr result (self.new ≡ self.old) }
+    {
+        if self.recipient.is_none() {
+            return self.say(Reply::NeedRcpt);
+        }
+        let reply = self.say(Reply::EnterMail)?;
+        self.message = Some(Gathered::new(self.host.allocator()));
+        Ok(reply)
+    }
+
+    fn quit(&self) -> Result<Did, NoMemory>
+        ensures { IfOk result (λ did. did ≡ Did.Bye (closing_text self.now.host)) }
+    {
+        Ok(Did::Bye(self.with_host(b"221 2.0.0 ", b" closing connection")?))
+    }
+
+    fn data(&mut self, line: &[u8]) -> Result<Did, NoMemory>
+        ensures goes { (host peer : List ℕ) (before : List Exchange) → Keeps self.old host peer before
+            → IfOk result (λ did. Goes self.new host peer before (Line.Data line.now) did) }
+        ensures err { (host peer : List ℕ) (before : List Exchange) → Knows self.old host peer before
+            → OnErr result (Knows self.new host peer before) }
+    {
+        add_line(&mut self.message, line)?;
+        Ok(Did::Taken)
+    }
+
+    fn data_end(&mut self) -> Result<Did, NoMemory>
+        ensures goes { (host peer : List ℕ) (before : List Exchange) → Keeps self.old host peer before
+            → IfOk result (λ did. Goes self.new host peer before (Line.DataEnd) did) }
+        ensures err { (host peer : List ℕ) (before : List Exchange) → Knows self.old host peer before
+            → OnErr result (Knows self.new host peer before) }
+    {
+        let kept = self.kept()?;
+        let sender = self.sender.take();
+        let recipient = self.recipient.take();
+        let message = self.message.take();
+        let Some(sender) = sender else {
+            return Ok(Did::Taken);
+        };
+        let Some(recipient) = recipient else {
+            return Ok(Did::Taken);
+        };
+        let Some(message) = message else {
+            return Ok(Did::Taken);
+        };
+        self.received(sender, recipient, message, kept)
+    }
+
+    fn received(
+        &self,
+        sender: Text,
+        recipient: Text,
+        message: Gathered,
+        kept: Kept,
+    ) -> Result<Did, NoMemory>
+        ensures { (lines : List (List ℕ)) → Gathers message lines
+            → IfOk result (λ did. did ≡ did_of self.now.host (message_answer kept sender recipient lines)) }
+    {
+        if is_too_large(message.size) {
+            return self.say(Reply::MessageTooLarge);
+        }
+        if is_large_block(message.block) {
+            return self.say(Reply::HeaderTooLarge);
+        }
+        Ok(Did::Message(Received {
+            sender,
+            recipient,
+            headers: Seq::from_vec(message.headers),
+            body: message.body,
+            size: message.size,
+            kept,
+        }))
+    }
+
+    fn kept(&self) -> Result<Kept, NoMemory>
+        ensures { IfOk result (λ kept. kept ≡ record { protocol = codes "SMTP"; helo = self.now.helo; client = self.now.peer }) }
+    {
+        Ok(Kept {
+            protocol: Text::of(self.host.allocator(), b"SMTP")?,
+            helo: self.helo.copy()?,
+            client: self.peer.copy()?,
+        })
+    }
+}
+
+/// The host as replies show it.
+#[tactic(auto, unfolding(crate::specs::Replies::shown_host))]
+fn shown(host: &[u8]) -> &[u8]
+    ensures { result.now ≡ shown_host host.now }
+{
+    first(host, 255)
+}
+
+#[tactic(auto, using(crate::proofs::ReplyLemmas::take_short))]
+fn first(bytes: &[u8], most: usize) -> &[u8]
+    ensures { result.now ≡ take most bytes.now }
+{
+    if bytes.len() > most {
+        &bytes[..most]
+    } else {
+        bytes
+    }
+}
+
+fn bracketed(alloc: Global, path: &[u8]) -> Result<Text, NoMemory>
+    ensures { IfOk result (λ text. text ≡ bracketed path.now) }
+{
+    let mut text = Text::of(alloc, b"<")?;
+    text.extend(path)?;
+    text.push(b'>')?;
+    Ok(text)
+}
+
+/// The reply to a command that has a fault, by whether there is a sender.
+fn fault_reply(given: bool, fault: LineFault) -> Reply
+    ensures { result ≡ fault_reply given fault }
+{
+    match fault {
+        LineFault::BadByte => Reply::BadByte,
+        LineFault::Unknown => Reply::Unrecognized,
+        LineFault::ArgumentNeeded => Reply::ArgumentNeeded,
+        LineFault::NoArgument => Reply::NoArgument,
+        LineFault::Syntax(verb) => path_reply(verb, given, Reply::SyntaxError),
+        LineFault::PathTooLong(verb) => path_reply(verb, given, Reply::PathTooLong),
+        LineFault::Parameter(verb) => path_reply(verb, given, Reply::ParameterNotKnown),
+    }
+}
+
+/// The reply to a path, but where its command is out of place.
+fn path_reply(verb: Verb, given: bool, reply: Reply) -> Reply
+    ensures { result ≡ path_reply verb given reply }
+{
+    match (verb, given) {
+        (Verb::Mail, true) => Reply::SenderGiven,
+        (Verb::Rcpt, false) => Reply::NeedMail,
+        _ => reply,
+    }
+}
+
+fn add_line(message: &mut Option<Gathered>, line: &[u8]) -> Result<(), NoMemory>
+    ensures { OnOk result ((lines : Option (List (List ℕ))) → Holds message.old lines
+        → Holds message.new (with_text (Line.Data line.now) lines)) }
+{
+    match message {
+        Some(gathered) => gathered.add(line),
+        None => Ok(()),
+    }
+}
