@@ -16,6 +16,11 @@ fn empty_dir(rt: &HostRuntime, name: &str) -> Result<Text, Fail> {
     Ok(Text::of(rt.alloc(), name.as_bytes())?)
 }
 
+// Takes a directory away with all that it holds.
+fn is_removed(rt: &HostRuntime, name: &str) -> bool {
+    fs::remove_dir_all(rt, name).is_ok()
+}
+
 fn put(
     alloc: Global,
     dir: &Text,
@@ -80,6 +85,7 @@ fn a_file_holds_what_was_written_last(rt: HostRuntime) -> Result<(), Fail> {
     assert!(rt; put(rt.alloc(), &dir, b"dfw1", b"a body\xff\r\n")?.is_ok());
     assert!(rt; holds(rt.alloc(), &dir, b"dfw1", b"a body\xff\r\n")?);
     assert!(rt; lacks(rt.alloc(), &dir, b"dfw2")?);
+    assert!(rt; is_removed(&rt, "/tmp/sendmail-queue-written"));
     Ok(())
 }
 
@@ -90,6 +96,7 @@ fn a_file_has_its_new_name_alone(rt: HostRuntime) -> Result<(), Fail> {
     assert!(rt; rename(rt.alloc(), &dir, b"tfw1", b"qfw1")?.is_ok());
     assert!(rt; lacks(rt.alloc(), &dir, b"tfw1")?);
     assert!(rt; holds(rt.alloc(), &dir, b"qfw1", b"V1\n")?);
+    assert!(rt; is_removed(&rt, "/tmp/sendmail-queue-renamed"));
     Ok(())
 }
 
@@ -100,6 +107,7 @@ fn a_removed_file_is_gone(rt: HostRuntime) -> Result<(), Fail> {
     assert!(rt; remove(rt.alloc(), &dir, b"dfw1")?.is_ok());
     assert!(rt; lacks(rt.alloc(), &dir, b"dfw1")?);
     assert!(rt; remove(rt.alloc(), &dir, b"dfw1")?.is_ok());
+    assert!(rt; is_removed(&rt, "/tmp/sendmail-queue-removed"));
     Ok(())
 }
 
@@ -110,6 +118,7 @@ fn names_of_any_bytes_are_listed_in_order(rt: HostRuntime) -> Result<(), Fail> {
     assert!(rt; put(rt.alloc(), &dir, b"qf\xfe", b"")?.is_ok());
     assert!(rt; put(rt.alloc(), &dir, b"a b", b"")?.is_ok());
     assert_eq!(rt; names(rt.alloc(), &dir)?.bytes(), b"a b qf\xfe ".as_slice());
+    assert!(rt; is_removed(&rt, "/tmp/sendmail-queue-listed"));
     Ok(())
 }
 
@@ -131,7 +140,7 @@ fn a_full_disk_and_a_large_file_are_faults(rt: HostRuntime) -> Result<(), Fail> 
     let dir = empty_dir(&rt, "/tmp/sendmail-queue-large")?;
     make_large(&rt, "/tmp/sendmail-queue-large/dfw1")?;
     assert!(rt; matches!(lacks(rt.alloc(), &dir, b"dfw1"), Err(EdgeFault::Failed)));
-    fs::remove_dir_all(&rt, "/tmp/sendmail-queue-large")?;
+    assert!(rt; is_removed(&rt, "/tmp/sendmail-queue-large"));
     Ok(())
 }
 
@@ -150,6 +159,7 @@ fn a_name_outside_its_directory_is_a_fault(rt: HostRuntime) -> Result<(), Fail> 
         assert!(rt; put(rt.alloc(), &dir, name, b"")?.is_err());
     }
     assert!(rt; names(rt.alloc(), &dir)?.is_empty());
+    assert!(rt; is_removed(&rt, "/tmp/sendmail-queue-outside"));
     Ok(())
 }
 
