@@ -5,7 +5,8 @@ use Rattle.std.proofs.lemmas.Bool.{false≢true, true≢false}
 use Rattle.std.proofs.lemmas.List.{append-nil, length-append}
 use Rattle.mail_base.specs.declared.token.Token.{Token}
 use Rattle.mail_base.specs.declared.token.Token.TheVariants.{Word, Quoted, Op, Sign}
-use Rattle.addr_tokens.specs.Pieces.{IsPiece, IsRun, IsQuotation, Piece, White, Comment, Quotation, Operator, Run, bytes_of, token_of, tokens_of, are_apart, is_white, is_operator}
+use Rattle.mail_base.specs.Whites.{is_white}
+use Rattle.addr_tokens.specs.Pieces.{IsPiece, IsRun, IsQuotation, Piece, White, Comment, Quotation, Operator, Run, bytes_of, token_of, tokens_of, are_apart, is_operator}
 use Rattle.addr_tokens.specs.Scans.{AreTokens}
 use Rattle.addr_tokens.specs.Joins.{joined, between, token_bytes, is_string, blank_bytes, have_neighbours}
 use Rattle.addr_tokens.proofs.FirstLemmas.{piece_some}

@@ -4,7 +4,8 @@ use Rattle.std.proofs.lemmas.Bool.{cond-true, cond-false, and_parts, and_from, o
 use Rattle.std.proofs.lemmas.List.{append_assoc, append-nil, length-append}
 use Rattle.addr_tokens.specs.declared.fault.ScanFault.{ScanFault}
 use Rattle.addr_tokens.specs.declared.fault.ScanFault.TheVariants.{Unbalanced, BadQuote, Long}
-use Rattle.addr_tokens.specs.Pieces.{InWord, word_nothing, word_plain, word_escaped, IsPiece, Piece, White, Comment, Quotation, Operator, Run, bytes_of, is_white, is_special, is_listed, is_word_byte}
+use Rattle.mail_base.specs.Whites.{is_white}
+use Rattle.addr_tokens.specs.Pieces.{InWord, word_nothing, word_plain, word_escaped, IsPiece, Piece, White, Comment, Quotation, Operator, Run, bytes_of, is_special, is_listed, is_word_byte}
 use Rattle.addr_tokens.specs.Scans.{Stops, closing, opening, opening_ended, backslash, quote, quote_ended, quoted_control, escaped_control}
 use Rattle.addr_tokens.specs.Reader.{Ending, Closed, Unclosed, Bad, First, first_of, first_word, first_quote, first_comment, front_of, past_word, past_quote, past_comment}
 use Rattle.addr_tokens.proofs.WordLemmas.{NoWord, word_read, word_stops, past_word-append, front_is, special_parts}

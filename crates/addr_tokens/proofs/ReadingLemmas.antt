@@ -4,7 +4,8 @@ use Rattle.std.proofs.lemmas.Bool.{cond-false, and_left, and_right, not_from_tru
 use Rattle.std.proofs.lemmas.List.{append_assoc, length-append}
 use Rattle.std.specs.List.{flat_map, AllByRecursion}
 use Rattle.addr_tokens.specs.declared.fault.ScanFault.{ScanFault}
-use Rattle.addr_tokens.specs.Pieces.{IsPiece, Piece, White, Comment, Quotation, Operator, Run, bytes_of, are_apart, Cuts, is_white, is_listed, is_operator, is_word_byte}
+use Rattle.mail_base.specs.Whites.{is_white}
+use Rattle.addr_tokens.specs.Pieces.{IsPiece, Piece, White, Comment, Quotation, Operator, Run, bytes_of, are_apart, Cuts, is_listed, is_operator, is_word_byte}
 use Rattle.addr_tokens.specs.Scans.{Stops, closing, opening, opening_ended, backslash, quote, quote_ended, quoted_control, escaped_control}
 use Rattle.addr_tokens.specs.Reader.{First, first_of, Reading, with_piece, read_on, reading_by, reading_of, past_word}
 use Rattle.addr_tokens.proofs.WordLemmas.{NoWord, past_word-append, special_parts}

@@ -2,7 +2,8 @@
 use Rattle.std.proofs.Common.{◌≡◌, ℕ, ◌-◌, ◌≤◌, ◌==◌, Bool, true, false, not, ◌&&◌, ◌||◌, cond, List, [], ◌∷◌, ◌++◌, length, take, drop, refl, sym, ◌∙◌, ap, subst, arith}
 use Rattle.std.proofs.lemmas.Bool.{cond-true, cond-false, and_parts, not-true, or_parts, eqb-true}
 use Rattle.std.proofs.lemmas.List.{length-append, take_at, length-drop}
-use Rattle.addr_tokens.specs.Pieces.{InWord, word_nothing, word_plain, word_escaped, is_word_byte, is_white, is_special, is_listed}
+use Rattle.mail_base.specs.Whites.{is_white}
+use Rattle.addr_tokens.specs.Pieces.{InWord, word_nothing, word_plain, word_escaped, is_word_byte, is_special, is_listed}
 use Rattle.addr_tokens.specs.Reader.{past_word, front_of}
 
 -- a backslash that stands before the text

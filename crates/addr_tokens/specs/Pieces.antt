@@ -1,12 +1,9 @@
 -- The pieces that a text is cut into (Sendmail Installation and Operation Guide, "R and S: Rewriting Rules" and its option OperatorChars; for quoted strings and comments RFC 5322 sections 3.2.1, 3.2.2 and 3.2.4).
-use Rattle.std.specs.Prelude.{◌≡◌, ◌≢◌, ℕ, Bool, true, false, not, ◌&&◌, ◌||◌, ◌==◌, nat_le, nat_lt, List, [], ◌∷◌, ◌++◌, codes}
+use Rattle.std.specs.Prelude.{◌≡◌, ◌≢◌, ℕ, Bool, true, false, not, ◌&&◌, ◌||◌, ◌==◌, nat_lt, List, [], ◌∷◌, ◌++◌, codes}
 use Rattle.std.specs.List.{list_any, flat_map, AllByRecursion}
+use Rattle.mail_base.specs.Whites.{is_white}
 use Rattle.mail_base.specs.declared.token.Token.{Token}
 use Rattle.mail_base.specs.declared.token.Token.TheVariants.{Word, Quoted, Op}
-
--- white space: a space, a tab, any byte below 32, and 127 (own)
-abbrev pub is_white : ℕ → Bool
-is_white b = nat_le b 32 || b == 127
 
 -- what may not stand in quotes: a byte below 32, and 127
 abbrev pub is_control : ℕ → Bool

@@ -3,7 +3,8 @@ use Rattle.std.specs.Prelude.{◌≡◌, ℕ, zero, suc, ◌+◌, ◌-◌, ◌<�
 use Rattle.mail_base.specs.declared.token.Token.{Token}
 use Rattle.addr_tokens.specs.declared.fault.ScanFault.{ScanFault}
 use Rattle.addr_tokens.specs.declared.fault.ScanFault.TheVariants.{Unbalanced, BadQuote, Long}
-use Rattle.addr_tokens.specs.Pieces.{Piece, White, Comment, Quotation, Operator, Run, bytes_of, token_of, is_white, is_control, is_listed, is_word_byte}
+use Rattle.mail_base.specs.Whites.{is_white}
+use Rattle.addr_tokens.specs.Pieces.{Piece, White, Comment, Quotation, Operator, Run, bytes_of, token_of, is_control, is_listed, is_word_byte}
 use Rattle.addr_tokens.specs.Scans.{most_tokens}
 use Rattle.addr_tokens.specs.Joins.{token_bytes, is_string, blank_bytes}
 

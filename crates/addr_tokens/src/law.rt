@@ -1,7 +1,8 @@
 ghost use Rattle.std.specs.Prelude.{◌≡◌, ◌⊎◌, ℕ, List, Bool, true, false, None, Some};
 ghost use Rattle.mail_base.specs.declared.token.Token.{Token as TheToken};
 ghost use Rattle.addr_tokens.specs.declared.fault.ScanFault.{ScanFault as TheFault};
-ghost use Rattle.addr_tokens.specs.Pieces.{Piece, Cuts, is_white};
+ghost use Rattle.mail_base.specs.Whites.{is_white};
+ghost use Rattle.addr_tokens.specs.Pieces.{Piece, Cuts};
 ghost use Rattle.addr_tokens.specs.Scans.{AreTokens, HasFault};
 ghost use Rattle.addr_tokens.specs.Joins.{joined, have_neighbours};
 

@@ -1,3 +1,4 @@
+ghost use Rattle.mail_base.specs.Whites.{is_white};
 ghost use Rattle.std.specs.Prelude.{◌≡◌, ◌<◌, ◌==◌, ◌||◌, ℕ, List, false, slice_index_or};
 ghost use Rattle.std.specs.List.{list_any};
 ghost use Rattle.addr_tokens.specs.Pieces as spec;
@@ -49,7 +50,7 @@ fn list(listed: &mut [bool; 256], bytes: &[u8])
 
 /// White space: a space, a tab, any byte below 32, and 127.
 pub(crate) fn is_white(byte: u8) -> bool
-    ensures { result ≡ spec.is_white byte }
+    ensures { result ≡ is_white byte }
 {
     byte <= b' ' || byte == 127
 }

@@ -1,5 +1,6 @@
 ghost use Rattle.std.specs.Prelude.{◌≡◌, IfOk};
-ghost use Rattle.cf_values.specs.Flags.{is_white, flags_of};
+ghost use Rattle.mail_base.specs.Whites.{is_white};
+ghost use Rattle.cf_values.specs.Flags.{flags_of};
 
 use mail_base::{NoMemory, Text};
 

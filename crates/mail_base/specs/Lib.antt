@@ -7,3 +7,4 @@ pub mod Metas
 pub mod Names
 pub mod Notes
 pub mod Scripts
+pub mod Whites

@@ -8,6 +8,10 @@ unfoldable pub digits : ℕ → ℕ → List ℕ
 digits zero n = []
 digits (suc k) n = digits k (n / 10) ++ (48 + n % 10) ∷ []
 
+-- an id as texts show it: w and its twelve digits
+abbrev pub id_text : ℕ → List ℕ
+id_text id = codes "w" ++ digits 12 id
+
 -- the two letters of a kind
 abbrev pub letters : Kind → List ℕ
 letters Df = codes "df"

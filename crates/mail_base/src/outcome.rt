@@ -59,8 +59,9 @@ mod tests {
     fn outcomes_are_copied(rt: HostRuntime) -> Result<(), Fail> {
         let mut results = Seq::new(rt.alloc());
         results.push(Result1::Deferred(Note::cut(b"451 later").expect(&rt, "a note")))?;
-        let copied = results.copy()?;
-        assert!(rt; copied.is(&results));
+        let outcomes = Outcomes { results };
+        let copied = outcomes.copy()?;
+        assert!(rt; copied.results.is(&outcomes.results));
         Ok(())
     }
 }

@@ -8,7 +8,7 @@ use Rattle.std.proofs.lemmas.Fmt.{length-decimal-le, length-decimal-le_wide}
 use Rattle.std.proofs.lemmas.List.Elements.{All-head, All-tail}
 use Rattle.std.proofs.lemmas.List.Sums.{sum_by-cons}
 use Rattle.std.proofs.lemmas.Int.{ints}
-use Rattle.mail_base.specs.Names.{digits}
+use Rattle.mail_base.specs.Names.{digits, id_text}
 use Rattle.mail_base.specs.Notes.{is_status}
 use Rattle.mail_base.specs.declared.control.Control.{Control}
 use Rattle.mail_base.specs.declared.control.Parent.{Parent}
@@ -16,7 +16,7 @@ use Rattle.mail_base.specs.declared.control.Row.{Row}
 use Rattle.mail_base.specs.declared.control.State.{State}
 use Rattle.mail_base.specs.declared.control.State.TheVariants.{Queued, Sent, Failed, Returned, Dead}
 use Rattle.mail_base.specs.declared.message.Kept.{Kept}
-use Rattle.qf_format.specs.Spelling.{line, id_text, parent_line, letter, marks_line, eight_line, cause, state_text, flags, row_lines, header_lines, place_lines, order_lines, sender_lines, kept_lines, spelled}
+use Rattle.qf_format.specs.Spelling.{line, parent_line, letter, marks_line, eight_line, cause, state_text, flags, row_lines, header_lines, place_lines, order_lines, sender_lines, kept_lines, spelled}
 use Rattle.qf_format.specs.Valid.{IsValid, IsRow, IsState, IsCause, IsParent}
 use Rattle.qf_format.proofs.StatusLemmas.{status_in}
 use Rattle.qf_format.specs.Room.{SameTexts, addresses, row_room, header_room, room_of}

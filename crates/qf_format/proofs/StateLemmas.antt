@@ -6,7 +6,8 @@ use Rattle.mail_base.specs.Notes.{IsNote, is_status}
 use Rattle.mail_base.specs.declared.control.State.{State}
 use Rattle.mail_base.specs.declared.control.State.TheVariants.{Queued, Sent, Failed, Returned, Dead}
 use Rattle.qf_format.specs.Reading.{Whole, NoWhole}
-use Rattle.qf_format.specs.Spelling.{cause, state_text, id_text}
+use Rattle.mail_base.specs.Names.{id_text}
+use Rattle.qf_format.specs.Spelling.{cause, state_text}
 use Rattle.qf_format.specs.Valid.{IsCause, IsState}
 use Rattle.qf_format.proofs.FieldLemmas.{Without, IsFirst, split_once, first_at, none_in}
 use Rattle.qf_format.proofs.StatusLemmas.{IsStatusByte, status_in}

@@ -13,7 +13,8 @@ use Rattle.mail_base.specs.declared.control.Row.{Row}
 use Rattle.qf_format.specs.declared.part.Place.{Place}
 use Rattle.qf_format.specs.declared.part.Order.{Order}
 use Rattle.qf_format.specs.declared.part.Envelope.{Envelope}
-use Rattle.qf_format.specs.Spelling.{eight_line, flags, header_lines, id_text, kept_lines, line, marks_line, order_lines, parent_line, place_lines, row_lines, sender_lines, spelled}
+use Rattle.mail_base.specs.Names.{id_text}
+use Rattle.qf_format.specs.Spelling.{eight_line, flags, header_lines, kept_lines, line, marks_line, order_lines, parent_line, place_lines, row_lines, sender_lines, spelled}
 use Rattle.qf_format.specs.Valid.{IsBlank, IsHeader, IsLine, IsParent, IsRevision, IsRow, IsSender, IsValid}
 
 -- a letter stands first

@@ -2,7 +2,7 @@
 use Rattle.std.specs.Prelude.{ℕ, Bool, true, false, List, [], ◌∷◌, ◌++◌, Option, None, Some, codes, if◌then◌else◌, ◌||◌}
 use Rattle.std.specs.List.{flat_map}
 use Rattle.std.specs.Fmt.{decimal, signed_decimal}
-use Rattle.mail_base.specs.Names.{digits}
+use Rattle.mail_base.specs.Names.{id_text}
 use Rattle.mail_base.specs.declared.control.Control.{Control}
 use Rattle.mail_base.specs.declared.control.Parent.{Parent}
 use Rattle.mail_base.specs.declared.control.Row.{Row}
@@ -14,10 +14,6 @@ use Rattle.mail_base.specs.declared.message.Kept.{Kept}
 -- a line: its content and LF
 abbrev pub line : List ℕ → List ℕ
 line content = content ++ 10 ∷ []
-
--- an id: w and its twelve digits
-abbrev pub id_text : ℕ → List ℕ
-id_text id = codes "w" ++ digits 12 id
 
 -- the entry that it is a child of
 abbrev pub parent_line : Option Parent → List ℕ

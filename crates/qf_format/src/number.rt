@@ -1,10 +1,9 @@
 ghost use Rattle.std.specs.Prelude.{◌≡◌, ◌↔◌, IsTrue, ◌⊎◌, ◌-◌, ◌<◌, ◌≤◌, ◌^◌, ℕ, Some, MatchOption, FitsSigned, length, negsuc};
 ghost use Rattle.std.specs.Int.{w64, w128};
 ghost use Rattle.std.specs.Fmt.{decimal, signed_decimal};
-ghost use Rattle.mail_base.specs.Names.{digits};
+ghost use Rattle.mail_base.specs.Names.{digits, id_text};
 ghost use Rattle.qf_format.specs.Reading.{Spells};
 ghost use Rattle.qf_format.specs.Parts.{IsPlain, IsSmall};
-ghost use Rattle.qf_format.specs.Spelling.{id_text};
 ghost use Rattle.qf_format.specs.Valid.{IsId, IsRevision};
 
 use crate::field::{after_tag, first_byte};

@@ -2,7 +2,8 @@ ghost use Rattle.std.specs.Prelude.{◌≡◌, ◌<◌, ◌≤◌, ◌++◌, ◌
 ghost use Rattle.std.specs.Fmt.{decimal, signed_decimal};
 ghost use Rattle.std.specs.List.{flat_map};
 ghost use Rattle.qf_format.specs.Sheets.{Fits, with_more};
-ghost use Rattle.qf_format.specs.Spelling.{line, letters, letter, parent_line, place_lines, order_lines, marks_line, eight_line, sender_lines, kept_lines, state_text, cause, id_text, row_lines, header_lines, flags, spelled};
+ghost use Rattle.mail_base.specs.Names.{id_text};
+ghost use Rattle.qf_format.specs.Spelling.{line, letters, letter, parent_line, place_lines, order_lines, marks_line, eight_line, sender_lines, kept_lines, state_text, cause, row_lines, header_lines, flags, spelled};
 ghost use Rattle.qf_format.specs.Valid.{IsValid};
 
 use crate::Paper;

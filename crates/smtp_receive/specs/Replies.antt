@@ -1,6 +1,6 @@
 -- The texts of the replies (RFC 5321 section 4.2; their words and enhanced statuses, RFC 3463, are our own).
 use Rattle.std.specs.Prelude.{◌≡◌, ℕ, List, [], ◌∷◌, ◌++◌, take, codes}
-use Rattle.mail_base.specs.Names.{digits}
+use Rattle.mail_base.specs.Names.{id_text}
 use Rattle.smtp_receive.specs.declared.reply.Reply.{Reply}
 use Rattle.smtp_receive.specs.declared.reply.Reply.TheVariants.{LineTooLong, BadByte, Unrecognized, ArgumentNeeded, NoArgument, SenderGiven, NeedMail, NeedRcpt, SyntaxError, PathTooLong, ParameterNotKnown, UserRequired, TooManyRecipients, SenderOk, RecipientOk, EnterMail, MessageTooLarge, HeaderTooLarge}
 
@@ -47,4 +47,4 @@ closing_text host = codes "221 2.0.0 " ++ host ++ codes " closing connection" ++
 
 -- the final reply to a message that is stored, with its id
 abbrev pub stored_text : ℕ → List ℕ
-stored_text id = codes "250 2.0.0 " ++ (codes "w" ++ digits 12 id) ++ codes " Message accepted for delivery" ++ crlf
+stored_text id = codes "250 2.0.0 " ++ id_text id ++ codes " Message accepted for delivery" ++ crlf

@@ -16,7 +16,7 @@ use Rattle.spool_disk.specs.Disk.{Place, bytes_at}
 use Rattle.spool_store.specs.Tables.{Stored, Table, Command, IsSound, after, applied, ids, stored, start}
 use Rattle.spool_store.specs.Tables.Command.{Accept}
 use Rattle.spool_store.specs.Standing.{control_file, body_file, files_of}
-use Rattle.spool_store.proofs.FileNames.{same_number}
+use Rattle.mail_base.proofs.FileNames.{same_number}
 use Rattle.spool_store.proofs.PlaceLemmas.{later, named_apart}
 
 pub applied_more : (table : Table) (some more : List Command) → applied table (some ++ more) ≡ applied (applied table some) more
