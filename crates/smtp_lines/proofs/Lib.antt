@@ -5,3 +5,4 @@ pub mod TakeLemmas
 pub mod StandLemmas
 pub mod ReadingLemmas
 pub mod RunLemmas
+pub mod GivenLemmas

@@ -28,7 +28,7 @@ cut-message (b ∷ c ∷ content) after none =
     let p = or_parts _ _ none in
     cond-false _ _ _ p.0 ∙ ap (longer b) (cut-message (c ∷ content) after p.1)
 
-cut-at : (mode : Mode) (content after : List ℕ) → has_end mode content ≡ false → cut mode (content ++ (end_of mode ++ after)) ≡ Some (content, after)
+pub cut-at : (mode : Mode) (content after : List ℕ) → has_end mode content ≡ false → cut mode (content ++ (end_of mode ++ after)) ≡ Some (content, after)
 cut-at Commands content after none = cut-command content after none
 cut-at Message content after none = cut-message content after none
 

@@ -1,5 +1,6 @@
 -- What a reader of a stream keeps of it, and what it stands for.
 use Rattle.std.specs.Prelude.{◌≡◌, ℕ, ◌≤◌, Bool, true, false, List, [], ◌∷◌, ◌++◌, take, drop, Option, Some, None}
+use Rattle.std.specs.List.{list_any}
 use Rattle.smtp_lines.specs.declared.line.Line.{Line}
 use Rattle.smtp_lines.specs.declared.line.Mode.{Mode}
 use Rattle.smtp_lines.specs.declared.line.Mode.TheVariants.{Commands, Message}
@@ -119,3 +120,24 @@ given may_turn s (line ∷ lines) = record s { granted = s.granted ++ awaited ma
 -- the last line that asked was granted
 abbrev pub granted : Stream → Stream
 granted s = record s { granted = s.granted ++ true ∷ [] }
+
+-- these lines stand first among all
+pub record StandsFirst (first all : List Line) : Type 0 where
+  pub later : List Line
+  pub is : all ≡ first ++ later
+
+-- the grants of the lines that were given and asked; one that is still awaited counts as refused
+abbrev pub HasGrants : Reader → Stream → List Bool → Type 0
+HasGrants r s told = s.granted ++ awaited r.under.may_turn false ≡ told
+
+-- no line but the last asks
+abbrev pub OnlyLastAsks : List Line → Type 0
+OnlyLastAsks lines = (front : List Line) (last : Line) → lines ≡ front ++ last ∷ [] → list_any asks front ≡ false
+
+-- lines were given of the stream before, whose grants were these; where the last of them asks, its grant comes next
+pub record Gives (before : Stream) (told : List Bool) (lines : List Line) (new : Reader) (after : Stream) : Type 0 where
+  pub stands : Stands new after
+  pub received_is : after.received ≡ before.received
+  pub lines_are : after.lines ≡ before.lines ++ lines
+  pub quiet : asked_after false lines ≡ false → HasGrants new after told
+  pub asking : asked_after false lines ≡ true → (after.granted ≡ told) × (new.under.may_turn ≡ true)

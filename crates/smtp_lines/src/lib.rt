@@ -12,4 +12,7 @@ mod under_way;
 
 pub use line::{Line, Mode};
 pub use lines::Lines;
-pub use stream::{all_given, one_reading, read_stream};
+pub use stream::{
+    all_given, given_lines_stand_first, grants_are_told, last_asks, one_reading, only_last_asks,
+    read_stream,
+};

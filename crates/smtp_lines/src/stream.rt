@@ -1,7 +1,7 @@
 ghost use Rattle.std.specs.Prelude.{◌≡◌, ◌<◌, ◌++◌, [], ◌∷◌, List, Bool, ℕ, length, take, drop, IfOk, OnOk, OnErr, IsTrue, false, true};
 ghost use Rattle.std.specs.List.{concat};
 ghost use Rattle.smtp_lines.specs.Stream.{Reads, has_end, reading_of, first_grant};
-ghost use Rattle.smtp_lines.specs.Reader.{Reader, Stream, Stands, asked_after};
+ghost use Rattle.smtp_lines.specs.Reader.{Reader, Stream, Stands, given, granted, asked_after, awaited, StandsFirst, HasGrants, Gives, OnlyLastAsks};
 ghost use Rattle.smtp_lines.specs.Runs.{ReadSoFar, granted_by};
 
 use crate::{Line, Lines, Mode};
@@ -35,7 +35,7 @@ fn read_piece<'g>(
 {
     let mut rest = grants;
     let mut fresh = reader.feed(piece)?;
-    'answers: while last_asks(&fresh) {
+    'answers: while last_asks(fresh.items()) {
         lines.append(&mut fresh.into_vec())?;
         rest = answer(reader, rest);
         fresh = reader.more()?;
@@ -61,10 +61,10 @@ fn answer<'g>(reader: &mut Lines, grants: &'g [bool]) -> &'g [bool]
     }
 }
 
-fn last_asks(lines: &Seq<Line>) -> bool
+/// Whether the last of the lines asks. Of no lines, none does.
+pub fn last_asks(lines: &[Line]) -> bool
     ensures { result ≡ asked_after false lines.now }
 {
-    let lines = lines.items();
     !lines.is_empty() && lines[lines.len() - 1].asks()
 }
 
@@ -79,4 +79,35 @@ pub fn one_reading()
 pub fn all_given()
     ensures { (r : Reader) (s : Stream) → Stands r s → r.left ≡ []
         → (reading_of s.received s.granted).lines ≡ s.lines }
+{}
+
+/// The lines that a reader has given stand first among those of its stream so far, whatever is answered to
+/// the last one that asked and to those after it.
+pub fn given_lines_stand_first()
+    ensures first { (r : Reader) (s : Stream) → Stands r s → (grant : Bool) (more : List Bool)
+        → StandsFirst s.lines (reading_of s.received ((s.granted ++ awaited r.under.may_turn grant) ++ more)).lines }
+    ensures unanswered { (r : Reader) (s : Stream) → Stands r s
+        → StandsFirst s.lines (reading_of s.received s.granted).lines }
+    // Where the reader has left nothing unread, they are all.
+    ensures all { (r : Reader) (s : Stream) → Stands r s → r.left ≡ [] → (more : List Bool)
+        → (reading_of s.received ((s.granted ++ awaited r.under.may_turn false) ++ more)).lines ≡ s.lines }
+{}
+
+/// What a caller knows that keeps the grants itself: after `feed` or `more` gave lines, by their clauses
+/// `stands` and `turns`, and once the last line that asked was refused or granted.
+pub fn grants_are_told()
+    ensures gives { (old new : Reader) (s : Stream) (told : List Bool) (lines : List Line) → HasGrants old s told
+        → Stands new (given old.under.may_turn s lines) → new.under.may_turn ≡ asked_after old.under.may_turn lines
+        → Gives s told lines new (given old.under.may_turn s lines) }
+    ensures refused { (r : Reader) (s : Stream) (told : List Bool) → s.granted ≡ told → r.under.may_turn ≡ true
+        → HasGrants r s (told ++ false ∷ []) }
+    ensures granted { (r : Reader) (s : Stream) (told : List Bool) → s.granted ≡ told → r.under.may_turn ≡ false
+        → HasGrants r (granted s) (told ++ true ∷ []) }
+{}
+
+/// Of the lines that one call gives only the last may ask.
+pub fn only_last_asks()
+    ensures { (old new : Reader) (s : Stream) (lines : List Line) → Stands old s
+        → Stands new (given old.under.may_turn s lines) → new.under.may_turn ≡ asked_after old.under.may_turn lines
+        → OnlyLastAsks lines }
 {}

@@ -1,4 +1,4 @@
-use crate::{Line, Lines, read_stream};
+use crate::{Line, Lines, last_asks, read_stream};
 use mail_base::{NoMemory, Seq, Text};
 use std::alloc::Global;
 use std::test::Fail;
@@ -227,6 +227,8 @@ fn bytes_after_data_wait_for_its_answer(rt: HostRuntime) -> Result<(), Fail> {
     let second = reader.feed(b" a\r")?;
     assert_eq!(rt; first.len(), 1);
     assert_eq!(rt; second.len(), 0);
+    assert!(rt; last_asks(first.items()));
+    assert!(rt; !last_asks(second.items()));
     assert!(rt; reader.may_turn());
     reader.data();
     assert!(rt; !reader.may_turn());

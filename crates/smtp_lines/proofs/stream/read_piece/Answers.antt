@@ -25,7 +25,7 @@ answers-preserved c =
     let lines = c.answers.lines.items in
     let before = c.answers.fresh in
     let reader = c.answer-rest.new.reader in
-    let asking : asked_after false before ≡ true = sym c.last_asks.ensures ∙ c.answers-test.true in
+    let asking : asked_after false before ≡ true = ap (asked_after false) (sym c.items.ensures) ∙ sym c.last_asks.ensures ∙ c.answers-test.true in
     let appended : c.append.new.self.items ≡ lines ++ before = c.in_ok-append.ensures.items ∙ ap (λ x. lines ++ x) c.into_vec.ensures in
     record {
       turns = λ asks. more.turns ∙ asked_after-turns _ fresh asks;
