@@ -1,5 +1,5 @@
 -- What a session keeps after one exchange more.
-use Rattle.std.proofs.Common.{◌≡◌, ℕ, Bool, true, false, cond, ◌||◌, List, [], ◌∷◌, ◌++◌, Option, Some, None, is_some, option_map, Result, Ok, Err, IfOk, OnOk, OnErr, refl, sym, ap, subst, ◌∙◌, ⊎_elim, unwrap_or, reverse, codes}
+use Rattle.std.proofs.Common.{◌≡◌, ℕ, Bool, true, false, List, [], ◌∷◌, ◌++◌, Option, Some, None, is_some, Result, Ok, Err, IfOk, OnOk, OnErr, refl, sym, ap, subst, ◌∙◌, ⊎_elim, unwrap_or, reverse, codes}
 use Rattle.std.proofs.lemmas.Bool.{false≢true, cases_Bool, cond-true, cond-false}
 use Rattle.std.proofs.lemmas.List.{reverse-append, reverse-reverse}
 use Rattle.smtp_lines.specs.declared.line.Line.{Line}
@@ -8,18 +8,18 @@ use Rattle.mail_base.specs.declared.message.Kept.{Kept}
 use Rattle.smtp_receive.specs.declared.session.Session.{Session}
 use Rattle.smtp_receive.specs.declared.gathered.Gathered.{Gathered}
 use Rattle.smtp_receive.specs.declared.received.Did.{Did}
-use Rattle.smtp_receive.specs.declared.received.Did.TheVariants.{Reply as Replied, Message, Taken, Bye}
+use Rattle.smtp_receive.specs.declared.received.Did.TheVariants.{Reply as Replied, Taken, Bye}
 use Rattle.smtp_receive.specs.declared.reply.Reply.{Reply}
 use Rattle.smtp_receive.specs.declared.reply.Reply.TheVariants.{LineTooLong, BadByte, Unrecognized, ArgumentNeeded, NoArgument, SenderGiven, NeedMail, NeedRcpt, SyntaxError, PathTooLong, ParameterNotKnown, UserRequired, TooManyRecipients, SenderOk, RecipientOk, EnterMail, MessageTooLarge, HeaderTooLarge}
 use Rattle.smtp_receive.specs.declared.command.Verb.{Verb}
 use Rattle.smtp_receive.specs.declared.command.Verb.TheVariants.{Helo, Mail, Rcpt, Data, Quit}
 use Rattle.smtp_receive.specs.declared.command.LineFault.{LineFault}
 use Rattle.smtp_receive.specs.declared.command.LineFault.TheVariants.{BadByte as HasBadByte, Unknown, ArgumentNeeded as LacksArgument, NoArgument as HasArgument, Syntax, PathTooLong as HasLongPath, Parameter}
-use Rattle.smtp_receive.specs.Commands.{Order, Greet, From, To, Begin, End, order_of, is_nothing}
+use Rattle.smtp_receive.specs.Commands.{Order, Greet, From, To, Begin, End, order_of}
 use Rattle.smtp_receive.specs.Replies.{text_of, hello_text, closing_text, shown_host}
-use Rattle.smtp_receive.specs.Splits.{headers_of, body_of, block_of, size_of, is_too_large, is_large_block}
-use Rattle.smtp_receive.specs.Dialogue.{Answer, Says, Greets, Closes, Gives, Takes, Lacks, Exchange, Heard, bracketed, ends, ends_by, is_data_end, is_grant, sender_told, recipient_told, sender_in, recipient_in, lines_in, helo_in, kept_in, helo_by, with_text, path_from, path_to, argument_in, order_in, or_else, mail_reply, rcpt_reply, to_reply, data_reply, path_reply, fault_reply, command_answer, message_answer, end_answer, answer_to, exchange_of, exchanges, dialogue, did_of}
-use Rattle.smtp_receive.specs.Sessions.{counted, IsSplit, Gathers, Holds, Knows, Keeps, Goes, BeginsMessage, Stands, takes_recipient, answer_of}
+use Rattle.smtp_receive.specs.Splits.{body_of, block_of, size_of, is_too_large, is_large_block}
+use Rattle.smtp_receive.specs.Dialogue.{Answer, Says, Greets, Closes, Gives, Takes, Lacks, Exchange, Heard, bracketed, ends, sender_in, recipient_in, lines_in, helo_in, kept_in, helo_by, with_text, path_from, path_to, argument_in, order_in, or_else, mail_reply, rcpt_reply, to_reply, data_reply, path_reply, fault_reply, command_answer, message_answer, end_answer, answer_to, exchange_of, exchanges, dialogue, said_by, did_of}
+use Rattle.smtp_receive.specs.Sessions.{Gathers, Holds, Knows, Keeps, Goes, BeginsMessage, Stands, Remembers, takes_recipient, answer_of}
 use Rattle.smtp_receive.proofs.SplitLemmas.{exact_size, same_too_large, same_large_block}
 
 -- nothing that a session keeps is told by what came since
@@ -53,6 +53,27 @@ tells RecipientOk = true
 tells EnterMail = true
 tells MessageTooLarge = false
 tells HeaderTooLarge = false
+
+-- after a reply that tells nothing no lines of a message follow
+pub said_quiet : (reply : Reply) → tells reply ≡ false → said_by reply ≡ Replied (text_of reply)
+said_quiet LineTooLong h = refl
+said_quiet BadByte h = refl
+said_quiet Unrecognized h = refl
+said_quiet ArgumentNeeded h = refl
+said_quiet NoArgument h = refl
+said_quiet SenderGiven h = refl
+said_quiet NeedMail h = refl
+said_quiet NeedRcpt h = refl
+said_quiet SyntaxError h = refl
+said_quiet PathTooLong h = refl
+said_quiet ParameterNotKnown h = refl
+said_quiet UserRequired h = refl
+said_quiet TooManyRecipients h = refl
+said_quiet SenderOk h = refl
+said_quiet RecipientOk h = refl
+said_quiet EnterMail h = absurd (false≢true (sym h))
+said_quiet MessageTooLarge h = refl
+said_quiet HeaderTooLarge h = refl
 
 pub quiet : (s : Session) (host peer : List ℕ) (before : List Exchange) (text : List ℕ) (reply : Reply) → tells reply ≡ false → Keeps s host peer before
     → Keeps s host peer (record { line = Command text; answer = Says reply } ∷ before)
@@ -168,7 +189,7 @@ goes_rcpt s n host peer before text path did k is did_is refused new =
     goes_by n host peer before (Command text) did (Says RecipientOk) (answer ∙ ap Says ok) (did_is ∙ ap (λ r. Replied (text_of r)) ok)
     (subst (λ x. Keeps x host peer (record { line = Command text; answer = Says RecipientOk } ∷ before)) (sym (new met)) (keep_rcpt s host peer before text path k is)))
     (λ unmet.
-    goes_by n host peer before (Command text) did (Says reply) answer did_is
+    goes_by n host peer before (Command text) did (Says reply) answer (did_is ∙ sym (said_quiet reply (rcpt_no s.sender s.recipient path unmet)))
     (subst (λ x. Keeps x host peer (record { line = Command text; answer = Says reply } ∷ before)) (sym (refused unmet)) (quiet s host peer before text reply (rcpt_no s.sender s.recipient path unmet) k)))
     (cases_Bool (takes_recipient s.sender s.recipient path))
 
@@ -186,16 +207,16 @@ keep_begin s n host peer before text k b =
     })
 
 pub goes_begin : (s n : Session) (host peer : List ℕ) (before : List Exchange) (text : List ℕ) (did : Did) → Keeps s host peer before → order_of text ≡ Ok Begin
-    → did ≡ Replied (text_of (data_reply (is_some s.recipient))) → (is_some s.recipient ≡ false → n ≡ s) → (is_some s.recipient ≡ true → BeginsMessage s n)
+    → did ≡ said_by (data_reply (is_some s.recipient)) → (is_some s.recipient ≡ false → n ≡ s) → (is_some s.recipient ≡ true → BeginsMessage s n)
     → Goes n host peer before (Command text) did
 goes_begin s n host peer before text did k is did_is refused new =
     let answer = answer_is s host peer before text (Ok Begin) k is in
     ⊎_elim
     (λ met.
-    goes_by n host peer before (Command text) did (Says EnterMail) (answer ∙ ap (λ b. Says (data_reply b)) met) (did_is ∙ ap (λ b. Replied (text_of (data_reply b))) met)
+    goes_by n host peer before (Command text) did (Says EnterMail) (answer ∙ ap (λ b. Says (data_reply b)) met) (did_is ∙ ap (λ b. said_by (data_reply b)) met)
     (keep_begin s n host peer before text k (new met)))
     (λ unmet.
-    goes_by n host peer before (Command text) did (Says NeedRcpt) (answer ∙ ap (λ b. Says (data_reply b)) unmet) (did_is ∙ ap (λ b. Replied (text_of (data_reply b))) unmet)
+    goes_by n host peer before (Command text) did (Says NeedRcpt) (answer ∙ ap (λ b. Says (data_reply b)) unmet) (did_is ∙ ap (λ b. said_by (data_reply b)) unmet)
     (subst (λ x. Keeps x host peer (record { line = Command text; answer = Says NeedRcpt } ∷ before)) (sym (refused unmet)) (quiet s host peer before text NeedRcpt refl k)))
     (cases_Bool (is_some s.recipient))
 
@@ -228,7 +249,8 @@ fault_quiet given (Parameter verb) = path_quiet verb given ParameterNotKnown ref
 pub goes_fault : (s : Session) (host peer : List ℕ) (before : List Exchange) (text : List ℕ) (fault : LineFault) (did : Did) → Keeps s host peer before → order_of text ≡ Err fault
     → did ≡ Replied (text_of (fault_reply (is_some s.sender) fault)) → Goes s host peer before (Command text) did
 goes_fault s host peer before text fault did k is did_is =
-    goes_by s host peer before (Command text) did (Says (fault_reply (is_some s.sender) fault)) (answer_is s host peer before text (Err fault) k is) did_is
+    goes_by s host peer before (Command text) did (Says (fault_reply (is_some s.sender) fault)) (answer_is s host peer before text (Err fault) k is)
+    (did_is ∙ sym (said_quiet (fault_reply (is_some s.sender) fault) (fault_quiet (is_some s.sender) fault)))
     (quiet s host peer before text (fault_reply (is_some s.sender) fault) (fault_quiet (is_some s.sender) fault) k)
 
 -- ---- lines that are no commands
@@ -257,12 +279,12 @@ helo_none (Gives message) = refl
 helo_none Takes = refl
 helo_none Lacks = refl
 
-keep_end : (s n : Session) (host peer : List ℕ) (before : List Exchange) (answer : Answer) → Keeps s host peer before → n ≡ record s { sender = None; recipient = None; message = None }
+keep_end : (s n : Session) (host peer : List ℕ) (before : List Exchange) (answer : Answer) → Knows s host peer before → n ≡ record s { sender = None; recipient = None; message = None }
     → Keeps n host peer (record { line = DataEnd; answer = answer } ∷ before)
 keep_end s n host peer before answer k new =
     subst (λ x. Keeps x host peer (record { line = DataEnd; answer = answer } ∷ before)) (sym new)
     (record {
-      knows = record { host_is = k.knows.host_is; peer_is = k.knows.peer_is; helo_is = k.knows.helo_is ∙ sym (ap (λ o. unwrap_or o (helo_in before)) (helo_none answer)) };
+      knows = record { host_is = k.host_is; peer_is = k.peer_is; helo_is = k.helo_is ∙ sym (ap (λ o. unwrap_or o (helo_in before)) (helo_none answer)) };
       sender_is = refl;
       recipient_is = refl;
       message_is = tt;
@@ -274,7 +296,7 @@ goes_end s n host peer before did k new did_is =
     goes_by n host peer before DataEnd did (end_answer (kept_in peer before) s.sender s.recipient (lines_in before))
     (ap (λ o. end_answer (kept_in peer before) o (recipient_in before) (lines_in before)) (sym k.sender_is)
     ∙ ap (λ o. end_answer (kept_in peer before) s.sender o (lines_in before)) (sym k.recipient_is))
-    did_is (keep_end s n host peer before (end_answer (kept_in peer before) s.sender s.recipient (lines_in before)) k new)
+    did_is (keep_end s n host peer before (end_answer (kept_in peer before) s.sender s.recipient (lines_in before)) k.knows new)
 
 pub kept_is : (s : Session) (host peer : List ℕ) (before : List Exchange) (kept : Kept) → Knows s host peer before → kept ≡ record { protocol = codes "SMTP"; helo = s.helo; client = s.peer } → kept ≡ kept_in peer before
 kept_is s host peer before kept k is =
@@ -386,7 +408,7 @@ rcpt_goes (Err e) s n host peer before text path k is did refused new = tt
 rcpt_goes (Ok d) s n host peer before text path k is did refused new = goes_rcpt s n host peer before text path d k is did refused new
 
 pub begin_goes : {E : Type 0} (r : Result Did E) (s n : Session) (host peer : List ℕ) (before : List Exchange) (text : List ℕ) → Keeps s host peer before → order_of text ≡ Ok Begin
-    → IfOk r (λ did. did ≡ Replied (text_of (data_reply (is_some s.recipient)))) → IfOk r (λ _. is_some s.recipient ≡ false → n ≡ s)
+    → IfOk r (λ did. did ≡ said_by (data_reply (is_some s.recipient))) → IfOk r (λ _. is_some s.recipient ≡ false → n ≡ s)
     → IfOk r (λ _. is_some s.recipient ≡ true → BeginsMessage s n) → IfOk r (λ did. Goes n host peer before (Command text) did)
 begin_goes (Err e) s n host peer before text k is did refused new = tt
 begin_goes (Ok d) s n host peer before text k is did refused new = goes_begin s n host peer before text d k is did refused new
@@ -468,9 +490,9 @@ end_takes s n host peer before k new takes = goes_end s n host peer before Taken
 
 -- ---- a reply in words
 
-pub said_answer : {E : Type 0} (r : Result Did E) (host : List ℕ) (answer : Answer) (reply : Reply) → answer ≡ Says reply → IfOk r (λ did. did ≡ Replied (text_of reply)) → IfOk r (λ did. did ≡ did_of host answer)
-said_answer (Err e) host answer reply is said = tt
-said_answer (Ok d) host answer reply is said = said ∙ sym (ap (did_of host) is)
+pub said_answer : {E : Type 0} (r : Result Did E) (host : List ℕ) (answer : Answer) (reply : Reply) → answer ≡ Says reply → tells reply ≡ false → IfOk r (λ did. did ≡ Replied (text_of reply)) → IfOk r (λ did. did ≡ did_of host answer)
+said_answer (Err e) host answer reply is quiet said = tt
+said_answer (Ok d) host answer reply is quiet said = said ∙ sym (said_quiet reply quiet) ∙ sym (ap (did_of host) is)
 
 pub cleared : (s : Session) (sender recipient : Option (List ℕ)) (message : Option Gathered) → sender ≡ None → recipient ≡ None → message ≡ None
     → record s { sender = sender; recipient = recipient; message = message } ≡ record s { sender = None; recipient = None; message = None }
@@ -486,25 +508,25 @@ dialogue_more peer heard next =
     ∙ reverse-append (exchange_of peer es next ∷ []) es
     ∙ ap (λ b. reverse es ++ exchange_of peer b next ∷ []) (sym (reverse-reverse es))
 
--- the lines of the message under way after an exchange that ends nothing
-abbrev lines_after : Exchange → List Exchange → Option (List (List ℕ))
-lines_after e before = cond (is_grant e.answer) (Some []) (with_text e.line (lines_in before))
+-- the end of data says nothing of the peer
+end_known : (s : Session) (host peer : List ℕ) (before : List Exchange) (answer : Answer) → Knows s host peer (record { line = DataEnd; answer = answer } ∷ before) → Knows s host peer before
+end_known s host peer before answer k = record {
+  host_is = k.host_is;
+  peer_is = k.peer_is;
+  helo_is = k.helo_is ∙ ap (λ o. unwrap_or o (helo_in before)) (helo_none answer);
+}
 
-keep_ended : (s n : Session) (host peer : List ℕ) (before : List Exchange) (e : Exchange) → e.line ≡ DataEnd → Knows s host peer (e ∷ before) → n ≡ record s { sender = None; recipient = None; message = None }
-    → Keeps n host peer (e ∷ before)
-keep_ended s n host peer before e is k new =
-    let ended : ends e ≡ true = ap (λ l. is_data_end l || ends_by e.answer) is in
-    subst (λ x. Keeps x host peer (e ∷ before)) (sym new)
-    (record {
-      knows = record { host_is = k.host_is; peer_is = k.peer_is; helo_is = k.helo_is };
-      sender_is = sym (cond-true (ends e) None (or_else (sender_told e) (sender_in before)) ended);
-      recipient_is = sym (cond-true (ends e) None (or_else (recipient_told e) (recipient_in before)) ended);
-      message_is = subst (λ l. Holds None l) (sym (cond-true (ends e) None (lines_after e before) ended)) tt;
-    })
-
-pub stands_ended : (s n : Session) (host peer : List ℕ) (heard : List Heard) (last : Heard) → last.line ≡ DataEnd → Knows s host peer (exchanges peer (reverse (heard ++ last ∷ []))) → n ≡ record s { sender = None; recipient = None; message = None }
-    → Stands n host peer (heard ++ last ∷ [])
-stands_ended s n host peer heard last is k new =
+-- the end of data, and whether it was and is answered by want of memory
+pub stands_ended : (s n : Session) (host peer : List ℕ) (heard : List Heard) (was is : Bool) → Knows s host peer (exchanges peer (reverse (heard ++ record { line = DataEnd; short = was } ∷ [])))
+    → n ≡ record s { sender = None; recipient = None; message = None } → Stands n host peer (heard ++ record { line = DataEnd; short = is } ∷ [])
+stands_ended s n host peer heard was is k new =
     let es : List Exchange = exchanges peer (reverse heard) in
+    let earlier : Heard = record { line = DataEnd; short = was } in
+    let last : Heard = record { line = DataEnd; short = is } in
     subst (λ all. Keeps n host peer all) (sym (heard_more peer heard last))
-    (keep_ended s n host peer es (exchange_of peer es last) is (subst (λ all. Knows s host peer all) (heard_more peer heard last) k) new)
+    (keep_end s n host peer es (exchange_of peer es last).answer
+    (end_known s host peer es (exchange_of peer es earlier).answer (subst (λ all. Knows s host peer all) (heard_more peer heard earlier) k)) new)
+
+-- a session that stands for its lines knows its peer
+pub stands_remembers : (s : Session) (host peer : List ℕ) (heard : List Heard) → Stands s host peer heard → Remembers s host peer heard
+stands_remembers s host peer heard stands = stands.knows

@@ -1,11 +1,11 @@
 -- The split of lines with one line more.
-use Rattle.std.proofs.Common.{◌≡◌, ℕ, suc, ◌+◌, ◌≤◌, ◌<◌, min, Bool, true, false, cond, List, [], ◌∷◌, ◌++◌, length, refl, sym, ap, subst, ◌∙◌, arith, append_assoc, append-nil, ⊎_elim, ◌==◌, Result, Ok, Err, OnOk}
+use Rattle.std.proofs.Common.{◌≡◌, ℕ, ◌+◌, ◌≤◌, ◌<◌, min, Bool, true, false, cond, List, [], ◌∷◌, ◌++◌, length, refl, sym, ap, subst, ◌∙◌, arith, append_assoc, append-nil, ⊎_elim, ◌==◌, Result, Ok, Err, OnOk}
 use Rattle.std.specs.List.{flat_map}
 use Rattle.std.proofs.lemmas.Bool.{cond-true, cond-false, false≢true, cases_Bool, cases_lt, eqb-true, ltb-false, lt-ltb, le-ltb}
 use Rattle.std.proofs.lemmas.List.Concat.{flat_map-append}
 use Rattle.std.proofs.lemmas.List.Sums.{sum_by_push}
 use Rattle.smtp_receive.specs.Replies.{crlf}
-use Rattle.smtp_receive.specs.Splits.{belongs, block_of, rest_of, is_continuation, goes_on, joined, headers_in, headers_of, without_empty, with_end, body_of, size_of, is_too_large, is_large_block}
+use Rattle.smtp_receive.specs.Splits.{belongs, block_of, rest_of, is_continuation, goes_on, joined, headers_in, without_empty, with_end, body_of, size_of, is_too_large, is_large_block}
 use Rattle.smtp_receive.specs.declared.gathered.Gathered.{Gathered}
 use Rattle.smtp_receive.specs.Sessions.{counted, is_some_line, onto_last, header_added, AddsHeader, IsSplit, Gathers}
 

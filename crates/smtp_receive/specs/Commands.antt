@@ -1,6 +1,6 @@
 -- The commands of a session (RFC 5321 sections 2.4, 4.1.1 and 4.1.2; that paths may lack their angles is our own).
 use denote.Ref.{Bor}
-use Rattle.std.specs.Prelude.{◌≡◌, ℕ, suc, ◌+◌, ◌-◌, slice_index, ◌==◌, nat_lt, Bool, true, false, not, ◌||◌, ◌&&◌, List, [], ◌∷◌, ◌++◌, length, take, drop, Option, Some, None, option_map, Result, Ok, Err, if◌then◌else◌, codes}
+use Rattle.std.specs.Prelude.{ℕ, ◌+◌, ◌-◌, slice_index, ◌==◌, nat_lt, Bool, true, false, not, ◌||◌, ◌&&◌, List, [], ◌∷◌, length, take, drop, Option, Some, None, Result, Ok, Err, if◌then◌else◌, codes}
 use Rattle.std.specs.List.{list_any, prefix_len, position_or_len, suffix_len}
 use Rattle.std.specs.Str.{str_eq_ignore_ascii_case}
 use Rattle.smtp_lines.specs.Stream.{is_blank, verb_of}
@@ -11,8 +11,8 @@ use Rattle.smtp_receive.specs.declared.command.Command.TheVariants.{Helo as AsHe
 use Rattle.smtp_receive.specs.declared.command.LineFault.{LineFault}
 use Rattle.smtp_receive.specs.declared.command.LineFault.TheVariants.{BadByte, Unknown, ArgumentNeeded, NoArgument, Syntax, PathTooLong, Parameter}
 use Rattle.smtp_receive.specs.declared.path.Parts.{Parts as Borrowed}
-use Rattle.smtp_receive.specs.declared.path.Quote.{Quote}
-use Rattle.smtp_receive.specs.declared.path.Quote.TheVariants.{Outside, Inside, Escaped}
+use Rattle.smtp_receive.specs.Paths.{Parts}
+use Rattle.smtp_receive.specs.PathEnds.{angle_parts}
 
 -- what a command line asks for; a path is without its angles and its route
 pub data Order : Type 0 where
@@ -48,33 +48,6 @@ stripped text = let rest = without_blanks text in take (length rest - suffix_len
 abbrev pub argument_of : List ℕ → List ℕ
 argument_of line = stripped (drop (length (verb_of line)) line)
 
--- how quoted strings go on after a byte; a backslash in one quotes the next byte
-abbrev pub quote_after : Quote → ℕ → Quote
-quote_after Outside b = if b == 34 then Inside else Outside
-quote_after Inside b = if b == 92 then Escaped else if b == 34 then Outside else Inside
-quote_after Escaped b = Inside
-
--- whether a byte ends a path: a > outside of quoted strings
-abbrev pub ends_path : Quote → ℕ → Bool
-ends_path Outside b = b == 62
-ends_path Inside b = false
-ends_path Escaped b = false
-
--- how many bytes stand before the > that ends a path
-abbrev pub path_end : Quote → List ℕ → Option ℕ
-path_end quote [] = None
-path_end quote (b ∷ bytes) = if ends_path quote b then Some 0 else option_map suc (path_end (quote_after quote b) bytes)
-
--- a text cut in two, without what stands between
-pub record Parts : Type 0 where
-  pub front : List ℕ
-  pub back : List ℕ
-
--- the path that ends at a place, and what is after its >
-abbrev pub angle_parts : List ℕ → Option ℕ → Option Parts
-angle_parts text None = None
-angle_parts text (Some n) = Some (record { front = take n text; back = drop (n + 1) text })
-
 -- how many bytes stand before the first blank
 abbrev pub word_end : List ℕ → ℕ
 word_end text = position_or_len is_blank text
@@ -83,7 +56,7 @@ word_end text = position_or_len is_blank text
 abbrev pub path_parts : List ℕ → Option Parts
 path_parts [] = None
 path_parts (b ∷ text) =
-    if b == 60 then angle_parts text (path_end Outside text)
+    if b == 60 then angle_parts text
     else Some (record { front = take (word_end (b ∷ text)) (b ∷ text); back = drop (word_end (b ∷ text)) (b ∷ text) })
 
 abbrev pub is_colon : ℕ → Bool

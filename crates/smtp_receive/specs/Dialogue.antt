@@ -1,11 +1,11 @@
 -- The replies and the messages of a session, as a function of all its lines (RFC 5321 sections 3.3 and 4.1.4).
-use Rattle.std.specs.Prelude.{◌≡◌, ℕ, Bool, true, false, ◌||◌, List, [], ◌∷◌, ◌++◌, length, Option, Some, None, is_some, unwrap_or, option_map, Result, Ok, Err, reverse, if◌then◌else◌, codes}
+use Rattle.std.specs.Prelude.{ℕ, Bool, true, false, ◌||◌, List, [], ◌∷◌, ◌++◌, Option, Some, None, is_some, unwrap_or, option_map, Result, Ok, Err, reverse, if◌then◌else◌, codes}
 use Rattle.smtp_lines.specs.declared.line.Line.{Line}
 use Rattle.smtp_lines.specs.declared.line.Line.TheVariants.{Command, TooLong, Data as DataLine, DataEnd}
 use Rattle.mail_base.specs.declared.message.Kept.{Kept}
 use Rattle.smtp_receive.specs.declared.received.Received.{Received}
 use Rattle.smtp_receive.specs.declared.received.Did.{Did}
-use Rattle.smtp_receive.specs.declared.received.Did.TheVariants.{Reply as Replied, Message, Taken, Bye}
+use Rattle.smtp_receive.specs.declared.received.Did.TheVariants.{Reply as Replied, Granted, Message, Taken, Bye}
 use Rattle.smtp_receive.specs.declared.reply.Reply.{Reply}
 use Rattle.smtp_receive.specs.declared.reply.Reply.TheVariants.{LineTooLong, BadByte, Unrecognized, ArgumentNeeded, NoArgument, SenderGiven, NeedMail, NeedRcpt, SyntaxError, PathTooLong, ParameterNotKnown, UserRequired, TooManyRecipients, SenderOk, RecipientOk, EnterMail, MessageTooLarge, HeaderTooLarge}
 use Rattle.smtp_receive.specs.declared.command.Verb.{Verb}
@@ -225,9 +225,14 @@ exchanges peer (heard ∷ earlier) = exchange_of peer (exchanges peer earlier) h
 abbrev pub dialogue : List ℕ → List Heard → List Exchange
 dialogue peer heard = reverse (exchanges peer (reverse heard))
 
+-- what is done where a reply in words is the answer; lines of a message follow 354 alone
+abbrev pub said_by : Reply → Did
+said_by EnterMail = Granted (text_of EnterMail)
+said_by reply = Replied (text_of reply)
+
 -- what is done at an answer, where there was memory
 abbrev pub did_of : List ℕ → Answer → Did
-did_of host (Says reply) = Replied (text_of reply)
+did_of host (Says reply) = said_by reply
 did_of host Greets = Replied (hello_text host)
 did_of host Closes = Bye (closing_text host)
 did_of host (Gives message) = Message message

@@ -1,5 +1,9 @@
+pub mod Paths
+pub mod PathEnds
 pub mod Commands
 pub mod Replies
 pub mod Splits
 pub mod Dialogue
 pub mod Sessions
+pub mod Forms
+pub mod Finals

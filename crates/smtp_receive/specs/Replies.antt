@@ -1,5 +1,5 @@
 -- The texts of the replies (RFC 5321 section 4.2; their words and enhanced statuses, RFC 3463, are our own).
-use Rattle.std.specs.Prelude.{◌≡◌, ℕ, List, [], ◌∷◌, ◌++◌, take, codes}
+use Rattle.std.specs.Prelude.{ℕ, List, [], ◌∷◌, ◌++◌, take, codes}
 use Rattle.mail_base.specs.Names.{id_text}
 use Rattle.smtp_receive.specs.declared.reply.Reply.{Reply}
 use Rattle.smtp_receive.specs.declared.reply.Reply.TheVariants.{LineTooLong, BadByte, Unrecognized, ArgumentNeeded, NoArgument, SenderGiven, NeedMail, NeedRcpt, SyntaxError, PathTooLong, ParameterNotKnown, UserRequired, TooManyRecipients, SenderOk, RecipientOk, EnterMail, MessageTooLarge, HeaderTooLarge}
@@ -44,6 +44,14 @@ hello_text host = codes "250 " ++ host ++ codes " Hello" ++ crlf
 
 abbrev pub closing_text : List ℕ → List ℕ
 closing_text host = codes "221 2.0.0 " ++ host ++ codes " closing connection" ++ crlf
+
+-- the reply to a line for which there is no memory
+abbrev pub out_of_memory_text : List ℕ
+out_of_memory_text = codes "452 4.3.1 Out of memory" ++ crlf
+
+-- the only reply to a peer with which no session begins
+abbrev pub too_many_sessions_text : List ℕ
+too_many_sessions_text = codes "421 4.3.2 Too many sessions" ++ crlf
 
 -- the final reply to a message that is stored, with its id
 abbrev pub stored_text : ℕ → List ℕ

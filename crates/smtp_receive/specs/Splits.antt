@@ -1,5 +1,5 @@
 -- The headers and the body of a message (RFC 5322 sections 2.1 and 2.2).
-use Rattle.std.specs.Prelude.{◌≡◌, ℕ, ◌+◌, slice_index, ◌==◌, nat_lt, nat_le, Bool, true, false, not, ◌||◌, ◌&&◌, List, [], ◌∷◌, ◌++◌, length, sum_by, if◌then◌else◌}
+use Rattle.std.specs.Prelude.{ℕ, ◌+◌, slice_index, ◌==◌, nat_lt, nat_le, Bool, true, false, not, ◌||◌, ◌&&◌, List, [], ◌∷◌, ◌++◌, length, sum_by, if◌then◌else◌}
 use Rattle.std.specs.List.{list_all, prefix_len, flat_map}
 use Rattle.smtp_lines.specs.Stream.{is_blank}
 use Rattle.smtp_receive.specs.Replies.{crlf}

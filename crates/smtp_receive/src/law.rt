@@ -1,8 +1,35 @@
-ghost use Rattle.std.specs.Prelude.{◌≡◌, ◌++◌, ◌∷◌, [], List, ℕ, reverse};
-ghost use Rattle.smtp_receive.specs.Dialogue.{Heard, dialogue, exchange_of};
+ghost use Rattle.std.specs.Prelude.{◌≡◌, ◌≤◌, ◌++◌, ◌∷◌, [], List, ℕ, Some, reverse};
+ghost use Rattle.smtp_lines.specs.declared.line.Line.{Line};
+ghost use Rattle.smtp_receive.specs.declared.received.Received.{Received};
+ghost use Rattle.smtp_receive.specs.Replies.{greeting_text, stored_text, out_of_memory_text, too_many_sessions_text};
+ghost use Rattle.smtp_receive.specs.Dialogue.{Answer, Gives, Heard, dialogue, did_of, exchange_of};
+ghost use Rattle.smtp_receive.specs.Sessions.{answer_of};
+ghost use Rattle.smtp_receive.specs.Forms.{IsFormed};
+ghost use Rattle.smtp_receive.specs.Finals.{IsFinal, text_told};
 
 /// A dialogue goes on by one exchange a line, which answers the line by the dialogue before it.
 pub fn one_exchange_a_line()
     ensures { (peer : List ℕ) (heard : List Heard) (next : Heard) → dialogue peer (heard ++ next ∷ [])
         ≡ dialogue peer heard ++ exchange_of peer (reverse (dialogue peer heard)) next ∷ [] }
+{}
+
+/// A message that is given has its parts in their forms, whatever the lines are.
+pub fn messages_have_forms()
+    ensures { (peer : List ℕ) (heard : List Heard) (line : Line) (message : Received)
+        → answer_of peer heard line ≡ Gives message → IsFormed message peer }
+{}
+
+/// Of all that is replied, the reply to a message that is stored is alone in saying so, whatever the host is.
+pub fn no_other_reply_is_final()
+    ensures lines { (host : List ℕ) (answer : Answer) (text : List ℕ)
+        → text_told (did_of host answer) ≡ Some text → ¬ IsFinal text }
+    ensures greeting { (host : List ℕ) → ¬ IsFinal (greeting_text host) }
+    ensures memory { ¬ IsFinal out_of_memory_text }
+    ensures sessions { ¬ IsFinal too_many_sessions_text }
+{}
+
+/// The reply to a message that is stored tells which it is.
+pub fn a_final_reply_tells_its_message()
+    ensures { (one other : ℕ) → one ≤ 999_999_999_999 → other ≤ 999_999_999_999
+        → stored_text one ≡ stored_text other → one ≡ other }
 {}

@@ -2,50 +2,7 @@ ghost use Rattle.std.specs.Prelude.{◌≡◌, ◌≤◌, ◌<◌, length, IfSom
 ghost use Rattle.std.specs.List.{position_or_len};
 ghost use Rattle.smtp_lines.specs.Stream.{is_blank};
 ghost use Rattle.smtp_receive.specs.Commands as spec;
-
-/// Where a byte stands, as to quoted strings.
-#[derive(Clone, Copy, Debug, PartialEq, Eq)]
-pub(crate) enum Quote {
-    Outside,
-    Inside,
-    /// After a backslash in one.
-    Escaped,
-}
-
-impl Quote {
-    fn after(self, byte: u8) -> Quote
-        ensures { result ≡ spec.quote_after self byte }
-    {
-        match self {
-            Quote::Outside => {
-                if byte == b'"' {
-                    return Quote::Inside;
-                }
-                Quote::Outside
-            }
-            Quote::Inside => {
-                if byte == b'\\' {
-                    return Quote::Escaped;
-                }
-                if byte == b'"' {
-                    return Quote::Outside;
-                }
-                Quote::Inside
-            }
-            Quote::Escaped => Quote::Inside,
-        }
-    }
-
-    fn ends_path(self, byte: u8) -> bool
-        ensures { result ≡ spec.ends_path self byte }
-    {
-        match self {
-            Quote::Outside => byte == b'>',
-            Quote::Inside => false,
-            Quote::Escaped => false,
-        }
-    }
-}
+ghost use Rattle.smtp_receive.specs.PathEnds as ends;
 
 /// A path, and what is after it.
 #[derive(Clone, Copy, Debug)]
@@ -76,7 +33,7 @@ pub(crate) fn path_parts(text: &[u8]) -> Option<Parts<'_>>
 }
 
 fn angle_parts(text: &[u8]) -> Option<Parts<'_>>
-    ensures { option_map spec.parts_of result ≡ spec.angle_parts text.now (spec.path_end Quote.Outside text.now) }
+    ensures { option_map spec.parts_of result ≡ ends.angle_parts text.now }
 {
     let end = path_end(text)?;
     Some(Parts {
@@ -85,17 +42,38 @@ fn angle_parts(text: &[u8]) -> Option<Parts<'_>>
     })
 }
 
-#[tactic(auto, using(crate::proofs::PathLemmas::steps))]
+/// How many bytes stand before the `>` that ends a path, or `None` where none does.
 fn path_end(text: &[u8]) -> Option<usize>
-    ensures end { result ≡ spec.path_end Quote.Outside text.now }
+    ensures end { result ≡ ends.path_end text.now 0 }
     ensures within { IfSome result (λ end. end < length text.now) }
 {
-    let mut quote = Quote::Outside;
-    for (place, byte) in text.iter().enumerate() {
-        if quote.ends_path(*byte) {
+    let mut place = 0;
+    while place < text.len() {
+        let byte = text[place];
+        if byte == b'>' {
             return Some(place);
         }
-        quote = quote.after(*byte);
+        place += 1;
+        if byte == b'"' {
+            let length = quote_length(&text[place..])?;
+            place += length;
+        }
+    }
+    None
+}
+
+/// How many bytes a quoted string has behind its first `"`, or `None` where it isn't closed.
+fn quote_length(text: &[u8]) -> Option<usize>
+    ensures length { result ≡ ends.quote_length text.now }
+    ensures within { IfSome result (λ n. n ≤ length text.now) }
+{
+    let mut place = 0;
+    while place < text.len() {
+        let byte = text[place];
+        if byte == b'"' {
+            return Some(place + 1);
+        }
+        place += if byte == b'\\' { 2 } else { 1 };
     }
     None
 }

@@ -21,6 +21,8 @@ pub struct Received {
 pub enum Did {
     /// It replies this.
     Reply(Text),
+    /// It replies this, 354, and lines of a message follow.
+    Granted(Text),
     /// It has received a message. The reply is that of [`crate::Session::stored`].
     Message(Received),
     /// It took a line of data, to which nothing is replied.

@@ -1,5 +1,5 @@
 ghost use Rattle.std.specs.Prelude.{◌≡◌, ◌++◌, IfOk};
-ghost use Rattle.smtp_receive.specs.Replies.{crlf, words_of, text_of};
+ghost use Rattle.smtp_receive.specs.Replies.{crlf, words_of, text_of, out_of_memory_text, too_many_sessions_text};
 
 use mail_base::{NoMemory, Text};
 use std::alloc::Global;
@@ -57,10 +57,31 @@ impl Reply {
     pub(crate) fn text(self, alloc: Global) -> Result<Text, NoMemory>
         ensures { IfOk result (λ text. text ≡ text_of self) }
     {
-        let mut text = Text::of(alloc, self.words())?;
-        text.extend(b"\r\n")?;
-        Ok(text)
+        line_text(alloc, self.words())
     }
+}
+
+/// The reply to a line for which there is no memory, 452. Asked for early, it can be kept until then.
+pub fn out_of_memory(alloc: Global) -> Result<Text, NoMemory>
+    ensures { IfOk result (λ text. text ≡ out_of_memory_text) }
+{
+    line_text(alloc, b"452 4.3.1 Out of memory")
+}
+
+/// The only reply to a peer with which no session begins, 421.
+pub fn too_many_sessions(alloc: Global) -> Result<Text, NoMemory>
+    ensures { IfOk result (λ text. text ≡ too_many_sessions_text) }
+{
+    line_text(alloc, b"421 4.3.2 Too many sessions")
+}
+
+/// The line of a reply in these words.
+fn line_text(alloc: Global, words: &[u8]) -> Result<Text, NoMemory>
+    ensures { IfOk result (λ text. text ≡ words.now ++ crlf) }
+{
+    let mut text = Text::of(alloc, words)?;
+    text.extend(b"\r\n")?;
+    Ok(text)
 }
 
 /// The line of a reply that names the host between other words.

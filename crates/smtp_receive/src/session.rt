@@ -1,5 +1,5 @@
-ghost use Rattle.std.specs.Prelude.{◌≡◌, ◌∷◌, ◌++◌, [], List, ℕ, Option, Some, None, true, false, is_some, take, IfOk, OnOk, OnErr, codes};
-ghost use Rattle.smtp_receive.specs.Dialogue.{Heard, Exchange, did_of, answer_to, bracketed, with_text, mail_reply, rcpt_reply, to_reply, data_reply, path_reply, fault_reply, message_answer};
+ghost use Rattle.std.specs.Prelude.{◌≡◌, ◌∷◌, ◌++◌, [], List, ℕ, Bool, Option, Some, None, true, false, is_some, take, IfOk, OnOk, OnErr, codes};
+ghost use Rattle.smtp_receive.specs.Dialogue.{Heard, Exchange, did_of, said_by, answer_to, bracketed, with_text, mail_reply, rcpt_reply, to_reply, data_reply, path_reply, fault_reply, message_answer};
 ghost use Rattle.smtp_receive.specs.Replies.{crlf, text_of, hello_text, closing_text, greeting_text, stored_text, shown_host};
 ghost use Rattle.smtp_receive.specs.Sessions.{Stands, Remembers, Knows, Keeps, Goes, Gathers, Holds, BeginsMessage, answer_of, takes_recipient};
 
@@ -78,9 +78,10 @@ impl Session {
     pub fn reset(&mut self)
         ensures stands { (host peer : List ℕ) (heard : List Heard) (line : Line) → Remembers self.old host peer heard
             → Stands self.new host peer (heard ++ record { line = line; short = true } ∷ []) }
-        // The same after the end of data whose message was given, where its 250 was no longer made.
-        ensures ended { (host peer : List ℕ) (heard : List Heard) (last : Heard) → last.line ≡ Line.DataEnd
-            → Remembers self.old host peer (heard ++ last ∷ []) → Stands self.new host peer (heard ++ last ∷ []) }
+        // The same after the end of data whose message was given, also where 452 4.3.1 was replied in place of its 250.
+        ensures ended { (host peer : List ℕ) (heard : List Heard) (was is : Bool)
+            → Remembers self.old host peer (heard ++ record { line = Line.DataEnd; short = was } ∷ [])
+            → Stands self.new host peer (heard ++ record { line = Line.DataEnd; short = is } ∷ []) }
         ensures reset { self.new ≡ record self.old { sender = None; recipient = None; message = None } }
     {
         self.sender = None;
@@ -180,7 +181,7 @@ impl Session {
     }
 
     fn begin_data(&mut self) -> Result<Did, NoMemory>
-        ensures did { IfOk result (λ did. did ≡ Did.Reply (text_of (data_reply (is_some self.old.recipient)))) }
+        ensures did { IfOk result (λ did. did ≡ said_by (data_reply (is_some self.old.recipient))) }
         ensures refused { IfOk result (λ _. is_some self.old.recipient ≡ false → self.new ≡ self.old) }
         ensures ok { IfOk result (λ _. is_some self.old.recipient ≡ true
             → BeginsMessage self.old self.new) }
@@ -189,9 +190,9 @@ impl Session {
         if self.recipient.is_none() {
             return self.say(Reply::NeedRcpt);
         }
-        let reply = self.say(Reply::EnterMail)?;
+        let reply = Reply::EnterMail.text(self.host.allocator())?;
         self.message = Some(Gathered::new(self.host.allocator()));
-        Ok(reply)
+        Ok(Did::Granted(reply))
     }
 
     fn quit(&self) -> Result<Did, NoMemory>

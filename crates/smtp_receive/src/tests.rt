@@ -1,4 +1,4 @@
-use crate::{Did, Received, Session};
+use crate::{Did, Received, Session, out_of_memory, too_many_sessions};
 use mail_base::{Id, NoMemory, Seq, Text};
 use smtp_lines::{Line, read_stream};
 use std::alloc::Global;
@@ -23,6 +23,7 @@ fn talk(alloc: Global, stream: &[u8], grants: &[bool]) -> Result<Text, NoMemory>
 fn answer(session: &mut Session, line: &Line, said: &mut Text) -> Result<(), NoMemory> {
     match session.line(line)? {
         Did::Reply(text) => said.extend(text.bytes()),
+        Did::Granted(text) => said.extend(text.bytes()),
         Did::Bye(text) => said.extend(text.bytes()),
         Did::Taken => said.extend(b"+"),
         Did::Message(message) => {
@@ -111,7 +112,7 @@ fn said_to(alloc: Global, stream: &[u8]) -> Result<Text, NoMemory> {
     Text::of(alloc, &said.bytes()[begin..])
 }
 
-static REFUSALS: [Row; 15] = [
+static REFUSALS: [Row; 18] = [
     (b"NOOP\r\n", b"500 5.5.1 Command unrecognized\r\n"),
     (b"EHLO a\r\n", b"500 5.5.1 Command unrecognized\r\n"),
     (b"\r\n", b"500 5.5.1 Command unrecognized\r\n"),
@@ -122,6 +123,18 @@ static REFUSALS: [Row; 15] = [
     (b"RCPT\r\n", b"503 5.5.1 Need MAIL first\r\n"),
     (b"DATA\r\n", b"503 5.5.1 Need RCPT first\r\n"),
     (b"MAIL FROM:<\">\r\n", b"501 5.5.2 Syntax error in path\r\n"),
+    (
+        b"MAIL FROM:<\"a>\r\n",
+        b"501 5.5.2 Syntax error in path\r\n",
+    ),
+    (
+        b"MAIL FROM:<\"a\\\">\r\n",
+        b"501 5.5.2 Syntax error in path\r\n",
+    ),
+    (
+        b"MAIL FROM:<a\\>b>\r\n",
+        b"501 5.5.2 Syntax error in path\r\n",
+    ),
     (b"MAIL FROM:<a>b\r\n", b"501 5.5.2 Syntax error in path\r\n"),
     (b"MAIL FROM:\r\n", b"501 5.5.2 Syntax error in path\r\n"),
     (
@@ -148,11 +161,15 @@ fn commands_are_refused(rt: HostRuntime) -> Result<(), Fail> {
 }
 
 /// A path as a MAIL line has it, and as it is taken.
-static PATHS: [Row; 6] = [
+static PATHS: [Row; 10] = [
     (b"<bob@c.example>", b"<bob@c.example>"),
     (b" \t<@a,@b.example:bob@c>", b"<bob@c>"),
     (b"<\"a>b\"@c>", b"<\"a>b\"@c>"),
     (b"<\"a\\\">b\"@c>", b"<\"a\\\">b\"@c>"),
+    (b"<\"a\\\"b>\"@c>", b"<\"a\\\"b>\"@c>"),
+    (b"<\"a>\\\\\"@c>", b"<\"a>\\\\\"@c>"),
+    (b"<\">\"a\">\"@c>", b"<\">\"a\">\"@c>"),
+    (b"<a\\>", b"<a\\>"),
     (b"bob@c", b"<bob@c>"),
     (b"<@a>", b"<@a>"),
 ];
@@ -242,5 +259,17 @@ fn begin_message(alloc: Global, session: &mut Session) -> Result<(), NoMemory> {
 fn after_want_of_memory_the_rest_of_a_message_gets_no_reply(rt: HostRuntime) -> Result<(), Fail> {
     let said = short_of_memory(rt.alloc())?;
     assert_eq!(rt; said.bytes(), b"++503 5.5.1 Need RCPT first\r\n".as_slice());
+    Ok(())
+}
+
+#[test]
+fn replies_where_there_is_no_room(rt: HostRuntime) -> Result<(), Fail> {
+    let memory = out_of_memory(rt.alloc())?;
+    let sessions = too_many_sessions(rt.alloc())?;
+    assert_eq!(rt; memory.bytes(), b"452 4.3.1 Out of memory\r\n".as_slice());
+    assert_eq!(rt;
+        sessions.bytes(),
+        b"421 4.3.2 Too many sessions\r\n".as_slice()
+    );
     Ok(())
 }

@@ -1,8 +1,13 @@
-use Rattle.std.proofs.Common.{◌≡◌, ◌+◌, drop}
-use Rattle.smtp_receive.specs.declared.path.Quote.TheVariants.{Outside}
-use Rattle.smtp_receive.specs.Commands.{path_end}
-use Rattle.smtp_receive.proofs.PathLemmas.{moved}
+use Rattle.std.proofs.Common.{◌≡◌, ◌≤◌, ◌-◌, length, drop}
+use Rattle.smtp_receive.specs.PathEnds.{path_end}
+use Rattle.smtp_receive.proofs.PathStepLemmas.{moved}
 use Rattle.smtp_receive.proofs.path.path_end.Given as goal
 
 abbrev pub invariant-loop-place : goal.invariant-loop-place
-invariant-loop-place l = moved l.place (path_end l.quote (drop l.place l.text)) ≡ path_end Outside l.text
+invariant-loop-place l = record {
+  within : l.place ≤ length l.text;
+  rest : moved l.place (path_end (drop l.place l.text) 0) ≡ path_end l.text 0;
+}
+
+abbrev pub decreases-loop-place : goal.decreases-loop-place
+decreases-loop-place l = length l.text - l.place

@@ -8,5 +8,6 @@ returns-clause-stands c =
     stands_reset c.args.self.now (record c.args.self.now { sender = None; recipient = None; message = None }) host peer heard line k refl
 
 pub returns-clause-ended : goal.returns-clause-ended
-returns-clause-ended c = λ host peer heard last is k.
-    stands_ended c.args.self.now (record c.args.self.now { sender = None; recipient = None; message = None }) host peer heard last is k refl
+returns-clause-ended c =
+    λ host peer heard was is k.
+    stands_ended c.args.self.now (record c.args.self.now { sender = None; recipient = None; message = None }) host peer heard was is k refl

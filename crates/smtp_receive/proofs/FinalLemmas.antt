@@ -1,0 +1,103 @@
+-- One reply alone says that a message is stored.
+use Rattle.std.proofs.Common.{◌≡◌, ℕ, ◌≤◌, false, List, [], ◌∷◌, ◌++◌, Option, Some, refl, sym, ap, subst, ◌∙◌, codes, append_assoc}
+use Rattle.std.specs.Prelude.{IfSome, nat_eq, slice_index}
+use Rattle.std.proofs.lemmas.Bool.{false≢true, eq-eqb}
+use Rattle.std.proofs.lemmas.List.{append_cancel_left, append_cancel_right, same_from_push}
+use Rattle.mail_base.specs.Names.{id_text}
+use Rattle.mail_base.specs.declared.id.Kind.TheVariants.{Qf}
+use Rattle.mail_base.proofs.FileNames.{same_number}
+use Rattle.smtp_receive.specs.declared.reply.Reply.{Reply}
+use Rattle.smtp_receive.specs.declared.reply.Reply.TheVariants.{LineTooLong, BadByte, Unrecognized, ArgumentNeeded, NoArgument, SenderGiven, NeedMail, NeedRcpt, SyntaxError, PathTooLong, ParameterNotKnown, UserRequired, TooManyRecipients, SenderOk, RecipientOk, EnterMail, MessageTooLarge, HeaderTooLarge}
+use Rattle.smtp_receive.specs.Replies.{crlf, text_of, greeting_text, hello_text, closing_text, stored_text, out_of_memory_text, too_many_sessions_text}
+use Rattle.smtp_receive.specs.Dialogue.{Answer, Says, Greets, Closes, Gives, Takes, Lacks, said_by, did_of}
+use Rattle.smtp_receive.specs.Finals.{text_told, IsFinal}
+
+-- texts that differ at a place differ
+differ : (i : ℕ) (one other : List ℕ) → nat_eq (slice_index one i) (slice_index other i) ≡ false → one ≡ other → ⊥
+differ i one other apart same = false≢true (sym apart ∙ eq-eqb (slice_index one i) (slice_index other i) (ap (λ t. slice_index t i) same))
+
+pub greeting_final : (host : List ℕ) → IsFinal (greeting_text host) → ⊥
+greeting_final host final = differ 1 (greeting_text host) (stored_text final.0) refl final.1
+
+pub closing_final : (host : List ℕ) → IsFinal (closing_text host) → ⊥
+closing_final host final = differ 1 (closing_text host) (stored_text final.0) refl final.1
+
+pub memory_final : IsFinal out_of_memory_text → ⊥
+memory_final final = differ 0 out_of_memory_text (stored_text final.0) refl final.1
+
+pub sessions_final : IsFinal too_many_sessions_text → ⊥
+sessions_final final = differ 0 too_many_sessions_text (stored_text final.0) refl final.1
+
+-- whatever the host is, 250 to HELO ends with other words
+pub hello_final : (host : List ℕ) → IsFinal (hello_text host) → ⊥
+hello_final host final =
+    let said : List ℕ = codes "250 " ++ host in
+    let told : List ℕ = codes "250 2.0.0 " ++ id_text final.0 in
+    let words : said ++ codes " Hello" ≡ told ++ codes " Message accepted for delivery" = append_cancel_right (said ++ codes " Hello") (told ++ codes " Message accepted for delivery") crlf final.1 in
+    let last : (said ++ codes " Hell") ++ 111 ∷ [] ≡ (told ++ codes " Message accepted for deliver") ++ 121 ∷ [] =
+    append_assoc said (codes " Hell") (111 ∷ []) ∙ words ∙ sym (append_assoc told (codes " Message accepted for deliver") (121 ∷ [])) in
+    let same = same_from_push (said ++ codes " Hell") (told ++ codes " Message accepted for deliver") 111 121 last in
+    false≢true (eq-eqb 111 121 same.1)
+
+reply_final : (reply : Reply) → IsFinal (text_of reply) → ⊥
+reply_final LineTooLong final = differ 0 (text_of LineTooLong) (stored_text final.0) refl final.1
+reply_final BadByte final = differ 0 (text_of BadByte) (stored_text final.0) refl final.1
+reply_final Unrecognized final = differ 0 (text_of Unrecognized) (stored_text final.0) refl final.1
+reply_final ArgumentNeeded final = differ 0 (text_of ArgumentNeeded) (stored_text final.0) refl final.1
+reply_final NoArgument final = differ 0 (text_of NoArgument) (stored_text final.0) refl final.1
+reply_final SenderGiven final = differ 0 (text_of SenderGiven) (stored_text final.0) refl final.1
+reply_final NeedMail final = differ 0 (text_of NeedMail) (stored_text final.0) refl final.1
+reply_final NeedRcpt final = differ 0 (text_of NeedRcpt) (stored_text final.0) refl final.1
+reply_final SyntaxError final = differ 0 (text_of SyntaxError) (stored_text final.0) refl final.1
+reply_final PathTooLong final = differ 0 (text_of PathTooLong) (stored_text final.0) refl final.1
+reply_final ParameterNotKnown final = differ 0 (text_of ParameterNotKnown) (stored_text final.0) refl final.1
+reply_final UserRequired final = differ 0 (text_of UserRequired) (stored_text final.0) refl final.1
+reply_final TooManyRecipients final = differ 0 (text_of TooManyRecipients) (stored_text final.0) refl final.1
+reply_final SenderOk final = differ 6 (text_of SenderOk) (stored_text final.0) refl final.1
+reply_final RecipientOk final = differ 6 (text_of RecipientOk) (stored_text final.0) refl final.1
+reply_final EnterMail final = differ 0 (text_of EnterMail) (stored_text final.0) refl final.1
+reply_final MessageTooLarge final = differ 0 (text_of MessageTooLarge) (stored_text final.0) refl final.1
+reply_final HeaderTooLarge final = differ 0 (text_of HeaderTooLarge) (stored_text final.0) refl final.1
+
+abbrev NotFinal : Option (List ℕ) → Type 0
+NotFinal told = IfSome told (λ text. IsFinal text → ⊥)
+
+said_final : (reply : Reply) → NotFinal (text_told (said_by reply))
+said_final LineTooLong = reply_final LineTooLong
+said_final BadByte = reply_final BadByte
+said_final Unrecognized = reply_final Unrecognized
+said_final ArgumentNeeded = reply_final ArgumentNeeded
+said_final NoArgument = reply_final NoArgument
+said_final SenderGiven = reply_final SenderGiven
+said_final NeedMail = reply_final NeedMail
+said_final NeedRcpt = reply_final NeedRcpt
+said_final SyntaxError = reply_final SyntaxError
+said_final PathTooLong = reply_final PathTooLong
+said_final ParameterNotKnown = reply_final ParameterNotKnown
+said_final UserRequired = reply_final UserRequired
+said_final TooManyRecipients = reply_final TooManyRecipients
+said_final SenderOk = reply_final SenderOk
+said_final RecipientOk = reply_final RecipientOk
+said_final EnterMail = reply_final EnterMail
+said_final MessageTooLarge = reply_final MessageTooLarge
+said_final HeaderTooLarge = reply_final HeaderTooLarge
+
+did_final : (host : List ℕ) (answer : Answer) → NotFinal (text_told (did_of host answer))
+did_final host (Says reply) = said_final reply
+did_final host Greets = hello_final host
+did_final host Closes = closing_final host
+did_final host (Gives message) = tt
+did_final host Takes = tt
+did_final host Lacks = tt
+
+pub told_final : (host : List ℕ) (answer : Answer) (text : List ℕ) → text_told (did_of host answer) ≡ Some text → IsFinal text → ⊥
+told_final host answer text is = subst NotFinal is (did_final host answer)
+
+pub same_id : (one other : ℕ) → one ≤ 999_999_999_999 → other ≤ 999_999_999_999 → stored_text one ≡ stored_text other → one ≡ other
+same_id one other one_fits other_fits same =
+    let back : List ℕ = codes " Message accepted for delivery" in
+    let front : List ℕ = codes "250 2.0.0 " in
+    let words : (front ++ id_text one) ++ back ≡ (front ++ id_text other) ++ back = append_cancel_right ((front ++ id_text one) ++ back) ((front ++ id_text other) ++ back) crlf same in
+    let told : front ++ id_text one ≡ front ++ id_text other = append_cancel_right (front ++ id_text one) (front ++ id_text other) back words in
+    let ids : id_text one ≡ id_text other = append_cancel_left front (id_text one) (id_text other) told in
+    same_number Qf Qf one other one_fits other_fits (ap (λ t. codes "qf" ++ t) ids)
