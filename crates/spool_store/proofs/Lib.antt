@@ -1,7 +1,7 @@
 pub mod MovesLemmas
 mod FileNames
-mod PlaceLemmas
-mod TableLemmas
+pub mod PlaceLemmas
+pub mod TableLemmas
 mod StageLemmas
 mod OpenLemmas
 mod SampleLemmas
