@@ -1,0 +1,378 @@
+-- What the core does is a step of the machine.
+use Rattle.std.proofs.Common.{◌≡◌, ◌⊎◌, inl, inr, ⊎_elim, ℕ, ◌+◌, ◌≤◌, ◌<◌, ◌^◌, List, [], ◌∷◌, ◌++◌, length, Bool, true, false, cond, Option, Some, None, refl, sym, ◌∙◌, ap, subst, arith}
+use Rattle.std.specs.Prelude.{◌≢◌, All, nat_eq, nat_le, ◌||◌, ◌==◌, not, if◌then◌else◌}
+use Rattle.std.specs.List.{list_any}
+use Rattle.std.specs.Option.{is_some}
+use Rattle.std.proofs.lemmas.Bool.{cond-true, cond-false, false≢true, eq-eqb, eqb-true, ne_eqb, eqb-false, or_from}
+use Rattle.std.proofs.lemmas.List.Elements.{All-nil, All-cons}
+use Rattle.mail_base.specs.Histories.{Gains, Rose}
+use Rattle.mail_base.proofs.Gaining.{gains_none}
+use Rattle.mail_edge.specs.Seen.{ClockSeen}
+use Rattle.link_edge.specs.Heard.{Heard}
+use Rattle.link_edge.specs.declared.event.Event.{Event}
+use Rattle.link_edge.specs.declared.event.Event.TheVariants.{Stops}
+use Rattle.spool_disk.specs.Spooled.{Spooled}
+use Rattle.smtp_receive.specs.Replies.{greeting_text, shown_host, too_many_sessions_text}
+use Rattle.spool_store.specs.Tables.{Table}
+use Rattle.mail_core.specs.declared.caller.Caller.{Caller}
+use Rattle.mail_core.specs.declared.fed.Fed.{Fed}
+use Rattle.mail_core.specs.declared.fed.Fed.TheVariants.{GoesOn as Onward, Granted, HungUp, Faulted, Spent}
+use Rattle.mail_core.specs.declared.intake.Intake.{Intake}
+use Rattle.mail_core.specs.declared.serving.Core.{Core}
+use Rattle.mail_core.specs.declared.serving.Ending.TheVariants.{Stopped, SpoolFault, IdsSpent}
+use Rattle.mail_core.specs.declared.serving.Site.{Site}
+use Rattle.mail_core.specs.declared.serving.Went.{Went}
+use Rattle.mail_core.specs.declared.serving.Went.TheVariants.{GoesOn as Going, Ends}
+use Rattle.mail_core.specs.Acts.{Act, Takes, Sends, HangsUp, heard_of, readings_of, commands_of}
+use Rattle.mail_core.specs.Events.{IsTaken, IsTakenUp, IsTakenOut, IsOpened, Steps, Turns, is_well, step_of, went_of}
+use Rattle.mail_core.specs.Going.{Feeds, way_after, is_onward, is_alive}
+use Rattle.mail_core.specs.Going as going
+use Rattle.mail_core.specs.Guests.{Guest, newcomer, with_bytes, has_number, guest_of, is_here, without, with_guest}
+use Rattle.mail_core.specs.Machine.{Choice, Plain, Short, Drops, Fails, Way, GoesOn, Leaves, Over, Did, all_answered, State, Step, still, most_guests, turned_away, welcomed, opened, brought, pieced, handled, Turn, at_moment, moment_by, stepped, taken}
+use Rattle.mail_core.specs.Messages.{is_spent}
+use Rattle.mail_core.specs.Seen.{Seen, seen, Ran}
+use Rattle.mail_core.specs.Standing.{dirs_of, Stores, Serves, Keeps, IsAlone, Hosts, Stands, is_hosted}
+use Rattle.mail_core.proofs.LineLemmas.{onward_alive}
+use Rattle.mail_core.proofs.RanLemmas.{ran_join, ran_quiet, ran_none, ran_floor}
+
+-- ---- peers
+
+pub peer_line : (bytes : List ℕ) → list_any (λ byte. nat_eq byte 10) bytes ≡ false → All (λ b. b ≢ 10) bytes
+peer_line [] h = All-nil (λ b. b ≢ 10)
+peer_line (b ∷ bytes) h = peer_more (nat_eq b 10) b bytes refl h (λ k. peer_line bytes k)
+  where
+    peer_more : (t : Bool) (b : ℕ) (bytes : List ℕ) → nat_eq b 10 ≡ t → (t || list_any (λ byte. nat_eq byte 10) bytes) ≡ false → (list_any (λ byte. nat_eq byte 10) bytes ≡ false → All (λ c. c ≢ 10) bytes) → All (λ c. c ≢ 10) (b ∷ bytes)
+    peer_more true b bytes is h go = absurd (false≢true (sym h))
+    peer_more false b bytes is h go = All-cons (λ c. c ≢ 10) b bytes (λ e. false≢true (sym is ∙ eq-eqb b 10 e)) (go h)
+
+-- ---- one session
+
+pub hosts_some : (site : Site) (o : Option Caller) (caller : Caller) (guests : List Guest) → o ≡ Some caller → Hosts site o guests → IsAlone site caller guests
+hosts_some site o caller guests e h = subst (λ q. Hosts site q guests) e h
+
+pub hosts_none : (site : Site) (o : Option Caller) (guests : List Guest) → o ≡ None → Hosts site o guests → guests ≡ []
+hosts_none site o guests e h = subst (λ q. Hosts site q guests) e h
+
+-- the one session is there, or another
+here_is : (guests : List Guest) (g : Guest) (session : ℕ) (t : Bool) → guests ≡ g ∷ [] → nat_eq g.number session ≡ t → is_here session guests ≡ t
+here_is guests g session true e is = ap (is_here session) e ∙ ap (λ b. b || false) is
+here_is guests g session false e is = ap (is_here session) e ∙ ap (λ b. b || false) is
+
+pub guest_is : (guests : List Guest) (g : Guest) (session : ℕ) → guests ≡ g ∷ [] → nat_eq g.number session ≡ true → guest_of session guests ≡ Some g
+guest_is guests g session e is = ap (guest_of session) e ∙ ap (λ (b : Bool). if b then Some g else None) is
+
+pub guest_none : (guests : List Guest) (g : Guest) (session : ℕ) → guests ≡ g ∷ [] → nat_eq g.number session ≡ false → guest_of session guests ≡ None
+guest_none guests g session e is = ap (guest_of session) e ∙ ap (λ (b : Bool). if b then Some g else None) is
+
+-- one is there that has another number
+pub full_at : (site : Site) (o : Option Caller) (guests : List Guest) (session : ℕ) → true ≡ is_some o → false ≡ is_hosted session o → Hosts site o guests → (g : Guest) × (guests ≡ g ∷ []) × (nat_eq g.number session ≡ false)
+full_at site None guests session some other h = absurd (false≢true (sym some))
+full_at site (Some caller) guests session some other h = (h.guest, h.alone, ap (λ n. nat_eq n session) (sym h.keeps.talks.number) ∙ sym other)
+
+-- none is there
+pub empty_at : (site : Site) (o : Option Caller) (guests : List Guest) → false ≡ is_some o → Hosts site o guests → guests ≡ []
+empty_at site None guests none h = h
+empty_at site (Some caller) guests none h = absurd (false≢true none)
+
+-- ---- openings
+
+module _ (site : Site) (m : State) (session : ℕ) (peer : List ℕ) (core : Core) where
+  -- one of a session that is open
+  pub opens_here : (f : Heard) (g : Guest) → m.guests ≡ g ∷ [] → nat_eq g.number session ≡ true → Stands site core m → IsOpened site m session peer f f core
+  opens_here f g alone is stands =
+      let step = cond-true (is_here session m.guests) (still m) _ (here_is m.guests g session true alone is) in record {
+        choices = [];
+        told = subst (λ (s : Step). Gains f.told f.told (heard_of s.acts)) (sym step) (gains_none f.told);
+        stands = subst (λ (s : Step). Stands site core s.state) (sym step) stands;
+      }
+
+  full : (guests : List Guest) (g : Guest) → guests ≡ g ∷ [] → nat_le most_guests (length guests) ≡ true
+  unfolding most_guests
+  full guests g e = ap (λ q. nat_le 1 (length q)) e
+
+  -- one more than may be open
+  pub opens_full : (f now : Heard) (g : Guest) (text : List ℕ) (whole : Bool) → m.guests ≡ g ∷ [] → nat_eq g.number session ≡ false → text ≡ too_many_sessions_text → Gains f.told now.told (heard_of (Sends session text whole ∷ HangsUp session ∷ [])) → Stands site core m
+      → IsOpened site m session peer f now core
+  opens_full f now g text whole alone is text_is told stands =
+      let step = cond-false (is_here session m.guests) _ _ (here_is m.guests g session false alone is) ∙ cond-true (nat_le most_guests (length m.guests)) (turned_away m session (Plain whole ∷ [])) _ (full m.guests g alone) in record {
+        choices = Plain whole ∷ [];
+        told = subst (λ (s : Step). Gains f.told now.told (heard_of s.acts)) (sym step) (subst (λ t. Gains f.told now.told (heard_of (Sends session t whole ∷ HangsUp session ∷ []))) text_is told);
+        stands = subst (λ (s : Step). Stands site core s.state) (sym step) stands;
+      }
+
+  free : (guests : List Guest) → guests ≡ [] → nat_le most_guests (length guests) ≡ false
+  unfolding most_guests
+  free guests e = ap (λ q. nat_le 1 (length q)) e
+
+  -- a new session
+  new_is : (choices : List Choice) → m.guests ≡ [] → opened site m session peer choices ≡ welcomed site m session peer choices
+  new_is choices none = cond-false (is_here session m.guests) (still m) _ (ap (is_here session) none) ∙ cond-false (nat_le most_guests (length m.guests)) (turned_away m session choices) _ (free m.guests none)
+
+  pub opens_new : (f now : Heard) (text : List ℕ) → m.guests ≡ [] → text ≡ greeting_text (shown_host site.host) → Gains f.told now.told (heard_of (Sends session text true ∷ []))
+      → Stands site core (record m { guests = m.guests ++ newcomer session peer ∷ [] }) → IsOpened site m session peer f now core
+  opens_new f now text none text_is told stands =
+      let step = new_is (Plain true ∷ []) none in record {
+        choices = Plain true ∷ [];
+        told = subst (λ (s : Step). Gains f.told now.told (heard_of s.acts)) (sym step) (subst (λ t. Gains f.told now.told (heard_of (Sends session t true ∷ []))) text_is told);
+        stands = subst (λ (s : Step). Stands site core s.state) (sym step) stands;
+      }
+
+  pub opens_unsent : (f now : Heard) (text : List ℕ) → m.guests ≡ [] → text ≡ greeting_text (shown_host site.host) → Gains f.told now.told (heard_of (Sends session text false ∷ HangsUp session ∷ []))
+      → Stands site core m → IsOpened site m session peer f now core
+  opens_unsent f now text none text_is told stands =
+      let step = new_is (Plain false ∷ []) none in record {
+        choices = Plain false ∷ [];
+        told = subst (λ (s : Step). Gains f.told now.told (heard_of s.acts)) (sym step) (subst (λ t. Gains f.told now.told (heard_of (Sends session t false ∷ HangsUp session ∷ []))) text_is told);
+        stands = subst (λ (s : Step). Stands site core s.state) (sym step) stands;
+      }
+
+  pub opens_lacking : (f now : Heard) → m.guests ≡ [] → Gains f.told now.told (heard_of (HangsUp session ∷ [])) → Stands site core m → IsOpened site m session peer f now core
+  opens_lacking f now none told stands =
+      let step = new_is (Drops ∷ []) none in record {
+        choices = Drops ∷ [];
+        told = subst (λ (s : Step). Gains f.told now.told (heard_of s.acts)) (sym step) told;
+        stands = subst (λ (s : Step). Stands site core s.state) (sym step) stands;
+      }
+
+-- ---- pieces
+
+went_well : (fed : Fed) → going.is_well fed ≡ is_well (went_of fed)
+went_well Onward = refl
+went_well Granted = refl
+went_well HungUp = refl
+went_well Faulted = refl
+went_well Spent = refl
+
+went_faulted : (fed : Fed) → went_of fed ≡ Ends SpoolFault → fed ≡ Faulted
+went_faulted Onward e = absurd (cc e)
+went_faulted Granted e = absurd (cc e)
+went_faulted HungUp e = absurd (cc e)
+went_faulted Faulted e = refl
+went_faulted Spent e = absurd (cc e)
+
+went_spent : (fed : Fed) → went_of fed ≡ Ends IdsSpent → fed ≡ Spent
+went_spent Onward e = absurd (cc e)
+went_spent Granted e = absurd (cc e)
+went_spent HungUp e = absurd (cc e)
+went_spent Faulted e = absurd (cc e)
+went_spent Spent e = refl
+
+onward_went : (fed : Fed) → is_onward fed ≡ true → went_of fed ≡ Going
+onward_went Onward on = refl
+onward_went Granted on = refl
+onward_went HungUp on = refl
+onward_went Faulted on = absurd (false≢true on)
+onward_went Spent on = absurd (false≢true on)
+
+onward_way : (fed : Fed) → is_onward fed ≡ true → way_after fed ≡ GoesOn
+onward_way Onward on = refl
+onward_way Granted on = refl
+onward_way HungUp on = absurd (false≢true on)
+onward_way Faulted on = absurd (false≢true on)
+onward_way Spent on = absurd (false≢true on)
+
+left_way : (fed : Fed) → is_onward fed ≡ false → went_of fed ≡ Going → way_after fed ≡ Leaves
+left_way Onward off e = absurd (false≢true (sym off))
+left_way Granted off e = absurd (false≢true (sym off))
+left_way HungUp off e = refl
+left_way Faulted off e = absurd (cc e)
+left_way Spent off e = absurd (cc e)
+
+going_alive : (fed : Fed) → went_of fed ≡ Going → is_alive fed ≡ true
+going_alive Onward e = refl
+going_alive Granted e = refl
+going_alive HungUp e = refl
+going_alive Faulted e = absurd (cc e)
+going_alive Spent e = absurd (cc e)
+
+-- the acts and the table are those of the piece, however it goes on
+brought_acts : (m : State) (way : Way) (d : Did) → (brought m way d).acts ≡ d.acts
+brought_acts m GoesOn d = refl
+brought_acts m Leaves d = refl
+brought_acts m Over d = refl
+
+brought_table : (m : State) (way : Way) (d : Did) → (brought m way d).state.table ≡ d.table
+brought_table m GoesOn d = refl
+brought_table m Leaves d = refl
+brought_table m Over d = refl
+
+-- taken out, the one session leaves none
+pub without_one : (number : ℕ) (guests : List Guest) (g : Guest) → guests ≡ g ∷ [] → nat_eq g.number number ≡ true → without number guests ≡ []
+without_one number guests g e is = ap (without number) e ∙ ap (λ (b : Bool). if not b then g ∷ [] else []) is
+
+put_one : (guests : List Guest) (g now : Guest) → guests ≡ g ∷ [] → nat_eq g.number now.number ≡ true → with_guest now guests ≡ now ∷ []
+put_one guests g now e is = ap (with_guest now) e ∙ ap (λ (b : Bool). (if b then now else g) ∷ []) is
+
+module _ (site : Site) (m : State) (session : ℕ) (piece : List ℕ) (core : Core) where
+  -- one of a session that isn't open
+  pub piece_dropped : (f : Heard) (s : Spooled) (k : ClockSeen) → guest_of session m.guests ≡ None → Stands site core m → Steps site (λ choices. pieced site m piece choices (guest_of session m.guests)) m.table (seen f s k) (seen f s k) core Going
+  piece_dropped f s k none stands =
+      let step = ap (λ o. pieced site m piece [] o) none in record {
+        choices = [];
+        ran = subst (λ (q : Step). Ran (dirs_of site) m.table (seen f s k) (seen f s k) q.acts true) (sym step) (ran_none (dirs_of site) m.table f s k);
+        stands = λ e. subst (λ (q : Step). Stands site core q.state) (sym step) stands;
+        cause = λ e. cc e;
+        spent = λ e. cc e;
+      }
+
+module _ (site : Site) (m : State) (session : ℕ) (piece : List ℕ) (a b : Seen) (core : Core) where
+  module _ (g : Guest) (intake : Intake) (caller : Caller) (fed : Fed) (is : guest_of session m.guests ≡ Some g) (alone : m.guests ≡ g ∷ []) (h : Feeds site m.latest m.table g piece a b intake caller fed) where
+    abbrev did : Did
+    did = all_answered site m.latest m.table (with_bytes g piece) h.choices
+
+    step_is : pieced site m piece h.choices (guest_of session m.guests) ≡ brought m (way_after fed) did
+    step_is = ap (λ o. pieced site m piece h.choices o) is ∙ ap (λ w. brought m w did) h.way
+
+    same_number : nat_eq g.number did.guest.number ≡ true
+    same_number = eq-eqb g.number did.guest.number (sym h.number)
+
+    pub piece_steps : ((went_of fed ≡ Going) → Stands site core (brought m (way_after fed) did).state) → Steps site (λ choices. pieced site m piece choices (guest_of session m.guests)) m.table a b core (went_of fed)
+    piece_steps stands = record {
+      choices = h.choices;
+      ran = subst (λ (q : Step). Ran (dirs_of site) m.table a b q.acts (is_well (went_of fed))) (sym step_is)
+          (subst (λ w. Ran (dirs_of site) m.table a b (brought m (way_after fed) did).acts w) (went_well fed)
+          (subst (λ acts. Ran (dirs_of site) m.table a b acts (going.is_well fed)) (sym (brought_acts m (way_after fed) did)) h.ran));
+      stands = λ e. subst (λ (q : Step). Stands site core q.state) (sym step_is) (stands e);
+      cause = λ e. h.cause (went_faulted fed e);
+      spent = λ e. ap (λ (q : Step). is_spent q.state.table) step_is ∙ ap is_spent (brought_table m (way_after fed) did) ∙ h.spent (went_spent fed e);
+    }
+
+    -- the session goes on
+    pub piece_goes : (other : Core) → is_onward fed ≡ true → Stands site other (record m { guests = [] }) → core ≡ record other { intake = intake; caller = Some caller } → intake.moment ≡ m.latest
+        → Steps site (λ choices. pieced site m piece choices (guest_of session m.guests)) m.table a b core Going
+    piece_goes other on old core_is moment =
+        subst (Steps site (λ choices. pieced site m piece choices (guest_of session m.guests)) m.table a b core) (onward_went fed on)
+        (piece_steps (λ e.
+        subst (λ w. Stands site core (brought m w did).state) (sym (onward_way fed on))
+        (subst (λ c. Stands site c (record m { table = did.table; guests = with_guest did.guest m.guests })) (sym core_is) (record {
+          intake = h.serves (onward_alive fed on);
+          host = old.host;
+          full = old.full;
+          latest = moment;
+          callers = record { guest = did.guest; alone = put_one m.guests g did.guest alone same_number; keeps = h.keeps on };
+          on = old.on;
+        }))))
+
+    -- the session is over, or the run
+    pub piece_leaves : (other : Core) → is_onward fed ≡ false → Stands site other (record m { guests = [] }) → core ≡ record other { intake = intake } → intake.moment ≡ m.latest
+        → Steps site (λ choices. pieced site m piece choices (guest_of session m.guests)) m.table a b core (went_of fed)
+    piece_leaves other off old core_is moment = piece_steps (λ e.
+        subst (λ w. Stands site core (brought m w did).state) (sym (left_way fed off e))
+        (subst (λ c. Stands site c (record m { table = did.table; guests = without did.guest.number m.guests })) (sym core_is) (record {
+          intake = h.serves (going_alive fed e);
+          host = old.host;
+          full = old.full;
+          latest = moment;
+          callers = subst (Hosts site other.caller) (sym (without_one did.guest.number m.guests g alone same_number)) old.callers;
+          on = old.on;
+        })))
+
+-- ---- what a turn asks for
+
+-- acts of the floor alone
+abbrev IsQuiet : Step → Type 0
+IsQuiet s = (commands_of s.acts ≡ []) × (readings_of s.acts ≡ [])
+
+quiet_if : (b : Bool) (x y : Step) → IsQuiet x → IsQuiet y → IsQuiet (if b then x else y)
+quiet_if true x y h k = h
+quiet_if false x y h k = k
+
+away_quiet : (m : State) (session : ℕ) (choices : List Choice) → IsQuiet (turned_away m session choices)
+away_quiet m session [] = (refl, refl)
+away_quiet m session (Plain true ∷ choices) = (refl, refl)
+away_quiet m session (Plain false ∷ choices) = (refl, refl)
+away_quiet m session (Short accepted whole ∷ choices) = (refl, refl)
+away_quiet m session (Drops ∷ choices) = (refl, refl)
+away_quiet m session (Fails ∷ choices) = (refl, refl)
+
+welcomed_quiet : (site : Site) (m : State) (session : ℕ) (peer : List ℕ) (choices : List Choice) → IsQuiet (welcomed site m session peer choices)
+welcomed_quiet site m session peer [] = (refl, refl)
+welcomed_quiet site m session peer (Plain true ∷ choices) = (refl, refl)
+welcomed_quiet site m session peer (Plain false ∷ choices) = (refl, refl)
+welcomed_quiet site m session peer (Short accepted whole ∷ choices) = (refl, refl)
+welcomed_quiet site m session peer (Drops ∷ choices) = (refl, refl)
+welcomed_quiet site m session peer (Fails ∷ choices) = (refl, refl)
+
+opened_quiet : (site : Site) (m : State) (session : ℕ) (peer : List ℕ) (choices : List Choice) → IsQuiet (opened site m session peer choices)
+opened_quiet site m session peer choices =
+    quiet_if (is_here session m.guests) (still m) _ (refl, refl)
+    (quiet_if (nat_le most_guests (length m.guests)) (turned_away m session choices) (welcomed site m session peer choices) (away_quiet m session choices) (welcomed_quiet site m session peer choices))
+
+-- an opening
+pub opened_steps : (site : Site) (m : State) (session : ℕ) (peer : List ℕ) (f now : Heard) (s : Spooled) (k : ClockSeen) (core : Core) → IsOpened site m session peer f now core → now.faults ≡ f.faults → Steps site (opened site m session peer) m.table (seen f s k) (seen now s k) core Going
+opened_steps site m session peer f now s k core h own =
+    let step = opened site m session peer h.choices in
+    let quiet = opened_quiet site m session peer h.choices in record {
+      choices = h.choices;
+      ran = ran_floor (dirs_of site) m.table f now s k step.acts quiet.0 quiet.1 h.told own;
+      stands = λ e. h.stands;
+      cause = λ e. cc e;
+      spent = λ e. cc e;
+    }
+
+-- nothing is asked of the devices
+pub quiet_steps : (site : Site) (gives : List Choice → Step) (table : Table) (f : Heard) (s : Spooled) (k : ClockSeen) (core : Core) (went : Went) → (gives []).acts ≡ [] → is_well went ≡ true → (went ≡ Going → Stands site core (gives []).state) → went ≢ Ends SpoolFault → went ≢ Ends IdsSpent
+    → Steps site gives table (seen f s k) (seen f s k) core went
+quiet_steps site gives table f s k core went none well stands whole some = record {
+  choices = [];
+  ran = subst (λ acts. Ran (dirs_of site) table (seen f s k) (seen f s k) acts (is_well went)) (sym none) (subst (Ran (dirs_of site) table (seen f s k) (seen f s k) []) (sym well) (ran_none (dirs_of site) table f s k));
+  stands = stands;
+  cause = λ e. absurd (whole e);
+  spent = λ e. absurd (some e);
+}
+
+here_by : (t : Bool) (g h : Guest) → (if t then Some g else None) ≡ Some h → t ≡ true
+here_by true g h e = refl
+here_by false g h e = absurd (cc e)
+
+away_by : (t : Bool) (g : Guest) → (if t then Some g else None) ≡ None → t ≡ false
+away_by true g e = absurd (cc e)
+away_by false g e = refl
+
+-- a session that isn't there leaves none
+stays_all : (site : Site) (o : Option Caller) (guests : List Guest) (session : ℕ) → Hosts site o guests → guest_of session guests ≡ None → without session guests ≡ guests
+stays_all site None guests session h none = ap (without session) h ∙ sym h
+stays_all site (Some caller) guests session h none =
+    let off = away_by (nat_eq h.guest.number session) h.guest (sym (ap (guest_of session) h.alone) ∙ none) in
+    ap (without session) h.alone ∙ ap (λ (b : Bool). if not b then h.guest ∷ [] else []) off ∙ sym h.alone
+
+-- a session that was taken out is gone
+pub closed_stands : (site : Site) (m : State) (session : ℕ) (o : Option Caller) (core : Core) → IsTakenUp site m session o core → Stands site core (record m { guests = without session m.guests })
+closed_stands site m session None core h = subst (λ q. Stands site core (record m { guests = q })) (sym (stays_all site core.caller m.guests session h.1.callers h.0)) h.1
+closed_stands site m session (Some caller) core h =
+    let here = here_by (nat_eq h.guest.number session) h.guest h.guest (sym (ap (guest_of session) h.alone) ∙ h.is) in
+    subst (λ q. Stands site core (record m { guests = q })) (sym (without_one session m.guests h.guest h.alone here)) h.stands
+
+-- ---- a whole event
+
+-- the clock was read
+pub at_stands : (site : Site) (m : State) (core : Core) (intake : Intake) (reading : ℕ) → Stands site core m → intake ≡ record core.intake { moment = moment_by core.intake.moment reading } → intake.moment < 2 ^ 64 → Stands site (record core { intake = intake }) (at_moment m reading)
+at_stands site m core intake reading st is range = record {
+  intake = record {
+    store = subst (λ (i : Intake). Stores site i.store m.table) (sym is) st.intake.store;
+    dir = ap (λ (i : Intake). i.dir) is ∙ st.intake.dir;
+    short = ap (λ (i : Intake). i.short) is ∙ st.intake.short;
+    range = range;
+  };
+  host = st.host;
+  full = st.full;
+  latest = ap (λ (i : Intake). i.moment) is ∙ ap (λ n. moment_by n reading) st.latest;
+  callers = st.callers;
+  on = st.on;
+}
+
+pub turns_of : (site : Site) (m : State) (event : Event) (reading : ℕ) (before f : Heard) (s : Spooled) (clock read : ClockSeen) (b : Seen) (core : Core) (went : Went) → m.over ≡ false → IsTaken before f clock read event reading
+    → Steps site (handled site (at_moment m reading) event) m.table (seen f s read) b core went → (went ≡ Ends Stopped → event ≡ Stops) → Turns site m event reading (seen before s clock) b core went
+turns_of site m event reading before f s clock read b core went on taken_is h stopped =
+    let turn : Turn = record { event = event; reading = reading; choices = h.choices } in
+    let inner = handled site (at_moment m reading) event h.choices in
+    let is : stepped site m turn ≡ taken turn inner = cond-false m.over (still m) (taken turn inner) on in record {
+      choices = h.choices;
+      ran = subst (λ (q : Step). Ran (dirs_of site) m.table (seen before s clock) b q.acts (is_well went)) (sym is)
+          (ran_join (dirs_of site) m.table (seen before s clock) (seen f s read) b (Takes event reading ∷ []) inner.acts (is_well went)
+          (ran_quiet (dirs_of site) m.table before f s clock read (Takes event reading ∷ []) refl taken_is.told taken_is.faults taken_is.clock_told taken_is.readings) h.ran);
+      stands = λ e. subst (λ (q : Step). Stands site core q.state) (sym is) (h.stands e);
+      stopped = stopped;
+      cause = h.cause;
+      spent = λ e. ap (λ (q : Step). is_spent q.state.table) is ∙ h.spent e;
+    }

@@ -1,0 +1,220 @@
+-- What is done for a line joins, and single sends are done.
+use Rattle.std.proofs.Common.{◌≡◌, ◌⊎◌, inl, inr, ⊎_elim, ℕ, ◌≤◌, List, [], ◌∷◌, ◌++◌, Bool, true, false, refl, sym, ◌∙◌, ap, subst, arith, append_assoc}
+use Rattle.std.specs.Prelude.{◌≢◌, if◌then◌else◌}
+use Rattle.std.proofs.lemmas.List.{append-nil}
+use Rattle.std.proofs.lemmas.Bool.{cond-true, cond-false, false≢true}
+use Rattle.mail_base.specs.Histories.{Gains, Rose}
+use Rattle.mail_edge.specs.Seen.{ClockSeen}
+use Rattle.link_edge.specs.Heard.{Heard}
+use Rattle.smtp_lines.specs.declared.line.Line.{Line}
+use Rattle.smtp_receive.specs.declared.received.Received.{Received}
+use Rattle.smtp_receive.specs.Dialogue.{Gives}
+use Rattle.smtp_receive.specs.Replies.{stored_text, out_of_memory_text}
+use Rattle.spool_disk.specs.Spooled.{Spooled}
+use Rattle.spool_store.specs.Moves.{Moves}
+use Rattle.spool_store.specs.Standing.{IsClean, IsEither}
+use Rattle.spool_store.specs.Tables.{Table, after, applied}
+use Rattle.mail_core.specs.declared.fed.Fed.{Fed}
+use Rattle.mail_core.specs.declared.fed.Fed.TheVariants.{GoesOn as Onward, Granted, HungUp, Faulted, Spent}
+use Rattle.mail_core.specs.declared.serving.Site.{Site}
+use Rattle.mail_core.specs.Acts.{Act, Commits, Sends, HangsUp, heard_of, readings_of, commands_of, speech}
+use Rattle.mail_core.specs.Going.{Does, way_after, is_well, is_onward, is_granted}
+use Rattle.mail_core.specs.Guests.{with_line}
+use Rattle.mail_core.specs.Machine.{Choice, Plain, Short, Drops, Fails, Way, GoesOn, Leaves, Over, Did, way_of, does, says, closes, is_over, commits, accepts, heard_line}
+use Rattle.mail_core.specs.Messages.{accept_of, is_spent}
+use Rattle.mail_core.specs.Seen.{Seen, seen, table_after, Ran}
+use Rattle.mail_core.specs.Standing.{dirs_of}
+use Rattle.mail_core.proofs.RanLemmas.{table_more, ran_join, ran_none, ran_floor, ran_done, ran_failed}
+
+-- ---- speech asks nothing of table and clock
+
+pub speech_quiet : (s : ℕ) (text : List ℕ) (whole : Bool) → commands_of (speech s text whole) ≡ []
+speech_quiet s text true = refl
+speech_quiet s text false = refl
+
+pub speech_unread : (s : ℕ) (text : List ℕ) (whole : Bool) → readings_of (speech s text whole) ≡ []
+speech_unread s text true = refl
+speech_unread s text false = refl
+
+-- ---- how it went, after a send
+
+-- it went as a send does
+abbrev pub IsSpoken : Fed → Type 0
+IsSpoken fed = way_of (is_onward fed) ≡ way_after fed
+
+pub spoken_of : (fed other : Fed) → IsSpoken other → (fed ≡ other) ⊎ (fed ≡ HungUp) → IsSpoken fed
+spoken_of fed other h (inl e) = subst IsSpoken (sym e) h
+spoken_of fed other h (inr e) = subst IsSpoken (sym e) refl
+
+pub spoken_well : (fed : Fed) → IsSpoken fed → is_well fed ≡ true
+spoken_well Onward h = refl
+spoken_well Granted h = refl
+spoken_well HungUp h = refl
+spoken_well Faulted h = absurd (cc h)
+spoken_well Spent h = refl
+
+pub spoken_no_fault : (fed : Fed) → IsSpoken fed → fed ≢ Faulted
+spoken_no_fault Onward h = λ e. cc e
+spoken_no_fault Granted h = λ e. cc e
+spoken_no_fault HungUp h = λ e. cc e
+spoken_no_fault Faulted h = absurd (cc h)
+spoken_no_fault Spent h = λ e. cc e
+
+pub spoken_not_spent : (fed : Fed) → IsSpoken fed → fed ≢ Spent
+spoken_not_spent Onward h = λ e. cc e
+spoken_not_spent Granted h = λ e. cc e
+spoken_not_spent HungUp h = λ e. cc e
+spoken_not_spent Faulted h = λ e. cc e
+spoken_not_spent Spent h = absurd (cc h)
+
+-- it was no grant
+pub ungranted : (fed : Fed) → (fed ≡ Onward) ⊎ (fed ≡ HungUp) → is_granted fed ≡ false
+ungranted fed (inl e) = ap is_granted e
+ungranted fed (inr e) = ap is_granted e
+
+-- it was one, where the session goes on
+pub granted_on : (fed : Fed) → (fed ≡ Granted) ⊎ (fed ≡ HungUp) → is_onward fed ≡ true → is_granted fed ≡ true
+granted_on fed (inl e) on = ap is_granted e
+granted_on fed (inr e) on = absurd (false≢true (sym (ap is_onward e) ∙ on))
+
+-- ---- joins
+
+pub does_join : (site : Site) (d e x : Did) (a b c : Seen) (fed : Fed) → Does site d e a b Onward → Does site e x b c fed → Does site d x a c fed
+does_join site d e x a b c fed h k = record {
+  more = h.more ++ k.more;
+  acts = k.acts ∙ ap (λ q. q ++ k.more) h.acts ∙ append_assoc d.acts h.more k.more;
+  table = k.table ∙ ap (λ t. table_after t k.more) h.table ∙ sym (table_more d.table h.more k.more);
+  number = k.number ∙ h.number;
+  ran = ran_join (dirs_of site) d.table a b c h.more k.more (is_well fed) h.ran (subst (λ t. Ran (dirs_of site) t b c k.more (is_well fed)) h.table k.ran);
+  way = k.way;
+  cause = λ f. let r = k.cause f in omega (arith, r, h.ran.spool_faults);
+  spent = k.spent;
+}
+
+-- ---- single steps, where nothing is done by the spool
+
+module _ (site : Site) (d : Did) (f g : Heard) (s : Spooled) (k : ClockSeen) where
+  -- a text was said
+  pub does_says : (text : List ℕ) (fed : Fed) → IsSpoken fed → Gains f.told g.told (heard_of (speech d.guest.number text (is_onward fed))) → g.faults ≡ f.faults
+      → Does site d (says d text (is_onward fed)) (seen f s k) (seen g s k) fed
+  does_says text fed spoken told own =
+      let whole = is_onward fed in
+      let acts = speech d.guest.number text whole in record {
+        more = acts;
+        acts = refl;
+        table = sym (ap (applied d.table) (speech_quiet d.guest.number text whole));
+        number = refl;
+        ran = subst (Ran (dirs_of site) d.table (seen f s k) (seen g s k) acts) (sym (spoken_well fed spoken))
+            (ran_floor (dirs_of site) d.table f g s k acts (speech_quiet d.guest.number text whole) (speech_unread d.guest.number text whole) told own);
+        way = spoken;
+        cause = λ e. absurd (spoken_no_fault fed spoken e);
+        spent = λ e. absurd (spoken_not_spent fed spoken e);
+      }
+
+  -- the last text was said
+  pub does_closes : (text : List ℕ) (whole : Bool) → Gains f.told g.told (heard_of (Sends d.guest.number text whole ∷ HangsUp d.guest.number ∷ [])) → g.faults ≡ f.faults
+      → Does site d (closes d text whole) (seen f s k) (seen g s k) HungUp
+  does_closes text whole told own = record {
+    more = Sends d.guest.number text whole ∷ HangsUp d.guest.number ∷ [];
+    acts = refl;
+    table = refl;
+    number = refl;
+    ran = ran_floor (dirs_of site) d.table f g s k (Sends d.guest.number text whole ∷ HangsUp d.guest.number ∷ []) refl refl told own;
+    way = refl;
+    cause = λ e. cc e;
+    spent = λ e. cc e;
+  }
+
+  -- the session was hung up
+  pub does_drops : Gains f.told g.told (heard_of (HangsUp d.guest.number ∷ [])) → g.faults ≡ f.faults
+      → Does site d (does d (HangsUp d.guest.number ∷ []) Leaves) (seen f s k) (seen g s k) HungUp
+  does_drops told own = record {
+    more = HangsUp d.guest.number ∷ [];
+    acts = refl;
+    table = refl;
+    number = refl;
+    ran = ran_floor (dirs_of site) d.table f g s k (HangsUp d.guest.number ∷ []) refl refl told own;
+    way = refl;
+    cause = λ e. cc e;
+    spent = λ e. cc e;
+  }
+
+module _ (site : Site) (d : Did) (f : Heard) (s : Spooled) (k : ClockSeen) where
+  -- nothing was done
+  pub does_none : (e : Did) → e.acts ≡ d.acts → e.table ≡ d.table → e.guest.number ≡ d.guest.number → e.way ≡ GoesOn → Does site d e (seen f s k) (seen f s k) Onward
+  does_none e acts table number way = record {
+    more = [];
+    acts = acts ∙ sym (append-nil d.acts);
+    table = table;
+    number = number;
+    ran = ran_none (dirs_of site) d.table f s k;
+    way = way;
+    cause = λ x. cc x;
+    spent = λ x. cc x;
+  }
+
+  -- no id is left
+  pub does_spent : is_spent d.table ≡ true → Does site d (is_over d) (seen f s k) (seen f s k) Spent
+  does_spent spent = record {
+    more = [];
+    acts = refl;
+    table = refl;
+    number = refl;
+    ran = ran_none (dirs_of site) d.table f s k;
+    way = refl;
+    cause = λ x. cc x;
+    spent = λ x. spent;
+  }
+
+-- ---- messages
+
+module _ (site : Site) (moment : ℕ) (d : Did) (message : Received) (f : Heard) (s t : Spooled) (k : ClockSeen) where
+  -- a message was taken in
+  pub does_commits : d.way ≡ GoesOn → Moves s t (IsClean (dirs_of site) d.table) (IsClean (dirs_of site) (after d.table (accept_of site moment message))) (IsEither (dirs_of site) d.table (accept_of site moment message)) → s.faults ≤ t.faults
+      → Does site d (commits site moment d message) (seen f s k) (seen f t k) Onward
+  does_commits way moves later = record {
+    more = Commits (accept_of site moment message) ∷ [];
+    acts = refl;
+    table = refl;
+    number = refl;
+    ran = ran_done (dirs_of site) d.table (accept_of site moment message) f s t k moves later;
+    way = way;
+    cause = λ x. cc x;
+    spent = λ x. cc x;
+  }
+
+  -- the spool failed at a message
+  pub does_failed : Moves s t (IsClean (dirs_of site) d.table) (IsEither (dirs_of site) d.table (accept_of site moment message)) (IsEither (dirs_of site) d.table (accept_of site moment message)) → s.faults ≤ t.faults → Rose s.faults t.faults
+      → Does site d (does (commits site moment d message) [] Over) (seen f s k) (seen f t k) Faulted
+  does_failed moves later rose = record {
+    more = Commits (accept_of site moment message) ∷ [];
+    acts = append-nil (d.acts ++ Commits (accept_of site moment message) ∷ []);
+    table = refl;
+    number = refl;
+    ran = ran_failed (dirs_of site) d.table (accept_of site moment message) f s t k moves later;
+    way = refl;
+    cause = λ x. rose;
+    spent = λ x. cc x;
+  }
+
+-- a message was taken in, and a text said
+pub does_accepts : (site : Site) (moment : ℕ) (d : Did) (message : Received) (f g : Heard) (s t : Spooled) (k : ClockSeen) (text : List ℕ) (fed : Fed) → d.way ≡ GoesOn → is_spent d.table ≡ false
+    → Moves s t (IsClean (dirs_of site) d.table) (IsClean (dirs_of site) (after d.table (accept_of site moment message))) (IsEither (dirs_of site) d.table (accept_of site moment message)) → s.faults ≤ t.faults
+    → IsSpoken fed → Gains f.told g.told (heard_of (speech d.guest.number text (is_onward fed))) → g.faults ≡ f.faults
+    → Does site d (accepts site moment d message text (is_onward fed)) (seen f s k) (seen g t k) fed
+does_accepts site moment d message f g s t k text fed way left moves later spoken told own =
+    subst (λ e. Does site d e (seen f s k) (seen g t k) fed) (sym (cond-false (is_spent d.table) _ _ left))
+    (does_join site d (commits site moment d message) (says (commits site moment d message) text (is_onward fed)) (seen f s k) (seen f t k) (seen g t k) fed
+    (does_commits site moment d message f s t k way moves later)
+    (does_says site (commits site moment d message) f g t k text fed spoken told own))
+
+-- the line was heard besides
+pub does_heard : (site : Site) (d e : Did) (a b : Seen) (fed : Fed) (line : Line) (short : Bool) → Does site d e a b fed → Does site d (heard_line e line short) a b fed
+does_heard site d e a b fed line short h = record { more = h.more; acts = h.acts; table = h.table; number = h.number; ran = h.ran; way = h.way; cause = h.cause; spent = h.spent }
+
+accepts_case : (b : Bool) (d x : Did) → x.guest ≡ d.guest → (if b then is_over d else x).guest ≡ d.guest
+accepts_case true d x e = refl
+accepts_case false d x e = e
+
+pub accepts_guest : (site : Site) (moment : ℕ) (d : Did) (message : Received) (text : List ℕ) (whole : Bool) → (accepts site moment d message text whole).guest ≡ d.guest
+accepts_guest site moment d message text whole = accepts_case (is_spent d.table) d (says (commits site moment d message) text whole) refl

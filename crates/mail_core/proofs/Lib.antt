@@ -1,0 +1,11 @@
+pub mod RanLemmas
+pub mod MachineLemmas
+pub mod RunLemmas
+pub mod SpeechLemmas
+pub mod AnswerLemmas
+pub mod CoreLemmas
+pub mod FormLemmas
+pub mod GoingLemmas
+pub mod LineLemmas
+pub mod MessageLemmas
+pub mod FeedLemmas

@@ -1,0 +1,376 @@
+-- Each step of the machine does acts that lead from its table to the next, and says the final 250 of entries alone.
+use Rattle.std.proofs.Common.{◌≡◌, ℕ, ◌≤◌, List, [], ◌∷◌, ◌++◌, Bool, true, false, Option, Some, None, refl, sym, ◌∙◌, ap, subst, append_assoc}
+use Rattle.std.specs.Prelude.{if◌then◌else◌, nat_le, length, fold}
+use Rattle.std.proofs.lemmas.List.{append-nil}
+use Rattle.std.proofs.lemmas.List.Elements.{Contains-push, Contains-append_left}
+use Rattle.std.proofs.lemmas.Bool.{ltb-false}
+use Rattle.link_edge.specs.declared.event.Event.{Event}
+use Rattle.link_edge.specs.declared.event.Event.TheVariants.{Opens, Brings, Closes, Rests, Stops}
+use Rattle.smtp_lines.specs.declared.line.Line.{Line}
+use Rattle.smtp_receive.specs.declared.received.Received.{Received}
+use Rattle.smtp_receive.specs.declared.received.Did.{Did as Replied}
+use Rattle.smtp_receive.specs.declared.received.Did.TheVariants.{Reply, Granted, Message, Taken, Bye}
+use Rattle.smtp_receive.specs.Dialogue.{Answer, Says, Greets, Closes as Ends, Gives, Takes as Passes, Lacks, did_of}
+use Rattle.smtp_receive.specs.Finals.{IsFinal, text_told}
+use Rattle.smtp_receive.specs.Replies.{text_of, hello_text, closing_text, greeting_text, stored_text, shown_host, out_of_memory_text, too_many_sessions_text}
+use Rattle.smtp_receive.specs.Sessions.{answer_of}
+use Rattle.smtp_receive.proofs.ToldLemmas.{said_text, said_grant, no_bye, no_taken, no_message}
+use Rattle.smtp_receive.proofs.FinalLemmas.{told_final, hello_final, closing_final, greeting_final, memory_final, sessions_final, same_id}
+use Rattle.spool_store.specs.Tables.{Stored, Table, Command, stored, after, applied}
+use Rattle.spool_store.specs.Tables.Command.{Accept}
+use Rattle.mail_core.specs.declared.serving.Site.{Site}
+use Rattle.mail_core.specs.Acts.{Act, Takes, Commits, Sends, HangsUp, speech}
+use Rattle.mail_core.specs.Guests.{Guest, guest_of, is_here, next_line, with_bytes}
+use Rattle.mail_core.specs.Machine.{Choice, Plain, Short, Drops, Fails, Way, GoesOn, Leaves, Over, Did, way_of, does, says, closes, is_over, commits, accepts, replies, lacks, fails, heard_line, by_choice, goes_on, answered, settled_by, settled, fresh_start, all_answered, State, Step, still, most_guests, turned_away, welcomed, opened, brought, pieced, handled, Turn, at_moment, taken, stepped, followed, run}
+use Rattle.mail_core.specs.Messages.{accept_of, draft_of, is_spent, last_id}
+use Rattle.mail_core.specs.Runs.{HasEntry, IsAcked, AreAcked}
+use Rattle.mail_core.specs.Seen.{table_after}
+use Rattle.mail_core.proofs.RanLemmas.{table_more}
+
+-- ---- what acts are
+
+-- a new entry lies in the site's directory
+abbrev IsPlaced : Site → Command → Type 0
+IsPlaced site (Accept draft body) = draft.dir ≡ site.dir
+
+-- a command is of the site
+abbrev IsOurs : Site → Act → Type 0
+IsOurs site (Takes event reading) = Unit {0}
+IsOurs site (Commits command) = IsPlaced site command
+IsOurs site (Sends session text whole) = Unit {0}
+IsOurs site (HangsUp session) = Unit {0}
+
+abbrev pub AreOurs : Site → List Act → Type 0
+AreOurs site [] = Unit {0}
+AreOurs site (act ∷ acts) = IsOurs site act × AreOurs site acts
+
+-- acts that lead from a table to another
+pub record Leads (site : Site) (old new : Table) (acts : List Act) : Type 0 where
+  pub table : new ≡ table_after old acts
+  pub acked : AreAcked old acts
+  pub ours : AreOurs site acts
+
+-- what was done has grown
+pub record Grows (site : Site) (d e : Did) : Type 0 where
+  pub more : List Act
+  pub acts : e.acts ≡ d.acts ++ more
+  pub leads : Leads site d.table e.table more
+  pub number : e.guest.number ≡ d.guest.number
+
+-- ---- acts join
+
+pub acked_join : (table : Table) (xs ys : List Act) → AreAcked table xs → AreAcked (table_after table xs) ys → AreAcked table (xs ++ ys)
+acked_join table [] ys h k = k
+acked_join table (x ∷ xs) ys h k = (h.0, acked_join (table_after table (x ∷ [])) xs ys h.1 (subst (λ t. AreAcked t ys) (table_more table (x ∷ []) xs) k))
+
+pub acked_front : (table : Table) (xs ys : List Act) → AreAcked table (xs ++ ys) → AreAcked table xs
+acked_front table [] ys h = tt
+acked_front table (x ∷ xs) ys h = (h.0, acked_front (table_after table (x ∷ [])) xs ys h.1)
+
+pub ours_join : (site : Site) (xs ys : List Act) → AreOurs site xs → AreOurs site ys → AreOurs site (xs ++ ys)
+ours_join site [] ys h k = k
+ours_join site (x ∷ xs) ys h k = (h.0, ours_join site xs ys h.1 k)
+
+pub ours_front : (site : Site) (xs ys : List Act) → AreOurs site (xs ++ ys) → AreOurs site xs
+ours_front site [] ys h = tt
+ours_front site (x ∷ xs) ys h = (h.0, ours_front site xs ys h.1)
+
+pub ours_back : (site : Site) (xs ys : List Act) → AreOurs site (xs ++ ys) → AreOurs site ys
+ours_back site [] ys h = h
+ours_back site (x ∷ xs) ys h = ours_back site xs ys h.1
+
+pub leads_none : (site : Site) (table : Table) → Leads site table table []
+leads_none site table = record { table = refl; acked = tt; ours = tt }
+
+pub leads_join : (site : Site) (one two three : Table) (xs ys : List Act) → Leads site one two xs → Leads site two three ys → Leads site one three (xs ++ ys)
+leads_join site one two three xs ys h k = record {
+  table = k.table ∙ ap (λ t. table_after t ys) h.table ∙ sym (table_more one xs ys);
+  acked = acked_join one xs ys h.acked (subst (λ t. AreAcked t ys) h.table k.acked);
+  ours = ours_join site xs ys h.ours k.ours;
+}
+
+-- ---- an entry stays
+
+pub entry_stays : (id : ℕ) (table : Table) (commands : List Command) → HasEntry table id → HasEntry (applied table commands) id
+entry_stays id table [] h = h
+entry_stays id table (Accept draft body ∷ commands) h = entry_stays id (after table (Accept draft body)) commands (record {
+  stored = h.stored;
+  among = Contains-append_left table.entries (stored table.next draft body ∷ []) h.stored h.among;
+  id_is = h.id_is;
+})
+
+-- ---- texts
+
+-- a text that isn't final asks for no entry
+unlike_final : (table : Table) (session : ℕ) (text : List ℕ) (whole : Bool) → (IsFinal text → ⊥) → IsAcked table (Sends session text whole)
+unlike_final table session text whole not_final = λ id within is. absurd (not_final (id, is))
+
+-- the words of a reply aren't final
+abbrev AreWords : Answer → Type 0
+AreWords (Says reply) = IsFinal (text_of reply) → ⊥
+AreWords Greets = Unit {0}
+AreWords Ends = Unit {0}
+AreWords (Gives message) = Unit {0}
+AreWords Passes = Unit {0}
+AreWords Lacks = Unit {0}
+
+words : (did : Replied) (answer : Answer) → did ≡ did_of [] answer → AreWords answer
+words (Reply text) (Says reply) e = let t = said_text reply text e in told_final [] (Says reply) (text_of reply) (ap text_told (sym e) ∙ ap (λ q. Some q) t.0)
+words (Granted text) (Says reply) e = let t = said_grant reply text e in told_final [] (Says reply) (text_of reply) (ap text_told (sym e) ∙ ap (λ q. Some q) t.0)
+words (Message message) (Says reply) e = absurd (no_message reply message e)
+words Taken (Says reply) e = absurd (no_taken reply e)
+words (Bye text) (Says reply) e = absurd (no_bye reply text e)
+words did Greets e = tt
+words did Ends e = tt
+words did (Gives message) e = tt
+words did Passes e = tt
+words did Lacks e = tt
+
+unspent : (table : Table) → is_spent table ≡ false → table.next ≤ 999_999_999_999
+unfolding last_id
+unspent table e = ltb-false last_id table.next e
+
+-- the final 250 of the next id, where it is taken
+entry_of : (site : Site) (moment : ℕ) (table : Table) (message : Received) (session : ℕ) (whole : Bool) → is_spent table ≡ false → IsAcked (after table (accept_of site moment message)) (Sends session (stored_text table.next) whole)
+entry_of site moment table message session whole left = λ id within is.
+    let s : Stored = stored table.next (draft_of site moment message) message.body in record {
+      stored = s;
+      among = Contains-push table.entries s;
+      id_is = same_id table.next id (unspent table left) within is;
+    }
+
+-- ---- single acts
+
+speech_leads : (site : Site) (table : Table) (session : ℕ) (text : List ℕ) (whole : Bool) → ((w : Bool) → IsAcked table (Sends session text w)) → Leads site table table (speech session text whole)
+speech_leads site table session text true acked = record { table = refl; acked = (acked true, tt); ours = (tt, tt) }
+speech_leads site table session text false acked = record { table = refl; acked = (acked false, (tt, tt)); ours = (tt, (tt, tt)) }
+
+last_leads : (site : Site) (table : Table) (session : ℕ) (text : List ℕ) (whole : Bool) → IsAcked table (Sends session text whole) → Leads site table table (Sends session text whole ∷ HangsUp session ∷ [])
+last_leads site table session text whole acked = record { table = refl; acked = (acked, (tt, tt)); ours = (tt, (tt, tt)) }
+
+hang_leads : (site : Site) (table : Table) (session : ℕ) → Leads site table table (HangsUp session ∷ [])
+hang_leads site table session = record { table = refl; acked = (tt, tt); ours = (tt, tt) }
+
+-- ---- what is done for a session
+
+grows_none : (site : Site) (d : Did) → Grows site d d
+grows_none site d = record { more = []; acts = sym (append-nil d.acts); leads = leads_none site d.table; number = refl }
+
+grows_join : (site : Site) (d e x : Did) → Grows site d e → Grows site e x → Grows site d x
+grows_join site d e x h k = record {
+  more = h.more ++ k.more;
+  acts = k.acts ∙ ap (λ q. q ++ k.more) h.acts ∙ append_assoc d.acts h.more k.more;
+  leads = leads_join site d.table e.table x.table h.more k.more h.leads k.leads;
+  number = k.number ∙ h.number;
+}
+
+does_grows : (site : Site) (d : Did) (acts : List Act) (way : Way) → Leads site d.table d.table acts → Grows site d (does d acts way)
+does_grows site d acts way leads = record { more = acts; acts = refl; leads = leads; number = refl }
+
+says_grows : (site : Site) (d : Did) (text : List ℕ) (whole : Bool) → ((w : Bool) → IsAcked d.table (Sends d.guest.number text w)) → Grows site d (says d text whole)
+says_grows site d text whole acked = does_grows site d (speech d.guest.number text whole) (way_of whole) (speech_leads site d.table d.guest.number text whole acked)
+
+-- the same of a text that isn't final
+tells_grows : (site : Site) (d : Did) (text : List ℕ) (whole : Bool) → (IsFinal text → ⊥) → Grows site d (says d text whole)
+tells_grows site d text whole not_final = says_grows site d text whole (λ w. unlike_final d.table d.guest.number text w not_final)
+
+closes_grows : (site : Site) (d : Did) (text : List ℕ) (whole : Bool) → (IsFinal text → ⊥) → Grows site d (closes d text whole)
+closes_grows site d text whole not_final = does_grows site d (Sends d.guest.number text whole ∷ HangsUp d.guest.number ∷ []) Leaves
+    (last_leads site d.table d.guest.number text whole (unlike_final d.table d.guest.number text whole not_final))
+
+over_grows : (site : Site) (d : Did) → Grows site d (is_over d)
+over_grows site d = does_grows site d [] Over (leads_none site d.table)
+
+drops_grows : (site : Site) (d : Did) → Grows site d (does d (HangsUp d.guest.number ∷ []) Leaves)
+drops_grows site d = does_grows site d (HangsUp d.guest.number ∷ []) Leaves (hang_leads site d.table d.guest.number)
+
+commits_grows : (site : Site) (moment : ℕ) (d : Did) (message : Received) → Grows site d (commits site moment d message)
+commits_grows site moment d message = record {
+  more = Commits (accept_of site moment message) ∷ [];
+  acts = refl;
+  leads = record { table = refl; acked = (tt, tt); ours = (refl, tt) };
+  number = refl;
+}
+
+accepts_by : (site : Site) (moment : ℕ) (d : Did) (message : Received) (text : List ℕ) (whole spent : Bool) → is_spent d.table ≡ spent
+    → (is_spent d.table ≡ false → (w : Bool) → IsAcked (after d.table (accept_of site moment message)) (Sends d.guest.number text w))
+    → Grows site d (if spent then is_over d else says (commits site moment d message) text whole)
+accepts_by site moment d message text whole true e acked = over_grows site d
+accepts_by site moment d message text whole false e acked =
+    let c = commits site moment d message in
+    grows_join site d c (says c text whole) (commits_grows site moment d message) (says_grows site c text whole (acked e))
+
+-- a message is accepted, and its id told
+stores_grows : (site : Site) (moment : ℕ) (d : Did) (message : Received) (whole : Bool) → Grows site d (accepts site moment d message (stored_text d.table.next) whole)
+stores_grows site moment d message whole = accepts_by site moment d message (stored_text d.table.next) whole (is_spent d.table) refl (λ left w. entry_of site moment d.table message d.guest.number w left)
+
+-- a message is accepted, and 452 4.3.1 said
+lacking_grows : (site : Site) (moment : ℕ) (d : Did) (message : Received) (whole : Bool) → Grows site d (accepts site moment d message out_of_memory_text whole)
+lacking_grows site moment d message whole = accepts_by site moment d message out_of_memory_text whole (is_spent d.table) refl
+    (λ left w. unlike_final (after d.table (accept_of site moment message)) d.guest.number out_of_memory_text w memory_final)
+
+replies_grows : (site : Site) (moment : ℕ) (d : Did) (answer : Answer) (whole : Bool) → Grows site d (replies site moment d answer whole)
+replies_grows site moment d (Says reply) whole = tells_grows site d (text_of reply) whole (words (did_of [] (Says reply)) (Says reply) refl)
+replies_grows site moment d Greets whole = tells_grows site d (hello_text (shown_host site.host)) whole (hello_final (shown_host site.host))
+replies_grows site moment d Ends whole = closes_grows site d (closing_text (shown_host site.host)) whole (closing_final (shown_host site.host))
+replies_grows site moment d (Gives message) whole = stores_grows site moment d message whole
+replies_grows site moment d Passes whole = grows_none site d
+replies_grows site moment d Lacks whole = grows_none site d
+
+lack_grows : (site : Site) (d : Did) (whole : Bool) → Grows site d (says d out_of_memory_text whole)
+lack_grows site d whole = tells_grows site d out_of_memory_text whole memory_final
+
+lacks_grows : (site : Site) (moment : ℕ) (d : Did) (answer : Answer) (accepted whole : Bool) → Grows site d (lacks site moment d answer accepted whole)
+lacks_grows site moment d (Gives message) true whole = lacking_grows site moment d message whole
+lacks_grows site moment d (Gives message) false whole = lack_grows site d whole
+lacks_grows site moment d (Says reply) accepted whole = lack_grows site d whole
+lacks_grows site moment d Greets accepted whole = lack_grows site d whole
+lacks_grows site moment d Ends accepted whole = lack_grows site d whole
+lacks_grows site moment d Passes accepted whole = lack_grows site d whole
+lacks_grows site moment d Lacks accepted whole = lack_grows site d whole
+
+fails_grows : (site : Site) (moment : ℕ) (d : Did) (answer : Answer) → Grows site d (fails site moment d answer)
+fails_grows site moment d (Gives message) =
+    let c = commits site moment d message in
+    grows_join site d c (does c [] Over) (commits_grows site moment d message) (over_grows site c)
+fails_grows site moment d (Says reply) = over_grows site d
+fails_grows site moment d Greets = over_grows site d
+fails_grows site moment d Ends = over_grows site d
+fails_grows site moment d Passes = over_grows site d
+fails_grows site moment d Lacks = over_grows site d
+
+line_grows : (site : Site) (d e : Did) (line : Line) (short : Bool) → Grows site d e → Grows site d (heard_line e line short)
+line_grows site d e line short h = record { more = h.more; acts = h.acts; leads = h.leads; number = h.number }
+
+drop_grows : (site : Site) (d : Did) (fresh : Bool) → Grows site d (if fresh then does d (HangsUp d.guest.number ∷ []) Leaves else is_over d)
+drop_grows site d true = drops_grows site d
+drop_grows site d false = over_grows site d
+
+choice_grows : (site : Site) (moment : ℕ) (d : Did) (choice : Choice) (line : Option Line) → Grows site d (by_choice site moment d choice line)
+choice_grows site moment d (Plain whole) (Some line) =
+    let answer = answer_of d.guest.peer d.guest.heard line in
+    line_grows site d (replies site moment d answer whole) line false (replies_grows site moment d answer whole)
+choice_grows site moment d (Short accepted whole) (Some line) =
+    let answer = answer_of d.guest.peer d.guest.heard line in
+    line_grows site d (lacks site moment d answer accepted whole) line true (lacks_grows site moment d answer accepted whole)
+choice_grows site moment d Fails (Some line) =
+    let answer = answer_of d.guest.peer d.guest.heard line in
+    line_grows site d (fails site moment d answer) line false (fails_grows site moment d answer)
+choice_grows site moment d Drops (Some line) = drop_grows site d d.fresh
+choice_grows site moment d Drops None = drop_grows site d d.fresh
+choice_grows site moment d (Plain whole) None = over_grows site d
+choice_grows site moment d (Short accepted whole) None = over_grows site d
+choice_grows site moment d Fails None = over_grows site d
+
+goes_grows : (site : Site) (way : Way) (d e : Did) → Grows site d e → Grows site d (goes_on way d e)
+goes_grows site GoesOn d e h = h
+goes_grows site Leaves d e h = grows_none site d
+goes_grows site Over d e h = grows_none site d
+
+answered_grows : (site : Site) (moment : ℕ) (d : Did) (choice : Choice) → Grows site d (answered site moment d choice)
+answered_grows site moment d choice = goes_grows site d.way d (by_choice site moment d choice (next_line d.guest)) (choice_grows site moment d choice (next_line d.guest))
+
+fold_grows : (site : Site) (moment : ℕ) (d : Did) (choices : List Choice) → Grows site d (fold (answered site moment) d choices)
+fold_grows site moment d [] = grows_none site d
+fold_grows site moment d (choice ∷ choices) =
+    let e = answered site moment d choice in
+    grows_join site d e (fold (answered site moment) e choices) (answered_grows site moment d choice) (fold_grows site moment e choices)
+
+settled_grows : (site : Site) (way : Way) (line : Option Line) (d : Did) → Grows site d (settled_by way line d)
+settled_grows site GoesOn (Some line) d = over_grows site d
+settled_grows site GoesOn None d = grows_none site d
+settled_grows site Leaves line d = grows_none site d
+settled_grows site Over line d = grows_none site d
+
+all_grows : (site : Site) (moment : ℕ) (table : Table) (guest : Guest) (choices : List Choice) → Grows site (fresh_start table guest) (all_answered site moment table guest choices)
+all_grows site moment table guest choices =
+    let d = fresh_start table guest in
+    let e = fold (answered site moment) d choices in
+    grows_join site d e (settled e) (fold_grows site moment d choices) (settled_grows site e.way (next_line e.guest) e)
+
+all_leads : (site : Site) (moment : ℕ) (table : Table) (guest : Guest) (choices : List Choice) → Leads site table (all_answered site moment table guest choices).table (all_answered site moment table guest choices).acts
+all_leads site moment table guest choices =
+    let h = all_grows site moment table guest choices in
+    subst (Leads site table (all_answered site moment table guest choices).table) (sym h.acts) h.leads
+
+-- ---- events
+
+abbrev Steps : Site → Table → Step → Type 0
+Steps site table step = Leads site table step.state.table step.acts
+
+either_steps : (site : Site) (table : Table) (b : Bool) (one other : Step) → Steps site table one → Steps site table other → Steps site table (if b then one else other)
+either_steps site table true one other h k = h
+either_steps site table false one other h k = k
+
+still_steps : (site : Site) (m : State) → Steps site m.table (still m)
+still_steps site m = leads_none site m.table
+
+away_steps : (site : Site) (m : State) (session : ℕ) (choices : List Choice) → Steps site m.table (turned_away m session choices)
+away_steps site m session [] = leads_none site m.table
+away_steps site m session (Plain whole ∷ choices) = last_leads site m.table session too_many_sessions_text whole (unlike_final m.table session too_many_sessions_text whole sessions_final)
+away_steps site m session (Short accepted whole ∷ choices) = hang_leads site m.table session
+away_steps site m session (Drops ∷ choices) = hang_leads site m.table session
+away_steps site m session (Fails ∷ choices) = hang_leads site m.table session
+
+greeted : (site : Site) (table : Table) (session : ℕ) (whole : Bool) → IsAcked table (Sends session (greeting_text (shown_host site.host)) whole)
+greeted site table session whole = unlike_final table session (greeting_text (shown_host site.host)) whole (greeting_final (shown_host site.host))
+
+welcome_steps : (site : Site) (m : State) (session : ℕ) (peer : List ℕ) (choices : List Choice) → Steps site m.table (welcomed site m session peer choices)
+welcome_steps site m session peer [] = leads_none site m.table
+welcome_steps site m session peer (Plain true ∷ choices) = speech_leads site m.table session (greeting_text (shown_host site.host)) true (greeted site m.table session)
+welcome_steps site m session peer (Plain false ∷ choices) = speech_leads site m.table session (greeting_text (shown_host site.host)) false (greeted site m.table session)
+welcome_steps site m session peer (Short accepted whole ∷ choices) = hang_leads site m.table session
+welcome_steps site m session peer (Drops ∷ choices) = hang_leads site m.table session
+welcome_steps site m session peer (Fails ∷ choices) = hang_leads site m.table session
+
+opened_steps : (site : Site) (m : State) (session : ℕ) (peer : List ℕ) (choices : List Choice) → Steps site m.table (opened site m session peer choices)
+opened_steps site m session peer choices =
+    let crowd = if nat_le most_guests (length m.guests) then turned_away m session choices else welcomed site m session peer choices in
+    either_steps site m.table (is_here session m.guests) (still m) crowd (still_steps site m)
+    (either_steps site m.table (nat_le most_guests (length m.guests)) (turned_away m session choices) (welcomed site m session peer choices) (away_steps site m session choices) (welcome_steps site m session peer choices))
+
+brought_steps : (site : Site) (m : State) (way : Way) (d : Did) → Leads site m.table d.table d.acts → Steps site m.table (brought m way d)
+brought_steps site m GoesOn d h = h
+brought_steps site m Leaves d h = h
+brought_steps site m Over d h = h
+
+pieced_steps : (site : Site) (m : State) (bytes : List ℕ) (choices : List Choice) (guest : Option Guest) → Steps site m.table (pieced site m bytes choices guest)
+pieced_steps site m bytes choices None = still_steps site m
+pieced_steps site m bytes choices (Some guest) =
+    let d = all_answered site m.latest m.table (with_bytes guest bytes) choices in
+    brought_steps site m d.way d (all_leads site m.latest m.table (with_bytes guest bytes) choices)
+
+handled_steps : (site : Site) (m : State) (event : Event) (choices : List Choice) → Steps site m.table (handled site m event choices)
+handled_steps site m (Opens session peer) choices = opened_steps site m session peer choices
+handled_steps site m (Brings session bytes) choices = pieced_steps site m bytes choices (guest_of session m.guests)
+handled_steps site m (Closes session) choices = leads_none site m.table
+handled_steps site m Rests choices = leads_none site m.table
+handled_steps site m Stops choices = leads_none site m.table
+
+taken_steps : (site : Site) (table : Table) (turn : Turn) (step : Step) → Steps site table step → Steps site table (taken turn step)
+taken_steps site table turn step h = record { table = h.table; acked = (tt, h.acked); ours = (tt, h.ours) }
+
+-- the acts of a step lead to its table
+pub stepped_leads : (site : Site) (m : State) (turn : Turn) → Leads site m.table (stepped site m turn).state.table (stepped site m turn).acts
+stepped_leads site m turn =
+    let step = handled site (at_moment m turn.reading) turn.event turn.choices in
+    either_steps site m.table m.over (still m) (taken turn step) (still_steps site m)
+    (taken_steps site m.table turn step (handled_steps site (at_moment m turn.reading) turn.event turn.choices))
+
+-- the acts of a run lead to its table
+pub run_leads : (site : Site) (m : State) (turns : List Turn) → Leads site m.table (run site m turns).state.table (run site m turns).acts
+run_leads site m [] = leads_none site m.table
+run_leads site m (turn ∷ turns) =
+    let now = stepped site m turn in
+    let later = run site now.state turns in
+    leads_join site m.table now.state.table later.state.table now.acts later.acts (stepped_leads site m turn) (run_leads site now.state turns)
+
+-- a run and one turn more
+pub run_more : (site : Site) (m : State) (turns : List Turn) (turn : Turn) → run site m (turns ++ turn ∷ []) ≡ followed (run site m turns) (stepped site (run site m turns).state turn)
+run_more site m [] turn = ap (λ q. record { state = (stepped site m turn).state; acts = q }) (append-nil (stepped site m turn).acts)
+run_more site m (first ∷ turns) turn =
+    let now = stepped site m first in
+    let later = run site now.state turns in
+    let last = stepped site later.state turn in
+    ap (λ (q : Step). followed now q) (run_more site now.state turns turn)
+    ∙ ap (λ q. record { state = last.state; acts = q }) (sym (append_assoc now.acts later.acts last.acts))

@@ -1,0 +1,24 @@
+use Rattle.std.proofs.Common.{◌≡◌, ◌++◌, true, take}
+use Rattle.mail_edge.specs.Seen.{ClockSeen}
+use Rattle.smtp_lines.specs.Reader.{OnlyLastAsks, StandsFirst}
+use Rattle.mail_core.specs.declared.serving.Site.{Site}
+use Rattle.mail_core.specs.Going.{AnswersLines, is_onward}
+use Rattle.mail_core.specs.Guests.{lines_of}
+use Rattle.mail_core.specs.Machine.{Did, GoesOn}
+use Rattle.mail_core.specs.Seen.{IsSoundAt, seen}
+use Rattle.mail_core.specs.Standing.{IsReady, Serves, Talks, lines_heard}
+use Rattle.mail_core.proofs.intake.Intake.answer_all.Given as goal
+
+-- the lines so far were answered, and the session goes on
+abbrev pub invariant-loop-line : goal.invariant-loop-line
+invariant-loop-line g l = record {
+  answers : (site : Site) (d : Did) (clock : ClockSeen) → d.way ≡ GoesOn → Serves site l.fn.self d.table → Talks site l.fn.caller d.guest → OnlyLastAsks l.lines → StandsFirst (lines_heard d.guest ++ l.lines) (lines_of d.guest)
+      → AnswersLines site l.fn.self.moment d (take l.line-index l.lines)
+      (seen (g.F.Floor.seen l.fn.floor) (g.D.Spool.seen l.fn.spool) clock) (seen (g.F.Floor.seen l.floor) (g.D.Spool.seen l.spool) clock) l.self l.caller l.last;
+  onward : is_onward l.last ≡ true;
+  ready : IsReady l.self l.caller;
+  moment : l.self.moment ≡ l.fn.self.moment;
+  number : l.caller.number ≡ l.fn.caller.number;
+  reader : l.caller.lines ≡ l.fn.caller.lines;
+  sound : IsSoundAt (g.F.Floor.seen l.floor) l.fn.caller.number;
+}

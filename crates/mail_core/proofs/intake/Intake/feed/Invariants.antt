@@ -1,0 +1,26 @@
+use Rattle.std.proofs.Common.{◌≡◌, ◌+◌, true, false, cond, [], length}
+use Rattle.mail_edge.specs.Seen.{ClockSeen}
+use Rattle.smtp_lines.specs.Reader.{asked_after}
+use Rattle.spool_store.specs.Tables.{Table}
+use Rattle.mail_core.specs.declared.serving.Site.{Site}
+use Rattle.mail_core.specs.Guests.{Guest}
+use Rattle.mail_core.specs.Seen.{IsSoundAt, seen}
+use Rattle.mail_core.specs.Standing.{IsReady, Keeps, Serves}
+use Rattle.mail_core.proofs.FeedLemmas.{Pends}
+use Rattle.mail_core.proofs.intake.Intake.feed.Given as goal
+
+-- the piece has come to these lines, which are to be answered
+abbrev pub invariant-answers : goal.invariant-answers
+invariant-answers g l = record {
+  pends : (site : Site) (table : Table) (guest : Guest) (clock : ClockSeen) → Serves site l.fn.self table → Keeps site l.fn.caller guest
+      → Pends site l.fn.self.moment table guest l.fn.piece
+      (seen (g.F.Floor.seen l.fn.floor) (g.D.Spool.seen l.fn.spool) clock) (seen (g.F.Floor.seen l.floor) (g.D.Spool.seen l.spool) clock) l.self l.caller l.lines;
+  turns : asked_after false l.lines ≡ true → l.caller.lines.under.may_turn ≡ true;
+  all : asked_after false l.lines ≡ false → l.caller.lines.left ≡ [];
+  ready : IsReady l.self l.caller;
+  moment : l.self.moment ≡ l.fn.self.moment;
+  sound : IsSoundAt (g.F.Floor.seen l.floor) l.caller.number;
+}
+
+abbrev pub decreases-answers : goal.decreases-answers
+decreases-answers g l = length l.caller.lines.left + cond (asked_after false l.lines) 1 0

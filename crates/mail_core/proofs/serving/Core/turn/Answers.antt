@@ -1,0 +1,17 @@
+use Rattle.std.proofs.Common.{refl}
+use Rattle.mail_core.specs.Machine.{at_moment}
+use Rattle.mail_core.proofs.CoreLemmas.{at_stands, turns_of}
+use Rattle.mail_core.proofs.serving.Core.turn.Goals as goal
+
+pub handle-requires-clause-standing : goal.handle-requires-clause-standing
+handle-requires-clause-standing g c =
+    let r = c.requires.standing in
+    record { site = r.site; state = at_moment r.state c.args.reading; stands = at_stands r.site r.state c.args.self.now c.at.new.self c.args.reading r.stands c.at.ensures.moment c.at.ensures.range }
+
+pub returns : goal.returns
+returns g c = record {
+  turns = λ site m before clock read st taken.
+      turns_of site m _ c.args.reading before _ _ clock read _ _ _ st.on taken
+      (c.handle.ensures.steps site (at_moment m c.args.reading) read (at_stands site m c.args.self.now c.at.new.self c.args.reading st c.at.ensures.moment c.at.ensures.range))
+      c.handle.ensures.stopped;
+}

@@ -1,0 +1,50 @@
+-- What the machine does, in order, and what of it the devices tell (own).
+use Rattle.std.specs.Prelude.{ℕ, List, [], ◌∷◌, Bool, true, false}
+use Rattle.std.specs.List.{flat_map}
+use Rattle.link_edge.specs.declared.event.Event.{Event}
+use Rattle.link_edge.specs.declared.event.FloorEvent.{FloorEvent}
+use Rattle.link_edge.specs.declared.event.FloorEvent.TheVariants.{Took, HungUp}
+use Rattle.link_edge.specs.Sessions.{send_event}
+use Rattle.spool_store.specs.Tables.{Command}
+
+-- a turn of the floor was taken and the clock read; a command was asked of the table; a text was sent to a session, whole or not; a session was hung up
+pub data Act : Type 0 where
+  Takes : (event : Event) (reading : ℕ) → Act
+  Commits : (command : Command) → Act
+  Sends : (session : ℕ) (text : List ℕ) (whole : Bool) → Act
+  HangsUp : (session : ℕ) → Act
+
+-- what a floor tells of an act
+abbrev pub heard : Act → List FloorEvent
+heard (Takes event reading) = Took event ∷ []
+heard (Commits command) = []
+heard (Sends session text whole) = send_event session text whole ∷ []
+heard (HangsUp session) = HungUp session ∷ []
+
+-- the readings that a clock tells of it
+abbrev pub read : Act → List ℕ
+read (Takes event reading) = reading ∷ []
+read (Commits command) = []
+read (Sends session text whole) = []
+read (HangsUp session) = []
+
+-- the command that it asks
+abbrev pub commanded : Act → List Command
+commanded (Takes event reading) = []
+commanded (Commits command) = command ∷ []
+commanded (Sends session text whole) = []
+commanded (HangsUp session) = []
+
+abbrev pub heard_of : List Act → List FloorEvent
+heard_of acts = flat_map heard acts
+
+abbrev pub readings_of : List Act → List ℕ
+readings_of acts = flat_map read acts
+
+abbrev pub commands_of : List Act → List Command
+commands_of acts = flat_map commanded acts
+
+-- a text is sent to a session, which is hung up where that fails
+abbrev pub speech : ℕ → List ℕ → Bool → List Act
+speech session text true = Sends session text true ∷ []
+speech session text false = Sends session text false ∷ HangsUp session ∷ []

@@ -1,0 +1,105 @@
+-- What an event comes to (own).
+use Rattle.std.specs.Prelude.{◌≡◌, ℕ, ◌+◌, ◌≤◌, List, [], ◌∷◌, take, Option, None, Some, IfSome, Bool, true, false}
+use Rattle.mail_base.specs.Histories.{Gains, Rose}
+use Rattle.mail_edge.specs.Seen.{ClockSeen}
+use Rattle.link_edge.specs.Heard.{Heard}
+use Rattle.link_edge.specs.Sessions.{Follows}
+use Rattle.link_edge.specs.declared.event.Event.{Event}
+use Rattle.link_edge.specs.declared.event.Event.TheVariants.{Opens, Brings, Closes, Rests, Stops}
+use Rattle.link_edge.specs.declared.event.FloorEvent.TheVariants.{Took}
+use Rattle.link_edge.specs.declared.turn.Turn.{Turn}
+use Rattle.link_edge.specs.declared.turn.Turn.TheVariants.{Opened, Piece, Closed, Idle, Stop}
+use Rattle.mail_core.specs.declared.serving.Core.{Core}
+use Rattle.mail_core.specs.declared.serving.Ending.TheVariants.{Stopped, SpoolFault, IdsSpent}
+use Rattle.mail_core.specs.declared.serving.Went.{Went}
+use Rattle.mail_core.specs.declared.serving.Went.TheVariants.{GoesOn, Ends}
+use Rattle.mail_core.specs.declared.serving.Site.{Site}
+use Rattle.mail_core.specs.declared.caller.Caller.{Caller}
+use Rattle.mail_core.specs.declared.fed.Fed.{Fed}
+use Rattle.mail_core.specs.declared.fed.Fed.TheVariants.{GoesOn as Onward, Granted, HungUp, Faulted, Spent}
+use Rattle.spool_store.specs.Tables.{Table}
+use Rattle.mail_core.specs.Acts.{heard_of}
+use Rattle.mail_core.specs.Guests.{Guest, guest_of}
+use Rattle.mail_core.specs.Messages.{is_spent}
+use Rattle.mail_core.specs.Machine.{Choice, State, Step, stepped, opened}
+use Rattle.mail_core.specs.Seen.{Seen, Ran, IsSoundAt}
+use Rattle.mail_core.specs.Standing.{dirs_of, Keeps, Stands}
+
+-- the event of a turn, with its bytes
+abbrev pub event_of : Turn → List ℕ → Event
+event_of (Opened session count) buf = Opens session (take count buf)
+event_of (Piece session count) buf = Brings session (take count buf)
+event_of (Closed session) buf = Closes session
+event_of Idle buf = Rests
+event_of Stop buf = Stops
+
+-- a turn of the floor was taken, with its event, and then the clock was read
+pub record IsTaken (before now : Heard) (clock read : ClockSeen) (event : Event) (reading : ℕ) : Type 0 where
+  pub told : Gains before.told now.told (Took event ∷ [])
+  pub follows : IfSome before.told (λ history. Follows history (Took event))
+  pub faults : before.faults ≤ now.faults
+  pub clock_told : Gains clock.told read.told (reading ∷ [])
+  pub readings : read.readings ≡ clock.readings + 1
+
+-- how it went for the run, by how it went for a session
+abbrev pub went_of : Fed → Went
+went_of Onward = GoesOn
+went_of Granted = GoesOn
+went_of HungUp = GoesOn
+went_of Faulted = Ends SpoolFault
+went_of Spent = Ends IdsSpent
+
+-- the spool didn't fail
+abbrev pub is_well : Went → Bool
+is_well GoesOn = true
+is_well (Ends Stopped) = true
+is_well (Ends SpoolFault) = false
+is_well (Ends IdsSpent) = true
+
+-- the step of the machine at an event, by some choices
+abbrev pub step_of : Site → State → Event → ℕ → List Choice → Step
+step_of site m event reading choices = stepped site m (record { event = event; reading = reading; choices = choices })
+
+-- by some choices, the machine's step is what happened from a to b, and the core stands for its state where the run goes on
+pub record Turns (site : Site) (m : State) (event : Event) (reading : ℕ) (a b : Seen) (core : Core) (went : Went) : Type 0 where
+  pub choices : List Choice
+  pub ran : Ran (dirs_of site) m.table a b (step_of site m event reading choices).acts (is_well went)
+  pub stands : went ≡ GoesOn → Stands site core (step_of site m event reading choices).state
+  pub stopped : went ≡ Ends Stopped → event ≡ Stops
+  pub cause : went ≡ Ends SpoolFault → Rose a.spool.faults b.spool.faults
+  pub spent : went ≡ Ends IdsSpent → is_spent (step_of site m event reading choices).state.table ≡ true
+
+-- the session of an opening or a piece is open, where the floor tells
+abbrev pub IsHeardAt : Heard → Turn → Type 0
+IsHeardAt floor (Opened session count) = IsSoundAt floor session
+IsHeardAt floor (Piece session count) = IsSoundAt floor session
+IsHeardAt floor (Closed session) = Unit {0}
+IsHeardAt floor Idle = Unit {0}
+IsHeardAt floor Stop = Unit {0}
+
+-- the session was there, and the core stands for the state without it
+pub record IsTakenOut (site : Site) (m : State) (session : ℕ) (caller : Caller) (core : Core) : Type 0 where
+  pub guest : Guest
+  pub alone : m.guests ≡ guest ∷ []
+  pub is : guest_of session m.guests ≡ Some guest
+  pub keeps : Keeps site caller guest
+  pub stands : Stands site core (record m { guests = [] })
+
+-- the same of what is done beside the turn itself
+pub record Steps (site : Site) (gives : List Choice → Step) (table : Table) (a b : Seen) (core : Core) (went : Went) : Type 0 where
+  pub choices : List Choice
+  pub ran : Ran (dirs_of site) table a b (gives choices).acts (is_well went)
+  pub stands : went ≡ GoesOn → Stands site core (gives choices).state
+  pub cause : went ≡ Ends SpoolFault → Rose a.spool.faults b.spool.faults
+  pub spent : went ≡ Ends IdsSpent → is_spent (gives choices).state.table ≡ true
+
+-- what is done at an opening, by some choices
+pub record IsOpened (site : Site) (m : State) (session : ℕ) (peer : List ℕ) (before now : Heard) (core : Core) : Type 0 where
+  pub choices : List Choice
+  pub told : Gains before.told now.told (heard_of (opened site m session peer choices).acts)
+  pub stands : Stands site core (opened site m session peer choices).state
+
+-- the session of that number was taken out, if it is there
+abbrev pub IsTakenUp : Site → State → ℕ → Option Caller → Core → Type 0
+IsTakenUp site m session None core = (guest_of session m.guests ≡ None) × Stands site core m
+IsTakenUp site m session (Some caller) core = IsTakenOut site m session caller core

@@ -1,0 +1,59 @@
+-- The open sessions: all bytes that each has sent, and its lines so far (RFC 5321 sections 2.3.8 and 3.3).
+use Rattle.std.specs.Prelude.{ℕ, nat_eq, List, [], ◌∷◌, ◌++◌, length, map, filter, slice_get, Option, Some, None, Bool, not, if◌then◌else◌}
+use Rattle.std.specs.List.{flat_map, find, list_any}
+use Rattle.smtp_lines.specs.declared.line.Line.{Line}
+use Rattle.smtp_lines.specs.Stream.{asks, reading_of}
+use Rattle.smtp_receive.specs.Dialogue.{Heard, Exchange, dialogue, is_grant}
+
+-- an open session: its number, the peer's address, all bytes that were received, and the lines that were answered, each with whether 452 4.3.1 came to it
+pub record Guest : Type 0 where
+  pub number : ℕ
+  pub peer : List ℕ
+  pub received : List ℕ
+  pub heard : List Heard
+
+-- a session of which nothing has come
+abbrev pub newcomer : ℕ → List ℕ → Guest
+newcomer number peer = record { number = number; peer = peer; received = []; heard = [] }
+
+-- whether a line that asks for a message got the 354
+abbrev pub grant_in : Exchange → List Bool
+grant_in e = if asks e.line then is_grant e.answer ∷ [] else []
+
+-- the grants of the lines that asked, by the dialogue so far
+abbrev pub grants_of : Guest → List Bool
+grants_of g = flat_map grant_in (dialogue g.peer g.heard)
+
+-- the lines of what was received
+abbrev pub lines_of : Guest → List Line
+lines_of g = (reading_of g.received (grants_of g)).lines
+
+-- the first of them that was not answered yet
+abbrev pub next_line : Guest → Option Line
+next_line g = slice_get (lines_of g) (length g.heard)
+
+-- more bytes were received
+abbrev pub with_bytes : Guest → List ℕ → Guest
+with_bytes g bytes = record g { received = g.received ++ bytes }
+
+-- one line more was answered
+abbrev pub with_line : Guest → Line → Bool → Guest
+with_line g line short = record g { heard = g.heard ++ record { line = line; short = short } ∷ [] }
+
+abbrev pub has_number : ℕ → Guest → Bool
+has_number session g = nat_eq g.number session
+
+-- the session of that number
+abbrev pub guest_of : ℕ → List Guest → Option Guest
+guest_of session guests = find (has_number session) guests
+
+abbrev pub is_here : ℕ → List Guest → Bool
+is_here session guests = list_any (has_number session) guests
+
+-- the sessions without that one
+abbrev pub without : ℕ → List Guest → List Guest
+without session guests = filter (λ g. not (has_number session g)) guests
+
+-- the sessions with one that has gone on
+abbrev pub with_guest : Guest → List Guest → List Guest
+with_guest now guests = map (λ g. if has_number now.number g then now else g) guests

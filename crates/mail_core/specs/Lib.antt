@@ -1,0 +1,9 @@
+pub mod Acts
+pub mod Guests
+pub mod Messages
+pub mod Machine
+pub mod Seen
+pub mod Standing
+pub mod Going
+pub mod Events
+pub mod Runs

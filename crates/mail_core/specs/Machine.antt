@@ -1,0 +1,229 @@
+-- The machine: what sessions, table and clock come to at each event. What it can't know are its choices: whether a text could be sent, where memory was wanting, and that the spool failed (own; the replies are those of RFC 5321).
+use Rattle.std.specs.Prelude.{ℕ, nat_le, List, [], ◌∷◌, ◌++◌, length, fold, max, min, Option, Some, None, Bool, true, false, if◌then◌else◌}
+use Rattle.link_edge.specs.declared.event.Event.{Event}
+use Rattle.link_edge.specs.declared.event.Event.TheVariants.{Opens, Brings, Closes, Rests, Stops}
+use Rattle.smtp_lines.specs.declared.line.Line.{Line}
+use Rattle.smtp_lines.specs.Stream.{asks}
+use Rattle.smtp_receive.specs.declared.received.Received.{Received}
+use Rattle.smtp_receive.specs.Dialogue.{Answer, Says, Greets, Closes as Ends, Gives, Takes as Passes, Lacks}
+use Rattle.smtp_receive.specs.Replies.{text_of, hello_text, closing_text, greeting_text, stored_text, shown_host, out_of_memory_text, too_many_sessions_text}
+use Rattle.smtp_receive.specs.Sessions.{answer_of}
+use Rattle.spool_store.specs.Tables.{Table, after}
+use Rattle.mail_core.specs.Acts.{Act, Takes, Commits, Sends, HangsUp, speech}
+use Rattle.mail_core.specs.Guests.{Guest, newcomer, next_line, with_bytes, with_line, guest_of, is_here, without, with_guest}
+use Rattle.mail_core.specs.declared.serving.Site.{Site}
+use Rattle.mail_core.specs.Messages.{accept_of, is_spent}
+
+-- what is left open at an opening or a line: its reply, sent whole or not; 452 4.3.1 in place of it, where a message may have been accepted; the session's end for want of memory; a fault of the spool
+pub data Choice : Type 0 where
+  Plain : (whole : Bool) → Choice
+  Short : (accepted : Bool) (whole : Bool) → Choice
+  Drops : Choice
+  Fails : Choice
+
+-- how a session goes on: it does, it is over, or the whole run is
+pub data Way : Type 0 where
+  GoesOn : Way
+  Leaves : Way
+  Over : Way
+
+-- what an event has come to so far: the table, the session, whether want of memory may end the session here, what was done, and how it goes on
+pub record Did : Type 0 where
+  pub table : Table
+  pub guest : Guest
+  pub fresh : Bool
+  pub acts : List Act
+  pub way : Way
+
+-- a session goes on where all was sent to it
+abbrev pub way_of : Bool → Way
+way_of true = GoesOn
+way_of false = Leaves
+
+-- more is done
+abbrev pub does : Did → List Act → Way → Did
+does d acts way = record d { acts = d.acts ++ acts; way = way }
+
+-- a text is said
+abbrev pub says : Did → List ℕ → Bool → Did
+says d text whole = does d (speech d.guest.number text whole) (way_of whole)
+
+-- the last text is said
+abbrev pub closes : Did → List ℕ → Bool → Did
+closes d text whole = does d (Sends d.guest.number text whole ∷ HangsUp d.guest.number ∷ []) Leaves
+
+-- the run ends here
+abbrev pub is_over : Did → Did
+is_over d = does d [] Over
+
+-- a message is asked of the table
+abbrev pub commits : Site → ℕ → Did → Received → Did
+commits site moment d message = record d { table = after d.table (accept_of site moment message); acts = d.acts ++ Commits (accept_of site moment message) ∷ [] }
+
+-- a message is accepted, and then a text said; where no id is left the run ends
+abbrev pub accepts : Site → ℕ → Did → Received → List ℕ → Bool → Did
+accepts site moment d message text whole = if is_spent d.table then is_over d else says (commits site moment d message) text whole
+
+-- the answer that the dialogue has, sent whole or not
+abbrev pub replies : Site → ℕ → Did → Answer → Bool → Did
+replies site moment d (Says reply) whole = says d (text_of reply) whole
+replies site moment d Greets whole = says d (hello_text (shown_host site.host)) whole
+replies site moment d Ends whole = closes d (closing_text (shown_host site.host)) whole
+replies site moment d (Gives message) whole = accepts site moment d message (stored_text d.table.next) whole
+replies site moment d Passes whole = d
+replies site moment d Lacks whole = d
+
+-- 452 4.3.1 to a line, whose message was accepted or not
+abbrev pub lacks : Site → ℕ → Did → Answer → Bool → Bool → Did
+lacks site moment d (Gives message) true whole = accepts site moment d message out_of_memory_text whole
+lacks site moment d answer accepted whole = says d out_of_memory_text whole
+
+-- the spool fails at a message; nothing else is asked of it
+abbrev pub fails : Site → ℕ → Did → Answer → Did
+fails site moment d (Gives message) = does (commits site moment d message) [] Over
+fails site moment d answer = is_over d
+
+-- the line was answered, and the next may be one that want of memory keeps from being read
+abbrev pub heard_line : Did → Line → Bool → Did
+heard_line d line short = record d { guest = with_line d.guest line short; fresh = asks line }
+
+-- a line is answered by a choice. Want of memory for a piece, or for what follows a line that asks, drops it whole and ends the session
+abbrev pub by_choice : Site → ℕ → Did → Choice → Option Line → Did
+by_choice site moment d (Plain whole) (Some line) = heard_line (replies site moment d (answer_of d.guest.peer d.guest.heard line) whole) line false
+by_choice site moment d (Short accepted whole) (Some line) = heard_line (lacks site moment d (answer_of d.guest.peer d.guest.heard line) accepted whole) line true
+by_choice site moment d Fails (Some line) = heard_line (fails site moment d (answer_of d.guest.peer d.guest.heard line)) line false
+by_choice site moment d Drops line = if d.fresh then does d (HangsUp d.guest.number ∷ []) Leaves else is_over d
+by_choice site moment d (Plain whole) None = is_over d
+by_choice site moment d (Short accepted whole) None = is_over d
+by_choice site moment d Fails None = is_over d
+
+-- the next line is answered where the session still goes on
+abbrev pub goes_on : Way → Did → Did → Did
+goes_on GoesOn d next = next
+goes_on Leaves d next = d
+goes_on Over d next = d
+
+abbrev pub answered : Site → ℕ → Did → Choice → Did
+answered site moment d choice = goes_on d.way d (by_choice site moment d choice (next_line d.guest))
+
+-- a session goes on only where no line is left: a choice that is missing cuts the run there
+abbrev pub settled_by : Way → Option Line → Did → Did
+settled_by GoesOn (Some line) d = is_over d
+settled_by GoesOn None d = d
+settled_by Leaves line d = d
+settled_by Over line d = d
+
+abbrev pub settled : Did → Did
+settled d = settled_by d.way (next_line d.guest) d
+
+-- nothing was done yet
+abbrev pub fresh_start : Table → Guest → Did
+fresh_start table guest = record { table = table; guest = guest; fresh = true; acts = []; way = GoesOn }
+
+-- the lines that a piece completes, by a choice each
+abbrev pub all_answered : Site → ℕ → Table → Guest → List Choice → Did
+all_answered site moment table guest choices = settled (fold (answered site moment) (fresh_start table guest) choices)
+
+-- the table, the open sessions, the greatest reading of the clock so far, and whether the run is over
+pub record State : Type 0 where
+  pub table : Table
+  pub guests : List Guest
+  pub latest : ℕ
+  pub over : Bool
+
+-- a state, and what was done to come to it
+pub record Step : Type 0 where
+  pub state : State
+  pub acts : List Act
+
+abbrev pub still : State → Step
+still m = record { state = m; acts = [] }
+
+-- a choice is missing: the run is cut here
+abbrev pub cut : State → Step
+cut m = record { state = record m { over = true }; acts = [] }
+
+-- the most sessions that are open at once
+unfoldable pub most_guests : ℕ
+most_guests = 1
+
+-- a session more than may be open gets 421 and is hung up
+abbrev pub turned_away : State → ℕ → List Choice → Step
+turned_away m session [] = cut m
+turned_away m session (Plain whole ∷ choices) = record { state = m; acts = Sends session too_many_sessions_text whole ∷ HangsUp session ∷ [] }
+turned_away m session (Short accepted whole ∷ choices) = record { state = m; acts = HangsUp session ∷ [] }
+turned_away m session (Drops ∷ choices) = record { state = m; acts = HangsUp session ∷ [] }
+turned_away m session (Fails ∷ choices) = record { state = m; acts = HangsUp session ∷ [] }
+
+-- a new session gets the greeting, and is kept where it was sent; want of memory ends it
+abbrev pub welcomed : Site → State → ℕ → List ℕ → List Choice → Step
+welcomed site m session peer [] = cut m
+welcomed site m session peer (Plain true ∷ choices) = record { state = record m { guests = m.guests ++ newcomer session peer ∷ [] }; acts = Sends session (greeting_text (shown_host site.host)) true ∷ [] }
+welcomed site m session peer (Plain false ∷ choices) = record { state = m; acts = Sends session (greeting_text (shown_host site.host)) false ∷ HangsUp session ∷ [] }
+welcomed site m session peer (Short accepted whole ∷ choices) = record { state = m; acts = HangsUp session ∷ [] }
+welcomed site m session peer (Drops ∷ choices) = record { state = m; acts = HangsUp session ∷ [] }
+welcomed site m session peer (Fails ∷ choices) = record { state = m; acts = HangsUp session ∷ [] }
+
+-- an opening; one of a session that is open changes nothing
+abbrev pub opened : Site → State → ℕ → List ℕ → List Choice → Step
+opened site m session peer choices =
+    if is_here session m.guests then still m
+    else if nat_le most_guests (length m.guests) then turned_away m session choices
+    else welcomed site m session peer choices
+
+-- what a piece came to
+abbrev pub brought : State → Way → Did → Step
+brought m GoesOn d = record { state = record m { table = d.table; guests = with_guest d.guest m.guests }; acts = d.acts }
+brought m Leaves d = record { state = record m { table = d.table; guests = without d.guest.number m.guests }; acts = d.acts }
+brought m Over d = record { state = record m { table = d.table; guests = without d.guest.number m.guests; over = true }; acts = d.acts }
+
+-- a piece of the session of that number, which is dropped where none is open
+abbrev pub pieced : Site → State → List ℕ → List Choice → Option Guest → Step
+pieced site m bytes choices None = still m
+pieced site m bytes choices (Some guest) = let d = all_answered site m.latest m.table (with_bytes guest bytes) choices in brought m d.way d
+
+-- what is done at an event
+abbrev pub handled : Site → State → Event → List Choice → Step
+handled site m (Opens session peer) choices = opened site m session peer choices
+handled site m (Brings session bytes) choices = pieced site m bytes choices (guest_of session m.guests)
+handled site m (Closes session) choices = still (record m { guests = without session m.guests })
+handled site m Rests choices = still m
+handled site m Stops choices = still (record m { over = true })
+
+-- a turn of the floor with its event, the clock's reading at it, and what was left open in it
+pub record Turn : Type 0 where
+  pub event : Event
+  pub reading : ℕ
+  pub choices : List Choice
+
+-- the beginning of the year 3000: a later reading counts as that
+unfoldable pub last_moment : ℕ
+last_moment = 32_503_680_000
+
+-- the moment of an event: the greatest reading so far
+abbrev pub moment_by : ℕ → ℕ → ℕ
+moment_by latest reading = max latest (min reading last_moment)
+
+-- the clock was read
+abbrev pub at_moment : State → ℕ → State
+at_moment m reading = record m { latest = moment_by m.latest reading }
+
+abbrev pub taken : Turn → Step → Step
+taken turn step = record step { acts = Takes turn.event turn.reading ∷ step.acts }
+
+-- one event; after the run is over there is none
+abbrev pub stepped : Site → State → Turn → Step
+stepped site m turn = if m.over then still m else taken turn (handled site (at_moment m turn.reading) turn.event turn.choices)
+
+-- what comes after a step
+abbrev pub followed : Step → Step → Step
+followed first later = record later { acts = first.acts ++ later.acts }
+
+-- a whole run
+abbrev pub run : Site → State → List Turn → Step
+run site m [] = still m
+run site m (turn ∷ turns) = let now = stepped site m turn in followed now (run site now.state turns)
+
+-- the state in which a run begins over a table
+abbrev pub beginning : Table → State
+beginning table = record { table = table; guests = []; latest = 0; over = false }

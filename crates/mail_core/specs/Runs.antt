@@ -1,0 +1,99 @@
+-- A whole run: the machine's turns are all that happened, and what was acknowledged is in the queue (own).
+use Rattle.std.specs.Prelude.{◌≡◌, ℕ, ◌+◌, ◌≤◌, List, [], ◌∷◌, ◌++◌, length, Option, Some, Bool, true, Contains}
+use Rattle.mail_base.specs.Histories.{Gains, Rose}
+use Rattle.mail_base.specs.Names.{name_of}
+use Rattle.mail_base.specs.declared.id.Kind.TheVariants.{Df, Qf}
+use Rattle.link_edge.specs.declared.event.Event.TheVariants.{Stops}
+use Rattle.link_edge.specs.declared.event.FloorEvent.TheVariants.{Sent}
+use Rattle.qf_format.specs.Spelling.{spelled}
+use Rattle.smtp_receive.specs.Replies.{stored_text}
+use Rattle.spool_disk.specs.Disk.{FileMap, bytes_at}
+use Rattle.spool_store.specs.Standing.{IsClean}
+use Rattle.spool_store.specs.Tables.{Table, Stored}
+use Rattle.mail_core.specs.declared.serving.Core.{Core}
+use Rattle.mail_core.specs.Acts.{Act, Takes, Commits, Sends, HangsUp, heard_of, readings_of}
+use Rattle.mail_core.specs.declared.serving.Site.{Site}
+use Rattle.mail_core.specs.declared.serving.Ending.TheVariants.{Stopped, SpoolFault, IdsSpent}
+use Rattle.mail_core.specs.declared.serving.Went.{Went}
+use Rattle.mail_core.specs.declared.serving.Went.TheVariants.{Ends}
+use Rattle.mail_core.specs.Events.{is_well}
+use Rattle.mail_core.specs.Messages.{is_spent}
+use Rattle.mail_core.specs.Machine.{Turn, Step, run, beginning}
+use Rattle.mail_core.specs.Seen.{Seen, Ran, IsPart, Leaves, table_after}
+use Rattle.mail_core.specs.Standing.{dirs_of, Stands}
+
+-- a run of these turns over a table
+abbrev pub run_over : Site → Table → List Turn → Step
+run_over site table turns = run site (beginning table) turns
+
+-- a run that may go on, after so many turns
+pub record IsUnderWay (site : Site) (table : Table) (core : Core) (count : ℕ) (a b : Seen) : Type 0 where
+  pub turns : List Turn
+  pub events : length turns ≡ count
+  pub ran : Ran (dirs_of site) table a b (run_over site table turns).acts true
+  pub readings : b.clock.readings ≡ a.clock.readings + count
+  pub stands : Stands site core (run_over site table turns).state
+
+-- the entry of that id is in the table
+pub record HasEntry (table : Table) (id : ℕ) : Type 0 where
+  pub stored : Stored
+  pub among : Contains table.entries stored
+  pub id_is : stored.entry.id ≡ id
+
+-- where an act is the final 250 of an id, the entry is in the table
+abbrev pub IsAcked : Table → Act → Type 0
+IsAcked table (Takes event reading) = Unit {0}
+IsAcked table (Commits command) = Unit {0}
+IsAcked table (Sends session text whole) = (id : ℕ) → id ≤ 999_999_999_999 → text ≡ stored_text id → HasEntry table id
+IsAcked table (HangsUp session) = Unit {0}
+
+-- each final 250 names an entry of the table as it is then
+abbrev pub AreAcked : Table → List Act → Type 0
+AreAcked table [] = Unit {0}
+AreAcked table (act ∷ acts) = IsAcked table act × AreAcked (table_after table (act ∷ [])) acts
+
+-- the table has an entry of that id, and its control file and its body file are there, and hold its control and its body
+pub record IsKept (dir : List ℕ) (table : Table) (files : FileMap) (id : ℕ) : Type 0 where
+  pub stored : Stored
+  pub among : Contains table.entries stored
+  pub id_is : stored.entry.id ≡ id
+  pub control : bytes_at files (dir, name_of Qf id) ≡ Some (spelled stored.entry.control)
+  pub body : bytes_at files (dir, name_of Df id) ≡ Some stored.body
+
+-- what the files are at the exit of a run: those of the table after its commands, but where the spool failed, and with the entry of each final 250 that was sent
+pub record IsLeft (site : Site) (table : Table) (acts : List Act) (well : Bool) (told : Option FileMap) : Type 0 where
+  pub files : FileMap
+  pub told_is : told ≡ Some files
+  pub leaves : Leaves (dirs_of site) table acts well files
+  pub acked : (session id : ℕ) → id ≤ 999_999_999_999 → Contains (heard_of acts) (Sent session (stored_text id)) → IsKept site.dir (table_after table acts) files id
+
+-- these turns are all that happened from a to b, over files that were exactly the table's
+pub record Headline (site : Site) (table : Table) (turns : List Turn) (a b : Seen) (well : Bool) : Type 0 where
+  -- the floor tells just what the machine does at these turns, and the clock their readings
+  pub floor : Gains a.floor.told b.floor.told (heard_of (run_over site table turns).acts)
+  pub clock : Gains a.clock.told b.clock.told (readings_of (run_over site table turns).acts)
+  pub readings : b.clock.readings ≡ a.clock.readings + length (readings_of (run_over site table turns).acts)
+  -- what the files are at the exit
+  pub exit : (files : FileMap) → a.spool.told ≡ Some files → IsClean (dirs_of site) table files → IsLeft site table (run_over site table turns).acts well b.spool.told
+  -- a stop at any moment since a leaves the table after a front of what was done
+  pub images : (files : FileMap) → a.spool.told ≡ Some files → IsClean (dirs_of site) table files → (left : FileMap) → b.spool.left_since a.spool.moment left → IsPart (dirs_of site) table (run_over site table turns).acts left
+  -- no count of faults falls
+  pub floor_faults : a.floor.faults ≤ b.floor.faults
+  pub spool_faults : a.spool.faults ≤ b.spool.faults
+
+-- the last turn told Stop
+pub record IsStopped (turns : List Turn) : Type 0 where
+  pub before : List Turn
+  pub last : Turn
+  pub whole : turns ≡ before ++ last ∷ []
+  pub stops : last.event ≡ Stops
+
+-- a run of so many turns, of which the last ended it
+pub record IsEnded (site : Site) (table : Table) (count : ℕ) (a b : Seen) (went : Went) : Type 0 where
+  pub turns : List Turn
+  pub events : length turns ≡ count
+  pub headline : Headline site table turns a b (is_well went)
+  pub readings : b.clock.readings ≡ a.clock.readings + count
+  pub stopped : went ≡ Ends Stopped → IsStopped turns
+  pub cause : went ≡ Ends SpoolFault → Rose a.spool.faults b.spool.faults
+  pub spent : went ≡ Ends IdsSpent → is_spent (run_over site table turns).state.table ≡ true

@@ -1,0 +1,293 @@
+ghost use Rattle.std.specs.Prelude.{◌≡◌, ◌≤◌, ◌<◌, ◌⊎◌, ◌++◌, ◌∷◌, ◌^◌, [], List, ℕ, Bool, length, Some, None, IfOk, IfErr, IsErrOf, IsTrue, true, false, Contains};
+ghost use Rattle.mail_base.specs.Histories.{Gains};
+ghost use Rattle.mail_base.specs.declared.fault.StoreFault.TheVariants.{IdsSpent as NoIdLeft};
+ghost use Rattle.mail_edge.specs.Seen.{ClockSeen};
+ghost use Rattle.qf_format.specs.Valid.{IsValid};
+ghost use Rattle.smtp_lines.specs.declared.line.Line.{Line as AnyLine};
+ghost use Rattle.smtp_lines.specs.declared.line.Line.TheVariants.{DataEnd};
+ghost use Rattle.smtp_lines.specs.Reader.{OnlyLastAsks, StandsFirst};
+ghost use Rattle.smtp_receive.specs.Dialogue.{Heard};
+ghost use Rattle.smtp_receive.specs.Replies.{out_of_memory_text};
+ghost use Rattle.smtp_receive.specs.Sessions.{Remembers, Stands as Speaks};
+ghost use Rattle.spool_store.specs.Tables.{Table};
+ghost use Rattle.mail_core.specs.declared.serving.Site.{Site};
+ghost use Rattle.mail_core.specs.Acts.{heard_of, speech, Sends, HangsUp};
+ghost use Rattle.mail_core.specs.Going.{AnswersLine, AnswersLines, AnswersMessage, Feeds, is_onward};
+ghost use Rattle.mail_core.specs.Guests.{Guest, with_bytes, lines_of};
+ghost use Rattle.mail_core.specs.Machine as machine;
+ghost use Rattle.mail_core.specs.Machine.{moment_by};
+ghost use Rattle.mail_core.specs.Messages as entry;
+ghost use Rattle.mail_core.specs.Seen.{IsSoundAt, seen};
+ghost use Rattle.mail_core.specs.Standing.{Serves, Talks, Keeps, IsReady, lines_heard};
+
+use crate::caller::Caller;
+use crate::fed::Fed;
+use crate::message::control_of;
+use crate::speech::say;
+use link_edge::Floor;
+use mail_base::{Draft, NoMemory, StoreFault, Text, TryCopy};
+use smtp_lines::{Line, last_asks};
+use smtp_receive::{Did, Received, out_of_memory};
+use spool_disk::Spool;
+use spool_store::{Change, Store};
+use std::alloc::Global;
+
+/// The beginning of the year 3000. A later reading of the clock counts as that.
+const LAST_MOMENT: u64 = 32_503_680_000;
+
+/// What takes messages into the queue: its store, the directory of new entries, the moment of the event, and
+/// the text of 452 4.3.1, which is kept so that to send it takes no memory.
+#[derive(Debug, Drop)]
+pub struct Intake {
+    pub(crate) alloc: Global,
+    pub(crate) store: Store,
+    pub(crate) dir: Text,
+    pub(crate) short: Text,
+    pub(crate) moment: u64,
+}
+
+impl Intake {
+    pub(crate) fn new(alloc: Global, store: Store, dir: Text) -> Result<Intake, NoMemory>
+        ensures parts { IfOk result (λ intake. (intake.store ≡ store) × (intake.dir ≡ dir) × (intake.moment ≡ 0)) }
+        ensures short { IfOk result (λ intake. intake.short ≡ out_of_memory_text) }
+    {
+        Ok(Intake {
+            alloc,
+            store,
+            dir,
+            short: out_of_memory(alloc)?,
+            moment: 0,
+        })
+    }
+
+    /// The clock was read. The moment is the greatest reading so far.
+    pub(crate) fn at(&mut self, reading: u64)
+        ensures range { self.new.moment < 2 ^ 64 }
+        ensures moment { self.new ≡ record self.old { moment = moment_by self.old.moment reading } }
+    {
+        self.moment = self.moment.max(reading.min(LAST_MOMENT));
+    }
+
+    // Says a reply to a session that goes on.
+    fn reply<F: Floor>(floor: &mut F, session: u64, text: &Text) -> Fed
+        requires sound { IsSoundAt (F.seen floor.old) session }
+        ensures told { Gains (F.seen floor.old).told (F.seen floor.new).told (heard_of (speech session text.now (is_onward result))) }
+        ensures sound { is_onward result ≡ true → IsSoundAt (F.seen floor.new) session }
+        ensures own { (F.seen floor.new).faults ≡ (F.seen floor.old).faults }
+        ensures fed { (result ≡ Fed.GoesOn) ⊎ (result ≡ Fed.HungUp) }
+    {
+        if say(floor, session, text) {
+            return Fed::GoesOn;
+        }
+        Fed::HungUp
+    }
+
+    // Says 354.
+    fn grant<F: Floor>(floor: &mut F, session: u64, text: &Text) -> Fed
+        requires sound { IsSoundAt (F.seen floor.old) session }
+        ensures told { Gains (F.seen floor.old).told (F.seen floor.new).told (heard_of (speech session text.now (is_onward result))) }
+        ensures sound { is_onward result ≡ true → IsSoundAt (F.seen floor.new) session }
+        ensures own { (F.seen floor.new).faults ≡ (F.seen floor.old).faults }
+        ensures fed { (result ≡ Fed.Granted) ⊎ (result ≡ Fed.HungUp) }
+    {
+        if say(floor, session, text) {
+            return Fed::Granted;
+        }
+        Fed::HungUp
+    }
+
+    // Says 452 4.3.1 to a line, which ends the transaction. It takes no memory.
+    fn lack<F: Floor>(&self, floor: &mut F, caller: &mut Caller) -> Fed
+        requires sound { IsSoundAt (F.seen floor.old) caller.old.number }
+        ensures told { Gains (F.seen floor.old).told (F.seen floor.new).told (heard_of (speech caller.old.number self.now.short (is_onward result))) }
+        ensures sound { is_onward result ≡ true → IsSoundAt (F.seen floor.new) caller.old.number }
+        ensures own { (F.seen floor.new).faults ≡ (F.seen floor.old).faults }
+        ensures fed { (result ≡ Fed.GoesOn) ⊎ (result ≡ Fed.HungUp) }
+        ensures number { caller.new.number ≡ caller.old.number }
+        ensures lines { caller.new.lines ≡ caller.old.lines }
+        ensures line { (host peer : List ℕ) (heard : List Heard) (line : AnyLine) → Remembers caller.old.session host peer heard
+            → Speaks caller.new.session host peer (heard ++ record { line = line; short = true } ∷ []) }
+        ensures ended { (host peer : List ℕ) (heard : List Heard) (a b : Bool) → Remembers caller.old.session host peer (heard ++ record { line = DataEnd; short = a } ∷ [])
+            → Speaks caller.new.session host peer (heard ++ record { line = DataEnd; short = b } ∷ []) }
+    {
+        caller.session.reset();
+        Intake::reply(floor, caller.number, &self.short)
+    }
+
+    // The change that takes a message in.
+    fn change(&self, message: Received) -> Result<Change, StoreFault>
+        requires place { Contains self.now.store.dirs self.now.dir }
+        requires valid { IsValid (entry.control_of self.now.moment message) }
+        ensures id { IfOk result (λ change. change.id ≡ self.now.store.next) }
+        ensures draft { IfOk result (λ change. change.draft ≡ record { id = None; dir = self.now.dir; control = entry.control_of self.now.moment message }) }
+        ensures body { IfOk result (λ change. change.body ≡ message.body) }
+        ensures room { IfOk result (λ _. self.now.store.next ≤ 999_999_999_999) }
+        ensures spent { IsErrOf result NoIdLeft → 999_999_999_999 < self.now.store.next }
+    {
+        let (control, body) = control_of(self.alloc, self.moment, message)?;
+        let draft = Draft {
+            id: None,
+            dir: self.dir.copy()?,
+            control,
+        };
+        self.store.prepare(draft, body)
+    }
+
+    // Takes a message in, and acknowledges it once it is in the queue.
+    fn accept<F: Floor, D: Spool>(
+        &mut self,
+        floor: &mut F,
+        spool: &mut D,
+        caller: &mut Caller,
+        message: Received,
+    ) -> Fed
+        requires sound { IsSoundAt (F.seen floor.old) caller.old.number }
+        requires place { Contains self.old.store.dirs self.old.dir }
+        requires valid { IsValid (entry.control_of self.old.moment message) }
+        ensures accepts { (site : Site) (d : machine.Did) (clock : ClockSeen) → d.way ≡ machine.GoesOn → Serves site self.old d.table
+            → caller.old.number ≡ d.guest.number → AnswersMessage site self.old.moment d message
+            (seen (F.seen floor.old) (D.seen spool.old) clock)
+            (seen (F.seen floor.new) (D.seen spool.new) clock)
+            self.new caller.old caller.new result }
+        ensures moment { self.new.moment ≡ self.old.moment }
+        ensures number { caller.new.number ≡ caller.old.number }
+        ensures lines { caller.new.lines ≡ caller.old.lines }
+        ensures sound { is_onward result ≡ true → IsSoundAt (F.seen floor.new) caller.old.number }
+    {
+        let change = match self.change(message) {
+            Ok(change) => change,
+            Err(StoreFault::IdsSpent) => return Fed::Spent,
+            Err(_no_memory) => return self.lack(floor, caller),
+        };
+        let Ok(id) = self.store.commit(spool, change) else {
+            return Fed::Faulted;
+        };
+        match caller.session.stored(&id) {
+            Ok(text) => Intake::reply(floor, caller.number, &text),
+            Err(_no_memory) => self.lack(floor, caller),
+        }
+    }
+
+    // Answers a line.
+    fn answer<F: Floor, D: Spool>(
+        &mut self,
+        floor: &mut F,
+        spool: &mut D,
+        caller: &mut Caller,
+        line: &Line,
+    ) -> Fed
+        requires sound { IsSoundAt (F.seen floor.old) caller.old.number }
+        requires ready { IsReady self.old caller.old }
+        ensures answers { (site : Site) (d : machine.Did) (clock : ClockSeen) → d.way ≡ machine.GoesOn → Serves site self.old d.table → Talks site caller.old d.guest
+            → AnswersLine site self.old.moment d line.now
+            (seen (F.seen floor.old) (D.seen spool.old) clock)
+            (seen (F.seen floor.new) (D.seen spool.new) clock)
+            self.new caller.new result }
+        ensures ready { is_onward result ≡ true → IsReady self.new caller.new }
+        ensures moment { self.new.moment ≡ self.old.moment }
+        ensures number { caller.new.number ≡ caller.old.number }
+        ensures lines { caller.new.lines ≡ caller.old.lines }
+        ensures sound { is_onward result ≡ true → IsSoundAt (F.seen floor.new) caller.old.number }
+    {
+        match caller.session.line(line) {
+            Ok(Did::Reply(text)) => Intake::reply(floor, caller.number, &text),
+            Ok(Did::Granted(text)) => Intake::grant(floor, caller.number, &text),
+            Ok(Did::Bye(text)) => part(floor, caller.number, &text),
+            Ok(Did::Taken) => Fed::GoesOn,
+            Ok(Did::Message(message)) => self.accept(floor, spool, caller, message),
+            Err(_no_memory) => self.lack(floor, caller),
+        }
+    }
+
+    // Answers lines in turn, up to where the session or the run ends.
+    fn answer_all<F: Floor, D: Spool>(
+        &mut self,
+        floor: &mut F,
+        spool: &mut D,
+        caller: &mut Caller,
+        lines: &[Line],
+    ) -> Fed
+        requires sound { IsSoundAt (F.seen floor.old) caller.old.number }
+        requires ready { IsReady self.old caller.old }
+        ensures answers { (site : Site) (d : machine.Did) (clock : ClockSeen) → d.way ≡ machine.GoesOn → Serves site self.old d.table → Talks site caller.old d.guest
+            → OnlyLastAsks lines.now → StandsFirst (lines_heard d.guest ++ lines.now) (lines_of d.guest)
+            → AnswersLines site self.old.moment d lines.now
+            (seen (F.seen floor.old) (D.seen spool.old) clock)
+            (seen (F.seen floor.new) (D.seen spool.new) clock)
+            self.new caller.new result }
+        ensures ready { is_onward result ≡ true → IsReady self.new caller.new }
+        ensures moment { self.new.moment ≡ self.old.moment }
+        ensures number { caller.new.number ≡ caller.old.number }
+        ensures lines { caller.new.lines ≡ caller.old.lines }
+        ensures sound { is_onward result ≡ true → IsSoundAt (F.seen floor.new) caller.old.number }
+    {
+        let mut last = Fed::GoesOn;
+        for line in lines {
+            last = self.answer(floor, spool, caller, line);
+            if !last.is_onward() {
+                return last;
+            }
+        }
+        last
+    }
+
+    /// Takes a piece of a session's bytes, and answers the lines that it completes. Want of memory for the
+    /// piece, or for what follows a line with the verb DATA, hangs up.
+    pub(crate) fn feed<F: Floor, D: Spool>(
+        &mut self,
+        floor: &mut F,
+        spool: &mut D,
+        caller: &mut Caller,
+        piece: &[u8],
+    ) -> Fed
+        requires sound { IsSoundAt (F.seen floor.old) caller.old.number }
+        requires ready { IsReady self.old caller.old }
+        ensures feeds { (site : Site) (table : Table) (g : Guest) (clock : ClockSeen) → Serves site self.old table → Keeps site caller.old g
+            → Feeds site self.old.moment table g piece.now
+            (seen (F.seen floor.old) (D.seen spool.old) clock)
+            (seen (F.seen floor.new) (D.seen spool.new) clock)
+            self.new caller.new result }
+        ensures moment { self.new.moment ≡ self.old.moment }
+    {
+        let Ok(given) = caller.lines.feed(piece) else {
+            return drop_caller(floor, caller.number);
+        };
+        let mut lines = given;
+        'answers: while last_asks(lines.items()) {
+            let fed = self.answer_all(floor, spool, caller, lines.items());
+            if !fed.is_onward() {
+                return fed;
+            }
+            caller.turn(fed);
+            let Ok(more) = caller.lines.more() else {
+                return drop_caller(floor, caller.number);
+            };
+            lines = more;
+        }
+        self.answer_all(floor, spool, caller, lines.items())
+    }
+}
+
+/// Says the last reply to a session, and hangs it up.
+pub(crate) fn part<F: Floor>(floor: &mut F, session: u64, text: &Text) -> Fed
+    requires sound { IsSoundAt (F.seen floor.old) session }
+    ensures told { (whole : Bool) × Gains (F.seen floor.old).told (F.seen floor.new).told (heard_of (Sends session text.now whole ∷ HangsUp session ∷ [])) }
+    ensures own { (F.seen floor.new).faults ≡ (F.seen floor.old).faults }
+    ensures fed { result ≡ Fed.HungUp }
+{
+    if say(floor, session, text) {
+        floor.hang_up(session);
+    }
+    Fed::HungUp
+}
+
+// Hangs up a session for want of memory.
+fn drop_caller<F: Floor>(floor: &mut F, session: u64) -> Fed
+    requires sound { IsSoundAt (F.seen floor.old) session }
+    ensures told { Gains (F.seen floor.old).told (F.seen floor.new).told (heard_of (HangsUp session ∷ [])) }
+    ensures own { (F.seen floor.new).faults ≡ (F.seen floor.old).faults }
+    ensures fed { result ≡ Fed.HungUp }
+{
+    floor.hang_up(session);
+    Fed::HungUp
+}

@@ -1,0 +1,14 @@
+//! The core: one event of the machine of `specs/Machine.antt`. It answers the lines of sessions, and takes
+//! their messages into the queue before it acknowledges them.
+#![tactic(auto)]
+
+mod caller;
+mod fed;
+mod intake;
+mod law;
+mod message;
+mod serving;
+mod speech;
+
+pub use law::{acknowledged_messages_are_in_the_table, the_table_is_that_of_the_commands};
+pub use serving::{Core, Ending, Site, Went};

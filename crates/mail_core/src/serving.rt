@@ -1,0 +1,250 @@
+ghost use Rattle.std.specs.Prelude.{◌≡◌, ◌≢◌, ◌∷◌, [], Bool, IfOk, IfSome, All};
+ghost use Rattle.mail_base.specs.Histories.{Gains};
+ghost use Rattle.mail_edge.specs.Seen.{ClockSeen};
+ghost use Rattle.link_edge.specs.Heard.{Heard};
+ghost use Rattle.link_edge.specs.Turns.{Fits};
+ghost use Rattle.link_edge.specs.declared.event.Event.TheVariants.{Stops};
+ghost use Rattle.smtp_receive.specs.Replies.{greeting_text, shown_host};
+ghost use Rattle.mail_core.specs.Acts.{Sends, HangsUp, heard_of};
+ghost use Rattle.mail_core.specs.Events.{IsTaken, IsTakenUp, IsHeardAt, IsOpened, Steps, Turns, event_of, went_of};
+ghost use Rattle.mail_core.specs.Guests.{guest_of, newcomer};
+ghost use Rattle.mail_core.specs.Machine.{State, Step, at_moment, beginning, handled, opened, pieced};
+ghost use Rattle.mail_core.specs.Seen.{IsSoundAt, seen};
+ghost use Rattle.mail_core.specs.Standing.{IsReady, IsStanding, Keeps, Stands, Stores, is_hosted};
+ghost use Rattle.spool_store.specs.Tables.{Table};
+
+use crate::caller::Caller;
+use crate::fed::Fed;
+use crate::intake::{Intake, part};
+use crate::speech::say;
+use link_edge::{Floor, Turn};
+use mail_base::{NoMemory, Text};
+use smtp_lines::Lines;
+use smtp_receive::{Session, out_of_memory, too_many_sessions};
+use spool_disk::Spool;
+use spool_store::Store;
+use std::alloc::Global;
+
+/// Why a run ended.
+#[derive(Clone, Copy, Debug, PartialEq, Eq)]
+pub enum Ending {
+    /// The floor told `Stop`.
+    Stopped,
+    /// The spool failed.
+    SpoolFault,
+    /// A message needs an id above 999,999,999,999.
+    IdsSpent,
+}
+
+/// How an event went.
+#[derive(Clone, Copy, Debug, PartialEq, Eq)]
+pub enum Went {
+    GoesOn,
+    Ends(Ending),
+}
+
+/// What sessions are served with.
+#[derive(Debug, Drop)]
+pub struct Site {
+    /// The host that replies name.
+    pub host: Text,
+    /// The directory of the queue.
+    pub dir: Text,
+}
+
+/// The sessions that are open, one at most, and the store of the queue.
+#[derive(Debug, Drop)]
+pub struct Core {
+    alloc: Global,
+    host: Text,
+    /// The text of 421.
+    full: Text,
+    caller: Option<Caller>,
+    intake: Intake,
+}
+
+impl Core {
+    /// A core with no session, over a store that was opened with the site's directory.
+    pub fn new(alloc: Global, site: Site, store: Store) -> Result<Core, NoMemory>
+        ensures { IfOk result (λ core. (table : Table) → Stores site store table → Stands site core (beginning table)) }
+    {
+        Ok(Core {
+            alloc,
+            host: site.host,
+            full: too_many_sessions(alloc)?,
+            caller: None,
+            intake: Intake::new(alloc, store, site.dir)?,
+        })
+    }
+
+    /// One event of the machine. Its turn was taken and the clock read before the call. Session numbers are
+    /// never used twice by a floor that tells. A second session is told 421 4.3.2 and hung up while one is
+    /// open, a piece of a session that isn't open is dropped, and an idle turn changes nothing.
+    ///
+    /// Want of memory is answered by 452 4.3.1, or ends the session. After `Ends` nothing more is done.
+    pub fn turn<F: Floor, D: Spool>(
+        &mut self,
+        floor: &mut F,
+        spool: &mut D,
+        reading: u64,
+        turn: Turn,
+        buf: &[u8],
+    ) -> Went
+        requires fits { Fits turn buf.now }
+        requires sound { IsHeardAt (F.seen floor.old) turn }
+        requires standing { IsStanding self.old }
+        ensures turns { (site : Site) (m : State) (before : Heard) (clock read : ClockSeen) → Stands site self.old m
+            → IsTaken before (F.seen floor.old) clock read (event_of turn buf.now) reading
+            → Turns site m (event_of turn buf.now) reading
+            (seen before (D.seen spool.old) clock)
+            (seen (F.seen floor.new) (D.seen spool.new) read)
+            self.new result }
+    {
+        self.intake.at(reading);
+        self.handle(floor, spool, turn, buf)
+    }
+
+    // What a turn asks for.
+    fn handle<F: Floor, D: Spool>(
+        &mut self,
+        floor: &mut F,
+        spool: &mut D,
+        turn: Turn,
+        buf: &[u8],
+    ) -> Went
+        requires fits { Fits turn buf.now }
+        requires sound { IsHeardAt (F.seen floor.old) turn }
+        requires standing { IsStanding self.old }
+        ensures steps { (site : Site) (m : State) (clock : ClockSeen) → Stands site self.old m
+            → Steps site (handled site m (event_of turn buf.now)) m.table
+            (seen (F.seen floor.old) (D.seen spool.old) clock)
+            (seen (F.seen floor.new) (D.seen spool.new) clock)
+            self.new result }
+        ensures stopped { result ≡ Went.Ends Ending.Stopped → event_of turn buf.now ≡ Stops }
+    {
+        match turn {
+            Turn::Opened(session, count) => {
+                self.open(floor, session, &buf[..count]);
+                Went::GoesOn
+            }
+            Turn::Piece(session, count) => self.piece(floor, spool, session, &buf[..count]),
+            Turn::Closed(session) => {
+                let _caller = self.take(session);
+                Went::GoesOn
+            }
+            Turn::Idle => Went::GoesOn,
+            Turn::Stop => Went::Ends(Ending::Stopped),
+        }
+    }
+
+    // Greets a new session, or turns it away where one is open.
+    fn open<F: Floor>(&mut self, floor: &mut F, session: u64, peer: &[u8])
+        requires sound { IsSoundAt (F.seen floor.old) session }
+        requires line { All (λ b. b ≢ 10) peer.now }
+        ensures opens { (site : Site) (m : State) → Stands site self.old m
+            → IsOpened site m session peer.now (F.seen floor.old) (F.seen floor.new) self.new }
+        ensures own { (F.seen floor.new).faults ≡ (F.seen floor.old).faults }
+    {
+        if self.hosts(session) {
+            return;
+        }
+        if self.caller.is_some() {
+            self.turn_away(floor, session);
+            return;
+        }
+        match self.caller_of(session, peer) {
+            Ok((caller, greeting)) => {
+                if say(floor, session, &greeting) {
+                    self.caller = Some(caller);
+                }
+            }
+            Err(_no_memory) => floor.hang_up(session),
+        }
+    }
+
+    // Says 421 to a session more than may be open, and hangs it up. It takes no memory.
+    fn turn_away<F: Floor>(&self, floor: &mut F, session: u64)
+        requires sound { IsSoundAt (F.seen floor.old) session }
+        ensures told { (whole : Bool) × Gains (F.seen floor.old).told (F.seen floor.new).told (heard_of (Sends session self.now.full whole ∷ HangsUp session ∷ [])) }
+        ensures own { (F.seen floor.new).faults ≡ (F.seen floor.old).faults }
+    {
+        let _told = part(floor, session, &self.full);
+    }
+
+    // A session of which nothing has come, and its greeting.
+    fn caller_of(&self, session: u64, peer: &[u8]) -> Result<(Caller, Text), NoMemory>
+        requires line { All (λ b. b ≢ 10) peer.now }
+        ensures keeps { IfOk result (λ pair. (site : Site) → self.now.host ≡ site.host → Keeps site pair.0 (newcomer session peer.now)) }
+        ensures greeting { IfOk result (λ pair. pair.1 ≡ greeting_text (shown_host self.now.host)) }
+    {
+        let peer = Text::of(self.alloc, peer)?;
+        let caller = Caller {
+            number: session,
+            session: Session::new(self.alloc, &self.host, &peer)?,
+            lines: Lines::new(self.alloc),
+        };
+        let greeting = caller.session.greeting()?;
+        Ok((caller, greeting))
+    }
+
+    // Takes out the session of that number.
+    fn take(&mut self, session: u64) -> Option<Caller>
+        ensures taken { (site : Site) (m : State) → Stands site self.old m → IsTakenUp site m session result self.new }
+        ensures ready { IsStanding self.old → IfSome result (λ caller. IsReady self.new.intake caller) }
+        ensures number { IfSome result (λ caller. caller.number ≡ session) }
+    {
+        if !self.hosts(session) {
+            return None;
+        }
+        self.caller.take()
+    }
+
+    // Whether the session of that number is open.
+    fn hosts(&self, session: u64) -> bool
+        ensures { result ≡ is_hosted session self.now.caller }
+    {
+        match &self.caller {
+            Some(caller) => caller.number == session,
+            None => false,
+        }
+    }
+
+    // Takes a piece of a session's bytes; one of a session that isn't open is dropped.
+    fn piece<F: Floor, D: Spool>(
+        &mut self,
+        floor: &mut F,
+        spool: &mut D,
+        session: u64,
+        piece: &[u8],
+    ) -> Went
+        requires sound { IsSoundAt (F.seen floor.old) session }
+        requires standing { IsStanding self.old }
+        ensures steps { (site : Site) (m : State) (clock : ClockSeen) → Stands site self.old m
+            → Steps site (λ choices. pieced site m piece.now choices (guest_of session m.guests)) m.table
+            (seen (F.seen floor.old) (D.seen spool.old) clock)
+            (seen (F.seen floor.new) (D.seen spool.new) clock)
+            self.new result }
+        ensures stopped { result ≢ Went.Ends Ending.Stopped }
+    {
+        let Some(mut caller) = self.take(session) else {
+            return Went::GoesOn;
+        };
+        let fed = self.intake.feed(floor, spool, &mut caller, piece);
+        if fed.is_onward() {
+            self.caller = Some(caller);
+            return Went::GoesOn;
+        }
+        went_after(fed)
+    }
+}
+
+// How it went for the run, by how it went for a session.
+fn went_after(fed: Fed) -> Went
+    ensures { result ≡ went_of fed }
+{
+    match fed {
+        Fed::GoesOn | Fed::Granted | Fed::HungUp => Went::GoesOn,
+        Fed::Faulted => Went::Ends(Ending::SpoolFault),
+        Fed::Spent => Went::Ends(Ending::IdsSpent),
+    }
+}
