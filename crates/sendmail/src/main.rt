@@ -19,8 +19,11 @@ mod stream;
 mod tests;
 mod words;
 
+use crate::clock::SystemClock;
 use crate::disk::DiskFiles;
+use crate::floor::SystemFloor;
 use crate::notice::tell;
+use crate::queue_dirs::QueueDirs;
 use crate::stream::{InputStream, OutputStream};
 use crate::words::{Asked, read_words};
 use mail_base::{Seq, Text};
@@ -28,12 +31,14 @@ use sendmail_run::{Outcome, sendmail};
 use std::io::Write;
 use std::process::ExitCode;
 
-const HELP: &[u8] = b"usage: sendmail -bt [-C file]
+const HELP: &[u8] = b"usage: sendmail -bt|-bs [-C file]
 
   -bt      address test mode: answers each line of standard input
+  -bs      serves one SMTP session on standard input and output
   -C file  reads this configuration instead of /etc/mail/sendmail.cf
 
-A line of input is the name of a ruleset and an address; the line /quit ends.
+In address test mode a line of input is the name of a ruleset and an address;
+the line /quit ends.
 ";
 
 /// The most words whose places a `u32` can tell.
@@ -62,6 +67,9 @@ fn run(rt: &HostRuntime, words: &Seq<Text>) -> Outcome {
         rt.alloc(),
         words,
         &mut DiskFiles::new(rt),
+        &mut QueueDirs::new(),
+        &mut SystemFloor::new(*rt, rt.stdin(), rt.stdout()),
+        &mut SystemClock::new(*rt),
         &mut InputStream::new(rt.stdin()),
         &mut OutputStream::new(rt.stdout()),
     )

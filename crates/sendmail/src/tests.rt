@@ -80,3 +80,19 @@ fn an_outcome_is_told_in_a_line(rt: HostRuntime) -> Result<(), Fail> {
     );
     Ok(())
 }
+
+#[test]
+fn an_end_of_service_is_told_in_a_line(rt: HostRuntime) -> Result<(), Fail> {
+    for (outcome, wanted) in [
+        (Outcome::FloorFault, b"sendmail: floor fault\n".as_slice()),
+        (Outcome::TurnsSpent(1 << 60), b"sendmail: turns spent\n"),
+        (Outcome::SpoolFault, b"sendmail: spool fault\n"),
+        (Outcome::IdsSpent, b"sendmail: ids spent\n"),
+        (Outcome::NotYet, b"sendmail: not yet\n"),
+    ] {
+        let mut line = Vec::new(rt.alloc());
+        tell(&mut line, &outcome)?;
+        assert_eq!(rt; line.as_slice(), wanted);
+    }
+    Ok(())
+}

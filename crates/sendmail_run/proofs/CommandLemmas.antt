@@ -1,45 +1,65 @@
 -- What the code reads of a command line is what the definition says.
 use Rattle.std.proofs.Common.{◌≡◌, ℕ, ◌+◌, List, [], ◌∷◌, ◌++◌, length, drop, Bool, true, false, not, Option, Some, None, Result, Ok, Err, refl, sym, ◌∙◌, ap, subst, arith, append_assoc, inl, inr}
-use Rattle.std.specs.Prelude.{◌⊎◌, codes, bytes_eq, nat_eq, ◌==◌, if◌then◌else◌}
+use Rattle.std.specs.Prelude.{◌⊎◌, codes, cond, bytes_eq, nat_eq, ◌==◌, if◌then◌else◌}
 use Rattle.std.specs.Option.{is_some, unwrap_or}
 use Rattle.std.specs.List.{flat_map, starts_with}
 use Rattle.std.proofs.lemmas.Bool.{cond-true, cond-false, cases_Bool, ne_eqb, eqb-true, eq-eqb}
 use Rattle.std.proofs.lemmas.Slice.Eq.{bytes_eq-Decides, starts_is}
 use Rattle.sendmail_run.specs.declared.command_line.Job.{Job}
-use Rattle.sendmail_run.specs.declared.command_line.Job.TheVariants.{Test}
+use Rattle.sendmail_run.specs.declared.command_line.Job.TheVariants.{Test, Session}
 use Rattle.sendmail_run.specs.declared.command_line.Mode.{Mode}
 use Rattle.sendmail_run.specs.declared.command_line.Saying.{Saying}
 use Rattle.sendmail_run.specs.declared.command_line.WordFault.{WordFault}
 use Rattle.sendmail_run.specs.declared.command_line.WordFault.TheVariants.{At, NoMemory}
-use Rattle.sendmail_run.specs.Words.{command_line, read_words, Gives, Fails}
-use Rattle.sendmail_run.specs.CommandLines.{Flag, Does, Joined, Apart, spelling, jobs_in, files_in, IsFile, IsCommandLine, BeginsOne, IsBadWord, IsCutShort, IsRefusedAt, Fails as Refuses, Gives as Says}
+use Rattle.sendmail_run.specs.Words.{command_line, job_said, read_words, Gives, Fails}
+use Rattle.sendmail_run.specs.CommandLines.{Flag, Does, Joined, Apart, word_of, spelling, jobs_in, files_in, IsFile, IsCommandLine, BeginsOne, IsBadWord, IsCutShort, IsRefusedAt, Fails as Refuses, Gives as Says}
 
 abbrev said : Option Job → Option (List ℕ) → Bool → Saying
 said job file awaits = record { job = job; file = file; awaits_file = awaits }
+
+abbrev some : Job → Option Job
+some job = Some job
 
 abbrev listed : {A : Type 0} → Option A → List A
 listed None = []
 listed (Some x) = x ∷ []
 
+-- ---- the words of modes
+
+word_says : (job : Job) → job_said (word_of job) ≡ Some job
+word_says Test = refl
+word_says Session = refl
+
+some_of : (a b : Job) → some a ≡ some b → a ≡ b
+some_of a b e = cc e
+
+says_of : (word : List ℕ) (job : Job) (test session : Bool) → bytes_eq word (word_of Test) ≡ test → bytes_eq word (word_of Session) ≡ session → cond test (some Test) (cond session (some Session) None) ≡ some job → word ≡ word_of job
+says_of word job true session t s e = (bytes_eq-Decides word (word_of Test)).0 t ∙ ap word_of (some_of Test job e)
+says_of word job false true t s e = (bytes_eq-Decides word (word_of Session)).0 s ∙ ap word_of (some_of Session job e)
+says_of word job false false t s e = absurd (cc e)
+
+said_word : (word : List ℕ) (job : Job) → job_said word ≡ Some job → word ≡ word_of job
+said_word word job e = says_of word job (bytes_eq word (word_of Test)) (bytes_eq word (word_of Session)) refl refl e
+
 -- ---- the forms of a word
 
 data View (word : List ℕ) : Type 0 where
-  IsMode : word ≡ codes "-bt" → View word
+  IsMode : (job : Job) → word ≡ word_of job → View word
   IsLone : word ≡ codes "-C" → View word
   IsJoined : (first : ℕ) (others : List ℕ) → word ≡ codes "-C" ++ first ∷ others → View word
-  IsOther : bytes_eq word (codes "-bt") ≡ false → starts_with nat_eq word (codes "-C") ≡ false → View word
+  IsOther : job_said word ≡ None → starts_with nat_eq word (codes "-C") ≡ false → View word
 
 view_file : (word rest : List ℕ) → word ≡ codes "-C" ++ rest → View word
 view_file word [] e = IsLone e
 view_file word (b ∷ bs) e = IsJoined b bs e
 
-view_of : (word : List ℕ) (mode file : Bool) → bytes_eq word (codes "-bt") ≡ mode → starts_with nat_eq word (codes "-C") ≡ file → View word
-view_of word true file m f = IsMode ((bytes_eq-Decides word (codes "-bt")).0 m)
-view_of word false true m f = view_file word (drop 2 word) ((starts_is (λ a b. (eqb-true a b, eq-eqb a b)) word (codes "-C") (starts_with nat_eq word (codes "-C")) refl).0 f)
-view_of word false false m f = IsOther m f
+view_of : (word : List ℕ) (mode : Option Job) (file : Bool) → job_said word ≡ mode → starts_with nat_eq word (codes "-C") ≡ file → View word
+view_of word (Some job) file m f = IsMode job (said_word word job m)
+view_of word None true m f = view_file word (drop 2 word) ((starts_is (λ a b. (eqb-true a b, eq-eqb a b)) word (codes "-C") (starts_with nat_eq word (codes "-C")) refl).0 f)
+view_of word None false m f = IsOther m f
 
 view : (word : List ℕ) → View word
-view word = view_of word (bytes_eq word (codes "-bt")) (starts_with nat_eq word (codes "-C")) refl refl
+view word = view_of word (job_said word) (starts_with nat_eq word (codes "-C")) refl refl
 
 abbrev Stuck : Saying → ℕ → List ℕ → Type 0
 Stuck s start word = (words : List (List ℕ)) → read_words s start (word ∷ words) ≡ Err start
@@ -47,11 +67,19 @@ Stuck s start word = (words : List (List ℕ)) → read_words s start (word ∷ 
 abbrev Turns : Saying → ℕ → List ℕ → Saying → Type 0
 Turns s start word next = (words : List (List ℕ)) → read_words s start (word ∷ words) ≡ read_words next (start + 1) words
 
-other_stuck : (job : Option Job) (file : Option (List ℕ)) (start : ℕ) (word : List ℕ) → bytes_eq word (codes "-bt") ≡ false → starts_with nat_eq word (codes "-C") ≡ false → Stuck (said job file false) start word
-other_stuck job file start word m f = λ words. cond-false (bytes_eq word (codes "-bt")) _ _ m ∙ cond-true (not (starts_with nat_eq word (codes "-C"))) _ _ (ap not f)
+other_stuck : (job : Option Job) (file : Option (List ℕ)) (start : ℕ) (word : List ℕ) → job_said word ≡ None → starts_with nat_eq word (codes "-C") ≡ false → Stuck (said job file false) start word
+other_stuck job file start word m f = λ words. cond-false (is_some (job_said word)) _ _ (ap is_some m) ∙ cond-true (not (starts_with nat_eq word (codes "-C"))) _ _ (ap not f)
 
 joined_turns : (job : Option Job) (start first : ℕ) (others : List ℕ) → Turns (said job None false) start (codes "-C" ++ first ∷ others) (said job (Some (first ∷ others)) false)
 joined_turns job start first others = λ words. cond-false (length (codes "-C" ++ first ∷ others) == 2) _ _ (ne_eqb _ _ (λ e. omega (arith, e)))
+
+mode_turns : (job : Job) (file : Option (List ℕ)) (start : ℕ) → Turns (said None file false) start (word_of job) (said (Some job) file false)
+mode_turns job file start = λ words.
+    cond-true (is_some (job_said (word_of job))) _ _ (ap is_some (word_says job))
+    ∙ ap (λ (o : Option Job). read_words (said o file false) (start + 1) words) (word_says job)
+
+mode_stuck : (before job : Job) (file : Option (List ℕ)) (start : ℕ) → Stuck (said (Some before) file false) start (word_of job)
+mode_stuck before job file start = λ words. cond-true (is_some (job_said (word_of job))) _ _ (ap is_some (word_says job))
 
 -- ---- a word is taken or refused, whatever follows
 
@@ -59,8 +87,8 @@ abbrev Step : Saying → ℕ → List ℕ → Type 0
 Step s start word = ((next : Saying) × Turns s start word next) ⊎ Stuck s start word
 
 step_view : (job : Option Job) (file : Option (List ℕ)) (start : ℕ) (word : List ℕ) → View word → Step (said job file false) start word
-step_view None file start word (IsMode e) = subst (λ (w : List ℕ). Step (said None file false) start w) (sym e) (inl (said (Some Test) file false, λ words. refl))
-step_view (Some job) file start word (IsMode e) = subst (λ (w : List ℕ). Step (said (Some job) file false) start w) (sym e) (inr (λ words. refl))
+step_view None file start word (IsMode job e) = subst (λ (w : List ℕ). Step (said None file false) start w) (sym e) (inl (said (Some job) file false, mode_turns job file start))
+step_view (Some before) file start word (IsMode job e) = subst (λ (w : List ℕ). Step (said (Some before) file false) start w) (sym e) (inr (mode_stuck before job file start))
 step_view job None start word (IsLone e) = subst (λ (w : List ℕ). Step (said job None false) start w) (sym e) (inl (said job None true, λ words. refl))
 step_view job (Some file) start word (IsLone e) = subst (λ (w : List ℕ). Step (said job (Some file) false) start w) (sym e) (inr (λ words. refl))
 step_view job None start word (IsJoined first others e) = subst (λ (w : List ℕ). Step (said job None false) start w) (sym e) (inl (said job (Some (first ∷ others)) false, joined_turns job start first others))
@@ -233,11 +261,11 @@ ended (Some job) (Some name) false start mode e =
 abbrev Each : List (List ℕ) → ℕ → Mode → Type 0
 Each words start mode = (job : Option Job) (file : Option (List ℕ)) (awaits : Bool) → Reads words job file awaits start mode
 
-first_mode : (words : List (List ℕ)) (job : Option Job) (file : Option (List ℕ)) (start : ℕ) (mode : Mode) → Each words (start + 1) mode → Reads (codes "-bt" ∷ words) job file false start mode
-first_mode words None file start mode rec e =
-    let is = rec (Some Test) file false e in
-    record { flags = Does Test ∷ is.flags; written = ap (λ (w : List (List ℕ)). codes "-bt" ∷ w) is.written; jobs = is.jobs; files = is.files }
-first_mode words (Some job) file start mode rec e = absurd (cc e)
+first_mode : (words : List (List ℕ)) (does : Job) (job : Option Job) (file : Option (List ℕ)) (start : ℕ) (mode : Mode) → Each words (start + 1) mode → Reads (word_of does ∷ words) job file false start mode
+first_mode words does None file start mode rec e =
+    let is = rec (Some does) file false (sym (mode_turns does file start words) ∙ e) in
+    record { flags = Does does ∷ is.flags; written = ap (λ (w : List (List ℕ)). word_of does ∷ w) is.written; jobs = is.jobs; files = is.files }
+first_mode words does (Some job) file start mode rec e = let bad = sym (mode_stuck job does file start words) ∙ e in absurd (cc bad)
 
 first_lone : (words : List (List ℕ)) (job : Option Job) (file : Option (List ℕ)) (start : ℕ) (mode : Mode) → Each words (start + 1) mode → Reads (codes "-C" ∷ words) job file false start mode
 first_lone words job None start mode rec e =
@@ -252,7 +280,7 @@ first_joined words first others job None start mode rec e =
 first_joined words first others job (Some file) start mode rec e = absurd (cc e)
 
 first_word : (word : List ℕ) (words : List (List ℕ)) (job : Option Job) (file : Option (List ℕ)) (start : ℕ) (mode : Mode) → Each words (start + 1) mode → View word → Reads (word ∷ words) job file false start mode
-first_word word words job file start mode rec (IsMode is) = subst (λ (w : List ℕ). Reads (w ∷ words) job file false start mode) (sym is) (first_mode words job file start mode rec)
+first_word word words job file start mode rec (IsMode does is) = subst (λ (w : List ℕ). Reads (w ∷ words) job file false start mode) (sym is) (first_mode words does job file start mode rec)
 first_word word words job file start mode rec (IsLone is) = subst (λ (w : List ℕ). Reads (w ∷ words) job file false start mode) (sym is) (first_lone words job file start mode rec)
 first_word word words job file start mode rec (IsJoined first others is) = subst (λ (w : List ℕ). Reads (w ∷ words) job file false start mode) (sym is) (first_joined words first others job file start mode rec)
 first_word word words job file start mode rec (IsOther m f) = λ e. let bad = sym (other_stuck job file start word m f words) ∙ e in absurd (cc bad)
@@ -295,8 +323,8 @@ taken [] (Some job) (Some name) start mode jobs files =
     let j = one_job job mode.job jobs in
     let f = one_file name mode.file files in
     λ i. Ok (record { file = f i; job = j i })
-taken (Does Test ∷ flags) None file start mode jobs files = taken flags (Some Test) file (start + 1) mode jobs files
-taken (Does Test ∷ flags) (Some job) file start mode jobs files = absurd (two_jobs _ _ _ _ jobs)
+taken (Does does ∷ flags) None file start mode jobs files = mode_turns does file start (flat_map spelling flags) ∙ taken flags (Some does) file (start + 1) mode jobs files
+taken (Does does ∷ flags) (Some job) file start mode jobs files = absurd (two_jobs _ _ _ _ jobs)
 taken (Joined first others ∷ flags) job None start mode jobs files = joined_turns job start first others (flat_map spelling flags) ∙ taken flags job (Some (first ∷ others)) (start + 1) mode jobs files
 taken (Joined first others ∷ flags) job (Some name) start mode jobs files = absurd (two_files _ _ _ _ files)
 taken (Apart other ∷ flags) job None start mode jobs files = taken flags job (Some other) (start + 1 + 1) mode jobs files

@@ -8,7 +8,7 @@ use Rattle.mail_base.specs.declared.rule.Piece.TheVariants.{Give, Cut}
 use Rattle.mail_base.specs.declared.rule.Step.TheVariants.{Plain}
 use Rattle.mail_base.specs.declared.rule.Go.TheVariants.{Again, Return, Next}
 use Rattle.sendmail_run.specs.declared.fault.Fault.TheVariants.{NoTab, TooManyMetas, BadReference, NotYet}
-use Rattle.sendmail_run.specs.declared.command_line.Job.TheVariants.{Test}
+use Rattle.sendmail_run.specs.declared.command_line.Job.TheVariants.{Test, Session}
 use Rattle.sendmail_run.specs.LogicalLines.{logical_lines}
 use Rattle.sendmail_run.specs.Tokens.{tokens_of, default_operators}
 use Rattle.sendmail_run.specs.Configuration.{configuration}
@@ -77,11 +77,17 @@ default_file = record { flags = Does Test ∷ []; written = refl; job = refl; fi
 a_file_of_its_own_word : IsCommandLine (codes "-C" ∷ codes "-bt" ∷ codes "-bt" ∷ []) (record { file = codes "-bt"; job = Test })
 a_file_of_its_own_word = record { flags = Apart (codes "-bt") ∷ Does Test ∷ []; written = refl; job = refl; file = inl refl }
 
+session_mode : IsCommandLine (codes "-bs" ∷ codes "-Cx" ∷ []) (record { file = codes "x"; job = Session })
+session_mode = record { flags = Does Session ∷ Joined 120 [] ∷ []; written = refl; job = refl; file = inl refl }
+
 no_such_mode : IsRefusedAt (codes "-bt" ∷ codes "-bd" ∷ []) 1
 no_such_mode = is_refused (codes "-bt" ∷ codes "-bd" ∷ []) 1 refl
 
 a_second_mode : IsRefusedAt (codes "-bt" ∷ codes "-bt" ∷ []) 1
 a_second_mode = is_refused (codes "-bt" ∷ codes "-bt" ∷ []) 1 refl
+
+another_mode : IsRefusedAt (codes "-bs" ∷ codes "-bt" ∷ []) 1
+another_mode = is_refused (codes "-bs" ∷ codes "-bt" ∷ []) 1 refl
 
 a_second_file : IsRefusedAt (codes "-Ca" ∷ codes "-C" ∷ codes "b" ∷ codes "-bt" ∷ []) 1
 a_second_file = is_refused (codes "-Ca" ∷ codes "-C" ∷ codes "b" ∷ codes "-bt" ∷ []) 1 refl

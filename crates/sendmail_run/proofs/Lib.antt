@@ -7,6 +7,7 @@ mod LineLemmas
 mod PlainLemmas
 mod ProgramLemmas
 mod ReaderLemmas
+mod ServingLemmas
 mod SideLemmas
 mod TestLemmas
 mod TokenLemmas

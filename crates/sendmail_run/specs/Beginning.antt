@@ -18,6 +18,11 @@ Refuses name before after ends.Done = ⊥
 Refuses name before after ends.ReadFault = ⊥
 Refuses name before after ends.WriteFault = ⊥
 Refuses name before after ends.InputLarge = ⊥
+Refuses name before after ends.FloorFault = ⊥
+Refuses name before after (ends.TurnsSpent count) = ⊥
+Refuses name before after ends.SpoolFault = ⊥
+Refuses name before after ends.IdsSpent = ⊥
+Refuses name before after ends.NotYet = ⊥
 
 -- the configuration that the file of that name gives, or the outcome that ends the run
 abbrev pub Begins : List ℕ → FilesSeen → FilesSeen → Result Config Outcome → Type 0

@@ -8,6 +8,8 @@ pub mod Readings
 pub mod CommandLines
 pub mod Words
 pub mod Printing
+pub mod Serving
 pub mod Runs
 pub mod Taking
 pub mod Beginning
+pub mod Opening

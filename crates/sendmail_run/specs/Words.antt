@@ -4,11 +4,19 @@ use Rattle.std.specs.Prelude.{◌≡◌, ℕ, ◌+◌, List, [], ◌∷◌, leng
 use Rattle.std.specs.Option.{is_some, unwrap_or}
 use Rattle.std.specs.List.{starts_with}
 use Rattle.sendmail_run.specs.declared.command_line.Job.{Job}
-use Rattle.sendmail_run.specs.declared.command_line.Job.TheVariants.{Test}
+use Rattle.sendmail_run.specs.declared.command_line.Job.TheVariants.{Test, Session}
 use Rattle.sendmail_run.specs.declared.command_line.Mode.{Mode}
 use Rattle.sendmail_run.specs.declared.command_line.Saying.{Saying}
 use Rattle.sendmail_run.specs.declared.command_line.WordFault.{WordFault}
 use Rattle.sendmail_run.specs.declared.command_line.WordFault.TheVariants as faults
+use Rattle.sendmail_run.specs.CommandLines.{word_of}
+
+-- the mode that a word says
+abbrev pub job_said : List ℕ → Option Job
+job_said word =
+    if bytes_eq word (word_of Test) then Some Test
+    else if bytes_eq word (word_of Session) then Some Session
+    else None
 
 abbrev pub whole : Option Job → Option (List ℕ) → ℕ → Result Mode ℕ
 whole None file place = Err place
@@ -20,7 +28,7 @@ abbrev pub read_words : Saying → ℕ → List (List ℕ) → Result Mode ℕ
 read_words said place [] = if said.awaits_file then Err place else whole said.job said.file place
 read_words said place (word ∷ words) =
     if said.awaits_file then read_words (record said { file = Some word; awaits_file = false }) (place + 1) words
-    else if bytes_eq word (codes "-bt") then (if is_some said.job then Err place else read_words (record said { job = Some Test }) (place + 1) words)
+    else if is_some (job_said word) then (if is_some said.job then Err place else read_words (record said { job = job_said word }) (place + 1) words)
     else if not (starts_with nat_eq word (codes "-C")) then Err place
     else if is_some said.file then Err place
     else if length word == 2 then read_words (record said { awaits_file = true }) (place + 1) words

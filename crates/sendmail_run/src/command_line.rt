@@ -1,7 +1,7 @@
 ghost use Rattle.std.specs.Prelude.{◌≡◌, ◌<◌, ◌^◌, ◌+◌, [], ◌∷◌, ℕ, List, length};
 ghost use Rattle.sendmail_run.specs.declared.command_line.WordFault.TheVariants.{NoMemory as Memory};
 ghost use Rattle.sendmail_run.specs.CommandLines.{Gives as Says};
-ghost use Rattle.sendmail_run.specs.Words.{Gives, Takes, command_line, read_words};
+ghost use Rattle.sendmail_run.specs.Words.{Gives, Takes, command_line, job_said, read_words};
 
 use mail_base::{NoMemory, Seq, Text, TryCopy};
 use std::alloc::Global;
@@ -15,6 +15,8 @@ pub const DEFAULT_FILE: &[u8] = b"/etc/mail/sendmail.cf";
 pub enum Job {
     /// `-bt`: address test mode.
     Test,
+    /// `-bs`: serves one SMTP session on standard input and output.
+    Session,
 }
 
 /// What a command line says.
@@ -77,6 +79,17 @@ fn mode_of(alloc: Global, words: &Seq<Text>) -> Result<Mode, WordFault>
     said.whole(alloc, place)
 }
 
+// The mode that a word says.
+fn job_of(word: &[u8]) -> Option<Job>
+    ensures { result ≡ job_said word.now }
+{
+    match word {
+        b"-bt" => Some(Job::Test),
+        b"-bs" => Some(Job::Session),
+        _ => None,
+    }
+}
+
 impl Saying {
     fn take(&mut self, alloc: Global, word: &Text, place: u32) -> Result<(), WordFault>
         requires { place < 2 ^ 32 }
@@ -87,11 +100,11 @@ impl Saying {
             self.awaits_file = false;
             return Ok(());
         }
-        if word.bytes() == b"-bt".as_slice() {
+        if let Some(job) = job_of(word.bytes()) {
             if self.job.is_some() {
                 return Err(WordFault::At(place));
             }
-            self.job = Some(Job::Test);
+            self.job = Some(job);
             return Ok(());
         }
         if !word.bytes().starts_with(b"-C") || self.file.is_some() {

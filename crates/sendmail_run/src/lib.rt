@@ -11,6 +11,9 @@ mod logical;
 mod outcome;
 mod program;
 mod reader;
+mod session_mode;
+#[cfg(test)]
+mod session_tests;
 mod sides;
 #[cfg(test)]
 mod tests;

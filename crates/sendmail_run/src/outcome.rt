@@ -4,7 +4,7 @@ use mail_base::Text;
 /// How a run ends.
 #[derive(Debug, Drop)]
 pub enum Outcome {
-    /// The input came to its end, or to the line `/quit`.
+    /// The input came to its end, or to the line `/quit`; or the floor told that nothing comes any more.
     Done,
     /// The words are refused at this place, counted from 0; a word that is missing stands at their number.
     Usage(u32),
@@ -21,6 +21,16 @@ pub enum Outcome {
     InputLarge,
     /// The configuration's line of this number, counted from 1, is refused.
     ConfigLine(u32, Fault),
+    /// The floor could not begin, or a turn of it failed; one that fails to send only ends that session.
+    FloorFault,
+    /// So many turns of the floor were served, which are all that a run takes, and none of them ended it.
+    TurnsSpent(u64),
+    /// A call of the spool failed: the queue could not be opened, or a message could not be kept.
+    SpoolFault,
+    /// A message came that needs an id above 999,999,999,999.
+    IdsSpent,
+    /// A directory of the queue holds a file when the spool is opened. This program can't take it over yet.
+    NotYet,
 }
 
 impl Outcome {
@@ -36,6 +46,11 @@ impl Outcome {
             Outcome::ReadFault => 74,
             Outcome::InputLarge => 76,
             Outcome::ConfigLine(..) => 78,
+            Outcome::FloorFault => 69,
+            Outcome::TurnsSpent(_) => 70,
+            Outcome::SpoolFault => 75,
+            Outcome::IdsSpent => 77,
+            Outcome::NotYet => 81,
         }
     }
 }

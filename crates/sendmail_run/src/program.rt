@@ -1,6 +1,6 @@
 ghost use Rattle.std.specs.Prelude.{◌≡◌, ◌<◌, ◌≤◌, ◌^◌, length, List, ℕ};
-ghost use Rattle.mail_edge.specs.Seen.{SourceSeen, SinkSeen};
-ghost use Rattle.sendmail_run.specs.Runs.{Completes, Ends, IsLater, seen};
+ghost use Rattle.mail_core.specs.Seen.{seen as core_seen};
+ghost use Rattle.sendmail_run.specs.Runs.{Completes, CompletesService, Ends, IsLater, seen};
 ghost use Rattle.sendmail_run.specs.Beginning.{Begins};
 
 use crate::address_test::address_test;
@@ -8,25 +8,51 @@ use crate::command_line::{Job, Mode, WordFault, words};
 use crate::fault::ReadFault;
 use crate::outcome::Outcome;
 use crate::reader::read;
+use crate::session_mode::session_mode;
+use link_edge::Floor;
 use mail_base::{Config, EdgeFault, Seq, Text};
-use mail_edge::{Files, Sink, Source};
+use mail_edge::{Clock, Files, Sink, Source};
+use spool_disk::Spool;
 use std::alloc::Global;
 
 /// The whole program, over its words without the program's name, and its devices.
 ///
 /// The steps are taken in this order, and the first refusal ends the run: the words, the configuration
-/// file, its lines, the lines of input.
-pub fn sendmail<F: Files, I: Source, O: Sink>(
+/// file, its lines, and then in address test mode the lines of input, and in session mode those of
+/// [`session_mode`].
+pub fn sendmail<F: Files, D: Spool, L: Floor, C: Clock, I: Source, O: Sink>(
     alloc: Global,
     arguments: &Seq<Text>,
     files: &mut F,
+    spool: &mut D,
+    floor: &mut L,
+    clock: &mut C,
     input: &mut I,
     output: &mut O,
 ) -> Outcome
-    requires { length arguments.now < 2 ^ 32 }
-    ensures ends { Ends arguments.now (seen (F.seen files.old) (I.seen input.old) (O.seen output.old)) (seen (F.seen files.new) (I.seen input.new) (O.seen output.new)) result }
-    ensures later { IsLater (seen (F.seen files.old) (I.seen input.old) (O.seen output.old)) (seen (F.seen files.new) (I.seen input.new) (O.seen output.new)) }
-    ensures complete { Completes arguments.now (seen (F.seen files.old) (I.seen input.old) (O.seen output.old)) (seen (F.seen files.new) (I.seen input.new) (O.seen output.new)) result }
+    requires words { length arguments.now < 2 ^ 32 }
+    requires clock { (C.seen clock.old).readings ≤ 2 ^ 63 }
+    ensures ends { Ends arguments.now
+        (seen (F.seen files.old) (I.seen input.old) (O.seen output.old))
+        (seen (F.seen files.new) (I.seen input.new) (O.seen output.new))
+        (core_seen (L.seen floor.old) (D.seen spool.old) (C.seen clock.old))
+        (core_seen (L.seen floor.new) (D.seen spool.new) (C.seen clock.new))
+        result }
+    ensures later { IsLater
+        (seen (F.seen files.old) (I.seen input.old) (O.seen output.old))
+        (seen (F.seen files.new) (I.seen input.new) (O.seen output.new))
+        (core_seen (L.seen floor.old) (D.seen spool.old) (C.seen clock.old))
+        (core_seen (L.seen floor.new) (D.seen spool.new) (C.seen clock.new)) }
+    ensures complete { Completes arguments.now
+        (seen (F.seen files.old) (I.seen input.old) (O.seen output.old))
+        (seen (F.seen files.new) (I.seen input.new) (O.seen output.new))
+        result }
+    ensures serves { CompletesService arguments.now
+        (seen (F.seen files.old) (I.seen input.old) (O.seen output.old))
+        (seen (F.seen files.new) (I.seen input.new) (O.seen output.new))
+        (core_seen (L.seen floor.old) (D.seen spool.old) (C.seen clock.old))
+        (core_seen (L.seen floor.new) (D.seen spool.new) (C.seen clock.new))
+        result }
 {
     let mode = match words(alloc, arguments) {
         Ok(mode) => mode,
@@ -36,6 +62,7 @@ pub fn sendmail<F: Files, I: Source, O: Sink>(
     match configuration(alloc, mode.file, files) {
         Ok(config) => match mode.job {
             Job::Test => address_test(alloc, &config, input, output),
+            Job::Session => session_mode(alloc, spool, floor, clock),
         },
         Err(outcome) => outcome,
     }

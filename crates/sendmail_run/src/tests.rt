@@ -1,8 +1,12 @@
-ghost use Rattle.std.specs.Prelude.{None};
+ghost use Rattle.std.specs.Prelude.{◌<◌, ◌^◌, None, length};
 
-use crate::{Fault, Outcome, sendmail};
+use crate::{DEFAULT_FILE, Fault, Job, Mode, Outcome, sendmail, words};
+use link_edge::ScriptFloor;
 use mail_base::{Failed, Seq, Text};
-use mail_edge::{MemFiles, MemSink, MemSource, Source, SureFiles, SureSource};
+use mail_edge::{
+    Files, MemClock, MemFiles, MemSink, MemSource, Sink, Source, SureFiles, SureSource,
+};
+use spool_disk::MemSpool;
 use std::alloc::{AllocError, Global};
 use std::test::Fail;
 
@@ -42,6 +46,24 @@ fn words_of(alloc: Global, line: &[u8]) -> Result<Seq<Text>, Fail> {
     Ok(Seq::from_vec(words))
 }
 
+// How a run ends over a floor, a spool and a clock that it has no use for.
+fn tested<F: Files, I: Source, O: Sink>(
+    alloc: Global,
+    words: &Seq<Text>,
+    files: &mut F,
+    input: &mut I,
+    output: &mut O,
+) -> Outcome
+    requires { length words.now < 2 ^ 32 }
+{
+    let mut spool = MemSpool::new(alloc, Seq::new(alloc));
+    let mut floor = ScriptFloor::new(alloc, Seq::new(alloc), Seq::new(alloc), Seq::new(alloc));
+    let mut clock = MemClock::new(0, 1);
+    sendmail(
+        alloc, words, files, &mut spool, &mut floor, &mut clock, input, output,
+    )
+}
+
 impl Run {
     fn of(words: &'static [u8], config: &'static [u8], input: &'static [u8]) -> Run {
         Run {
@@ -69,7 +91,7 @@ impl Run {
         if words.len() > 100 {
             return Err("many words".into());
         }
-        let outcome = sendmail(alloc, &words, &mut files, &mut input, &mut output);
+        let outcome = tested(alloc, &words, &mut files, &mut input, &mut output);
         Ok((outcome, output.written))
     }
 }
@@ -140,6 +162,34 @@ fn the_first_faulty_line_is_named(rt: HostRuntime) -> Result<(), Fail> {
     Ok(())
 }
 
+// What a command line says.
+fn said(alloc: Global, line: &[u8]) -> Result<Mode, Fail> {
+    let list = words_of(alloc, line)?;
+    if list.len() > 100 {
+        return Err("many words".into());
+    }
+    match words(alloc, &list) {
+        Ok(mode) => Ok(mode),
+        Err(_) => Err("the words are refused".into()),
+    }
+}
+
+#[test]
+fn words_say_a_mode_and_a_file(rt: HostRuntime) -> Result<(), Fail> {
+    let alloc = rt.alloc();
+    for (line, job, file) in [
+        (b"-bt".as_slice(), Job::Test, DEFAULT_FILE),
+        (b"-bs", Job::Session, DEFAULT_FILE),
+        (b"-bs -Cx", Job::Session, b"x"),
+        (b"-C -bt -bs", Job::Session, b"-bt"),
+    ] {
+        let mode = said(alloc, line)?;
+        assert!(rt; mode.job == job);
+        assert_eq!(rt; mode.file.bytes(), file);
+    }
+    Ok(())
+}
+
 #[test]
 fn words_are_refused_at_their_place(rt: HostRuntime) -> Result<(), Fail> {
     let alloc = rt.alloc();
@@ -148,6 +198,10 @@ fn words_are_refused_at_their_place(rt: HostRuntime) -> Result<(), Fail> {
         (b"", 0),
         (b"-C", 1),
         (b"-q30m", 0),
+        (b"-bs -bt", 1),
+        (b"-bs -bs", 1),
+        (b"-bt -bs", 1),
+        (b"-bx", 0),
     ] {
         let (outcome, text) = Run::of(words, ERIC, b"5 a:b\n").ends(alloc)?;
         assert!(rt; matches!(outcome, Outcome::Usage(at) if at == place));
@@ -224,7 +278,7 @@ fn ends_over<I: Source>(
     if words.len() > 100 {
         return Err("many words".into());
     }
-    let outcome = sendmail(alloc, &words, &mut files, input, &mut output);
+    let outcome = tested(alloc, &words, &mut files, input, &mut output);
     Ok((outcome, output.written))
 }
 

@@ -1,0 +1,187 @@
+-- How session mode goes on and ends.
+use Rattle.std.proofs.Common.{◌≡◌, ℕ, ◌+◌, ◌<◌, ◌≤◌, ◌^◌, List, [], ◌∷◌, ◌++◌, Option, Some, None, Result, Ok, Err, true, refl, sym, ◌∙◌, ap, subst, arith, inl, inr}
+use Rattle.std.proofs.Math.Nat.{le_refl}
+use Rattle.std.specs.Prelude.{IfSome, IfOk}
+use Rattle.mail_base.specs.Histories.{Gains, Rose}
+use Rattle.mail_base.specs.declared.fault.NoMemory.{NoMemory}
+use Rattle.mail_edge.specs.Seen.{ClockSeen}
+use Rattle.link_edge.specs.Heard.{Heard}
+use Rattle.link_edge.specs.Sessions.{Follows, is_sound, is_among, sound_in}
+use Rattle.link_edge.specs.Turns.{told_of}
+use Rattle.link_edge.specs.declared.event.Event.{Event}
+use Rattle.link_edge.specs.declared.event.Event.TheVariants.{Opens, Brings}
+use Rattle.link_edge.specs.declared.event.FloorEvent.{FloorEvent}
+use Rattle.link_edge.specs.declared.event.FloorEvent.TheVariants.{Took}
+use Rattle.link_edge.specs.declared.turn.Turn.{Turn}
+use Rattle.link_edge.specs.declared.turn.Turn.TheVariants.{Opened, Piece, Closed, Idle, Stop}
+use Rattle.link_edge.proofs.Sessioning.{sound_push}
+use Rattle.link_edge.proofs.Sounding.{opened_is_sound}
+use Rattle.spool_disk.specs.Disk.{FileMap}
+use Rattle.spool_disk.specs.Spooled.{Spooled, Reads, Rests, Leads}
+use Rattle.spool_store.specs.Standing.{AreEmpty, IsUsed}
+use Rattle.spool_store.specs.Tables.{Table, start}
+use Rattle.spool_store.specs.declared.store.Store.{Store}
+use Rattle.spool_store.proofs.TableLemmas.{start_sound}
+use Rattle.mail_core.specs.declared.serving.Core.{Core}
+use Rattle.mail_core.specs.declared.serving.Ending.TheVariants as ending
+use Rattle.mail_core.specs.declared.serving.Site.{Site}
+use Rattle.mail_core.specs.declared.serving.Went.{Went}
+use Rattle.mail_core.specs.declared.serving.Went.TheVariants.{GoesOn, Ends}
+use Rattle.mail_core.specs.Events.{IsTaken, IsHeardAt, Turns, event_of}
+use Rattle.mail_core.specs.Machine.{beginning}
+use Rattle.mail_core.specs.Runs.{IsEnded, IsUnderWay, run_over}
+use Rattle.mail_core.specs.Seen.{Seen, seen}
+use Rattle.mail_core.specs.Standing.{Stands, Stores, IsStanding, dirs_of}
+use Rattle.sendmail_run.specs.declared.outcome.Outcome.{Outcome}
+use Rattle.sendmail_run.specs.declared.outcome.Outcome.TheVariants as ends
+use Rattle.sendmail_run.specs.Opening.{HasRefused}
+use Rattle.sendmail_run.specs.Serving.{site, IsLeftAlone, IsUnserved, BeganEmpty, IsServed, IsServedOut, HasNotOpened, HasLostFloor, Serves}
+use Rattle.mail_core.proofs.RunLemmas.{under_way_begin, under_way_floor, under_way_more, ended_by, cut_off}
+
+-- ---- what is read or left alone
+
+same_leads : (a : Option FileMap) → Leads a a Rests Rests (Unit {0})
+same_leads None = tt
+same_leads (Some f) = (refl, λ w. refl)
+
+reads_none : (a : Spooled) → Reads a a
+reads_none a = record { later = le_refl a.moment; now = same_leads a.told; images = λ f e t x le left. inl left; kept = λ t x left. left }
+
+pub left_alone : (a : Seen) → IsLeftAlone a a
+left_alone a = record { floor = refl; clock = refl; spool = reads_none a.spool; spool_faults = refl }
+
+unserved : (f : Heard) (s t : Spooled) (k : ClockSeen) → Reads s t → s.faults ≤ t.faults → IsUnserved (seen f s k) (seen f t k)
+unserved f s t k reads later = record { floor = refl; clock = refl; spool = reads; spool_faults = later }
+
+-- there was no memory for the buffer
+pub serves_none : (f : Heard) (s : Spooled) (k : ClockSeen) → Serves (seen f s k) (seen f s k) ends.NoMemory
+serves_none f s k = unserved f s s k (reads_none s) (le_refl s.faults)
+
+-- the queue wasn't opened
+pub serves_refused : (f : Heard) (s t : Spooled) (k : ClockSeen) (outcome : Outcome) → Reads s t → s.faults ≤ t.faults → HasRefused s t outcome → Serves (seen f s k) (seen f t k) outcome
+serves_refused f s t k ends.NoMemory reads later is = unserved f s t k reads later
+serves_refused f s t k ends.NotYet reads later is = (unserved f s t k reads later, is)
+serves_refused f s t k ends.SpoolFault reads later is = inl (record { unserved = unserved f s t k reads later; rose = is })
+serves_refused f s t k ends.Done reads later is = absurd is
+serves_refused f s t k (ends.Usage place) reads later is = absurd is
+serves_refused f s t k (ends.NoFile name) reads later is = absurd is
+serves_refused f s t k ends.FilesFault reads later is = absurd is
+serves_refused f s t k ends.WriteFault reads later is = absurd is
+serves_refused f s t k ends.ReadFault reads later is = absurd is
+serves_refused f s t k ends.InputLarge reads later is = absurd is
+serves_refused f s t k (ends.ConfigLine line fault) reads later is = absurd is
+serves_refused f s t k ends.FloorFault reads later is = absurd is
+serves_refused f s t k (ends.TurnsSpent count) reads later is = absurd is
+serves_refused f s t k ends.IdsSpent reads later is = absurd is
+
+-- a core over the store of an unused queue
+pub made_over : (with : Site) (store : Store) (r : Result Core NoMemory) → with ≡ site → Stores site store start → IfOk r (λ core. (table : Table) → Stores with store table → Stands with core (beginning table)) → IfOk r (λ core. Stands site core (beginning start))
+made_over with store (Ok core) is stores made = subst (λ (s : Site). Stands s core (beginning start)) is (made start (subst (λ (s : Site). Stores s store start) (sym is) stores))
+made_over with store (Err e) is stores made = tt
+
+-- ---- turns of the floor
+
+-- a session that was just opened is sound, and so is one of which bytes came
+sound_opened : (a b : Option (List FloorEvent)) (session : ℕ) (peer : List ℕ) → Gains a b (Took (Opens session peer) ∷ []) → IfSome b (λ history. is_sound session history ≡ true)
+sound_opened a None session peer h = tt
+sound_opened None (Some new) session peer h = absurd h
+sound_opened (Some old) (Some new) session peer h = subst (λ (q : List FloorEvent). is_sound session q ≡ true) (sym h) (opened_is_sound old session peer)
+
+sound_brought : (a b : Option (List FloorEvent)) (session : ℕ) (bytes : List ℕ) → Gains a b (Took (Brings session bytes) ∷ []) → IfSome a (λ history. is_sound session history ≡ true) → IfSome b (λ history. is_sound session history ≡ true)
+sound_brought a None session bytes h sound = tt
+sound_brought None (Some new) session bytes h sound = absurd h
+sound_brought (Some old) (Some new) session bytes h sound =
+    subst (λ (q : List FloorEvent). is_sound session q ≡ true) (sym h) (ap (is_among session) (sound_push old (Took (Brings session bytes))) ∙ sound)
+
+pub heard_at : (f g : Heard) (turn : Turn) (buf : List ℕ) → Gains f.told g.told (told_of turn buf ∷ []) → IfSome f.told (λ history. Follows history (told_of turn buf)) → IsHeardAt g turn
+heard_at f g (Opened session count) buf told follows = sound_opened f.told g.told session _ told
+heard_at f g (Piece session count) buf told follows = sound_brought f.told g.told session _ told follows
+heard_at f g (Closed session) buf told follows = tt
+heard_at f g Idle buf told follows = tt
+heard_at f g Stop buf told follows = tt
+
+-- the turn was taken, and then the clock was read
+pub taken : (f g : Heard) (k l : ClockSeen) (turn : Turn) (buf : List ℕ) (reading : ℕ) → Gains f.told g.told (told_of turn buf ∷ []) → IfSome f.told (λ history. Follows history (told_of turn buf)) → f.faults ≤ g.faults
+    → Gains k.told l.told (reading ∷ []) → l.readings ≡ k.readings + 1 → IsTaken f g k l (event_of turn buf) reading
+taken f g k l (Opened session count) buf reading told follows later read counted = record { told = told; follows = follows; faults = later; clock_told = read; readings = counted }
+taken f g k l (Piece session count) buf reading told follows later read counted = record { told = told; follows = follows; faults = later; clock_told = read; readings = counted }
+taken f g k l (Closed session) buf reading told follows later read counted = record { told = told; follows = follows; faults = later; clock_told = read; readings = counted }
+taken f g k l Idle buf reading told follows later read counted = record { told = told; follows = follows; faults = later; clock_told = read; readings = counted }
+taken f g k l Stop buf reading told follows later read counted = record { told = told; follows = follows; faults = later; clock_told = read; readings = counted }
+
+pub standing : (core : Core) (n : ℕ) (a b : Seen) → IsUnderWay site start core n a b → IsStanding core
+standing core n a b u = record { site = site; state = (run_over site start u.turns).state; stands = u.stands }
+
+-- ---- how it ends
+
+abbrev pub OnlyNow : Seen → Type 0
+OnlyNow a = (c : FileMap) → a.spool.left_since a.spool.moment c → a.spool.told ≡ Some c
+
+served : (core : Core) (n : ℕ) (a b : Seen) → BeganEmpty a → OnlyNow a → IsUnderWay site start core n a b → IsServed n a b
+served core n a b empty only u = record {
+  turns = u.turns;
+  events = u.events;
+  empty = empty;
+  headline = cut_off site start core n a b u (start_sound (dirs_of site)) only;
+  readings = u.readings;
+}
+
+-- the floor failed
+pub serves_lost : (core : Core) (n : ℕ) (a b : Seen) → BeganEmpty a → OnlyNow a → n ≤ 2 ^ 60 → IsUnderWay site start core n a b → Rose a.floor.faults b.floor.faults → Serves a b ends.FloorFault
+serves_lost core n a b empty only few u rose = record { count = n; few = few; served = served core n a b empty only u; rose = rose }
+
+-- all turns were taken
+pub serves_spent : (core : Core) (n most : ℕ) (a b : Seen) → BeganEmpty a → OnlyNow a → n ≡ most → most ≡ 2 ^ 60 → IsUnderWay site start core n a b → Serves a b (ends.TurnsSpent most)
+serves_spent core n most a b empty only all is u = (is, served core most a b empty only (subst (λ (q : ℕ). IsUnderWay site start core q a b) all u))
+
+-- a turn ended the run
+pub served_out : (core new : Core) (n : ℕ) (a b c : Seen) (event : Event) (reading : ℕ) (went : Went) → BeganEmpty a → OnlyNow a → n < 2 ^ 60
+    → (u : IsUnderWay site start core n a b) → Turns site (run_over site start u.turns).state event reading b c new went → c.clock.readings ≡ b.clock.readings + 1 → IsServedOut a c went
+served_out core new n a b c event reading went empty only few u turns counted = record {
+  count = n + 1;
+  few = omega (arith, few);
+  empty = empty;
+  ended = ended_by site start core new n event reading a b c went u turns (start_sound (dirs_of site)) only counted;
+}
+
+-- ---- what each end says of the counts of faults
+
+pub record IsNoLess (a b : Seen) : Type 0 where
+  pub floor : a.floor.faults ≤ b.floor.faults
+  pub spool : a.spool.faults ≤ b.spool.faults
+
+unserved_later : (a b : Seen) → IsUnserved a b → IsNoLess a b
+unserved_later a b is = record { floor = let e = ap (λ (h : Heard). h.faults) is.floor in omega (arith, e); spool = is.spool_faults }
+
+out_later : (a b : Seen) (went : Went) → IsServedOut a b went → IsNoLess a b
+out_later a b went is = record { floor = is.ended.headline.floor_faults; spool = is.ended.headline.spool_faults }
+
+served_later : (n : ℕ) (a b : Seen) → IsServed n a b → IsNoLess a b
+served_later n a b is = record { floor = is.headline.floor_faults; spool = is.headline.spool_faults }
+
+pub serves_later : (a b : Seen) (outcome : Outcome) → Serves a b outcome → IsNoLess a b
+serves_later a b ends.Done is = out_later a b (Ends ending.Stopped) is
+serves_later a b ends.IdsSpent is = out_later a b (Ends ending.IdsSpent) is
+serves_later a b ends.SpoolFault (inl is) = unserved_later a b is.unserved
+serves_later a b ends.SpoolFault (inr is) = out_later a b (Ends ending.SpoolFault) is
+serves_later a b ends.FloorFault is = served_later is.count a b is.served
+serves_later a b (ends.TurnsSpent count) is = served_later count a b is.1
+serves_later a b ends.NotYet is = unserved_later a b is.0
+serves_later a b ends.NoMemory is = unserved_later a b is
+serves_later a b (ends.Usage place) is = absurd is
+serves_later a b (ends.NoFile name) is = absurd is
+serves_later a b ends.FilesFault is = absurd is
+serves_later a b ends.WriteFault is = absurd is
+serves_later a b ends.ReadFault is = absurd is
+serves_later a b ends.InputLarge is = absurd is
+serves_later a b (ends.ConfigLine line fault) is = absurd is
+
+-- the files of a used directory aren't those of an empty one
+pub not_used : (told : Option FileMap) (files : FileMap) → told ≡ Some files → AreEmpty (dirs_of site) files → IfSome told (IsUsed (dirs_of site)) → ⊥
+not_used None files e empty used = cc e
+not_used (Some other) files e empty used =
+    let same : other ≡ files = cc e in
+    let is : IsUsed (dirs_of site) files = subst (IsUsed (dirs_of site)) same used in
+    let none = empty is.place is.among in
+    let there = is.there in
+    cc (none, there)

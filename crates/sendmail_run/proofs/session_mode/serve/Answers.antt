@@ -1,0 +1,109 @@
+use Rattle.std.proofs.Common.{refl, arith, inr}
+use Rattle.spool_store.specs.Tables.{start}
+use Rattle.mail_core.specs.declared.serving.Ending.TheVariants as ending
+use Rattle.mail_core.specs.declared.serving.Went.TheVariants.{Ends}
+use Rattle.mail_core.specs.Events.{event_of}
+use Rattle.mail_core.specs.Runs.{run_over}
+use Rattle.mail_core.specs.Seen.{seen}
+use Rattle.mail_edge.proofs.Causing.{rose_since}
+use Rattle.sendmail_run.specs.Serving.{site}
+use Rattle.mail_core.proofs.RunLemmas.{under_way_begin, under_way_floor, under_way_more}
+use Rattle.sendmail_run.proofs.ServingLemmas.{heard_at, taken, standing, serves_lost, serves_spent, served_out}
+use Rattle.sendmail_run.proofs.session_mode.serve.Goals as goal
+
+pub returns-in_default : goal.returns-in_default
+returns-in_default g c =
+    serves_lost c.in-Ok.core 0
+    (seen (g.L.Floor.seen c.args.floor.now) (g.D.Spool.seen c.args.spool.now) (g.C.Clock.seen c.args.clock.now))
+    (seen (g.L.Floor.seen c.begin.new.self) (g.D.Spool.seen c.opened.new.spool) (g.C.Clock.seen c.args.clock.now))
+    c.in-Ok.ensures.empty (g.met.D.Spool.only_now c.args.spool.now) (omega arith)
+    (under_way_begin site start c.in-Ok.core (g.L.Floor.seen c.args.floor.now) (g.L.Floor.seen c.begin.new.self) (g.D.Spool.seen c.args.spool.now) (g.D.Spool.seen c.opened.new.spool) (g.C.Clock.seen c.args.clock.now)
+    c.in-Ok.ensures.reads c.begin.ensures.told c.begin.ensures.cause.later c.in-Ok.ensures.later c.in-Ok.ensures.core)
+    c.in_default.ensures.cause.failed
+
+pub loop-init : goal.loop-init
+loop-init g c = record {
+  empty = c.in-Ok.ensures.empty;
+  run = under_way_begin site start c.in-Ok.core (g.L.Floor.seen c.args.floor.now) (g.L.Floor.seen c.begin.new.self) (g.D.Spool.seen c.args.spool.now) (g.D.Spool.seen c.opened.new.spool) (g.C.Clock.seen c.args.clock.now)
+      c.in-Ok.ensures.reads c.begin.ensures.told c.begin.ensures.cause.later c.in-Ok.ensures.later c.in-Ok.ensures.core;
+}
+
+pub returns-in_default-turn : goal.returns-in_default-turn
+returns-in_default-turn g c =
+    let u = c.loop.invariant.run in
+    serves_lost c.loop.core c.loop.counter
+    (seen (g.L.Floor.seen c.args.floor.now) (g.D.Spool.seen c.args.spool.now) (g.C.Clock.seen c.args.clock.now))
+    (seen (g.L.Floor.seen c.turn.new.self) (g.D.Spool.seen c.loop.spool) (g.C.Clock.seen c.loop.clock))
+    c.loop.invariant.empty (g.met.D.Spool.only_now c.args.spool.now) (omega (arith, c.loop-test.true))
+    (under_way_floor site start c.loop.core c.loop.counter (seen (g.L.Floor.seen c.args.floor.now) (g.D.Spool.seen c.args.spool.now) (g.C.Clock.seen c.args.clock.now))
+    (g.L.Floor.seen c.loop.floor) (g.L.Floor.seen c.turn.new.self) (g.D.Spool.seen c.loop.spool) (g.C.Clock.seen c.loop.clock) u c.in_default-turn.ensures.told c.in_default-turn.ensures.cause.later)
+    (rose_since (g.L.Floor.seen c.args.floor.now).faults (g.L.Floor.seen c.loop.floor).faults (g.L.Floor.seen c.turn.new.self).faults u.ran.floor_faults c.in_default-turn.ensures.cause.failed)
+
+pub turn-requires-in-loop : goal.turn-requires-in-loop
+turn-requires-in-loop g c = record {
+  fits = c.in-Ok-turn.ensures.fits;
+  sound = heard_at (g.L.Floor.seen c.loop.floor) (g.L.Floor.seen c.turn.new.self) c.in-Ok-turn.turn c.turn.new.buf c.in-Ok-turn.ensures.told c.in-Ok-turn.ensures.follows;
+  standing = standing c.loop.core c.loop.counter (seen (g.L.Floor.seen c.args.floor.now) (g.D.Spool.seen c.args.spool.now) (g.C.Clock.seen c.args.clock.now)) (seen (g.L.Floor.seen c.loop.floor) (g.D.Spool.seen c.loop.spool) (g.C.Clock.seen c.loop.clock)) c.loop.invariant.run;
+}
+
+pub returns-in-Ends-Stopped : goal.returns-in-Ends-Stopped
+returns-in-Ends-Stopped g c =
+    let u = c.loop.invariant.run in
+    served_out c.loop.core c.turn-in-loop.new.self c.loop.counter
+    (seen (g.L.Floor.seen c.args.floor.now) (g.D.Spool.seen c.args.spool.now) (g.C.Clock.seen c.args.clock.now))
+    (seen (g.L.Floor.seen c.loop.floor) (g.D.Spool.seen c.loop.spool) (g.C.Clock.seen c.loop.clock))
+    (seen (g.L.Floor.seen c.turn-in-loop.new.floor) (g.D.Spool.seen c.turn-in-loop.new.spool) (g.C.Clock.seen c.now-reading.new.self))
+    (event_of c.in-Ok-turn.turn c.turn.new.buf) c.now-reading.result (Ends ending.Stopped) c.loop.invariant.empty (g.met.D.Spool.only_now c.args.spool.now) (omega (arith, c.loop-test.true)) u
+    (rw c.in-Ends-Stopped.field-0-is at c.in-Ends-Stopped.ensures.turns site (run_over site start u.turns).state (g.L.Floor.seen c.loop.floor) (g.C.Clock.seen c.loop.clock) (g.C.Clock.seen c.now-reading.new.self) u.stands
+    (taken (g.L.Floor.seen c.loop.floor) (g.L.Floor.seen c.turn.new.self) (g.C.Clock.seen c.loop.clock) (g.C.Clock.seen c.now-reading.new.self) c.in-Ok-turn.turn c.turn.new.buf c.now-reading.result
+    c.in-Ok-turn.ensures.told c.in-Ok-turn.ensures.follows c.in-Ok-turn.ensures.cause.later c.now-reading.ensures.told c.now-reading.ensures.counted))
+    c.now-reading.ensures.counted
+
+pub returns-in-Ends-SpoolFault : goal.returns-in-Ends-SpoolFault
+returns-in-Ends-SpoolFault g c =
+    let u = c.loop.invariant.run in
+    inr (served_out c.loop.core c.turn-in-loop.new.self c.loop.counter
+    (seen (g.L.Floor.seen c.args.floor.now) (g.D.Spool.seen c.args.spool.now) (g.C.Clock.seen c.args.clock.now))
+    (seen (g.L.Floor.seen c.loop.floor) (g.D.Spool.seen c.loop.spool) (g.C.Clock.seen c.loop.clock))
+    (seen (g.L.Floor.seen c.turn-in-loop.new.floor) (g.D.Spool.seen c.turn-in-loop.new.spool) (g.C.Clock.seen c.now-reading.new.self))
+    (event_of c.in-Ok-turn.turn c.turn.new.buf) c.now-reading.result (Ends ending.SpoolFault) c.loop.invariant.empty (g.met.D.Spool.only_now c.args.spool.now) (omega (arith, c.loop-test.true)) u
+    (rw c.in-Ends-SpoolFault.field-0-is at c.in-Ends-SpoolFault.ensures.turns site (run_over site start u.turns).state (g.L.Floor.seen c.loop.floor) (g.C.Clock.seen c.loop.clock) (g.C.Clock.seen c.now-reading.new.self) u.stands
+    (taken (g.L.Floor.seen c.loop.floor) (g.L.Floor.seen c.turn.new.self) (g.C.Clock.seen c.loop.clock) (g.C.Clock.seen c.now-reading.new.self) c.in-Ok-turn.turn c.turn.new.buf c.now-reading.result
+    c.in-Ok-turn.ensures.told c.in-Ok-turn.ensures.follows c.in-Ok-turn.ensures.cause.later c.now-reading.ensures.told c.now-reading.ensures.counted))
+    c.now-reading.ensures.counted)
+
+pub returns-in-Ends-IdsSpent : goal.returns-in-Ends-IdsSpent
+returns-in-Ends-IdsSpent g c =
+    let u = c.loop.invariant.run in
+    served_out c.loop.core c.turn-in-loop.new.self c.loop.counter
+    (seen (g.L.Floor.seen c.args.floor.now) (g.D.Spool.seen c.args.spool.now) (g.C.Clock.seen c.args.clock.now))
+    (seen (g.L.Floor.seen c.loop.floor) (g.D.Spool.seen c.loop.spool) (g.C.Clock.seen c.loop.clock))
+    (seen (g.L.Floor.seen c.turn-in-loop.new.floor) (g.D.Spool.seen c.turn-in-loop.new.spool) (g.C.Clock.seen c.now-reading.new.self))
+    (event_of c.in-Ok-turn.turn c.turn.new.buf) c.now-reading.result (Ends ending.IdsSpent) c.loop.invariant.empty (g.met.D.Spool.only_now c.args.spool.now) (omega (arith, c.loop-test.true)) u
+    (rw c.in-Ends-IdsSpent.field-0-is at c.in-Ends-IdsSpent.ensures.turns site (run_over site start u.turns).state (g.L.Floor.seen c.loop.floor) (g.C.Clock.seen c.loop.clock) (g.C.Clock.seen c.now-reading.new.self) u.stands
+    (taken (g.L.Floor.seen c.loop.floor) (g.L.Floor.seen c.turn.new.self) (g.C.Clock.seen c.loop.clock) (g.C.Clock.seen c.now-reading.new.self) c.in-Ok-turn.turn c.turn.new.buf c.now-reading.result
+    c.in-Ok-turn.ensures.told c.in-Ok-turn.ensures.follows c.in-Ok-turn.ensures.cause.later c.now-reading.ensures.told c.now-reading.ensures.counted))
+    c.now-reading.ensures.counted
+
+pub loop-preserved : goal.loop-preserved
+loop-preserved g c =
+    let u = c.loop.invariant.run in record {
+      empty = c.loop.invariant.empty;
+      run = under_way_more site start c.loop.core c.turn-in-loop.new.self c.loop.counter
+          (event_of c.in-Ok-turn.turn c.turn.new.buf) c.now-reading.result
+          (seen (g.L.Floor.seen c.args.floor.now) (g.D.Spool.seen c.args.spool.now) (g.C.Clock.seen c.args.clock.now))
+          (seen (g.L.Floor.seen c.loop.floor) (g.D.Spool.seen c.loop.spool) (g.C.Clock.seen c.loop.clock))
+          (seen (g.L.Floor.seen c.turn-in-loop.new.floor) (g.D.Spool.seen c.turn-in-loop.new.spool) (g.C.Clock.seen c.now-reading.new.self))
+          u
+          (rw c.in-GoesOn.is at c.turn-in-loop.ensures.turns site (run_over site start u.turns).state (g.L.Floor.seen c.loop.floor) (g.C.Clock.seen c.loop.clock) (g.C.Clock.seen c.now-reading.new.self) u.stands
+          (taken (g.L.Floor.seen c.loop.floor) (g.L.Floor.seen c.turn.new.self) (g.C.Clock.seen c.loop.clock) (g.C.Clock.seen c.now-reading.new.self) c.in-Ok-turn.turn c.turn.new.buf c.now-reading.result
+          c.in-Ok-turn.ensures.told c.in-Ok-turn.ensures.follows c.in-Ok-turn.ensures.cause.later c.now-reading.ensures.told c.now-reading.ensures.counted))
+          c.now-reading.ensures.counted;
+    }
+
+pub returns : goal.returns
+returns g c =
+    serves_spent c.loop.core c.loop.counter 1152921504606846976
+    (seen (g.L.Floor.seen c.args.floor.now) (g.D.Spool.seen c.args.spool.now) (g.C.Clock.seen c.args.clock.now))
+    (seen (g.L.Floor.seen c.loop.floor) (g.D.Spool.seen c.loop.spool) (g.C.Clock.seen c.loop.clock))
+    c.loop.invariant.empty (g.met.D.Spool.only_now c.args.spool.now) (omega arith) refl c.loop.invariant.run

@@ -1,0 +1,13 @@
+use Rattle.std.proofs.Common.{◌≤◌, length}
+use Rattle.spool_store.specs.Tables.{start}
+use Rattle.mail_core.specs.Runs.{IsUnderWay}
+use Rattle.mail_core.specs.Seen.{seen}
+use Rattle.sendmail_run.specs.Serving.{site, BeganEmpty}
+use Rattle.sendmail_run.proofs.session_mode.serve.Given as goal
+
+-- the turns so far are a run that goes on, over a queue that was empty
+abbrev pub invariant-loop : goal.invariant-loop
+invariant-loop g l = record {
+  empty : BeganEmpty (seen (g.L.Floor.seen l.fn.floor) (g.D.Spool.seen l.fn.spool) (g.C.Clock.seen l.fn.clock));
+  run : IsUnderWay site start l.core l.counter (seen (g.L.Floor.seen l.fn.floor) (g.D.Spool.seen l.fn.spool) (g.C.Clock.seen l.fn.clock)) (seen (g.L.Floor.seen l.floor) (g.D.Spool.seen l.spool) (g.C.Clock.seen l.clock));
+}

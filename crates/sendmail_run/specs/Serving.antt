@@ -1,0 +1,82 @@
+-- How session mode ends, and what was served by then (Sendmail Installation and Operation Guide, "Command Line Flags": -bs; the replies are those of RFC 5321; the outcomes are own).
+use Rattle.std.specs.Prelude.{◌≡◌, ℕ, ◌+◌, ◌^◌, ◌≤◌, List, length, IfSome, codes, true, ◌⊎◌}
+use Rattle.mail_base.specs.Histories.{Rose}
+use Rattle.spool_disk.specs.Spooled.{Reads}
+use Rattle.spool_store.specs.Standing.{IsClean, IsUsed}
+use Rattle.spool_store.specs.Tables.{start}
+use Rattle.mail_core.specs.declared.serving.Ending.TheVariants as ending
+use Rattle.mail_core.specs.declared.serving.Site.{Site}
+use Rattle.mail_core.specs.declared.serving.Went.{Went}
+use Rattle.mail_core.specs.declared.serving.Went.TheVariants.{Ends}
+use Rattle.mail_core.specs.Machine.{Turn}
+use Rattle.mail_core.specs.Runs.{Headline, IsEnded}
+use Rattle.mail_core.specs.Seen.{Seen}
+use Rattle.mail_core.specs.Standing.{dirs_of}
+use Rattle.sendmail_run.specs.declared.outcome.Outcome.{Outcome}
+use Rattle.sendmail_run.specs.declared.outcome.Outcome.TheVariants as ends
+
+-- what replies name as the host, and where the queue is: no line of a configuration says it yet
+abbrev pub site : Site
+site = record { host = codes "localhost"; dir = codes "/var/spool/mqueue" }
+
+-- the floor, the spool and the clock are as before
+pub record IsLeftAlone (a b : Seen) : Type 0 where
+  pub floor : b.floor ≡ a.floor
+  pub clock : b.clock ≡ a.clock
+  pub spool : Reads a.spool b.spool
+  pub spool_faults : b.spool.faults ≡ a.spool.faults
+
+-- nothing was served: the spool was only read, and the floor and the clock are as before
+pub record IsUnserved (a b : Seen) : Type 0 where
+  pub floor : b.floor ≡ a.floor
+  pub clock : b.clock ≡ a.clock
+  pub spool : Reads a.spool b.spool
+  pub spool_faults : a.spool.faults ≤ b.spool.faults
+
+-- where the files of the spool are told, the queue was empty, and so they were exactly those of the unused table
+abbrev pub BeganEmpty : Seen → Type 0
+BeganEmpty a = IfSome a.spool.told (IsClean (dirs_of site) start)
+
+-- so many turns were served, and none of them ended the run: what floor and clock tell since is the machine's run of these turns, the files are those of its table, and each final 250 names an entry whose two files are there (`Headline`)
+pub record IsServed (count : ℕ) (a b : Seen) : Type 0 where
+  pub turns : List Turn
+  pub events : length turns ≡ count
+  pub empty : BeganEmpty a
+  pub headline : Headline site start turns a b true
+  pub readings : b.clock.readings ≡ a.clock.readings + count
+
+-- at most 2^60 turns were served, and the last of them ended the run so
+pub record IsServedOut (a b : Seen) (went : Went) : Type 0 where
+  pub count : ℕ
+  pub few : count ≤ 2 ^ 60
+  pub empty : BeganEmpty a
+  pub ended : IsEnded site start count a b went
+
+-- the spool failed as it was opened
+pub record HasNotOpened (a b : Seen) : Type 0 where
+  pub unserved : IsUnserved a b
+  pub rose : Rose a.spool.faults b.spool.faults
+
+-- the floor failed as it began, or at the turn after so many
+pub record HasLostFloor (a b : Seen) : Type 0 where
+  pub count : ℕ
+  pub few : count ≤ 2 ^ 60
+  pub served : IsServed count a b
+  pub rose : Rose a.floor.faults b.floor.faults
+
+-- how session mode ends: no other outcome is its own
+abbrev pub Serves : Seen → Seen → Outcome → Type 0
+Serves a b ends.Done = IsServedOut a b (Ends ending.Stopped)
+Serves a b ends.IdsSpent = IsServedOut a b (Ends ending.IdsSpent)
+Serves a b ends.SpoolFault = HasNotOpened a b ⊎ IsServedOut a b (Ends ending.SpoolFault)
+Serves a b ends.FloorFault = HasLostFloor a b
+Serves a b (ends.TurnsSpent count) = (count ≡ 2 ^ 60) × IsServed count a b
+Serves a b ends.NotYet = IsUnserved a b × IfSome a.spool.told (IsUsed (dirs_of site))
+Serves a b ends.NoMemory = IsUnserved a b
+Serves a b (ends.Usage place) = ⊥
+Serves a b (ends.NoFile name) = ⊥
+Serves a b ends.FilesFault = ⊥
+Serves a b ends.WriteFault = ⊥
+Serves a b ends.ReadFault = ⊥
+Serves a b ends.InputLarge = ⊥
+Serves a b (ends.ConfigLine line fault) = ⊥
