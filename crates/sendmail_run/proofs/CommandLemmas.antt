@@ -1,9 +1,9 @@
 -- What the code reads of a command line is what the definition says.
-use Rattle.std.proofs.Common.{◌≡◌, ℕ, ◌+◌, List, [], ◌∷◌, ◌++◌, length, drop, Bool, true, false, not, Option, Some, None, Result, Ok, Err, refl, sym, ◌∙◌, ap, subst, arith, append_assoc, inl, inr}
-use Rattle.std.specs.Prelude.{◌⊎◌, codes, cond, bytes_eq, nat_eq, ◌==◌, if◌then◌else◌}
+use Rattle.std.proofs.Common.{◌≡◌, ℕ, ◌+◌, List, [], ◌∷◌, ◌++◌, length, drop, Bool, true, false, not, Option, Some, None, Result, Ok, Err, refl, sym, ◌∙◌, ap, subst, arith, inl, inr}
+use Rattle.std.specs.Prelude.{◌⊎◌, codes, cond, bytes_eq, nat_eq, ◌==◌}
 use Rattle.std.specs.Option.{is_some, unwrap_or}
 use Rattle.std.specs.List.{flat_map, starts_with}
-use Rattle.std.proofs.lemmas.Bool.{cond-true, cond-false, cases_Bool, ne_eqb, eqb-true, eq-eqb}
+use Rattle.std.proofs.lemmas.Bool.{cond-true, cond-false, ne_eqb, eqb-true, eq-eqb}
 use Rattle.std.proofs.lemmas.Slice.Eq.{bytes_eq-Decides, starts_is}
 use Rattle.sendmail_run.specs.declared.command_line.Job.{Job}
 use Rattle.sendmail_run.specs.declared.command_line.Job.TheVariants.{Test, Session}
@@ -12,7 +12,7 @@ use Rattle.sendmail_run.specs.declared.command_line.Saying.{Saying}
 use Rattle.sendmail_run.specs.declared.command_line.WordFault.{WordFault}
 use Rattle.sendmail_run.specs.declared.command_line.WordFault.TheVariants.{At, NoMemory}
 use Rattle.sendmail_run.specs.Words.{command_line, job_said, read_words, Gives, Fails}
-use Rattle.sendmail_run.specs.CommandLines.{Flag, Does, Joined, Apart, word_of, spelling, jobs_in, files_in, IsFile, IsCommandLine, BeginsOne, IsBadWord, IsCutShort, IsRefusedAt, Fails as Refuses, Gives as Says}
+use Rattle.sendmail_run.specs.CommandLines.{Flag, Does, Joined, Apart, word_of, spelling, jobs_in, files_in, IsFile, IsCommandLine, BeginsOne, IsRefusedAt, Fails as Refuses, Gives as Says}
 
 abbrev said : Option Job → Option (List ℕ) → Bool → Saying
 said job file awaits = record { job = job; file = file; awaits_file = awaits }

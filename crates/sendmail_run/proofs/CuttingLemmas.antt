@@ -1,7 +1,7 @@
 -- The tokens of a text are those of every cutting.
-use Rattle.std.proofs.Common.{◌≡◌, ℕ, List, [], ◌∷◌, ◌++◌, Bool, true, false, cond, not, ◌&&◌, refl, sym, ◌∙◌, ap, subst, append_assoc}
+use Rattle.std.proofs.Common.{◌≡◌, ℕ, List, [], ◌∷◌, ◌++◌, Bool, true, false, not, ◌&&◌, refl, sym, ◌∙◌, ap}
 use Rattle.std.specs.List.{flat_map, list_all}
-use Rattle.std.proofs.lemmas.Bool.{cond-true, cond-false, and_parts, and_from, not-true, not_from_false}
+use Rattle.std.proofs.lemmas.Bool.{cond-false, and_parts, and_from, not-true, not_from_false}
 use Rattle.mail_base.specs.declared.token.Token.{Token}
 use Rattle.mail_base.specs.declared.token.Token.TheVariants.{Word, Op}
 use Rattle.sendmail_run.specs.Tokens.{tokens_of, is_gap, is_operator, is_word_byte, begins_word, put_first, put_byte, Cutting, Gap, Operator, Run, bytes_of, is_piece, are_apart, Cuts, token_of}

@@ -1,13 +1,13 @@
 -- Worked examples of the definitions.
-use Rattle.std.specs.Prelude.{◌≡◌, ℕ, List, [], ◌∷◌, ◌++◌, Some, None, Ok, Err, codes, refl}
+use Rattle.std.specs.Prelude.{◌≡◌, [], ◌∷◌, ◌++◌, Ok, Err, codes, refl}
 use Rattle.std.proofs.Common.{inl, inr}
 use Rattle.mail_base.specs.Configs.{initial}
 use Rattle.mail_base.specs.declared.token.Token.TheVariants.{Word, Op}
-use Rattle.mail_base.specs.declared.rule.Item.TheVariants.{Any, More, One, Exact}
+use Rattle.mail_base.specs.declared.rule.Item.TheVariants.{More, One, Exact}
 use Rattle.mail_base.specs.declared.rule.Piece.TheVariants.{Give, Cut}
 use Rattle.mail_base.specs.declared.rule.Step.TheVariants.{Plain}
-use Rattle.mail_base.specs.declared.rule.Go.TheVariants.{Again, Return, Next}
-use Rattle.sendmail_run.specs.declared.fault.Fault.TheVariants.{NoTab, TooManyMetas, BadReference, NotYet}
+use Rattle.mail_base.specs.declared.rule.Go.TheVariants.{Again, Return}
+use Rattle.sendmail_run.specs.declared.fault.Fault.TheVariants.{NoTab, BadReference, NotYet}
 use Rattle.sendmail_run.specs.declared.command_line.Job.TheVariants.{Test, Session}
 use Rattle.sendmail_run.specs.LogicalLines.{logical_lines}
 use Rattle.sendmail_run.specs.Tokens.{tokens_of, default_operators}

@@ -1,6 +1,6 @@
 -- What is kept of a line whose end hasn't come.
-use Rattle.std.proofs.Common.{◌≡◌, ℕ, zero, suc, ◌+◌, ◌-◌, ◌<◌, ◌≤◌, List, [], ◌∷◌, ◌++◌, length, take, drop, get_or, Bool, true, false, cond, refl, sym, ◌∙◌, ap, subst, arith, rules, append-nil, length-append, eqb}
-use Rattle.std.specs.Prelude.{Option, Some, None, Result, Ok, Err, OnOk, codes, MatchBool, ltb}
+use Rattle.std.proofs.Common.{◌≡◌, ℕ, suc, ◌+◌, ◌-◌, ◌<◌, ◌≤◌, List, [], ◌∷◌, ◌++◌, length, take, Bool, true, false, cond, refl, sym, ◌∙◌, ap, subst, arith, append-nil, length-append, eqb}
+use Rattle.std.specs.Prelude.{Result, Ok, Err, OnOk, codes, ltb}
 use Rattle.std.proofs.lemmas.Slice.Eq.{bytes_eq-Decides}
 use Rattle.mail_base.specs.declared.fault.NoMemory.{NoMemory}
 use Rattle.sendmail_run.specs.declared.input.Partial.{Partial}
@@ -9,7 +9,7 @@ use Rattle.std.proofs.lemmas.Bool.{false_from_ne_true, cond-true, cond-false, co
 use Rattle.std.proofs.lemmas.List.{take_all, take-append-le, length-take-le}
 use Rattle.std.proofs.Math.Seq.{take-append-add}
 use Rattle.mail_base.specs.declared.config.Config.{Config}
-use Rattle.sendmail_run.specs.Printing.{Answers, AnswersForm, AnswersRun, Form, Quiet, TooLong, is_quiet, is_quit, form_of, line_of}
+use Rattle.sendmail_run.specs.Printing.{Answers, AnswersForm, Form, Quiet, TooLong, is_quit, line_of}
 use Rattle.sendmail_run.specs.Taking.{most_kept, cut_text, AnswersLast, Keeps}
 use Rattle.sendmail_run.proofs.EndedLemmas.{no_match}
 

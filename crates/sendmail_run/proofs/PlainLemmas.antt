@@ -1,5 +1,5 @@
 -- A configuration that was read has only rules of the forms that runs speak of.
-use Rattle.std.proofs.Common.{◌≡◌, ℕ, List, [], ◌∷◌, ◌++◌, Bool, true, false, cond, not, ◌&&◌, ◌||◌, eqb, Option, Some, None, Result, Ok, Err, refl, sym, ◌∙◌, ap, subst, arith, rules}
+use Rattle.std.proofs.Common.{◌≡◌, ℕ, List, [], ◌∷◌, ◌++◌, Bool, true, false, cond, ◌&&◌, eqb, Option, Some, None, Result, Ok, Err, refl, sym, ◌∙◌, ap, subst}
 use Rattle.std.specs.Prelude.{map}
 use Rattle.std.specs.List.{list_any, list_all, flat_map}
 use Rattle.std.proofs.lemmas.Bool.{cond_both, and_parts}
@@ -7,8 +7,7 @@ use Rattle.std.proofs.lemmas.List.Folds.{list_all-append}
 use Rattle.mail_base.specs.declared.token.Token.{Token}
 use Rattle.mail_base.specs.declared.rule.Item.{Item}
 use Rattle.mail_base.specs.declared.rule.Item.TheVariants.{Exact, Any, More, One}
-use Rattle.mail_base.specs.declared.rule.Piece.TheVariants.{Give, Cut}
-use Rattle.mail_base.specs.declared.rule.Step.{Step}
+use Rattle.mail_base.specs.declared.rule.Piece.TheVariants.{Give}
 use Rattle.mail_base.specs.declared.rule.Step.TheVariants.{Plain}
 use Rattle.mail_base.specs.declared.rule.RuleSet.{RuleSet}
 use Rattle.mail_base.specs.declared.rule.Rule.{Rule}

@@ -1,7 +1,7 @@
 -- How a whole run ends.
-use Rattle.std.proofs.Common.{◌≡◌, ℕ, ◌<◌, ◌≤◌, ◌^◌, List, [], ◌++◌, length, Option, Some, None, Result, Ok, Err, refl, sym, ◌∙◌, ap, subst, arith, length-append, inl, inr, ⊎_elim}
+use Rattle.std.proofs.Common.{◌≡◌, ℕ, ◌<◌, ◌≤◌, ◌^◌, List, length, Option, Some, None, Ok, Err, refl, sym, ◌∙◌, ap, subst, arith, length-append, inl, inr, ⊎_elim}
 use Rattle.std.proofs.Math.Nat.{le_refl}
-use Rattle.std.specs.Prelude.{IfSome, ◌⊎◌}
+use Rattle.std.specs.Prelude.{IfSome}
 use Rattle.mail_base.specs.declared.config.Config.{Config}
 use Rattle.mail_edge.specs.Seen.{SourceSeen, SinkSeen, FilesSeen, FileMap, text_of}
 use Rattle.mail_edge.specs.Moves.{Loses}
@@ -14,8 +14,8 @@ use Rattle.sendmail_run.specs.declared.outcome.Outcome.TheVariants.{Done, Usage,
 use Rattle.sendmail_run.specs.Configuration.{configuration}
 use Rattle.sendmail_run.specs.CommandLines.{IsCommandLine, IsRefusedAt}
 use Rattle.mail_core.specs.Seen.{Seen as CoreSeen}
-use Rattle.sendmail_run.specs.Serving.{IsServedOut, Serves}
-use Rattle.sendmail_run.specs.Runs.{Seen, seen, IsIdle, IsUntouched, Tests, Works, Answered, Ends, HasText, HasConfig, IsCutOff, IsBroken, IsReady, IsReadyToServe, IsSound, IsSoundToServe, IsServiceEnd, IsLater, Completes, CompletesService}
+use Rattle.sendmail_run.specs.Serving.{Serves}
+use Rattle.sendmail_run.specs.Runs.{Seen, seen, IsIdle, IsUntouched, Tests, Works, Answered, Ends, HasText, HasConfig, IsCutOff, IsBroken, IsReady, IsReadyToServe, IsLater, Completes, CompletesService}
 use Rattle.sendmail_run.specs.Beginning.{Begins}
 use Rattle.sendmail_run.proofs.CommandLemmas.{one_mode, not_both}
 use Rattle.sendmail_run.proofs.ServingLemmas.{left_alone, not_used, serves_later}

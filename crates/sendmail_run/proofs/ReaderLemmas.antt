@@ -1,11 +1,11 @@
 -- What the reader of rules and rulesets keeps.
-use Rattle.std.proofs.Common.{◌≡◌, ℕ, zero, suc, ◌+◌, ◌-◌, ◌<◌, ◌≤◌, List, [], ◌∷◌, ◌++◌, length, get_or, set, Bool, true, false, cond, not, ◌&&◌, ◌||◌, eqb, Option, Some, None, refl, sym, ◌∙◌, ap, subst, arith, rules}
+use Rattle.std.proofs.Common.{◌≡◌, ℕ, zero, suc, ◌+◌, ◌<◌, List, [], ◌∷◌, ◌++◌, length, get_or, set, Bool, true, false, cond, not, ◌||◌, eqb, Some, None, refl, sym, ◌∙◌, ap, subst, arith, rules}
 use Rattle.std.specs.Prelude.{map, count_by}
-use Rattle.std.specs.List.{list_any, list_all, flat_map, position_or_len, sum_by, All}
+use Rattle.std.specs.List.{list_any, list_all, flat_map, position_or_len}
 use Rattle.std.specs.Str.{str_eq_ignore_ascii_case, str_to_ascii_lowercase}
 use Rattle.std.proofs.lemmas.Slice.Eq.{bytes_eq-Decides}
-use Rattle.std.proofs.lemmas.Bool.{cases_Bool, cond-true, cond-false, cond_both, not_from_true, not_from_false, and_from, and_parts}
-use Rattle.std.proofs.lemmas.List.{length_push, get_or_push, get_or_default, get_or_append_left}
+use Rattle.std.proofs.lemmas.Bool.{cond-true, cond-false, cond_both}
+use Rattle.std.proofs.lemmas.List.{length_push, get_or_push, get_or_append_left}
 use Rattle.std.proofs.lemmas.List.Sums.{position_or_len_is, passes_at_first, sum_by-append, sum_by-cons}
 use Rattle.std.proofs.lemmas.List.Folds.{list_any_none, list_any_at}
 use Rattle.mail_base.specs.declared.token.Token.{Token}
@@ -15,7 +15,7 @@ use Rattle.mail_base.specs.declared.rule.Item.TheVariants.{Exact, Any, More, One
 use Rattle.mail_base.specs.declared.rule.RuleSet.{RuleSet}
 use Rattle.mail_base.specs.declared.rule.Rule.{Rule}
 use Rattle.mail_base.specs.Metas.{is_sign, is_meta}
-use Rattle.sendmail_run.specs.Tokens.{tokens_of, is_gap, is_operator, begins_word, put_first, put_byte, default_operators}
+use Rattle.sendmail_run.specs.Tokens.{tokens_of, is_gap, is_operator, begins_word, put_byte, default_operators}
 use Rattle.sendmail_run.specs.Sides.{Part, Text, Dollar, parts_of, items_of, items_of_part, is_binding, is_binding_sign, signs_item}
 use Rattle.sendmail_run.specs.Configuration.{is_named, with_set, with_rule}
 use Rattle.sendmail_run.specs.Readings.{IsPlace}

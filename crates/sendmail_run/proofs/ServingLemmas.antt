@@ -1,12 +1,12 @@
 -- How session mode goes on and ends.
-use Rattle.std.proofs.Common.{◌≡◌, ℕ, ◌+◌, ◌<◌, ◌≤◌, ◌^◌, List, [], ◌∷◌, ◌++◌, Option, Some, None, Result, Ok, Err, true, refl, sym, ◌∙◌, ap, subst, arith, inl, inr}
+use Rattle.std.proofs.Common.{◌≡◌, ℕ, ◌+◌, ◌<◌, ◌≤◌, ◌^◌, List, [], ◌∷◌, Option, Some, None, Result, Ok, Err, true, refl, sym, ◌∙◌, ap, subst, arith, inl, inr}
 use Rattle.std.proofs.Math.Nat.{le_refl}
 use Rattle.std.specs.Prelude.{IfSome, IfOk}
 use Rattle.mail_base.specs.Histories.{Gains, Rose}
 use Rattle.mail_base.specs.declared.fault.NoMemory.{NoMemory}
 use Rattle.mail_edge.specs.Seen.{ClockSeen}
 use Rattle.link_edge.specs.Heard.{Heard}
-use Rattle.link_edge.specs.Sessions.{Follows, is_sound, is_among, sound_in}
+use Rattle.link_edge.specs.Sessions.{Follows, is_sound, is_among}
 use Rattle.link_edge.specs.Turns.{told_of}
 use Rattle.link_edge.specs.declared.event.Event.{Event}
 use Rattle.link_edge.specs.declared.event.Event.TheVariants.{Opens, Brings}
@@ -26,17 +26,17 @@ use Rattle.mail_core.specs.declared.serving.Core.{Core}
 use Rattle.mail_core.specs.declared.serving.Ending.TheVariants as ending
 use Rattle.mail_core.specs.declared.serving.Site.{Site}
 use Rattle.mail_core.specs.declared.serving.Went.{Went}
-use Rattle.mail_core.specs.declared.serving.Went.TheVariants.{GoesOn, Ends}
+use Rattle.mail_core.specs.declared.serving.Went.TheVariants.{Ends}
 use Rattle.mail_core.specs.Events.{IsTaken, IsHeardAt, Turns, event_of}
 use Rattle.mail_core.specs.Machine.{beginning}
-use Rattle.mail_core.specs.Runs.{IsEnded, IsUnderWay, run_over}
+use Rattle.mail_core.specs.Runs.{IsUnderWay, run_over}
 use Rattle.mail_core.specs.Seen.{Seen, seen}
 use Rattle.mail_core.specs.Standing.{Stands, Stores, IsStanding, dirs_of}
 use Rattle.sendmail_run.specs.declared.outcome.Outcome.{Outcome}
 use Rattle.sendmail_run.specs.declared.outcome.Outcome.TheVariants as ends
 use Rattle.sendmail_run.specs.Opening.{HasRefused}
-use Rattle.sendmail_run.specs.Serving.{site, IsLeftAlone, IsUnserved, BeganEmpty, IsServed, IsServedOut, HasNotOpened, HasLostFloor, Serves}
-use Rattle.mail_core.proofs.RunLemmas.{under_way_begin, under_way_floor, under_way_more, ended_by, cut_off}
+use Rattle.sendmail_run.specs.Serving.{site, IsLeftAlone, IsUnserved, BeganEmpty, IsServed, IsServedOut, Serves}
+use Rattle.mail_core.proofs.RunLemmas.{ended_by, cut_off}
 
 -- ---- what is read or left alone
 

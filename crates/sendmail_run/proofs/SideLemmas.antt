@@ -1,7 +1,7 @@
 -- Parts from the front of a side.
-use Rattle.std.proofs.Common.{◌≡◌, ℕ, zero, suc, ◌+◌, ◌-◌, ◌<◌, ◌≤◌, List, [], ◌∷◌, ◌++◌, length, take, drop, Bool, true, false, cond, not, ◌&&◌, eqb, Option, Some, None, refl, sym, ◌∙◌, ap, subst, arith, rules}
+use Rattle.std.proofs.Common.{◌≡◌, ℕ, suc, ◌+◌, ◌≤◌, List, [], ◌∷◌, length, take, drop, Bool, true, false, cond, not, eqb, Some, None, refl, sym, ◌∙◌, ap, subst, arith}
 use Rattle.std.specs.List.{prefix_len}
-use Rattle.std.proofs.lemmas.Bool.{cases_Bool, cond-true, cond-false, cond_both, not_from_false, eqb-true}
+use Rattle.std.proofs.lemmas.Bool.{cond-true, cond-false, cond_both, not_from_false, eqb-true}
 use Rattle.sendmail_run.specs.Sides.{Part, Text, Dollar, parts_of, put_first}
 
 abbrev pub is_plain : ℕ → Bool

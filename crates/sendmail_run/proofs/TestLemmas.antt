@@ -1,7 +1,7 @@
 -- How the answers to the lines of input go on and end.
-use Rattle.std.proofs.Common.{◌≡◌, ℕ, ◌+◌, ◌-◌, ◌<◌, ◌≤◌, List, [], ◌∷◌, ◌++◌, length, take, Bool, true, false, Option, Some, None, refl, sym, ◌∙◌, ap, subst, arith, rules, append_assoc, append-nil, length-append, inl, inr}
+use Rattle.std.proofs.Common.{◌≡◌, ℕ, ◌+◌, ◌≤◌, List, [], ◌++◌, length, take, Bool, true, false, Option, Some, None, refl, sym, ◌∙◌, ap, subst, arith, append-nil, length-append, inl, inr}
 use Rattle.std.proofs.lemmas.List.{length-take-le}
-use Rattle.std.specs.Prelude.{IfSome, ◌⊎◌, ◌↔◌}
+use Rattle.std.specs.Prelude.{IfSome, ◌↔◌}
 use Rattle.mail_base.specs.declared.config.Config.{Config}
 use Rattle.mail_base.specs.Histories.{Gains, Rose}
 use Rattle.mail_base.proofs.Gaining.{gains_none, gains_join}
@@ -14,7 +14,7 @@ use Rattle.sendmail_run.specs.declared.input.Partial.{Partial}
 use Rattle.sendmail_run.specs.declared.outcome.Outcome.TheVariants as ends
 use Rattle.sendmail_run.specs.LogicalLines.{physical_lines}
 use Rattle.sendmail_run.specs.Printing.{Printed, Prints, warnings_text}
-use Rattle.sendmail_run.specs.Runs.{Seen, seen, Tests, IsDone, IsCutOff, IsBroken, WritesFront, holds_quit, ended_lines}
+use Rattle.sendmail_run.specs.Runs.{Seen, seen, Tests, IsDone, IsCutOff, IsBroken, WritesFront, ended_lines}
 use Rattle.sendmail_run.specs.Taking.{Keeps, Stands, Quits, At, Answered, AnswersLast, lines_of}
 use Rattle.sendmail_run.proofs.EndedLemmas.{stands_none, stands_printed, stands_on, stands_front, stands_last}
 

@@ -1,11 +1,11 @@
 -- Tokens from the front of a text.
-use Rattle.std.proofs.Common.{◌≡◌, ℕ, zero, suc, ◌+◌, ◌-◌, ◌<◌, ◌≤◌, List, [], ◌∷◌, ◌++◌, length, take, drop, Bool, true, false, cond, not, ◌&&◌, refl, sym, ◌∙◌, ap, subst, arith, rules}
+use Rattle.std.proofs.Common.{◌≡◌, ℕ, suc, ◌+◌, List, [], ◌∷◌, ◌++◌, length, take, drop, Bool, true, false, cond, not, ◌&&◌, refl, sym, ◌∙◌, ap, arith}
 use Rattle.std.specs.List.{prefix_len}
-use Rattle.std.proofs.lemmas.Bool.{cases_Bool, cond-true, cond-false, and_from, not_from_false}
+use Rattle.std.proofs.lemmas.Bool.{cond-true, cond-false, and_from, not_from_false}
 use Rattle.std.proofs.lemmas.List.{append_assoc}
 use Rattle.mail_base.specs.declared.token.Token.{Token}
 use Rattle.mail_base.specs.declared.token.Token.TheVariants.{Word, Op}
-use Rattle.sendmail_run.specs.Tokens.{tokens_of, is_gap, is_operator, is_word_byte, begins_word, put_first, put_byte}
+use Rattle.sendmail_run.specs.Tokens.{tokens_of, is_gap, is_operator, is_word_byte, put_first, put_byte}
 
 -- a byte that separates
 pub gap_first : (operators : List ℕ) (b : ℕ) (bs : List ℕ) → is_gap b ≡ true → tokens_of operators (b ∷ bs) ≡ tokens_of operators bs

@@ -1,5 +1,5 @@
 -- What reading the configuration file gives.
-use Rattle.std.specs.Prelude.{◌≡◌, ℕ, List, Option, Some, None, Result, Ok, Err}
+use Rattle.std.specs.Prelude.{◌≡◌, ℕ, List, Some, None, Result, Ok, Err}
 use Rattle.mail_base.specs.declared.config.Config.{Config}
 use Rattle.mail_base.specs.Histories.{Rose}
 use Rattle.mail_edge.specs.Seen.{FilesSeen}

@@ -1,5 +1,5 @@
 -- What a configuration's lines say, and the first that is refused (Sendmail Installation and Operation Guide, "The Whole Scoop on the Configuration File"): so far the S and R lines.
-use Rattle.std.specs.Prelude.{◌≡◌, ℕ, ◌-◌, List, [], ◌∷◌, ◌++◌, length, take, drop, count_by, filter, Bool, true, false, not, ◌||◌, ◌==◌, nat_lt, if◌then◌else◌, codes, Option, Some, None, Result, Ok, Err}
+use Rattle.std.specs.Prelude.{ℕ, ◌-◌, List, [], ◌∷◌, ◌++◌, length, take, drop, count_by, filter, Bool, not, ◌||◌, ◌==◌, nat_lt, if◌then◌else◌, codes, Option, Some, None, Result, Ok, Err}
 use Rattle.std.specs.List.{list_any, prefix_len, suffix_len}
 use Rattle.std.specs.Str.{str_eq_ignore_ascii_case}
 use Rattle.mail_base.specs.declared.rule.Rule.{Rule}

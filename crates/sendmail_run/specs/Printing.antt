@@ -1,5 +1,5 @@
 -- What address test mode prints (Sendmail Installation and Operation Guide, "Address Testing Mode"; the printed forms are own).
-use Rattle.std.specs.Prelude.{◌≡◌, ℕ, List, [], ◌∷◌, ◌++◌, length, take, drop, bytes_eq, Bool, true, false, ◌||◌, ◌&&◌, ◌==◌, nat_lt, if◌then◌else◌, codes, Result, Ok, Err, MatchBool}
+use Rattle.std.specs.Prelude.{◌≡◌, ℕ, List, [], ◌∷◌, ◌++◌, length, drop, bytes_eq, Bool, true, false, ◌||◌, ◌==◌, nat_lt, if◌then◌else◌, codes, Ok, Err, MatchBool}
 use Rattle.std.specs.Fmt.{decimal}
 use Rattle.std.specs.List.{list_any, flat_map, before_first}
 use Rattle.mail_base.specs.declared.token.Token.{Token}

@@ -1,5 +1,5 @@
 -- How a run ends, and what it took and wrote by then (Sendmail Installation and Operation Guide, "Command Line Flags" and "Address Testing Mode"; the outcomes are own).
-use Rattle.std.specs.Prelude.{◌≡◌, ℕ, ◌^◌, ◌<◌, ◌≤◌, List, [], ◌∷◌, ◌++◌, length, Bool, true, false, ◌==◌, if◌then◌else◌, Option, Some, None, IfSome, Result, Ok, Err, ◌⊎◌}
+use Rattle.std.specs.Prelude.{◌≡◌, ℕ, ◌^◌, ◌<◌, ◌≤◌, List, [], ◌∷◌, ◌++◌, length, Bool, true, false, ◌==◌, if◌then◌else◌, Option, Some, None, IfSome, Ok, Err, ◌⊎◌}
 use Rattle.std.specs.List.{list_any}
 use Rattle.mail_base.specs.declared.config.Config.{Config}
 use Rattle.mail_base.specs.Histories.{Gains, Rose}
@@ -12,7 +12,6 @@ use Rattle.mail_core.specs.Standing.{dirs_of}
 use Rattle.sendmail_run.specs.declared.command_line.Job.{Job}
 use Rattle.sendmail_run.specs.declared.command_line.Job.TheVariants.{Test, Session}
 use Rattle.sendmail_run.specs.declared.command_line.Mode.{Mode}
-use Rattle.sendmail_run.specs.declared.fault.Fault.{Fault}
 use Rattle.sendmail_run.specs.declared.outcome.Outcome.{Outcome}
 use Rattle.sendmail_run.specs.declared.outcome.Outcome.TheVariants as ends
 use Rattle.sendmail_run.specs.LogicalLines.{physical_lines}

@@ -1,7 +1,6 @@
 -- The two sides of a rule (Sendmail Installation and Operation Guide, "R and S: Rewriting Rules").
-use Rattle.std.specs.Prelude.{◌≡◌, ℕ, ◌-◌, List, [], ◌∷◌, ◌++◌, length, map, drop, count_by, Bool, true, false, not, ◌&&◌, ◌||◌, ◌==◌, nat_le, nat_lt, if◌then◌else◌, codes, Option, Some, None}
-use Rattle.std.specs.List.{list_any, flat_map, prefix_len, before_first, after_first}
-use Rattle.mail_base.specs.declared.token.Token.{Token}
+use Rattle.std.specs.Prelude.{ℕ, ◌-◌, List, [], ◌∷◌, length, map, drop, Bool, true, false, not, ◌&&◌, ◌||◌, ◌==◌, nat_le, nat_lt, if◌then◌else◌, codes, Option, Some, None}
+use Rattle.std.specs.List.{list_any, flat_map, prefix_len, before_first}
 use Rattle.mail_base.specs.declared.rule.Item.{Item}
 use Rattle.mail_base.specs.declared.rule.Item.TheVariants.{Any, More, One, Exact}
 use Rattle.mail_base.specs.declared.rule.Piece.TheVariants.{Give, Cut}

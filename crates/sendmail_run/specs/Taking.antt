@@ -1,10 +1,9 @@
 -- Where the answers to the lines of input stand, as code has them.
-use Rattle.std.specs.Prelude.{◌≡◌, ℕ, ◌≤◌, List, [], ◌∷◌, ◌++◌, length, map, take, Bool, true, false, nat_lt, ◌==◌, if◌then◌else◌, codes, IfSome, MatchBool}
-use Rattle.std.specs.List.{list_any, list_all, flat_map}
+use Rattle.std.specs.Prelude.{◌≡◌, ℕ, ◌≤◌, List, [], ◌∷◌, ◌++◌, length, map, take, Bool, true, false, nat_lt, ◌==◌, if◌then◌else◌, codes, MatchBool}
+use Rattle.std.specs.List.{list_any, flat_map}
 use Rattle.std.specs.Str.Lines.{strip_carriage_return}
 use Rattle.mail_base.specs.declared.config.Config.{Config}
 use Rattle.sendmail_run.specs.declared.input.Partial.{Partial}
-use Rattle.sendmail_run.specs.declared.outcome.Outcome.{Outcome}
 use Rattle.sendmail_run.specs.declared.address_test.Step.{Step}
 use Rattle.sendmail_run.specs.declared.address_test.Step.TheVariants.{On, Ended}
 use Rattle.sendmail_run.specs.Printing.{Printed, Answers, is_quit, line_of}

@@ -1,6 +1,6 @@
 -- How the code reads a command line word by word (Sendmail Installation and Operation Guide, "Command Line Flags"): what its
 -- private contracts cite. What a command line is, `CommandLines` says, and what is read here is proved to be that.
-use Rattle.std.specs.Prelude.{◌≡◌, ℕ, ◌+◌, List, [], ◌∷◌, length, drop, bytes_eq, nat_eq, Bool, true, false, not, ◌==◌, if◌then◌else◌, codes, Option, Some, None, Result, Ok, Err}
+use Rattle.std.specs.Prelude.{◌≡◌, ℕ, ◌+◌, List, [], ◌∷◌, length, drop, bytes_eq, nat_eq, true, false, not, ◌==◌, if◌then◌else◌, codes, Option, Some, None, Result, Ok, Err}
 use Rattle.std.specs.Option.{is_some, unwrap_or}
 use Rattle.std.specs.List.{starts_with}
 use Rattle.sendmail_run.specs.declared.command_line.Job.{Job}

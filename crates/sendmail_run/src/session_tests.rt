@@ -236,6 +236,45 @@ fn plain_session_over_one_floor(rt: HostRuntime) -> Result<(), Fail> {
     Ok(())
 }
 
+// A floor on which a second session opens beside the first, and says something.
+fn crowded_floor(alloc: Global) -> Result<ScriptFloor, NoMemory> {
+    let mut steps = Seq::new(alloc);
+    steps.push(Step::Open(Text::of(alloc, PEER)?))?;
+    steps.push(Step::Open(Text::of(alloc, PEER)?))?;
+    steps.push(Step::Say(2, Text::of(alloc, b"HELO d.example\r\n")?))?;
+    steps.push(Step::Say(1, Text::of(alloc, ASKED)?))?;
+    Ok(ScriptFloor::new(alloc, steps, Seq::new(alloc), Seq::new(alloc)))
+}
+
+// All that a floor told as sent to a session.
+fn said_to(alloc: Global, floor: &ScriptFloor, session: u64) -> Result<Text, NoMemory> {
+    let mut text = Text::new(alloc);
+    for event in floor.seen() {
+        if let FloorEvent::Sent(to, bytes) = event {
+            if *to == session {
+                text.extend(bytes.bytes())?;
+            }
+        }
+    }
+    Ok(text)
+}
+
+#[test]
+fn a_second_session_is_turned_away(rt: HostRuntime) -> Result<(), Fail> {
+    let alloc = rt.alloc();
+    let mut files = config_files(alloc, Seq::new(alloc))?;
+    let mut spool = MemSpool::new(alloc, Seq::new(alloc));
+    let mut floor = crowded_floor(alloc)?;
+    let outcome = ends(alloc, &mut files, &mut spool, &mut floor)?;
+    assert!(rt; matches!(outcome, Outcome::Done));
+    assert_eq!(rt; said_to(alloc, &floor, 1)?.bytes(), SAID);
+    assert_eq!(rt;
+        said_to(alloc, &floor, 2)?.bytes(),
+        b"421 4.3.2 Too many sessions\r\n".as_slice()
+    );
+    Ok(())
+}
+
 // A spool whose queue has a file.
 fn used_spool(alloc: Global) -> Result<MemSpool, NoMemory> {
     let mut files = Seq::new(alloc);

@@ -1,5 +1,4 @@
-use Rattle.std.proofs.Common.{sym, ◌∙◌, ◌++◌, refl}
-use Rattle.std.proofs.lemmas.List.{append-nil}
+use Rattle.std.proofs.Common.{sym, ◌∙◌}
 use Rattle.sendmail_run.proofs.EndedLemmas.{line_step, quit_step, tail_step, shorter}
 use Rattle.sendmail_run.proofs.address_test.answer_lines.Goals as goal
 

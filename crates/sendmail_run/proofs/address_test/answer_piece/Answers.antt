@@ -1,5 +1,5 @@
-use Rattle.std.proofs.Common.{◌∙◌, ◌++◌, ℕ, List, ap}
-use Rattle.sendmail_run.proofs.TestLemmas.{at_broken, at_write_fault, at_quit, at_on, at_read_fault}
+use Rattle.std.proofs.Common.{◌++◌}
+use Rattle.sendmail_run.proofs.TestLemmas.{at_broken, at_write_fault, at_quit, at_on}
 use Rattle.sendmail_run.proofs.address_test.answer_piece.Goals as goal
 
 pub returns-in_default-clause-went : goal.returns-in_default-clause-went

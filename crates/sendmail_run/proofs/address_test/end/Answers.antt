@@ -1,5 +1,4 @@
 use Rattle.std.proofs.Common.{◌∙◌, ◌++◌, ℕ, List, ap}
-use Rattle.sendmail_run.specs.Taking.{Keeps, AnswersLast}
 use Rattle.sendmail_run.proofs.TestLemmas.{at_broken_last, at_end, at_end_fault}
 use Rattle.sendmail_run.proofs.address_test.end.Goals as goal
 

@@ -1,4 +1,4 @@
-use Rattle.std.proofs.Common.{◌≡◌, ◌∙◌, ℕ, ◌<◌, List, [], ◌∷◌, ◌++◌, false, length, get_or, sym, ap, arith, rules}
+use Rattle.std.proofs.Common.{◌≡◌, ◌∙◌, ℕ, ◌<◌, [], ◌∷◌, ◌++◌, false, length, get_or, sym, ap, arith}
 use Rattle.mail_base.specs.declared.rule.RuleSet.{RuleSet}
 use Rattle.sendmail_run.specs.Configuration.{is_named}
 use Rattle.sendmail_run.proofs.ReaderLemmas.{place_first, entered, entered_place}

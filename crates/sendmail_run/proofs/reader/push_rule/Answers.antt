@@ -1,4 +1,3 @@
-use Rattle.std.proofs.Common.{rules}
 use Rattle.sendmail_run.proofs.ReaderLemmas.{pushed_rule}
 use Rattle.sendmail_run.proofs.reader.push_rule.Goals as goal
 

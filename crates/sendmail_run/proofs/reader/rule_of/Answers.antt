@@ -1,4 +1,4 @@
-use Rattle.std.proofs.Common.{◌∙◌, ◌≡◌, ap, arith, rules}
+use Rattle.std.proofs.Common.{◌∙◌, ◌≡◌, ap, arith}
 use Rattle.std.specs.Prelude.{count_by}
 use Rattle.mail_base.specs.Metas.{is_meta}
 use Rattle.sendmail_run.specs.Sides.{items_of, left_of}

@@ -1,4 +1,4 @@
-use Rattle.std.proofs.Common.{◌≡◌, ◌++◌, ℕ, Bool, not, eqb, drop}
+use Rattle.std.proofs.Common.{◌≡◌, ◌++◌, not, eqb, drop}
 use Rattle.std.specs.Prelude.{filter}
 use Rattle.sendmail_run.specs.Configuration as spec
 use Rattle.sendmail_run.proofs.reader.set_name.Given as goal

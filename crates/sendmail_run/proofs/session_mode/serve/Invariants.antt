@@ -1,4 +1,3 @@
-use Rattle.std.proofs.Common.{◌≤◌, length}
 use Rattle.spool_store.specs.Tables.{start}
 use Rattle.mail_core.specs.Runs.{IsUnderWay}
 use Rattle.mail_core.specs.Seen.{seen}

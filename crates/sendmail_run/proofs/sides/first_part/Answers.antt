@@ -1,4 +1,4 @@
-use Rattle.std.proofs.Common.{◌∙◌, ◌∷◌, ◌-◌, ℕ, List, take, drop, length, sym, ap}
+use Rattle.std.proofs.Common.{◌∙◌, ◌∷◌, ℕ, List, take, sym, ap}
 use Rattle.std.proofs.lemmas.Bool.{ne_eqb}
 use Rattle.std.proofs.lemmas.List.{take_rest}
 use Rattle.sendmail_run.specs.Sides.{Text, parts_of}

@@ -1,4 +1,3 @@
-use Rattle.sendmail_run.specs.Readings.{IsPlacedAt}
 use Rattle.sendmail_run.proofs.ReaderLemmas.{with_set_at}
 use Rattle.sendmail_run.proofs.reader.Reading.current_place.Goals as goal
 
