@@ -1,13 +1,11 @@
 -- What a session says to a line, as the dialogue has it.
-use Rattle.std.proofs.Common.{◌≡◌, ℕ, List, [], ◌∷◌, ◌++◌, Bool, true, false, Option, Some, None, Result, Ok, Err, refl, sym, ◌∙◌, ap, subst}
+use Rattle.std.proofs.Common.{◌≡◌, ℕ, List, [], ◌∷◌, ◌++◌, Bool, true, false, refl, sym, ◌∙◌, ap}
 use Rattle.std.specs.List.{flat_map}
-use Rattle.std.specs.Prelude.{is_some, if◌then◌else◌, reverse, map}
+use Rattle.std.specs.Prelude.{if◌then◌else◌, reverse}
 use Rattle.std.proofs.lemmas.List.{append-nil, map-append, reverse-reverse}
 use Rattle.std.proofs.lemmas.Grind.{flat_map-append}
 use Rattle.smtp_lines.specs.declared.line.Line.{Line}
-use Rattle.smtp_lines.specs.Stream.{asks}
 use Rattle.smtp_receive.specs.declared.received.Received.{Received}
-use Rattle.smtp_receive.specs.declared.received.Did.{Did as Told}
 use Rattle.smtp_receive.specs.declared.received.Did.TheVariants.{Reply as Replied, Granted, Message, Taken, Bye}
 use Rattle.smtp_receive.specs.Dialogue.{Heard, Exchange, Answer, Says, Greets, Closes, Gives, Takes, Lacks, is_grant, did_of, exchanges, exchange_of, dialogue}
 use Rattle.smtp_receive.specs.Replies.{text_of, shown_host}

@@ -1,11 +1,11 @@
 -- What the core does is a step of the machine.
-use Rattle.std.proofs.Common.{◌≡◌, ◌⊎◌, inl, inr, ⊎_elim, ℕ, ◌+◌, ◌≤◌, ◌<◌, ◌^◌, List, [], ◌∷◌, ◌++◌, length, Bool, true, false, cond, Option, Some, None, refl, sym, ◌∙◌, ap, subst, arith}
-use Rattle.std.specs.Prelude.{◌≢◌, All, nat_eq, nat_le, ◌||◌, ◌==◌, not, if◌then◌else◌}
+use Rattle.std.proofs.Common.{◌≡◌, ℕ, ◌<◌, ◌^◌, List, [], ◌∷◌, ◌++◌, length, Bool, true, false, Option, Some, None, refl, sym, ◌∙◌, ap, subst}
+use Rattle.std.specs.Prelude.{◌≢◌, All, nat_eq, nat_le, ◌||◌, not, if◌then◌else◌}
 use Rattle.std.specs.List.{list_any}
 use Rattle.std.specs.Option.{is_some}
-use Rattle.std.proofs.lemmas.Bool.{cond-true, cond-false, false≢true, eq-eqb, eqb-true, ne_eqb, eqb-false, or_from}
+use Rattle.std.proofs.lemmas.Bool.{cond-true, cond-false, false≢true, eq-eqb}
 use Rattle.std.proofs.lemmas.List.Elements.{All-nil, All-cons}
-use Rattle.mail_base.specs.Histories.{Gains, Rose}
+use Rattle.mail_base.specs.Histories.{Gains}
 use Rattle.mail_base.proofs.Gaining.{gains_none}
 use Rattle.mail_edge.specs.Seen.{ClockSeen}
 use Rattle.link_edge.specs.Heard.{Heard}
@@ -19,19 +19,20 @@ use Rattle.mail_core.specs.declared.fed.Fed.{Fed}
 use Rattle.mail_core.specs.declared.fed.Fed.TheVariants.{GoesOn as Onward, Granted, HungUp, Faulted, Spent}
 use Rattle.mail_core.specs.declared.intake.Intake.{Intake}
 use Rattle.mail_core.specs.declared.serving.Core.{Core}
+use Rattle.mail_core.specs.declared.serving.Ending.{Ending}
 use Rattle.mail_core.specs.declared.serving.Ending.TheVariants.{Stopped, SpoolFault, IdsSpent}
 use Rattle.mail_core.specs.declared.serving.Site.{Site}
 use Rattle.mail_core.specs.declared.serving.Went.{Went}
 use Rattle.mail_core.specs.declared.serving.Went.TheVariants.{GoesOn as Going, Ends}
-use Rattle.mail_core.specs.Acts.{Act, Takes, Sends, HangsUp, heard_of, readings_of, commands_of}
-use Rattle.mail_core.specs.Events.{IsTaken, IsTakenUp, IsTakenOut, IsOpened, Steps, Turns, is_well, step_of, went_of}
+use Rattle.mail_core.specs.Acts.{Takes, Sends, HangsUp, heard_of, readings_of, commands_of}
+use Rattle.mail_core.specs.Events.{IsTaken, IsTakenUp, IsOpened, Steps, Turns, is_well, went_of}
 use Rattle.mail_core.specs.Going.{Feeds, way_after, is_onward, is_alive}
 use Rattle.mail_core.specs.Going as going
-use Rattle.mail_core.specs.Guests.{Guest, newcomer, with_bytes, has_number, guest_of, is_here, without, with_guest}
-use Rattle.mail_core.specs.Machine.{Choice, Plain, Short, Drops, Fails, Way, GoesOn, Leaves, Over, Did, all_answered, State, Step, still, most_guests, turned_away, welcomed, opened, brought, pieced, handled, Turn, at_moment, moment_by, stepped, taken}
+use Rattle.mail_core.specs.Guests.{Guest, newcomer, with_bytes, guest_of, is_here, without, with_guest}
+use Rattle.mail_core.specs.Machine.{Choice, Plain, Short, Drops, Fails, Way, GoesOn, Leaves, Over, By, Did, all_answered, State, Step, still, most_guests, turned_away, welcomed, opened, brought, pieced, handled, Turn, at_moment, moment_by, stepped, taken}
 use Rattle.mail_core.specs.Messages.{is_spent}
 use Rattle.mail_core.specs.Seen.{Seen, seen, Ran}
-use Rattle.mail_core.specs.Standing.{dirs_of, Stores, Serves, Keeps, IsAlone, Hosts, Stands, is_hosted}
+use Rattle.mail_core.specs.Standing.{dirs_of, Stores, IsAlone, Hosts, Stands, is_hosted}
 use Rattle.mail_core.proofs.LineLemmas.{onward_alive}
 use Rattle.mail_core.proofs.RanLemmas.{ran_join, ran_quiet, ran_none, ran_floor}
 
@@ -189,12 +190,20 @@ going_alive Spent e = absurd (cc e)
 brought_acts : (m : State) (way : Way) (d : Did) → (brought m way d).acts ≡ d.acts
 brought_acts m GoesOn d = refl
 brought_acts m Leaves d = refl
-brought_acts m Over d = refl
+brought_acts m (Over finish) d = refl
 
 brought_table : (m : State) (way : Way) (d : Did) → (brought m way d).state.table ≡ d.table
 brought_table m GoesOn d = refl
 brought_table m Leaves d = refl
-brought_table m Over d = refl
+brought_table m (Over finish) d = refl
+
+-- the run ended as the piece did
+brought_end : (m : State) (fed : Fed) (d : Did) (ending : Ending) → went_of fed ≡ Ends ending → (brought m (way_after fed) d).state.over ≡ Some (By ending)
+brought_end m Onward d ending e = absurd (cc e)
+brought_end m Granted d ending e = absurd (cc e)
+brought_end m HungUp d ending e = absurd (cc e)
+brought_end m Faulted d ending e = let same : SpoolFault ≡ ending = cc e in ap (λ q. Some (By q)) same
+brought_end m Spent d ending e = let same : IdsSpent ≡ ending = cc e in ap (λ q. Some (By q)) same
 
 -- taken out, the one session leaves none
 pub without_one : (number : ℕ) (guests : List Guest) (g : Guest) → guests ≡ g ∷ [] → nat_eq g.number number ≡ true → without number guests ≡ []
@@ -211,6 +220,7 @@ module _ (site : Site) (m : State) (session : ℕ) (piece : List ℕ) (core : Co
         choices = [];
         ran = subst (λ (q : Step). Ran (dirs_of site) m.table (seen f s k) (seen f s k) q.acts true) (sym step) (ran_none (dirs_of site) m.table f s k);
         stands = λ e. subst (λ (q : Step). Stands site core q.state) (sym step) stands;
+        ended = λ ending e. absurd (cc e);
         cause = λ e. cc e;
         spent = λ e. cc e;
       }
@@ -233,6 +243,7 @@ module _ (site : Site) (m : State) (session : ℕ) (piece : List ℕ) (a b : See
           (subst (λ w. Ran (dirs_of site) m.table a b (brought m (way_after fed) did).acts w) (went_well fed)
           (subst (λ acts. Ran (dirs_of site) m.table a b acts (going.is_well fed)) (sym (brought_acts m (way_after fed) did)) h.ran));
       stands = λ e. subst (λ (q : Step). Stands site core q.state) (sym step_is) (stands e);
+      ended = λ ending e. ap (λ (q : Step). q.state.over) step_is ∙ brought_end m fed did ending e;
       cause = λ e. h.cause (went_faulted fed e);
       spent = λ e. ap (λ (q : Step). is_spent q.state.table) step_is ∙ ap is_spent (brought_table m (way_after fed) did) ∙ h.spent (went_spent fed e);
     }
@@ -306,20 +317,26 @@ opened_steps site m session peer f now s k core h own =
       choices = h.choices;
       ran = ran_floor (dirs_of site) m.table f now s k step.acts quiet.0 quiet.1 h.told own;
       stands = λ e. h.stands;
+      ended = λ ending e. absurd (cc e);
       cause = λ e. cc e;
       spent = λ e. cc e;
     }
 
 -- nothing is asked of the devices
-pub quiet_steps : (site : Site) (gives : List Choice → Step) (table : Table) (f : Heard) (s : Spooled) (k : ClockSeen) (core : Core) (went : Went) → (gives []).acts ≡ [] → is_well went ≡ true → (went ≡ Going → Stands site core (gives []).state) → went ≢ Ends SpoolFault → went ≢ Ends IdsSpent
+pub quiet_steps : (site : Site) (gives : List Choice → Step) (table : Table) (f : Heard) (s : Spooled) (k : ClockSeen) (core : Core) (went : Went) → (gives []).acts ≡ [] → is_well went ≡ true → (went ≡ Going → Stands site core (gives []).state) → ((ending : Ending) → went ≡ Ends ending → (gives []).state.over ≡ Some (By ending)) → went ≢ Ends SpoolFault → went ≢ Ends IdsSpent
     → Steps site gives table (seen f s k) (seen f s k) core went
-quiet_steps site gives table f s k core went none well stands whole some = record {
+quiet_steps site gives table f s k core went none well stands ended whole some = record {
   choices = [];
   ran = subst (λ acts. Ran (dirs_of site) table (seen f s k) (seen f s k) acts (is_well went)) (sym none) (subst (Ran (dirs_of site) table (seen f s k) (seen f s k) []) (sym well) (ran_none (dirs_of site) table f s k));
   stands = stands;
+  ended = ended;
   cause = λ e. absurd (whole e);
   spent = λ e. absurd (some e);
 }
+
+-- the floor told Stop
+pub stopped_so : (ending : Ending) → Ends Stopped ≡ Ends ending → Some (By Stopped) ≡ Some (By ending)
+stopped_so ending e = let same : Stopped ≡ ending = cc e in ap (λ q. Some (By q)) same
 
 here_by : (t : Bool) (g h : Guest) → (if t then Some g else None) ≡ Some h → t ≡ true
 here_by true g h e = refl
@@ -361,17 +378,18 @@ at_stands site m core intake reading st is range = record {
   on = st.on;
 }
 
-pub turns_of : (site : Site) (m : State) (event : Event) (reading : ℕ) (before f : Heard) (s : Spooled) (clock read : ClockSeen) (b : Seen) (core : Core) (went : Went) → m.over ≡ false → IsTaken before f clock read event reading
+pub turns_of : (site : Site) (m : State) (event : Event) (reading : ℕ) (before f : Heard) (s : Spooled) (clock read : ClockSeen) (b : Seen) (core : Core) (went : Went) → m.over ≡ None → IsTaken before f clock read event reading
     → Steps site (handled site (at_moment m reading) event) m.table (seen f s read) b core went → (went ≡ Ends Stopped → event ≡ Stops) → Turns site m event reading (seen before s clock) b core went
 turns_of site m event reading before f s clock read b core went on taken_is h stopped =
     let turn : Turn = record { event = event; reading = reading; choices = h.choices } in
     let inner = handled site (at_moment m reading) event h.choices in
-    let is : stepped site m turn ≡ taken turn inner = cond-false m.over (still m) (taken turn inner) on in record {
+    let is : stepped site m turn ≡ taken turn inner = cond-false (is_some m.over) (still m) (taken turn inner) (ap is_some on) in record {
       choices = h.choices;
       ran = subst (λ (q : Step). Ran (dirs_of site) m.table (seen before s clock) b q.acts (is_well went)) (sym is)
           (ran_join (dirs_of site) m.table (seen before s clock) (seen f s read) b (Takes event reading ∷ []) inner.acts (is_well went)
           (ran_quiet (dirs_of site) m.table before f s clock read (Takes event reading ∷ []) refl taken_is.told taken_is.faults taken_is.clock_told taken_is.readings) h.ran);
       stands = λ e. subst (λ (q : Step). Stands site core q.state) (sym is) (h.stands e);
+      ended = λ ending e. ap (λ (q : Step). q.state.over) is ∙ h.ended ending e;
       stopped = stopped;
       cause = h.cause;
       spent = λ e. ap (λ (q : Step). is_spent q.state.table) is ∙ h.spent e;

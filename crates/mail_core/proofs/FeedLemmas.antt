@@ -29,7 +29,7 @@ use Rattle.mail_core.specs.declared.serving.Site.{Site}
 use Rattle.mail_core.specs.Acts.{HangsUp, heard_of}
 use Rattle.mail_core.specs.Going.{Does, Hears, AnswersLine, AnswersLines, Feeds, granted_by, is_alive, is_granted, is_onward, is_well, reached, way_after}
 use Rattle.mail_core.specs.Guests.{Guest, grants_of, lines_of, next_line, with_bytes}
-use Rattle.mail_core.specs.Machine.{Choice, Drops, Way, GoesOn, Leaves, Over, Did, answered, by_choice, does, fresh_start, goes_on, is_over, settled, settled_by}
+use Rattle.mail_core.specs.Machine.{Choice, Drops, Way, GoesOn, Leaves, Over, Cut, Did, answered, by_choice, does, fresh_start, goes_on, is_over, settled, settled_by}
 use Rattle.mail_core.specs.Messages.{is_spent}
 use Rattle.mail_core.specs.Seen.{Seen, seen, Ran}
 use Rattle.mail_core.specs.Standing.{Serves, Talks, Follows, IsReady, Keeps, dirs_of, line_in, lines_heard}
@@ -302,7 +302,7 @@ turned_lines caller turned reader fed is same = ap (λ (q : Caller). q.lines) is
 settled_none : (way : Way) (d : Did) → settled_by way None d ≡ d
 settled_none GoesOn d = refl
 settled_none Leaves d = refl
-settled_none Over d = refl
+settled_none (Over finish) d = refl
 
 settled_off : (fed : Fed) (line : Option Line) (d : Did) → is_onward fed ≡ false → settled_by (way_after fed) line d ≡ d
 settled_off Onward line d off = absurd (cc off)
@@ -315,7 +315,7 @@ settled_end : (on : Bool) (fed : Fed) (d : Did) → is_onward fed ≡ on → d.w
 settled_end true fed d is way none = ap (λ o. settled_by d.way o d) (none is) ∙ settled_none d.way d
 settled_end false fed d is way none = ap (λ w. settled_by w (next_line d.guest) d) way ∙ settled_off fed (next_line d.guest) d is
 
-by_drops : (site : Site) (moment : ℕ) (d : Did) (line : Option Line) → by_choice site moment d Drops line ≡ (if d.fresh then does d (HangsUp d.guest.number ∷ []) Leaves else is_over d)
+by_drops : (site : Site) (moment : ℕ) (d : Did) (line : Option Line) → by_choice site moment d Drops line ≡ (if d.fresh then does d (HangsUp d.guest.number ∷ []) Leaves else is_over d Cut)
 by_drops site moment d None = refl
 by_drops site moment d (Some line) = refl
 
@@ -324,7 +324,7 @@ dropped : (site : Site) (moment : ℕ) (d : Did) → d.way ≡ GoesOn → d.fres
 dropped site moment d way fresh =
     ap (λ w. goes_on w d (by_choice site moment d Drops (next_line d.guest))) way
     ∙ by_drops site moment d (next_line d.guest)
-    ∙ cond-true d.fresh (does d (HangsUp d.guest.number ∷ []) Leaves) (is_over d) fresh
+    ∙ cond-true d.fresh (does d (HangsUp d.guest.number ∷ []) Leaves) (is_over d Cut) fresh
 
 module _ (site : Site) (moment : ℕ) (table : Table) (g : Guest) (bytes : List ℕ) where
   -- where a piece begins

@@ -1,12 +1,12 @@
 -- A message that was received has a control text.
-use Rattle.std.proofs.Common.{◌≡◌, ◌≢◌, ℕ, ◌+◌, ◌<◌, ◌≤◌, ◌^◌, List, [], ◌∷◌, refl, sym, ap, subst, arith, ℤ, pos, ◌∙◌}
-use Rattle.std.specs.Prelude.{All, FitsSigned, codes, unsigned_abs}
+use Rattle.std.proofs.Common.{◌≡◌, ◌≢◌, ℕ, ◌+◌, ◌<◌, ◌≤◌, ◌^◌, List, [], ◌∷◌, sym, ap, subst, arith, ℤ, pos, ◌∙◌}
+use Rattle.std.specs.Prelude.{All, FitsSigned, codes}
 use Rattle.std.specs.Int.{w64, w128}
 use Rattle.std.proofs.lemmas.Int.{fits_signed_from_abs, to_z-of_z}
 use Rattle.std.proofs.Common.{◌+ℤ◌, to_z, of_z}
 use Rattle.std.proofs.lemmas.List.Elements.{All-nil, All-cons}
 use Rattle.mail_base.specs.declared.control.Row.{Row}
-use Rattle.qf_format.specs.Valid.{IsLine, IsValid, IsRow, most_rows}
+use Rattle.qf_format.specs.Valid.{IsValid, IsRow, most_rows}
 use Rattle.smtp_receive.specs.declared.received.Received.{Received}
 use Rattle.smtp_receive.specs.Forms.{IsFormed}
 use Rattle.mail_core.specs.Messages.{control_of, row_of, recipient_factor}

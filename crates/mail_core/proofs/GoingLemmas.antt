@@ -1,26 +1,25 @@
 -- What is done for a line joins, and single sends are done.
-use Rattle.std.proofs.Common.{◌≡◌, ◌⊎◌, inl, inr, ⊎_elim, ℕ, ◌≤◌, List, [], ◌∷◌, ◌++◌, Bool, true, false, refl, sym, ◌∙◌, ap, subst, arith, append_assoc}
+use Rattle.std.proofs.Common.{◌≡◌, ◌⊎◌, inl, inr, ℕ, ◌≤◌, List, [], ◌∷◌, ◌++◌, Bool, true, false, refl, sym, ◌∙◌, ap, subst, arith, append_assoc}
 use Rattle.std.specs.Prelude.{◌≢◌, if◌then◌else◌}
 use Rattle.std.proofs.lemmas.List.{append-nil}
-use Rattle.std.proofs.lemmas.Bool.{cond-true, cond-false, false≢true}
+use Rattle.std.proofs.lemmas.Bool.{cond-false, false≢true}
 use Rattle.mail_base.specs.Histories.{Gains, Rose}
 use Rattle.mail_edge.specs.Seen.{ClockSeen}
 use Rattle.link_edge.specs.Heard.{Heard}
 use Rattle.smtp_lines.specs.declared.line.Line.{Line}
 use Rattle.smtp_receive.specs.declared.received.Received.{Received}
 use Rattle.smtp_receive.specs.Dialogue.{Gives}
-use Rattle.smtp_receive.specs.Replies.{stored_text, out_of_memory_text}
 use Rattle.spool_disk.specs.Spooled.{Spooled}
 use Rattle.spool_store.specs.Moves.{Moves}
 use Rattle.spool_store.specs.Standing.{IsClean, IsEither}
-use Rattle.spool_store.specs.Tables.{Table, after, applied}
+use Rattle.spool_store.specs.Tables.{after, applied}
 use Rattle.mail_core.specs.declared.fed.Fed.{Fed}
 use Rattle.mail_core.specs.declared.fed.Fed.TheVariants.{GoesOn as Onward, Granted, HungUp, Faulted, Spent}
+use Rattle.mail_core.specs.declared.serving.Ending.TheVariants.{SpoolFault, IdsSpent}
 use Rattle.mail_core.specs.declared.serving.Site.{Site}
-use Rattle.mail_core.specs.Acts.{Act, Commits, Sends, HangsUp, heard_of, readings_of, commands_of, speech}
+use Rattle.mail_core.specs.Acts.{Commits, Sends, HangsUp, heard_of, readings_of, commands_of, speech}
 use Rattle.mail_core.specs.Going.{Does, way_after, is_well, is_onward, is_granted}
-use Rattle.mail_core.specs.Guests.{with_line}
-use Rattle.mail_core.specs.Machine.{Choice, Plain, Short, Drops, Fails, Way, GoesOn, Leaves, Over, Did, way_of, does, says, closes, is_over, commits, accepts, heard_line}
+use Rattle.mail_core.specs.Machine.{GoesOn, Leaves, By, Did, way_of, does, says, closes, is_over, commits, accepts, fails, heard_line}
 use Rattle.mail_core.specs.Messages.{accept_of, is_spent}
 use Rattle.mail_core.specs.Seen.{Seen, seen, table_after, Ran}
 use Rattle.mail_core.specs.Standing.{dirs_of}
@@ -154,7 +153,7 @@ module _ (site : Site) (d : Did) (f : Heard) (s : Spooled) (k : ClockSeen) where
   }
 
   -- no id is left
-  pub does_spent : is_spent d.table ≡ true → Does site d (is_over d) (seen f s k) (seen f s k) Spent
+  pub does_spent : is_spent d.table ≡ true → Does site d (is_over d (By IdsSpent)) (seen f s k) (seen f s k) Spent
   does_spent spent = record {
     more = [];
     acts = refl;
@@ -184,9 +183,9 @@ module _ (site : Site) (moment : ℕ) (d : Did) (message : Received) (f : Heard)
   }
 
   -- the spool failed at a message
-  pub does_failed : Moves s t (IsClean (dirs_of site) d.table) (IsEither (dirs_of site) d.table (accept_of site moment message)) (IsEither (dirs_of site) d.table (accept_of site moment message)) → s.faults ≤ t.faults → Rose s.faults t.faults
-      → Does site d (does (commits site moment d message) [] Over) (seen f s k) (seen f t k) Faulted
-  does_failed moves later rose = record {
+  pub does_failed : is_spent d.table ≡ false → Moves s t (IsClean (dirs_of site) d.table) (IsEither (dirs_of site) d.table (accept_of site moment message)) (IsEither (dirs_of site) d.table (accept_of site moment message)) → s.faults ≤ t.faults → Rose s.faults t.faults
+      → Does site d (fails site moment d (Gives message)) (seen f s k) (seen f t k) Faulted
+  does_failed left moves later rose = subst (λ e. Does site d e (seen f s k) (seen f t k) Faulted) (sym (cond-false (is_spent d.table) _ _ left)) (record {
     more = Commits (accept_of site moment message) ∷ [];
     acts = append-nil (d.acts ++ Commits (accept_of site moment message) ∷ []);
     table = refl;
@@ -195,7 +194,7 @@ module _ (site : Site) (moment : ℕ) (d : Did) (message : Received) (f : Heard)
     way = refl;
     cause = λ x. rose;
     spent = λ x. cc x;
-  }
+  })
 
 -- a message was taken in, and a text said
 pub does_accepts : (site : Site) (moment : ℕ) (d : Did) (message : Received) (f g : Heard) (s t : Spooled) (k : ClockSeen) (text : List ℕ) (fed : Fed) → d.way ≡ GoesOn → is_spent d.table ≡ false
@@ -212,9 +211,12 @@ does_accepts site moment d message f g s t k text fed way left moves later spoke
 pub does_heard : (site : Site) (d e : Did) (a b : Seen) (fed : Fed) (line : Line) (short : Bool) → Does site d e a b fed → Does site d (heard_line e line short) a b fed
 does_heard site d e a b fed line short h = record { more = h.more; acts = h.acts; table = h.table; number = h.number; ran = h.ran; way = h.way; cause = h.cause; spent = h.spent }
 
-accepts_case : (b : Bool) (d x : Did) → x.guest ≡ d.guest → (if b then is_over d else x).guest ≡ d.guest
+accepts_case : (b : Bool) (d x : Did) → x.guest ≡ d.guest → (if b then is_over d (By IdsSpent) else x).guest ≡ d.guest
 accepts_case true d x e = refl
 accepts_case false d x e = e
 
 pub accepts_guest : (site : Site) (moment : ℕ) (d : Did) (message : Received) (text : List ℕ) (whole : Bool) → (accepts site moment d message text whole).guest ≡ d.guest
 accepts_guest site moment d message text whole = accepts_case (is_spent d.table) d (says (commits site moment d message) text whole) refl
+
+pub fails_guest : (site : Site) (moment : ℕ) (d : Did) (message : Received) → (fails site moment d (Gives message)).guest ≡ d.guest
+fails_guest site moment d message = accepts_case (is_spent d.table) d (is_over (commits site moment d message) (By SpoolFault)) refl

@@ -1,5 +1,5 @@
 -- A line is answered.
-use Rattle.std.proofs.Common.{◌≡◌, ℕ, List, [], ◌∷◌, ◌++◌, Bool, true, false, Option, Some, None, refl, sym, ◌∙◌, ap, subst}
+use Rattle.std.proofs.Common.{◌≡◌, ℕ, List, [], ◌∷◌, ◌++◌, Bool, true, false, Some, None, refl, sym, ◌∙◌, ap, subst}
 use Rattle.std.specs.Prelude.{◌≢◌, if◌then◌else◌}
 use Rattle.mail_base.specs.Histories.{Gains}
 use Rattle.mail_edge.specs.Seen.{ClockSeen}
@@ -10,7 +10,7 @@ use Rattle.smtp_lines.specs.Stream.{asks}
 use Rattle.smtp_receive.specs.declared.received.Received.{Received}
 use Rattle.smtp_receive.specs.Dialogue.{Answer, Says, Greets, Closes, Gives, Takes, Lacks, is_grant}
 use Rattle.smtp_receive.specs.Replies.{out_of_memory_text}
-use Rattle.smtp_receive.specs.Sessions.{answer_of, Remembers, Stands as Speaks}
+use Rattle.smtp_receive.specs.Sessions.{answer_of, Stands as Speaks}
 use Rattle.smtp_receive.proofs.KeepLemmas.{stands_remembers}
 use Rattle.spool_disk.specs.Spooled.{Spooled}
 use Rattle.mail_core.specs.declared.caller.Caller.{Caller}

@@ -1,6 +1,6 @@
 -- Each step of the machine does acts that lead from its table to the next, and says the final 250 of entries alone.
 use Rattle.std.proofs.Common.{◌≡◌, ℕ, ◌≤◌, List, [], ◌∷◌, ◌++◌, Bool, true, false, Option, Some, None, refl, sym, ◌∙◌, ap, subst, append_assoc}
-use Rattle.std.specs.Prelude.{if◌then◌else◌, nat_le, length, fold}
+use Rattle.std.specs.Prelude.{if◌then◌else◌, nat_le, length, fold, is_some}
 use Rattle.std.proofs.lemmas.List.{append-nil}
 use Rattle.std.proofs.lemmas.List.Elements.{Contains-push, Contains-append_left}
 use Rattle.std.proofs.lemmas.Bool.{ltb-false}
@@ -18,10 +18,11 @@ use Rattle.smtp_receive.proofs.ToldLemmas.{said_text, said_grant, no_bye, no_tak
 use Rattle.smtp_receive.proofs.FinalLemmas.{told_final, hello_final, closing_final, greeting_final, memory_final, sessions_final, same_id}
 use Rattle.spool_store.specs.Tables.{Stored, Table, Command, stored, after, applied}
 use Rattle.spool_store.specs.Tables.Command.{Accept}
+use Rattle.mail_core.specs.declared.serving.Ending.TheVariants.{SpoolFault, IdsSpent}
 use Rattle.mail_core.specs.declared.serving.Site.{Site}
 use Rattle.mail_core.specs.Acts.{Act, Takes, Commits, Sends, HangsUp, speech}
 use Rattle.mail_core.specs.Guests.{Guest, guest_of, is_here, next_line, with_bytes}
-use Rattle.mail_core.specs.Machine.{Choice, Plain, Short, Drops, Fails, Way, GoesOn, Leaves, Over, Did, way_of, does, says, closes, is_over, commits, accepts, replies, lacks, fails, heard_line, by_choice, goes_on, answered, settled_by, settled, fresh_start, all_answered, State, Step, still, most_guests, turned_away, welcomed, opened, brought, pieced, handled, Turn, at_moment, taken, stepped, followed, run}
+use Rattle.mail_core.specs.Machine.{Choice, Plain, Short, Drops, Fails, Way, GoesOn, Leaves, Over, Finish, By, Cut, Did, way_of, does, says, closes, is_over, commits, accepts, replies, lacks, fails, heard_line, by_choice, goes_on, answered, settled_by, settled, fresh_start, all_answered, State, Step, still, most_guests, turned_away, welcomed, opened, brought, pieced, handled, Turn, at_moment, taken, stepped, followed, run}
 use Rattle.mail_core.specs.Messages.{accept_of, draft_of, is_spent, last_id}
 use Rattle.mail_core.specs.Runs.{HasEntry, IsAcked, AreAcked}
 use Rattle.mail_core.specs.Seen.{table_after}
@@ -178,8 +179,8 @@ closes_grows : (site : Site) (d : Did) (text : List ℕ) (whole : Bool) → (IsF
 closes_grows site d text whole not_final = does_grows site d (Sends d.guest.number text whole ∷ HangsUp d.guest.number ∷ []) Leaves
     (last_leads site d.table d.guest.number text whole (unlike_final d.table d.guest.number text whole not_final))
 
-over_grows : (site : Site) (d : Did) → Grows site d (is_over d)
-over_grows site d = does_grows site d [] Over (leads_none site d.table)
+over_grows : (site : Site) (d : Did) (finish : Finish) → Grows site d (is_over d finish)
+over_grows site d finish = does_grows site d [] (Over finish) (leads_none site d.table)
 
 drops_grows : (site : Site) (d : Did) → Grows site d (does d (HangsUp d.guest.number ∷ []) Leaves)
 drops_grows site d = does_grows site d (HangsUp d.guest.number ∷ []) Leaves (hang_leads site d.table d.guest.number)
@@ -194,8 +195,8 @@ commits_grows site moment d message = record {
 
 accepts_by : (site : Site) (moment : ℕ) (d : Did) (message : Received) (text : List ℕ) (whole spent : Bool) → is_spent d.table ≡ spent
     → (is_spent d.table ≡ false → (w : Bool) → IsAcked (after d.table (accept_of site moment message)) (Sends d.guest.number text w))
-    → Grows site d (if spent then is_over d else says (commits site moment d message) text whole)
-accepts_by site moment d message text whole true e acked = over_grows site d
+    → Grows site d (if spent then is_over d (By IdsSpent) else says (commits site moment d message) text whole)
+accepts_by site moment d message text whole true e acked = over_grows site d (By IdsSpent)
 accepts_by site moment d message text whole false e acked =
     let c = commits site moment d message in
     grows_join site d c (says c text whole) (commits_grows site moment d message) (says_grows site c text whole (acked e))
@@ -229,22 +230,26 @@ lacks_grows site moment d Ends accepted whole = lack_grows site d whole
 lacks_grows site moment d Passes accepted whole = lack_grows site d whole
 lacks_grows site moment d Lacks accepted whole = lack_grows site d whole
 
-fails_grows : (site : Site) (moment : ℕ) (d : Did) (answer : Answer) → Grows site d (fails site moment d answer)
-fails_grows site moment d (Gives message) =
+failing_grows : (site : Site) (moment : ℕ) (d : Did) (message : Received) (spent : Bool) → Grows site d (if spent then is_over d (By IdsSpent) else is_over (commits site moment d message) (By SpoolFault))
+failing_grows site moment d message true = over_grows site d (By IdsSpent)
+failing_grows site moment d message false =
     let c = commits site moment d message in
-    grows_join site d c (does c [] Over) (commits_grows site moment d message) (over_grows site c)
-fails_grows site moment d (Says reply) = over_grows site d
-fails_grows site moment d Greets = over_grows site d
-fails_grows site moment d Ends = over_grows site d
-fails_grows site moment d Passes = over_grows site d
-fails_grows site moment d Lacks = over_grows site d
+    grows_join site d c (is_over c (By SpoolFault)) (commits_grows site moment d message) (over_grows site c (By SpoolFault))
+
+fails_grows : (site : Site) (moment : ℕ) (d : Did) (answer : Answer) → Grows site d (fails site moment d answer)
+fails_grows site moment d (Gives message) = failing_grows site moment d message (is_spent d.table)
+fails_grows site moment d (Says reply) = over_grows site d Cut
+fails_grows site moment d Greets = over_grows site d Cut
+fails_grows site moment d Ends = over_grows site d Cut
+fails_grows site moment d Passes = over_grows site d Cut
+fails_grows site moment d Lacks = over_grows site d Cut
 
 line_grows : (site : Site) (d e : Did) (line : Line) (short : Bool) → Grows site d e → Grows site d (heard_line e line short)
 line_grows site d e line short h = record { more = h.more; acts = h.acts; leads = h.leads; number = h.number }
 
-drop_grows : (site : Site) (d : Did) (fresh : Bool) → Grows site d (if fresh then does d (HangsUp d.guest.number ∷ []) Leaves else is_over d)
+drop_grows : (site : Site) (d : Did) (fresh : Bool) → Grows site d (if fresh then does d (HangsUp d.guest.number ∷ []) Leaves else is_over d Cut)
 drop_grows site d true = drops_grows site d
-drop_grows site d false = over_grows site d
+drop_grows site d false = over_grows site d Cut
 
 choice_grows : (site : Site) (moment : ℕ) (d : Did) (choice : Choice) (line : Option Line) → Grows site d (by_choice site moment d choice line)
 choice_grows site moment d (Plain whole) (Some line) =
@@ -258,14 +263,14 @@ choice_grows site moment d Fails (Some line) =
     line_grows site d (fails site moment d answer) line false (fails_grows site moment d answer)
 choice_grows site moment d Drops (Some line) = drop_grows site d d.fresh
 choice_grows site moment d Drops None = drop_grows site d d.fresh
-choice_grows site moment d (Plain whole) None = over_grows site d
-choice_grows site moment d (Short accepted whole) None = over_grows site d
-choice_grows site moment d Fails None = over_grows site d
+choice_grows site moment d (Plain whole) None = over_grows site d Cut
+choice_grows site moment d (Short accepted whole) None = over_grows site d Cut
+choice_grows site moment d Fails None = over_grows site d Cut
 
 goes_grows : (site : Site) (way : Way) (d e : Did) → Grows site d e → Grows site d (goes_on way d e)
 goes_grows site GoesOn d e h = h
 goes_grows site Leaves d e h = grows_none site d
-goes_grows site Over d e h = grows_none site d
+goes_grows site (Over finish) d e h = grows_none site d
 
 answered_grows : (site : Site) (moment : ℕ) (d : Did) (choice : Choice) → Grows site d (answered site moment d choice)
 answered_grows site moment d choice = goes_grows site d.way d (by_choice site moment d choice (next_line d.guest)) (choice_grows site moment d choice (next_line d.guest))
@@ -277,10 +282,10 @@ fold_grows site moment d (choice ∷ choices) =
     grows_join site d e (fold (answered site moment) e choices) (answered_grows site moment d choice) (fold_grows site moment e choices)
 
 settled_grows : (site : Site) (way : Way) (line : Option Line) (d : Did) → Grows site d (settled_by way line d)
-settled_grows site GoesOn (Some line) d = over_grows site d
+settled_grows site GoesOn (Some line) d = over_grows site d Cut
 settled_grows site GoesOn None d = grows_none site d
 settled_grows site Leaves line d = grows_none site d
-settled_grows site Over line d = grows_none site d
+settled_grows site (Over finish) line d = grows_none site d
 
 all_grows : (site : Site) (moment : ℕ) (table : Table) (guest : Guest) (choices : List Choice) → Grows site (fresh_start table guest) (all_answered site moment table guest choices)
 all_grows site moment table guest choices =
@@ -332,7 +337,7 @@ opened_steps site m session peer choices =
 brought_steps : (site : Site) (m : State) (way : Way) (d : Did) → Leads site m.table d.table d.acts → Steps site m.table (brought m way d)
 brought_steps site m GoesOn d h = h
 brought_steps site m Leaves d h = h
-brought_steps site m Over d h = h
+brought_steps site m (Over finish) d h = h
 
 pieced_steps : (site : Site) (m : State) (bytes : List ℕ) (choices : List Choice) (guest : Option Guest) → Steps site m.table (pieced site m bytes choices guest)
 pieced_steps site m bytes choices None = still_steps site m
@@ -354,7 +359,7 @@ taken_steps site table turn step h = record { table = h.table; acked = (tt, h.ac
 pub stepped_leads : (site : Site) (m : State) (turn : Turn) → Leads site m.table (stepped site m turn).state.table (stepped site m turn).acts
 stepped_leads site m turn =
     let step = handled site (at_moment m turn.reading) turn.event turn.choices in
-    either_steps site m.table m.over (still m) (taken turn step) (still_steps site m)
+    either_steps site m.table (is_some m.over) (still m) (taken turn step) (still_steps site m)
     (taken_steps site m.table turn step (handled_steps site (at_moment m turn.reading) turn.event turn.choices))
 
 -- the acts of a run lead to its table

@@ -1,15 +1,13 @@
 -- A message is taken into the queue, or not.
-use Rattle.std.proofs.Common.{◌≡◌, ◌⊎◌, inl, inr, ⊎_elim, ℕ, ◌+◌, ◌<◌, ◌≤◌, List, [], ◌∷◌, ◌++◌, Bool, true, false, Option, Some, None, Result, Ok, Err, refl, sym, ◌∙◌, ap, subst, arith}
-use Rattle.std.specs.Prelude.{◌≢◌, Contains}
+use Rattle.std.proofs.Common.{◌≡◌, ◌⊎◌, inl, inr, ℕ, ◌+◌, ◌<◌, ◌≤◌, List, Bool, true, false, None, Result, Ok, Err, refl, sym, ◌∙◌, ap, subst, arith}
+use Rattle.std.specs.Prelude.{Contains}
 use Rattle.std.proofs.lemmas.Bool.{cond-true, cond-false, false≢true, lt-ltb, le-ltb}
 use Rattle.mail_base.specs.Histories.{Gains, Rose}
 use Rattle.mail_base.specs.declared.control.Draft.{Draft}
 use Rattle.mail_edge.specs.Seen.{ClockSeen}
 use Rattle.link_edge.specs.Heard.{Heard as FloorHeard}
 use Rattle.smtp_receive.specs.declared.received.Received.{Received}
-use Rattle.smtp_receive.specs.Dialogue.{Gives}
 use Rattle.smtp_receive.specs.Replies.{out_of_memory_text, stored_text}
-use Rattle.spool_disk.specs.Disk.{FileMap}
 use Rattle.spool_disk.specs.Spooled.{Spooled}
 use Rattle.spool_store.specs.declared.store.Store.{Store}
 use Rattle.spool_store.specs.Moves.{Moves, Ends}
@@ -19,16 +17,17 @@ use Rattle.spool_store.specs.Tables.Command.{Accept}
 use Rattle.spool_store.proofs.TableLemmas.{accept_sound}
 use Rattle.mail_core.specs.declared.caller.Caller.{Caller}
 use Rattle.mail_core.specs.declared.fed.Fed.{Fed}
-use Rattle.mail_core.specs.declared.fed.Fed.TheVariants.{GoesOn as Onward, Granted, HungUp, Faulted, Spent}
+use Rattle.mail_core.specs.declared.fed.Fed.TheVariants.{Faulted, Spent}
 use Rattle.mail_core.specs.declared.intake.Intake.{Intake}
+use Rattle.mail_core.specs.declared.serving.Ending.TheVariants.{IdsSpent}
 use Rattle.mail_core.specs.declared.serving.Site.{Site}
 use Rattle.mail_core.specs.Acts.{heard_of, speech}
-use Rattle.mail_core.specs.Going.{Does, AnswersMessage, IsAnswered, IsReset, message_by, is_onward, is_granted, is_short}
-use Rattle.mail_core.specs.Machine.{Plain, Short, Drops, Fails, GoesOn, Did, says, is_over, commits, accepts}
+use Rattle.mail_core.specs.Going.{Does, AnswersMessage, IsReset, is_onward, is_granted}
+use Rattle.mail_core.specs.Machine.{Plain, Short, Fails, GoesOn, By, Did, says, is_over, commits, accepts}
 use Rattle.mail_core.specs.Messages.{accept_of, draft_of, control_of, is_spent, last_id}
 use Rattle.mail_core.specs.Seen.{seen}
 use Rattle.mail_core.specs.Standing.{dirs_of, Stores, Serves}
-use Rattle.mail_core.proofs.GoingLemmas.{IsSpoken, does_says, does_spent, does_failed, does_accepts, accepts_guest}
+use Rattle.mail_core.proofs.GoingLemmas.{IsSpoken, does_says, does_spent, does_failed, does_accepts, accepts_guest, fails_guest}
 
 -- ---- ids
 
@@ -117,13 +116,13 @@ module _ (site : Site) (moment : ℕ) (d : Did) (message : Received) (old new : 
   }
 
   -- the spool failed
-  pub message_failed : (f : FloorHeard) (s t : Spooled) (intake : Intake) → Moves s t (IsClean (dirs_of site) d.table) (IsEither (dirs_of site) d.table (accept_of site moment message)) (IsEither (dirs_of site) d.table (accept_of site moment message)) → s.faults ≤ t.faults → Rose s.faults t.faults
+  pub message_failed : (f : FloorHeard) (s t : Spooled) (intake : Intake) → is_spent d.table ≡ false → Moves s t (IsClean (dirs_of site) d.table) (IsEither (dirs_of site) d.table (accept_of site moment message)) (IsEither (dirs_of site) d.table (accept_of site moment message)) → s.faults ≤ t.faults → Rose s.faults t.faults
       → AnswersMessage site moment d message (seen f s k) (seen f t k) intake old new Faulted
-  message_failed f s t intake moves later rose = record {
+  message_failed f s t intake left moves later rose = record {
     choice = Fails;
     drops = λ e. cc e;
-    does = does_failed site moment d message f s t k moves later rose;
-    guest = refl;
+    does = does_failed site moment d message f s t k left moves later rose;
+    guest = fails_guest site moment d message;
     serves = λ on. absurd (cc on);
     caller = λ on. absurd (cc on);
     granted = refl;
@@ -141,7 +140,7 @@ module _ (site : Site) (moment : ℕ) (d : Did) (message : Received) (old new : 
 
     -- the table of a message that was taken in
     accepted_in : (text : List ℕ) (whole : Bool) → is_spent d.table ≡ false → Serves site intake (after d.table (accept_of site moment message)) → Serves site intake (accepts site moment d message text whole).table
-    accepted_in text whole left serves = subst (λ (e : Did). Serves site intake e.table) (sym (cond-false (is_spent d.table) (is_over d) (says (commits site moment d message) text whole) left)) serves
+    accepted_in text whole left serves = subst (λ (e : Did). Serves site intake e.table) (sym (cond-false (is_spent d.table) (is_over d (By IdsSpent)) (says (commits site moment d message) text whole) left)) serves
 
     -- it was taken in and acknowledged
     pub message_stored : (text : List ℕ) → d.way ≡ GoesOn → is_spent d.table ≡ false → text ≡ stored_text d.table.next

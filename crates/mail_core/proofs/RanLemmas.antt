@@ -1,6 +1,5 @@
 -- Acts join, and single calls are acts.
-use Rattle.std.proofs.Common.{◌≡◌, ◌⊎◌, inl, inr, ⊎_elim, ℕ, ◌+◌, ◌≤◌, List, [], ◌∷◌, ◌++◌, length, Bool, true, false, Option, Some, None, refl, sym, ◌∙◌, ap, subst, arith, append_assoc, length-append}
-use Rattle.std.proofs.lemmas.List.{append-nil}
+use Rattle.std.proofs.Common.{◌≡◌, inl, inr, ⊎_elim, ℕ, ◌+◌, ◌≤◌, List, [], ◌∷◌, ◌++◌, length, Bool, true, false, Option, Some, None, refl, sym, ◌∙◌, ap, subst, arith, append_assoc, length-append}
 use Rattle.std.proofs.lemmas.Grind.{flat_map-append}
 use Rattle.mail_base.specs.Histories.{Gains}
 use Rattle.mail_base.proofs.Gaining.{gains_none, gains_join}
@@ -14,7 +13,7 @@ use Rattle.spool_store.specs.Tables.{Table, Command, after, applied}
 use Rattle.spool_store.proofs.MovesLemmas.{moves_join, moves_none}
 use Rattle.spool_store.proofs.TableLemmas.{applied_more}
 use Rattle.mail_core.specs.Acts.{Act, Commits, heard, read, commanded, heard_of, readings_of, commands_of}
-use Rattle.mail_core.specs.Seen.{Seen, seen, table_after, IsPart, LacksLast, Leaves, Ran}
+use Rattle.mail_core.specs.Seen.{Seen, seen, table_after, IsPart, Leaves, Ran}
 
 -- the table after two lists of acts
 pub table_more : (table : Table) (xs ys : List Act) → table_after table (xs ++ ys) ≡ table_after (table_after table xs) ys

@@ -357,6 +357,7 @@ ended_by site table core new n event reading a b c went u t sound only read =
       events = length_push u.turns turn ∙ ap (λ q. q + 1) u.events;
       headline = headline_of site table turns a c (is_well went) sound only (ran_turn site table u.turns turn a b c (is_well went) u.ran t.ran);
       readings = omega (arith, read, u.readings);
+      ended = λ ending e. ap (λ (q : Step). q.state.over) (run_more site (beginning table) u.turns turn) ∙ t.ended ending e;
       stopped = λ e. record { before = u.turns; last = turn; whole = refl; stops = t.stopped e };
       cause = λ e. let rose = t.cause e in omega (arith, rose, u.ran.spool_faults);
       spent = λ e. subst (λ (q : Step). is_spent q.state.table ≡ true) (sym (run_more site (beginning table) u.turns turn)) (t.spent e);

@@ -10,6 +10,7 @@ use Rattle.link_edge.specs.declared.event.FloorEvent.TheVariants.{Took}
 use Rattle.link_edge.specs.declared.turn.Turn.{Turn}
 use Rattle.link_edge.specs.declared.turn.Turn.TheVariants.{Opened, Piece, Closed, Idle, Stop}
 use Rattle.mail_core.specs.declared.serving.Core.{Core}
+use Rattle.mail_core.specs.declared.serving.Ending.{Ending}
 use Rattle.mail_core.specs.declared.serving.Ending.TheVariants.{Stopped, SpoolFault, IdsSpent}
 use Rattle.mail_core.specs.declared.serving.Went.{Went}
 use Rattle.mail_core.specs.declared.serving.Went.TheVariants.{GoesOn, Ends}
@@ -21,7 +22,7 @@ use Rattle.spool_store.specs.Tables.{Table}
 use Rattle.mail_core.specs.Acts.{heard_of}
 use Rattle.mail_core.specs.Guests.{Guest, guest_of}
 use Rattle.mail_core.specs.Messages.{is_spent}
-use Rattle.mail_core.specs.Machine.{Choice, State, Step, stepped, opened}
+use Rattle.mail_core.specs.Machine.{Choice, By, State, Step, stepped, opened}
 use Rattle.mail_core.specs.Seen.{Seen, Ran, IsSoundAt}
 use Rattle.mail_core.specs.Standing.{dirs_of, Keeps, Stands}
 
@@ -60,11 +61,12 @@ is_well (Ends IdsSpent) = true
 abbrev pub step_of : Site → State → Event → ℕ → List Choice → Step
 step_of site m event reading choices = stepped site m (record { event = event; reading = reading; choices = choices })
 
--- by some choices, the machine's step is what happened from a to b, and the core stands for its state where the run goes on
+-- by some choices, the machine's step is what happened from a to b; the core stands for its state where the run goes on, and else it ended the run so
 pub record Turns (site : Site) (m : State) (event : Event) (reading : ℕ) (a b : Seen) (core : Core) (went : Went) : Type 0 where
   pub choices : List Choice
   pub ran : Ran (dirs_of site) m.table a b (step_of site m event reading choices).acts (is_well went)
   pub stands : went ≡ GoesOn → Stands site core (step_of site m event reading choices).state
+  pub ended : (ending : Ending) → went ≡ Ends ending → (step_of site m event reading choices).state.over ≡ Some (By ending)
   pub stopped : went ≡ Ends Stopped → event ≡ Stops
   pub cause : went ≡ Ends SpoolFault → Rose a.spool.faults b.spool.faults
   pub spent : went ≡ Ends IdsSpent → is_spent (step_of site m event reading choices).state.table ≡ true
@@ -90,6 +92,7 @@ pub record Steps (site : Site) (gives : List Choice → Step) (table : Table) (a
   pub choices : List Choice
   pub ran : Ran (dirs_of site) table a b (gives choices).acts (is_well went)
   pub stands : went ≡ GoesOn → Stands site core (gives choices).state
+  pub ended : (ending : Ending) → went ≡ Ends ending → (gives choices).state.over ≡ Some (By ending)
   pub cause : went ≡ Ends SpoolFault → Rose a.spool.faults b.spool.faults
   pub spent : went ≡ Ends IdsSpent → is_spent (gives choices).state.table ≡ true
 

@@ -1,9 +1,8 @@
 -- What is done for lines and pieces, by some choices of the machine.
-use Rattle.std.specs.Prelude.{◌≡◌, ℕ, List, [], ◌∷◌, ◌++◌, fold, Bool, true, false, Option, Some, None, ◌≢◌, if◌then◌else◌}
+use Rattle.std.specs.Prelude.{◌≡◌, ℕ, List, [], ◌∷◌, ◌++◌, fold, Bool, true, false, Some, ◌≢◌, if◌then◌else◌}
 use Rattle.mail_base.specs.Histories.{Rose}
 use Rattle.smtp_lines.specs.declared.line.Line.{Line}
 use Rattle.smtp_lines.specs.declared.line.Line.TheVariants.{DataEnd}
-use Rattle.smtp_lines.specs.Stream.{asks}
 use Rattle.smtp_receive.specs.declared.received.Received.{Received}
 use Rattle.smtp_receive.specs.Dialogue.{Heard, Gives}
 use Rattle.smtp_receive.specs.Replies.{stored_text}
@@ -16,9 +15,10 @@ use Rattle.mail_core.specs.declared.caller.Caller.{Caller}
 use Rattle.mail_core.specs.declared.intake.Intake.{Intake}
 use Rattle.mail_core.specs.Acts.{Act}
 use Rattle.mail_core.specs.Guests.{Guest, grants_of, with_bytes}
+use Rattle.mail_core.specs.declared.serving.Ending.TheVariants.{SpoolFault, IdsSpent}
 use Rattle.mail_core.specs.declared.serving.Site.{Site}
 use Rattle.mail_core.specs.Messages.{is_spent}
-use Rattle.mail_core.specs.Machine.{Choice, Plain, Short, Drops, Fails, Way, GoesOn, Leaves, Over, Did, is_over, accepts, lacks, fails, by_choice, answered, all_answered}
+use Rattle.mail_core.specs.Machine.{Choice, Plain, Short, Drops, Fails, Way, GoesOn, Leaves, Over, By, Cut, Did, is_over, accepts, lacks, fails, by_choice, answered, all_answered}
 use Rattle.mail_core.specs.Seen.{Seen, Ran, table_after}
 use Rattle.mail_core.specs.Standing.{dirs_of, Serves, Talks, Keeps, lines_heard}
 
@@ -27,8 +27,8 @@ abbrev pub way_after : Fed → Way
 way_after Onward = GoesOn
 way_after Granted = GoesOn
 way_after HungUp = Leaves
-way_after Faulted = Over
-way_after Spent = Over
+way_after Faulted = Over (By SpoolFault)
+way_after Spent = Over (By IdsSpent)
 
 -- whether the spool didn't fail
 abbrev pub is_well : Fed → Bool
@@ -101,7 +101,7 @@ pub record AnswersLine (site : Site) (moment : ℕ) (d : Did) (line : Line) (a b
 abbrev pub message_by : Site → ℕ → Did → Received → Choice → Did
 message_by site moment d message (Plain whole) = accepts site moment d message (stored_text d.table.next) whole
 message_by site moment d message (Short accepted whole) = lacks site moment d (Gives message) accepted whole
-message_by site moment d message Drops = is_over d
+message_by site moment d message Drops = is_over d Cut
 message_by site moment d message Fails = fails site moment d (Gives message)
 
 -- whether 452 4.3.1 was said

@@ -1,5 +1,5 @@
 -- The machine: what sessions, table and clock come to at each event. What it can't know are its choices: whether a text could be sent, where memory was wanting, and that the spool failed (own; the replies are those of RFC 5321).
-use Rattle.std.specs.Prelude.{ℕ, nat_le, List, [], ◌∷◌, ◌++◌, length, fold, max, min, Option, Some, None, Bool, true, false, if◌then◌else◌}
+use Rattle.std.specs.Prelude.{ℕ, nat_le, List, [], ◌∷◌, ◌++◌, length, fold, max, min, Option, Some, None, is_some, Bool, true, false, if◌then◌else◌}
 use Rattle.link_edge.specs.declared.event.Event.{Event}
 use Rattle.link_edge.specs.declared.event.Event.TheVariants.{Opens, Brings, Closes, Rests, Stops}
 use Rattle.smtp_lines.specs.declared.line.Line.{Line}
@@ -11,6 +11,8 @@ use Rattle.smtp_receive.specs.Sessions.{answer_of}
 use Rattle.spool_store.specs.Tables.{Table, after}
 use Rattle.mail_core.specs.Acts.{Act, Takes, Commits, Sends, HangsUp, speech}
 use Rattle.mail_core.specs.Guests.{Guest, newcomer, next_line, with_bytes, with_line, guest_of, is_here, without, with_guest}
+use Rattle.mail_core.specs.declared.serving.Ending.{Ending}
+use Rattle.mail_core.specs.declared.serving.Ending.TheVariants.{Stopped, SpoolFault, IdsSpent}
 use Rattle.mail_core.specs.declared.serving.Site.{Site}
 use Rattle.mail_core.specs.Messages.{accept_of, is_spent}
 
@@ -21,11 +23,16 @@ pub data Choice : Type 0 where
   Drops : Choice
   Fails : Choice
 
+-- how a run is over: it ended so, or it is cut where a choice is missing
+pub data Finish : Type 0 where
+  By : (ending : Ending) → Finish
+  Cut : Finish
+
 -- how a session goes on: it does, it is over, or the whole run is
 pub data Way : Type 0 where
   GoesOn : Way
   Leaves : Way
-  Over : Way
+  Over : (finish : Finish) → Way
 
 -- what an event has come to so far: the table, the session, whether want of memory may end the session here, what was done, and how it goes on
 pub record Did : Type 0 where
@@ -52,9 +59,9 @@ says d text whole = does d (speech d.guest.number text whole) (way_of whole)
 abbrev pub closes : Did → List ℕ → Bool → Did
 closes d text whole = does d (Sends d.guest.number text whole ∷ HangsUp d.guest.number ∷ []) Leaves
 
--- the run ends here
-abbrev pub is_over : Did → Did
-is_over d = does d [] Over
+-- the run is over here
+abbrev pub is_over : Did → Finish → Did
+is_over d finish = does d [] (Over finish)
 
 -- a message is asked of the table
 abbrev pub commits : Site → ℕ → Did → Received → Did
@@ -62,7 +69,7 @@ commits site moment d message = record d { table = after d.table (accept_of site
 
 -- a message is accepted, and then a text said; where no id is left the run ends
 abbrev pub accepts : Site → ℕ → Did → Received → List ℕ → Bool → Did
-accepts site moment d message text whole = if is_spent d.table then is_over d else says (commits site moment d message) text whole
+accepts site moment d message text whole = if is_spent d.table then is_over d (By IdsSpent) else says (commits site moment d message) text whole
 
 -- the answer that the dialogue has, sent whole or not
 abbrev pub replies : Site → ℕ → Did → Answer → Bool → Did
@@ -78,10 +85,10 @@ abbrev pub lacks : Site → ℕ → Did → Answer → Bool → Bool → Did
 lacks site moment d (Gives message) true whole = accepts site moment d message out_of_memory_text whole
 lacks site moment d answer accepted whole = says d out_of_memory_text whole
 
--- the spool fails at a message; nothing else is asked of it
+-- the spool fails at a message, where an id is left for it; nothing else is asked of it
 abbrev pub fails : Site → ℕ → Did → Answer → Did
-fails site moment d (Gives message) = does (commits site moment d message) [] Over
-fails site moment d answer = is_over d
+fails site moment d (Gives message) = if is_spent d.table then is_over d (By IdsSpent) else is_over (commits site moment d message) (By SpoolFault)
+fails site moment d answer = is_over d Cut
 
 -- the line was answered, and the next may be one that want of memory keeps from being read
 abbrev pub heard_line : Did → Line → Bool → Did
@@ -92,26 +99,26 @@ abbrev pub by_choice : Site → ℕ → Did → Choice → Option Line → Did
 by_choice site moment d (Plain whole) (Some line) = heard_line (replies site moment d (answer_of d.guest.peer d.guest.heard line) whole) line false
 by_choice site moment d (Short accepted whole) (Some line) = heard_line (lacks site moment d (answer_of d.guest.peer d.guest.heard line) accepted whole) line true
 by_choice site moment d Fails (Some line) = heard_line (fails site moment d (answer_of d.guest.peer d.guest.heard line)) line false
-by_choice site moment d Drops line = if d.fresh then does d (HangsUp d.guest.number ∷ []) Leaves else is_over d
-by_choice site moment d (Plain whole) None = is_over d
-by_choice site moment d (Short accepted whole) None = is_over d
-by_choice site moment d Fails None = is_over d
+by_choice site moment d Drops line = if d.fresh then does d (HangsUp d.guest.number ∷ []) Leaves else is_over d Cut
+by_choice site moment d (Plain whole) None = is_over d Cut
+by_choice site moment d (Short accepted whole) None = is_over d Cut
+by_choice site moment d Fails None = is_over d Cut
 
 -- the next line is answered where the session still goes on
 abbrev pub goes_on : Way → Did → Did → Did
 goes_on GoesOn d next = next
 goes_on Leaves d next = d
-goes_on Over d next = d
+goes_on (Over finish) d next = d
 
 abbrev pub answered : Site → ℕ → Did → Choice → Did
 answered site moment d choice = goes_on d.way d (by_choice site moment d choice (next_line d.guest))
 
 -- a session goes on only where no line is left: a choice that is missing cuts the run there
 abbrev pub settled_by : Way → Option Line → Did → Did
-settled_by GoesOn (Some line) d = is_over d
+settled_by GoesOn (Some line) d = is_over d Cut
 settled_by GoesOn None d = d
 settled_by Leaves line d = d
-settled_by Over line d = d
+settled_by (Over finish) line d = d
 
 abbrev pub settled : Did → Did
 settled d = settled_by d.way (next_line d.guest) d
@@ -124,12 +131,12 @@ fresh_start table guest = record { table = table; guest = guest; fresh = true; a
 abbrev pub all_answered : Site → ℕ → Table → Guest → List Choice → Did
 all_answered site moment table guest choices = settled (fold (answered site moment) (fresh_start table guest) choices)
 
--- the table, the open sessions, the greatest reading of the clock so far, and whether the run is over
+-- the table, the open sessions, the greatest reading of the clock so far, and how the run is over, once it is
 pub record State : Type 0 where
   pub table : Table
   pub guests : List Guest
   pub latest : ℕ
-  pub over : Bool
+  pub over : Option Finish
 
 -- a state, and what was done to come to it
 pub record Step : Type 0 where
@@ -141,7 +148,7 @@ still m = record { state = m; acts = [] }
 
 -- a choice is missing: the run is cut here
 abbrev pub cut : State → Step
-cut m = record { state = record m { over = true }; acts = [] }
+cut m = record { state = record m { over = Some Cut }; acts = [] }
 
 -- the most sessions that are open at once
 unfoldable pub most_guests : ℕ
@@ -175,7 +182,7 @@ opened site m session peer choices =
 abbrev pub brought : State → Way → Did → Step
 brought m GoesOn d = record { state = record m { table = d.table; guests = with_guest d.guest m.guests }; acts = d.acts }
 brought m Leaves d = record { state = record m { table = d.table; guests = without d.guest.number m.guests }; acts = d.acts }
-brought m Over d = record { state = record m { table = d.table; guests = without d.guest.number m.guests; over = true }; acts = d.acts }
+brought m (Over finish) d = record { state = record m { table = d.table; guests = without d.guest.number m.guests; over = Some finish }; acts = d.acts }
 
 -- a piece of the session of that number, which is dropped where none is open
 abbrev pub pieced : Site → State → List ℕ → List Choice → Option Guest → Step
@@ -188,7 +195,7 @@ handled site m (Opens session peer) choices = opened site m session peer choices
 handled site m (Brings session bytes) choices = pieced site m bytes choices (guest_of session m.guests)
 handled site m (Closes session) choices = still (record m { guests = without session m.guests })
 handled site m Rests choices = still m
-handled site m Stops choices = still (record m { over = true })
+handled site m Stops choices = still (record m { over = Some (By Stopped) })
 
 -- a turn of the floor with its event, the clock's reading at it, and what was left open in it
 pub record Turn : Type 0 where
@@ -213,7 +220,7 @@ taken turn step = record step { acts = Takes turn.event turn.reading ∷ step.ac
 
 -- one event; after the run is over there is none
 abbrev pub stepped : Site → State → Turn → Step
-stepped site m turn = if m.over then still m else taken turn (handled site (at_moment m turn.reading) turn.event turn.choices)
+stepped site m turn = if is_some m.over then still m else taken turn (handled site (at_moment m turn.reading) turn.event turn.choices)
 
 -- what comes after a step
 abbrev pub followed : Step → Step → Step
@@ -226,4 +233,4 @@ run site m (turn ∷ turns) = let now = stepped site m turn in followed now (run
 
 -- the state in which a run begins over a table
 abbrev pub beginning : Table → State
-beginning table = record { table = table; guests = []; latest = 0; over = false }
+beginning table = record { table = table; guests = []; latest = 0; over = None }

@@ -1,5 +1,5 @@
 -- The entry that a received message becomes (Sendmail Installation and Operation Guide, "The queue"; until recipients are routed each message has one, primary, in the group mqueue).
-use Rattle.std.specs.Prelude.{◌≡◌, ℕ, ◌+◌, pos, List, [], ◌∷◌, None, Bool, true, false, codes, nat_lt}
+use Rattle.std.specs.Prelude.{ℕ, ◌+◌, pos, [], ◌∷◌, None, Bool, true, false, codes, nat_lt}
 use Rattle.mail_base.specs.declared.control.Control.{Control}
 use Rattle.mail_base.specs.declared.control.Draft.{Draft}
 use Rattle.mail_base.specs.declared.control.Row.{Row}

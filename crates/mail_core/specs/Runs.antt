@@ -13,12 +13,13 @@ use Rattle.spool_store.specs.Tables.{Table, Stored}
 use Rattle.mail_core.specs.declared.serving.Core.{Core}
 use Rattle.mail_core.specs.Acts.{Act, Takes, Commits, Sends, HangsUp, heard_of, readings_of}
 use Rattle.mail_core.specs.declared.serving.Site.{Site}
+use Rattle.mail_core.specs.declared.serving.Ending.{Ending}
 use Rattle.mail_core.specs.declared.serving.Ending.TheVariants.{Stopped, SpoolFault, IdsSpent}
 use Rattle.mail_core.specs.declared.serving.Went.{Went}
 use Rattle.mail_core.specs.declared.serving.Went.TheVariants.{Ends}
 use Rattle.mail_core.specs.Events.{is_well}
 use Rattle.mail_core.specs.Messages.{is_spent}
-use Rattle.mail_core.specs.Machine.{Turn, Step, run, beginning}
+use Rattle.mail_core.specs.Machine.{By, Turn, Step, run, beginning}
 use Rattle.mail_core.specs.Seen.{Seen, Ran, IsPart, Leaves, table_after}
 use Rattle.mail_core.specs.Standing.{dirs_of, Stands}
 
@@ -88,12 +89,13 @@ pub record IsStopped (turns : List Turn) : Type 0 where
   pub whole : turns ≡ before ++ last ∷ []
   pub stops : last.event ≡ Stops
 
--- a run of so many turns, of which the last ended it
+-- a run of so many turns, of which the last ended it so
 pub record IsEnded (site : Site) (table : Table) (count : ℕ) (a b : Seen) (went : Went) : Type 0 where
   pub turns : List Turn
   pub events : length turns ≡ count
   pub headline : Headline site table turns a b (is_well went)
   pub readings : b.clock.readings ≡ a.clock.readings + count
+  pub ended : (ending : Ending) → went ≡ Ends ending → (run_over site table turns).state.over ≡ Some (By ending)
   pub stopped : went ≡ Ends Stopped → IsStopped turns
   pub cause : went ≡ Ends SpoolFault → Rose a.spool.faults b.spool.faults
   pub spent : went ≡ Ends IdsSpent → is_spent (run_over site table turns).state.table ≡ true

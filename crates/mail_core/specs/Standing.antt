@@ -1,5 +1,5 @@
 -- What the core keeps, and what of the machine it stands for.
-use Rattle.std.specs.Prelude.{◌≡◌, ◌≢◌, ◌<◌, ◌^◌, ◌==◌, ℕ, List, [], ◌∷◌, ◌++◌, map, All, Option, Some, None, Bool, true, false}
+use Rattle.std.specs.Prelude.{◌≡◌, ◌≢◌, ◌<◌, ◌^◌, ◌==◌, ℕ, List, [], ◌∷◌, ◌++◌, map, All, Option, Some, None, Bool, false}
 use Rattle.smtp_lines.specs.declared.line.Line.{Line}
 use Rattle.smtp_lines.specs.Reader.{Reader, Stream, awaited, Stands as Reads}
 use Rattle.smtp_receive.specs.Dialogue.{Heard}
@@ -89,7 +89,7 @@ pub record Stands (site : Site) (core : Core) (m : State) : Type 0 where
   pub full : core.full ≡ too_many_sessions_text
   pub latest : core.intake.moment ≡ m.latest
   pub callers : Hosts site core.caller m.guests
-  pub on : m.over ≡ false
+  pub on : m.over ≡ None
 
 -- a core that stands for some state
 pub record IsStanding (core : Core) : Type 0 where

@@ -121,6 +121,7 @@ served : (core : Core) (n : ℕ) (a b : Seen) → BeganEmpty a → OnlyNow a →
 served core n a b empty only u = record {
   turns = u.turns;
   events = u.events;
+  on = u.stands.on;
   empty = empty;
   headline = cut_off site start core n a b u (start_sound (dirs_of site)) only;
   readings = u.readings;

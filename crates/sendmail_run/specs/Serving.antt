@@ -1,5 +1,5 @@
 -- How session mode ends, and what was served by then (Sendmail Installation and Operation Guide, "Command Line Flags": -bs; the replies are those of RFC 5321; the outcomes are own).
-use Rattle.std.specs.Prelude.{◌≡◌, ℕ, ◌+◌, ◌^◌, ◌≤◌, List, length, IfSome, codes, true, ◌⊎◌}
+use Rattle.std.specs.Prelude.{◌≡◌, ℕ, ◌+◌, ◌^◌, ◌≤◌, List, length, None, IfSome, codes, true, ◌⊎◌}
 use Rattle.mail_base.specs.Histories.{Rose}
 use Rattle.spool_disk.specs.Spooled.{Reads}
 use Rattle.spool_store.specs.Standing.{IsClean, IsUsed}
@@ -9,7 +9,7 @@ use Rattle.mail_core.specs.declared.serving.Site.{Site}
 use Rattle.mail_core.specs.declared.serving.Went.{Went}
 use Rattle.mail_core.specs.declared.serving.Went.TheVariants.{Ends}
 use Rattle.mail_core.specs.Machine.{Turn}
-use Rattle.mail_core.specs.Runs.{Headline, IsEnded}
+use Rattle.mail_core.specs.Runs.{Headline, IsEnded, run_over}
 use Rattle.mail_core.specs.Seen.{Seen}
 use Rattle.mail_core.specs.Standing.{dirs_of}
 use Rattle.sendmail_run.specs.declared.outcome.Outcome.{Outcome}
@@ -37,11 +37,12 @@ pub record IsUnserved (a b : Seen) : Type 0 where
 abbrev pub BeganEmpty : Seen → Type 0
 BeganEmpty a = IfSome a.spool.told (IsClean (dirs_of site) start)
 
--- so many turns were served, and none of them ended the run: what floor and clock tell since is the machine's run of these turns, the files are those of its table, and each final 250 names an entry whose two files are there (`Headline`)
+-- so many turns were served, and the run goes on after them: what floor and clock tell since is the machine's run of these turns, the files are those of its table, and each final 250 names an entry whose two files are there (`Headline`)
 pub record IsServed (count : ℕ) (a b : Seen) : Type 0 where
   pub turns : List Turn
   pub events : length turns ≡ count
   pub empty : BeganEmpty a
+  pub on : (run_over site start turns).state.over ≡ None
   pub headline : Headline site start turns a b true
   pub readings : b.clock.readings ≡ a.clock.readings + count
 

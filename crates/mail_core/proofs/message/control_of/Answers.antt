@@ -1,7 +1,5 @@
-use Rattle.std.proofs.Common.{refl, sym, ◌∙◌, ap, subst, pos, [], ◌∷◌, ◌++◌}
-use Rattle.std.specs.Prelude.{FitsSigned}
-use Rattle.std.specs.Int.{w128}
-use Rattle.mail_core.specs.Messages.{recipient_factor, row_of}
+use Rattle.std.proofs.Common.{◌∙◌, ap, [], ◌∷◌, ◌++◌}
+use Rattle.mail_core.specs.Messages.{row_of}
 use Rattle.mail_core.proofs.FormLemmas.{control_is, priority_is}
 use Rattle.mail_core.proofs.message.control_of.Goals as goal
 

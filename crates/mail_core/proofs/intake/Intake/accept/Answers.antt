@@ -23,7 +23,7 @@ returns-in-Err g c = record {
 
 pub returns-in_default-clause-accepts : goal.returns-in_default-clause-accepts
 returns-in_default-clause-accepts g c = λ site d clock way serves number.
-    message_failed site _ d c.args.message _ _ clock _ _ _ _
+    message_failed site _ d c.args.message _ _ clock _ _ _ _ (left_is d.table _ serves.store.next c.in-Ok.ensures.room)
     (moves_failed_at site _ c.args.message _ _ _ c.in-Ok.change.draft c.in-Ok.change.body d.table serves.store.dirs (draft_is site _ c.args.message _ c.in-Ok.change.draft serves.dir c.in-Ok.ensures.draft) c.in-Ok.ensures.body
     (c.in_default.ensures.moves d.table (sound_in site _ d.table serves.store) (sym serves.store.next)))
     c.commit.ensures.later

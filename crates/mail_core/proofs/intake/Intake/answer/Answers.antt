@@ -1,5 +1,5 @@
-use Rattle.std.proofs.Common.{refl, sym, ◌∙◌, ap, subst, true, false, [], ◌∷◌}
-use Rattle.std.specs.Prelude.{reverse, length}
+use Rattle.std.proofs.Common.{refl, sym, ◌∙◌, subst, true, false, [], ◌∷◌}
+use Rattle.std.specs.Prelude.{reverse}
 use Rattle.smtp_receive.specs.Dialogue.{exchanges}
 use Rattle.smtp_receive.specs.Sessions.{answer_of}
 use Rattle.smtp_receive.proofs.FormLemmas.{given_formed}

@@ -1,4 +1,3 @@
-use Rattle.std.proofs.Common.{refl}
 use Rattle.mail_core.specs.Machine.{at_moment}
 use Rattle.mail_core.proofs.CoreLemmas.{at_stands, turns_of}
 use Rattle.mail_core.proofs.serving.Core.turn.Goals as goal
