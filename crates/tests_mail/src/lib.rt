@@ -1,0 +1,3 @@
+//! Tests of the receipt of mail and of the queue's files, as tables. They stand apart from the
+//! libraries, which a check would else prove twice.
+#![tactic(auto)]
