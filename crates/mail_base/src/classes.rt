@@ -6,7 +6,7 @@ use std::alloc::Global;
 use std::marker::Model;
 
 /// A member of a class.
-#[derive(Debug, Drop)]
+#[derive(Drop)]
 pub struct Member {
     pub text: Text,
     /// The tokens that the text is cut into, or `None` where it can't be cut.
@@ -94,31 +94,5 @@ impl TryCopy for Classes {
         Ok(Classes {
             members: self.members.copy()?,
         })
-    }
-}
-
-#[cfg(test)]
-mod tests {
-    use super::*;
-    use std::test::Fail;
-
-    fn plain(alloc: Global, text: &[u8]) -> Result<Member, NoMemory> {
-        Ok(Member {
-            text: Text::of(alloc, text)?,
-            tokens: None,
-        })
-    }
-
-    #[test]
-    fn classes_gain_members(rt: HostRuntime) -> Result<(), Fail> {
-        let alloc = rt.alloc();
-        let name = Text::of(alloc, b"a")?;
-        let mut classes = Classes::new(alloc);
-        classes.add(&name, plain(alloc, b"x")?)?;
-        classes.add(&name, plain(alloc, b"Y")?)?;
-        let members = classes.members(&name);
-        assert_eq!(rt; members.len(), 2);
-        assert_eq!(rt; members[1].text.bytes(), b"Y".as_slice());
-        Ok(())
     }
 }

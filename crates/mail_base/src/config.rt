@@ -1,7 +1,7 @@
-ghost use Rattle.std.specs.Prelude.{◌≡◌, ◌∷◌, [], IfOk, codes};
+ghost use Rattle.std.specs.Prelude.{◌≡◌, ◌∷◌, [], IfOk, OnOk, codes};
 ghost use Rattle.std.specs.Option.{option_copied};
 ghost use Rattle.std.specs.Str.{str_to_ascii_lowercase};
-ghost use Rattle.mail_base.specs.Catalogs.{value_at};
+ghost use Rattle.mail_base.specs.Catalogs.{value_at, with_value};
 ghost use Rattle.mail_base.specs.Configs.{initial, first_macros, first_classes, local_host, main_group, host_map};
 
 use crate::{
@@ -11,7 +11,6 @@ use crate::{
 use std::alloc::Global;
 
 /// What a configuration file says.
-#[derive(Drop)]
 pub struct Config {
     pub macros: Macros,
     pub classes: Classes,
@@ -32,6 +31,24 @@ pub struct Config {
     pub warnings: Seq<u32>,
 }
 
+// Written out, since a caller's proof goes through the parts of a derived drop at each way out.
+impl Drop for Config {
+    fn drop(self) {
+        let Config {
+            macros: _,
+            classes: _,
+            book: _,
+            mailers: _,
+            groups: _,
+            maps: _,
+            precedences: _,
+            headers: _,
+            options: _,
+            warnings: _,
+        } = self;
+    }
+}
+
 impl Config {
     /// The configuration before any line is read.
     pub fn new(alloc: Global) -> Result<Config, NoMemory>
@@ -40,13 +57,13 @@ impl Config {
         Ok(Config {
             macros: first_macros(alloc)?,
             classes: first_classes(alloc)?,
-            book: Seq::new(alloc),
-            mailers: Catalog::new(alloc),
             groups: first_groups(alloc)?,
             maps: first_maps(alloc)?,
+            options: Options::new(alloc)?,
+            book: Seq::new(alloc),
+            mailers: Catalog::new(alloc),
             precedences: Seq::new(alloc),
             headers: Seq::new(alloc),
-            options: Options::new(alloc)?,
             warnings: Seq::new(alloc),
         })
     }
@@ -64,14 +81,18 @@ fn first_macros(alloc: Global) -> Result<Macros, NoMemory>
     ensures { IfOk result (λ macros. macros ≡ first_macros) }
 {
     let mut macros = Macros::new(alloc);
-    let host = Text::of(alloc, b"localhost")?;
-    macros.set(&Text::of(alloc, b"w")?, &host)?;
-    macros.set(&Text::of(alloc, b"j")?, &host)?;
-    let daemon = Text::of(alloc, b"MAILER-DAEMON")?;
-    macros.set(&Text::of(alloc, b"n")?, &daemon)?;
-    let version = Text::of(alloc, b"8")?;
-    macros.set(&Text::of(alloc, b"v")?, &version)?;
+    define(&mut macros, b"w", b"localhost")?;
+    define(&mut macros, b"j", b"localhost")?;
+    define(&mut macros, b"n", b"MAILER-DAEMON")?;
+    define(&mut macros, b"v", b"8")?;
     Ok(macros)
+}
+
+fn define(macros: &mut Macros, name: &[u8], value: &[u8]) -> Result<(), NoMemory>
+    ensures { OnOk result (macros.new ≡ with_value name.now value.now macros.old) }
+{
+    let alloc = macros.values().allocator();
+    macros.set(&Text::of(alloc, name)?, &Text::of(alloc, value)?)
 }
 
 fn first_classes(alloc: Global) -> Result<Classes, NoMemory>
@@ -152,62 +173,8 @@ impl TryCopy for Config {
             maps: self.maps.copy()?,
             precedences: self.precedences.copy()?,
             headers: self.headers.copy()?,
-            options: self.options.copy()?,
             warnings: self.warnings.copy()?,
+            options: self.options.copy()?,
         })
-    }
-}
-
-#[cfg(test)]
-mod tests {
-    use super::*;
-    use std::test::Fail;
-
-    #[test]
-    fn presets_stand_before_any_line(rt: HostRuntime) -> Result<(), Fail> {
-        let config = Config::new(rt.alloc())?;
-        assert_eq!(rt; config.macros.values().len(), 4);
-        assert_eq!(rt; config.groups.len(), 1);
-        assert_eq!(rt; config.maps.len(), 1);
-        assert_eq!(rt; config.options.operator_chars.bytes(), b".:@[]".as_slice());
-        assert_eq!(rt; config.options.queue_return, 432_000);
-        let copied = config.copy()?;
-        assert_eq!(rt; copied.macros.values().len(), 4);
-        Ok(())
-    }
-
-    fn mailer(alloc: Global) -> Result<Mailer, NoMemory> {
-        Ok(Mailer {
-            name: Text::of(alloc, b"Local")?,
-            path: Text::of(alloc, b"/bin/mail")?,
-            flags: Text::new(alloc),
-            envelope_from: None,
-            header_from: None,
-            envelope_to: None,
-            header_to: None,
-            args: Seq::new(alloc),
-            line_end: Text::of(alloc, b"\n")?,
-            most: 0,
-            group: None,
-            batch: 100,
-        })
-    }
-
-    fn with_mailer(alloc: Global) -> Result<Config, NoMemory> {
-        let mut config = Config::new(alloc)?;
-        config
-            .mailers
-            .set(Text::of(alloc, b"local")?, mailer(alloc)?)?;
-        Ok(config)
-    }
-
-    #[test]
-    fn mailers_are_found_without_case(rt: HostRuntime) -> Result<(), Fail> {
-        let config = with_mailer(rt.alloc())?;
-        let found = config.mailer(&Text::of(rt.alloc(), b"LOCAL")?)?;
-        let found = found.expect(&rt, "a mailer");
-        assert_eq!(rt; found.path.bytes(), b"/bin/mail".as_slice());
-        assert!(rt; config.mailer(&Text::new(rt.alloc()))?.is_none());
-        Ok(())
     }
 }

@@ -1,7 +1,7 @@
-ghost use Rattle.std.specs.Prelude.{◌≡◌, ◌≢◌, ◌+◌, ◌^◌, ◌<◌, ◌≤◌, ◌↔◌, ◌++◌, ◌∷◌, [], ℕ, List, length, IfSome, IfNone, IfOk, IsTrue};
+ghost use Rattle.std.specs.Prelude.{◌≡◌, ◌≢◌, ◌+◌, ◌<◌, ◌≤◌, ◌++◌, ◌∷◌, [], ℕ, List, length, IfSome, IfNone};
 ghost use Rattle.mail_base.specs.Names.{digits, letters, name_of};
 
-use crate::{NoMemory, Same, Text, TryCopy};
+use crate::{NoMemory, Text, TryCopy};
 use arrayvec::ArrayVec;
 use std::marker::Model;
 
@@ -37,7 +37,7 @@ impl Model for Id {
 }
 
 /// The 15 bytes of a file's name. A contract sees it as the list of its bytes.
-#[derive(Debug, Drop)]
+#[derive(Drop)]
 pub struct Name {
     bytes: ArrayVec<u8, 15>,
 }
@@ -173,62 +173,5 @@ fn push_digits(out: &mut ArrayVec<u8, 15>, count: u8, number: u64)
     if count > 0 {
         push_digits(out, count - 1, number / 10);
         out.push(48 + (number % 10) as u8);
-    }
-}
-
-impl TryCopy for Id {
-    fn copy(&self) -> Result<Id, NoMemory> {
-        Ok(*self)
-    }
-}
-
-impl Same for Id {
-    fn is(&self, other: &Id) -> bool {
-        self.number == other.number
-    }
-}
-
-#[cfg(test)]
-mod tests {
-    use super::*;
-    use std::test::Fail;
-
-    #[test]
-    fn names_tell_their_ids(rt: HostRuntime) -> Result<(), Fail> {
-        let alloc = rt.alloc();
-        assert_eq!(rt;
-            Id::new(42).name(Kind::Qf).bytes(),
-            b"qfw000000000042".as_slice()
-        );
-        assert_eq!(rt;
-            Id::new(Id::MOST).name(Kind::Df).bytes(),
-            b"dfw999999999999".as_slice()
-        );
-        let temporary = Text::of(alloc, b"tfw000000000003")?;
-        assert_eq!(rt; Id::of(&temporary), Some((Kind::Tf, Id::new(3))));
-        let finished = Text::of(alloc, b"sfw999999999999")?;
-        assert_eq!(rt;
-            Id::of(&finished),
-            Some((Kind::Sf, Id::new(999_999_999_999)))
-        );
-        Ok(())
-    }
-
-    #[test]
-    fn other_names_tell_none(rt: HostRuntime) -> Result<(), Fail> {
-        let alloc = rt.alloc();
-        let others = [
-            b"".as_slice(),
-            b"dfw00000000001",
-            b"dfw0000000000001",
-            b"xfw000000000001",
-            b"dgw000000000001",
-            b"df0000000000001",
-            b"dfw00000000000a",
-        ];
-        for name in others {
-            assert_eq!(rt; Id::of(&Text::of(alloc, name)?), None);
-        }
-        Ok(())
     }
 }

@@ -1,9 +1,7 @@
-ghost use Rattle.std.specs.Prelude.{◌≡◌, IfOk};
-
 use crate::{NoMemory, Seq, Text, TryCopy};
 
 /// The class of a map.
-#[derive(Debug, Drop)]
+#[derive(Drop)]
 pub enum MapClass {
     Text,
     Hash,
@@ -20,7 +18,7 @@ pub enum MapClass {
 }
 
 /// A map, as a K line declares it.
-#[derive(Debug, Drop)]
+#[derive(Drop)]
 pub struct MapLine {
     pub name: Text,
     pub class: MapClass,
@@ -43,7 +41,7 @@ pub struct MapLine {
 }
 
 /// A header, as an H line declares it.
-#[derive(Debug, Drop)]
+#[derive(Drop)]
 pub struct HeaderLine {
     /// The mailer flags of which one is wanted; none where it is always added.
     pub flags: Text,
@@ -53,7 +51,7 @@ pub struct HeaderLine {
 }
 
 /// A precedence, as a P line declares it.
-#[derive(Debug, Drop)]
+#[derive(Drop)]
 pub struct Precedence {
     pub name: Text,
     /// From -1,000,000 to 1,000,000.
@@ -88,7 +86,7 @@ impl TryCopy for MapLine {
             optional: self.optional,
             key_column: self.key_column,
             value_column: self.value_column,
-            separator: self.separator.copy()?,
+            separator: self.separator,
             file: self.file.copy()?,
         })
     }
@@ -110,85 +108,5 @@ impl TryCopy for Precedence {
             name: self.name.copy()?,
             class: self.class,
         })
-    }
-}
-
-#[cfg(test)]
-mod tests {
-    use super::*;
-    use std::alloc::Global;
-    use std::test::Fail;
-
-    fn sequence(alloc: Global) -> Result<MapLine, NoMemory> {
-        let mut members = Seq::new(alloc);
-        members.push(0)?;
-        members.push(2)?;
-        Ok(MapLine {
-            name: Text::of(alloc, b"both")?,
-            class: MapClass::Sequence(members),
-            keeps_case: true,
-            match_only: false,
-            tag: Text::of(alloc, b".")?,
-            optional: true,
-            key_column: 1,
-            value_column: 99,
-            separator: Some(b':'),
-            file: None,
-        })
-    }
-
-    fn received(alloc: Global) -> Result<HeaderLine, NoMemory> {
-        Ok(HeaderLine {
-            flags: Text::of(alloc, b"DF")?,
-            name: Text::of(alloc, b"Received")?,
-            template: Text::of(alloc, b"from $s")?,
-        })
-    }
-
-    fn bulk(alloc: Global) -> Result<Precedence, NoMemory> {
-        Ok(Precedence {
-            name: Text::of(alloc, b"bulk")?,
-            class: -60,
-        })
-    }
-
-    #[test]
-    fn map_lines_are_copied(rt: HostRuntime) -> Result<(), Fail> {
-        let copied = sequence(rt.alloc())?.copy()?;
-        assert_eq!(rt; copied.name.bytes(), b"both".as_slice());
-        assert_eq!(rt; copied.tag.bytes(), b".".as_slice());
-        assert!(rt; copied.keeps_case && !copied.match_only && copied.optional);
-        assert_eq!(rt; copied.value_column, 99);
-        assert_eq!(rt; copied.separator, Some(b':'));
-        assert!(rt; copied.file.is_none());
-        Ok(())
-    }
-
-    #[test]
-    fn map_classes_are_copied(rt: HostRuntime) -> Result<(), Fail> {
-        let copied = sequence(rt.alloc())?.copy()?;
-        if let MapClass::Sequence(members) = &copied.class {
-            assert_eq!(rt; members.items(), [0, 2].as_slice());
-        } else {
-            assert!(rt; false);
-        }
-        Ok(())
-    }
-
-    #[test]
-    fn header_lines_are_copied(rt: HostRuntime) -> Result<(), Fail> {
-        let copied = received(rt.alloc())?.copy()?;
-        assert_eq!(rt; copied.flags.bytes(), b"DF".as_slice());
-        assert_eq!(rt; copied.name.bytes(), b"Received".as_slice());
-        assert_eq!(rt; copied.template.bytes(), b"from $s".as_slice());
-        Ok(())
-    }
-
-    #[test]
-    fn precedences_are_copied(rt: HostRuntime) -> Result<(), Fail> {
-        let copied = bulk(rt.alloc())?.copy()?;
-        assert_eq!(rt; copied.name.bytes(), b"bulk".as_slice());
-        assert_eq!(rt; copied.class, -60);
-        Ok(())
     }
 }

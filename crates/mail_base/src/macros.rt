@@ -1,4 +1,4 @@
-ghost use Rattle.std.specs.Prelude.{◌≡◌, [], Some, IfOk, OnOk, OnErr};
+ghost use Rattle.std.specs.Prelude.{◌≡◌, [], Some, OnOk, OnErr};
 ghost use Rattle.std.specs.Option.{option_copied};
 ghost use Rattle.mail_base.specs.Catalogs.{value_at, with_value, without_name, SetsValue};
 
@@ -69,27 +69,5 @@ impl TryCopy for Macros {
         Ok(Macros {
             values: self.values.copy()?,
         })
-    }
-}
-
-#[cfg(test)]
-mod tests {
-    use super::*;
-    use std::test::Fail;
-
-    #[test]
-    fn macros_keep_their_values(rt: HostRuntime) -> Result<(), Fail> {
-        let alloc = rt.alloc();
-        let name = Text::of(alloc, b"w")?;
-        let value = Text::of(alloc, b"mx")?;
-        let mut macros = Macros::new(alloc);
-        macros.set(&name, &value)?;
-        let copied = macros.copy()?;
-        macros.unset(&name);
-        assert!(rt; macros.get(&name).is_none());
-        assert_eq!(rt; copied.values().len(), 1);
-        let kept = copied.get(&name).expect(&rt, "w is set");
-        assert_eq!(rt; kept.bytes(), b"mx".as_slice());
-        Ok(())
     }
 }

@@ -1,9 +1,7 @@
-ghost use Rattle.std.specs.Prelude.{◌≡◌, IfOk};
-
 use crate::{NoMemory, Seq, Text, TryCopy};
 
 /// A mailer, as an M line declares it.
-#[derive(Debug, Drop)]
+#[derive(Drop)]
 pub struct Mailer {
     pub name: Text,
     /// P, the program, `[IPC]`, `[TCP]` or `[FILE]`.
@@ -31,7 +29,7 @@ pub struct Mailer {
 }
 
 /// A queue group, as a Q line declares it.
-#[derive(Debug, Drop)]
+#[derive(Drop)]
 pub struct Group {
     pub name: Text,
     /// Its directory.
@@ -72,68 +70,8 @@ impl TryCopy for Group {
             path: self.path.copy()?,
             recipients: self.recipients,
             runners: self.runners,
-            interval: self.interval.copy()?,
+            interval: self.interval,
             jobs: self.jobs,
         })
-    }
-}
-
-#[cfg(test)]
-mod tests {
-    use super::*;
-    use crate::Same;
-    use std::alloc::Global;
-    use std::test::Fail;
-
-    fn plain(alloc: Global) -> Result<Group, NoMemory> {
-        Ok(Group {
-            name: Text::of(alloc, b"bulk")?,
-            path: Text::of(alloc, b"/q/bulk")?,
-            recipients: 100,
-            runners: 1,
-            interval: None,
-            jobs: 0,
-        })
-    }
-
-    #[test]
-    fn groups_are_copied(rt: HostRuntime) -> Result<(), Fail> {
-        let group = plain(rt.alloc())?;
-        let copied = group.copy()?;
-        assert_eq!(rt; copied.path.bytes(), b"/q/bulk".as_slice());
-        assert_eq!(rt; copied.recipients, 100);
-        Ok(())
-    }
-
-    fn smtp(alloc: Global) -> Result<Mailer, NoMemory> {
-        let mut args = Seq::new(alloc);
-        args.push(Text::of(alloc, b"TCP")?)?;
-        args.push(Text::of(alloc, b"$h")?)?;
-        Ok(Mailer {
-            name: Text::of(alloc, b"smtp")?,
-            path: Text::of(alloc, b"[IPC]")?,
-            flags: Text::of(alloc, b"mDFMuX")?,
-            envelope_from: None,
-            header_from: None,
-            envelope_to: Some(Text::of(alloc, b"11")?),
-            header_to: None,
-            args,
-            line_end: Text::of(alloc, b"\r\n")?,
-            most: 0,
-            group: Some(Text::of(alloc, b"bulk")?),
-            batch: 100,
-        })
-    }
-
-    #[test]
-    fn mailers_are_copied(rt: HostRuntime) -> Result<(), Fail> {
-        let mailer = smtp(rt.alloc())?;
-        let copied = mailer.copy()?;
-        assert_eq!(rt; copied.flags.bytes(), b"mDFMuX".as_slice());
-        assert!(rt; copied.args.is(&mailer.args));
-        assert!(rt; copied.envelope_to.is(&mailer.envelope_to) && copied.envelope_from.is_none());
-        assert!(rt; copied.group.is(&mailer.group));
-        assert_eq!(rt; copied.batch, 100);
-        Ok(())
     }
 }

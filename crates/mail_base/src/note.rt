@@ -1,13 +1,13 @@
-ghost use Rattle.std.specs.Prelude.{◌≡◌, ◌≤◌, ◌<◌, ◌↔◌, [], All, IfOk, IfSome, IsSome, IsTrue, length, map, take};
+ghost use Rattle.std.specs.Prelude.{◌≡◌, ◌≤◌, ◌<◌, ◌↔◌, All, IfSome, IsSome, IsTrue, length, map, take};
 ghost use Rattle.mail_base.specs.Notes.{IsLineByte, IsNote, blanked, noted};
 
 use crate::bounded::filled;
-use crate::{NoMemory, Same, TryCopy};
+use crate::{NoMemory, TryCopy};
 use arrayvec::ArrayVec;
 use std::marker::Model;
 
 /// What is noted of a row: one line of 1 to 512 bytes. A contract sees it as the list of its bytes.
-#[derive(Debug, Drop)]
+#[derive(Drop)]
 pub struct Note {
     bytes: ArrayVec<u8, 512>,
 }
@@ -62,15 +62,6 @@ impl Note {
     {
         self.bytes.as_slice()
     }
-
-    /// The same note. It takes no memory.
-    pub fn duplicate(&self) -> Note
-        ensures { result ≡ self.now }
-    {
-        Note {
-            bytes: filled(self.bytes.as_slice()),
-        }
-    }
 }
 
 // Whether no byte ends a line.
@@ -117,30 +108,8 @@ fn blank_of(byte: u8) -> u8
 
 impl TryCopy for Note {
     fn copy(&self) -> Result<Note, NoMemory> {
-        Ok(self.duplicate())
-    }
-}
-
-impl Same for Note {
-    fn is(&self, other: &Note) -> bool {
-        self.bytes() == other.bytes()
-    }
-}
-
-#[cfg(test)]
-mod tests {
-    use super::*;
-
-    #[test]
-    fn notes_are_cut_to_one_line(rt: HostRuntime) {
-        let long = Note::cut(&[b'x'; 600]).expect(&rt, "a long text has a note");
-        assert_eq!(rt; long.bytes(), [b'x'; 512].as_slice());
-        let lines = Note::cut(b"two\r\nlines").expect(&rt, "two lines have a note");
-        assert_eq!(rt; lines.bytes(), b"two  lines".as_slice());
-        assert!(rt; Note::cut(b"").is_none());
-        let exit = Note::of(b"exit 75").expect(&rt, "a line is a note");
-        assert_eq!(rt; exit.duplicate().bytes(), b"exit 75".as_slice());
-        assert!(rt; Note::of(b"two\nlines").is_none());
-        assert!(rt; Note::of(&[b'x'; 513]).is_none());
+        Ok(Note {
+            bytes: filled(self.bytes.as_slice()),
+        })
     }
 }

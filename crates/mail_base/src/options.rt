@@ -5,7 +5,7 @@ use crate::{NoMemory, Seq, Text, TryCopy};
 use std::alloc::Global;
 
 /// Where the daemon listens.
-#[derive(Debug, Drop)]
+#[derive(Drop)]
 pub struct DaemonPort {
     pub port: u16,
     /// `None` for every address.
@@ -13,7 +13,7 @@ pub struct DaemonPort {
 }
 
 /// The options. Times are in seconds.
-#[derive(Debug, Drop)]
+#[derive(Drop)]
 pub struct Options {
     pub queue_directory: Text,
     /// The alias files, in order.
@@ -92,7 +92,7 @@ impl TryCopy for Options {
             daemon_port: self.daemon_port.copy()?,
             max_daemon_sessions: self.max_daemon_sessions,
             queue_return: self.queue_return,
-            queue_warn: self.queue_warn.copy()?,
+            queue_warn: self.queue_warn,
             min_queue_age: self.min_queue_age,
             max_hop_count: self.max_hop_count,
             max_alias_recursion: self.max_alias_recursion,
@@ -103,41 +103,5 @@ impl TryCopy for Options {
             retry_factor: self.retry_factor,
             double_bounce_address: self.double_bounce_address.copy()?,
         })
-    }
-}
-
-#[cfg(test)]
-mod tests {
-    use super::*;
-    use std::test::Fail;
-
-    #[test]
-    fn options_are_copied(rt: HostRuntime) -> Result<(), Fail> {
-        let copied = Options::new(rt.alloc())?.copy()?;
-        assert_eq!(rt;
-            copied.queue_directory.bytes(),
-            b"/var/spool/mqueue".as_slice()
-        );
-        assert_eq!(rt; copied.hosts_file.bytes(), b"/etc/hosts".as_slice());
-        assert_eq!(rt;
-            copied.double_bounce_address.bytes(),
-            b"postmaster".as_slice()
-        );
-        assert_eq!(rt; copied.max_hop_count, 25);
-        assert!(rt; copied.queue_warn.is_none());
-        Ok(())
-    }
-
-    #[test]
-    fn ports_are_copied(rt: HostRuntime) -> Result<(), Fail> {
-        let port = DaemonPort {
-            port: 587,
-            address: Some(Text::of(rt.alloc(), b"127.0.0.1")?),
-        };
-        let copied = port.copy()?;
-        assert_eq!(rt; copied.port, 587);
-        let address = copied.address.expect(&rt, "an address");
-        assert_eq!(rt; address.bytes(), b"127.0.0.1".as_slice());
-        Ok(())
     }
 }

@@ -1,9 +1,7 @@
-ghost use Rattle.std.specs.Prelude.{◌≡◌, ◌↔◌, IfOk, IsTrue};
-
-use crate::{NoMemory, Same, Status, Text, TryCopy};
+use crate::{NoMemory, Status, Text, TryCopy};
 
 /// Where an address goes.
-#[derive(Debug, Drop)]
+#[derive(Drop)]
 pub struct Triple {
     pub mailer: Text,
     pub host: Text,
@@ -11,7 +9,7 @@ pub struct Triple {
 }
 
 /// Why an address goes nowhere, or why a check refuses it.
-#[derive(Debug, Drop)]
+#[derive(Drop)]
 pub enum Cause {
     /// One rule would be applied a 101st successive time.
     Loop,
@@ -46,7 +44,7 @@ pub enum Cause {
 }
 
 /// A refused address, as SMTP answers it.
-#[derive(Debug, Drop)]
+#[derive(Drop)]
 pub struct RouteError {
     /// The reply's code.
     pub code: u16,
@@ -57,7 +55,7 @@ pub struct RouteError {
 }
 
 /// What routing an address gives.
-#[derive(Debug, Drop)]
+#[derive(Drop)]
 pub enum Resolved {
     Goes(Triple),
     Refuses(RouteError),
@@ -99,7 +97,7 @@ impl TryCopy for RouteError {
     fn copy(&self) -> Result<RouteError, NoMemory> {
         Ok(RouteError {
             code: self.code,
-            status: self.status.duplicate(),
+            status: self.status.copy()?,
             text: self.text.copy()?,
             cause: self.cause.copy()?,
         })
@@ -112,71 +110,5 @@ impl TryCopy for Resolved {
             Resolved::Goes(triple) => Ok(Resolved::Goes(triple.copy()?)),
             Resolved::Refuses(error) => Ok(Resolved::Refuses(error.copy()?)),
         }
-    }
-}
-
-impl Same for Triple {
-    fn is(&self, other: &Triple) -> bool {
-        self.mailer.is(&other.mailer) && self.host.is(&other.host) && self.user.is(&other.user)
-    }
-}
-
-#[cfg(test)]
-mod tests {
-    use super::*;
-    use std::alloc::Global;
-    use std::test::Fail;
-
-    fn ann(alloc: Global) -> Result<Triple, NoMemory> {
-        Ok(Triple {
-            mailer: Text::of(alloc, b"local")?,
-            host: Text::new(alloc),
-            user: Text::of(alloc, b"ann")?,
-        })
-    }
-
-    fn unknown(alloc: Global, status: Status) -> Result<RouteError, NoMemory> {
-        Ok(RouteError {
-            code: 554,
-            status,
-            text: Text::of(alloc, b"Unknown mailer uucp")?,
-            cause: Cause::UnknownMailer(Text::of(alloc, b"uucp")?),
-        })
-    }
-
-    #[test]
-    fn triples_are_copied_and_compared(rt: HostRuntime) -> Result<(), Fail> {
-        let triple = ann(rt.alloc())?;
-        let mut copied = triple.copy()?;
-        assert!(rt; copied.is(&triple));
-        copied.user.push(b'e')?;
-        assert!(rt; !copied.is(&triple));
-        Ok(())
-    }
-
-    #[test]
-    fn routes_are_copied(rt: HostRuntime) -> Result<(), Fail> {
-        let status = Status::of(b"5.3.5").expect(&rt, "a status");
-        let refused = Resolved::Refuses(unknown(rt.alloc(), status)?);
-        if let Resolved::Refuses(error) = refused.copy()? {
-            assert_eq!(rt; error.code, 554);
-            assert_eq!(rt; error.status.bytes(), b"5.3.5".as_slice());
-            assert_eq!(rt; error.text.bytes(), b"Unknown mailer uucp".as_slice());
-        } else {
-            assert!(rt; false);
-        }
-        Ok(())
-    }
-
-    #[test]
-    fn causes_are_copied(rt: HostRuntime) -> Result<(), Fail> {
-        let cause = Cause::NoRuleset(Text::of(rt.alloc(), b"parse")?);
-        if let Cause::NoRuleset(name) = cause.copy()? {
-            assert_eq!(rt; name.bytes(), b"parse".as_slice());
-        } else {
-            assert!(rt; false);
-        }
-        assert!(rt; matches!(&Cause::Loop.copy()?, Cause::Loop));
-        Ok(())
     }
 }

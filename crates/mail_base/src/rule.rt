@@ -1,11 +1,11 @@
-ghost use Rattle.std.specs.Prelude.{◌≡◌, ◌≤◌, ◌↔◌, ℕ, IfOk, IfSome, IsSome, count_by};
+ghost use Rattle.std.specs.Prelude.{◌≡◌, ◌≤◌, ◌↔◌, IfSome, IsSome, count_by};
 ghost use Rattle.mail_base.specs.Metas.{is_meta};
 
 use crate::{NoMemory, Seq, Text, Token, TryCopy};
 use std::marker::Model;
 
 /// An item of a rule's left side.
-#[derive(Debug, Drop, PartialEq, Eq)]
+#[derive(Drop)]
 pub enum Item {
     /// `$*`, zero or more tokens.
     Any,
@@ -27,7 +27,7 @@ pub enum Item {
 
 /// A rule's left side, of which at most 20 items are written with `$`. A contract sees it as the list of its
 /// items.
-#[derive(Debug, Drop)]
+#[derive(Drop)]
 pub struct Pattern {
     items: Seq<Item>,
 }
@@ -45,7 +45,7 @@ impl Model for Pattern {
 }
 
 /// A piece of a rule's right side.
-#[derive(Debug, Drop, PartialEq, Eq)]
+#[derive(Drop)]
 pub enum Piece {
     /// The token itself.
     Give(Token),
@@ -56,7 +56,7 @@ pub enum Piece {
 }
 
 /// A step of a rule's right side.
-#[derive(Debug, Drop, PartialEq, Eq)]
+#[derive(Drop)]
 pub enum Step {
     Plain(Piece),
     /// `$[key$]` or `$(name key $@ arg $: fallback$)`.
@@ -82,20 +82,20 @@ pub enum Go {
 }
 
 /// A rule's right side.
-#[derive(Debug, Drop, PartialEq, Eq)]
+#[derive(Drop)]
 pub struct Template {
     pub go: Go,
     pub steps: Seq<Step>,
 }
 
-#[derive(Debug, Drop)]
+#[derive(Drop)]
 pub struct Rule {
     pub left: Pattern,
     pub right: Template,
 }
 
 /// A ruleset: its names, which are compared without ASCII case, and its rules in order.
-#[derive(Debug, Drop)]
+#[derive(Drop)]
 pub struct RuleSet {
     pub names: Seq<Text>,
     pub rules: Seq<Rule>,
@@ -213,78 +213,5 @@ impl TryCopy for RuleSet {
             names: self.names.copy()?,
             rules: self.rules.copy()?,
         })
-    }
-}
-
-#[cfg(test)]
-mod tests {
-    use super::*;
-    use std::alloc::Global;
-    use std::test::Fail;
-
-    #[test]
-    fn patterns_have_at_most_twenty_metas(rt: HostRuntime) -> Result<(), Fail> {
-        let mut items = Seq::new(rt.alloc());
-        for _ in 0..20u32 {
-            items.push(Item::Any)?;
-        }
-        items.push(Item::Exact(Token::Op(b'@')))?;
-        let pattern = Pattern::of(items.copy()?).expect(&rt, "twenty are few");
-        assert!(rt; pattern.copy()?.items == items);
-        items.push(Item::One)?;
-        assert!(rt; Pattern::of(items).is_none());
-        Ok(())
-    }
-
-    fn lookup(alloc: Global) -> Result<Step, NoMemory> {
-        let mut key = Seq::new(alloc);
-        key.push(Piece::Cut(1))?;
-        Ok(Step::Lookup {
-            name: Text::of(alloc, b"host")?,
-            key,
-            args: Seq::new(alloc),
-            fallback: None,
-        })
-    }
-
-    fn template(alloc: Global) -> Result<Template, NoMemory> {
-        let mut steps = Seq::new(alloc);
-        steps.push(Step::Plain(Piece::Give(Token::Op(b'@'))))?;
-        steps.push(lookup(alloc)?)?;
-        steps.push(Step::Call)?;
-        Ok(Template {
-            go: Go::Next,
-            steps,
-        })
-    }
-
-    fn set_of(alloc: Global, left: Pattern) -> Result<RuleSet, NoMemory> {
-        let mut names = Seq::new(alloc);
-        names.push(Text::of(alloc, b"parse")?)?;
-        let right = template(alloc)?;
-        let mut rules = Seq::new(alloc);
-        rules.push(Rule { left, right })?;
-        Ok(RuleSet { names, rules })
-    }
-
-    #[test]
-    fn right_sides_are_copied(rt: HostRuntime) -> Result<(), Fail> {
-        let right = template(rt.alloc())?;
-        let copied = right.copy()?;
-        assert!(rt; copied == right);
-        assert!(rt; copied.go == Go::Next);
-        assert_eq!(rt; copied.steps.len(), 3);
-        Ok(())
-    }
-
-    #[test]
-    fn rulesets_are_copied(rt: HostRuntime) -> Result<(), Fail> {
-        let left = Pattern::of(Seq::new(rt.alloc())).expect(&rt, "none are few");
-        let copied = set_of(rt.alloc(), left)?.copy()?;
-        assert_eq!(rt; copied.names.len(), 1);
-        let rule = copied.rules.get(0).expect(&rt, "one rule");
-        assert!(rt; rule.left.items().is_empty());
-        assert_eq!(rt; rule.right.steps.len(), 3);
-        Ok(())
     }
 }

@@ -6,7 +6,7 @@ use crate::{Failed, Seq};
 
 /// The calls of a device that are to fail, counted from 0, how many calls there were, and how many
 /// failed. Both counts stand still at `u64::MAX`.
-#[derive(Debug, Drop)]
+#[derive(Drop)]
 pub struct Script {
     pub failing: Seq<u64>,
     pub calls: u64,
@@ -46,24 +46,5 @@ impl Script {
         ensures later { self.old.faults ≤ self.new.faults }
     {
         self.faults = self.faults.saturating_add(1);
-    }
-}
-
-#[cfg(test)]
-mod tests {
-    use super::*;
-    use std::test::Fail;
-
-    #[test]
-    fn listed_calls_fail(rt: HostRuntime) -> Result<(), Fail> {
-        let mut failing = Seq::new(rt.alloc());
-        failing.push(1)?;
-        let mut script = Script::new(failing);
-        assert!(rt; script.call().is_ok());
-        assert!(rt; script.call().is_err());
-        assert!(rt; script.call().is_ok());
-        assert_eq!(rt; script.calls, 3);
-        assert_eq!(rt; script.faults, 1);
-        Ok(())
     }
 }

@@ -1,8 +1,8 @@
-ghost use Rattle.std.specs.Prelude.{◌≡◌, ◌<◌, ◌↔◌, [], ◌∷◌, ◌++◌, List, ℕ, length, IfOk, OnOk, OnErr, IsTrue, slice_get, slice_set, take};
+ghost use Rattle.std.specs.Prelude.{◌≡◌, ◌<◌, ◌↔◌, [], ◌∷◌, ◌++◌, List, length, OnOk, OnErr, IsTrue, slice_get, slice_set, take};
 ghost use Rattle.std.specs.Option.{option_copied};
 ghost use Rattle.std.specs.Cmp.Lexicographic.{pointwise, lists_per, lists_equiv};
 
-use crate::{NoMemory, Same, TryCopy};
+use crate::{NoMemory, TryCopy};
 use std::alloc::Global;
 use std::marker::Model;
 
@@ -108,22 +108,6 @@ impl<T: TryCopy> TryCopy for Seq<T> {
     }
 }
 
-impl<T: Same> Same for Seq<T> {
-    fn is(&self, other: &Seq<T>) -> bool {
-        let mine = self.items();
-        let others = other.items();
-        if mine.len() != others.len() {
-            return false;
-        }
-        for index in 0..mine.len() {
-            if !mine[index].is(&others[index]) {
-                return false;
-            }
-        }
-        true
-    }
-}
-
 impl<T: PartialEq> PartialEq for Seq<T> {
     ghost eq = { pointwise T.eq };
 
@@ -136,27 +120,4 @@ impl<T: PartialEq> PartialEq for Seq<T> {
 
 impl<T: Eq> Eq for Seq<T> {
     ghost laws = { lists_equiv T.Eq.laws };
-}
-
-#[cfg(test)]
-mod tests {
-    use super::*;
-    use std::test::Fail;
-
-    #[test]
-    fn lists_grow_and_change(rt: HostRuntime) -> Result<(), Fail> {
-        let mut list: Seq<u64> = Seq::new(rt.alloc());
-        list.push(1)?;
-        list.push(2)?;
-        list.push(3)?;
-        let copied = list.copy()?;
-        assert!(rt; copied.is(&list));
-        assert_eq!(rt; list.len(), 3);
-        list.set(1, 5);
-        assert_eq!(rt; list.get(1).copied(), Some(5));
-        list.truncate(1);
-        assert_eq!(rt; Seq::from_vec(list.into_vec()).items(), [1].as_slice());
-        assert_eq!(rt; copied.items(), [1, 2, 3].as_slice());
-        Ok(())
-    }
 }

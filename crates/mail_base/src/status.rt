@@ -1,15 +1,16 @@
-ghost use Rattle.std.specs.Prelude.{◌≡◌, ◌==◌, ◌↔◌, IfOk, IfSome, IsSome, IsTrue, position};
+ghost use Rattle.std.specs.Prelude.{◌≡◌, ◌==◌, ◌↔◌, IfSome, IsSome, IsTrue, position};
 ghost use Rattle.std.specs.List.{list_all};
 ghost use Rattle.mail_base.specs.Notes.{are_groups, is_digit, is_group, is_status};
 
 use crate::bounded::filled;
-use crate::{NoMemory, Same, TryCopy};
+use crate::{NoMemory, TryCopy};
 use arrayvec::ArrayVec;
+use bstr::ByteSlice;
 use std::marker::Model;
 
 /// An enhanced status, as `5.1.1`: a digit and two groups of one to three digits. A contract sees it
 /// as the list of its bytes.
-#[derive(Debug, Drop)]
+#[derive(Drop)]
 pub struct Status {
     bytes: ArrayVec<u8, 9>,
 }
@@ -47,15 +48,6 @@ impl Status {
     {
         self.bytes.as_slice()
     }
-
-    /// The same status. It takes no memory.
-    pub fn duplicate(&self) -> Status
-        ensures { result ≡ self.now }
-    {
-        Status {
-            bytes: filled(self.bytes.as_slice()),
-        }
-    }
 }
 
 fn is_status(bytes: &[u8]) -> bool
@@ -78,10 +70,11 @@ fn are_groups(bytes: &[u8]) -> bool
 }
 
 // The place of the first dot.
+#[tactic(auto, using(crate::proofs::Dots::first_is_position))]
 fn first_dot(bytes: &[u8]) -> Option<usize>
     ensures { result ≡ position (λ b. b == 46) bytes.now }
 {
-    bytes.iter().position(|byte| *byte == b'.')
+    bytes.find_byte(b'.')
 }
 
 fn is_group(bytes: &[u8]) -> bool
@@ -104,39 +97,8 @@ fn is_digit(byte: u8) -> bool
 
 impl TryCopy for Status {
     fn copy(&self) -> Result<Status, NoMemory> {
-        Ok(self.duplicate())
-    }
-}
-
-impl Same for Status {
-    fn is(&self, other: &Status) -> bool {
-        self.bytes() == other.bytes()
-    }
-}
-
-#[cfg(test)]
-mod tests {
-    use super::*;
-
-    #[test]
-    fn statuses_have_three_groups(rt: HostRuntime) {
-        let plain = Status::of(b"5.1.1").expect(&rt, "a status");
-        assert_eq!(rt; plain.duplicate().bytes(), b"5.1.1".as_slice());
-        let long = Status::of(b"4.123.999").expect(&rt, "the longest status");
-        assert_eq!(rt; long.bytes(), b"4.123.999".as_slice());
-        let others = [
-            b"".as_slice(),
-            b"5.1",
-            b"5..1",
-            b"5.1.",
-            b"55.1.1",
-            b"5.1.1234",
-            b"5.1.1.1",
-            b"x.1.1",
-            b"5.a.1",
-        ];
-        for bytes in others {
-            assert!(rt; Status::of(bytes).is_none());
-        }
+        Ok(Status {
+            bytes: filled(self.bytes.as_slice()),
+        })
     }
 }

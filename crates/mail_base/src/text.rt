@@ -6,7 +6,7 @@ ghost use Rattle.std.specs.Cmp.Lexicographic.{pointwise, nat_list_eq_equiv};
 ghost use Rattle.std.specs.Cmp.Rules.{hashing};
 ghost use Rattle.std.specs.Hash as fed;
 
-use crate::{NoMemory, Same, TryCopy};
+use crate::{NoMemory, TryCopy};
 use std::alloc::Global;
 use std::hash::{Hash, Hasher};
 use std::marker::Model;
@@ -129,12 +129,6 @@ impl TryCopy for Text {
     }
 }
 
-impl Same for Text {
-    fn is(&self, other: &Text) -> bool {
-        self.bytes.as_slice() == other.bytes.as_slice()
-    }
-}
-
 impl PartialEq for Text {
     ghost eq = { pointwise nat_eq };
 
@@ -156,24 +150,5 @@ impl Hash for Text {
 
     fn hash<H: Hasher>(&self, state: &mut H) {
         self.bytes.as_slice().hash(state);
-    }
-}
-
-#[cfg(test)]
-mod tests {
-    use super::*;
-    use std::test::Fail;
-
-    #[test]
-    fn texts_grow_and_fold(rt: HostRuntime) -> Result<(), Fail> {
-        let alloc = rt.alloc();
-        let mut text = Text::of(alloc, b"MX")?;
-        text.push(b'.')?;
-        text.extend(b"Example")?;
-        assert_eq!(rt; text.bytes(), b"MX.Example".as_slice());
-        assert!(rt; text.is_folded(&text.folded()?));
-        assert!(rt; !text.is(&text.folded()?));
-        assert!(rt; Text::from_vec(text.copy()?.into_vec()).is(&text));
-        Ok(())
     }
 }

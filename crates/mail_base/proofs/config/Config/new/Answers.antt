@@ -10,12 +10,12 @@ returns c =
     λ i. record {
       macros = macros i;
       classes = classes i;
-      book = c.new.ensures i;
-      mailers = c.new-2.ensures i;
+      book = c.new-2.ensures i;
+      mailers = c.new-3.ensures i;
       groups = groups i;
       maps = maps i;
-      precedences = c.new-3.ensures i;
-      headers = c.new-4.ensures i;
+      precedences = c.new-4.ensures i;
+      headers = c.new-5.ensures i;
       options = options i;
       warnings = c.new-6.ensures i;
     }
