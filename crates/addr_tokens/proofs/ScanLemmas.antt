@@ -85,11 +85,8 @@ module _ (operators : List ℕ) (angles : Bool) (text : List ℕ) (checked : Boo
   at_end : gathered is_long tokens (judge_end lefts None) ≡ outcome_of operators angles text
   at_end = ap (λ x. gathered is_long tokens (outcome_on operators checked place lefts x)) (sym (drop_all place text all)) ∙ so.outcome
 
-  pub end_fails : (fault : ScanFault) → judge_end lefts None ≡ Err fault → ExplainsFault operators angles text fault
-  end_fails fault ends = fault_of_answer operators angles text fault (sym at_end ∙ ap (gathered is_long tokens) ends)
+  pub all_fails : (fault : ScanFault) → gathered is_long tokens (judge_end lefts None) ≡ Err fault → ExplainsFault operators angles text fault
+  all_fails fault gives = fault_of_answer operators angles text fault (sym at_end ∙ gives)
 
-  pub all_fails : (fault : ScanFault) → judge_end lefts None ≡ Ok [] → gathered is_long tokens (Ok []) ≡ Err fault → ExplainsFault operators angles text fault
-  all_fails fault ends gives = fault_of_answer operators angles text fault (sym at_end ∙ ap (gathered is_long tokens) ends ∙ gives)
-
-  pub all_tokens : (answer : List Token) → judge_end lefts None ≡ Ok [] → gathered is_long tokens (Ok []) ≡ Ok answer → AreTokens operators angles text answer
-  all_tokens answer ends gives = tokens_of_answer operators angles text answer (sym at_end ∙ ap (gathered is_long tokens) ends ∙ gives)
+  pub all_tokens : (answer : List Token) → gathered is_long tokens (judge_end lefts None) ≡ Ok answer → AreTokens operators angles text answer
+  all_tokens answer gives = tokens_of_answer operators angles text answer (sym at_end ∙ gives)

@@ -5,7 +5,7 @@ use mail_base::NoMemory;
 use thiserror::Error;
 
 /// Why a text has no tokens. A place is the number of bytes before it.
-#[derive(Clone, Copy, Debug, Drop, PartialEq, Eq, Error)]
+#[derive(Clone, Copy, Debug, Drop, Error)]
 pub enum ScanFault {
     /// A `)` or a checked `>` that nothing opens, at its place; the outermost `(` of those that nothing
     /// closes; or the last checked `<` that nothing closes.

@@ -131,6 +131,17 @@ impl Gathering {
     }
 }
 
+/// What is answered at the end of a text: a `<` that stays open goes before `Long`.
+pub(crate) fn answer_of(angles: &Angles, gathering: Gathering) -> Result<Seq<Token>, ScanFault>
+    ensures ok { IfOk result (λ tokens. gathered gathering.is_long gathering.tokens
+        (judge_end (reverse angles.now.places.items) None) ≡ Ok tokens) }
+    ensures fault { IfErr result (λ fault. gathered gathering.is_long gathering.tokens
+        (judge_end (reverse angles.now.places.items) None) ≡ Err fault) }
+{
+    angles.end()?;
+    gathering.tokens()
+}
+
 fn is_token(front: Front) -> bool
     ensures { (text : List ℕ) → length (token_of (piece_of front text)) ≡ (if result then 1 else 0) }
 {

@@ -10,8 +10,6 @@ mod joining;
 mod law;
 mod scan;
 mod table;
-#[cfg(test)]
-mod tests;
 
 pub use fault::ScanFault;
 pub use joining::join;

@@ -3,7 +3,7 @@ ghost use Rattle.addr_tokens.specs.Scans.{AreTokens, ExplainsFault};
 
 use crate::ScanFault;
 use crate::front::first_of;
-use crate::gathering::{Angles, Gathering};
+use crate::gathering::{Angles, Gathering, answer_of};
 use crate::table::Table;
 use mail_base::{Seq, Text, Token};
 use std::alloc::Global;
@@ -38,6 +38,5 @@ fn scan(alloc: Global, text: &[u8], operators: &[u8], angles: bool) -> Result<Se
         gathering.add(front, rest)?;
         place += front.size();
     }
-    open.end()?;
-    gathering.tokens()
+    answer_of(&open, gathering)
 }

@@ -1,3 +1,6 @@
 //! Tests of tokens, macros, values, matches and runs of rules, as tables. They stand apart from the
 //! libraries, which a check would else prove twice.
 #![tactic(auto)]
+
+#[cfg(test)]
+mod tokens;

@@ -2,7 +2,7 @@ use Rattle.std.proofs.Common.{◌+◌, ℕ, subst, drop, reverse, Bool, sym, ari
 use Rattle.std.proofs.lemmas.List.{take_rest}
 use Rattle.std.proofs.lemmas.Result.{err_from_is_err_and, IfOk-weaker, MatchResult-weaker}
 use Rattle.addr_tokens.specs.Reader.{gathered, outcome_on}
-use Rattle.addr_tokens.proofs.ScanLemmas.{At, front_fails, angle_fails, at_next, end_fails, all_fails, all_tokens}
+use Rattle.addr_tokens.proofs.ScanLemmas.{At, front_fails, angle_fails, at_next, all_fails, all_tokens}
 use Rattle.addr_tokens.proofs.scan.scan.Goals as goal
 
 pub pieces-init : goal.pieces-init
@@ -36,17 +36,12 @@ pieces-preserved c =
       so = subst (λ k. P k c.size-place.result) (sym c.in_ok-note.ensures.checked) (subst (P c.pieces.open.checked) (sym c.size-place.ensures) next);
     }
 
-pub returns-in_err-end-clause-fault : goal.returns-in_err-end-clause-fault
-returns-in_err-end-clause-fault c =
-    let p = err_from_is_err_and c.from_residual-in_err-end.result c.from_residual-in_err-end.ensures.1 in
-    rw (p.1, p.2) (end_fails c.args.operators.now c.args.angles c.args.text.now _ c.pieces.place _ _ _ c.pieces.invariant.so c.pieces-test.false _ c.in_err-end.ensures.fault)
-
 pub returns-clause-tokens : goal.returns-clause-tokens
 returns-clause-tokens c =
-    IfOk-weaker c.tokens.result _ _
-    (λ tokens gives. all_tokens c.args.operators.now c.args.angles c.args.text.now _ c.pieces.place _ _ _ c.pieces.invariant.so c.pieces-test.false tokens c.in_ok-end.ensures.none gives) c.tokens.ensures.ok
+    IfOk-weaker c.answer_of.result _ _
+    (λ tokens gives. all_tokens c.args.operators.now c.args.angles c.args.text.now _ c.pieces.place _ _ _ c.pieces.invariant.so c.pieces-test.false tokens gives) c.answer_of.ensures.ok
 
 pub returns-clause-fault : goal.returns-clause-fault
 returns-clause-fault c =
-    MatchResult-weaker c.tokens.result c.tokens.ensures.long (λ tokens so. so)
-    (λ fault gives. all_fails c.args.operators.now c.args.angles c.args.text.now _ c.pieces.place _ _ _ c.pieces.invariant.so c.pieces-test.false fault c.in_ok-end.ensures.none gives)
+    MatchResult-weaker c.answer_of.result c.answer_of.ensures.fault (λ tokens so. so)
+    (λ fault gives. all_fails c.args.operators.now c.args.angles c.args.text.now _ c.pieces.place _ _ _ c.pieces.invariant.so c.pieces-test.false fault gives)

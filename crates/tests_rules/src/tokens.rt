@@ -1,4 +1,4 @@
-use crate::{ScanFault, join, tokens};
+use addr_tokens::{ScanFault, join, tokens};
 use mail_base::{Mark, NoMemory, Seq, Text, Token};
 use std::alloc::Global;
 use std::test::Fail;
@@ -217,10 +217,29 @@ fn sample(alloc: Global) -> Result<Seq<Token>, NoMemory> {
 
 #[test]
 fn a_blank_stands_between_words_alone(rt: HostRuntime) -> Result<(), Fail> {
+    let rows: [(Option<u8>, &[u8]); 2] = [
+        (Some(b' '), b"ann b \"c d\"@$|$#$@$:$.mx"),
+        (None, b"annb\"c d\"@$|$#$@$:$.mx"),
+    ];
     let tokens = sample(rt.alloc())?;
-    let spaced = join(rt.alloc(), &tokens, Some(b' '))?;
-    let close = join(rt.alloc(), &tokens, None)?;
-    assert_eq!(rt; spaced.bytes(), b"ann b \"c d\"@$|$#$@$:$.mx".as_slice());
-    assert_eq!(rt; close.bytes(), b"annb\"c d\"@$|$#$@$:$.mx".as_slice());
+    for (blank, answer) in &rows {
+        let joined = join(rt.alloc(), &tokens, *blank)?;
+        assert_eq!(rt; joined.bytes(), *answer);
+    }
+    Ok(())
+}
+
+#[test]
+fn each_fault_has_its_text(rt: HostRuntime) -> Result<(), Fail> {
+    let rows: [(ScanFault, &[u8]); 4] = [
+        (ScanFault::Unbalanced(0), b"Unbalanced 0"),
+        (ScanFault::BadQuote(17), b"BadQuote 17"),
+        (ScanFault::Long, b"Long"),
+        (ScanFault::NoMemory, b"NoMemory"),
+    ];
+    for (fault, answer) in &rows {
+        let shown = show_fault(rt.alloc(), *fault)?;
+        assert_eq!(rt; shown.bytes(), *answer);
+    }
     Ok(())
 }
