@@ -10,7 +10,7 @@ use mail_base::{Pattern, Seq, Token};
 use std::marker::Model;
 
 /// What an item takes of the tokens: where it begins, counted from 0, and how many it takes.
-#[derive(Clone, Copy, Debug, Default, PartialEq, Eq)]
+#[derive(Clone, Copy, Default)]
 pub struct Cut {
     pub start: usize,
     pub length: usize,

@@ -5,8 +5,6 @@ mod cuts;
 mod item;
 mod law;
 mod matcher;
-#[cfg(test)]
-mod tests;
 mod trial;
 
 pub use cuts::{Cut, Cuts};

@@ -5,7 +5,7 @@ use mail_base::{NoMemory, Text};
 use thiserror::Error;
 
 /// Why a run of a ruleset has no result.
-#[derive(Debug, Drop, PartialEq, Eq, Error)]
+#[derive(Debug, Drop, Error)]
 pub enum RunFault {
     /// One rule would be applied a 101st successive time.
     #[error("Loop")]

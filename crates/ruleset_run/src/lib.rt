@@ -6,8 +6,6 @@ mod fault;
 mod filler;
 mod law;
 mod runner;
-#[cfg(test)]
-mod tests;
 
 pub use book::rules_of;
 pub use fault::RunFault;

@@ -19,7 +19,7 @@ const MOST_TIMES: u32 = 100;
 const MOST_WORK: u32 = 10_000;
 
 /// What a run ends with.
-#[derive(Debug, Drop)]
+#[derive(Drop)]
 pub struct Ran {
     pub tokens: Seq<Token>,
     /// The number of applications.

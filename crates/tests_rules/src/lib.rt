@@ -3,4 +3,10 @@
 #![tactic(auto)]
 
 #[cfg(test)]
+mod matches;
+#[cfg(test)]
+mod runs;
+#[cfg(test)]
+mod signs;
+#[cfg(test)]
 mod tokens;

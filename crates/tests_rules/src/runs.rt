@@ -1,71 +1,17 @@
-use crate::{Ran, RunFault, is_plain, run};
-use mail_base::{
-    Config, Go, Item, Mark, NoMemory, Pattern, Piece, Rule, RuleSet, Seq, Step, Template, Text,
-    Token,
-};
+// What a run of a ruleset ends with, and the sets that are found.
+use crate::signs::{pattern_of, steps_of, tokens_of, words};
+use mail_base::{Config, Go, NoMemory, Piece, Rule, RuleSet, Seq, Step, Template, Text, Token};
+use ruleset_run::{Ran, RunFault, is_plain, run};
 use std::alloc::Global;
 use std::test::Fail;
-
-// A token is written as one byte: `.`, `:` and `@` are operators, `#` is `$#`.
-fn token_of(alloc: Global, sign: u8) -> Result<Token, NoMemory> {
-    match sign {
-        b'.' | b':' | b'@' => Ok(Token::Op(sign)),
-        b'#' => Ok(Token::Sign(Mark::Mailer)),
-        _ => Ok(Token::Word(Text::of(alloc, &[sign])?)),
-    }
-}
-
-fn tokens_of(alloc: Global, signs: &str) -> Result<Seq<Token>, NoMemory> {
-    let mut tokens = Seq::new(alloc);
-    for sign in signs.as_bytes() {
-        tokens.push(token_of(alloc, *sign)?)?;
-    }
-    Ok(tokens)
-}
-
-fn words(alloc: Global, count: usize) -> Result<Seq<Token>, NoMemory> {
-    let mut tokens = Seq::new(alloc);
-    for _ in 0..count {
-        tokens.push(token_of(alloc, b'w')?)?;
-    }
-    Ok(tokens)
-}
-
-// An item is written as a token, or as `*`, `+` or `-` for the one with `$` in front.
-fn left_of(alloc: Global, signs: &str) -> Result<Seq<Item>, NoMemory> {
-    let mut items = Seq::new(alloc);
-    for sign in signs.as_bytes() {
-        items.push(match *sign {
-            b'*' => Item::Any,
-            b'+' => Item::More,
-            b'-' => Item::One,
-            _ => Item::Exact(token_of(alloc, *sign)?),
-        })?;
-    }
-    Ok(items)
-}
-
-// A piece is written as a token, or as the digit of a `$1` to `$9`.
-fn right_of(alloc: Global, signs: &str) -> Result<Seq<Step>, NoMemory> {
-    let mut steps = Seq::new(alloc);
-    for sign in signs.as_bytes() {
-        steps.push(Step::Plain(match *sign {
-            b'1' => Piece::Cut(1),
-            b'2' => Piece::Cut(2),
-            b'3' => Piece::Cut(3),
-            _ => Piece::Give(token_of(alloc, *sign)?),
-        }))?;
-    }
-    Ok(steps)
-}
 
 // A rule as its left side, what comes after it, and its right side.
 type Line<'a> = (&'a str, Go, &'a str);
 
 fn rule_of(alloc: Global, line: Line) -> Result<Rule, Fail> {
     let (left, go, right) = line;
-    let left = Pattern::of(left_of(alloc, left)?).ok_or("many signs")?;
-    let steps = right_of(alloc, right)?;
+    let left = pattern_of(alloc, left)?;
+    let steps = steps_of(alloc, right)?;
     Ok(Rule {
         left,
         right: Template { go, steps },
