@@ -4,7 +4,7 @@ ghost use Rattle.cf_macros.specs.declared.construct.Kind.TheVariants.{Plain};
 ghost use Rattle.cf_macros.specs.Constructs.{is_name, name_at, IsWithin, piece, reference_at, test_of, dollar_piece, first_piece, Shows};
 
 /// What a construct is.
-#[derive(Clone, Copy, Debug, PartialEq, Eq)]
+#[derive(Clone, Copy)]
 pub(crate) enum Kind {
     /// Bytes that stand for themselves, and a dollar sign that was written twice.
     Plain,
@@ -21,7 +21,7 @@ pub(crate) enum Kind {
 }
 
 /// What stands where a name may stand.
-#[derive(Clone, Copy, Debug, PartialEq, Eq)]
+#[derive(Clone, Copy)]
 pub(crate) enum Naming {
     /// A name of one byte.
     Letter,
@@ -33,7 +33,7 @@ pub(crate) enum Naming {
 }
 
 /// A construct at the front of a text.
-#[derive(Clone, Copy, Debug)]
+#[derive(Clone, Copy)]
 pub(crate) struct Construct<'a> {
     pub(crate) kind: Kind,
     /// The name, or the bytes that the construct stands for.

@@ -1,7 +1,7 @@
 ghost use Rattle.std.specs.Prelude.{◌≤◌, ◌<◌};
 
 /// The form of a date, each that of one macro.
-#[derive(Clone, Copy, Debug, PartialEq, Eq)]
+#[derive(Clone, Copy)]
 pub enum Form {
     /// Of the macro b: `Thu, 1 Jan 2026 00:00:00 +0000`.
     Mail,
@@ -12,7 +12,7 @@ pub enum Form {
 }
 
 /// The parts of a date and a clock.
-#[derive(Clone, Copy, Debug)]
+#[derive(Clone, Copy)]
 pub(crate) struct Civil {
     pub(crate) year: u16,
     pub(crate) month: u8,

@@ -4,7 +4,7 @@ ghost use Rattle.cf_macros.specs.Insides.{rest_at, is_closed};
 use mail_base::Text;
 
 /// A text under way: a level of references.
-#[derive(Clone, Copy, Debug)]
+#[derive(Clone, Copy)]
 pub(crate) struct Level<'a> {
     pub(crate) text: &'a [u8],
     pub(crate) place: usize,

@@ -3,8 +3,6 @@
 #![tactic(auto)]
 
 mod construct;
-#[cfg(test)]
-mod date_tests;
 mod dates;
 mod expansion;
 mod fault;
@@ -13,8 +11,6 @@ mod level;
 mod run;
 mod scan;
 mod steps;
-#[cfg(test)]
-mod tests;
 
 pub use dates::date;
 pub use expansion::expand;

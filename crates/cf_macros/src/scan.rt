@@ -4,7 +4,7 @@ ghost use Rattle.cf_macros.specs.Insides.{IsPast, IsBehind, IsMark, ends_behind}
 use crate::construct::{Kind, first_piece};
 
 /// The sign at which a conditional goes on, where its first part isn't given.
-#[derive(Clone, Copy, Debug, PartialEq, Eq)]
+#[derive(Clone, Copy)]
 pub(crate) enum Mark {
     /// The other part begins at this place.
     OtherPart(usize),

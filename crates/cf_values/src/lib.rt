@@ -7,8 +7,6 @@ mod digit;
 mod flag;
 mod law;
 mod numeral;
-#[cfg(test)]
-mod tests;
 mod timespan;
 mod under_way;
 mod unit;

@@ -10,7 +10,7 @@ use crate::digit::{digit_of, with_digit};
 const ABOVE: u128 = (1 << 60) + 1;
 
 /// What is kept of a time while its text is read. Each number above 2^60 counts as 2^60 + 1.
-#[derive(Clone, Copy, Debug)]
+#[derive(Clone, Copy)]
 pub(crate) struct UnderWay {
     /// The seconds of the numbers that have their letter.
     seconds: u128,

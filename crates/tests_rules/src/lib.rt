@@ -3,6 +3,8 @@
 #![tactic(auto)]
 
 #[cfg(test)]
+mod macros;
+#[cfg(test)]
 mod matches;
 #[cfg(test)]
 mod runs;
@@ -10,3 +12,5 @@ mod runs;
 mod signs;
 #[cfg(test)]
 mod tokens;
+#[cfg(test)]
+mod values;

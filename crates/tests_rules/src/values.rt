@@ -1,4 +1,4 @@
-use crate::{Bad, TimeUnit, flags, number, time};
+use cf_values::{Bad, TimeUnit, flags, number, time};
 use mail_base::{NoMemory, Text};
 use std::alloc::Global;
 use std::test::Fail;
