@@ -7,7 +7,7 @@ use smtp_lines::Lines;
 use smtp_receive::Session;
 
 /// An open session, as the core keeps it.
-#[derive(Debug, Drop)]
+#[derive(Drop)]
 pub struct Caller {
     pub(crate) number: u64,
     pub(crate) session: Session,

@@ -53,7 +53,7 @@ pub struct Site {
 }
 
 /// The sessions that are open, one at most, and the store of the queue.
-#[derive(Debug, Drop)]
+#[derive(Drop)]
 pub struct Core {
     alloc: Global,
     host: Text,

@@ -2,7 +2,7 @@
 use Rattle.std.proofs.Common.{◌≡◌, ℕ, zero, suc, ◌+◌, ◌-◌, ◌<◌, ◌==◌, Bool, true, false, List, [], ◌∷◌, ◌++◌, length, take, get_or, slice_index, refl, sym, ap, subst, ◌∙◌, arith, append_assoc}
 use Rattle.std.proofs.lemmas.Bool.{or_parts, or_from, false_from_ne_true, and_parts, eqb-true, false≢true}
 use Rattle.std.proofs.lemmas.List.{take_more, take_all, length-take, get_or-take}
-use Rattle.memchr.specs.Find.{OccursAt}
+use Rattle.bstr.specs.Find.{OccursAt}
 use Rattle.smtp_lines.specs.declared.line.Mode.TheVariants.{Commands, Message}
 use Rattle.smtp_lines.specs.Stream.{has_end, ends_in_cr}
 use Rattle.smtp_lines.specs.Reader.{EndsAt}

@@ -6,3 +6,4 @@ pub mod StandLemmas
 pub mod ReadingLemmas
 pub mod RunLemmas
 pub mod GivenLemmas
+pub mod SearchLemmas

@@ -6,8 +6,6 @@ mod line;
 mod lines;
 mod reading;
 mod stream;
-#[cfg(test)]
-mod tests;
 mod under_way;
 
 pub use line::{Line, Mode};

@@ -1,10 +1,11 @@
 ghost use Rattle.std.specs.Prelude.{◌≡◌};
-ghost use Rattle.smtp_lines.specs.Stream.{asks, is_data, verb_of, is_blank, mode_after, command_line, without_cr, ends_in_cr, message_line, without_dot};
+ghost use Rattle.smtp_lines.specs.Stream.{asks, is_data, verb_of, mode_after, command_line, without_cr, ends_in_cr, message_line, without_dot};
 
+use bstr::ByteSlice;
 use mail_base::Text;
 
 /// How the bytes of a stream are read.
-#[derive(Clone, Copy, Debug, PartialEq, Eq)]
+#[derive(Clone, Copy)]
 pub enum Mode {
     /// As commands, which end at LF.
     Commands,
@@ -13,7 +14,7 @@ pub enum Mode {
 }
 
 /// A line of a stream, without its end.
-#[derive(Debug, Drop, PartialEq, Eq)]
+#[derive(Drop)]
 pub enum Line {
     /// A command, without the one CR that may stand before its LF.
     Command(Text),
@@ -46,18 +47,10 @@ fn is_data(command: &[u8]) -> bool
 fn verb_of(command: &[u8]) -> &[u8]
     ensures { result.now ≡ verb_of command.now }
 {
-    for (end, byte) in command.iter().enumerate() {
-        if is_blank(*byte) {
-            return &command[..end];
-        }
+    match command.find_byteset(b" \t") {
+        Some(end) => &command[..end],
+        None => command,
     }
-    command
-}
-
-fn is_blank(byte: u8) -> bool
-    ensures { result ≡ is_blank byte }
-{
-    byte == b' ' || byte == b'\t'
 }
 
 /// How the stream is read after a line that doesn't ask for a message.

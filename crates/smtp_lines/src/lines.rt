@@ -13,7 +13,7 @@ use std::marker::Model;
 /// It holds at most 16,777,219 bytes of a line under way, and of a command at most 2,048, but for a command
 /// right after one with the verb DATA, which may become a line of a message. Beside these it holds the bytes
 /// of the pieces that [`Lines::more`] wasn't asked for yet.
-#[derive(Debug, Drop)]
+#[derive(Drop)]
 pub struct Lines {
     begun: Begun,
     left: Vec<u8>,

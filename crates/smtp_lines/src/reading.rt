@@ -4,8 +4,8 @@ ghost use Rattle.smtp_lines.specs.Reader.{Ends, IsKept, ReadsOn, asked_after};
 
 use crate::line::{command_line, message_line, mode_after};
 use crate::{Line, Mode};
+use bstr::ByteSlice;
 use mail_base::{NoMemory, Seq};
-use memchr::{memchr, memmem};
 use std::alloc::Global;
 
 /// The lines that some bytes complete, with how the stream goes on.
@@ -39,7 +39,7 @@ fn command_end(bytes: &[u8]) -> Option<usize>
     ensures ends { (begun : List ℕ) → has_end Mode.Commands begun ≡ false
         → Ends Mode.Commands begun bytes.now result }
 {
-    match memchr(b'\n', bytes) {
+    match bytes.find_byte(b'\n') {
         Some(place) => Some(place + 1),
         None => None,
     }
@@ -54,7 +54,7 @@ fn message_line_end(after_cr: bool, bytes: &[u8]) -> Option<usize>
     if after_cr && begins_in_lf(bytes) {
         return Some(1);
     }
-    match memmem::find(bytes, b"\r\n") {
+    match bytes.find(b"\r\n") {
         Some(place) => Some(place + 2),
         None => None,
     }

@@ -10,7 +10,7 @@ use mail_base::{NoMemory, Seq};
 use std::alloc::Global;
 
 /// What is kept of the line under way.
-#[derive(Debug, Drop)]
+#[derive(Drop)]
 pub(crate) struct Begun {
     mode: Mode,
     /// Whether the last line that was given asks, and the stream wasn't turned to a message since.

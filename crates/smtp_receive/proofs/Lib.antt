@@ -6,3 +6,4 @@ pub mod ReplyLemmas
 pub mod FormLemmas
 pub mod FinalLemmas
 pub mod ToldLemmas
+pub mod FoundLemmas

@@ -1,12 +1,13 @@
-ghost use Rattle.std.specs.Prelude.{◌≡◌, ◌≤◌, Some, length};
-ghost use Rattle.std.specs.List.{prefix_len, list_any};
+ghost use Rattle.std.specs.Prelude.{◌≡◌, ◌≤◌, ◌-◌, Some, length};
+ghost use Rattle.std.specs.List.{prefix_len, suffix_len, list_any};
 ghost use Rattle.smtp_lines.specs.Stream.{is_blank, verb_of};
 ghost use Rattle.smtp_receive.specs.Commands as spec;
 
 use crate::path::{is_blank, is_too_long, path_parts, without_route, word_end};
+use bstr::ByteSlice;
 
 /// A command without its arguments.
-#[derive(Clone, Copy, Debug, PartialEq, Eq)]
+#[derive(Clone, Copy)]
 pub(crate) enum Verb {
     Helo,
     Mail,
@@ -16,7 +17,7 @@ pub(crate) enum Verb {
 }
 
 /// A command. Paths are without their angles and source routes.
-#[derive(Clone, Copy, Debug)]
+#[derive(Clone, Copy)]
 pub(crate) enum Command<'a> {
     Helo(&'a [u8]),
     Mail(&'a [u8]),
@@ -26,7 +27,7 @@ pub(crate) enum Command<'a> {
 }
 
 /// Why a line is no command.
-#[derive(Clone, Copy, Debug, PartialEq, Eq)]
+#[derive(Clone, Copy)]
 pub(crate) enum LineFault {
     /// It holds a byte below 32 but tab, or 127.
     BadByte,
@@ -103,23 +104,25 @@ fn blanks_length(text: &[u8]) -> usize
     ensures length { result ≡ prefix_len is_blank text.now }
     ensures within { result ≤ length text.now }
 {
-    for (index, byte) in text.iter().enumerate() {
-        if !is_blank(*byte) {
-            return index;
-        }
-    }
-    text.len()
+    text.find_not_byteset(b" \t").unwrap_or(text.len())
 }
 
 fn stripped(text: &[u8]) -> &[u8]
     ensures { result.now ≡ spec.stripped text.now }
 {
     let rest = without_blanks(text);
-    let mut end = rest.len();
-    while end > 0 && is_blank(rest[end - 1]) {
-        end -= 1;
+    &rest[..last_end(rest)]
+}
+
+/// Where the last byte that isn't blank ends, or 0 where none is.
+fn last_end(text: &[u8]) -> usize
+    ensures end { result ≡ length text.now - suffix_len is_blank text.now }
+    ensures within { result ≤ length text.now }
+{
+    match text.rfind_not_byteset(b" \t") {
+        Some(place) => place + 1,
+        None => 0,
     }
-    &rest[..end]
 }
 
 fn greeting(argument: &[u8]) -> Result<Command<'_>, LineFault>

@@ -8,7 +8,7 @@ use mail_base::{NoMemory, Text};
 use std::alloc::Global;
 
 /// The lines of a message so far, split into headers and body. Once they are too large no more is kept.
-#[derive(Debug, Drop)]
+#[derive(Drop)]
 pub(crate) struct Gathered {
     /// The bytes of the lines with CR LF, or 16,777,217 where there are more.
     pub(crate) size: u64,

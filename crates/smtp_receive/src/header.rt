@@ -1,8 +1,9 @@
-ghost use Rattle.std.specs.Prelude.{◌≡◌, ◌≤◌, length};
-ghost use Rattle.std.specs.List.{prefix_len, list_all};
+ghost use Rattle.std.specs.Prelude.{◌≡◌, ◌≤◌, ◌&&◌, nat_lt, length, take};
+ghost use Rattle.std.specs.List.{list_all};
 ghost use Rattle.smtp_receive.specs.Splits as spec;
 
 use crate::path::is_blank;
+use bstr::ByteSlice;
 
 /// Whether a line stands in the header block, by whether that has begun.
 pub(crate) fn belongs(begun: bool, line: &[u8]) -> bool
@@ -15,13 +16,18 @@ pub(crate) fn belongs(begun: bool, line: &[u8]) -> bool
 pub(crate) fn is_header(line: &[u8]) -> bool
     ensures { result ≡ spec.is_header line.now }
 {
-    is_header_by(line, name_end(line))
+    match line.find_byte(b':') {
+        Some(end) => is_header_by(line, end),
+        None => false,
+    }
 }
 
+// The same, where its first colon is known.
 fn is_header_by(line: &[u8], end: usize) -> bool
-    ensures { result ≡ spec.is_header_by line.now end }
+    requires { end ≤ length line.now }
+    ensures { result ≡ ((nat_lt 0 end && list_all spec.is_name_byte (take end line.now)) && list_all spec.is_plain line.now) }
 {
-    (end > 0 && end < line.len()) && (line[end] == b':' && is_line(line))
+    (end > 0 && is_name(&line[..end])) && is_line(line)
 }
 
 /// Whether a line goes on with a header.
@@ -31,16 +37,10 @@ pub(crate) fn is_continuation(line: &[u8]) -> bool
     !line.is_empty() && is_blank(line[0]) && is_line(line)
 }
 
-fn name_end(line: &[u8]) -> usize
-    ensures end { result ≡ prefix_len spec.is_name_byte line.now }
-    ensures within { result ≤ length line.now }
+fn is_name(bytes: &[u8]) -> bool
+    ensures { result ≡ list_all spec.is_name_byte bytes.now }
 {
-    for (place, byte) in line.iter().enumerate() {
-        if !is_name_byte(*byte) {
-            return place;
-        }
-    }
-    line.len()
+    bytes.iter().all(|byte| is_name_byte(*byte))
 }
 
 fn is_name_byte(byte: u8) -> bool

@@ -11,8 +11,6 @@ mod path_law;
 mod received;
 mod reply;
 mod session;
-#[cfg(test)]
-mod tests;
 
 pub use law::{
     a_final_reply_tells_its_message, messages_have_forms, no_other_reply_is_final,

@@ -1,11 +1,12 @@
 ghost use Rattle.std.specs.Prelude.{◌≡◌, ◌≤◌, ◌<◌, length, IfSome, option_map};
-ghost use Rattle.std.specs.List.{position_or_len};
 ghost use Rattle.smtp_lines.specs.Stream.{is_blank};
 ghost use Rattle.smtp_receive.specs.Commands as spec;
 ghost use Rattle.smtp_receive.specs.PathEnds as ends;
 
+use bstr::ByteSlice;
+
 /// A path, and what is after it.
-#[derive(Clone, Copy, Debug)]
+#[derive(Clone, Copy)]
 pub(crate) struct Parts<'a> {
     pub(crate) front: &'a [u8],
     pub(crate) back: &'a [u8],
@@ -83,42 +84,21 @@ pub(crate) fn word_end(text: &[u8]) -> usize
     ensures end { result ≡ spec.word_end text.now }
     ensures within { result ≤ length text.now }
 {
-    for (place, byte) in text.iter().enumerate() {
-        if is_blank(*byte) {
-            return place;
-        }
-    }
-    text.len()
+    text.find_byteset(b" \t").unwrap_or(text.len())
 }
 
 /// The path without its source route.
 pub(crate) fn without_route(path: &[u8]) -> &[u8]
     ensures { result.now ≡ spec.without_route path.now }
 {
-    let end = colon_place(path);
-    if has_route(path, end) {
-        return &path[end + 1..];
+    let Some(colon) = path.find_byte(b':') else {
+        return path;
+    };
+    let first = path[0];
+    if first == b'@' {
+        return &path[colon + 1..];
     }
     path
-}
-
-fn has_route(path: &[u8], end: usize) -> bool
-    ensures { result ≡ spec.has_route path.now end }
-{
-    !path.is_empty() && path[0] == b'@' && end < path.len()
-}
-
-/// How many bytes stand before the first colon.
-fn colon_place(path: &[u8]) -> usize
-    ensures end { result ≡ position_or_len spec.is_colon path.now }
-    ensures within { result ≤ length path.now }
-{
-    for (place, byte) in path.iter().enumerate() {
-        if *byte == b':' {
-            return place;
-        }
-    }
-    path.len()
 }
 
 /// Whether the path or its local part is above its limit.
@@ -131,20 +111,8 @@ pub(crate) fn is_too_long(path: &[u8]) -> bool
 fn local_part(path: &[u8]) -> &[u8]
     ensures { result.now ≡ spec.local_part path.now }
 {
-    let end = last_at_end(path);
-    if end == 0 {
-        return path;
+    match path.rfind_byte(b'@') {
+        Some(at) => &path[..at],
+        None => path,
     }
-    &path[..end - 1]
-}
-
-fn last_at_end(path: &[u8]) -> usize
-    ensures end { result ≡ spec.last_at_end path.now }
-    ensures within { result ≤ length path.now }
-{
-    let mut end = path.len();
-    while end > 0 && path[end - 1] != b'@' {
-        end -= 1;
-    }
-    end
 }

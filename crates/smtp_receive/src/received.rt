@@ -1,7 +1,7 @@
 use mail_base::{Kept, Seq, Text};
 
 /// A message, as a session has received it.
-#[derive(Debug, Drop)]
+#[derive(Drop)]
 pub struct Received {
     /// The sender, with its brackets.
     pub sender: Text,
@@ -17,7 +17,7 @@ pub struct Received {
 }
 
 /// What a session did at a line.
-#[derive(Debug, Drop)]
+#[derive(Drop)]
 pub enum Did {
     /// It replies this.
     Reply(Text),

@@ -5,7 +5,7 @@ use mail_base::{NoMemory, Text};
 use std::alloc::Global;
 
 /// A reply that is always the same.
-#[derive(Clone, Copy, Debug, PartialEq, Eq)]
+#[derive(Clone, Copy)]
 pub(crate) enum Reply {
     LineTooLong,
     BadByte,

@@ -14,7 +14,7 @@ use std::alloc::Global;
 /// A session with a peer, which is given the lines of its stream in turn.
 ///
 /// It holds at most 16,777,216 bytes of a message under way. It keeps its allocator.
-#[derive(Debug, Drop)]
+#[derive(Drop)]
 pub struct Session {
     /// As replies show it.
     host: Text,

@@ -1,3 +1,8 @@
 //! Tests of the receipt of mail and of the queue's files, as tables. They stand apart from the
 //! libraries, which a check would else prove twice.
 #![tactic(auto)]
+
+#[cfg(test)]
+mod lines;
+#[cfg(test)]
+mod receive;

@@ -1,5 +1,5 @@
 use Rattle.std.proofs.Common.{refl, sym, ap, ◌∙◌}
-use Rattle.smtp_receive.specs.declared.received.Did.TheVariants.{Message, Taken}
+use Rattle.smtp_receive.specs.declared.received.Did.TheVariants.{Message}
 use Rattle.smtp_receive.specs.declared.reply.Reply.TheVariants.{MessageTooLarge, HeaderTooLarge}
 use Rattle.smtp_receive.specs.Dialogue.{message_answer, did_of}
 use Rattle.smtp_receive.proofs.KeepLemmas.{message_large, message_block, message_whole, said_answer}

@@ -1,5 +1,5 @@
-use crate::{Line, Lines, last_asks, read_stream};
 use mail_base::{NoMemory, Seq, Text};
+use smtp_lines::{Line, Lines, last_asks, read_stream};
 use std::alloc::Global;
 use std::test::Fail;
 
@@ -149,33 +149,41 @@ fn long_command(alloc: Global, length: usize, end: &[u8]) -> Result<Text, NoMemo
     Ok(text)
 }
 
+/// How many lines a stream has, and how many bytes the first of them, where it is a command.
+fn first_of(alloc: Global, stream: &[u8], cuts: Cuts) -> Result<(usize, Option<usize>), NoMemory> {
+    let pieces = pieces_of(alloc, stream, cuts)?;
+    let lines = read_stream(alloc, &pieces, &[])?;
+    let first = match lines.items() {
+        [Line::Command(text), ..] => Some(text.len()),
+        _ => None,
+    };
+    Ok((lines.len(), first))
+}
+
+/// The bytes of a command before its end, its end, and whether it is too long.
+static LONG_COMMANDS: [(usize, &[u8], bool); 7] = [
+    (2_046, b"\r\n", false),
+    (2_047, b"\r\n", true),
+    (2_048, b"\r\n", true),
+    (2_047, b"\n", false),
+    (2_048, b"\n", true),
+    (5_000, b"\n", true),
+    (5_000, b"\r\n", true),
+];
+
 #[test]
 fn a_command_of_more_than_2048_bytes_is_too_long(rt: HostRuntime) -> Result<(), Fail> {
-    let rows: [(usize, &[u8], bool); 7] = [
-        (2_046, b"\r\n", false),
-        (2_047, b"\r\n", true),
-        (2_048, b"\r\n", true),
-        (2_047, b"\n", false),
-        (2_048, b"\n", true),
-        (5_000, b"\n", true),
-        (5_000, b"\r\n", true),
-    ];
-    for (length, end, is_too_long) in &rows {
+    for (length, end, is_too_long) in &LONG_COMMANDS {
         let stream = long_command(rt.alloc(), *length, end)?;
+        let wanted = if *is_too_long { None } else { Some(*length) };
         for cuts in [
             Cuts::Nowhere,
             Cuts::Everywhere,
             Cuts::Random(3),
             Cuts::At(2_048),
         ] {
-            let pieces = pieces_of(rt.alloc(), stream.bytes(), cuts)?;
-            let lines = read_stream(rt.alloc(), &pieces, &[])?;
-            assert_eq!(rt; lines.len(), 2, "{length} {cuts:?}");
-            let first = match &lines.items()[0] {
-                Line::Command(text) => Some(text.len()),
-                _ => None,
-            };
-            let wanted = if *is_too_long { None } else { Some(*length) };
+            let (count, first) = first_of(rt.alloc(), stream.bytes(), cuts)?;
+            assert_eq!(rt; count, 2, "{length} {cuts:?}");
             assert_eq!(rt; first, wanted, "{length} {cuts:?}");
         }
     }
@@ -204,39 +212,76 @@ fn long_message(alloc: Global, front: &[u8], back: &[u8]) -> Result<Vec<usize>, 
     Ok(lengths)
 }
 
+/// What stands before and behind the 16,777,216 bytes of a line, and how many bytes of it are kept.
+static LONG_LINES: [(&[u8], &[u8], usize); 5] = [
+    (b"", b"\r\n.\r\n", 16_777_216),
+    (b"x", b"\r\n.\r\n", 16_777_217),
+    (b"x", b"\rx\r\n.\r\n", 16_777_217),
+    (b".", b"x\r\n.\r\n", 16_777_217),
+    (b"..", b"x\r\n.\r\n", 16_777_217),
+];
+
 #[test]
 fn of_a_longer_line_the_first_16777217_bytes_stand(rt: HostRuntime) -> Result<(), Fail> {
-    let rows: [(&[u8], &[u8], usize); 5] = [
-        (b"", b"\r\n.\r\n", 16_777_216),
-        (b"x", b"\r\n.\r\n", 16_777_217),
-        (b"x", b"\rx\r\n.\r\n", 16_777_217),
-        (b".", b"x\r\n.\r\n", 16_777_217),
-        (b"..", b"x\r\n.\r\n", 16_777_217),
-    ];
-    for (front, back, wanted) in &rows {
+    for (front, back, wanted) in &LONG_LINES {
         let lengths = long_message(rt.alloc(), front, back)?;
         assert_eq!(rt; lengths.as_slice(), [*wanted, 0].as_slice());
     }
     Ok(())
 }
 
+/// What a reader is asked for.
+enum Step {
+    Feed(&'static [u8]),
+    More,
+    Data,
+}
+
+/// The steps of one reader, each with its lines as `shown` writes them, `?` where the last of them asks,
+/// and `!` where it may turn to a message then.
+static STEPS: [(Step, &[u8]); 6] = [
+    (Step::Feed(b"DATA\r\nHELO"), b"C<DATA>?!"),
+    (Step::Feed(b" a\r"), b"!"),
+    (Step::Data, b""),
+    (Step::More, b""),
+    (
+        Step::Feed(b"\n.\r\nDATA\r\nDATA\r\n"),
+        b"D<HELO a>EC<DATA>?!",
+    ),
+    (Step::More, b"C<DATA>?!"),
+];
+
+fn stepped(alloc: Global, reader: &mut Lines, step: &Step) -> Result<Text, NoMemory> {
+    let lines = match step {
+        Step::Feed(piece) => reader.feed(piece)?,
+        Step::More => reader.more()?,
+        Step::Data => {
+            if reader.may_turn() {
+                reader.data();
+            }
+            Seq::new(alloc)
+        }
+    };
+    told(alloc, &lines, reader.may_turn())
+}
+
+fn told(alloc: Global, lines: &Seq<Line>, may_turn: bool) -> Result<Text, NoMemory> {
+    let mut text = shown(alloc, lines)?;
+    if last_asks(lines.items()) {
+        text.push(b'?')?;
+    }
+    if may_turn {
+        text.push(b'!')?;
+    }
+    Ok(text)
+}
+
 #[test]
 fn bytes_after_data_wait_for_its_answer(rt: HostRuntime) -> Result<(), Fail> {
     let mut reader = Lines::new(rt.alloc());
-    let first = reader.feed(b"DATA\r\nHELO")?;
-    let second = reader.feed(b" a\r")?;
-    assert_eq!(rt; first.len(), 1);
-    assert_eq!(rt; second.len(), 0);
-    assert!(rt; last_asks(first.items()));
-    assert!(rt; !last_asks(second.items()));
-    assert!(rt; reader.may_turn());
-    reader.data();
-    assert!(rt; !reader.may_turn());
-    let third = shown(rt.alloc(), &reader.more()?)?;
-    let fourth = shown(rt.alloc(), &reader.feed(b"\n.\r\nDATA\r\nDATA\r\n")?)?;
-    let fifth = shown(rt.alloc(), &reader.more()?)?;
-    assert_eq!(rt; third.bytes(), b"".as_slice());
-    assert_eq!(rt; fourth.bytes(), b"D<HELO a>EC<DATA>".as_slice());
-    assert_eq!(rt; fifth.bytes(), b"C<DATA>".as_slice());
+    for (step, wanted) in &STEPS {
+        let told = stepped(rt.alloc(), &mut reader, step)?;
+        assert_eq!(rt; told.bytes(), *wanted);
+    }
     Ok(())
 }
