@@ -12,11 +12,11 @@ use Rattle.spool_disk.specs.declared.file.File.{File}
 use Rattle.spool_disk.specs.Disk.{FileMap, bytes_at}
 use Rattle.spool_disk.specs.Listings.{IsListing, IsAscending, AreSameNames, names_of}
 
-nothing_there : {X : Type 0} (y : X) → Contains [] y → ⊥
+pub nothing_there : {X : Type 0} (y : X) → Contains [] y → ⊥
 nothing_there y h = omega (arith, h.1)
 
-one_only : (x y : List ℕ) → Contains (x ∷ []) y → x ≡ y
-one_only x y h = ⊎_elim (λ (k : Contains [] y). absurd (nothing_there y k)) (λ e. e) (Contains-push_cases [] x y h)
+pub one_only : {X : Type 0} (x y : X) → Contains (x ∷ []) y → x ≡ y
+one_only x y h = ⊎_elim (λ k. absurd (nothing_there y k)) (λ e. e) (Contains-push_cases [] x y h)
 
 held_step : (file : File) (names : List (List ℕ)) (name : List ℕ) (rest : Option (List ℕ)) (b d : Bool) → (name ≡ file.name → d ≡ true) → (Contains names name → IsSome rest) → Contains (if b then file.name ∷ names else names) name → IsSome (if b && d then Some file.bytes else rest)
 held_step file names name rest true true w ih h = refl

@@ -1,5 +1,6 @@
 -- What changes do to the files at each place.
 use Rattle.std.proofs.Common.{◌≡◌, ℕ, true, false, Bool, List, [], ◌∷◌, ◌++◌, Option, Some, None, is_some, IsSome, true≢false, inl, inr, refl, sym, ◌∙◌, ap, subst}
+use Rattle.std.proofs.lemmas.Bool.{false_from_ne_true}
 use Rattle.std.specs.Prelude.{◌≢◌, ◌&&◌, not, bytes_eq, cond, if◌then◌else◌}
 use Rattle.std.specs.Cmp.{first_so, second_so}
 use Rattle.std.specs.Cmp.Lexicographic.{bytes_decides}
@@ -30,12 +31,8 @@ places_decide p q = (
 own_place : (place : Place) (bytes : List ℕ) → lies_at place (record { dir = place.0; name = place.1; bytes = bytes }) ≡ true
 own_place place bytes = λ i. (bytes_decides place.0 place.0).1 refl i && (bytes_decides place.1 place.1).1 refl i
 
-refuted : (b : Bool) → (b ≡ true → ⊥) → b ≡ false
-refuted true h = absurd (h refl)
-refuted false h = refl
-
 elsewhere : (p q : Place) (file : File) → p ≢ q → lies_at q file ≡ true → lies_at p file ≡ false
-elsewhere p q file ne h = refuted (lies_at p file) (λ k. ne (alone p q file k h))
+elsewhere p q file ne h = false_from_ne_true (lies_at p file) (λ k. ne (alone p q file k h))
 
 other_step : (file : File) (kept files : FileMap) (p : Place) (b : Bool) → (b ≡ true → lies_at p file ≡ false) → bytes_at kept p ≡ bytes_at files p → bytes_at (cond (not b) (file ∷ kept) kept) p ≡ bytes_at (file ∷ files) p
 other_step file kept files p true h ih = ih ∙ sym (ap (λ t. if t then Some file.bytes else bytes_at files p) (h refl))
@@ -53,7 +50,7 @@ is_gone : (p : Place) (files : FileMap) → bytes_at (without_file p files) p �
 is_gone p [] = refl
 is_gone p (file ∷ files) = gone_step file (without_file p files) p (lies_at p file) refl (is_gone p files)
 
-pushed_elsewhere : (files : FileMap) (file : File) (p : Place) → lies_at p file ≡ false → bytes_at (files ++ file ∷ []) p ≡ bytes_at files p
+pub pushed_elsewhere : (files : FileMap) (file : File) (p : Place) → lies_at p file ≡ false → bytes_at (files ++ file ∷ []) p ≡ bytes_at files p
 pushed_elsewhere [] file p h = ap (λ t. if t then Some file.bytes else None) h
 pushed_elsewhere (x ∷ files) file p h = ap (λ q. if lies_at p x then Some x.bytes else q) (pushed_elsewhere files file p h)
 

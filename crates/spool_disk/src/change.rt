@@ -7,7 +7,7 @@ use crate::listing::{copied, put, without};
 use mail_base::{NoMemory, Seq, Text, TryCopy};
 
 /// A call that changes the files of a spool.
-#[derive(Debug, Drop)]
+#[derive(Drop)]
 pub enum Change {
     /// In that directory, a file of that name, which is to hold these bytes.
     Write(Text, Text, Text),
@@ -58,15 +58,5 @@ fn renamed(files: Seq<File>, dir: &Text, from: &Text, to: &Text) -> Result<Seq<F
     match copied(dir.allocator(), files.items(), dir, from)? {
         None => Ok(files),
         Some(bytes) => put(without(files, dir, from), dir, to, &bytes),
-    }
-}
-
-impl TryCopy for Change {
-    fn copy(&self) -> Result<Change, NoMemory> {
-        match self {
-            Change::Write(dir, name, bytes) => Change::writing(dir, name, bytes),
-            Change::Rename(dir, from, to) => Change::renaming(dir, from, to),
-            Change::Remove(dir, name) => Change::removal(dir, name),
-        }
     }
 }

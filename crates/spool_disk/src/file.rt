@@ -4,7 +4,7 @@ ghost use Rattle.spool_disk.specs.Disk.{lies_at};
 use mail_base::{NoMemory, Text, TryCopy};
 
 /// A file of a spool: its directory, its name in there, and its bytes.
-#[derive(Debug, Drop)]
+#[derive(Drop)]
 pub struct File {
     pub dir: Text,
     pub name: Text,

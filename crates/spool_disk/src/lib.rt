@@ -9,8 +9,6 @@ mod listing;
 mod mem_spool;
 mod spool;
 mod stop_spool;
-#[cfg(test)]
-mod tests;
 
 pub use attempt::Attempt;
 pub use change::Change;

@@ -76,7 +76,6 @@ fn collected(alloc: Global, files: &[File], dir: &Text) -> Result<Vec<Text>, NoM
 }
 
 // The names of the files in that directory, sorted by their bytes, each once.
-
 pub(crate) fn names_in(alloc: Global, files: &[File], dir: &Text) -> Result<Seq<Text>, NoMemory>
     ensures { IfOk result (λ names. IsListing (Some files.now) dir.now names) }
 {

@@ -18,7 +18,7 @@ use std::alloc::Global;
 /// first at a place counts, and a record of the calls that changed them, from which its files and what
 /// a stop since any moment may have left are told. A call that fails, also where the record found no
 /// memory to grow, leaves the files and the record as they were.
-#[derive(Debug, Drop)]
+#[derive(Drop)]
 pub struct MemSpool {
     pub start: Seq<File>,
     pub past: Seq<Attempt>,

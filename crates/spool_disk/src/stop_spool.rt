@@ -17,7 +17,7 @@ use std::alloc::Global;
 /// A spool in memory that stops: so many calls that change files pass, the next such call is cut short,
 /// and it and every call after it fail. Where there is no memory to record the call that is cut short,
 /// it fails, and the stop comes with the next.
-#[derive(Debug, Drop)]
+#[derive(Drop)]
 pub struct StopSpool {
     pub spool: MemSpool,
     pub left: u64,
@@ -84,17 +84,25 @@ fn left_after(files: &Seq<File>, change: &Change) -> Result<MemSpool, NoMemory>
     Ok(MemSpool::of(alloc, left, Seq::new(alloc)))
 }
 
-// A spool of the files after one was written up to so many of its bytes.
-fn left_after_part(
+// Adds a spool of the files after a change.
+fn leave(spools: &mut Seq<MemSpool>, files: &Seq<File>, change: &Change) -> Result<(), NoMemory>
+    ensures { OnOk result (spools.new ≡ spools.old ++ fresh (after change.now files.now) ∷ []) }
+{
+    spools.push(left_after(files, change)?)
+}
+
+// Adds a spool of the files after one was written up to so many of its bytes.
+fn leave_part(
+    spools: &mut Seq<MemSpool>,
     files: &Seq<File>,
     dir: &Text,
     name: &Text,
     part: &[u8],
-) -> Result<MemSpool, NoMemory>
-    ensures { IfOk result (λ spool. spool ≡ fresh (after (Write dir.now name.now part.now) files.now)) }
+) -> Result<(), NoMemory>
+    ensures { OnOk result (spools.new ≡ spools.old ++ fresh (after (Write dir.now name.now part.now) files.now) ∷ []) }
 {
     let bytes = Text::of(dir.allocator(), part)?;
-    left_after(files, &Change::writing(dir, name, &bytes)?)
+    leave(spools, files, &Change::writing(dir, name, &bytes)?)
 }
 
 // The files alone.
@@ -109,20 +117,20 @@ fn at_rest(files: Seq<File>) -> Result<Seq<MemSpool>, NoMemory>
 
 // What a stop in a write may leave: the file absent, empty, cut in half and whole.
 fn left_by_write(
-    files: Seq<File>,
+    files: &Seq<File>,
     dir: &Text,
     name: &Text,
     bytes: &Text,
 ) -> Result<Seq<MemSpool>, NoMemory>
-    ensures { IfOk result (λ spools. spools ≡ map fresh (left_maps (Some (Write dir.now name.now bytes.now)) files)) }
+    ensures { IfOk result (λ spools. spools ≡ map fresh (left_maps (Some (Write dir.now name.now bytes.now)) files.now)) }
 {
     let whole = bytes.bytes();
     let half = whole.len() / 2;
     let mut spools = Seq::new(files.allocator());
-    spools.push(left_after(&files, &Change::removal(dir, name)?)?)?;
-    spools.push(left_after_part(&files, dir, name, &[])?)?;
-    spools.push(left_after_part(&files, dir, name, &whole[..half])?)?;
-    spools.push(left_after_part(&files, dir, name, whole)?)?;
+    leave(&mut spools, files, &Change::removal(dir, name)?)?;
+    leave_part(&mut spools, files, dir, name, &[])?;
+    leave_part(&mut spools, files, dir, name, &whole[..half])?;
+    leave_part(&mut spools, files, dir, name, whole)?;
     Ok(spools)
 }
 
@@ -141,7 +149,7 @@ fn left_by(files: Seq<File>, change: &Change) -> Result<Seq<MemSpool>, NoMemory>
     ensures { IfOk result (λ spools. spools ≡ map fresh (left_maps (Some change.now) files)) }
 {
     match change {
-        Change::Write(dir, name, bytes) => left_by_write(files, dir, name, bytes),
+        Change::Write(dir, name, bytes) => left_by_write(&files, dir, name, bytes),
         Change::Rename(_, _, _) => left_by_move(files, change),
         Change::Remove(_, _) => left_by_move(files, change),
     }

@@ -1,3 +1,6 @@
 //! Tests of the shared types and of the devices in memory, as tables. They stand apart from the
 //! libraries, which a check would else prove twice.
 #![tactic(auto)]
+
+#[cfg(test)]
+mod spools;

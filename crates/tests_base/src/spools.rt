@@ -7,8 +7,8 @@ ghost use Rattle.spool_disk.specs.Samples.{draft_place, one_draft};
 ghost use Rattle.spool_disk.specs.Spooled.{Calls, Reads};
 ghost use Rattle.spool_disk.specs.declared.change.Change.TheVariants.{Write, Rename, Remove};
 
-use crate::{File, MemSpool, Spool, StopSpool};
 use mail_base::{EdgeFault, Failed, NoMemory, Seq, Text};
+use spool_disk::{File, MemSpool, Spool, StopSpool};
 use std::alloc::Global;
 use std::test::Fail;
 
@@ -126,26 +126,32 @@ fn calls(alloc: Global, failing: &[u64]) -> Result<Seq<u64>, NoMemory> {
     Ok(Seq::from_vec(Vec::from_slice(alloc, failing)?))
 }
 
-fn two_files(alloc: Global, failing: &[u64]) -> Result<MemSpool, EdgeFault> {
-    let mut spool = MemSpool::new(alloc, calls(alloc, failing)?);
-    put(alloc, &mut spool, b"qf2", b"second")?;
-    put(alloc, &mut spool, b"df1", b"first")?;
-    Ok(spool)
+// What the directory shows after a file was written.
+fn shown_with<S: Spool>(
+    alloc: Global,
+    spool: &mut S,
+    name: &[u8],
+    bytes: &[u8],
+) -> Result<Text, EdgeFault> {
+    put(alloc, spool, name, bytes)?;
+    shown(alloc, spool)
 }
+
+// Files as they are written one after the other, and what the directory then shows.
+const WRITES: [(&[u8], &[u8], &[u8]); 3] = [
+    (b"qf2", b"second", b"qf2=second "),
+    (b"df1", b"first", b"df1=first qf2=second "),
+    (b"df1", b"again", b"df1=again qf2=second "),
+];
 
 #[test]
 fn files_are_listed_in_order_and_read(rt: HostRuntime) -> Result<(), Fail> {
     let alloc = rt.alloc();
-    let mut spool = two_files(alloc, &[])?;
-    assert_eq!(rt;
-        shown(alloc, &mut spool)?.bytes(),
-        b"df1=first qf2=second ".as_slice()
-    );
-    put(alloc, &mut spool, b"df1", b"again")?;
-    assert_eq!(rt;
-        shown(alloc, &mut spool)?.bytes(),
-        b"df1=again qf2=second ".as_slice()
-    );
+    let mut spool = MemSpool::new(alloc, Seq::new(alloc));
+    for (name, bytes, all) in WRITES {
+        let text = shown_with(alloc, &mut spool, name, bytes)?;
+        assert_eq!(rt; text.bytes(), all);
+    }
     Ok(())
 }
 
@@ -178,17 +184,20 @@ fn unlinked<S: Spool>(alloc: Global, spool: &mut S, name: &[u8]) -> Result<(), E
     Ok(removed(spool, &dir, &name)?)
 }
 
-#[test]
-fn a_file_is_renamed_and_removed(rt: HostRuntime) -> Result<(), Fail> {
-    let alloc = rt.alloc();
+// What the directory shows once that file is renamed, and once it is gone.
+fn renamed_and_removed(alloc: Global) -> Result<(Text, Text), EdgeFault> {
     let mut spool = one_file(alloc, &[])?;
     published(alloc, &mut spool)?;
-    assert_eq!(rt;
-        shown(alloc, &mut spool)?.bytes(),
-        b"qf1=control ".as_slice()
-    );
+    let renamed = shown(alloc, &mut spool)?;
     unlinked(alloc, &mut spool, b"qf1")?;
-    assert!(rt; shown(alloc, &mut spool)?.is_empty());
+    Ok((renamed, shown(alloc, &mut spool)?))
+}
+
+#[test]
+fn a_file_is_renamed_and_removed(rt: HostRuntime) -> Result<(), Fail> {
+    let (renamed, removed) = renamed_and_removed(rt.alloc())?;
+    assert_eq!(rt; renamed.bytes(), b"qf1=control ".as_slice());
+    assert!(rt; removed.is_empty());
     Ok(())
 }
 
@@ -199,10 +208,8 @@ fn calls_fail_as_listed_and_change_nothing(rt: HostRuntime) -> Result<(), Fail> 
     assert!(rt; put(alloc, &mut spool, b"df1", b"first").is_err());
     assert!(rt; unlinked(alloc, &mut spool, b"tf1").is_err());
     assert!(rt; shown(alloc, &mut spool).is_err());
-    assert_eq!(rt;
-        shown(alloc, &mut spool)?.bytes(),
-        b"tf1=control ".as_slice()
-    );
+    let text = shown(alloc, &mut spool)?;
+    assert_eq!(rt; text.bytes(), b"tf1=control ".as_slice());
     assert_eq!(rt; (spool.script.calls, spool.script.faults), (5, 3));
     Ok(())
 }
@@ -233,32 +240,28 @@ fn all_shown(alloc: Global, spool: &StopSpool) -> Result<Text, EdgeFault> {
 // Writes df1 and takes tf1 away, up to the stop.
 fn until_the_stop(alloc: Global, passes: u64) -> Result<StopSpool, EdgeFault> {
     let mut spool = StopSpool::new(one_file(alloc, &[])?, passes);
-    if put(alloc, &mut spool, b"df1", b"body").is_ok()
-        && unlinked(alloc, &mut spool, b"tf1").is_ok()
-    {
-        return Ok(spool);
-    }
+    let _all_done = put(alloc, &mut spool, b"df1", b"body").is_ok()
+        && unlinked(alloc, &mut spool, b"tf1").is_ok();
     Ok(spool)
 }
+
+// What the images of a stop after so many passes show: in the write, in the removal, and in none.
+const STOPS: [(u64, &[u8]); 3] = [
+    (
+        0,
+        b"tf1=control \ndf1= tf1=control \ndf1=bo tf1=control \ndf1=body tf1=control \n",
+    ),
+    (1, b"df1=body tf1=control \ndf1=body \n"),
+    (2, b"df1=body \n"),
+];
 
 #[test]
 fn a_stop_leaves_some_of_its_images(rt: HostRuntime) -> Result<(), Fail> {
     let alloc = rt.alloc();
-    let in_the_write =
-        b"tf1=control \ndf1= tf1=control \ndf1=bo tf1=control \ndf1=body tf1=control \n";
-    let in_the_removal = b"df1=body tf1=control \ndf1=body \n";
-    assert_eq!(rt;
-        all_shown(alloc, &until_the_stop(alloc, 0)?)?.bytes(),
-        in_the_write.as_slice()
-    );
-    assert_eq!(rt;
-        all_shown(alloc, &until_the_stop(alloc, 1)?)?.bytes(),
-        in_the_removal.as_slice()
-    );
-    assert_eq!(rt;
-        all_shown(alloc, &until_the_stop(alloc, 2)?)?.bytes(),
-        b"df1=body \n".as_slice()
-    );
+    for (passes, images) in STOPS {
+        let text = all_shown(alloc, &until_the_stop(alloc, passes)?)?;
+        assert_eq!(rt; text.bytes(), images, "after {passes}");
+    }
     Ok(())
 }
 
@@ -268,9 +271,7 @@ fn every_call_after_a_stop_fails(rt: HostRuntime) -> Result<(), Fail> {
     let mut spool = StopSpool::new(one_file(alloc, &[])?, 0);
     assert!(rt; published(alloc, &mut spool).is_err());
     assert!(rt; shown(alloc, &mut spool).is_err());
-    assert_eq!(rt;
-        all_shown(alloc, &spool)?.bytes(),
-        b"tf1=control \nqf1=control \n".as_slice()
-    );
+    let text = all_shown(alloc, &spool)?;
+    assert_eq!(rt; text.bytes(), b"tf1=control \nqf1=control \n".as_slice());
     Ok(())
 }
