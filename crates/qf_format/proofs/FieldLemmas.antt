@@ -1,14 +1,12 @@
 -- Lines and their texts.
-use Rattle.std.proofs.Common.{◌≡◌, ℕ, suc, ◌+◌, ◌<◌, Bool, true, false, List, [], ◌∷◌, ◌++◌, length, get_or, take, drop, Option, Some, None, refl, sym, ap, ◌∙◌, append_assoc, arith, drop-cons, position, length-take, length-append, inl, inr}
-use Rattle.std.specs.Prelude.{All, ◌≢◌, ◌==◌, IfSome, IfNone, MatchOption, nat_eq, nat_lt, Result, Ok, Err}
+use Rattle.std.proofs.Common.{◌≡◌, ℕ, suc, ◌+◌, ◌<◌, true, false, List, [], ◌∷◌, ◌++◌, length, get_or, take, drop, Option, Some, None, refl, sym, ap, ◌∙◌, append_assoc, arith, drop-cons, length-take, length-append}
+use Rattle.std.specs.Prelude.{All, ◌≢◌, IfSome, IfNone, MatchOption, nat_eq, Result, Ok, Err}
 use Rattle.std.specs.Cmp.Lexicographic.{pointwise, same_text, other_text}
 use Rattle.std.proofs.Math.Seq.{take-append_seam, get_or-append_seam}
-use Rattle.std.proofs.lemmas.Bool.{eqb-true, eqb-false, eq-eqb, both_ways, cases_lt, lt-ltb, cond-true}
+use Rattle.std.proofs.lemmas.Bool.{eqb-true, eq-eqb}
 use Rattle.std.proofs.lemmas.List.{take-append-drop, append_cancel_left, get_or-take}
 use Rattle.std.proofs.lemmas.List.Elements.{All-head, All-tail, All-from_get_or}
-use Rattle.std.proofs.lemmas.List.Quantifiers.{position-Some}
-use Rattle.std.proofs.lemmas.List.Sums.{fails_before_first}
-use Rattle.std.specs.List.{position_or_len}
+use Rattle.bstr.specs.Find.{IsFirstByte, is_byte}
 use Rattle.qf_format.specs.Reading.{Front, NoFront, Reads, Anything}
 use Rattle.qf_format.specs.declared.stop.Stop.{Stop}
 use Rattle.qf_format.specs.declared.stop.Stop.TheVariants.{Outside, Memory}
@@ -38,32 +36,23 @@ pub record IsFirst (c : ℕ) (bytes : List ℕ) (at : ℕ) : Type 0 where
   pub front : Without c (take at bytes)
   pub parts : bytes ≡ take at bytes ++ c ∷ drop (at + 1) bytes
 
-pub first_at : (c : ℕ) (bytes : List ℕ) (at : ℕ) → Some at ≡ position (λ b. b == c) bytes → IsFirst c bytes at
+pub first_at : (c : ℕ) (bytes : List ℕ) (at : ℕ) → IsFirstByte (is_byte c) bytes (Some at) → IsFirst c bytes at
 first_at c bytes at h =
-    let p = position-Some (λ b. b == c) bytes at 0 (sym h) in
-    let here : get_or bytes at 0 ≡ c = eqb-true (get_or bytes at 0) c p.1 in
+    let here : get_or bytes at 0 ≡ c = eqb-true (get_or bytes at 0) c h.1 in
     let step : suc at ≡ at + 1 = omega arith in
-    let middle : drop at bytes ≡ c ∷ drop (at + 1) bytes = drop-cons bytes at 0 p.0 ∙ (λ i. here i ∷ drop (step i) bytes) in
+    let middle : drop at bytes ≡ c ∷ drop (at + 1) bytes = drop-cons bytes at 0 h.0.high ∙ (λ i. here i ∷ drop (step i) bytes) in
     record {
       front = All-from_get_or (λ b. b ≢ c) (take at bytes) 0 (λ i l.
           let near : i < at = omega (arith, length-take at bytes) in
-          rw (get_or-take at bytes i 0 near) (eqb-false (get_or bytes i 0) c (p.2 i near)));
+          rw (get_or-take at bytes i 0 near) (λ e. h.0.before i (omega arith) near (eq-eqb (get_or bytes i 0) c e)));
       parts = sym (take-append-drop at bytes) ∙ ap (λ (r : List ℕ). take at bytes ++ r) middle;
     }
 
-none_is_some : (k : ℕ) → None ≡ Some k → ⊥
-none_is_some k e = cc
-
-pub none_in : (c : ℕ) (bytes x a : List ℕ) → None ≡ position (λ b. b == c) bytes → bytes ≡ x ++ c ∷ a → ⊥
+pub none_in : (c : ℕ) (bytes x a : List ℕ) → IsFirstByte (is_byte c) bytes None → bytes ≡ x ++ c ∷ a → ⊥
 none_in c bytes x a h e =
-    let is_test : ℕ → Bool = λ b. b == c in
     let long : length x < length bytes = omega (arith, ap length e, length-append x (c ∷ a)) in
     let here : get_or bytes (length x) 0 ≡ c = ap (λ (bs : List ℕ). get_or bs (length x) 0) e ∙ get_or-append_seam x c a 0 in
-    let yes_here : (get_or bytes (length x) 0 == c) ≡ true = eq-eqb (get_or bytes (length x) 0) c here in
-    elim (cases_lt (position_or_len is_test bytes) (length bytes)) [
-      | inl l ↦ none_is_some (position_or_len is_test bytes) (h ∙ cond-true (nat_lt (position_or_len is_test bytes) (length bytes)) (Some (position_or_len is_test bytes)) None (lt-ltb _ _ l))
-      | inr l ↦ both_ways (get_or bytes (length x) 0 == c) (fails_before_first is_test bytes (length x) 0 (omega arith)) yes_here
-    ]
+    h (length x) (omega arith) long (eq-eqb (get_or bytes (length x) 0) c here)
 
 -- ---- tags
 
@@ -77,7 +66,7 @@ after_none now (Some x) tag bytes h = tt
 
 -- ---- lines
 
-pub line_at : (bytes : List ℕ) (at : ℕ) → Some at ≡ position (λ b. b == 10) bytes → Front line IsLine Anything bytes (take at bytes) (drop (at + 1) bytes)
+pub line_at : (bytes : List ℕ) (at : ℕ) → IsFirstByte (is_byte 10) bytes (Some at) → Front line IsLine Anything bytes (take at bytes) (drop (at + 1) bytes)
 line_at bytes at h =
     let f = first_at 10 bytes at h in
     record {
@@ -86,7 +75,7 @@ line_at bytes at h =
       only = λ y z k a e. split_once 10 y (take at bytes) z (drop (at + 1) bytes) k f.front (sym (append_assoc y (10 ∷ []) z) ∙ sym e ∙ f.parts);
     }
 
-pub no_line : (bytes : List ℕ) → None ≡ position (λ b. b == 10) bytes → NoFront line IsLine Anything bytes
+pub no_line : (bytes : List ℕ) → IsFirstByte (is_byte 10) bytes None → NoFront line IsLine Anything bytes
 no_line bytes h = record { none = λ y z k a e. none_in 10 bytes y z h (e ∙ append_assoc y (10 ∷ []) z) }
 
 -- ---- lines behind a tag

@@ -17,10 +17,7 @@ use Rattle.qf_format.proofs.FieldLemmas.{split_once}
 use Rattle.qf_format.proofs.Numbers.{first_digit}
 use Rattle.qf_format.proofs.ParentLemmas.{id_free}
 use Rattle.qf_format.proofs.SignedLemmas.{are_digits}
-use Rattle.qf_format.proofs.StateLemmas.{no_blank}
-
-tails : (c : ℕ) (x y : List ℕ) → c ∷ x ≡ c ∷ y → x ≡ y
-tails c x y e = cc
+use Rattle.qf_format.proofs.StateLemmas.{no_blank, cons_tail}
 
 -- ---- numbers
 
@@ -44,7 +41,7 @@ priority_once (pos m) (pos n) h k e = ap pos (wide_once m n (omega (arith, ints)
 priority_once (pos m) (negsuc n) h k e = absurd (minus_apart (decimal (suc n)) m (omega (arith, ints)) (sym e))
 priority_once (negsuc m) (pos n) h k e = absurd (minus_apart (decimal (suc m)) n (omega (arith, ints)) e)
 priority_once (negsuc m) (negsuc n) h k e =
-    let same = wide_once (suc m) (suc n) (omega (arith, ints)) (omega (arith, ints)) (tails 45 (decimal (suc m)) (decimal (suc n)) e) in
+    let same = wide_once (suc m) (suc n) (omega (arith, ints)) (omega (arith, ints)) (cons_tail 45 (decimal (suc m)) (decimal (suc n)) e) in
     ap negsuc (omega (arith, same))
 
 wider : (z : ℤ) → FitsSigned w64 z → FitsSigned w128 z
@@ -55,7 +52,7 @@ class_once x y h k e = priority_once x y (wider x h) (wider y k) e
 
 pub id_once : Once id_text IsId
 id_once x y h k e =
-    let same : digits 12 x ≡ digits 12 y = tails 119 (digits 12 x) (digits 12 y) e in
+    let same : digits 12 x ≡ digits 12 y = cons_tail 119 (digits 12 x) (digits 12 y) e in
     sym (are_digits 12 x (omega arith)).value ∙ ap (digits_value 10) same ∙ (are_digits 12 y (omega arith)).value
 
 -- ---- parents
@@ -70,7 +67,7 @@ parent_once x y h k e =
 -- ---- states
 
 cause_once : (s t m n : List ℕ) → IsCause s m → IsCause t n → cause s m ≡ cause t n → (s ≡ t) × (m ≡ n)
-cause_once s t m n h k e = split_once 32 s t m n (no_blank s h.status_form) (no_blank t k.status_form) (tails 32 (s ++ 32 ∷ m) (t ++ 32 ∷ n) e)
+cause_once s t m n h k e = split_once 32 s t m n (no_blank s h.status_form) (no_blank t k.status_form) (cons_tail 32 (s ++ 32 ∷ m) (t ++ 32 ∷ n) e)
 
 letter_of : State → ℕ
 letter_of (Queued _) = 81
@@ -96,13 +93,13 @@ unfolding letter_of
 state_once (Queued None) (Queued None) h k e = refl
 state_once (Queued None) (Queued (Some n)) h k e = let z : 0 ≡ 32 = ap (λ (b : List ℕ). slice_index b 1) e in absurd (omega (arith, z))
 state_once (Queued (Some m)) (Queued None) h k e = let z : 32 ≡ 0 = ap (λ (b : List ℕ). slice_index b 1) e in absurd (omega (arith, z))
-state_once (Queued (Some m)) (Queued (Some n)) h k e = ap (λ x. Queued (Some x)) (tails 32 m n (tails 81 (32 ∷ m) (32 ∷ n) e))
+state_once (Queued (Some m)) (Queued (Some n)) h k e = ap (λ x. Queued (Some x)) (cons_tail 32 m n (cons_tail 81 (32 ∷ m) (32 ∷ n) e))
 state_once Sent Sent h k e = refl
 state_once (Failed s m) (Failed t n) h k e =
-    let o = cause_once s t m n h k (tails 70 (cause s m) (cause t n) e) in
+    let o = cause_once s t m n h k (cons_tail 70 (cause s m) (cause t n) e) in
     (λ i. Failed (o.0 i) (o.1 i))
-state_once (Returned x) (Returned y) h k e = ap (λ n. Returned n) (id_once x y h k (tails 32 (id_text x) (id_text y) (tails 82 (32 ∷ id_text x) (32 ∷ id_text y) e)))
+state_once (Returned x) (Returned y) h k e = ap (λ n. Returned n) (id_once x y h k (cons_tail 32 (id_text x) (id_text y) (cons_tail 82 (32 ∷ id_text x) (32 ∷ id_text y) e)))
 state_once (Dead s m) (Dead t n) h k e =
-    let o = cause_once s t m n h k (tails 68 (cause s m) (cause t n) e) in
+    let o = cause_once s t m n h k (cons_tail 68 (cause s m) (cause t n) e) in
     (λ i. Dead (o.0 i) (o.1 i))
 state_once x y h k e = let z : letter_of x ≡ letter_of y = same_letter x y e in absurd (omega (arith, z))

@@ -1,10 +1,11 @@
 -- The line of a parent as it is read.
-use Rattle.std.proofs.Common.{◌≡◌, ℕ, ◌+◌, List, [], ◌∷◌, ◌++◌, Option, Some, None, take, drop, sym, ap, subst, ◌∙◌, arith, position}
-use Rattle.std.specs.Prelude.{◌≢◌, ◌==◌, codes}
+use Rattle.std.proofs.Common.{◌≡◌, ℕ, ◌+◌, List, [], ◌∷◌, ◌++◌, Option, Some, None, take, drop, sym, ap, subst, ◌∙◌, arith}
+use Rattle.std.specs.Prelude.{◌≢◌, codes}
 use Rattle.std.specs.Fmt.{decimal}
 use Rattle.std.specs.Str.Parse.{AllDigits}
 use Rattle.std.proofs.lemmas.Str.Parse.{digit_from_value}
 use Rattle.std.proofs.lemmas.List.Elements.{All-nil, All-cons, All-append}
+use Rattle.bstr.specs.Find.{IsFirstByte, is_byte}
 use Rattle.mail_base.specs.Names.{digits, id_text}
 use Rattle.mail_base.specs.declared.control.Parent.{Parent}
 use Rattle.qf_format.specs.declared.stop.Stop.{Stop}
@@ -30,7 +31,7 @@ id_free n h = All-cons (λ b. b ≢ 32) 119 (digits 12 n) (λ e. omega arith) (d
 cut_parent : (bytes : List ℕ) (at : ℕ) → IsFirst 32 bytes at → (p : Parent) → IsParent p → bytes ≡ parent_text p → (id_text p.id ≡ take at bytes) × (decimal p.revision ≡ drop (at + 1) bytes)
 cut_parent bytes at first p h e = split_once 32 (id_text p.id) (take at bytes) (decimal p.revision) (drop (at + 1) bytes) (id_free p.id h.id) first.front (sym e ∙ first.parts)
 
-pub parent_read : (bytes front back : List ℕ) (at id revision : ℕ) → Some at ≡ position (λ b. b == 32) bytes → front ≡ take at bytes → back ≡ drop (at + 1) bytes → Whole id_text IsId front id → Whole decimal IsRevision back revision → Whole parent_text IsParent bytes (record { id = id; revision = revision })
+pub parent_read : (bytes front back : List ℕ) (at id revision : ℕ) → IsFirstByte (is_byte 32) bytes (Some at) → front ≡ take at bytes → back ≡ drop (at + 1) bytes → Whole id_text IsId front id → Whole decimal IsRevision back revision → Whole parent_text IsParent bytes (record { id = id; revision = revision })
 parent_read bytes front back at id revision h f g a b =
     let first = first_at 32 bytes at h in
     record {
@@ -43,13 +44,13 @@ parent_read bytes front back at id revision h f g a b =
           (λ i. record { id = one i; revision = two i });
     }
 
-pub no_id : (bytes front : List ℕ) (at : ℕ) → Some at ≡ position (λ b. b == 32) bytes → front ≡ take at bytes → NoWhole id_text IsId front → NoWhole parent_text IsParent bytes
+pub no_id : (bytes front : List ℕ) (at : ℕ) → IsFirstByte (is_byte 32) bytes (Some at) → front ≡ take at bytes → NoWhole id_text IsId front → NoWhole parent_text IsParent bytes
 no_id bytes front at h f a = record { none = λ p k e. let o = cut_parent bytes at (first_at 32 bytes at h) p k e in a.none p.id k.id (f ∙ sym o.0) }
 
-pub no_revision : (bytes back : List ℕ) (at : ℕ) → Some at ≡ position (λ b. b == 32) bytes → back ≡ drop (at + 1) bytes → NoWhole decimal IsRevision back → NoWhole parent_text IsParent bytes
+pub no_revision : (bytes back : List ℕ) (at : ℕ) → IsFirstByte (is_byte 32) bytes (Some at) → back ≡ drop (at + 1) bytes → NoWhole decimal IsRevision back → NoWhole parent_text IsParent bytes
 no_revision bytes back at h g b = record { none = λ p k e. let o = cut_parent bytes at (first_at 32 bytes at h) p k e in b.none p.revision k.revision (g ∙ sym o.1) }
 
-pub no_space : (bytes : List ℕ) → None ≡ position (λ b. b == 32) bytes → NoWhole parent_text IsParent bytes
+pub no_space : (bytes : List ℕ) → IsFirstByte (is_byte 32) bytes None → NoWhole parent_text IsParent bytes
 no_space bytes h = record { none = λ p k e. none_in 32 bytes (id_text p.id) (decimal p.revision) h e }
 
 -- ---- the line

@@ -1,6 +1,7 @@
 -- What became of a row, as it is written.
 use Rattle.std.proofs.Common.{◌≡◌, ℕ, ◌+◌, true, List, [], ◌∷◌, ◌++◌, Some, None, take, drop, refl, sym, ap, subst, ◌∙◌, arith}
-use Rattle.std.specs.Prelude.{◌≢◌, ◌==◌, position}
+use Rattle.std.specs.Prelude.{◌≢◌}
+use Rattle.bstr.specs.Find.{IsFirstByte, is_byte}
 use Rattle.std.proofs.lemmas.List.Elements.{All-weaker}
 use Rattle.mail_base.specs.Notes.{IsNote, is_status}
 use Rattle.mail_base.specs.declared.control.State.{State}
@@ -12,7 +13,7 @@ use Rattle.qf_format.specs.Valid.{IsCause, IsState}
 use Rattle.qf_format.proofs.FieldLemmas.{Without, IsFirst, split_once, first_at, none_in}
 use Rattle.qf_format.proofs.StatusLemmas.{IsStatusByte, status_in}
 
-cons_tail : (c : ℕ) (x y : List ℕ) → c ∷ x ≡ c ∷ y → x ≡ y
+pub cons_tail : (c : ℕ) (x y : List ℕ) → c ∷ x ≡ c ∷ y → x ≡ y
 cons_tail c x y e = cc
 
 heads : (c d : ℕ) (x y : List ℕ) → (c ≡ d → ⊥) → c ∷ x ≡ d ∷ y → ⊥
@@ -107,16 +108,16 @@ module _ (bytes rest : List ℕ) (at : ℕ) (e : bytes ≡ 32 ∷ rest) (first :
       cause_along : (a b c d : List ℕ) → a ≡ b → c ≡ d → IsCause a c → IsCause b d
       cause_along a b c d p q k = subst (λ x. IsCause x d) p (subst (λ x. IsCause a x) q k)
 
-pub cause_read : (bytes rest status note : List ℕ) (at : ℕ) → bytes ≡ 32 ∷ rest → Some at ≡ position (λ b. b == 32) rest → status ≡ take at rest → note ≡ drop (at + 1) rest → is_status status ≡ true → IsNote note → Whole cause_text IsCauseOf bytes (status, note)
+pub cause_read : (bytes rest status note : List ℕ) (at : ℕ) → bytes ≡ 32 ∷ rest → IsFirstByte (is_byte 32) rest (Some at) → status ≡ take at rest → note ≡ drop (at + 1) rest → is_status status ≡ true → IsNote note → Whole cause_text IsCauseOf bytes (status, note)
 cause_read bytes rest status note at e h p q k l =
     let formed : IsCause (take at rest) (drop (at + 1) rest) = record { status_form = subst (λ x. is_status x ≡ true) p k; note_form = subst IsNote q l } in
     subst (λ x. Whole cause_text IsCauseOf bytes x) (λ i. (sym p i, sym q i)) (cause_read_at bytes rest at e (first_at 32 rest at h) formed)
 
-pub no_status : (bytes rest status : List ℕ) (at : ℕ) → bytes ≡ 32 ∷ rest → Some at ≡ position (λ b. b == 32) rest → status ≡ take at rest → (is_status status ≡ true → ⊥) → NoWhole cause_text IsCauseOf bytes
+pub no_status : (bytes rest status : List ℕ) (at : ℕ) → bytes ≡ 32 ∷ rest → IsFirstByte (is_byte 32) rest (Some at) → status ≡ take at rest → (is_status status ≡ true → ⊥) → NoWhole cause_text IsCauseOf bytes
 no_status bytes rest status at e h p k = none_cause_at bytes rest at e (first_at 32 rest at h) (λ c. k (subst (λ x. is_status x ≡ true) (sym p) c.status_form))
 
-pub no_note : (bytes rest note : List ℕ) (at : ℕ) → bytes ≡ 32 ∷ rest → Some at ≡ position (λ b. b == 32) rest → note ≡ drop (at + 1) rest → (IsNote note → ⊥) → NoWhole cause_text IsCauseOf bytes
+pub no_note : (bytes rest note : List ℕ) (at : ℕ) → bytes ≡ 32 ∷ rest → IsFirstByte (is_byte 32) rest (Some at) → note ≡ drop (at + 1) rest → (IsNote note → ⊥) → NoWhole cause_text IsCauseOf bytes
 no_note bytes rest note at e h q k = none_cause_at bytes rest at e (first_at 32 rest at h) (λ c. k (subst IsNote (sym q) c.note_form))
 
-pub no_second : (bytes rest : List ℕ) → bytes ≡ 32 ∷ rest → None ≡ position (λ b. b == 32) rest → NoWhole cause_text IsCauseOf bytes
+pub no_second : (bytes rest : List ℕ) → bytes ≡ 32 ∷ rest → IsFirstByte (is_byte 32) rest None → NoWhole cause_text IsCauseOf bytes
 no_second bytes rest e h = record { none = λ p k f. none_in 32 rest p.0 p.1 h (cons_tail 32 rest (p.0 ++ 32 ∷ p.1) (sym e ∙ f)) }

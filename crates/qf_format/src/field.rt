@@ -1,9 +1,10 @@
-ghost use Rattle.std.specs.Prelude.{◌≡◌, ◌≢◌, ◌==◌, ◌+◌, ◌<◌, ◌++◌, ◌∷◌, [], ℕ, List, IfNone, IfOk, IfSome, drop, length, position, slice_index, take};
+ghost use Rattle.std.specs.Prelude.{◌≡◌, ◌≢◌, ◌+◌, ◌<◌, ◌++◌, List, ℕ, IfNone, IfSome, drop, length, slice_index, take};
 ghost use Rattle.qf_format.specs.Reading.{Reads, Anything};
 ghost use Rattle.qf_format.specs.Spelling.{line};
 ghost use Rattle.qf_format.specs.Valid.{IsLine};
 
 use crate::stop::Stop;
+use bstr::ByteSlice;
 use mail_base::Text;
 use std::alloc::Global;
 
@@ -11,17 +12,10 @@ use std::alloc::Global;
 pub(crate) fn line_of(bytes: &[u8]) -> Result<(&[u8], &[u8]), Stop>
     ensures { Reads (λ r. r.0.now) (λ r. r.1.now) line IsLine Anything bytes.now result }
 {
-    match line_end(bytes) {
+    match bytes.find_byte(b'\n') {
         Some(at) => Ok(split_end(bytes, at)),
         None => Err(Stop::Outside),
     }
-}
-
-// The place of the first LF.
-fn line_end(bytes: &[u8]) -> Option<usize>
-    ensures { result ≡ position (λ b. b == 10) bytes.now }
-{
-    bytes.iter().position(|byte| *byte == b'\n')
 }
 
 // The bytes before a place and those after it.

@@ -21,6 +21,3 @@ pub use lengths::room;
 pub use paper::Paper;
 pub use parsing::parse;
 pub use printing::{print, print_into};
-
-#[cfg(test)]
-mod tests;

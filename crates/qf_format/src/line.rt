@@ -8,8 +8,8 @@ ghost use Rattle.qf_format.specs.Valid.{IsParent, IsRevision, IsSender};
 
 use crate::field::{after_tag, byte_at, field, first_byte, split_end, text_field};
 use crate::number::{class_of, id_of, priority_of, revision_of, small_of};
-use crate::state::first_blank;
 use crate::stop::Stop;
+use bstr::ByteSlice;
 use mail_base::{Marks, Parent, Text};
 use std::alloc::Global;
 
@@ -72,7 +72,7 @@ pub(crate) fn parent_of(bytes: &[u8]) -> Result<(Option<Parent>, &[u8]), Stop>
 fn parent_text(bytes: &[u8]) -> Option<Parent>
     ensures { Spells parent_text IsParent bytes.now result }
 {
-    let at = first_blank(bytes)?;
+    let at = bytes.find_byte(b' ')?;
     let (id, revision) = split_end(bytes, at);
     Some(Parent {
         id: id_of(id)?,

@@ -7,7 +7,7 @@ use std::marker::Model;
 
 /// Bytes with room that was reserved for them. A contract sees it as its bytes and its room, the most
 /// bytes that it takes.
-#[derive(Debug, Drop)]
+#[derive(Drop)]
 pub struct Paper {
     bytes: Vec<u8>,
     room: usize,

@@ -1,7 +1,7 @@
 use mail_base::{Marks, Parent, Text};
 
 // Which entry a control is of: the lines v, p and g.
-#[derive(Debug, Drop)]
+#[derive(Drop)]
 pub(crate) struct Place {
     pub(crate) revision: u64,
     pub(crate) parent: Option<Parent>,
@@ -9,7 +9,7 @@ pub(crate) struct Place {
 }
 
 // What its order in the queue comes from: the lines T, K, N, P and c.
-#[derive(Debug, Drop)]
+#[derive(Drop)]
 pub(crate) struct Order {
     pub(crate) created: u64,
     pub(crate) last_try: u64,
@@ -19,7 +19,7 @@ pub(crate) struct Order {
 }
 
 // What its message is: the lines F, B and S.
-#[derive(Debug, Drop)]
+#[derive(Drop)]
 pub(crate) struct Envelope {
     pub(crate) marks: Marks,
     pub(crate) eight: bool,

@@ -1,4 +1,4 @@
-ghost use Rattle.std.specs.Prelude.{◌≡◌, ◌==◌, ◌++◌, [], ℕ, List, Option, None, Some, IfSome, position};
+ghost use Rattle.std.specs.Prelude.{◌≡◌, ◌++◌, [], ℕ, List, Option, None, Some, IfSome};
 ghost use Rattle.mail_base.specs.Notes.{IsNote};
 ghost use Rattle.qf_format.specs.Reading.{Spells};
 ghost use Rattle.qf_format.specs.Parts.{queued_text};
@@ -7,6 +7,7 @@ ghost use Rattle.qf_format.specs.Valid.{IsCause, IsState};
 
 use crate::field::{after_tag, split_end};
 use crate::number::id_of;
+use bstr::ByteSlice;
 use mail_base::{Note, State, Status};
 
 // What became of a row, from its line behind the tag.
@@ -49,13 +50,7 @@ fn cause_of(bytes: &[u8]) -> Option<(Status, Note)>
     ensures { Spells (λ p. cause p.0 p.1) (λ p. IsCause p.0 p.1) bytes.now result }
 {
     let rest = after_tag(b" ", bytes)?;
-    let at = first_blank(rest)?;
+    let at = rest.find_byte(b' ')?;
     let (status, note) = split_end(rest, at);
     Some((Status::of(status)?, Note::of(note)?))
-}
-
-pub(crate) fn first_blank(bytes: &[u8]) -> Option<usize>
-    ensures { result ≡ position (λ b. b == 32) bytes.now }
-{
-    bytes.iter().position(|byte| *byte == b' ')
 }

@@ -4,7 +4,7 @@ ghost use Rattle.qf_format.specs.declared.stop.Stop.TheVariants.{Memory};
 use mail_base::NoMemory;
 
 // Why bytes weren't read.
-#[derive(Debug, Drop)]
+#[derive(Drop)]
 pub(crate) enum Stop {
     // They spell nothing that is read here.
     Outside,

@@ -3,6 +3,8 @@
 #![tactic(auto)]
 
 #[cfg(test)]
+mod control;
+#[cfg(test)]
 mod lines;
 #[cfg(test)]
 mod receive;

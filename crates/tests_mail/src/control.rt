@@ -1,7 +1,7 @@
 ghost use Rattle.qf_format.specs.Valid.{IsValid};
 
-use super::*;
-use mail_base::{Control, NoMemory, Same, Text};
+use mail_base::{Control, NoMemory, Text};
+use qf_format::{Paper, parse, print, print_into, room};
 use std::alloc::Global;
 use std::test::Fail;
 
@@ -126,7 +126,7 @@ fn swapped(alloc: Global, place: usize) -> Result<Text, NoMemory> {
 fn comes_back(text: &Text) -> Result<bool, NoMemory> {
     match parse(text)? {
         None => Ok(false),
-        Some(control) => Ok(print(&control)?.is(text)),
+        Some(control) => Ok(print(&control)?.bytes() == text.bytes()),
     }
 }
 
