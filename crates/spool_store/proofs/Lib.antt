@@ -2,6 +2,5 @@ pub mod MovesLemmas
 mod FileNames
 pub mod PlaceLemmas
 pub mod TableLemmas
-mod StageLemmas
+pub mod StageLemmas
 mod OpenLemmas
-mod SampleLemmas

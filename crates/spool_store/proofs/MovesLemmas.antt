@@ -1,10 +1,17 @@
 -- Moves join, and a call is one.
-use Rattle.std.proofs.Common.{◌≡◌, inl, inr, ⊎_elim, Option, Some, None, Result, Ok, Err, refl, subst}
+use Rattle.std.proofs.Common.{◌≡◌, inl, inr, ⊎_elim, Option, Some, None, Result, Ok, Err, refl, ap, subst}
 use Rattle.std.specs.Prelude.{IsOk}
 use Rattle.std.proofs.Math.Nat.{le_refl, le_trans}
 use Rattle.spool_disk.specs.Disk.{FileMap}
-use Rattle.spool_disk.specs.Spooled.{Spooled, Calls, Leads}
+use Rattle.spool_disk.specs.Spooled.{Spooled, Calls, Leads, Rests}
 use Rattle.spool_store.specs.Moves.{Moves, Becomes, Ends}
+
+-- what is told stays where a call only reads
+pub leads_told : (a b : Option FileMap) → Leads a b Rests Rests (Unit {0}) → b ≡ a
+leads_told None None h = refl
+leads_told None (Some g) h = absurd h
+leads_told (Some f) None h = absurd h
+leads_told (Some f) (Some g) h = ap (λ (q : FileMap). Some q) h.0
 
 becomes_none : (c : Option FileMap) (Q P S : FileMap → Type 0) → Becomes None c Q S → Becomes None c P S
 becomes_none None Q P S k = tt
@@ -18,7 +25,7 @@ becomes_join (Some f) (Some g) None P Q S h k = absurd k
 becomes_join (Some f) (Some g) (Some i) P Q S h k = λ p. k (h p)
 
 -- what the told files are after a run
-told_after : (a b : Option FileMap) (P Q : FileMap → Type 0) → Becomes a b P Q → (f : FileMap) → a ≡ Some f → P f → (g : FileMap) × (b ≡ Some g) × Q g
+pub told_after : (a b : Option FileMap) (P Q : FileMap → Type 0) → Becomes a b P Q → (f : FileMap) → a ≡ Some f → P f → (g : FileMap) × (b ≡ Some g) × Q g
 told_after None b P Q h f e p = cc
 told_after (Some d) None P Q h f e p = absurd h
 told_after (Some d) (Some g) P Q h f e p = let same : f ≡ d = cc e in (g, refl, h (subst P same p))

@@ -1,19 +1,15 @@
 -- What a listing says of the files, and calls that only read.
-use Rattle.std.proofs.Common.{◌≡◌, ◌≢◌, inl, inr, ⊎_elim, ℕ, ◌<◌, List, [], ◌∷◌, ◌+◌, ◌++◌, take, length, get_or, Option, Some, None, IsSome, Bool, true, false, true≢false, refl, sym, ◌∙◌, ap, subst, arith}
+use Rattle.std.proofs.Common.{◌≡◌, ◌≢◌, inl, inr, ⊎_elim, ℕ, ◌<◌, List, [], ◌∷◌, ◌+◌, ◌++◌, take, length, get_or, Option, Some, None, IsSome, Bool, true, false, true≢false, refl, sym, ◌∙◌, ap, subst}
 use Rattle.std.specs.Prelude.{IfSome, Contains, not}
 use Rattle.std.proofs.Math.Nat.{le_refl, le_trans}
 use Rattle.std.proofs.lemmas.List.{take_more}
-use Rattle.std.proofs.lemmas.List.Elements.{Contains-append_left, Contains-append_cases, Contains-push, Contains-push_cases}
+use Rattle.std.proofs.lemmas.List.Elements.{Contains-append_left, Contains-append_cases, Contains-push}
 use Rattle.spool_disk.specs.Disk.{FileMap, bytes_at}
 use Rattle.spool_disk.specs.Listings.{IsListing}
 use Rattle.spool_disk.specs.Spooled.{Spooled, Leads, Reads, Rests}
+use Rattle.spool_disk.proofs.Naming.{nothing_there, one_only}
 use Rattle.spool_store.specs.Standing.{AreEmpty, IsUsed}
-
-nothing_there : {X : Type 0} (y : X) → Contains [] y → ⊥
-nothing_there y h = omega (arith, h.1)
-
-one_only : (x y : List ℕ) → Contains (x ∷ []) y → x ≡ y
-one_only x y h = ⊎_elim (λ (k : Contains [] y). absurd (nothing_there y k)) (λ e. e) (Contains-push_cases [] x y h)
+use Rattle.spool_store.proofs.MovesLemmas.{leads_told}
 
 first_there : (x : List ℕ) (xs : List (List ℕ)) → Contains (x ∷ xs) x
 first_there x xs = Contains-append_left (x ∷ []) xs x (Contains-push [] x)
@@ -50,12 +46,6 @@ used_if told dir names b h is e = used_by told dir names h (full_if b names is e
 
 pub empty_if : (told : Option FileMap) (dir : List ℕ) (names : List (List ℕ)) (b : Bool) → IsListing told dir names → (b ≡ true → names ≡ []) → not b ≡ false → IfSome told (AreEmpty (dir ∷ []))
 empty_if told dir names b h is e = empty_by told dir names h (is (true_if b e))
-
-leads_told : (a b : Option FileMap) → Leads a b Rests Rests (Unit {0}) → b ≡ a
-leads_told None None h = refl
-leads_told None (Some g) h = absurd h
-leads_told (Some f) None h = absurd h
-leads_told (Some f) (Some g) h = ap (λ (q : FileMap). Some q) h.0
 
 -- what is told stays
 pub reads_told : (a b : Spooled) → Reads a b → b.told ≡ a.told

@@ -2,6 +2,7 @@
 use Rattle.std.proofs.Common.{◌≡◌, ◌≢◌, ⊎_elim, ◌⊎◌, inl, inr, ℕ, List, [], ◌∷◌, ◌++◌, Option, Some, None, Bool, true, false, true≢false, refl, sym, ◌∙◌, ap}
 use Rattle.std.specs.Prelude.{◌&&◌, bytes_eq, if◌then◌else◌}
 use Rattle.std.specs.Cmp.Lexicographic.{bytes_decides}
+use Rattle.std.proofs.lemmas.Bool.{false_from_ne_true}
 use Rattle.spool_disk.specs.declared.file.File.{File}
 use Rattle.spool_disk.specs.Disk.{Place, FileMap, bytes_at, lies_at}
 
@@ -33,13 +34,9 @@ only_own p file e =
     let b : p.1 ≡ file.name = (bytes_decides p.1 file.name).0 (second_of (bytes_eq p.0 file.dir) _ e) in
     (λ i. (a i, b i))
 
-pub not_true : (b : Bool) → (b ≡ true → ⊥) → b ≡ false
-not_true true h = absurd (h refl)
-not_true false h = refl
-
 -- a file of another name lies elsewhere
 pub named_apart : (p : Place) (file : File) → p.1 ≢ file.name → lies_at p file ≡ false
-named_apart p file ne = not_true (lies_at p file) (λ e. ne (ap (λ (q : Place). q.1) (only_own p file e)))
+named_apart p file ne = false_from_ne_true (lies_at p file) (λ e. ne (ap (λ (q : Place). q.1) (only_own p file e)))
 
 pub decided : (b : Bool) → (b ≡ true) ⊎ (b ≡ false)
 decided true = inl refl

@@ -1,7 +1,6 @@
 -- The files after each call of a commit.
 use Rattle.std.proofs.Common.{◌≡◌, ◌≢◌, ◌⊎◌, inl, inr, ⊎_elim, ℕ, ◌≤◌, List, [], ◌∷◌, ◌++◌, Option, Some, None, true, false, true≢false, sym, ◌∙◌, ap, subst, arith, append_assoc}
 use Rattle.std.specs.Prelude.{Contains, if◌then◌else◌}
-use Rattle.std.proofs.lemmas.List.{append-nil}
 use Rattle.mail_base.specs.declared.control.Draft.{Draft}
 use Rattle.mail_base.specs.declared.id.Kind.{Kind}
 use Rattle.mail_base.specs.declared.id.Kind.TheVariants.{Df, Qf, Tf}
@@ -9,6 +8,7 @@ use Rattle.mail_base.specs.Names.{name_of}
 use Rattle.qf_format.specs.Spelling.{spelled}
 use Rattle.spool_disk.specs.declared.file.File.{File}
 use Rattle.spool_disk.specs.Disk.{Place, FileMap, bytes_at, lies_at, IsSame, IsSameBut, HasWritten, HasRenamed}
+use Rattle.spool_disk.proofs.Placing.{pushed_elsewhere}
 use Rattle.spool_store.specs.Tables.{Stored, Table, Command, IsSound, after, stored}
 use Rattle.spool_store.specs.Tables.Command.{Accept}
 use Rattle.spool_store.specs.Standing.{AreFiles, IsClean, IsUnfinished, StandsFor, IsEither, control_file, body_file, files_of}
@@ -20,16 +20,13 @@ use Rattle.spool_store.proofs.TableLemmas.{free_at, files_more}
 not_own : (p : Place) (file : File) → lies_at p file ≡ false → p ≢ place_of file
 not_own p file e = λ q. true≢false (sym (at_own file) ∙ ap (λ (r : Place). lies_at r file) (sym q) ∙ e)
 
-without : (files : FileMap) (file : File) (p : Place) → lies_at p file ≡ false → bytes_at (files ++ file ∷ []) p ≡ bytes_at files p
-without files file p e = alike files (file ∷ []) [] p (later file [] p e) ∙ ap (λ (r : FileMap). bytes_at r p) (append-nil files)
-
 -- a new file is written
 written : (dirs : List (List ℕ)) (files : FileMap) (file : File) (f g : FileMap) → bytes_at files (place_of file) ≡ None → AreFiles dirs files f → HasWritten (place_of file) file.bytes f g → AreFiles dirs (files ++ file ∷ []) g
 written dirs files file f g fresh are h = λ p among. ⊎_elim
     (λ (t : lies_at p file ≡ true).
     let is : p ≡ place_of file = only_own p file t in
     ap (bytes_at g) is ∙ h.holds ∙ sym (here file [] p t) ∙ sym (behind files (file ∷ []) p (ap (bytes_at files) is ∙ fresh)))
-    (λ (e : lies_at p file ≡ false). h.others p (not_own p file e) ∙ are p among ∙ sym (without files file p e))
+    (λ (e : lies_at p file ≡ false). h.others p (not_own p file e) ∙ are p among ∙ sym (pushed_elsewhere files file p e))
     (decided (lies_at p file))
 
 place_or : (p place : Place) → (p ≡ place) ⊎ (p ≢ place)

@@ -2,4 +2,3 @@ pub mod Tables
 pub mod Standing
 pub mod Moves
 pub mod Stages
-pub mod Samples

@@ -4,13 +4,12 @@ ghost use Rattle.mail_base.specs.declared.id.Kind.TheVariants.{Df as BodyKind, Q
 ghost use Rattle.qf_format.specs.Spelling.{spelled};
 ghost use Rattle.qf_format.specs.Valid.{IsValid};
 
-use mail_base::{Draft, Id, Kind, NoMemory, Text};
+use mail_base::{Control, Draft, Id, Kind, NoMemory, Text};
 use qf_format::print;
 use std::alloc::Global;
 
 /// A new entry with its id, ready to be committed: it holds every text that the commit writes. Dropped,
 /// it leaves the store and the spool as they were.
-#[derive(Debug, Drop)]
 pub struct Change {
     pub(crate) id: Id,
     pub(crate) draft: Draft,
@@ -26,6 +25,21 @@ pub struct Change {
     pub ghost qf_is: { qf ≡ name_of ControlKind id },
 }
 
+// Written out, since a caller's proof goes through the parts of a derived drop at each way out.
+impl Drop for Change {
+    fn drop(self) {
+        let Change {
+            id: _,
+            draft: _,
+            body: _,
+            control: _,
+            df: _,
+            tf: _,
+            qf: _,
+        } = self;
+    }
+}
+
 impl Change {
     // The change that commits a draft with its body under an id.
     pub(crate) fn of(alloc: Global, id: Id, draft: Draft, body: Text) -> Result<Change, NoMemory>
@@ -35,10 +49,7 @@ impl Change {
         ensures draft { IfOk result (λ change. change.draft ≡ draft) }
         ensures body { IfOk result (λ change. change.body ≡ body) }
     {
-        let control = print(&draft.control)?;
-        let df = Text::of(alloc, id.name(Kind::Df).bytes())?;
-        let tf = Text::of(alloc, id.name(Kind::Tf).bytes())?;
-        let qf = Text::of(alloc, id.name(Kind::Qf).bytes())?;
+        let (control, df, tf, qf) = Change::texts(alloc, id, &draft.control)?;
         Ok(Change {
             id,
             draft,
@@ -48,5 +59,19 @@ impl Change {
             tf,
             qf,
         })
+    }
+
+    // The texts of an entry's commit: its control text, and the names of its body, its draft and its
+    // control file.
+    fn texts(alloc: Global, id: Id, control: &Control) -> Result<(Text, Text, Text, Text), NoMemory>
+        requires within { id ≤ 999_999_999_999 }
+        requires valid { IsValid control.now }
+        ensures { IfOk result (λ texts. texts ≡ (spelled control.now, name_of BodyKind id, name_of DraftKind id, name_of ControlKind id)) }
+    {
+        let control = print(control)?;
+        let df = Text::of(alloc, id.name(Kind::Df).bytes())?;
+        let tf = Text::of(alloc, id.name(Kind::Tf).bytes())?;
+        let qf = Text::of(alloc, id.name(Kind::Qf).bytes())?;
+        Ok((control, df, tf, qf))
     }
 }

@@ -8,8 +8,6 @@ mod files;
 mod law;
 mod opening;
 mod store;
-#[cfg(test)]
-mod tests;
 
 pub use change::Change;
 pub use fault::{OpenFault, SpoolFault};

@@ -19,7 +19,7 @@ use std::alloc::Global;
 /// The entries of a spool: the directories that they are in, and the first free id. A store is broken
 /// exactly after a commit that answered `SpoolFault`; then each commit answers that and touches nothing,
 /// until the spool is opened again.
-#[derive(Debug, Drop)]
+#[derive(Drop)]
 pub struct Store {
     dirs: Seq<Text>,
     next: u64,

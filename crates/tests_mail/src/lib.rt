@@ -8,3 +8,5 @@ mod control;
 mod lines;
 #[cfg(test)]
 mod receive;
+#[cfg(test)]
+mod store;

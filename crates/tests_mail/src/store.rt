@@ -1,11 +1,11 @@
 ghost use Rattle.std.specs.Prelude.{◌≡◌, IfOk, IfSome, None};
 ghost use Rattle.qf_format.specs.Valid.{IsValid};
-ghost use Rattle.spool_store.specs.Samples.{sample_dir, sample_dirs};
+ghost use Rattle.tests_mail.specs.Samples.{sample_dir, sample_dirs};
 
-use crate::{Change, OpenFault, Store};
 use mail_base::{Control, Draft, EdgeFault, NoMemory, Seq, StoreFault, Text};
 use qf_format::parse;
 use spool_disk::{MemSpool, Spool, StopSpool};
+use spool_store::{Change, OpenFault, SpoolFault, Store};
 use std::alloc::Global;
 use std::test::Fail;
 
@@ -23,14 +23,10 @@ fn dirs(alloc: Global) -> Result<Seq<Text>, NoMemory>
     Ok(dirs)
 }
 
-fn control_text(alloc: Global) -> Result<Text, NoMemory> {
-    Text::of(alloc, CONTROL)
-}
-
-fn parsed(text: &Text) -> Result<Option<Control>, NoMemory>
+fn parsed(alloc: Global) -> Result<Option<Control>, NoMemory>
     ensures { IfOk result (λ r. IfSome r IsValid) }
 {
-    parse(text)
+    parse(&Text::of(alloc, CONTROL)?)
 }
 
 fn draft(dir: Text, control: Control) -> Draft
@@ -69,10 +65,12 @@ fn commit_one<D: Spool>(alloc: Global, spool: &mut D, store: &mut Store) -> Resu
     requires { store.old.dirs ≡ sample_dirs }
     ensures { store.new.dirs ≡ sample_dirs }
 {
-    let Some(control) = parsed(&control_text(alloc)?)? else {
+    let dir = dir(alloc)?;
+    let body = body(alloc)?;
+    let Some(control) = parsed(alloc)? else {
         return Ok(false);
     };
-    let change = ready(store, dir(alloc)?, control, body(alloc)?)?;
+    let change = ready(store, dir, control, body)?;
     Ok(store.commit(spool, change).is_ok())
 }
 
@@ -178,12 +176,25 @@ fn a_spool_with_a_name_is_not_opened(rt: HostRuntime) -> Result<(), Fail> {
     let alloc = rt.alloc();
     let mut spool = MemSpool::new(alloc, Seq::new(alloc));
     assert_eq!(rt; commit_twice(alloc, &mut spool)?, (true, true));
-    assert!(rt;
-        matches!(
-            &Store::open(alloc, &mut spool, &dirs(alloc)?),
-            Err(OpenFault::NotYet)
-        )
-    );
+    let fault = Store::open(alloc, &mut spool, &dirs(alloc)?).err();
+    assert_eq!(rt; fault, Some(OpenFault::NotYet));
     assert!(rt; is_stored(alloc, &mut spool)?);
+    Ok(())
+}
+
+#[test]
+fn faults_have_their_texts(rt: HostRuntime) -> Result<(), Fail> {
+    let texts = [
+        (OpenFault::SpoolFault, b"the spool failed".as_slice()),
+        (OpenFault::NotYet, b"not yet"),
+        (OpenFault::NoMemory, b"no memory"),
+    ];
+    for (fault, text) in texts {
+        let told = format!(in rt.alloc(); "{fault}")?;
+        assert_eq!(rt; told.as_bytes(), text);
+    }
+    let broken = SpoolFault;
+    let told = format!(in rt.alloc(); "{broken}")?;
+    assert_eq!(rt; told.as_bytes(), b"the spool failed".as_slice());
     Ok(())
 }
