@@ -33,6 +33,7 @@ use Rattle.mail_core.specs.Machine.{Choice, Plain, Short, Drops, Fails, Way, Goe
 use Rattle.mail_core.specs.Messages.{is_spent}
 use Rattle.mail_core.specs.Seen.{Seen, seen, Ran}
 use Rattle.mail_core.specs.Standing.{dirs_of, Stores, IsAlone, Hosts, Stands, is_hosted}
+use Rattle.mail_core.proofs.GoingLemmas.{way_onward}
 use Rattle.mail_core.proofs.LineLemmas.{onward_alive}
 use Rattle.mail_core.proofs.RanLemmas.{ran_join, ran_quiet, ran_none, ran_floor}
 
@@ -165,13 +166,6 @@ onward_went HungUp on = refl
 onward_went Faulted on = absurd (false≢true on)
 onward_went Spent on = absurd (false≢true on)
 
-onward_way : (fed : Fed) → is_onward fed ≡ true → way_after fed ≡ GoesOn
-onward_way Onward on = refl
-onward_way Granted on = refl
-onward_way HungUp on = absurd (false≢true on)
-onward_way Faulted on = absurd (false≢true on)
-onward_way Spent on = absurd (false≢true on)
-
 left_way : (fed : Fed) → is_onward fed ≡ false → went_of fed ≡ Going → way_after fed ≡ Leaves
 left_way Onward off e = absurd (false≢true (sym off))
 left_way Granted off e = absurd (false≢true (sym off))
@@ -254,7 +248,7 @@ module _ (site : Site) (m : State) (session : ℕ) (piece : List ℕ) (a b : See
     piece_goes other on old core_is moment =
         subst (Steps site (λ choices. pieced site m piece choices (guest_of session m.guests)) m.table a b core) (onward_went fed on)
         (piece_steps (λ e.
-        subst (λ w. Stands site core (brought m w did).state) (sym (onward_way fed on))
+        subst (λ w. Stands site core (brought m w did).state) (sym (way_onward fed on))
         (subst (λ c. Stands site c (record m { table = did.table; guests = with_guest did.guest m.guests })) (sym core_is) (record {
           intake = h.serves (onward_alive fed on);
           host = old.host;

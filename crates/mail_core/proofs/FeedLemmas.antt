@@ -33,7 +33,7 @@ use Rattle.mail_core.specs.Machine.{Choice, Drops, Way, GoesOn, Leaves, Over, Cu
 use Rattle.mail_core.specs.Messages.{is_spent}
 use Rattle.mail_core.specs.Seen.{Seen, seen, Ran}
 use Rattle.mail_core.specs.Standing.{Serves, Talks, Follows, IsReady, Keeps, dirs_of, line_in, lines_heard}
-use Rattle.mail_core.proofs.GoingLemmas.{does_join, does_drops, does_none}
+use Rattle.mail_core.proofs.GoingLemmas.{does_join, does_drops, does_none, way_onward}
 
 -- ---- a front of lines of which only the last asks
 
@@ -83,13 +83,6 @@ none_next g all =
     ap (λ q. slice_get q (length g.heard)) all ∙ slice_get_past (lines_heard g) (length g.heard) (omega (arith, n))
 
 -- ---- how it went
-
-way_onward : (fed : Fed) → is_onward fed ≡ true → way_after fed ≡ GoesOn
-way_onward Onward on = refl
-way_onward Granted on = refl
-way_onward HungUp on = absurd (cc on)
-way_onward Faulted on = absurd (cc on)
-way_onward Spent on = absurd (cc on)
 
 does_onward : (site : Site) (d e : Did) (a b : Seen) (fed : Fed) → is_onward fed ≡ true → Does site d e a b fed → Does site d e a b Onward
 does_onward site d e a b Onward on h = h

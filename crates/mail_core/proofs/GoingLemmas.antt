@@ -76,6 +76,14 @@ pub granted_on : (fed : Fed) → (fed ≡ Granted) ⊎ (fed ≡ HungUp) → is_o
 granted_on fed (inl e) on = ap is_granted e
 granted_on fed (inr e) on = absurd (false≢true (sym (ap is_onward e) ∙ on))
 
+-- where the session goes on, the run goes on with it
+pub way_onward : (fed : Fed) → is_onward fed ≡ true → way_after fed ≡ GoesOn
+way_onward Onward on = refl
+way_onward Granted on = refl
+way_onward HungUp on = absurd (false≢true on)
+way_onward Faulted on = absurd (false≢true on)
+way_onward Spent on = absurd (false≢true on)
+
 -- ---- joins
 
 pub does_join : (site : Site) (d e x : Did) (a b c : Seen) (fed : Fed) → Does site d e a b Onward → Does site e x b c fed → Does site d x a c fed

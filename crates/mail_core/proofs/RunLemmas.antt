@@ -21,12 +21,15 @@ use Rattle.link_edge.specs.declared.event.FloorEvent.TheVariants.{Took, Sent, Un
 use Rattle.qf_format.specs.Spelling.{spelled}
 use Rattle.smtp_receive.specs.Replies.{stored_text}
 use Rattle.spool_disk.specs.Disk.{FileMap, Place, bytes_at}
-use Rattle.spool_disk.specs.Spooled.{Leads, Reads, Rests, Spooled}
+use Rattle.spool_disk.specs.Spooled.{Reads, Spooled}
 use Rattle.spool_store.specs.Moves.{Moves, Becomes}
 use Rattle.spool_store.specs.Standing.{IsClean, IsUnfinished, StandsFor, body_file, control_file, files_of}
 use Rattle.spool_store.specs.Tables.{IsSound, Stored, Table, Command, after, ids, stored}
 use Rattle.spool_store.specs.Tables.Command.{Accept}
+use Rattle.spool_disk.proofs.Naming.{nothing_there, one_only}
+use Rattle.spool_store.proofs.MovesLemmas.{leads_told, told_after}
 use Rattle.spool_store.proofs.PlaceLemmas.{at_own, here, later, named_apart, place_of}
+use Rattle.spool_store.proofs.StageLemmas.{clean_stands}
 use Rattle.spool_store.proofs.TableLemmas.{accept_sound}
 use Rattle.mail_core.specs.declared.serving.Core.{Core}
 use Rattle.mail_core.specs.declared.serving.Site.{Site}
@@ -40,15 +43,10 @@ use Rattle.mail_core.specs.Runs.{AreAcked, HasEntry, Headline, IsAcked, IsEnded,
 use Rattle.mail_core.specs.Seen.{IsPart, LacksLast, Leaves as Left, Ran, Seen, seen, table_after}
 use Rattle.mail_core.specs.Standing.{Stands, dirs_of}
 use Rattle.mail_core.proofs.RanLemmas.{ran_join, ran_quiet, table_more}
+use Rattle.mail_core.proofs.MessageLemmas.{one_dir}
 use Rattle.mail_core.proofs.MachineLemmas.{AreOurs, acked_front, entry_stays, ours_back, ours_front, run_leads, run_more}
 
 -- ---- a run begins
-
-leads_told : (a b : Option FileMap) → Leads a b Rests Rests (Unit {0}) → b ≡ a
-leads_told None None h = refl
-leads_told None (Some g) h = absurd h
-leads_told (Some f) None h = absurd h
-leads_told (Some f) (Some g) h = ap (λ (q : FileMap). Some q) h.0
 
 becomes_itself : (a : Option FileMap) (P : FileMap → Type 0) → Becomes a a P P
 becomes_itself None P = tt
@@ -56,9 +54,6 @@ becomes_itself (Some files) P = λ p. p
 
 becomes_same : (a b : Option FileMap) (P : FileMap → Type 0) → b ≡ a → Becomes a b P P
 becomes_same a b P same = subst (λ q. Becomes a q P P) (sym same) (becomes_itself a P)
-
-clean_stands : (dirs : List (List ℕ)) (table : Table) (files : FileMap) → IsClean dirs table files → StandsFor dirs table files
-clean_stands dirs table files clean = λ place among. inl (clean place among)
 
 -- the spool was only read
 reads_part : (dirs : List (List ℕ)) (table : Table) (s t : Spooled) → Reads s t → Moves s t (IsClean dirs table) (IsClean dirs table) (IsPart dirs table [])
@@ -128,21 +123,15 @@ under_way_floor site table core n a f g s k u gains le =
 
 -- ---- what was sent was done
 
-none_in : {X : Type 0} (x : X) → Contains [] x → ⊥
-none_in x h = omega (arith, h.1)
-
-one_only : {X : Type 0} (x y : X) → Contains (x ∷ []) y → x ≡ y
-one_only x y h = ⊎_elim (λ k. absurd (none_in y k)) (λ e. e) (Contains-push_cases [] x y h)
-
 one_sent : (act : Act) (session : ℕ) (text : List ℕ) → Contains (heard act) (Sent session text) → act ≡ Sends session text true
 one_sent (Takes event reading) session text h = let e : Took event ≡ Sent session text = one_only (Took event) (Sent session text) h in absurd (cc e)
-one_sent (Commits command) session text h = absurd (none_in (Sent session text) h)
+one_sent (Commits command) session text h = absurd (nothing_there (Sent session text) h)
 one_sent (Sends other bytes true) session text h = let e : Sent other bytes ≡ Sent session text = one_only (Sent other bytes) (Sent session text) h in cc e
 one_sent (Sends other bytes false) session text h = let e : Unsent other ≡ Sent session text = one_only (Unsent other) (Sent session text) h in absurd (cc e)
 one_sent (HangsUp other) session text h = let e : HungUp other ≡ Sent session text = one_only (HungUp other) (Sent session text) h in absurd (cc e)
 
 sent_done : (acts : List Act) (session : ℕ) (text : List ℕ) → Contains (heard_of acts) (Sent session text) → Contains acts (Sends session text true)
-sent_done [] session text h = absurd (none_in (Sent session text) h)
+sent_done [] session text h = absurd (nothing_there (Sent session text) h)
 sent_done (act ∷ acts) session text h = ⊎_elim
     (λ first. Contains-append_left (act ∷ []) acts (Sends session text true) (subst (Contains (act ∷ [])) (one_sent act session text first) (Contains-push [] act)))
     (λ rest. Contains-append_right (act ∷ []) acts (Sends session text true) (sent_done acts session text rest))
@@ -150,7 +139,7 @@ sent_done (act ∷ acts) session text h = ⊎_elim
 
 -- the entry of a final 250 is in the table after the acts
 acked_entry : (id session : ℕ) (table : Table) (acts : List Act) → id ≤ 999_999_999_999 → AreAcked table acts → Contains acts (Sends session (stored_text id) true) → HasEntry (table_after table acts) id
-acked_entry id session table [] within acked h = absurd (none_in (Sends session (stored_text id) true) h)
+acked_entry id session table [] within acked h = absurd (nothing_there (Sends session (stored_text id) true) h)
 acked_entry id session table (act ∷ acts) within acked h = ⊎_elim
     (λ first.
     let is : act ≡ Sends session (stored_text id) true = one_only act (Sends session (stored_text id) true) first in
@@ -161,12 +150,9 @@ acked_entry id session table (act ∷ acts) within acked h = ⊎_elim
 
 -- ---- tables stay sound
 
-in_site : (site : Site) (dir : List ℕ) → dir ≡ site.dir → Contains (dirs_of site) dir
-in_site site dir is = subst (Contains (dirs_of site)) (sym is) (Contains-push [] site.dir)
-
 sound_one : (site : Site) (table : Table) (act : Act) → IsSound (dirs_of site) table → AreOurs site (act ∷ []) → IsSound (dirs_of site) (table_after table (act ∷ []))
 sound_one site table (Takes event reading) sound ours = sound
-sound_one site table (Commits (Accept draft body)) sound ours = accept_sound (dirs_of site) table draft body sound (in_site site draft.dir ours.0)
+sound_one site table (Commits (Accept draft body)) sound ours = accept_sound (dirs_of site) table draft body sound (one_dir site draft.dir ours.0)
 sound_one site table (Sends session text whole) sound ours = sound
 sound_one site table (HangsUp session) sound ours = sound
 
@@ -182,7 +168,7 @@ less_of x y e = subst (λ r. MatchOrdering r (x < y) (x ≡ y) (y < x)) e (ranks
 
 -- the first id is below that of each entry behind it
 first_below : (x : ℕ) (entries : List Stored) (s : Stored) → AllByRecursion (λ y. nat_cmp x y ≡ Less) (ids entries) → Contains entries s → x < s.entry.id
-first_below x [] s h among = absurd (none_in s among)
+first_below x [] s h among = absurd (nothing_there s among)
 first_below x (e ∷ entries) s h among = ⊎_elim
     (λ first. let is : e ≡ s = one_only e s first in subst (λ (q : Stored). x < q.entry.id) is (less_of x e.entry.id h.0))
     (λ rest. first_below x entries s h.1 rest)
@@ -221,7 +207,7 @@ there_behind e entries s within below h = record {
 
 are_there : (entries : List Stored) (s : Stored) → s.entry.id ≤ 999_999_999_999 → IsStrictlySortedBy nat_cmp (ids entries) → Contains entries s → AreThere entries s
 unfolding IsStrictlySortedBy
-are_there [] s within sorted among = absurd (none_in s among)
+are_there [] s within sorted among = absurd (nothing_there s among)
 are_there (e ∷ entries) s within sorted among = ⊎_elim
     (λ first. let is : e ≡ s = one_only e s first in subst (AreThere (e ∷ entries)) is (there_first e entries))
     (λ rest. there_behind e entries s within (first_below e.entry.id entries s sorted.0 rest) (are_there entries s within sorted.1 rest))
@@ -268,11 +254,6 @@ kept_more dir table (Accept draft body) files id h = record {
 }
 
 -- ---- the headline
-
-told_after : (a b : Option FileMap) (P Q : FileMap → Type 0) → Becomes a b P Q → (f : FileMap) → a ≡ Some f → P f → (g : FileMap) × (b ≡ Some g) × Q g
-told_after None b P Q h f e p = absurd (cc e)
-told_after (Some d) None P Q h f e p = absurd h
-told_after (Some d) (Some g) P Q h f e p = let same : f ≡ d = cc e in (g, refl, h (subst P same p))
 
 same_told : (f g : FileMap) → Some f ≡ Some g → f ≡ g
 same_told f g e = cc e

@@ -37,7 +37,7 @@ const LAST_MOMENT: u64 = 32_503_680_000;
 
 /// What takes messages into the queue: its store, the directory of new entries, the moment of the event, and
 /// the text of 452 4.3.1, which is kept so that to send it takes no memory.
-#[derive(Debug, Drop)]
+#[derive(Drop)]
 pub struct Intake {
     pub(crate) alloc: Global,
     pub(crate) store: Store,

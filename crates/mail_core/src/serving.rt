@@ -44,7 +44,7 @@ pub enum Went {
 }
 
 /// What sessions are served with.
-#[derive(Debug, Drop)]
+#[derive(Drop)]
 pub struct Site {
     /// The host that replies name.
     pub host: Text,
