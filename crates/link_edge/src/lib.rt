@@ -11,8 +11,6 @@ mod place;
 mod script_floor;
 mod step;
 mod telling;
-#[cfg(test)]
-mod tests;
 mod turn;
 
 pub use event::{Event, FloorEvent};

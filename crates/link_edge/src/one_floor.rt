@@ -25,7 +25,7 @@ pub enum Stage {
 /// and in order, its end, and then `Stop` alone. A source that ends or fails ends the session. Its own
 /// count of faults is 0, and its session's is the sink's. A send to any other number fails and writes
 /// nothing; the count of those stands at the greatest `u64`. It tells nothing, and takes no memory.
-#[derive(Debug, Drop)]
+#[derive(Drop)]
 pub struct OneFloor<I, O> {
     pub source: I,
     pub sink: O,

@@ -1,7 +1,7 @@
-use mail_base::{NoMemory, Same, Text, TryCopy};
+use mail_base::{NoMemory, Text, TryCopy};
 
 /// Where a floor is to listen.
-#[derive(Debug, Drop)]
+#[derive(Drop)]
 pub enum Place {
     /// The standard place of the device: one session on its input and output.
     Standard,
@@ -17,22 +17,6 @@ impl TryCopy for Place {
                 address: address.copy()?,
                 port: *port,
             }),
-        }
-    }
-}
-
-impl Same for Place {
-    fn is(&self, other: &Place) -> bool {
-        match (self, other) {
-            (Place::Standard, Place::Standard) => true,
-            (
-                Place::Port { address, port },
-                Place::Port {
-                    address: other_address,
-                    port: other_port,
-                },
-            ) => address.is(other_address) && *port == *other_port,
-            _ => false,
         }
     }
 }

@@ -22,7 +22,7 @@ use std::alloc::Global;
 /// those. A call that fails takes no step and sends nothing, and a send that isn't told goes nowhere. The
 /// count of a session is the number of its sends that are told as failed; a failed send that isn't told,
 /// since its session is not open or a send to it had failed, counts for all of them.
-#[derive(Debug, Drop)]
+#[derive(Drop)]
 pub struct ScriptFloor {
     steps: Seq<Step>,
     at: usize,

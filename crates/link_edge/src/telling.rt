@@ -11,7 +11,7 @@ use std::marker::Model;
 
 /// The history of a floor in memory. It keeps room for what can't fail: a hang-up of each open session, and
 /// a failed send to each to which none has failed. A contract sees the history.
-#[derive(Debug, Drop)]
+#[derive(Drop)]
 pub(crate) struct Telling {
     told: Vec<FloorEvent>,
     live: Vec<u64>,

@@ -10,8 +10,6 @@ mod mem_sink;
 mod mem_source;
 mod sink;
 mod source;
-#[cfg(test)]
-mod tests;
 
 pub use clock::Clock;
 pub use files::{Files, LARGEST_FILE};

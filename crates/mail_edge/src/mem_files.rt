@@ -11,7 +11,7 @@ use std::marker::Model;
 
 /// Files in memory, each with its name and its text. They never fail, and their count of faults is 0.
 /// A contract sees the list of the names and texts.
-#[derive(Debug, Drop)]
+#[derive(Drop)]
 pub struct SureFiles {
     files: Seq<(Text, Text)>,
 }
@@ -80,7 +80,7 @@ impl Files for SureFiles {
 }
 
 /// Files in memory, some of whose calls fail.
-#[derive(Debug, Drop)]
+#[derive(Drop)]
 pub struct MemFiles {
     pub files: SureFiles,
     pub script: Script,

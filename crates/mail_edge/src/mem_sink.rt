@@ -9,7 +9,7 @@ use std::alloc::Global;
 
 /// What was written, in memory, some of whose calls fail. It grows, and where its growth finds no
 /// memory, that call fails too. A call that fails writes nothing.
-#[derive(Debug, Drop)]
+#[derive(Drop)]
 pub struct MemSink {
     pub written: Vec<u8>,
     pub script: Script,

@@ -8,7 +8,7 @@ use std::marker::Model;
 
 /// Bytes in memory, given as they stand, as many in a call as the buffer holds. It never fails, and
 /// its count of faults is 0. A contract sees what is left.
-#[derive(Debug, Drop)]
+#[derive(Drop)]
 pub struct SureSource {
     bytes: Text,
     at: usize,
@@ -48,7 +48,7 @@ impl Source for SureSource {
 }
 
 /// Bytes in memory, some of whose calls fail. A call that fails takes nothing.
-#[derive(Debug, Drop)]
+#[derive(Drop)]
 pub struct MemSource {
     pub source: SureSource,
     pub script: Script,

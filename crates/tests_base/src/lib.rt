@@ -3,4 +3,8 @@
 #![tactic(auto)]
 
 #[cfg(test)]
+mod edges;
+#[cfg(test)]
+mod floors;
+#[cfg(test)]
 mod spools;

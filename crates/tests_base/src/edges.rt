@@ -1,0 +1,352 @@
+ghost use Rattle.std.specs.Prelude.{◌≡◌, ◌<◌, ◌≤◌, ◌+◌, ◌-◌, ◌^◌, ◌++◌, ◌∷◌, [], IfOk, IfSome, OnOk, OnErr, None};
+ghost use Rattle.mail_base.specs.Histories.{Gains, HasCause};
+ghost use Rattle.mail_base.specs.Causes.{HasEdgeCause};
+ghost use Rattle.mail_edge.specs.Moves.{GainsPart};
+ghost use Rattle.mail_edge.specs.Seen.{text_of};
+
+use mail_base::{EdgeFault, Failed, NoMemory, Seq, Text};
+use mail_edge::{
+    Clock, Files, MemClock, MemFiles, MemSink, MemSource, Sink, Source, SureFiles, SureSource,
+};
+use std::alloc::{AllocError, Global};
+use std::test::Fail;
+
+// A device whose content is not told, as the real ones are.
+#[derive(Drop)]
+struct Quiet<D>(D);
+
+impl<S: Source> Source for Quiet<S> {
+    ghost seen = { λ q. record { left = None; faults = (S.seen q.0).faults } };
+
+    fn take(&mut self, buf: &mut [u8]) -> Result<usize, Failed> {
+        self.0.take(buf)
+    }
+}
+
+impl<K: Sink> Sink for Quiet<K> {
+    ghost seen = { λ q. record { written = None; faults = (K.seen q.0).faults } };
+
+    fn give(&mut self, bytes: &[u8]) -> Result<(), Failed> {
+        self.0.give(bytes)
+    }
+}
+
+impl<F: Files> Files for Quiet<F> {
+    ghost seen = { λ q. record { map = None; faults = (F.seen q.0).faults } };
+
+    fn read(&mut self, alloc: Global, name: &Text) -> Result<Option<Text>, EdgeFault> {
+        self.0.read(alloc, name)
+    }
+}
+
+impl<C: Clock> Clock for Quiet<C> {
+    ghost seen = { λ q. record { told = None; readings = (C.seen q.0).readings } };
+
+    fn now(&mut self) -> u64 {
+        self.0.now()
+    }
+}
+
+// All that is left of a source, four bytes at a time.
+fn drained<S: Source>(alloc: Global, source: &mut S) -> Result<Text, EdgeFault>
+    ensures all { IfOk result (λ text. IfSome (S.seen source.old).left (λ all. text ≡ all)) }
+    ensures cause { HasEdgeCause (S.seen source.old).faults (S.seen source.new).faults result }
+{
+    let mut bytes = Vec::new(alloc);
+    let mut buf = [0u8; 4];
+    for _ in 0..u64::MAX {
+        let count = source.take(&mut buf)?;
+        if count == 0 {
+            return Ok(Text::from_vec(bytes));
+        }
+        bytes
+            .extend_from_slice(&buf[..count])
+            .map_err(NoMemory::from)?;
+    }
+    unreachable!()
+}
+
+// Gives one text and then the other.
+#[tactic(auto, using(mail_edge::proofs::Giving::part_more, mail_edge::proofs::Giving::part_join, mail_base::proofs::Gaining::gains_join))]
+fn give_both<K: Sink>(sink: &mut K, one: &[u8], other: &[u8]) -> Result<(), Failed>
+    ensures written { OnOk result (Gains (K.seen sink.old).written (K.seen sink.new).written (one.now ++ other.now)) }
+    ensures part { OnErr result (GainsPart (K.seen sink.old).written (K.seen sink.new).written (one.now ++ other.now)) }
+    ensures cause { HasCause (K.seen sink.old).faults (K.seen sink.new).faults result }
+{
+    sink.give(one)?;
+    sink.give(other)
+}
+
+fn text_in<F: Files>(alloc: Global, files: &mut F, name: &[u8]) -> Result<Option<Text>, EdgeFault>
+    ensures text { IfOk result (λ text. IfSome (F.seen files.old).map (λ map. text ≡ text_of map name.now)) }
+    ensures fixed { (F.seen files.new).map ≡ (F.seen files.old).map }
+    ensures cause { HasEdgeCause (F.seen files.old).faults (F.seen files.new).faults result }
+{
+    let name = Text::of(alloc, name)?;
+    files.read(alloc, &name)
+}
+
+fn two_readings<C: Clock>(clock: &mut C) -> (u64, u64)
+    requires { (C.seen clock.old).readings + 1 < 2 ^ 64 - 1 }
+    ensures told { Gains (C.seen clock.old).told (C.seen clock.new).told (result.0 ∷ result.1 ∷ []) }
+    ensures counted { (C.seen clock.new).readings ≡ (C.seen clock.old).readings + 2 }
+{
+    let first = clock.now();
+    (first, clock.now())
+}
+
+fn calls(alloc: Global, failing: &[u64]) -> Result<Seq<u64>, AllocError> {
+    Ok(Seq::from_vec(Vec::from_slice(alloc, failing)?))
+}
+
+// What a device told in its calls, and how many of its faults it counts.
+#[derive(Drop)]
+struct Told {
+    text: Text,
+    faults: u64,
+}
+
+// A source, by the list of its failing calls where it has one; how often it is drained, and a last time
+// where its content isn't told; and what each time gave, with `|` behind it, or `!` where it failed.
+#[derive(Clone, Copy)]
+struct SourceRow {
+    bytes: &'static [u8],
+    failing: Option<&'static [u64]>,
+    times: u32,
+    told: &'static [u8],
+    faults: u64,
+}
+
+const SOURCES: &[SourceRow] = &[
+    SourceRow {
+        bytes: b"some bytes",
+        failing: None,
+        times: 1,
+        told: b"some bytes||",
+        faults: 0,
+    },
+    SourceRow {
+        bytes: b"some bytes",
+        failing: Some(&[]),
+        times: 1,
+        told: b"some bytes||",
+        faults: 0,
+    },
+    SourceRow {
+        bytes: b"some bytes",
+        failing: Some(&[1, 2]),
+        times: 2,
+        told: b"!! bytes|",
+        faults: 2,
+    },
+];
+
+impl SourceRow {
+    fn gives(&self, alloc: Global) -> Result<Told, NoMemory> {
+        let bytes = Text::of(alloc, self.bytes)?;
+        let Some(failing) = self.failing else {
+            let text = drained_by(alloc, SureSource::new(bytes), self.times)?;
+            return Ok(Told { text, faults: 0 });
+        };
+        let mut source = MemSource::new(bytes, calls(alloc, failing)?);
+        let mut text = Text::new(alloc);
+        drain(alloc, &mut source, self.times, &mut text)?;
+        let faults = source.script.faults;
+        drain(alloc, &mut Quiet(source), 1, &mut text)?;
+        Ok(Told { text, faults })
+    }
+}
+
+fn drained_by(alloc: Global, source: SureSource, times: u32) -> Result<Text, NoMemory> {
+    let mut source = source;
+    let mut text = Text::new(alloc);
+    drain(alloc, &mut source, times, &mut text)?;
+    drain(alloc, &mut Quiet(source), 1, &mut text)?;
+    Ok(text)
+}
+
+fn drain<S: Source>(
+    alloc: Global,
+    source: &mut S,
+    times: u32,
+    told: &mut Text,
+) -> Result<(), NoMemory> {
+    for _ in 0..times {
+        match drained(alloc, source) {
+            Ok(text) => {
+                told.extend(text.bytes())?;
+                told.push(b'|')?;
+            }
+            Err(EdgeFault::Failed) => told.push(b'!')?,
+            Err(EdgeFault::NoMemory) => return Err(NoMemory),
+        }
+    }
+    Ok(())
+}
+
+#[test]
+fn a_source_gives_what_is_left_and_fails_as_listed(rt: HostRuntime) -> Result<(), Fail> {
+    for (at, row) in SOURCES.iter().enumerate() {
+        let told = row.gives(rt.alloc())?;
+        assert_eq!(rt; told.text.bytes(), row.told, "row {at}");
+        assert_eq!(rt; told.faults, row.faults, "row {at}");
+    }
+    Ok(())
+}
+
+// A sink by its failing calls; what it is given, two texts at once; whether each two went, `.` or `!`, and a
+// last two where its content isn't told; and what was written.
+#[derive(Clone, Copy)]
+struct SinkRow {
+    failing: &'static [u64],
+    given: &'static [(&'static [u8], &'static [u8])],
+    told: &'static [u8],
+    written: &'static [u8],
+    faults: u64,
+}
+
+const SINKS: &[SinkRow] = &[
+    SinkRow {
+        failing: &[],
+        given: &[(b"one", b" two")],
+        told: b"..",
+        written: b"one two, last",
+        faults: 0,
+    },
+    SinkRow {
+        failing: &[0, 2],
+        given: &[(b"lost", b"lost"), (b"one", b"lost"), (b" two", b" three")],
+        told: b"!!..",
+        written: b"one two three, last",
+        faults: 2,
+    },
+];
+
+impl SinkRow {
+    fn takes(&self, alloc: Global) -> Result<(Text, MemSink), NoMemory> {
+        let mut sink = MemSink::new(alloc, calls(alloc, self.failing)?);
+        let mut told = Text::new(alloc);
+        for (one, other) in self.given {
+            told.push(mark_of(give_both(&mut sink, one, other)))?;
+        }
+        let mut quiet = Quiet(sink);
+        told.push(mark_of(give_both(&mut quiet, b", ", b"last")))?;
+        Ok((told, quiet.0))
+    }
+}
+
+fn mark_of(went: Result<(), Failed>) -> u8 {
+    if went.is_ok() { b'.' } else { b'!' }
+}
+
+#[test]
+fn a_sink_keeps_what_it_is_given_and_fails_as_listed(rt: HostRuntime) -> Result<(), Fail> {
+    for (at, row) in SINKS.iter().enumerate() {
+        let (told, sink) = row.takes(rt.alloc())?;
+        assert_eq!(rt; told.bytes(), row.told, "row {at}");
+        assert_eq!(rt; sink.seen(), row.written, "row {at}");
+        assert_eq!(rt; sink.script.faults, row.faults, "row {at}");
+    }
+    Ok(())
+}
+
+// Three files, of which two have one name.
+fn three_files(alloc: Global) -> Result<SureFiles, Fail> {
+    let mut files = Vec::new(alloc);
+    for (name, text) in [(b"a", b"first"), (b"b", b"other"), (b"a", b"third")] {
+        files.push((Text::of(alloc, name)?, Text::of(alloc, text)?))?;
+    }
+    Ok(SureFiles::new(Seq::from_vec(files)).ok_or("a large text")?)
+}
+
+// These files, by the list of their failing calls where they have one; the names that are asked, and `b`
+// where their content isn't told; and what each name gave, with `|` behind it, or `-` or `!`.
+#[derive(Clone, Copy)]
+struct FilesRow {
+    failing: Option<&'static [u64]>,
+    names: &'static [&'static [u8]],
+    told: &'static [u8],
+    faults: u64,
+}
+
+const FILES: &[FilesRow] = &[
+    FilesRow {
+        failing: None,
+        names: &[b"a", b"c"],
+        told: b"first|-other|",
+        faults: 0,
+    },
+    FilesRow {
+        failing: Some(&[]),
+        names: &[b"a", b"c"],
+        told: b"first|-other|",
+        faults: 0,
+    },
+    FilesRow {
+        failing: Some(&[0, 2]),
+        names: &[b"b", b"b", b"c", b"c"],
+        told: b"!other|!-other|",
+        faults: 2,
+    },
+];
+
+impl FilesRow {
+    fn give(&self, alloc: Global) -> Result<Told, Fail> {
+        let mut text = Text::new(alloc);
+        let mut sure = three_files(alloc)?;
+        let Some(failing) = self.failing else {
+            read_all(alloc, &mut sure, self.names, &mut text)?;
+            read_all(alloc, &mut Quiet(sure), &[b"b"], &mut text)?;
+            return Ok(Told { text, faults: 0 });
+        };
+        let mut files = MemFiles::new(sure, calls(alloc, failing)?);
+        read_all(alloc, &mut files, self.names, &mut text)?;
+        let faults = files.script.faults;
+        read_all(alloc, &mut Quiet(files), &[b"b"], &mut text)?;
+        Ok(Told { text, faults })
+    }
+}
+
+fn read_all<F: Files>(
+    alloc: Global,
+    files: &mut F,
+    names: &[&[u8]],
+    told: &mut Text,
+) -> Result<(), NoMemory> {
+    for name in names {
+        match text_in(alloc, files, name) {
+            Ok(Some(text)) => {
+                told.extend(text.bytes())?;
+                told.push(b'|')?;
+            }
+            Ok(None) => told.push(b'-')?,
+            Err(EdgeFault::Failed) => told.push(b'!')?,
+            Err(EdgeFault::NoMemory) => return Err(NoMemory),
+        }
+    }
+    Ok(())
+}
+
+#[test]
+fn files_give_the_first_text_of_a_name_and_fail_as_listed(rt: HostRuntime) -> Result<(), Fail> {
+    for (at, row) in FILES.iter().enumerate() {
+        let told = row.give(rt.alloc())?;
+        assert_eq!(rt; told.text.bytes(), row.told, "row {at}");
+        assert_eq!(rt; told.faults, row.faults, "row {at}");
+    }
+    Ok(())
+}
+
+#[test]
+fn a_clock_steps_up_to_the_greatest_moment(rt: HostRuntime) -> Result<(), Fail> {
+    for (start, step, told) in [
+        (784_111_777, 60, (784_111_777, 784_111_837)),
+        (u64::MAX - 5, 60, (u64::MAX - 5, u64::MAX)),
+    ] {
+        let mut clock = MemClock::new(start, step);
+        assert_eq!(rt; two_readings(&mut clock), told);
+        assert_eq!(rt; clock.readings, 2);
+        assert_eq!(rt; two_readings(&mut Quiet(MemClock::new(start, step))), told);
+    }
+    Ok(())
+}

@@ -1,0 +1,314 @@
+use link_edge::{Event, Floor, FloorEvent, OneFloor, Place, ScriptFloor, Step, Turn};
+use mail_base::{NoMemory, Seq, Text, TryCopy};
+use mail_edge::{MemSink, MemSource};
+use std::alloc::{AllocError, Global};
+use std::test::Fail;
+
+fn calls(alloc: Global, failing: &[u64]) -> Result<Seq<u64>, AllocError> {
+    Ok(Seq::from_vec(Vec::from_slice(alloc, failing)?))
+}
+
+// What is done with a floor.
+#[derive(Clone, Copy)]
+enum Act {
+    Begin,
+    // So many turns.
+    Turns(u32),
+    Send(u64, &'static [u8]),
+    HangUp(u64),
+}
+
+// Does these acts, and gives what was heard, a word for each turn and for each call that failed.
+fn heard<F: Floor>(alloc: Global, floor: &mut F, acts: &[Act]) -> Result<Text, NoMemory> {
+    let mut text = Text::new(alloc);
+    for act in acts {
+        if !is_done(floor, *act, &mut text)? {
+            text.extend(b"fail ")?;
+        }
+    }
+    Ok(text)
+}
+
+// Whether the act didn't fail. A turn that fails is heard at its place.
+fn is_done<F: Floor>(floor: &mut F, act: Act, heard: &mut Text) -> Result<bool, NoMemory> {
+    match act {
+        Act::Begin => Ok(floor.begin(&Place::Standard, 0).is_ok()),
+        Act::Turns(turns) => {
+            for _ in 0..turns {
+                hear(floor, heard)?;
+            }
+            Ok(true)
+        }
+        Act::Send(session, bytes) => {
+            let bytes = Text::of(heard.allocator(), bytes)?;
+            Ok(floor.send(session, &bytes).is_ok())
+        }
+        Act::HangUp(session) => {
+            floor.hang_up(session);
+            Ok(true)
+        }
+    }
+}
+
+fn hear<F: Floor>(floor: &mut F, heard: &mut Text) -> Result<(), NoMemory> {
+    let mut buf = [0u8; 64];
+    match floor.turn(&mut buf) {
+        Ok(Turn::Opened(session, count)) => write_event(heard, session, b'+', &buf[..count]),
+        Ok(Turn::Piece(session, count)) => write_event(heard, session, b'>', &buf[..count]),
+        Ok(Turn::Closed(session)) => write_event(heard, session, b'-', b""),
+        Ok(Turn::Idle) => heard.extend(b"rest "),
+        Ok(Turn::Stop) => heard.extend(b"stop "),
+        Err(_) => heard.extend(b"fail "),
+    }
+}
+
+// What a floor told, a word for each event.
+fn told(alloc: Global, events: &[FloorEvent]) -> Result<Text, NoMemory> {
+    let mut text = Text::new(alloc);
+    for event in events {
+        match event {
+            FloorEvent::Took(event) => write_turn(&mut text, event)?,
+            FloorEvent::Sent(session, bytes) => {
+                write_event(&mut text, *session, b'<', bytes.bytes())?
+            }
+            FloorEvent::Unsent(session) => write_event(&mut text, *session, b'!', b"")?,
+            FloorEvent::HungUp(session) => write_event(&mut text, *session, b'x', b"")?,
+        }
+    }
+    Ok(text)
+}
+
+fn write_turn(text: &mut Text, event: &Event) -> Result<(), NoMemory> {
+    match event {
+        Event::Opens(session, peer) => write_event(text, *session, b'+', peer.bytes()),
+        Event::Brings(session, bytes) => write_event(text, *session, b'>', bytes.bytes()),
+        Event::Closes(session) => write_event(text, *session, b'-', b""),
+        Event::Rests => text.extend(b"rest "),
+        Event::Stops => text.extend(b"stop "),
+    }
+}
+
+// A session's number as a digit, and what is said of it.
+fn write_event(text: &mut Text, session: u64, mark: u8, bytes: &[u8]) -> Result<(), NoMemory> {
+    text.push(b'0' + (session % 10) as u8)?;
+    text.push(mark)?;
+    text.extend(bytes)?;
+    text.push(b' ')
+}
+
+// A step as a row has it.
+#[derive(Clone, Copy)]
+enum Move {
+    Open(&'static [u8]),
+    Say(u64, &'static [u8]),
+    Close(u64),
+}
+
+impl Move {
+    fn step(self, alloc: Global) -> Result<Step, NoMemory> {
+        match self {
+            Move::Open(peer) => Ok(Step::Open(Text::of(alloc, peer)?)),
+            Move::Say(session, bytes) => Ok(Step::Say(session, Text::of(alloc, bytes)?)),
+            Move::Close(session) => Ok(Step::Close(session)),
+        }
+    }
+}
+
+// A floor by its steps and its failing turns and sends, and what is done with it; what was heard of it, what it
+// told, and its counts of faults: of turns, of sends, and of those for want of memory.
+#[derive(Clone, Copy)]
+struct ScriptRow {
+    moves: &'static [Move],
+    turns: &'static [u64],
+    sends: &'static [u64],
+    acts: &'static [Act],
+    heard: &'static [u8],
+    told: &'static [u8],
+    faults: (u64, u64, u64),
+}
+
+const TWO_SESSIONS: &[Move] = &[
+    Move::Open(b"192.0.2.1"),
+    Move::Open(b"::1"),
+    Move::Say(1, b"NOOP"),
+    Move::Say(2, b"QUIT"),
+    Move::Close(1),
+    Move::Say(1, b"late"),
+];
+
+// Seventy bytes in a buffer of 64.
+const LONG_BYTES: &[u8] =
+    b"rest 1+ 1>aaaaaaaaaaaaaaaaaaaaaaaaaaaaaaaaaaaaaaaaaaaaaaaaaaaaaaaaaaaaaaaa 1>aaaaaa stop ";
+
+const SCRIPTS: &[ScriptRow] = &[
+    // A script brings its steps and stops. What a session that is closed says is nothing.
+    ScriptRow {
+        moves: TWO_SESSIONS,
+        turns: &[],
+        sends: &[],
+        acts: &[Act::Begin, Act::Turns(8)],
+        heard: b"1+192.0.2.1 2+::1 1>NOOP 2>QUIT 1- rest stop stop ",
+        told: b"1+192.0.2.1 2+::1 1>NOOP 2>QUIT 1- rest stop stop ",
+        faults: (0, 0, 0),
+    },
+    // Sends and hang-ups are told while a session is open.
+    ScriptRow {
+        moves: TWO_SESSIONS,
+        turns: &[],
+        sends: &[1],
+        acts: &[
+            Act::Turns(2),
+            Act::Send(1, b"220"),
+            Act::Send(2, b"220"),
+            Act::HangUp(2),
+            Act::HangUp(2),
+            Act::Turns(2),
+        ],
+        heard: b"1+192.0.2.1 2+::1 fail 1>NOOP rest ",
+        told: b"1+192.0.2.1 2+::1 1<220 2! 2x 1>NOOP rest ",
+        faults: (0, 1, 0),
+    },
+    // Turns fail as they are listed, and the next one goes on.
+    ScriptRow {
+        moves: TWO_SESSIONS,
+        turns: &[0, 2],
+        sends: &[],
+        acts: &[Act::Begin, Act::Turns(3)],
+        heard: b"fail 1+192.0.2.1 fail 2+::1 ",
+        told: b"1+192.0.2.1 2+::1 ",
+        faults: (2, 0, 0),
+    },
+    // An address with an LF opens nothing, and bytes that don't fit come in pieces.
+    ScriptRow {
+        moves: &[
+            Move::Open(b"a\nb"),
+            Move::Open(b""),
+            Move::Say(1, &[b'a'; 70]),
+        ],
+        turns: &[],
+        sends: &[],
+        acts: &[Act::Turns(5)],
+        heard: LONG_BYTES,
+        told: LONG_BYTES,
+        faults: (0, 0, 0),
+    },
+];
+
+impl ScriptRow {
+    fn floor(&self, alloc: Global) -> Result<ScriptFloor, NoMemory> {
+        let turns = calls(alloc, self.turns)?;
+        let sends = calls(alloc, self.sends)?;
+        Ok(ScriptFloor::new(alloc, steps(alloc, self.moves)?, turns, sends))
+    }
+}
+
+fn steps(alloc: Global, moves: &[Move]) -> Result<Seq<Step>, NoMemory> {
+    let mut steps = Seq::new(alloc);
+    for each in moves {
+        steps.push(each.step(alloc)?)?;
+    }
+    Ok(steps)
+}
+
+#[test]
+fn a_script_is_played_as_its_steps_and_lists_say(rt: HostRuntime) -> Result<(), Fail> {
+    let alloc = rt.alloc();
+    for (at, row) in SCRIPTS.iter().enumerate() {
+        let mut floor = row.floor(alloc)?;
+        let heard = heard(alloc, &mut floor, row.acts)?;
+        assert_eq!(rt; heard.bytes(), row.heard, "row {at}");
+        assert_eq!(rt; told(alloc, floor.seen())?.bytes(), row.told, "row {at}");
+        assert_eq!(rt;
+            (floor.turns.faults, floor.sends.faults, floor.starved),
+            row.faults,
+            "row {at}"
+        );
+    }
+    Ok(())
+}
+
+// The failing calls of a source of `some bytes` and of a sink, and what is done with the floor over both; what was
+// heard of it, and what was written.
+#[derive(Clone, Copy)]
+struct OneRow {
+    takes: &'static [u64],
+    gives: &'static [u64],
+    acts: &'static [Act],
+    heard: &'static [u8],
+    written: &'static [u8],
+}
+
+const ONE_SESSION: &[OneRow] = &[
+    // The source is given whole, and only the one session is sent to.
+    OneRow {
+        takes: &[],
+        gives: &[1],
+        acts: &[
+            Act::Turns(9),
+            Act::Send(1, b"250"),
+            Act::Send(1, b"251"),
+            Act::Send(2, b"252"),
+        ],
+        heard: b"1+ 1>some bytes 1- stop stop stop stop stop stop fail fail ",
+        written: b"250",
+    },
+    // A source that fails ends the session.
+    OneRow {
+        takes: &[0],
+        gives: &[],
+        acts: &[Act::Turns(5)],
+        heard: b"1+ 1- stop stop stop ",
+        written: b"",
+    },
+    // So does its hanging up, and that of another doesn't.
+    OneRow {
+        takes: &[],
+        gives: &[],
+        acts: &[
+            Act::Begin,
+            Act::HangUp(2),
+            Act::Turns(1),
+            Act::HangUp(1),
+            Act::Turns(1),
+        ],
+        heard: b"1+ stop ",
+        written: b"",
+    },
+];
+
+impl OneRow {
+    fn floor(&self, alloc: Global) -> Result<OneFloor<MemSource, MemSink>, NoMemory> {
+        let source = MemSource::new(Text::of(alloc, b"some bytes")?, calls(alloc, self.takes)?);
+        Ok(OneFloor::new(source, MemSink::new(alloc, calls(alloc, self.gives)?)))
+    }
+
+    fn plays(&self, alloc: Global) -> Result<(Text, MemSink), NoMemory> {
+        let mut floor = self.floor(alloc)?;
+        let heard = heard(alloc, &mut floor, self.acts)?;
+        Ok((heard, floor.into_parts().1))
+    }
+}
+
+#[test]
+fn one_floor_is_one_session(rt: HostRuntime) -> Result<(), Fail> {
+    for (at, row) in ONE_SESSION.iter().enumerate() {
+        let (heard, sink) = row.plays(rt.alloc())?;
+        assert_eq!(rt; heard.bytes(), row.heard, "row {at}");
+        assert_eq!(rt; sink.seen(), row.written, "row {at}");
+    }
+    Ok(())
+}
+
+#[test]
+fn a_place_is_copied(rt: HostRuntime) -> Result<(), Fail> {
+    let place = Place::Port {
+        address: Text::of(rt.alloc(), b"127.0.0.1")?,
+        port: 25,
+    };
+    let copy = place.copy()?;
+    assert!(rt;
+        matches!(&copy, Place::Port { address, port: 25 } if address.bytes() == b"127.0.0.1".as_slice())
+    );
+    assert!(rt; matches!(Place::Standard.copy()?, Place::Standard));
+    Ok(())
+}
