@@ -1,7 +1,5 @@
-//! Feeds a message to a reader of lines and prints how many lines it gave. The words are the size of a
-//! piece in bytes, 65,536 where it is left out, and how many times 1,048,560 bytes are fed, once where it
-//! is left out. `bench/smtp_lines.sh` measures it.
-#![tactic(auto)]
+//! Feeds a message to a reader of lines, in pieces of so many bytes, 65,536 where that is left out, and tells how
+//! many lines it gave. Each time 1,048,560 bytes are fed.
 
 ghost use Rattle.std.specs.Prelude.{◌<◌};
 
@@ -9,23 +7,15 @@ use anyhow::{Result, ensure};
 use mail_base::NoMemory;
 use smtp_lines::Lines;
 use std::alloc::Global;
-use std::env;
 
-fn main(rt: HostRuntime) -> Result<()> {
-    let mut size = 65_536usize;
-    let mut rounds = 1u32;
-    for (place, word) in env::args(&rt)?.enumerate() {
-        if place == 1 {
-            size = word.parse()?;
-        }
-        if place == 2 {
-            rounds = word.parse()?;
-        }
-    }
+pub(crate) fn answer(alloc: Global, size: Option<&str>, rounds: u32) -> Result<String> {
+    let size = match size {
+        Some(size) => size.parse()?,
+        None => 65_536usize,
+    };
     ensure!(size > 0, "a piece has at least one byte");
-    let lines = feed(rt.alloc(), size, rounds)?;
-    println!(rt; "{lines} lines")?;
-    Ok(())
+    let lines = feed(alloc, size, rounds)?;
+    Ok(format!(in alloc; "{lines} lines")?)
 }
 
 /// Lines of 78 bytes and their ends.

@@ -1,13 +1,9 @@
-//! Parses and prints a control text of many rows, and prints how many bytes it has. The words are the number
-//! of rows, 10,000 where it is left out, and how many times it is done, once where it is left out.
-//! `bench/control.sh` measures it.
-#![tactic(auto)]
+//! Parses and prints a control text of so many rows, 10,000 where that is left out, and tells how many bytes it has.
 
 use anyhow::{Result, ensure};
 use mail_base::{NoMemory, Text};
 use qf_format::{parse, print};
 use std::alloc::Global;
-use std::env;
 
 const FRONT: &[u8] =
     b"V1\nv1\ngmqueue\nT1767225600\nK0\nN0\nP30022\nc0\nS<bob@c.example>\n$rESMTP\n$sc.example\n${client_addr}\n";
@@ -16,21 +12,14 @@ const ROW: &[u8] = b"RPFD:<ann@mx.example>\neF 5.1.1 550 user unknown\n";
 
 const END: &[u8] = b"HSubject: hi\n.\n";
 
-fn main(rt: HostRuntime) -> Result<()> {
-    let mut rows = 10_000u32;
-    let mut rounds = 1u32;
-    for (place, word) in env::args(&rt)?.enumerate() {
-        if place == 1 {
-            rows = word.parse()?;
-        }
-        if place == 2 {
-            rounds = word.parse()?;
-        }
-    }
+pub(crate) fn answer(alloc: Global, rows: Option<&str>, rounds: u32) -> Result<String> {
+    let rows = match rows {
+        Some(rows) => rows.parse()?,
+        None => 10_000u32,
+    };
     ensure!(rows > 0, "an entry has at least one row");
-    let bytes = repeat(rt.alloc(), rows, rounds)?;
-    println!(rt; "{bytes} bytes")?;
-    Ok(())
+    let bytes = repeat(alloc, rows, rounds)?;
+    Ok(format!(in alloc; "{bytes} bytes")?)
 }
 
 /// A control text with so many rows that failed.

@@ -1,13 +1,10 @@
-//! Cuts a text of a mebibyte into tokens and prints what it gave. The words are the kind of the text,
-//! `mixed`, `words` or `comment`, and how many times it is cut, once where that is left out.
-//! `bench/tokens.sh` measures it.
-#![tactic(auto)]
+//! Cuts a text of a mebibyte into tokens, of the kind `mixed`, `words` or `comment`, the first where that is left
+//! out, and tells what it gave.
 
 use addr_tokens::{ScanFault, tokens};
 use anyhow::{Result, bail};
 use mail_base::{NoMemory, Text};
 use std::alloc::Global;
-use std::env;
 
 const SIZE: usize = 1_048_576;
 
@@ -22,25 +19,14 @@ enum Kind {
     Comment,
 }
 
-fn main(rt: HostRuntime) -> Result<()> {
-    let mut kind = Kind::Mixed;
-    let mut rounds = 1u32;
-    for (place, word) in env::args(&rt)?.enumerate() {
-        if place == 1 {
-            kind = match word.as_str() {
-                "mixed" => Kind::Mixed,
-                "words" => Kind::Words,
-                "comment" => Kind::Comment,
-                _ => bail!("no kind of text"),
-            };
-        }
-        if place == 2 {
-            rounds = word.parse()?;
-        }
-    }
-    let answer = cut(rt.alloc(), kind, rounds)?;
-    println!(rt; "{answer}")?;
-    Ok(())
+pub(crate) fn answer(alloc: Global, kind: Option<&str>, rounds: u32) -> Result<String> {
+    let kind = match kind {
+        None | Some("mixed") => Kind::Mixed,
+        Some("words") => Kind::Words,
+        Some("comment") => Kind::Comment,
+        Some(_) => bail!("no kind of text"),
+    };
+    Ok(cut(alloc, kind, rounds)?)
 }
 
 /// The text of a kind.

@@ -1,0 +1,34 @@
+//! Does one thing over much input, so that its time can be measured. The first word says what: `lines`, `tokens`
+//! or `control`. The second says over what, as each module tells, and the third how many times it is done, once
+//! where it is left out. The scripts in `bench/` measure it.
+#![tactic(auto)]
+
+mod control;
+mod lines;
+mod tokens;
+
+use anyhow::{Result, bail};
+use std::env;
+
+fn main(rt: HostRuntime) -> Result<()> {
+    let alloc = rt.alloc();
+    let mut what = String::new(alloc);
+    let mut over = None;
+    let mut rounds = 1u32;
+    for (place, word) in env::args(&rt)?.enumerate() {
+        match place {
+            1 => what = word,
+            2 => over = Some(word),
+            3 => rounds = word.parse()?,
+            _ => {}
+        }
+    }
+    let answer = match what.as_str() {
+        "lines" => lines::answer(alloc, over.as_deref(), rounds)?,
+        "tokens" => tokens::answer(alloc, over.as_deref(), rounds)?,
+        "control" => control::answer(alloc, over.as_deref(), rounds)?,
+        _ => bail!("nothing to measure"),
+    };
+    println!(rt; "{answer}")?;
+    Ok(())
+}
