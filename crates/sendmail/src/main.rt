@@ -1,6 +1,8 @@
 //! `sendmail`: the real devices around the proved program.
 #![tactic(auto)]
 
+// The tests of the devices stand here, since no other crate can import a program.
+
 mod clock;
 mod directory;
 mod disk;

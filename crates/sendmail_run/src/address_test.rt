@@ -6,18 +6,16 @@ ghost use Rattle.ruleset_run.specs.Plain.{is_plain_book};
 ghost use Rattle.sendmail_run.specs.Runs.{Seen, Tests, seen};
 ghost use Rattle.sendmail_run.specs.Taking.{Answered, At, Stands, Went, has_end};
 
+use crate::buffer::{PIECE, zeros};
 use crate::input::Partial;
 use crate::outcome::Outcome;
 use mail_base::{Config, Failed, NoMemory, Text};
 use mail_edge::{Sink, Source};
 use memchr::memchr;
-use std::alloc::{AllocError, Global};
+use std::alloc::Global;
 
 /// The most bytes that are taken of the input.
 pub const MOST_INPUT: u64 = 1 << 32;
-
-/// The most bytes that are taken at once.
-const PIECE: usize = 65_536;
 
 /// Answers each line of input on the output, up to the end of the input or the line `/quit`.
 pub fn address_test<I: Source, O: Sink>(
@@ -36,12 +34,6 @@ pub fn address_test<I: Source, O: Sink>(
         return Outcome::NoMemory;
     };
     answer_all(alloc, config, input, output, &mut buffer)
-}
-
-fn zeros(alloc: Global, size: usize) -> Result<Vec<u8>, AllocError>
-    ensures { IfOk result (λ zeros. length zeros.items ≡ size) }
-{
-    vec![in alloc; 0u8; size]
 }
 
 // Answers each line, taking as many bytes at once as the buffer holds.

@@ -20,7 +20,7 @@ pub enum Job {
 }
 
 /// What a command line says.
-#[derive(Debug, Drop)]
+#[derive(Drop)]
 pub struct Mode {
     /// The name of the configuration file.
     pub file: Text,

@@ -3,6 +3,7 @@
 
 mod address_test;
 mod answers;
+mod buffer;
 mod command_line;
 mod fault;
 mod input;
@@ -12,11 +13,7 @@ mod outcome;
 mod program;
 mod reader;
 mod session_mode;
-#[cfg(test)]
-mod session_tests;
 mod sides;
-#[cfg(test)]
-mod tests;
 mod tokens;
 
 pub use command_line::{DEFAULT_FILE, Job, Mode, WordFault, words};

@@ -2,7 +2,7 @@ use crate::fault::Fault;
 use mail_base::Text;
 
 /// How a run ends.
-#[derive(Debug, Drop)]
+#[derive(Drop)]
 pub enum Outcome {
     /// The input came to its end, or to the line `/quit`; or the floor told that nothing comes any more.
     Done,

@@ -9,6 +9,7 @@ ghost use Rattle.sendmail_run.specs.Opening.{HasRefused};
 ghost use Rattle.sendmail_run.specs.Serving as spec;
 ghost use Rattle.sendmail_run.specs.Serving.{Serves};
 
+use crate::buffer::{PIECE, zeros};
 use crate::outcome::Outcome;
 use link_edge::{Floor, Place};
 use mail_base::{NoMemory, Seq, Text};
@@ -16,7 +17,7 @@ use mail_core::{Core, Ending, Site, Went};
 use mail_edge::Clock;
 use spool_disk::Spool;
 use spool_store::{OpenFault, Store};
-use std::alloc::{AllocError, Global};
+use std::alloc::Global;
 
 /// The most turns of the floor that a run takes.
 pub const MOST_TURNS: u64 = 1 << 60;
@@ -26,9 +27,6 @@ const HOST: &[u8] = b"localhost";
 
 /// The directory of the queue: no line of a configuration says it yet.
 const QUEUE: &[u8] = b"/var/spool/mqueue";
-
-/// The most bytes that are taken of a session at once.
-const PIECE: usize = 65_536;
 
 /// Serves one session at the standard place of the floor, and takes its messages into the queue. It ends
 /// when the floor tells `Stop`.
@@ -48,12 +46,6 @@ pub fn session_mode<D: Spool, L: Floor, C: Clock>(
         return Outcome::NoMemory;
     };
     serve(alloc, spool, floor, clock, &mut buffer)
-}
-
-fn zeros(alloc: Global, size: usize) -> Result<Vec<u8>, AllocError>
-    ensures { IfOk result (λ zeros. length zeros.items ≡ size) }
-{
-    vec![in alloc; 0u8; size]
 }
 
 // Opens the queue, begins the floor and serves its turns, taking as many bytes at once as the buffer holds.
