@@ -1,3 +1,10 @@
 //! Tests of the top call: its worked examples, as a table of lines and a table of sessions. They stand
 //! apart from the library, which a check would else prove twice.
 #![tactic(auto)]
+
+#[cfg(test)]
+mod devices;
+#[cfg(test)]
+mod lines;
+#[cfg(test)]
+mod sessions;

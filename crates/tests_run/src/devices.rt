@@ -1,0 +1,32 @@
+use mail_base::{NoMemory, Seq, Text};
+use mail_edge::{MemFiles, SureFiles};
+use std::alloc::Global;
+use std::test::Fail;
+
+/// The configuration that is read where a row has no other.
+pub(crate) const CONFIG: &[u8] = b"S5\nR$-:$+\t$@ $2 @ $1\n";
+
+/// The words of a command line, which blanks part.
+pub(crate) fn words_of(alloc: Global, line: &[u8]) -> Result<Seq<Text>, NoMemory> {
+    let mut words = Seq::new(alloc);
+    if line.is_empty() {
+        return Ok(words);
+    }
+    for word in line.split(|byte| *byte == b' ') {
+        words.push(Text::of(alloc, word)?)?;
+    }
+    Ok(words)
+}
+
+/// The calls of these numbers.
+pub(crate) fn calls(alloc: Global, numbers: &[u64]) -> Result<Seq<u64>, NoMemory> {
+    Ok(Seq::from_vec(Vec::from_slice(alloc, numbers).map_err(NoMemory::from)?))
+}
+
+/// Files that hold a configuration, and which of their calls are to fail.
+pub(crate) fn files_of(alloc: Global, config: &[u8], failing: &[u64]) -> Result<MemFiles, Fail> {
+    let mut files = Seq::new(alloc);
+    files.push((Text::of(alloc, b"row1.cf")?, Text::of(alloc, config)?))?;
+    let sure = SureFiles::new(files).ok_or("a large text")?;
+    Ok(MemFiles::new(sure, calls(alloc, failing)?))
+}
