@@ -3,8 +3,22 @@
 #![tactic(auto)]
 
 #[cfg(test)]
+mod configs;
+#[cfg(test)]
+mod copies;
+#[cfg(test)]
 mod edges;
+#[cfg(test)]
+mod fakes;
+#[cfg(test)]
+mod faults;
 #[cfg(test)]
 mod floors;
 #[cfg(test)]
+mod queue;
+#[cfg(test)]
+mod rules;
+#[cfg(test)]
 mod spools;
+#[cfg(test)]
+mod texts;

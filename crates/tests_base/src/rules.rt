@@ -1,0 +1,105 @@
+use mail_base::{Item, Mark, NoMemory, Pattern, Seq, Text, Token, TryCopy};
+use std::alloc::Global;
+use std::test::Fail;
+
+/// The items of a left side, each by the letter that writes it here, and whether it is written with
+/// `$`.
+static ITEMS: [(u8, bool); 10] = [
+    (b'*', true),
+    (b'+', true),
+    (b'-', true),
+    (b'0', true),
+    (b'=', true),
+    (b'~', true),
+    (b'&', true),
+    (b'#', true),
+    (b'@', false),
+    (b'w', false),
+];
+
+fn item(alloc: Global, letter: u8) -> Result<Item, NoMemory> {
+    match letter {
+        b'*' => Ok(Item::Any),
+        b'+' => Ok(Item::More),
+        b'-' => Ok(Item::One),
+        b'0' => Ok(Item::Empty),
+        b'=' => Ok(Item::InClass(Text::of(alloc, b"w")?)),
+        b'~' => Ok(Item::NotInClass(Text::of(alloc, b"w")?)),
+        b'&' => Ok(Item::Late(Text::of(alloc, b"w")?)),
+        b'#' => Ok(Item::Exact(Token::Sign(Mark::Mailer))),
+        b'w' => Ok(Item::Exact(Token::Word(Text::of(alloc, b"ann")?))),
+        _ => Ok(Item::Exact(Token::Op(letter))),
+    }
+}
+
+fn letter(item: &Item) -> u8 {
+    match item {
+        Item::Any => b'*',
+        Item::More => b'+',
+        Item::One => b'-',
+        Item::Empty => b'0',
+        Item::InClass(_) => b'=',
+        Item::NotInClass(_) => b'~',
+        Item::Late(_) => b'&',
+        Item::Exact(Token::Sign(_)) => b'#',
+        Item::Exact(Token::Op(byte)) => *byte,
+        Item::Exact(_) => b'w',
+    }
+}
+
+fn is_item(alloc: Global, sign: u8, is_meta: bool) -> Result<bool, NoMemory> {
+    let item = item(alloc, sign)?;
+    let copied = item.copy()?;
+    Ok(letter(&copied) == sign && copied.is_meta() == is_meta)
+}
+
+#[test]
+fn items_are_copied_and_tell_their_sign(rt: HostRuntime) -> Result<(), Fail> {
+    for (sign, is_meta) in &ITEMS {
+        assert!(rt; is_item(rt.alloc(), *sign, *is_meta)?);
+    }
+    Ok(())
+}
+
+/// Left sides, and whether few enough of their items are written with `$`.
+static SIDES: [(&[u8], bool); 7] = [
+    (b"", true),
+    (b"********************@", true),
+    (b"********************@-", false),
+    (b"@@@@@@@@@@@@@@@@@@@@@wwwww", true),
+    (b"#*+-0=~&#*+-0=~&#*+-@", true),
+    (b"#*+-0=~&#*+-0=~&#*+-#", false),
+    (b"*********************", false),
+];
+
+fn items(alloc: Global, side: &[u8]) -> Result<Seq<Item>, NoMemory> {
+    let mut items = Seq::new(alloc);
+    for letter in side {
+        items.push(item(alloc, *letter)?)?;
+    }
+    Ok(items)
+}
+
+fn is_written(items: &[Item], side: &[u8]) -> bool {
+    for (item, sign) in items.iter().zip(side) {
+        if letter(item) != *sign {
+            return false;
+        }
+    }
+    items.len() == side.len()
+}
+
+fn is_few(alloc: Global, side: &[u8]) -> Result<bool, NoMemory> {
+    match Pattern::of(items(alloc, side)?).copy()? {
+        Some(pattern) => Ok(is_written(pattern.items(), side)),
+        None => Ok(false),
+    }
+}
+
+#[test]
+fn patterns_have_at_most_twenty_metas(rt: HostRuntime) -> Result<(), Fail> {
+    for (side, few) in &SIDES {
+        assert!(rt; is_few(rt.alloc(), side)? == *few);
+    }
+    Ok(())
+}
