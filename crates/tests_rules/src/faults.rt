@@ -1,0 +1,66 @@
+use addr_tokens::ScanFault;
+use cf_macros::ExpandFault;
+use cf_values::Bad;
+use mail_base::{NoMemory, Text};
+use ruleset_run::RunFault;
+use std::alloc::Global;
+use std::fmt::Display;
+use std::test::Fail;
+
+static SCAN: [(ScanFault, &str); 5] = [
+    (ScanFault::Unbalanced(0), "Unbalanced 0"),
+    (ScanFault::Unbalanced(1_048_576), "Unbalanced 1048576"),
+    (ScanFault::BadQuote(7), "BadQuote 7"),
+    (ScanFault::Long, "Long"),
+    (ScanFault::NoMemory, "NoMemory"),
+];
+
+static EXPAND: [(ExpandFault, &str); 4] = [
+    (ExpandFault::Unclosed(12), "unclosed at 12"),
+    (ExpandFault::Deep, "references are too deep"),
+    (ExpandFault::Large, "too large"),
+    (ExpandFault::NoMemory, "no memory"),
+];
+
+/// The texts of the faults of a run, by their places.
+static RUN: [&str; 5] = ["Loop", "Work", "Long", "NoRuleset", "NoMemory"];
+
+fn says(alloc: Global, fault: &impl Display, text: &str) -> Result<bool, Fail> {
+    let said = format!(in alloc; "{fault}")?;
+    Ok(said.as_str() == text)
+}
+
+fn run_fault(alloc: Global, place: usize) -> Result<RunFault, NoMemory> {
+    match place {
+        0 => Ok(RunFault::Loop),
+        1 => Ok(RunFault::Work),
+        2 => Ok(RunFault::Long),
+        3 => Ok(RunFault::NoRuleset(Text::of(alloc, b"parse")?)),
+        _ => Ok(RunFault::NoMemory),
+    }
+}
+
+fn run_says(alloc: Global, place: usize, text: &str) -> Result<bool, Fail> {
+    let fault = run_fault(alloc, place)?;
+    says(alloc, &fault, text)
+}
+
+#[test]
+fn faults_say_what_they_are(rt: HostRuntime) -> Result<(), Fail> {
+    for (fault, text) in &SCAN {
+        assert!(rt; says(rt.alloc(), fault, text)?, "{text}");
+    }
+    for (fault, text) in &EXPAND {
+        assert!(rt; says(rt.alloc(), fault, text)?, "{text}");
+    }
+    assert!(rt; says(rt.alloc(), &Bad { place: 3 }, "bad value at 3")?);
+    Ok(())
+}
+
+#[test]
+fn faults_of_a_run_say_what_they_are(rt: HostRuntime) -> Result<(), Fail> {
+    for (place, text) in RUN.iter().enumerate() {
+        assert!(rt; run_says(rt.alloc(), place, text)?, "{text}");
+    }
+    Ok(())
+}

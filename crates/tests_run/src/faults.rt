@@ -1,0 +1,33 @@
+use sendmail_run::{Fault, WordFault};
+use std::alloc::Global;
+use std::fmt::Display;
+use std::test::Fail;
+
+static WORDS: [(WordFault, &str); 3] = [
+    (WordFault::At(0), "bad word 0"),
+    (WordFault::At(4_294_967_295), "bad word 4294967295"),
+    (WordFault::NoMemory, "no memory"),
+];
+
+static LINES: [(Fault, &str); 4] = [
+    (Fault::NoTab, "NoTab"),
+    (Fault::TooManyMetas, "TooManyMetas"),
+    (Fault::BadReference, "BadReference"),
+    (Fault::NotYet, "NotYet"),
+];
+
+fn says(alloc: Global, fault: &impl Display, text: &str) -> Result<bool, Fail> {
+    let said = format!(in alloc; "{fault}")?;
+    Ok(said.as_str() == text)
+}
+
+#[test]
+fn faults_say_what_they_are(rt: HostRuntime) -> Result<(), Fail> {
+    for (fault, text) in &WORDS {
+        assert!(rt; says(rt.alloc(), fault, text)?, "{text}");
+    }
+    for (fault, text) in &LINES {
+        assert!(rt; says(rt.alloc(), fault, text)?, "{text}");
+    }
+    Ok(())
+}
