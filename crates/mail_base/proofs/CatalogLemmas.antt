@@ -1,11 +1,17 @@
 -- What setting a name in a catalog gives.
-use Rattle.std.proofs.Common.{◌≡◌, ◌≢◌, ℕ, zero, suc, ◌+◌, List, [], ◌∷◌, Bool, true, false, Some, take, bytes_eq, slice_get, refl, ap, sym, ◌∙◌, add-one, arith}
+use Rattle.std.proofs.Common.{◌≡◌, ◌≢◌, ℕ, zero, suc, ◌+◌, List, [], ◌∷◌, Bool, true, false, Some, take, bytes_eq, slice_get, refl, ap, sym, ◌∙◌, add-one, cond, arith}
 use Rattle.std.specs.List.{IsDistinct, AllByRecursion}
-use Rattle.std.specs.Map.{keys_of}
+use Rattle.std.specs.Map.{keys_of, set_value}
+use Rattle.std.specs.Borrow.{MutBor}
+use Rattle.std.specs.Option.{option_copied_mut}
+use Rattle.std.specs.Prelude.{Option, None, OnSome}
 use Rattle.std.specs.Cmp.Lexicographic.{nat_list_eq_equiv}
 use Rattle.std.proofs.lemmas.Slice.Eq.{bytes_eq-Decides}
 use Rattle.std.proofs.lemmas.Map.Keys.{IsDistinct-head, IsDistinct-tail}
-use Rattle.mail_base.specs.Catalogs.{value_at, with_value, SetsValue}
+use Rattle.std.proofs.lemmas.Map.Steps.{set_value_same}
+use Rattle.std.specs.Map.{lookup}
+use Rattle.std.specs.Str.{str_eq_ignore_ascii_case}
+use Rattle.mail_base.specs.Catalogs.{value_at, value_like, with_value, SetsValue}
 
 apart : (other name : List ℕ) → other ≢ name → bytes_eq other name ≡ false
 apart other name h = by (bytes_eq other name) refl
@@ -41,3 +47,35 @@ module _ {V : Type 0} where
 
   pub with_value_sets : (name : List ℕ) (v : V) (es : List (List ℕ × V)) → SetsValue name (Some v) es (with_value name v es)
   with_value_sets name v es = record { value = value-with_value name v es; others = λ other h. value-with_other name other v es h }
+
+  set_value-there : (name : List ℕ) (w v : V) (es : List (List ℕ × V)) → value_at name es ≡ Some v → set_value (bytes_eq name) es w ≡ with_value name w es
+  set_value-there name w v [] there = cc
+  set_value-there name w v (e ∷ es) there = let rest = set_value-there name w v es in grind (arith, rest)
+
+  -- the value that is there, set again, changes nothing
+  pub with_value_same : (name : List ℕ) (v : V) (es : List (List ℕ × V)) → value_at name es ≡ Some v → with_value name v es ≡ es
+  with_value_same name v es there = sym (set_value-there name v v es there) ∙ set_value_same (bytes_eq name) es v there
+
+  -- a value that is written in its place is set
+  pub written : (lent : Option (MutBor V)) (name : List ℕ) (w : V) (es new : List (List ℕ × V)) → option_copied_mut lent ≡ value_at name es → new ≡ set_value (bytes_eq name) es w → OnSome lent (new ≡ with_value name w es)
+  written None name w es new seen e = tt
+  written (Some r) name w es new seen e = e ∙ set_value-there name w r.now es (sym seen)
+
+  module _ (test : List ℕ → Bool) where
+    passed_by : (es : List (List ℕ × V)) (i : ℕ) (e : List ℕ × V) → slice_get es i ≡ Some e → lookup test (take i es) ≡ None → test e.0 ≡ false → lookup test (take (suc i) es) ≡ None
+    passed_by [] i e there none fails = cc
+    passed_by (x ∷ es) zero e there none fails = let q : x ≡ e = cc in ap (λ b. cond b (Some x.1) None) (ap (λ (y : List ℕ × V). test y.0) q ∙ fails)
+    passed_by (x ∷ es) (suc i) e there none fails = let rest = passed_by es i e there in grind (arith, rest)
+
+    found_at : (es : List (List ℕ × V)) (i : ℕ) (e : List ℕ × V) → slice_get es i ≡ Some e → lookup test (take i es) ≡ None → test e.0 ≡ true → lookup test es ≡ Some e.1
+    found_at [] i e there none passes = cc
+    found_at (x ∷ es) zero e there none passes = let q : x ≡ e = cc in ap (λ b. cond b (Some x.1) (lookup test es)) (ap (λ (y : List ℕ × V). test y.0) q ∙ passes) ∙ ap (λ (y : List ℕ × V). Some y.1) q
+    found_at (x ∷ es) (suc i) e there none passes = let rest = found_at es i e there in grind (arith, rest)
+
+  -- a name that differs is passed by
+  pub like_passed : (name : List ℕ) (es : List (List ℕ × V)) (i : ℕ) (e : List ℕ × V) → slice_get es i ≡ Some e → value_like name (take i es) ≡ None → str_eq_ignore_ascii_case name e.0 ≡ false → value_like name (take (i + 1) es) ≡ None
+  like_passed name es i e there none fails = rw add-one (passed_by (str_eq_ignore_ascii_case name) es i e there none fails)
+
+  -- the first name that doesn't has the value
+  pub like_found : (name : List ℕ) (es : List (List ℕ × V)) (i : ℕ) (e : List ℕ × V) → slice_get es i ≡ Some e → value_like name (take i es) ≡ None → str_eq_ignore_ascii_case name e.0 ≡ true → value_like name es ≡ Some e.1
+  like_found name es i e there none passes = found_at (str_eq_ignore_ascii_case name) es i e there none passes

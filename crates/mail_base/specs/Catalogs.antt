@@ -1,12 +1,17 @@
 -- Values by their names, as the list of their pairs in the order in which the names were first set.
 use Rattle.std.specs.Prelude.{◌≡◌, ◌≢◌, ℕ, List, [], ◌∷◌, Option, None, Some, bytes_eq, codes, refl}
 use Rattle.std.specs.Map.{lookup, remove_entry}
+use Rattle.std.specs.Str.{str_eq_ignore_ascii_case}
 use Rattle.indexmap.specs.IndexMap.{insert_entry}
 
 module _ {V : Type 0} where
   -- the value of the first pair with that name
   abbrev pub value_at : List ℕ → List (List ℕ × V) → Option V
   value_at name pairs = lookup (bytes_eq name) pairs
+
+  -- the value of the first pair with that name without ascii case
+  abbrev pub value_like : List ℕ → List (List ℕ × V) → Option V
+  value_like name pairs = lookup (str_eq_ignore_ascii_case name) pairs
 
   -- the pairs, with that value at that name: in its place, or last where the name is new
   abbrev pub with_value : List ℕ → V → List (List ℕ × V) → List (List ℕ × V)

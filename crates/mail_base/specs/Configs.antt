@@ -1,6 +1,6 @@
 -- The configuration before any line is read (Sendmail Operation Guide, the configuration file; the values of w, j and v, and some defaults, are our own).
 use Rattle.std.specs.Prelude.{ℕ, List, [], ◌∷◌, None, Some, false, codes}
-use Rattle.mail_base.specs.declared.classes.Member.{Member}
+use Rattle.mail_base.specs.declared.class.Member.{Member}
 use Rattle.mail_base.specs.declared.config.Config.{Config}
 use Rattle.mail_base.specs.declared.lines.MapClass.TheVariants.{Host}
 use Rattle.mail_base.specs.declared.lines.MapLine.{MapLine}
@@ -18,25 +18,6 @@ local_host = record { text = codes "localhost"; tokens = Some (Word (codes "loca
 
 abbrev pub first_classes : List (List ℕ × List Member)
 first_classes = (codes "w", local_host ∷ []) ∷ []
-
--- the group that is there from the start
-abbrev pub main_group : Group
-main_group = record { name = codes "mqueue"; path = codes "/var/spool/mqueue"; recipients = 0; runners = 1; interval = None; jobs = 0 }
-
--- the map that is there from the start: a name that is found gets a dot
-abbrev pub host_map : MapLine
-host_map = record {
-  name = codes "host";
-  class = Host;
-  keeps_case = false;
-  match_only = false;
-  tag = codes ".";
-  optional = false;
-  key_column = 0;
-  value_column = 1;
-  separator = None;
-  file = None;
-}
 
 -- the options where no O line sets them
 abbrev pub default_options : Options
@@ -59,6 +40,25 @@ default_options = record {
   class_factor = 1_800;
   retry_factor = 90_000;
   double_bounce_address = codes "postmaster";
+}
+
+-- the group that is there from the start, in the queue directory
+abbrev pub main_group : Group
+main_group = record { name = codes "mqueue"; path = default_options.queue_directory; recipients = 0; runners = 1; interval = None; jobs = 0 }
+
+-- the map that is there from the start: a name that is found gets a dot
+abbrev pub host_map : MapLine
+host_map = record {
+  name = codes "host";
+  class = Host;
+  keeps_case = false;
+  match_only = false;
+  tag = codes ".";
+  optional = false;
+  key_column = 0;
+  value_column = 1;
+  separator = None;
+  file = None;
 }
 
 -- the configuration before any line

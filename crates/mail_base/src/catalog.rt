@@ -1,6 +1,8 @@
 ghost use Rattle.std.specs.Prelude.{◌≡◌, ◌↔◌, [], ℕ, List, None, Some, IsTrue, OnOk, OnErr, length, slice_get};
-ghost use Rattle.std.specs.Option.{option_copied, option_map};
-ghost use Rattle.mail_base.specs.Catalogs.{value_at, with_value, without_name, SetsValue};
+ghost use Rattle.std.specs.Borrow.{sem};
+ghost use Rattle.std.specs.Option.{option_copied, option_copied_mut, option_map};
+ghost use Rattle.mail_base.specs.Catalogs.{value_at, value_like, with_value, without_name, SetsValue};
+ghost use Rattle.mail_base.specs.Lending.{LendsValue};
 
 use crate::{NoMemory, Text, TryCopy};
 use indexmap::IndexMap;
@@ -21,6 +23,8 @@ impl<V: Drop> Drop for Catalog<V> {
 }
 
 impl<V> Model for Catalog<V> {
+    ghost use Rattle.std.specs.Prelude.{List, ℕ};
+
     ghost Value = { List (List ℕ × V) };
 
     ghost view = { λ c. c.entries.entries };
@@ -55,11 +59,33 @@ impl<V> Catalog<V> {
         self.entries.get(name)
     }
 
+    /// The value of the first name that is equal without ASCII case. It takes no memory, and looks at one
+    /// name after another.
+    pub fn get_like(&self, name: &Text) -> Option<&V>
+        ensures { option_copied result ≡ value_like name.now self.now }
+    {
+        for index in 0..self.entries.len() {
+            let (key, value) = self.entries.get_index(index).unwrap();
+            if name.is_folded(key) {
+                return Some(value);
+            }
+        }
+        None
+    }
+
     /// The pair at a place, counted from 0, or `None` past the end.
     pub fn at(&self, index: usize) -> Option<(&Text, &V)>
         ensures { option_map (λ p. (p.0.now, p.1.now)) result ≡ slice_get self.now index }
     {
         self.entries.get_index(index)
+    }
+
+    /// The value at a name, to change in its place. It takes no memory.
+    pub fn get_mut(&mut self, name: &Text) -> Option<&mut V>
+        ensures* lends { sem 𝓛 (LendsValue V.row self.entry name.now result) }
+        ensures value { option_copied_mut result ≡ value_at name.now self.old }
+    {
+        self.entries.get_mut(name)
     }
 
     /// What the catalog takes its memory from.

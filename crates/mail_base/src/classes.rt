@@ -1,32 +1,26 @@
-ghost use Rattle.std.specs.Prelude.{◌≡◌, ◌++◌, ◌∷◌, [], Some, IfOk, OnOk, OnErr};
-ghost use Rattle.mail_base.specs.Catalogs.{value_at, with_value, members_of, SetsValue};
+ghost use Rattle.std.specs.Prelude.{◌≡◌, [], IfOk, OnOk, OnErr};
+ghost use Rattle.mail_base.specs.Catalogs.{value_at, with_value, members_of};
+ghost use Rattle.mail_base.specs.Classes.{with_members, is_phrase};
 
-use crate::{Catalog, NoMemory, Seq, Text, Token, TryCopy};
+use crate::class::Class;
+use crate::{Catalog, Member, NoMemory, Seq, Text, Token, TryCopy};
 use std::alloc::Global;
 use std::marker::Model;
-
-/// A member of a class.
-#[derive(Drop)]
-pub struct Member {
-    pub text: Text,
-    /// The tokens that the text is cut into, or `None` where it can't be cut.
-    pub tokens: Option<Seq<Token>>,
-}
 
 /// The classes with their members. A contract sees it as the list of the classes' names with their
 /// members, in the order in which the classes were first named.
 #[derive(Drop)]
 pub struct Classes {
-    members: Catalog<Seq<Member>>,
+    classes: Catalog<Class>,
 }
 
 impl Model for Classes {
     ghost use Rattle.std.specs.Prelude.{List, ℕ};
-    ghost use Rattle.mail_base.specs.declared.classes.Member.{Member};
+    ghost use Rattle.mail_base.specs.declared.class.Member.{Member};
 
     ghost Value = { List (List ℕ × List Member) };
 
-    ghost view = { λ c. c.members };
+    ghost view = { λ c. c.classes };
 }
 
 impl Classes {
@@ -35,7 +29,7 @@ impl Classes {
         ensures { result ≡ [] }
     {
         Classes {
-            members: Catalog::new(alloc),
+            classes: Catalog::new(alloc),
         }
     }
 
@@ -43,56 +37,51 @@ impl Classes {
     pub fn members(&self, name: &Text) -> &[Member]
         ensures { result.now ≡ members_of (value_at name.now self.now) }
     {
-        match self.members.get(name) {
-            Some(members) => members.items(),
+        match self.classes.get(name) {
+            Some(class) => class.members(),
             None => &[],
         }
     }
 
-    /// Gives a class its members; all others stay. After `NoMemory` the classes are as before.
-    pub fn set(&mut self, name: Text, members: Seq<Member>) -> Result<(), NoMemory>
-        ensures ok { OnOk result (self.new ≡ with_value name members self.old) }
-        ensures sets { OnOk result (SetsValue name (Some members) self.old self.new) }
-        ensures err { OnErr result (self.new ≡ self.old) }
+    /// Whether the tokens are those of a member of the class, without ASCII case. It takes no memory, and
+    /// its time is that of the tokens, however many members there are.
+    pub fn has_phrase(&self, name: &Text, tokens: &[Token]) -> bool
+        ensures { result ≡ is_phrase tokens.now (members_of (value_at name.now self.now)) }
     {
-        self.members.set(name, members)
-    }
-
-    /// Adds a member at the end of a class; all other classes stay. After `NoMemory` the classes are as
-    /// before. It copies the members that are there: for many members, collect them and `set` them.
-    pub fn add(&mut self, name: &Text, member: Member) -> Result<(), NoMemory>
-        ensures ok { OnOk result (self.new ≡ with_value name.now (members_of (value_at name.now self.old) ++ member ∷ []) self.old) }
-        ensures err { OnErr result (self.new ≡ self.old) }
-    {
-        let mut members = self.copied(name)?;
-        members.push(member)?;
-        self.members.set(name.copy()?, members)
-    }
-
-    // A copy of the members of a class.
-    fn copied(&self, name: &Text) -> Result<Seq<Member>, NoMemory>
-        ensures { IfOk result (λ members. members ≡ members_of (value_at name.now self.now)) }
-    {
-        match self.members.get(name) {
-            Some(members) => members.copy(),
-            None => Ok(Seq::new(self.members.allocator())),
+        match self.classes.get(name) {
+            Some(class) => class.has_phrase(tokens),
+            None => false,
         }
     }
-}
 
-impl TryCopy for Member {
-    fn copy(&self) -> Result<Member, NoMemory> {
-        Ok(Member {
-            text: self.text.copy()?,
-            tokens: self.tokens.copy()?,
-        })
+    /// Adds members to a class, in order: a member whose text is there already adds nothing. A class that
+    /// isn't there is named. All other classes stay. After `NoMemory` the classes are as before. Its time
+    /// is that of the members that are given.
+    pub fn extend(&mut self, name: &Text, more: Seq<Member>) -> Result<(), NoMemory>
+        ensures ok { OnOk result (self.new ≡ with_value name.now (with_members (members_of (value_at name.now self.old)) more) self.old) }
+        ensures err { OnErr result (self.new ≡ self.old) }
+    {
+        match self.classes.get_mut(name) {
+            Some(class) => class.extend(more),
+            None => self.begin(name, more),
+        }
+    }
+
+    // Names a class that isn't there.
+    fn begin(&mut self, name: &Text, members: Seq<Member>) -> Result<(), NoMemory>
+        ensures ok { OnOk result (self.new ≡ with_value name.now (with_members [] members) self.old) }
+        ensures err { OnErr result (self.new ≡ self.old) }
+    {
+        let mut class = Class::new(self.classes.allocator());
+        class.extend(members)?;
+        self.classes.set(name.copy()?, class)
     }
 }
 
 impl TryCopy for Classes {
     fn copy(&self) -> Result<Classes, NoMemory> {
         Ok(Classes {
-            members: self.members.copy()?,
+            classes: self.classes.copy()?,
         })
     }
 }

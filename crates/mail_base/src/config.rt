@@ -1,9 +1,9 @@
 ghost use Rattle.std.specs.Prelude.{◌≡◌, ◌∷◌, [], IfOk, OnOk, codes};
 ghost use Rattle.std.specs.Option.{option_copied};
-ghost use Rattle.std.specs.Str.{str_to_ascii_lowercase};
-ghost use Rattle.mail_base.specs.Catalogs.{value_at, with_value};
+ghost use Rattle.mail_base.specs.Catalogs.{value_like, with_value};
 ghost use Rattle.mail_base.specs.Configs.{initial, first_macros, first_classes, local_host, main_group, host_map};
 
+use crate::options::QUEUE_DIRECTORY;
 use crate::{
     Catalog, Classes, Group, HeaderLine, Macros, Mailer, MapClass, MapLine, Member, NoMemory,
     Options, Precedence, RuleSet, Seq, Text, Token, TryCopy,
@@ -68,12 +68,11 @@ impl Config {
         })
     }
 
-    /// The mailer of a name, without ASCII case.
-    pub fn mailer(&self, name: &Text) -> Result<Option<&Mailer>, NoMemory>
-        ensures { IfOk result (λ mailer. option_copied mailer ≡ value_at (str_to_ascii_lowercase name.now) self.now.mailers) }
+    /// The mailer of a name, without ASCII case. It takes no memory.
+    pub fn mailer(&self, name: &Text) -> Option<&Mailer>
+        ensures { option_copied result ≡ value_like name.now self.now.mailers }
     {
-        let name = name.folded()?;
-        Ok(self.mailers.get(&name))
+        self.mailers.get_like(name)
     }
 }
 
@@ -101,7 +100,7 @@ fn first_classes(alloc: Global) -> Result<Classes, NoMemory>
     let mut members = Seq::new(alloc);
     members.push(local_host(alloc)?)?;
     let mut classes = Classes::new(alloc);
-    classes.set(Text::of(alloc, b"w")?, members)?;
+    classes.extend(&Text::of(alloc, b"w")?, members)?;
     Ok(classes)
 }
 
@@ -129,7 +128,7 @@ fn main_group(alloc: Global) -> Result<Group, NoMemory>
 {
     Ok(Group {
         name: Text::of(alloc, b"mqueue")?,
-        path: Text::of(alloc, b"/var/spool/mqueue")?,
+        path: Text::of(alloc, QUEUE_DIRECTORY)?,
         recipients: 0,
         runners: 1,
         interval: None,

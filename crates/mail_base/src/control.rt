@@ -1,3 +1,6 @@
+ghost use Rattle.std.specs.Prelude.{◌≡◌};
+ghost use Rattle.mail_base.specs.States.{is_dead, is_finished, is_open, needs_body};
+
 use crate::{Id, Kept, Marks, NoMemory, Note, Seq, Status, Text, TryCopy};
 
 /// What became of a row.
@@ -76,6 +79,50 @@ pub struct Draft {
 pub struct Stray {
     pub dir: Text,
     pub name: Text,
+}
+
+impl State {
+    /// Whether something is still to be done for the row: it is tried, or awaits its return.
+    pub fn is_open(&self) -> bool
+        ensures { result ≡ is_open self.now }
+    {
+        matches!(self, State::Queued(_) | State::Failed(_, _))
+    }
+
+    /// Whether it failed as a row of a double bounce.
+    pub fn is_dead(&self) -> bool
+        ensures { result ≡ is_dead self.now }
+    {
+        matches!(self, State::Dead(_, _))
+    }
+}
+
+impl Control {
+    /// Whether every row is done. It takes no memory.
+    pub fn is_finished(&self) -> bool
+        ensures { result ≡ is_finished self.now }
+    {
+        self.rows.items().iter().all(|row| !row.state.is_open())
+    }
+
+    /// Whether the body is wanted: a row is open or dead. It takes no memory.
+    pub fn needs_body(&self) -> bool
+        ensures { result ≡ needs_body self.now }
+    {
+        self.rows
+            .items()
+            .iter()
+            .any(|row| row.state.is_open() || row.state.is_dead())
+    }
+}
+
+impl Entry {
+    /// Whether the entry is finished: every row is done. It takes no memory.
+    pub fn finished(&self) -> bool
+        ensures { result ≡ is_finished self.now.control }
+    {
+        self.control.is_finished()
+    }
 }
 
 impl TryCopy for State {

@@ -1,5 +1,8 @@
-ghost use Rattle.std.specs.Prelude.{IfOk};
-ghost use Rattle.mail_base.specs.Drawing.{Drawing, AreDrawn, HasAnswered, HasJudgeCause, IsAddress};
+ghost use Rattle.std.specs.Prelude.{◌≡◌, ℕ, List, IfOk};
+ghost use Rattle.mail_base.specs.Answering.{Answerer, HasAnswered, HasJudgeCause, TellsOne};
+ghost use Rattle.mail_base.specs.Drawing.{AreDrawn};
+ghost use Rattle.mail_base.specs.Texts.{IsAddress};
+ghost use Rattle.mail_base.specs.declared.draw.Draw.{Draw};
 
 use crate::{JudgeFault, NoMemory, Resolved, Seq, Text, TryCopy};
 use std::alloc::Global;
@@ -17,15 +20,19 @@ pub struct Draw {
 
 /// What draws the rows of the receiver of returned mail.
 pub trait Draws {
-    /// All that is seen of it.
-    ghost seen: { Self → Drawing };
+    /// Its count of faults, and whether it tells its answers.
+    ghost seen: { Self → Answerer };
+
+    /// The test of an answer: whether these rows are those of an address.
+    ghost answers: { Self → List ℕ → List Draw → Type 0 };
 
     /// The rows of a receiver: 1 to 10,000, each with the sender `<>`. A `FilesFault` comes only
     /// where the count of faults rose in this call.
     fn draw(&mut self, alloc: Global, address: &Text) -> Result<Seq<Draw>, JudgeFault>
         requires { IsAddress address.now }
         ensures rows { IfOk result AreDrawn }
-        ensures told { HasAnswered (seen self.old) (seen self.new) address.now result }
+        ensures told { HasAnswered (seen self.old) (seen self.new) (answers self.old) (answers self.new) address.now result }
+        ensures one { TellsOne (seen self.old) (answers self.old) address.now }
         ensures cause { HasJudgeCause (seen self.old).faults (seen self.new).faults result };
 }
 

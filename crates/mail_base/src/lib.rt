@@ -4,13 +4,17 @@
 #![tactic(auto)]
 
 mod bounded;
+mod byte;
 mod catalog;
+mod class;
 mod classes;
+mod command;
 mod config;
 mod control;
 mod draw;
 mod fault;
 mod id;
+mod limits;
 mod lines;
 mod macros;
 mod mailer;
@@ -27,13 +31,20 @@ mod text;
 mod token;
 mod try_copy;
 
+pub use byte::{is_blank, is_white};
 pub use catalog::Catalog;
-pub use classes::{Classes, Member};
+pub use class::Member;
+pub use classes::Classes;
+pub use command::{Command, LineFault, Verb};
 pub use config::Config;
 pub use control::{Control, Draft, Entry, Parent, Row, State, Stray};
 pub use draw::{Draw, Draws};
 pub use fault::{EdgeFault, Failed, JudgeFault, NoMemory, StoreFault};
 pub use id::{Id, Kind, Name};
+pub use limits::{
+    MOST_COMMAND, MOST_DOMAIN, MOST_HEADERS, MOST_LINE, MOST_LOCAL_PART, MOST_MESSAGE, MOST_PATH,
+    MOST_PIECE, MOST_RECIPIENTS, MOST_REPLY_LINE, MOST_REPLY_LINES, MOST_ROWS, MOST_SESSIONS,
+};
 pub use lines::{HeaderLine, MapClass, MapLine, Precedence};
 pub use macros::Macros;
 pub use mailer::{Group, Mailer};

@@ -1,8 +1,13 @@
 ghost use Rattle.std.specs.Prelude.{◌≡◌, IfOk};
 ghost use Rattle.mail_base.specs.Configs.{default_options};
+ghost use Rattle.mail_base.specs.Limits.{message_limit, recipient_limit};
 
+use crate::limits::{MOST_MESSAGE, MOST_RECIPIENTS};
 use crate::{NoMemory, Seq, Text, TryCopy};
 use std::alloc::Global;
+
+// The queue directory where no O line sets it.
+pub(crate) const QUEUE_DIRECTORY: &[u8] = b"/var/spool/mqueue";
 
 /// Where the daemon listens.
 #[derive(Drop)]
@@ -47,7 +52,7 @@ impl Options {
         ensures { IfOk result (λ options. options ≡ default_options) }
     {
         Ok(Options {
-            queue_directory: Text::of(alloc, b"/var/spool/mqueue")?,
+            queue_directory: Text::of(alloc, QUEUE_DIRECTORY)?,
             alias_files: Seq::new(alloc),
             hosts_file: Text::of(alloc, b"/etc/hosts")?,
             homes_file: None,
@@ -69,6 +74,28 @@ impl Options {
             retry_factor: 90_000,
             double_bounce_address: Text::of(alloc, b"postmaster")?,
         })
+    }
+
+    /// The most bytes of a message. It takes no memory.
+    #[tactic(auto, unfolding(crate::specs::Limits::most_message))]
+    pub fn message_limit(&self) -> u64
+        ensures { result ≡ message_limit self.now }
+    {
+        if self.max_message_size == 0 {
+            return MOST_MESSAGE;
+        }
+        self.max_message_size.min(MOST_MESSAGE)
+    }
+
+    /// The most recipients of a message. It takes no memory.
+    #[tactic(auto, unfolding(crate::specs::Limits::most_recipients))]
+    pub fn recipient_limit(&self) -> u64
+        ensures { result ≡ recipient_limit self.now }
+    {
+        if self.max_recipients_per_message == 0 {
+            return MOST_RECIPIENTS;
+        }
+        self.max_recipients_per_message
     }
 }
 

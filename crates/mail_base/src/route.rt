@@ -1,3 +1,6 @@
+ghost use Rattle.std.specs.Prelude.{◌≡◌};
+ghost use Rattle.mail_base.specs.Refusals.{cause_name};
+
 use crate::{NoMemory, Status, Text, TryCopy};
 
 /// Where an address goes.
@@ -59,6 +62,32 @@ pub struct RouteError {
 pub enum Resolved {
     Goes(Triple),
     Refuses(RouteError),
+}
+
+impl Cause {
+    /// The name that is printed for the cause: that of the variant alone. A list that grew too long in a
+    /// run and an address with too many tokens are both `Long`.
+    pub fn name(&self) -> &'static [u8]
+        ensures { result.now ≡ cause_name self.now }
+    {
+        match self {
+            Cause::Loop => b"Loop",
+            Cause::Deep => b"Deep",
+            Cause::Work => b"Work",
+            Cause::NoRuleset(_) => b"NoRuleset",
+            Cause::MapClass(_) => b"MapClass",
+            Cause::NoSuchMap(_) => b"NoSuchMap",
+            Cause::BadScan => b"BadScan",
+            Cause::Long => b"Long",
+            Cause::BadAddress => b"BadAddress",
+            Cause::LongAddress => b"Long",
+            Cause::NotResolved => b"NotResolved",
+            Cause::UnknownMailer(_) => b"UnknownMailer",
+            Cause::NoUser => b"NoUser",
+            Cause::FileMailer => b"FileMailer",
+            Cause::ErrorMailer => b"ErrorMailer",
+        }
+    }
 }
 
 impl TryCopy for Triple {

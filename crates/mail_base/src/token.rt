@@ -1,4 +1,13 @@
+ghost use Rattle.std.specs.Prelude.{◌≡◌, ◌↔◌, ◌∷◌, IsTrue, IfOk, fold};
+ghost use Rattle.std.specs.Cmp.{partial_equiv_from_equiv};
+ghost use Rattle.std.specs.Hash as fed;
+ghost use Rattle.std.specs.List.{flat_map};
+ghost use Rattle.std.specs.Str.{str_to_ascii_lowercase};
+ghost use Rattle.mail_base.specs.Tokens.{same_token, same_mark};
+ghost use Rattle.mail_base.specs.inner.TokenLaws.{same_equiv, fed_token, fed_alike, mark_number};
+
 use crate::{NoMemory, Text, TryCopy};
+use std::hash::{Hash, Hasher};
 
 /// A sign that a rule's right side may give: `$|`, `$#`, `$@`, `$:` and `$.`.
 #[derive(Clone, Copy, Debug, PartialEq, Eq)]
@@ -15,8 +24,9 @@ pub enum Mark {
     End,
 }
 
-/// A token of an address.
-#[derive(Debug, Drop, PartialEq, Eq)]
+/// A token of an address. Two tokens are equal where they are of one kind and their texts are equal
+/// without ASCII case, as rules compare them.
+#[derive(Debug, Drop)]
 pub enum Token {
     /// The longest run of bytes that are neither operators nor white space.
     Word(Text),
@@ -35,5 +45,62 @@ impl TryCopy for Token {
             Token::Op(byte) => Ok(Token::Op(*byte)),
             Token::Sign(mark) => Ok(Token::Sign(*mark)),
         }
+    }
+}
+
+impl PartialEq for Token {
+    ghost eq = { same_token };
+
+    ghost laws = { partial_equiv_from_equiv same_equiv };
+
+    fn eq(&self, other: &Token) -> bool {
+        match (self, other) {
+            (Token::Word(one), Token::Word(another)) => one.is_folded(another),
+            (Token::Quoted(one), Token::Quoted(another)) => one.is_folded(another),
+            (Token::Op(one), Token::Op(another)) => one.eq_ignore_ascii_case(another),
+            (Token::Sign(one), Token::Sign(another)) => one == another,
+            _ => false,
+        }
+    }
+}
+
+impl Eq for Token {
+    ghost laws = { same_equiv };
+}
+
+impl Hash for Token {
+    ghost hash_input = { fed_token };
+
+    ghost respects_eq = { fed_alike };
+
+    fn hash<H: Hasher>(&self, state: &mut H) {
+        match self {
+            Token::Word(text) => hash_folded(0, text.bytes(), state),
+            Token::Quoted(text) => hash_folded(1, text.bytes(), state),
+            Token::Op(byte) => hash_folded(2, &[*byte], state),
+            Token::Sign(mark) => hash_folded(3, &[number_of(*mark)], state),
+        }
+    }
+}
+
+// Feeds a kind, and bytes in small letters.
+fn hash_folded<H: Hasher>(kind: u8, bytes: &[u8], state: &mut H)
+    ensures { state.new ≡ fold H.write state.old (flat_map fed.u8 (kind ∷ str_to_ascii_lowercase bytes.now)) }
+{
+    state.write_u8(kind);
+    for byte in bytes {
+        state.write_u8(byte.to_ascii_lowercase());
+    }
+}
+
+fn number_of(mark: Mark) -> u8
+    ensures { result ≡ mark_number mark }
+{
+    match mark {
+        Mark::Alt => 0,
+        Mark::Mailer => 1,
+        Mark::Host => 2,
+        Mark::User => 3,
+        Mark::End => 4,
     }
 }

@@ -1,0 +1,104 @@
+-- What a class keeps when members are put in.
+use Rattle.std.proofs.Common.{◌≡◌, ℕ, ◌≤◌, List, [], ◌∷◌, ◌++◌, Bool, true, false, ◌||◌, Option, Vec, length, take, fold, refl, ap, sym, subst, append_assoc, ◌∙◌, arith, if◌then◌else◌}
+use Rattle.std.specs.List.{list_any, IsDistinct, AllByRecursion}
+use Rattle.std.specs.Cmp.{IsEquivalence}
+use Rattle.std.specs.Cmp.Lexicographic.{pointwise, lists_equiv, nat_list_eq_equiv}
+use Rattle.std.proofs.Math.Seq.{take-append_seam, take-length}
+use Rattle.std.proofs.lemmas.List.{append-nil, take-take, length-take}
+use Rattle.std.proofs.lemmas.Map.Keys.{IsDistinct-head, IsDistinct-tail}
+use Rattle.std.proofs.lemmas.List.Folds.{list_any-append}
+use Rattle.indexmap.specs.IndexSet.{insert_key}
+use Rattle.mail_base.specs.Classes.{is_cut_into, is_phrase, same_member, with_members}
+use Rattle.mail_base.specs.Tokens.{same_token, same_tokens}
+use Rattle.mail_base.specs.inner.Phrases.{HasPhrases, Keeps, is_among}
+use Rattle.mail_base.specs.inner.TokenLaws.{same_equiv}
+use Rattle.mail_base.specs.declared.class.Member.{Member}
+use Rattle.mail_base.specs.declared.token.Token.{Token}
+
+or_true : (b : Bool) → (b || true) ≡ true
+or_true true = refl
+or_true false = refl
+
+pub or_false : (b : Bool) → (b || false) ≡ b
+or_false true = refl
+or_false false = refl
+
+module _ {K : Type 0} where
+  pub keeps_all : (xs : List K) → Keeps xs xs
+  keeps_all xs = take-length xs
+
+  -- what grew twice has grown
+  pub keeps_join : (xs ys zs : List K) → Keeps xs ys → Keeps ys zs → Keeps xs zs
+  keeps_join xs ys zs first later =
+      let less : length xs ≤ length ys = omega (arith, length-take (length xs) ys, ap length first) in
+      sym (take-take (length xs) (length ys) zs less) ∙ ap (λ (l : List K). take (length xs) l) later ∙ first
+
+  keeps_either : (b : Bool) (ks : List K) (k : K) → Keeps ks (if b then ks else ks ++ k ∷ [])
+  keeps_either true ks k = take-length ks
+  keeps_either false ks k = take-append_seam ks (k ∷ [])
+
+  module _ (eq : K → K → Bool) where
+    -- what is there stands first when a key is put in
+    pub keeps_insert : (ks : List K) (k : K) → Keeps ks (insert_key eq ks k)
+    keeps_insert ks k = keeps_either (list_any (eq k) ks) ks k
+
+    module _ (p : K → Bool) (alike : (x y : K) → eq x y ≡ true → p x ≡ p y) where
+      any_alike : (k : K) (ks : List K) → list_any (eq k) ks ≡ true → p k ≡ true → list_any p ks ≡ true
+      any_alike k [] found passes = found
+      any_alike k (x ∷ ks) found passes = by (any_alike k ks) (eq k x) refl
+        where
+          by : (list_any (eq k) ks ≡ true → p k ≡ true → list_any p ks ≡ true) → (b : Bool) → eq k x ≡ b → list_any p (x ∷ ks) ≡ true
+          by rest true e = ap (λ b. b || list_any p ks) (sym (alike k x e) ∙ passes)
+          by rest false e = ap (λ b. p x || b) (rest (sym (ap (λ b. b || list_any (eq k) ks) e) ∙ found) passes) ∙ or_true (p x)
+
+      settled : (k : K) (ks : List K) → list_any (eq k) ks ≡ true → (b : Bool) → p k ≡ b → list_any p ks ≡ (list_any p ks || p k)
+      settled k ks found true e = let any = any_alike k ks found e in any ∙ sym (ap (λ b. b || p k) any)
+      settled k ks found false e = sym (or_false (list_any p ks)) ∙ ap (λ b. list_any p ks || b) (sym e)
+
+      -- a test that equal keys pass alike is passed by one more key where that passes
+      pub any-insert_key : (ks : List K) (k : K) → list_any p (insert_key eq ks k) ≡ (list_any p ks || p k)
+      any-insert_key ks k = by (list_any (eq k) ks) refl
+        where
+          by : (b : Bool) → list_any (eq k) ks ≡ b → list_any p (if b then ks else ks ++ k ∷ []) ≡ (list_any p ks || p k)
+          by true found = settled k ks found (p k) refl
+          by false new = list_any-append p ks (k ∷ []) ∙ ap (λ b. list_any p ks || b) (or_false (p k))
+
+module _ {K : Type 0} (eq : K → K → Bool) (symm : (x y : K) → eq x y ≡ eq y x) where
+  at_key : (x k : K) (done ks : List K) → AllByRecursion (λ y. eq x y ≡ false) (done ++ k ∷ ks) → eq x k ≡ false
+  at_key x k [] ks all = all.0
+  at_key x k (y ∷ done) ks all = at_key x k done ks all.1
+
+  apart_front : (done : List K) (k : K) (ks : List K) → IsDistinct eq (done ++ k ∷ ks) → list_any (eq k) done ≡ false
+  apart_front [] k ks distinct = refl
+  apart_front (x ∷ done) k ks distinct =
+      let here : eq k x ≡ false = symm k x ∙ at_key x k done ks (IsDistinct-head eq x (done ++ k ∷ ks) distinct) in
+      ap (λ b. b || list_any (eq k) done) here ∙ apart_front done k ks (IsDistinct-tail eq x (done ++ k ∷ ks) distinct)
+
+  -- distinct keys that are put in one after another stand as they were
+  collected : (done ks : List K) → IsDistinct eq (done ++ ks) → fold (insert_key eq) done ks ≡ done ++ ks
+  collected done [] distinct = sym (append-nil done)
+  collected done (k ∷ ks) distinct =
+      ap (λ b. fold (insert_key eq) (if b then done else done ++ k ∷ []) ks) (apart_front done k ks distinct)
+      ∙ collected (done ++ k ∷ []) ks (subst (IsDistinct eq) (sym (append_assoc done (k ∷ []) ks)) distinct)
+      ∙ append_assoc done (k ∷ []) ks
+
+-- the members of a class, put into an empty one
+pub all_again : (members : List Member) → IsDistinct same_member members → with_members [] members ≡ members
+all_again members distinct = collected same_member (λ one another. nat_list_eq_equiv.symm one.text another.text) [] members distinct
+
+-- the phrases with one more
+pub among_insert : {A : Type 0} (phrases : List (Vec Token A)) (phrase : Vec Token A) (tokens : List Token) → is_among (insert_key (λ (x y : Vec Token A). pointwise same_token x.items y.items) phrases phrase) tokens ≡ (is_among phrases tokens || same_tokens tokens phrase.items)
+among_insert {A} phrases phrase tokens =
+    let e : IsEquivalence (pointwise same_token) = lists_equiv same_equiv in
+    any-insert_key (λ (x y : Vec Token A). pointwise same_token x.items y.items) (λ (x : Vec Token A). same_tokens tokens x.items)
+    (λ x y same. e.symm tokens x.items ∙ e.congr x.items y.items tokens same ∙ e.symm y.items tokens) phrases phrase
+
+-- the phrases are those of the members, with one more of each
+pub indexed_put : {A : Type 0} (phrases more : List (Vec Token A)) (members : List Member) (member : Member) → ((t : List Token) → is_among more t ≡ (is_among phrases t || is_cut_into t member.tokens)) → HasPhrases phrases members → HasPhrases more (members ++ member ∷ [])
+indexed_put phrases more members member step has t =
+    let p : Member → Bool = λ m. is_cut_into t m.tokens in
+    step t ∙ ap (λ b. b || is_cut_into t member.tokens) (has t) ∙ ap (λ b. is_phrase t members || b) (sym (or_false (is_cut_into t member.tokens))) ∙ sym (list_any-append p members (member ∷ []))
+
+-- a member that isn't there is put last
+pub put_last : (members : List Member) (member : Member) → list_any (same_member member) members ≡ false → insert_key same_member members member ≡ members ++ member ∷ []
+put_last members member new = ap (λ b. if b then members else members ++ member ∷ []) new

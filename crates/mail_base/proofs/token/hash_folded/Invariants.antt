@@ -1,0 +1,8 @@
+use Rattle.std.proofs.Common.{◌≡◌, ◌∷◌, take, fold}
+use Rattle.std.specs.Hash as fed
+use Rattle.std.specs.List.{flat_map}
+use Rattle.std.specs.Str.{str_to_ascii_lowercase}
+use Rattle.mail_base.proofs.token.hash_folded.Given as goal
+
+abbrev pub invariant-loop-byte : goal.invariant-loop-byte
+invariant-loop-byte g l = l.state ≡ fold g.H.Hasher.write l.fn.state (flat_map fed.u8 (l.kind ∷ str_to_ascii_lowercase (take l.byte-index l.bytes)))

@@ -1,0 +1,34 @@
+-- The states of a row and of an entry (Sendmail Installation and Operation Guide, the queue; RFC 3461, section 6: a row is tried until it was sent, failed or was given up).
+use Rattle.std.specs.Prelude.{◌||◌, Bool, true, false, not, IsTrue}
+use Rattle.std.specs.List.{list_all, list_any}
+use Rattle.mail_base.specs.declared.control.Control.{Control}
+use Rattle.mail_base.specs.declared.control.Row.{Row}
+use Rattle.mail_base.specs.declared.control.State.{State}
+use Rattle.mail_base.specs.declared.control.State.TheVariants.{Queued, Sent, Failed, Returned, Dead}
+
+-- something is still to be done for it: it is tried, or awaits its return
+abbrev pub is_open : State → Bool
+is_open (Queued note) = true
+is_open Sent = false
+is_open (Failed status note) = true
+is_open (Returned id) = false
+is_open (Dead status note) = false
+
+-- a row of a double bounce that failed, whose body is kept
+abbrev pub is_dead : State → Bool
+is_dead (Queued note) = false
+is_dead Sent = false
+is_dead (Failed status note) = false
+is_dead (Returned id) = false
+is_dead (Dead status note) = true
+
+-- every row is done
+abbrev pub is_finished : Control → Bool
+is_finished control = list_all (λ row. not (is_open row.state)) control.rows
+
+-- the body of an entry is wanted while a row is open, and where one is dead
+abbrev pub needs_body : Control → Bool
+needs_body control = list_any (λ row. is_open row.state || is_dead row.state) control.rows
+
+abbrev pub NeedsBody : Control → Type 0
+NeedsBody control = IsTrue (needs_body control)

@@ -1,0 +1,46 @@
+-- The forms of texts (RFC 5321, sections 2.3.8 and 4.1.2; RFC 5322, sections 2.1 and 2.2.3; that a line is any bytes but its end is our own).
+use Rattle.std.specs.Prelude.{◌≡◌, ◌≢◌, ◌⊎◌, ◌||◌, ◌==◌, ◌++◌, ℕ, ◌+◌, ◌-◌, ◌<◌, Bool, List, [], ◌∷◌, All, length, slice_index, codes, refl}
+use Rattle.std.specs.Str.Lines.{lines}
+use Rattle.mail_base.specs.Notes.{IsLineByte}
+
+-- what ends a line of mail
+abbrev pub crlf : List ℕ
+crlf = 13 ∷ 10 ∷ []
+
+-- a space or a tab, as a test
+abbrev pub is_blank : ℕ → Bool
+is_blank b = b == 32 || b == 9
+
+-- a space or a tab
+abbrev pub IsBlank : ℕ → Type 0
+IsBlank b = (b ≡ 32) ⊎ (b ≡ 9)
+
+-- a text of one line has no LF
+abbrev pub IsLine : List ℕ → Type 0
+IsLine text = All (λ b. b ≢ 10) text
+
+-- a text that may stand within a reply has neither CR nor LF
+abbrev pub IsSaid : List ℕ → Type 0
+IsSaid text = All IsLineByte text
+
+-- a path in its angles, on one line
+pub record IsBracketed (path : List ℕ) : Type 0 where
+  pub line : IsLine path
+  pub opens : slice_index path 0 ≡ 60
+  pub closes : slice_index path (length path - 1) ≡ 62
+
+-- an address of a row is one line, and not empty
+pub record IsAddress (address : List ℕ) : Type 0 where
+  pub line : IsLine address
+  pub some : 0 < length address
+
+-- a header goes on in lines that begin with a blank: one follows each LF in it
+abbrev pub IsHeader : List ℕ → Type 0
+IsHeader header = (k : ℕ) → slice_index header k ≡ 10 → IsBlank (slice_index header (k + 1))
+
+-- the lines of a header: each ends at an LF, and a CR before that goes too
+abbrev pub lines_of_header : List ℕ → List (List ℕ)
+lines_of_header header = lines header
+
+example : lines_of_header (codes "To: a," ++ crlf ++ codes " b") ≡ codes "To: a," ∷ codes " b" ∷ []
+example = refl

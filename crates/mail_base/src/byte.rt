@@ -1,0 +1,17 @@
+ghost use Rattle.std.specs.Prelude.{◌≡◌};
+ghost use Rattle.mail_base.specs.Texts.{is_blank};
+ghost use Rattle.mail_base.specs.Whites.{is_white};
+
+/// Whether a byte is white space: it is at most a space, or 127.
+pub fn is_white(byte: u8) -> bool
+    ensures { result ≡ is_white byte }
+{
+    byte <= b' ' || byte == 127
+}
+
+/// Whether a byte is a space or a tab.
+pub fn is_blank(byte: u8) -> bool
+    ensures { result ≡ is_blank byte }
+{
+    byte == b' ' || byte == b'\t'
+}

@@ -1,0 +1,200 @@
+ghost use Rattle.std.specs.Prelude.{◌≡◌, ◌||◌, [], List, length, take, nat_eq, IfOk, OnOk, OnErr};
+ghost use Rattle.std.specs.Cmp.{on_equiv, on_per, partial_equiv_from_equiv};
+ghost use Rattle.std.specs.Cmp.Lexicographic.{nat_list_eq_equiv};
+ghost use Rattle.std.specs.Hash as fed;
+ghost use Rattle.mail_base.specs.Classes.{is_cut_into, is_phrase, with_member, with_members};
+ghost use Rattle.mail_base.specs.inner.Phrases.{HasPhrases, Keeps, is_among};
+
+use crate::{NoMemory, Seq, Text, Token, TryCopy};
+use indexmap::IndexSet;
+use std::alloc::Global;
+use std::hash::{Hash, Hasher};
+use std::marker::Model;
+
+/// A member of a class. Two are equal where their texts are.
+#[derive(Drop)]
+pub struct Member {
+    pub text: Text,
+    /// The tokens that the text is cut into, or `None` where it can't be cut.
+    pub tokens: Option<Seq<Token>>,
+}
+
+/// A class: its members, each once, and an index of their tokens. A contract sees it as the list of its members.
+pub(crate) struct Class {
+    members: IndexSet<Member>,
+    phrases: IndexSet<Vec<Token>>,
+}
+
+// Written out, since a caller's proof goes through the parts of a derived drop at each way out.
+impl Drop for Class {
+    fn drop(self) {
+        let Class {
+            members: _,
+            phrases: _,
+        } = self;
+    }
+}
+
+impl Model for Class {
+    ghost use Rattle.std.specs.Prelude.{List};
+    ghost use Rattle.mail_base.specs.declared.class.Member.{Member};
+
+    ghost Value = { List Member };
+
+    ghost use Rattle.mail_base.specs.inner.Phrases.{HasPhrases};
+
+    ghost view = { λ c. c.members.keys };
+
+    ghost invariant = { λ c. HasPhrases c.phrases.keys c.members.keys };
+}
+
+impl PartialEq for Member {
+    ghost use Rattle.mail_base.specs.Classes.{same_member};
+
+    ghost eq = { same_member };
+
+    ghost laws = { partial_equiv_from_equiv (on_equiv (λ m. m.text) nat_list_eq_equiv) };
+
+    fn eq(&self, other: &Member) -> bool {
+        self.text == other.text
+    }
+}
+
+impl Eq for Member {
+    ghost laws = { on_equiv (λ m. m.text) nat_list_eq_equiv };
+}
+
+impl Hash for Member {
+    ghost use Rattle.std.proofs.Common.{rules};
+    ghost use Rattle.std.specs.Cmp.Rules.{hashing};
+
+    ghost hash_input = { λ m. fed.slice fed.u8 m.text };
+
+    ghost respects_eq = { Prim.search (hashing, rules) };
+
+    fn hash<H: Hasher>(&self, state: &mut H) {
+        self.text.hash(state);
+    }
+}
+
+impl Class {
+    // A class without members. It takes no memory.
+    pub(crate) fn new(alloc: Global) -> Class
+        ensures { result ≡ [] }
+    {
+        Class {
+            members: IndexSet::new(alloc),
+            phrases: IndexSet::new(alloc),
+        }
+    }
+
+    pub(crate) fn members(&self) -> &[Member]
+        ensures { result.now ≡ self.now }
+    {
+        self.members.as_slice()
+    }
+
+    // Whether the tokens are those of a member, without ASCII case. It takes no memory.
+    pub(crate) fn has_phrase(&self, tokens: &[Token]) -> bool
+        ensures { result ≡ is_phrase tokens.now self.now }
+    {
+        self.phrases.contains(tokens)
+    }
+
+    // Adds the members that aren't there, in order. After `NoMemory` the class is as before.
+    pub(crate) fn extend(&mut self, more: Seq<Member>) -> Result<(), NoMemory>
+        ensures ok { OnOk result (self.new ≡ with_members self.old more) }
+        ensures err { OnErr result (self.new ≡ self.old) }
+    {
+        let members = self.members.len();
+        let phrases = self.phrases.len();
+        if let Err(error) = put_all(&mut self.members, &mut self.phrases, more) {
+            self.members.truncate(members);
+            self.phrases.truncate(phrases);
+            return Err(error);
+        }
+        Ok(())
+    }
+}
+
+// Puts in the members that aren't there. After `NoMemory` some may have been put at the ends.
+fn put_all(
+    members: &mut IndexSet<Member>,
+    phrases: &mut IndexSet<Vec<Token>>,
+    more: Seq<Member>,
+) -> Result<(), NoMemory>
+    ensures members_stay { Keeps members.old.keys members.new.keys }
+    ensures phrases_stay { Keeps phrases.old.keys phrases.new.keys }
+    ensures ok { OnOk result (members.new.keys ≡ with_members members.old.keys more) }
+    ensures indexed { OnOk result (HasPhrases phrases.old.keys members.old.keys → HasPhrases phrases.new.keys members.new.keys) }
+{
+    for member in more.into_vec() {
+        put(members, phrases, member)?;
+    }
+    Ok(())
+}
+
+// Puts in a member, unless it is there.
+fn put(
+    members: &mut IndexSet<Member>,
+    phrases: &mut IndexSet<Vec<Token>>,
+    member: Member,
+) -> Result<(), NoMemory>
+    ensures members_stay { Keeps members.old.keys members.new.keys }
+    ensures phrases_stay { Keeps phrases.old.keys phrases.new.keys }
+    ensures ok { OnOk result (members.new.keys ≡ with_member members.old.keys member) }
+    ensures indexed { OnOk result (HasPhrases phrases.old.keys members.old.keys → HasPhrases phrases.new.keys members.new.keys) }
+{
+    if members.contains(&member) {
+        return Ok(());
+    }
+    put_phrase(phrases, &member.tokens)?;
+    members.insert(member)?;
+    Ok(())
+}
+
+// Puts in the tokens of a member, if it has any.
+fn put_phrase(
+    phrases: &mut IndexSet<Vec<Token>>,
+    tokens: &Option<Seq<Token>>,
+) -> Result<(), NoMemory>
+    ensures phrases_stay { Keeps phrases.old.keys phrases.new.keys }
+    ensures indexed { OnOk result ((t : List Token) → is_among phrases.new.keys t ≡ (is_among phrases.old.keys t || is_cut_into t tokens.now)) }
+{
+    match tokens {
+        None => Ok(()),
+        Some(tokens) => {
+            let phrase = tokens.copy()?.into_vec();
+            phrases.insert(phrase)?;
+            Ok(())
+        }
+    }
+}
+
+impl TryCopy for Member {
+    fn copy(&self) -> Result<Member, NoMemory> {
+        Ok(Member {
+            text: self.text.copy()?,
+            tokens: self.tokens.copy()?,
+        })
+    }
+}
+
+impl TryCopy for Class {
+    fn copy(&self) -> Result<Class, NoMemory> {
+        let alloc = *self.members.allocator();
+        let mut copied = Class::new(alloc);
+        copied.extend(copies(alloc, self.members.as_slice())?)?;
+        Ok(copied)
+    }
+}
+
+fn copies(alloc: Global, members: &[Member]) -> Result<Seq<Member>, NoMemory>
+    ensures { IfOk result (λ copied. copied ≡ members.now) }
+{
+    let mut copied = Seq::new(alloc);
+    for member in members {
+        copied.push(member.copy()?)?;
+    }
+    Ok(copied)
+}
