@@ -107,12 +107,14 @@ fn member(alloc: Global) -> Result<Member, NoMemory> {
 
 fn add_members(alloc: Global, classes: &mut Classes) -> Result<(), NoMemory> {
     let name = Text::of(alloc, b"w")?;
-    classes.add(&name, member(alloc)?)?;
+    let mut members = Seq::new(alloc);
+    members.push(member(alloc)?)?;
     let uncut = Member {
         text: Text::of(alloc, b"\"")?,
         tokens: None,
     };
-    classes.add(&name, uncut)
+    members.push(uncut)?;
+    classes.extend(&name, members)
 }
 
 /// The class of a map, by its place below.
@@ -475,7 +477,7 @@ static MAILERS: [(&[u8], Option<&[u8]>); 6] = [
 ];
 
 fn names(config: &Config, name: &Text, path: Option<&[u8]>) -> Result<bool, NoMemory> {
-    match (config.mailer(name)?, path) {
+    match (config.mailer(name), path) {
         (Some(mailer), Some(path)) => Ok(mailer.path.bytes() == path),
         (None, None) => Ok(true),
         _ => Ok(false),

@@ -1,7 +1,5 @@
-ghost use Rattle.std.specs.Prelude.{◌≡◌, ◌∷◌, [], true, map, IfOk};
-ghost use Rattle.mail_base.specs.Drawing.{null_sender};
-
-use mail_base::{Draw, Draws, JudgeFault, NoMemory, Resolved, Script, Seq, Text, Triple, TryCopy};
+use crate::Itself;
+use mail_base::{Draws, JudgeFault, NoMemory, Script, Seq, Text, TryCopy};
 use std::alloc::Global;
 use std::test::Fail;
 
@@ -56,39 +54,6 @@ fn listed_calls_fail(rt: HostRuntime) -> Result<(), Fail> {
         assert!(rt; is_followed(rt.alloc(), failing, calls)?);
     }
     Ok(())
-}
-
-/// Draws the receiver itself, and tells so.
-#[derive(Drop)]
-struct Itself;
-
-impl Draws for Itself {
-    ghost use Rattle.std.specs.Prelude.{◌≡◌, ◌∷◌, [], true, map};
-
-    ghost seen = { λ _. record { faults = 0; tells = true; Answers = λ address rows. map (λ row. row.address) rows ≡ address ∷ [] } };
-
-    fn draw(&mut self, alloc: Global, address: &Text) -> Result<Seq<Draw>, JudgeFault> {
-        let mut rows = Seq::new(alloc);
-        rows.push(row_of(alloc, address)?)?;
-        Ok(rows)
-    }
-}
-
-fn row_of(alloc: Global, address: &Text) -> Result<Draw, NoMemory>
-    ensures address { IfOk result (λ row. row.address ≡ address.now) }
-    ensures sender { IfOk result (λ row. row.sender ≡ null_sender) }
-{
-    let resolved = Resolved::Goes(Triple {
-        mailer: Text::new(alloc),
-        host: Text::new(alloc),
-        user: address.copy()?,
-    });
-    Ok(Draw {
-        address: address.copy()?,
-        sender: Text::of(alloc, b"<>")?,
-        primary: true,
-        resolved,
-    })
 }
 
 fn drawn(alloc: Global) -> Result<usize, JudgeFault> {

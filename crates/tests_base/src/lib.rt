@@ -2,6 +2,10 @@
 //! libraries, which a check would else prove twice.
 #![tactic(auto)]
 
+mod drawing;
+
+#[cfg(test)]
+mod classes;
 #[cfg(test)]
 mod configs;
 #[cfg(test)]
@@ -22,3 +26,5 @@ mod rules;
 mod spools;
 #[cfg(test)]
 mod texts;
+
+pub use drawing::Itself;

@@ -265,10 +265,16 @@ fn plain(alloc: Global, text: &[u8]) -> Result<Member, NoMemory> {
     })
 }
 
+fn one(member: Member) -> Result<Seq<Member>, NoMemory> {
+    let mut members = Seq::new(member.text.allocator());
+    members.push(member)?;
+    Ok(members)
+}
+
 fn classes(alloc: Global, name: &Text) -> Result<Classes, NoMemory> {
     let mut classes = Classes::new(alloc);
-    classes.add(name, plain(alloc, b"x")?)?;
-    classes.add(name, plain(alloc, b"Y")?)?;
+    classes.extend(name, one(plain(alloc, b"x")?)?)?;
+    classes.extend(name, one(plain(alloc, b"Y")?)?)?;
     Ok(classes)
 }
 

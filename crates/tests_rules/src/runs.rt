@@ -64,9 +64,23 @@ fn run_rules(rules: Seq<Rule>, tokens: &Seq<Token>) -> Result<Result<Ran, RunFau
     run_set(&config_of_rules(rules)?, "sET", tokens)
 }
 
+// Tokens are equal without case: here their texts are to be the same.
+fn is_same(token: &Token, wanted: &Token) -> bool {
+    match (token, wanted) {
+        (Token::Word(text), Token::Word(other)) => text == other,
+        (Token::Quoted(text), Token::Quoted(other)) => text == other,
+        _ => token == wanted,
+    }
+}
+
+fn are_same(tokens: &[Token], wanted: &[Token]) -> bool {
+    let mut pairs = tokens.iter().zip(wanted.iter());
+    tokens.len() == wanted.len() && pairs.all(|pair| is_same(pair.0, pair.1))
+}
+
 fn is_given(given: &Result<Ran, RunFault>, tokens: &Seq<Token>, work: u32) -> bool {
     match given {
-        Ok(ran) => ran.tokens == *tokens && ran.work == work,
+        Ok(ran) => are_same(ran.tokens.items(), tokens.items()) && ran.work == work,
         Err(_) => false,
     }
 }
