@@ -222,15 +222,15 @@ fn are_cut(cuts: &[Cut]) -> bool {
     }
 }
 
-fn is_back(alloc: Global) -> Result<bool, Fail> {
-    let back = back(alloc)?;
+fn goes_back(back: &Back) -> Result<bool, NoMemory> {
     let copied = back.copy()?;
     Ok(is_bounce(&copied.message) && are_cut(copied.cuts.items()))
 }
 
 #[test]
 fn messages_go_back_in_cuts(rt: HostRuntime) -> Result<(), Fail> {
-    assert!(rt; is_back(rt.alloc())?);
+    let back = back(rt.alloc())?;
+    assert!(rt; goes_back(&back)?);
     Ok(())
 }
 
@@ -346,16 +346,19 @@ fn entry(alloc: Global) -> Result<Entry, Fail> {
     })
 }
 
-fn is_entry(alloc: Global) -> Result<bool, Fail> {
-    let entry = entry(alloc)?;
+fn is_entry(entry: &Entry) -> bool {
+    entry.id == Id::new(7) && entry.dir.bytes() == b"/q".as_slice() && is_child(&entry.control)
+}
+
+fn is_entry_copied(entry: &Entry) -> Result<bool, NoMemory> {
     let copied = entry.copy()?;
-    let is_entry = copied.id == Id::new(7) && copied.dir.bytes() == b"/q".as_slice();
-    Ok(is_entry && is_child(&copied.control))
+    Ok(is_entry(&copied))
 }
 
 #[test]
 fn entries_are_copied(rt: HostRuntime) -> Result<(), Fail> {
-    assert!(rt; is_entry(rt.alloc())?);
+    let entry = entry(rt.alloc())?;
+    assert!(rt; is_entry_copied(&entry)?);
     Ok(())
 }
 
@@ -374,26 +377,36 @@ fn stray(alloc: Global) -> Result<Stray, NoMemory> {
     })
 }
 
-fn is_draft(alloc: Global, id: Option<Id>) -> Result<bool, Fail> {
-    let draft = draft(alloc, id)?;
-    let copied = draft.copy()?;
-    let is_draft = copied.id == id && copied.dir.bytes() == b"/q/bulk".as_slice();
-    Ok(is_draft && is_child(&copied.control))
+fn is_draft(draft: &Draft, id: Option<Id>) -> bool {
+    draft.id == id && draft.dir.bytes() == b"/q/bulk".as_slice() && is_child(&draft.control)
 }
 
-fn is_stray(alloc: Global) -> Result<bool, NoMemory> {
-    let stray = stray(alloc)?;
+fn is_draft_copied(draft: &Draft, id: Option<Id>) -> Result<bool, NoMemory> {
+    let copied = draft.copy()?;
+    Ok(is_draft(&copied, id))
+}
+
+fn is_stray(stray: &Stray) -> bool {
+    stray.dir.bytes() == b"/q".as_slice() && stray.name.bytes() == b"qfAAA123".as_slice()
+}
+
+fn is_stray_copied(stray: &Stray) -> Result<bool, NoMemory> {
     let copied = stray.copy()?;
-    let is_dir = copied.dir.bytes() == b"/q".as_slice();
-    Ok(is_dir && copied.name.bytes() == b"qfAAA123".as_slice())
+    Ok(is_stray(&copied))
+}
+
+fn copies_draft(alloc: Global, id: Option<Id>) -> Result<bool, Fail> {
+    let draft = draft(alloc, id)?;
+    Ok(is_draft_copied(&draft, id)?)
 }
 
 #[test]
 fn drafts_and_strays_are_copied(rt: HostRuntime) -> Result<(), Fail> {
     for id in [None, Some(Id::new(3))] {
-        assert!(rt; is_draft(rt.alloc(), id)?);
+        assert!(rt; copies_draft(rt.alloc(), id)?);
     }
-    assert!(rt; is_stray(rt.alloc())?);
+    let stray = stray(rt.alloc())?;
+    assert!(rt; is_stray_copied(&stray)?);
     Ok(())
 }
 
