@@ -33,7 +33,6 @@ pub struct Parent {
 }
 
 /// What the control file of an entry says.
-#[derive(Drop)]
 pub struct Control {
     pub revision: u64,
     /// `None` where the entry is no child.
@@ -55,6 +54,28 @@ pub struct Control {
     pub rows: Seq<Row>,
     /// Each with its continuation lines, without the last line's end.
     pub headers: Seq<Text>,
+}
+
+// Written out, since a caller's proof goes through the parts of a derived drop at each way out.
+impl Drop for Control {
+    fn drop(self) {
+        let Control {
+            revision: _,
+            parent: _,
+            group: _,
+            created: _,
+            last_try: _,
+            tries: _,
+            priority: _,
+            class: _,
+            marks: _,
+            eight: _,
+            sender: _,
+            kept: _,
+            rows: _,
+            headers: _,
+        } = self;
+    }
 }
 
 /// An entry of the queue.

@@ -1,7 +1,6 @@
 use crate::{NoMemory, Seq, Text, TryCopy};
 
 /// A mailer, as an M line declares it.
-#[derive(Drop)]
 pub struct Mailer {
     pub name: Text,
     /// P, the program, `[IPC]`, `[TCP]` or `[FILE]`.
@@ -26,6 +25,26 @@ pub struct Mailer {
     pub group: Option<Text>,
     /// r, the most rows of a batch; at least 1.
     pub batch: u64,
+}
+
+// Written out, since a caller's proof goes through the parts of a derived drop at each way out.
+impl Drop for Mailer {
+    fn drop(self) {
+        let Mailer {
+            name: _,
+            path: _,
+            flags: _,
+            envelope_from: _,
+            header_from: _,
+            envelope_to: _,
+            header_to: _,
+            args: _,
+            line_end: _,
+            most: _,
+            group: _,
+            batch: _,
+        } = self;
+    }
 }
 
 /// A queue group, as a Q line declares it.

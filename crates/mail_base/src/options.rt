@@ -18,7 +18,6 @@ pub struct DaemonPort {
 }
 
 /// The options. Times are in seconds.
-#[derive(Drop)]
 pub struct Options {
     pub queue_directory: Text,
     /// The alias files, in order.
@@ -44,6 +43,32 @@ pub struct Options {
     pub class_factor: u64,
     pub retry_factor: u64,
     pub double_bounce_address: Text,
+}
+
+// Written out, since a caller's proof goes through the parts of a derived drop at each way out.
+impl Drop for Options {
+    fn drop(self) {
+        let Options {
+            queue_directory: _,
+            alias_files: _,
+            hosts_file: _,
+            homes_file: _,
+            operator_chars: _,
+            daemon_port: _,
+            max_daemon_sessions: _,
+            queue_return: _,
+            queue_warn: _,
+            min_queue_age: _,
+            max_hop_count: _,
+            max_alias_recursion: _,
+            max_message_size: _,
+            max_recipients_per_message: _,
+            recipient_factor: _,
+            class_factor: _,
+            retry_factor: _,
+            double_bounce_address: _,
+        } = self;
+    }
 }
 
 impl Options {
