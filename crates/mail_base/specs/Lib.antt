@@ -1,4 +1,6 @@
 pub mod Answering
+pub mod Buckets
+pub mod Candidates
 pub mod Catalogs
 pub mod Causes
 pub mod Classes
@@ -11,6 +13,7 @@ pub mod Metas
 pub mod Names
 pub mod Notes
 pub mod Refusals
+pub mod Rulesets
 pub mod Scripts
 pub mod States
 pub mod Texts

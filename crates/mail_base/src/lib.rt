@@ -4,6 +4,7 @@
 #![tactic(auto)]
 
 mod bounded;
+mod buckets;
 mod byte;
 mod catalog;
 mod class;
@@ -31,6 +32,7 @@ mod text;
 mod token;
 mod try_copy;
 
+pub use buckets::Buckets;
 pub use byte::{is_blank, is_white};
 pub use catalog::Catalog;
 pub use class::Member;
@@ -53,7 +55,7 @@ pub use note::Note;
 pub use options::{DaemonPort, Options};
 pub use outcome::{Outcomes, Result1};
 pub use route::{Cause, Resolved, RouteError, Triple};
-pub use rule::{Go, Item, Pattern, Piece, Rule, RuleSet, Step, Template};
+pub use rule::{Go, Item, Numbered, Pattern, Piece, Rule, RuleSet, Step, Template};
 pub use script::Script;
 pub use seq::Seq;
 pub use status::Status;

@@ -1,7 +1,10 @@
-ghost use Rattle.std.specs.Prelude.{◌≡◌, ◌≤◌, ◌↔◌, IfSome, IsSome, count_by};
+ghost use Rattle.std.specs.Prelude.{◌≡◌, ◌≤◌, ◌↔◌, ◌++◌, ◌∷◌, [], IfSome, IsSome, OnOk, OnErr, count_by, length, slice_get};
+ghost use Rattle.std.specs.List.{list_any};
+ghost use Rattle.std.specs.Option.{option_copied};
+ghost use Rattle.mail_base.specs.Candidates.{anchor, anchored, first_word, first_exact, free, is_late, or_else};
 ghost use Rattle.mail_base.specs.Metas.{is_meta};
 
-use crate::{NoMemory, Seq, Text, Token, TryCopy};
+use crate::{Buckets, NoMemory, Seq, Text, Token, TryCopy};
 use std::marker::Model;
 
 /// An item of a rule's left side.
@@ -94,11 +97,19 @@ pub struct Rule {
     pub right: Template,
 }
 
-/// A ruleset: its names, which are compared without ASCII case, and its rules in order.
+/// A rule with its number in its ruleset, counted from 0.
 #[derive(Drop)]
-pub struct RuleSet {
-    pub names: Seq<Text>,
-    pub rules: Seq<Rule>,
+pub struct Numbered {
+    pub number: u32,
+    pub rule: Rule,
+}
+
+/// Where a rule stands: in the bucket of an anchor or, with `None`, among those without one, and at
+/// which place there.
+#[derive(Clone, Copy)]
+pub struct Slot {
+    pub bucket: Option<usize>,
+    pub place: usize,
 }
 
 impl Item {
@@ -135,6 +146,61 @@ impl Pattern {
     {
         self.items.items()
     }
+
+    /// The token that a list of tokens must hold to match: the first of these that is a word, or else
+    /// the first. `None` where no token stands for itself, and where the pattern has a `$&x`, whose value
+    /// may be one that can't be cut.
+    pub fn anchor(&self) -> Option<&Token>
+        ensures { option_copied result ≡ anchor self.now }
+    {
+        if has_late(&self.items) {
+            None
+        } else {
+            word_or_token(&self.items)
+        }
+    }
+}
+
+fn has_late(items: &Seq<Item>) -> bool
+    ensures { result ≡ list_any is_late items.now }
+{
+    items
+        .items()
+        .iter()
+        .any(|item| matches!(item, Item::Late(_)))
+}
+
+fn word_or_token(items: &Seq<Item>) -> Option<&Token>
+    ensures { option_copied result ≡ or_else (first_word items.now) (first_exact items.now) }
+{
+    if let Some(word) = first_word(items.items()) {
+        return Some(word);
+    }
+    first_exact(items.items())
+}
+
+fn first_word(items: &[Item]) -> Option<&Token>
+    ensures { option_copied result ≡ first_word items.now }
+{
+    for item in items {
+        if let Item::Exact(token) = item {
+            if let Token::Word(_) = token {
+                return Some(token);
+            }
+        }
+    }
+    None
+}
+
+fn first_exact(items: &[Item]) -> Option<&Token>
+    ensures { option_copied result ≡ first_exact items.now }
+{
+    for item in items {
+        if let Item::Exact(token) = item {
+            return Some(token);
+        }
+    }
+    None
 }
 
 impl TryCopy for Item {
@@ -204,6 +270,74 @@ impl TryCopy for Rule {
             left: self.left.copy()?,
             right: self.right.copy()?,
         })
+    }
+}
+
+/// A ruleset: its names, which are compared without ASCII case, and its rules in order. It keeps the
+/// rules in buckets by anchor. A contract sees it as a record of the names and the rules.
+#[derive(Drop)]
+pub struct RuleSet {
+    names: Seq<Text>,
+    rules: Buckets,
+}
+
+impl Model for RuleSet {
+    ghost use Rattle.mail_base.specs.Rulesets.{Ruled};
+
+    ghost Value = { Ruled };
+
+    ghost view = { λ s. record { names = s.names; rules = s.rules } };
+}
+
+impl RuleSet {
+    /// The ruleset of these names and rules. It takes no memory.
+    pub fn of(names: Seq<Text>, rules: Buckets) -> RuleSet
+        ensures { result ≡ record { names = names; rules = rules } }
+    {
+        RuleSet { names, rules }
+    }
+
+    pub fn names(&self) -> &[Text]
+        ensures { result.now ≡ self.now.names }
+    {
+        self.names.items()
+    }
+
+    /// The number of rules. It takes no memory.
+    pub fn count(&self) -> u32
+        ensures { result ≡ length self.now.rules }
+    {
+        self.rules.count()
+    }
+
+    /// The rule of a number, counted from 0, or `None` past the end.
+    pub fn rule(&self, number: u32) -> Option<&Rule>
+        ensures { option_copied result ≡ slice_get self.now.rules number }
+    {
+        self.rules.rule(number)
+    }
+
+    /// The rules with an anchor, without ASCII case, with their numbers in ascending order.
+    pub fn anchored(&self, anchor: &Token) -> &[Numbered]
+        ensures { result.now ≡ anchored anchor.now self.now.rules }
+    {
+        self.rules.anchored(anchor)
+    }
+
+    /// The rules without an anchor, with their numbers in ascending order.
+    pub fn free(&self) -> &[Numbered]
+        ensures { result.now ≡ free self.now.rules }
+    {
+        self.rules.free()
+    }
+
+    /// Adds a rule at the end. After `NoMemory` the ruleset is as before; it is answered after 2^32 - 1
+    /// rules too.
+    pub fn push(&mut self, rule: Rule) -> Result<(), NoMemory>
+        ensures ok { OnOk result (self.new ≡ record self.old { rules = self.old.rules ++ rule ∷ [] }) }
+        ensures err { OnErr result (self.new ≡ self.old) }
+    {
+        self.rules.push(rule)
     }
 }
 

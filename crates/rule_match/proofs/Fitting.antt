@@ -6,7 +6,8 @@ use Rattle.std.proofs.lemmas.Bool.{and_parts, and_from}
 use Rattle.mail_base.specs.declared.token.Token.{Token}
 use Rattle.mail_base.specs.declared.rule.Item.{Item}
 use Rattle.mail_base.specs.declared.rule.Item.TheVariants.{Any, More, One, Empty, InClass, NotInClass, Exact, Late}
-use Rattle.rule_match.specs.Items.{meets, same_token, is_one}
+use Rattle.mail_base.specs.Tokens.{same_token}
+use Rattle.rule_match.specs.Items.{meets, is_one}
 use Rattle.rule_match.specs.Choices.{Fits}
 use Rattle.rule_match.specs.Steps.{is_fixed, front_stands}
 

@@ -1,28 +1,9 @@
 -- What an item of a rule's left side matches (Sendmail Operation Guide, R and S: rewriting rules).
 use Rattle.std.specs.Prelude.{List, [], ◌∷◌, Bool, true, false}
-use Rattle.std.specs.Str.{str_eq_ignore_ascii_case}
 use Rattle.mail_base.specs.declared.token.Token.{Token}
-use Rattle.mail_base.specs.declared.token.Token.TheVariants.{Word, Quoted, Op, Sign}
-use Rattle.mail_base.specs.declared.token.Mark.{Mark}
-use Rattle.mail_base.specs.declared.token.Mark.TheVariants.{Alt, Mailer, Host, User, End}
 use Rattle.mail_base.specs.declared.rule.Item.{Item}
 use Rattle.mail_base.specs.declared.rule.Item.TheVariants.{Any, More, One, Exact}
-
-abbrev pub same_mark : Mark → Mark → Bool
-same_mark Alt Alt = true
-same_mark Mailer Mailer = true
-same_mark Host Host = true
-same_mark User User = true
-same_mark End End = true
-same_mark _ _ = false
-
--- tokens of one kind compare without ascii case, and those of two kinds are never the same
-abbrev pub same_token : Token → Token → Bool
-same_token (Word one) (Word another) = str_eq_ignore_ascii_case one another
-same_token (Quoted one) (Quoted another) = str_eq_ignore_ascii_case one another
-same_token (Op one) (Op another) = str_eq_ignore_ascii_case (one ∷ []) (another ∷ [])
-same_token (Sign one) (Sign another) = same_mark one another
-same_token _ _ = false
+use Rattle.mail_base.specs.Tokens.{same_token}
 
 -- whether the tokens are one token, and that passes the test
 abbrev pub is_one : (Token → Bool) → List Token → Bool

@@ -1,6 +1,6 @@
 ghost use Rattle.std.specs.Prelude.{◌≡◌, ◌≤◌, length, take, drop};
 ghost use Rattle.std.specs.List.{list_all};
-ghost use Rattle.rule_match.specs.Items.{meets, is_binding, is_plain, same_token};
+ghost use Rattle.rule_match.specs.Items.{meets, is_binding, is_plain};
 
 use mail_base::{Item, Pattern, Token};
 
@@ -17,19 +17,6 @@ fn is_plain_item(item: &Item) -> bool
     matches!(item, Item::Any | Item::More | Item::One | Item::Exact(_))
 }
 
-/// Whether the two tokens are of one kind and equal without ASCII case.
-pub fn is_same(one: &Token, another: &Token) -> bool
-    ensures { result ≡ same_token one.now another.now }
-{
-    match (one, another) {
-        (Token::Word(mine), Token::Word(other)) => mine.is_folded(other),
-        (Token::Quoted(mine), Token::Quoted(other)) => mine.is_folded(other),
-        (Token::Op(mine), Token::Op(other)) => mine.eq_ignore_ascii_case(other),
-        (Token::Sign(mine), Token::Sign(other)) => mine == other,
-        _ => false,
-    }
-}
-
 /// Whether these tokens are a match of the item.
 pub fn is_met(item: &Item, piece: &[Token]) -> bool
     ensures { result ≡ meets item.now piece.now }
@@ -39,7 +26,7 @@ pub fn is_met(item: &Item, piece: &[Token]) -> bool
         Item::More => !piece.is_empty(),
         Item::One => piece.len() == 1,
         Item::Exact(token) => match piece {
-            [only] => is_same(token, only),
+            [only] => token == only,
             _ => false,
         },
         _ => false,

@@ -1,4 +1,6 @@
+mod Candidates
 mod Moves
 mod Parts
 mod Sets
+mod Skipping
 mod Unique

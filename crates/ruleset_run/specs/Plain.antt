@@ -1,5 +1,5 @@
 -- The rules that the runs speak of so far: left sides of `$*`, `$+`, `$-` and tokens, right sides of tokens and `$n`.
-use Rattle.std.specs.Prelude.{List, Bool, true, false, ◌&&◌}
+use Rattle.std.specs.Prelude.{List, Bool, true, false, ◌&&◌, Option, None, Some}
 use Rattle.std.specs.List.{list_all}
 use Rattle.mail_base.specs.declared.rule.Rule.{Rule}
 use Rattle.mail_base.specs.declared.rule.RuleSet.{RuleSet}
@@ -15,6 +15,11 @@ is_plain_step _ = false
 
 abbrev pub is_plain_rule : Rule → Bool
 is_plain_rule rule = list_all is_plain rule.left && list_all is_plain_step rule.right.steps
+
+-- the rule is plain, if there is one
+abbrev pub is_plain_there : Option Rule → Bool
+is_plain_there None = true
+is_plain_there (Some rule) = is_plain_rule rule
 
 abbrev pub is_plain_book : List RuleSet → Bool
 is_plain_book book = list_all (λ set. list_all is_plain_rule set.rules) book

@@ -1,10 +1,10 @@
-ghost use Rattle.std.specs.Prelude.{◌≡◌, ◌+◌, ◌++◌, ◌≤◌, ◌<◌, List, ℕ, length, OnOk, IfErr, IsErrOf, take, ◌&&◌};
+ghost use Rattle.std.specs.Prelude.{◌≡◌, ◌+◌, ◌++◌, ◌≤◌, ◌<◌, List, ℕ, length, OnOk, IfErr, IsErrOf, take, slice_get, ◌&&◌};
 ghost use Rattle.std.specs.List.{list_all};
 ghost use Rattle.rule_match.specs.Choices.{Fits};
 ghost use Rattle.rule_match.specs.Kept.{kept_cuts};
 ghost use Rattle.ruleset_run.specs.Filling.{filled, step_filled};
 ghost use Rattle.ruleset_run.specs.Filling as spec;
-ghost use Rattle.ruleset_run.specs.Plain.{is_plain_book, is_plain_rule, is_plain_step};
+ghost use Rattle.ruleset_run.specs.Plain.{is_plain_book, is_plain_rule, is_plain_step, is_plain_there};
 ghost use Rattle.ruleset_run.specs.Fills.{Fills, Pushes};
 
 use crate::RunFault;
@@ -81,7 +81,21 @@ pub fn is_plain(config: &Config) -> bool
 fn is_plain_set(set: &RuleSet) -> bool
     ensures { result ≡ list_all is_plain_rule set.now.rules }
 {
-    set.rules.items().iter().all(|rule| is_plain_rule(rule))
+    for number in 0..set.count() {
+        if !is_plain_at(set, number) {
+            return false;
+        }
+    }
+    true
+}
+
+fn is_plain_at(set: &RuleSet, number: u32) -> bool
+    ensures { result ≡ is_plain_there (slice_get set.now.rules number) }
+{
+    match set.rule(number) {
+        Some(rule) => is_plain_rule(rule),
+        None => true,
+    }
 }
 
 fn is_plain_rule(rule: &Rule) -> bool

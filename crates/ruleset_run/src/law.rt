@@ -1,10 +1,20 @@
-ghost use Rattle.std.specs.Prelude.{◌≡◌, List, ℕ};
+ghost use Rattle.std.specs.Prelude.{◌≡◌, List, ℕ, false};
+ghost use Rattle.std.specs.List.{list_any};
 ghost use Rattle.mail_base.specs.declared.token.Token.{Token};
 ghost use Rattle.mail_base.specs.declared.rule.RuleSet.{RuleSet};
+ghost use Rattle.mail_base.specs.declared.rule.Rule.{Rule};
+ghost use Rattle.mail_base.specs.Candidates.{is_candidate, is_late};
+ghost use Rattle.rule_match.specs.Choices.{Fits};
 ghost use Rattle.ruleset_run.specs.Runs.{Macros, Outcome, RunsSet};
 
 /// A run has one outcome.
 pub fn one_outcome()
     ensures { (book : List RuleSet) (name : List ℕ) (tokens : List Token) (depth work : ℕ) (macros : Macros) (one another : Outcome)
         → RunsSet book name tokens depth work macros one → RunsSet book name tokens depth work macros another → one ≡ another }
+{}
+
+/// A rule that is no candidate for tokens has no `$&x` on its left side, and no match with them.
+pub fn candidates_lose_no_match()
+    ensures { (rule : Rule) (tokens : List Token) → is_candidate tokens rule ≡ false
+        → (list_any is_late rule.left ≡ false) × ((lengths : List ℕ) → Fits rule.left tokens lengths → ⊥) }
 {}

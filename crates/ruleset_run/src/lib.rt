@@ -7,8 +7,7 @@ mod filler;
 mod law;
 mod runner;
 
-pub use book::rules_of;
 pub use fault::RunFault;
 pub use filler::is_plain;
-pub use law::one_outcome;
+pub use law::{candidates_lose_no_match, one_outcome};
 pub use runner::{Ran, run};

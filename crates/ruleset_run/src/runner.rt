@@ -1,14 +1,17 @@
-ghost use Rattle.std.specs.Prelude.{◌≡◌, ◌+◌, ◌≤◌, ◌<◌, List, ℕ, [], IfOk, OnOk, IsTrue};
-ghost use Rattle.std.specs.List.{list_all};
+ghost use Rattle.std.specs.Prelude.{◌≡◌, ◌+◌, ◌≤◌, ◌<◌, List, ℕ, [], IfOk, OnOk, IsTrue, None};
+ghost use Rattle.std.specs.List.{list_all, find};
 ghost use Rattle.mail_base.specs.declared.rule.RuleSet.{RuleSet};
 ghost use Rattle.rule_match.specs.Kept.{IsChoice};
+ghost use Rattle.ruleset_run.specs.Books.{is_named};
+ghost use Rattle.ruleset_run.specs.Looks.{times_at};
 ghost use Rattle.ruleset_run.specs.Plain.{is_plain_book, is_plain_rule};
 ghost use Rattle.ruleset_run.specs.Runs.{Gives, Macros, Outcome, Runs, RunsSet, Applies};
 
 use crate::RunFault;
-use crate::book::rules_of;
+use crate::book::{is_standard, set_of};
 use crate::filler::{fill, is_resolved};
-use mail_base::{Config, Go, Rule, Seq, Text, Token, TryCopy};
+use mail_base::{Config, Go, Rule, RuleSet, Seq, Text, Token, TryCopy};
+use rule_index::next;
 use rule_match::{Cuts, find};
 use std::alloc::Global;
 
@@ -33,25 +36,38 @@ pub fn run(alloc: Global, config: &Config, set: &Text, tokens: &Seq<Token>) -> R
     ensures run { Gives result (RunsSet config.now.book set.now tokens.now 0 0 []) }
     ensures only { (outcome : Outcome) → RunsSet config.now.book set.now tokens.now 0 0 [] outcome → Gives result (λ given. given ≡ outcome) }
 {
-    let Some(rules) = rules_of(&config.book, set) else {
-        return Err(RunFault::NoRuleset(set.copy()?));
+    let Some(found) = set_of(&config.book, set) else {
+        return run_absent(set, tokens);
     };
     let tokens = tokens.copy()?;
-    run_rules(alloc, rules, Ran { tokens, work: 0 })
+    run_rules(alloc, found, Ran { tokens, work: 0 })
 }
 
-/// Runs rules over tokens, after so many applications.
-fn run_rules(alloc: Global, rules: &[Rule], start: Ran) -> Result<Ran, RunFault>
-    requires plain { IsTrue (list_all is_plain_rule rules.now) }
-    requires work { start.work ≤ 10000 }
-    ensures { (book : List RuleSet) (depth : ℕ) (macros : Macros) → Gives result (Runs book rules.now 0 start.tokens depth start.work macros) }
+/// Runs a set that isn't there: one from 0 to 5 is empty.
+fn run_absent(set: &Text, tokens: &Seq<Token>) -> Result<Ran, RunFault>
+    ensures { (book : List RuleSet) → find (is_named set.now) book ≡ None → Gives result (RunsSet book set.now tokens.now 0 0 []) }
 {
-    let mut rest = rules;
+    if is_standard(set) {
+        let tokens = tokens.copy()?;
+        return Ok(Ran { tokens, work: 0 });
+    }
+    Err(RunFault::NoRuleset(set.copy()?))
+}
+
+/// Runs the rules of a set over tokens, after so many applications.
+fn run_rules(alloc: Global, set: &RuleSet, start: Ran) -> Result<Ran, RunFault>
+    requires plain { IsTrue (list_all is_plain_rule set.now.rules) }
+    requires work { start.work ≤ 10000 }
+    ensures { (book : List RuleSet) (depth : ℕ) (macros : Macros) → Gives result (Runs book set.now.rules 0 start.tokens depth start.work macros) }
+{
+    let _count = set.count();
+    let mut from: u32 = 0;
     let mut times: u32 = 0;
     let mut now = start;
-    while let Some((rule, after)) = rest.split_first() {
+    while let Some((number, rule)) = next(set, from, &now.tokens) {
+        times = times_at(number, from, times);
         let Some(cuts) = find(&rule.left, &now.tokens) else {
-            rest = after;
+            from = number + 1;
             times = 0;
             continue;
         };
@@ -60,15 +76,25 @@ fn run_rules(alloc: Global, rules: &[Rule], start: Ran) -> Result<Ran, RunFault>
             return Ok(now);
         }
         match rule.right.go {
-            Go::Again => times += 1,
+            Go::Again => {
+                from = number;
+                times += 1;
+            }
             Go::Next => {
-                rest = after;
+                from = number + 1;
                 times = 0;
             }
             Go::Return => return Ok(now),
         }
     }
     Ok(now)
+}
+
+/// How often the rule that comes next was applied in succession: another one than before, never.
+fn times_at(number: u32, from: u32, times: u32) -> u32
+    ensures { result ≡ times_at number from times }
+{
+    if number == from { times } else { 0 }
 }
 
 /// Applies a rule to tokens that it matches, where it was applied so many times in succession before.

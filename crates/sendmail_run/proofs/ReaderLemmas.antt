@@ -150,11 +150,10 @@ grown_place name rule (s ∷ ss) (suc place) d at =
     }
 
 -- what a push to the rules of the ruleset at that place leaves
-pub pushed_rule : (name : List ℕ) (rule : Rule) (book : List RuleSet) (place : ℕ) (s : RuleSet) (pushed : List Rule) → s ≡ get_or book place s → pushed ≡ s.rules ++ rule ∷ [] → IsPlace name book place
-    → let new = set book place (record { names = s.names; rules = pushed }) in (new ≡ with_rule name rule book) × IsPlace name new place
-pushed_rule name rule book place s pushed is more at =
-    let one : RuleSet = record { names = s.names; rules = pushed } in
-    let e : grown (get_or book place s) rule ≡ one = ap (λ (q : RuleSet). grown q rule) (sym is) ∙ ap (λ (r : List Rule). record { names = s.names; rules = r }) (sym more) in (
+pub pushed_rule : (name : List ℕ) (rule : Rule) (book : List RuleSet) (place : ℕ) (s one : RuleSet) → s ≡ get_or book place s → one ≡ grown s rule → IsPlace name book place
+    → let new = set book place one in (new ≡ with_rule name rule book) × IsPlace name new place
+pushed_rule name rule book place s one is more at =
+    let e : grown (get_or book place s) rule ≡ one = ap (λ (q : RuleSet). grown q rule) (sym is) ∙ sym more in (
       ap (λ (q : RuleSet). set book place q) (sym e) ∙ with_rule_at name rule book place s at,
       subst (λ (q : RuleSet). IsPlace name (set book place q) place) e (grown_place name rule book place s at),
     )

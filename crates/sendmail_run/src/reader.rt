@@ -12,7 +12,7 @@ use crate::sides::{
     has_bad_reference, is_unread_left, is_unread_right, items_of, left_of, metas_of, right_of,
     split_prefix, template_of,
 };
-use mail_base::{Config, NoMemory, Pattern, Rule, RuleSet, Seq, Text, TryCopy};
+use mail_base::{Buckets, Config, NoMemory, Pattern, Rule, RuleSet, Seq, Text, TryCopy};
 use std::alloc::Global;
 
 /// The configuration that a file's bytes give, or the number and the fault of the first line that has one.
@@ -175,7 +175,7 @@ fn push_rule(book: &mut Vec<RuleSet>, place: usize, rule: Rule) -> Result<(), No
     requires { place < length book.old.items }
     ensures { (name : List ℕ) → IsPlace name book.old.items place → OnOk result (book.new.items ≡ spec.with_rule name rule book.old.items × IsPlace name book.new.items place) }
 {
-    book[place].rules.push(rule)?;
+    book[place].push(rule)?;
     Ok(())
 }
 
@@ -200,16 +200,13 @@ fn empty_set(alloc: Global, name: &Text) -> Result<RuleSet, NoMemory>
 {
     let mut names = Seq::new(alloc);
     names.push(name.copy()?)?;
-    Ok(RuleSet {
-        names,
-        rules: Seq::new(alloc),
-    })
+    Ok(RuleSet::of(names, Buckets::new(alloc)))
 }
 
 fn is_named(name: &Text, set: &RuleSet) -> bool
     ensures { result ≡ spec.is_named name.now set.now }
 {
-    for other in set.names.items() {
+    for other in set.names() {
         if other.is_folded(name) {
             return true;
         }

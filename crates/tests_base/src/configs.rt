@@ -1,7 +1,7 @@
 use mail_base::{
-    Catalog, Classes, Config, DaemonPort, Go, Group, HeaderLine, Item, Mailer, MapClass, MapLine,
-    Member, NoMemory, Options, Pattern, Piece, Precedence, Rule, RuleSet, Seq, Step, Template,
-    Text, Token, TryCopy,
+    Buckets, Catalog, Classes, Config, DaemonPort, Go, Group, HeaderLine, Item, Mailer, MapClass,
+    MapLine, Member, NoMemory, Options, Pattern, Piece, Precedence, Rule, RuleSet, Seq, Step,
+    Template, Text, Token, TryCopy,
 };
 use std::alloc::Global;
 use std::test::Fail;
@@ -236,17 +236,17 @@ fn right(alloc: Global) -> Result<Template, NoMemory> {
     })
 }
 
-fn add_rule(alloc: Global, rules: &mut Seq<Rule>) -> Result<(), Fail> {
+fn add_rule(alloc: Global, set: &mut RuleSet) -> Result<(), Fail> {
     let left = left(alloc)?;
     let right = right(alloc)?;
-    Ok(rules.push(Rule { left, right })?)
+    Ok(set.push(Rule { left, right })?)
 }
 
 fn add_ruleset(alloc: Global, book: &mut Seq<RuleSet>) -> Result<(), Fail> {
-    let mut rules = Seq::new(alloc);
-    add_rule(alloc, &mut rules)?;
     let names = words(alloc, &[b"parse"])?;
-    Ok(book.push(RuleSet { names, rules })?)
+    let mut set = RuleSet::of(names, Buckets::new(alloc));
+    add_rule(alloc, &mut set)?;
+    Ok(book.push(set)?)
 }
 
 fn add_group(alloc: Global, groups: &mut Catalog<Group>) -> Result<(), NoMemory> {
@@ -413,20 +413,20 @@ fn are_steps(steps: &[Step]) -> bool {
     }
 }
 
-fn is_rule(rules: &[Rule]) -> bool {
-    match rules {
-        [rule] => {
+fn is_rule(rule: Option<&Rule>) -> bool {
+    match rule {
+        Some(rule) => {
             rule.left.items().len() == 1
                 && rule.right.go == Go::Next
                 && are_steps(rule.right.steps.items())
         }
-        _ => false,
+        None => false,
     }
 }
 
 fn is_ruleset(book: &[RuleSet]) -> bool {
     match book {
-        [set] => set.names.len() == 1 && is_rule(set.rules.items()),
+        [set] => set.names().len() == 1 && set.count() == 1 && is_rule(set.rule(0)),
         _ => false,
     }
 }

@@ -302,6 +302,7 @@ fn classes_gain_members(rt: HostRuntime) -> Result<(), Fail> {
 fn token(alloc: Global, letter: u8) -> Result<Token, NoMemory> {
     match letter {
         b'w' => Ok(Token::Word(Text::of(alloc, b"ann")?)),
+        b'W' => Ok(Token::Word(Text::of(alloc, b"ANN")?)),
         b'q' => Ok(Token::Quoted(Text::of(alloc, b"ann")?)),
         b'u' => Ok(Token::Sign(Mark::User)),
         b'h' => Ok(Token::Sign(Mark::Host)),
@@ -323,5 +324,6 @@ fn tokens_are_copied_and_compared(rt: HostRuntime) -> Result<(), Fail> {
             assert!(rt; are_equal(rt.alloc(), *one, *other)? == (*one == *other));
         }
     }
+    assert!(rt; are_equal(rt.alloc(), b'w', b'W')?);
     Ok(())
 }

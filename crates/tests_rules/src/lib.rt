@@ -5,6 +5,8 @@
 #[cfg(test)]
 mod faults;
 #[cfg(test)]
+mod indexed;
+#[cfg(test)]
 mod macros;
 #[cfg(test)]
 mod matches;

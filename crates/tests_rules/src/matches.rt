@@ -1,5 +1,5 @@
 // Which match a left side takes, and what its items take in it.
-use crate::signs::{pattern_of, token_of, tokens_of};
+use crate::signs::{are_same, pattern_of, token_of, tokens_of};
 use mail_base::{Pattern, Seq, Token};
 use rule_match::{Cuts, find, find_by_trial, is_plain};
 use std::alloc::Global;
@@ -81,7 +81,7 @@ fn piece_is(alloc: Global, number: u8, wanted: &str) -> Result<bool, Fail> {
     }
     let cuts = find(&pattern, &tokens).ok_or("no match")?;
     let piece = cuts.piece(&pattern, &tokens, number);
-    Ok(piece == tokens_of(alloc, wanted)?.items())
+    Ok(are_same(piece, tokens_of(alloc, wanted)?.items()))
 }
 
 #[test]

@@ -1,6 +1,7 @@
 // What a run of a ruleset ends with, and the sets that are found.
-use crate::signs::{pattern_of, steps_of, tokens_of, words};
+use crate::signs::{are_same, pattern_of, steps_of, tokens_of, words};
 use mail_base::{Config, Go, NoMemory, Piece, Rule, RuleSet, Seq, Step, Template, Text, Token};
+use rule_index::build;
 use ruleset_run::{Ran, RunFault, is_plain, run};
 use std::alloc::Global;
 use std::test::Fail;
@@ -30,7 +31,7 @@ fn set_of(name: &str, rules: Seq<Rule>) -> Result<RuleSet, Fail> {
     let alloc = rules.allocator();
     let mut names = Seq::new(alloc);
     names.push(Text::of(alloc, name.as_bytes())?)?;
-    Ok(RuleSet { names, rules })
+    Ok(RuleSet::of(names, build(&rules)?))
 }
 
 // No clause: no test needs to know what a configuration has before any line.
@@ -62,20 +63,6 @@ fn run_set(
 
 fn run_rules(rules: Seq<Rule>, tokens: &Seq<Token>) -> Result<Result<Ran, RunFault>, Fail> {
     run_set(&config_of_rules(rules)?, "sET", tokens)
-}
-
-// Tokens are equal without case: here their texts are to be the same.
-fn is_same(token: &Token, wanted: &Token) -> bool {
-    match (token, wanted) {
-        (Token::Word(text), Token::Word(other)) => text == other,
-        (Token::Quoted(text), Token::Quoted(other)) => text == other,
-        _ => token == wanted,
-    }
-}
-
-fn are_same(tokens: &[Token], wanted: &[Token]) -> bool {
-    let mut pairs = tokens.iter().zip(wanted.iter());
-    tokens.len() == wanted.len() && pairs.all(|pair| is_same(pair.0, pair.1))
 }
 
 fn is_given(given: &Result<Ran, RunFault>, tokens: &Seq<Token>, work: u32) -> bool {

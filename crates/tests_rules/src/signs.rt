@@ -21,6 +21,20 @@ pub fn tokens_of(alloc: Global, signs: &str) -> Result<Seq<Token>, NoMemory> {
     Ok(tokens)
 }
 
+// Tokens are equal without case: here their texts are to be the same.
+fn is_same(token: &Token, wanted: &Token) -> bool {
+    match (token, wanted) {
+        (Token::Word(text), Token::Word(other)) => text == other,
+        (Token::Quoted(text), Token::Quoted(other)) => text == other,
+        _ => token == wanted,
+    }
+}
+
+pub fn are_same(tokens: &[Token], wanted: &[Token]) -> bool {
+    let mut pairs = tokens.iter().zip(wanted.iter());
+    tokens.len() == wanted.len() && pairs.all(|pair| is_same(pair.0, pair.1))
+}
+
 // So many tokens `w`.
 pub fn words(alloc: Global, count: usize) -> Result<Seq<Token>, NoMemory> {
     let mut tokens = Seq::new(alloc);
@@ -30,7 +44,7 @@ pub fn words(alloc: Global, count: usize) -> Result<Seq<Token>, NoMemory> {
     Ok(tokens)
 }
 
-// An item is written as a token, or as `*`, `+` or `-` for the one with `$` in front.
+// An item is written as a token, or as `*`, `+` or `-` for the one with `$` in front; `&` is a `$&x`.
 fn items_of(alloc: Global, signs: &str) -> Result<Seq<Item>, NoMemory> {
     let mut items = Seq::new(alloc);
     for sign in signs.as_bytes() {
@@ -38,6 +52,7 @@ fn items_of(alloc: Global, signs: &str) -> Result<Seq<Item>, NoMemory> {
             b'*' => Item::Any,
             b'+' => Item::More,
             b'-' => Item::One,
+            b'&' => Item::Late(Text::of(alloc, b"x")?),
             _ => Item::Exact(token_of(alloc, *sign)?),
         })?;
     }
