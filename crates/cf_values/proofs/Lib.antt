@@ -4,3 +4,4 @@ pub mod StandLemmas
 pub mod RefusalLemmas
 pub mod NumberLemmas
 pub mod TimeLemmas
+pub mod ComputedLemmas

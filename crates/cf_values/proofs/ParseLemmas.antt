@@ -1,6 +1,6 @@
 -- A text is at most one time: that which its bytes give in turn.
-use Rattle.std.proofs.Common.{◌≡◌, ℕ, Bool, true, false, cond, eqb, leb, List, [], ◌∷◌, ◌++◌, Option, Some, None, refl, sym, ap, ◌∙◌, arith, append_assoc}
-use Rattle.std.specs.Prelude.{All, unwrap_or, ◌&&◌}
+use Rattle.std.proofs.Common.{◌≡◌, ℕ, Bool, true, false, cond, List, [], ◌∷◌, ◌++◌, Option, Some, None, refl, sym, ap, ◌∙◌, arith, append_assoc}
+use Rattle.std.specs.Prelude.{All, unwrap_or}
 use Rattle.std.specs.Option.{option_and_then}
 use Rattle.std.specs.List.{flat_map}
 use Rattle.std.proofs.lemmas.Bool.{cond-true, cond-false, ne_eqb}
@@ -9,39 +9,30 @@ use Rattle.std.proofs.lemmas.List.{append-nil}
 use Rattle.std.proofs.lemmas.List.Elements.{All-head, All-tail}
 use Rattle.cf_values.specs.declared.unit.TimeUnit.{TimeUnit}
 use Rattle.cf_values.specs.declared.unit.TimeUnit.TheVariants.{Week, Day, Hour, Minute, Second}
-use Rattle.cf_values.specs.Numbers.{IsDigit, IsNumeral}
-use Rattle.cf_values.specs.Times.{Pair, Time, IsProper, IsTime, letter, pair_spelling, spelling, total}
+use Rattle.cf_values.specs.Numbers.{IsDigit, is_digit, IsNumeral}
+use Rattle.cf_values.specs.Times.{Pair, Time, IsProper, IsTime, letter, unit_of, pair_spelling, spelling, total}
 use Rattle.cf_values.specs.Refusals.{Begins}
 
--- a digit, as a test
-pub is_digit : ℕ → Bool
-is_digit b = leb 48 b && leb b 57
-
-is_digit-true : (b : ℕ) → IsDigit b → is_digit b ≡ true
-unfolding is_digit
+pub is_digit-true : (b : ℕ) → IsDigit b → is_digit b ≡ true
 is_digit-true b d = grind (arith, nat_tests)
 
+pub is_digit-from : (b : ℕ) → is_digit b ≡ true → IsDigit b
+is_digit-from b e = (grind (arith, nat_tests), grind (arith, nat_tests))
+
 is_digit-false : (b : ℕ) → ¬ IsDigit b → is_digit b ≡ false
-unfolding is_digit
 is_digit-false b n = by (is_digit b) refl where
   by : (t : Bool) → is_digit b ≡ t → is_digit b ≡ false
   by true e = absurd (n (grind (arith, nat_tests), grind (arith, nat_tests)))
   by false e = e
 
--- the unit of a letter
-pub unit_of : ℕ → Option TimeUnit
-unit_of b = cond (eqb b 119) (Some Week) (cond (eqb b 100) (Some Day) (cond (eqb b 104) (Some Hour) (cond (eqb b 109) (Some Minute) (cond (eqb b 115) (Some Second) None))))
-
-unit_of-letter : (u : TimeUnit) → unit_of (letter u) ≡ Some u
-unfolding unit_of
+pub unit_of-letter : (u : TimeUnit) → unit_of (letter u) ≡ Some u
 unit_of-letter Week = refl
 unit_of-letter Day = refl
 unit_of-letter Hour = refl
 unit_of-letter Minute = refl
 unit_of-letter Second = refl
 
-letter_is_no_digit : (u : TimeUnit) → is_digit (letter u) ≡ false
-unfolding is_digit
+pub letter_is_no_digit : (u : TimeUnit) → is_digit (letter u) ≡ false
 letter_is_no_digit Week = refl
 letter_is_no_digit Day = refl
 letter_is_no_digit Hour = refl
@@ -49,19 +40,18 @@ letter_is_no_digit Minute = refl
 letter_is_no_digit Second = refl
 
 unit_of-none : (b : ℕ) → ((u : TimeUnit) → b ≡ letter u → ⊥) → unit_of b ≡ None
-unfolding unit_of
 unit_of-none b n =
     cond-false _ _ _ (ne_eqb b 119 (n Week)) ∙ cond-false _ _ _ (ne_eqb b 100 (n Day)) ∙ cond-false _ _ _ (ne_eqb b 104 (n Hour))
     ∙ cond-false _ _ _ (ne_eqb b 109 (n Minute)) ∙ cond-false _ _ _ (ne_eqb b 115 (n Second))
 
 -- a number with its letter joins the pairs, where it has digits
-abbrev closed : List Pair → List ℕ → TimeUnit → Option Time
-closed pairs [] u = None
-closed pairs (d ∷ ds) u = Some (record { pairs = pairs ++ record { digits = d ∷ ds; unit = u } ∷ []; last = [] })
+abbrev closes : List Pair → List ℕ → TimeUnit → Option Time
+closes pairs [] u = None
+closes pairs (d ∷ ds) u = Some (record { pairs = pairs ++ record { digits = d ∷ ds; unit = u } ∷ []; last = [] })
 
 abbrev with_unit : List Pair → List ℕ → Option TimeUnit → Option Time
 with_unit pairs last None = None
-with_unit pairs last (Some u) = closed pairs last u
+with_unit pairs last (Some u) = closes pairs last u
 
 -- a time with one byte more
 abbrev next : Time → ℕ → Option Time

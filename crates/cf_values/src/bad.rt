@@ -6,5 +6,5 @@ use thiserror::Error;
 #[derive(Clone, Copy, Debug, PartialEq, Eq, Error)]
 #[error("bad value at {place}")]
 pub struct Bad {
-    pub place: usize,
+    pub place: u64,
 }

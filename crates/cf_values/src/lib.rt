@@ -13,7 +13,6 @@ mod unit;
 
 pub use bad::Bad;
 pub use flag::flags;
-pub use law::one_meaning;
+pub use law::{computed_values, one_meaning};
 pub use numeral::number;
 pub use timespan::time;
-pub use unit::TimeUnit;

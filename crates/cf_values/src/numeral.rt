@@ -27,12 +27,16 @@ fn number_of(text: &[u8], most: u64) -> Result<u64, Bad>
     let mut number: u128 = 0;
     for (place, byte) in text.iter().enumerate() {
         let Some(digit) = digit_of(*byte) else {
-            return Err(Bad { place });
+            return Err(Bad {
+                place: place as u64,
+            });
         };
         number = with_digit(number, digit, above);
     }
     if text.is_empty() || number == above {
-        return Err(Bad { place: text.len() });
+        return Err(Bad {
+            place: text.len() as u64,
+        });
     }
     Ok(number as u64)
 }

@@ -3,8 +3,8 @@ ghost use Rattle.cf_values.specs.Refusals.{Begins};
 ghost use Rattle.cf_values.specs.Times.{IsTime, Time, seconds, spelling, total, IsProper};
 ghost use Rattle.cf_values.specs.Stages.{Stands, capped};
 
-use crate::TimeUnit;
 use crate::digit::{digit_of, with_digit};
+use crate::unit::TimeUnit;
 
 /// What stands for every number above 2^60.
 const ABOVE: u128 = (1 << 60) + 1;

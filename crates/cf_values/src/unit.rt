@@ -1,9 +1,9 @@
 ghost use Rattle.std.specs.Prelude.{◌≡◌, ◌≢◌, ◌≤◌, IfSome, IfNone};
-ghost use Rattle.cf_values.specs.Times.{letter, seconds};
+ghost use Rattle.cf_values.specs.Times.{letter, unit_of, IsLetter, last_unit, seconds};
 
 /// The unit of a number in a time.
-#[derive(Clone, Copy, Debug, PartialEq, Eq)]
-pub enum TimeUnit {
+#[derive(Clone, Copy)]
+pub(crate) enum TimeUnit {
     Week,
     Day,
     Hour,
@@ -13,7 +13,8 @@ pub enum TimeUnit {
 
 impl TimeUnit {
     /// The unit with this letter: `w`, `d`, `h`, `m` or `s`, and no other.
-    pub fn of(byte: u8) -> Option<TimeUnit>
+    pub(crate) fn of(byte: u8) -> Option<TimeUnit>
+        ensures value { result ≡ unit_of byte }
         ensures some { IfSome result (λ unit. byte ≡ letter unit) }
         ensures none { IfNone result ((unit : TimeUnit) → byte ≢ letter unit) }
     {
@@ -27,8 +28,19 @@ impl TimeUnit {
         }
     }
 
+    /// The unit with this letter, which is one.
+    pub(crate) fn told(letter: u8) -> TimeUnit
+        requires { IsLetter letter }
+        ensures { result ≡ last_unit letter }
+    {
+        let Some(unit) = TimeUnit::of(letter) else {
+            unreachable!()
+        };
+        unit
+    }
+
     /// How many seconds the unit has.
-    pub fn seconds(self) -> u32
+    pub(crate) fn seconds(self) -> u32
         ensures { result ≡ seconds self }
     {
         match self {

@@ -1,89 +1,79 @@
-use cf_values::{Bad, TimeUnit, flags, number, time};
+use cf_values::{Bad, flags, number, time};
 use mail_base::{NoMemory, Text};
 use std::alloc::Global;
 use std::test::Fail;
 
-/// A text and the unit of a number without a letter, and what the time is.
-type TimeRow = (&'static [u8], TimeUnit, Result<u64, Bad>);
+/// A text and the letter of the unit of a number without one, and what the time is.
+type TimeRow = (&'static [u8], u8, Result<u64, Bad>);
 
 /// A text and the most that its number may be, and what the number is.
 type NumberRow = (&'static [u8], u64, Result<u64, Bad>);
 
-static TIMES: [TimeRow; 16] = [
-    (b"2w", TimeUnit::Second, Ok(1_209_600)),
-    (b"5d", TimeUnit::Second, Ok(432_000)),
-    (b"4h", TimeUnit::Second, Ok(14_400)),
-    (b"30m", TimeUnit::Second, Ok(1_800)),
-    (b"45s", TimeUnit::Day, Ok(45)),
-    (b"1h30m", TimeUnit::Day, Ok(5_400)),
-    (b"1s2m3h4d5w", TimeUnit::Day, Ok(3_380_521)),
-    (b"30m1h30m", TimeUnit::Day, Ok(7_200)),
-    (b"007d", TimeUnit::Second, Ok(604_800)),
-    (b"0", TimeUnit::Minute, Ok(0)),
-    (b"3", TimeUnit::Week, Ok(1_814_400)),
-    (b"5", TimeUnit::Day, Ok(432_000)),
-    (b"4", TimeUnit::Hour, Ok(14_400)),
-    (b"5d6", TimeUnit::Minute, Ok(432_360)),
-    (b"7", TimeUnit::Second, Ok(7)),
-    (b"1h30", TimeUnit::Hour, Ok(111_600)),
+static TIMES: [TimeRow; 21] = [
+    (b"2w", b's', Ok(1_209_600)),
+    (b"5d", b's', Ok(432_000)),
+    (b"4h", b's', Ok(14_400)),
+    (b"30m", b's', Ok(1_800)),
+    (b"45s", b'd', Ok(45)),
+    (b"1h30m", b'd', Ok(5_400)),
+    (b"1s2m3h4d5w", b'd', Ok(3_380_521)),
+    (b"30m1h30m", b'd', Ok(7_200)),
+    (b"007d", b's', Ok(604_800)),
+    (b"0", b'm', Ok(0)),
+    (b"3", b'w', Ok(1_814_400)),
+    (b"5", b'd', Ok(432_000)),
+    (b"4", b'h', Ok(14_400)),
+    (b"5d6", b'm', Ok(432_360)),
+    (b"7", b's', Ok(7)),
+    (b"1h30", b'h', Ok(111_600)),
+    (b"1", b'w', Ok(604_800)),
+    (b"1", b'd', Ok(86_400)),
+    (b"1", b'h', Ok(3_600)),
+    (b"1", b'm', Ok(60)),
+    (b"1", b's', Ok(1)),
 ];
 
-static BAD_TIMES: [TimeRow; 12] = [
-    (b"", TimeUnit::Day, Err(Bad { place: 0 })),
-    (b"d", TimeUnit::Day, Err(Bad { place: 0 })),
-    (b"x", TimeUnit::Day, Err(Bad { place: 0 })),
-    (b" 5d", TimeUnit::Day, Err(Bad { place: 0 })),
-    (b"-5d", TimeUnit::Day, Err(Bad { place: 0 })),
-    (b"5x", TimeUnit::Day, Err(Bad { place: 1 })),
-    (b"5D", TimeUnit::Day, Err(Bad { place: 1 })),
-    (b"1x2y", TimeUnit::Day, Err(Bad { place: 1 })),
-    (b"5dd", TimeUnit::Day, Err(Bad { place: 2 })),
-    (b"1h 30m", TimeUnit::Day, Err(Bad { place: 2 })),
-    (b"1h30m\n", TimeUnit::Day, Err(Bad { place: 5 })),
+static BAD_TIMES: [TimeRow; 13] = [
+    (b"", b'd', Err(Bad { place: 0 })),
+    (b"d", b'd', Err(Bad { place: 0 })),
+    (b"x", b'd', Err(Bad { place: 0 })),
+    (b" 5d", b'd', Err(Bad { place: 0 })),
+    (b"-5d", b'd', Err(Bad { place: 0 })),
+    (b"5x", b'd', Err(Bad { place: 1 })),
+    (b"5D", b'd', Err(Bad { place: 1 })),
+    (b"5W", b'd', Err(Bad { place: 1 })),
+    (b"1x2y", b'd', Err(Bad { place: 1 })),
+    (b"5dd", b'd', Err(Bad { place: 2 })),
+    (b"1h 30m", b'd', Err(Bad { place: 2 })),
+    (b"1h30m\n", b'd', Err(Bad { place: 5 })),
     (
         b"99999999999999999999999999999999x",
-        TimeUnit::Day,
+        b'd',
         Err(Bad { place: 32 }),
     ),
 ];
 
 static LONG_TIMES: [TimeRow; 10] = [
-    (b"1152921504606846976s", TimeUnit::Day, Ok(1 << 60)),
-    (
-        b"1152921504606846977s",
-        TimeUnit::Day,
-        Err(Bad { place: 20 }),
-    ),
-    (b"1152921504606846976", TimeUnit::Second, Ok(1 << 60)),
-    (
-        b"1152921504606846977",
-        TimeUnit::Second,
-        Err(Bad { place: 19 }),
-    ),
-    (
-        b"1906285556558w",
-        TimeUnit::Day,
-        Ok(1_152_921_504_606_278_400),
-    ),
-    (b"1906285556559w", TimeUnit::Day, Err(Bad { place: 14 })),
+    (b"1152921504606846976s", b'd', Ok(1 << 60)),
+    (b"1152921504606846977s", b'd', Err(Bad { place: 20 })),
+    (b"1152921504606846976", b's', Ok(1 << 60)),
+    (b"1152921504606846977", b's', Err(Bad { place: 19 })),
+    (b"1906285556558w", b'd', Ok(1_152_921_504_606_278_400)),
+    (b"1906285556559w", b'd', Err(Bad { place: 14 })),
     (
         b"1152921504606846970s6",
-        TimeUnit::Second,
+        b's',
         Ok(1_152_921_504_606_846_976),
     ),
-    (
-        b"1152921504606846970s7",
-        TimeUnit::Second,
-        Err(Bad { place: 21 }),
-    ),
+    (b"1152921504606846970s7", b's', Err(Bad { place: 21 })),
     (
         b"999999999999999999999999999999w1s",
-        TimeUnit::Day,
+        b'd',
         Err(Bad { place: 33 }),
     ),
     (
         b"999999999999999999999999999999",
-        TimeUnit::Second,
+        b's',
         Err(Bad { place: 30 }),
     ),
 ];
@@ -110,8 +100,19 @@ static NUMBERS: [NumberRow; 15] = [
     (b"1000000000x", 999_999_999, Err(Bad { place: 10 })),
 ];
 
+// The time of a text, by one of the five letters.
+fn in_unit(text: &Text, unit: u8) -> Result<u64, Bad> {
+    match unit {
+        b'w' => time(text, b'w'),
+        b'd' => time(text, b'd'),
+        b'h' => time(text, b'h'),
+        b'm' => time(text, b'm'),
+        _ => time(text, b's'),
+    }
+}
+
 fn time_of(alloc: Global, row: &TimeRow) -> Result<Result<u64, Bad>, NoMemory> {
-    Ok(time(&Text::of(alloc, row.0)?, row.1))
+    Ok(in_unit(&Text::of(alloc, row.0)?, row.1))
 }
 
 fn number_of(alloc: Global, row: &NumberRow) -> Result<Result<u64, Bad>, NoMemory> {
@@ -119,7 +120,7 @@ fn number_of(alloc: Global, row: &NumberRow) -> Result<Result<u64, Bad>, NoMemor
 }
 
 fn flags_of(alloc: Global, bytes: &[u8]) -> Result<Text, NoMemory> {
-    flags(&Text::of(alloc, bytes)?)
+    flags(alloc, &Text::of(alloc, bytes)?)
 }
 
 #[test]
@@ -168,19 +169,4 @@ fn flags_lose_their_white_space(rt: HostRuntime) -> Result<(), Fail> {
         assert_eq!(rt; flags_of(rt.alloc(), text)?.bytes(), kept);
     }
     Ok(())
-}
-
-#[test]
-fn units_have_their_letters(rt: HostRuntime) {
-    for (letter, unit) in [
-        (b'w', TimeUnit::Week),
-        (b'd', TimeUnit::Day),
-        (b'h', TimeUnit::Hour),
-        (b'm', TimeUnit::Minute),
-        (b's', TimeUnit::Second),
-    ] {
-        assert_eq!(rt; TimeUnit::of(letter), Some(unit));
-    }
-    assert_eq!(rt; TimeUnit::of(b'W'), None);
-    assert_eq!(rt; TimeUnit::Hour.seconds(), 3_600);
 }

@@ -1,3 +1,4 @@
+use Rattle.cf_values.specs.Times.{last_unit}
 use Rattle.cf_values.proofs.NumberLemmas.{numbers}
 use Rattle.cf_values.proofs.ParseLemmas.{one_time}
 use Rattle.cf_values.proofs.law.one_meaning.Goals as goal
@@ -6,4 +7,4 @@ pub returns-clause-number : goal.returns-clause-number
 returns-clause-number c = numbers.one
 
 pub returns-clause-time : goal.returns-clause-time
-returns-clause-time c = λ unit text n m. one_time unit text n m
+returns-clause-time c = λ unit text n m. one_time (last_unit unit) text n m
