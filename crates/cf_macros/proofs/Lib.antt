@@ -4,3 +4,7 @@ pub mod InsideLemmas
 pub mod RunLemmas
 pub mod StackLemmas
 pub mod StepLemmas
+pub mod WordLemmas
+pub mod WrittenLemmas
+pub mod OutcomeLemmas
+pub mod ValueLemmas

@@ -3,35 +3,36 @@ use Rattle.std.proofs.Common.{◌≡◌, ℕ, zero, suc, ◌+◌, ◌-◌, ◌<�
 use Rattle.cf_macros.specs.declared.construct.Construct.{Construct}
 use Rattle.cf_macros.specs.declared.construct.Kind.{Kind}
 use Rattle.cf_macros.specs.declared.construct.Kind.TheVariants.{Plain, Reference, Test, Else, End, Unclosed}
+use Rattle.cf_macros.specs.declared.scope.Scope.{Scope}
 use Rattle.cf_macros.specs.Constructs.{Piece, piece, first_piece, Shows}
 use Rattle.cf_macros.specs.Readings.{Parts, Nothing, Bytes, Refer, Choose, Reading, Last, BeforeElse, BeforeEnd, put, first_part, second_part, behind_end, closing, before, reading}
 use Rattle.cf_macros.specs.Insides.{rest_at, past, then_rest, ends_behind, IsBehind}
 
 -- skipping is dropping
-pub reading-skips : (place skipped : ℕ) (text : List ℕ) → reading place skipped text ≡ reading (skipped + place) 0 (drop skipped text)
+pub reading-skips : (scope : Scope) (place skipped : ℕ) (text : List ℕ) → reading scope place skipped text ≡ reading scope (skipped + place) 0 (drop skipped text)
 unfolding reading
-reading-skips place zero text = let e : 0 + place ≡ place = omega arith in rw e refl
-reading-skips place (suc skipped) [] = refl
-reading-skips place (suc skipped) (byte ∷ text) =
+reading-skips scope place zero text = let e : 0 + place ≡ place = omega arith in rw e refl
+reading-skips scope place (suc skipped) [] = refl
+reading-skips scope place (suc skipped) (byte ∷ text) =
     let e : skipped + suc place ≡ suc skipped + place = omega arith in
-    reading-skips (suc place) skipped text ∙ ap (λ n. reading n 0 (drop skipped text)) e
+    reading-skips scope (suc place) skipped text ∙ ap (λ n. reading scope n 0 (drop skipped text)) e
 
 -- a text that isn't empty, by its first construct
-pub reading-first : (place : ℕ) (text : List ℕ) → 0 < length text → 1 ≤ (first_piece text).width →
-    reading place 0 text ≡ before (first_piece text).kind place (first_piece text) (reading (place + (first_piece text).width) 0 (drop (first_piece text).width text))
+pub reading-first : (scope : Scope) (place : ℕ) (text : List ℕ) → 0 < length text → 1 ≤ (first_piece scope text).width →
+    reading scope place 0 text ≡ before (first_piece scope text).kind place (first_piece scope text) (reading scope (place + (first_piece scope text).width) 0 (drop (first_piece scope text).width text))
 unfolding reading
-reading-first place [] h moves = absurd (omega arith)
-reading-first place (byte ∷ text) h moves = cut (first_piece (byte ∷ text)) moves
+reading-first scope place [] h moves = absurd (omega arith)
+reading-first scope place (byte ∷ text) h moves = cut (first_piece scope (byte ∷ text)) moves
   where
-    cut : (found : Piece) → 1 ≤ found.width → before found.kind place found (reading (suc place) (found.width - 1) text) ≡ before found.kind place found (reading (place + found.width) 0 (drop found.width (byte ∷ text)))
+    cut : (found : Piece) → 1 ≤ found.width → before found.kind place found (reading scope (suc place) (found.width - 1) text) ≡ before found.kind place found (reading scope (place + found.width) 0 (drop found.width (byte ∷ text)))
     cut found moves = ap (before found.kind place found) (skips found.width moves)
       where
-        skips : (width : ℕ) → 1 ≤ width → reading (suc place) (width - 1) text ≡ reading (place + width) 0 (drop width (byte ∷ text))
+        skips : (width : ℕ) → 1 ≤ width → reading scope (suc place) (width - 1) text ≡ reading scope (place + width) 0 (drop width (byte ∷ text))
         skips zero moves = absurd (omega arith)
         skips (suc width) moves =
             let e : suc width - 1 ≡ width = omega arith in
             let f : width + suc place ≡ place + suc width = omega arith in
-            rw e (reading-skips (suc place) width text ∙ ap (λ n. reading n 0 (drop width text)) f)
+            rw e (reading-skips scope (suc place) width text ∙ ap (λ n. reading scope n 0 (drop width text)) f)
 
 drop-nil : (n : ℕ) → drop {A = ℕ} n [] ≡ []
 drop-nil zero = refl
@@ -43,11 +44,11 @@ drop-again width (suc place) [] = drop-nil width ∙ sym (drop-nil (suc place + 
 drop-again width (suc place) (byte ∷ text) = let e : suc place + width ≡ suc (place + width) = omega arith in rw e (drop-again width place text)
 
 -- nothing is left at a text's end
-pub rest-end : (text : List ℕ) (place : ℕ) → length text ≤ place → rest_at text place ≡ Last Nothing
+pub rest-end : (scope : Scope) (text : List ℕ) (place : ℕ) → length text ≤ place → rest_at scope text place ≡ Last Nothing
 unfolding reading
-rest-end [] place h = ap (reading place 0) (drop-nil place)
-rest-end (byte ∷ text) zero h = absurd (omega arith)
-rest-end (byte ∷ text) (suc place) h = ap (reading (suc place) 0) (gone text place (omega arith))
+rest-end scope [] place h = ap (reading scope place 0) (drop-nil place)
+rest-end scope (byte ∷ text) zero h = absurd (omega arith)
+rest-end scope (byte ∷ text) (suc place) h = ap (reading scope (suc place) 0) (gone text place (omega arith))
   where
     gone : (text : List ℕ) (n : ℕ) → length text ≤ n → drop n text ≡ []
     gone [] n h = drop-nil n
@@ -55,11 +56,11 @@ rest-end (byte ∷ text) (suc place) h = ap (reading (suc place) 0) (gone text p
     gone (byte ∷ text) (suc n) h = gone text n (omega arith)
 
 -- the rest of a text at a place, by the construct there
-pub rest-first : (text : List ℕ) (place : ℕ) → 0 < length (drop place text) → 1 ≤ (first_piece (drop place text)).width →
-    rest_at text place ≡ before (first_piece (drop place text)).kind place (first_piece (drop place text)) (rest_at text (place + (first_piece (drop place text)).width))
-rest-first text place h moves =
-    reading-first place (drop place text) h moves
-    ∙ ap (λ t. before (first_piece (drop place text)).kind place (first_piece (drop place text)) (reading (place + (first_piece (drop place text)).width) 0 t)) (drop-again (first_piece (drop place text)).width place text)
+pub rest-first : (scope : Scope) (text : List ℕ) (place : ℕ) → 0 < length (drop place text) → 1 ≤ (first_piece scope (drop place text)).width →
+    rest_at scope text place ≡ before (first_piece scope (drop place text)).kind place (first_piece scope (drop place text)) (rest_at scope text (place + (first_piece scope (drop place text)).width))
+rest-first scope text place h moves =
+    reading-first scope place (drop place text) h moves
+    ∙ ap (λ t. before (first_piece scope (drop place text)).kind place (first_piece scope (drop place text)) (reading scope (place + (first_piece scope (drop place text)).width) 0 t)) (drop-again (first_piece scope (drop place text)).width place text)
 
 pub past-put : (front : Parts → Parts) (rest : Reading) (ends : ℕ) → past (suc ends) (put front rest) ≡ past (suc ends) rest
 past-put front (Last parts) ends = refl
@@ -80,36 +81,36 @@ past-before End place found rest ends h = refl
 past-before Unclosed place found rest ends h = absurd (h refl)
 
 -- the rest of a text at a place, by the construct that the code found there
-pub rest-found : (text front : List ℕ) (place : ℕ) (found : Construct) → front ≡ drop place text → place < length text → Shows found (first_piece front) (length front) →
-    rest_at text place ≡ before found.kind place (piece found.kind found.text.now found.width) (rest_at text (place + found.width))
-rest-found text front place found e h shows =
+pub rest-found : (scope : Scope) (text front : List ℕ) (place : ℕ) (found : Construct) → front ≡ drop place text → place < length text → Shows found (first_piece scope front) (length front) →
+    rest_at scope text place ≡ before found.kind place (piece found.kind found.text.now found.width) (rest_at scope text (place + found.width))
+rest-found scope text front place found e h shows =
     let there : 0 < length (drop place text) = omega (arith, length-drop place text) in
-    let same : first_piece front ≡ first_piece (drop place text) = ap first_piece e in
-    let width : found.width ≡ (first_piece (drop place text)).width = shows.width ∙ ap (λ p. p.width) same in
-    let kind : found.kind ≡ (first_piece (drop place text)).kind = shows.kind ∙ ap (λ p. p.kind) same in
-    let shown : found.text.now ≡ (first_piece (drop place text)).text = shows.text ∙ ap (λ p. p.text) same in
-    let goes : 1 ≤ (first_piece (drop place text)).width = omega (arith, width, shows.moves) in
-    rest-first text place there goes ∙ sym (rw (kind, width, shown) refl)
+    let same : first_piece scope front ≡ first_piece scope (drop place text) = ap (first_piece scope) e in
+    let width : found.width ≡ (first_piece scope (drop place text)).width = shows.width ∙ ap (λ p. p.width) same in
+    let kind : found.kind ≡ (first_piece scope (drop place text)).kind = shows.kind ∙ ap (λ p. p.kind) same in
+    let shown : found.text.now ≡ (first_piece scope (drop place text)).text = shows.text ∙ ap (λ p. p.text) same in
+    let goes : 1 ≤ (first_piece scope (drop place text)).width = omega (arith, width, shows.moves) in
+    rest-first scope text place there goes ∙ sym (rw (kind, width, shown) refl)
 
 -- one step of a scan
-pub scan-step : (text front : List ℕ) (place ends : ℕ) (found : Construct) → front ≡ drop place text → place < length text → Shows found (first_piece front) (length front) → (found.kind ≡ Unclosed → ⊥) → 1 ≤ ends →
-    past ends (rest_at text place) ≡ past (ends_behind found.kind ends) (rest_at text (place + found.width))
-scan-step text front place zero found e h shows known some = absurd (omega arith)
-scan-step text front place (suc ends) found e h shows known some =
-    ap (past (suc ends)) (rest-found text front place found e h shows)
-    ∙ past-before found.kind place (piece found.kind found.text.now found.width) (rest_at text (place + found.width)) ends known
+pub scan-step : (scope : Scope) (text front : List ℕ) (place ends : ℕ) (found : Construct) → front ≡ drop place text → place < length text → Shows found (first_piece scope front) (length front) → (found.kind ≡ Unclosed → ⊥) → 1 ≤ ends →
+    past ends (rest_at scope text place) ≡ past (ends_behind found.kind ends) (rest_at scope text (place + found.width))
+scan-step scope text front place zero found e h shows known some = absurd (omega arith)
+scan-step scope text front place (suc ends) found e h shows known some =
+    ap (past (suc ends)) (rest-found scope text front place found e h shows)
+    ∙ past-before found.kind place (piece found.kind found.text.now found.width) (rest_at scope text (place + found.width)) ends known
 
 -- a scan ends where something is unclosed
-pub scan-unclosed : (text front : List ℕ) (place ends : ℕ) (found : Construct) → front ≡ drop place text → place < length text → Shows found (first_piece front) (length front) → found.kind ≡ Unclosed → 1 ≤ ends →
-    past ends (rest_at text place) ≡ None
-scan-unclosed text front place zero found e h shows known some = absurd (omega arith)
-scan-unclosed text front place (suc ends) found e h shows known some =
-    ap (past (suc ends)) (rest-found text front place found e h shows)
-    ∙ ap (λ k. past (suc ends) (before k place (piece found.kind found.text.now found.width) (rest_at text (place + found.width)))) known
+pub scan-unclosed : (scope : Scope) (text front : List ℕ) (place ends : ℕ) (found : Construct) → front ≡ drop place text → place < length text → Shows found (first_piece scope front) (length front) → found.kind ≡ Unclosed → 1 ≤ ends →
+    past ends (rest_at scope text place) ≡ None
+scan-unclosed scope text front place zero found e h shows known some = absurd (omega arith)
+scan-unclosed scope text front place (suc ends) found e h shows known some =
+    ap (past (suc ends)) (rest-found scope text front place found e h shows)
+    ∙ ap (λ k. past (suc ends) (before k place (piece found.kind found.text.now found.width) (rest_at scope text (place + found.width)))) known
 
-pub scan-end : (text : List ℕ) (place ends : ℕ) → length text ≤ place → 1 ≤ ends → past ends (rest_at text place) ≡ None
-scan-end text place zero h some = absurd (omega arith)
-scan-end text place (suc ends) h some = ap (past (suc ends)) (rest-end text place h)
+pub scan-end : (scope : Scope) (text : List ℕ) (place ends : ℕ) → length text ≤ place → 1 ≤ ends → past ends (rest_at scope text place) ≡ None
+scan-end scope text place zero h some = absurd (omega arith)
+scan-end scope text place (suc ends) h some = ap (past (suc ends)) (rest-end scope text place h)
 
 pub few-ends : (kind : Kind) (ends : ℕ) → ends_behind kind ends ≤ ends + 1
 few-ends Plain ends = omega arith
@@ -143,63 +144,63 @@ then-some (Some rest) after e = e
 pub behind-of-past : (rest : Reading) (after : Option Reading) → past 1 rest ≡ after → behind_end rest ≡ after
 behind-of-past rest after e = then-some (behind_end rest) after e
 
-mark-behind : (text : List ℕ) (kind : Kind) (place passed : ℕ) (found : Piece) → (kind ≡ Unclosed → ⊥) → (kind ≡ Else → ⊥) → (kind ≡ End → ⊥) → IsBehind text kind (place + found.width) (Some passed) →
-    SameBehind (before kind place found (rest_at text (place + found.width))) (rest_at text passed)
-mark-behind text Plain place passed found a b d e =
+mark-behind : (scope : Scope) (text : List ℕ) (kind : Kind) (place passed : ℕ) (found : Piece) → (kind ≡ Unclosed → ⊥) → (kind ≡ Else → ⊥) → (kind ≡ End → ⊥) → IsBehind scope text kind (place + found.width) (Some passed) →
+    SameBehind (before kind place found (rest_at scope text (place + found.width))) (rest_at scope text passed)
+mark-behind scope text Plain place passed found a b d e =
     let f : place + found.width ≡ passed = cc in
-    same-to (put (Bytes found.text) (rest_at text (place + found.width))) (rest_at text (place + found.width)) (rest_at text passed) (same-put (Bytes found.text) (rest_at text (place + found.width))) (ap (rest_at text) f)
-mark-behind text Reference place passed found a b d e =
+    same-to (put (Bytes found.text) (rest_at scope text (place + found.width))) (rest_at scope text (place + found.width)) (rest_at scope text passed) (same-put (Bytes found.text) (rest_at scope text (place + found.width))) (ap (rest_at scope text) f)
+mark-behind scope text Reference place passed found a b d e =
     let f : place + found.width ≡ passed = cc in
-    same-to (put (Refer found.text) (rest_at text (place + found.width))) (rest_at text (place + found.width)) (rest_at text passed) (same-put (Refer found.text) (rest_at text (place + found.width))) (ap (rest_at text) f)
-mark-behind text Test place passed found a b d e =
-    let there : behind_end (rest_at text (place + found.width)) ≡ Some (rest_at text passed) = behind-of-past (rest_at text (place + found.width)) (Some (rest_at text passed)) e.0 in
-    rw there (same-put (Choose found.text (first_part (rest_at text (place + found.width))) (second_part (rest_at text (place + found.width)))) (rest_at text passed))
-mark-behind text Else place passed found a b d e = absurd (b refl)
-mark-behind text End place passed found a b d e = absurd (d refl)
-mark-behind text Unclosed place passed found a b d e = absurd (a refl)
+    same-to (put (Refer found.text) (rest_at scope text (place + found.width))) (rest_at scope text (place + found.width)) (rest_at scope text passed) (same-put (Refer found.text) (rest_at scope text (place + found.width))) (ap (rest_at scope text) f)
+mark-behind scope text Test place passed found a b d e =
+    let there : behind_end (rest_at scope text (place + found.width)) ≡ Some (rest_at scope text passed) = behind-of-past (rest_at scope text (place + found.width)) (Some (rest_at scope text passed)) e.0 in
+    rw there (same-put (Choose found.text (first_part (rest_at scope text (place + found.width))) (second_part (rest_at scope text (place + found.width)))) (rest_at scope text passed))
+mark-behind scope text Else place passed found a b d e = absurd (b refl)
+mark-behind scope text End place passed found a b d e = absurd (d refl)
+mark-behind scope text Unclosed place passed found a b d e = absurd (a refl)
 
-pub mark-step : (text front : List ℕ) (place passed : ℕ) (found : Construct) → front ≡ drop place text → place < length text → Shows found (first_piece front) (length front) → (found.kind ≡ Unclosed → ⊥) → (found.kind ≡ Else → ⊥) → (found.kind ≡ End → ⊥) → IsBehind text found.kind (place + found.width) (Some passed) →
-    SameBehind (rest_at text place) (rest_at text passed)
-mark-step text front place passed found e h shows a b d behind =
-    same-along (rest_at text place) (before found.kind place (piece found.kind found.text.now found.width) (rest_at text (place + found.width))) (rest_at text passed)
-    (rest-found text front place found e h shows)
-    (mark-behind text found.kind place passed (piece found.kind found.text.now found.width) a b d behind)
+pub mark-step : (scope : Scope) (text front : List ℕ) (place passed : ℕ) (found : Construct) → front ≡ drop place text → place < length text → Shows found (first_piece scope front) (length front) → (found.kind ≡ Unclosed → ⊥) → (found.kind ≡ Else → ⊥) → (found.kind ≡ End → ⊥) → IsBehind scope text found.kind (place + found.width) (Some passed) →
+    SameBehind (rest_at scope text place) (rest_at scope text passed)
+mark-step scope text front place passed found e h shows a b d behind =
+    same-along (rest_at scope text place) (before found.kind place (piece found.kind found.text.now found.width) (rest_at scope text (place + found.width))) (rest_at scope text passed)
+    (rest-found scope text front place found e h shows)
+    (mark-behind scope text found.kind place passed (piece found.kind found.text.now found.width) a b d behind)
 
-mark-open : (text : List ℕ) (kind : Kind) (place : ℕ) (found : Piece) → (kind ≡ Else → ⊥) → (kind ≡ End → ⊥) → IsBehind text kind (place + found.width) None →
-    SameBehind (before kind place found (rest_at text (place + found.width))) (Last Nothing)
-mark-open text Plain place found b d e = cc
-mark-open text Reference place found b d e = cc
-mark-open text Test place found b d e =
-    let there : behind_end (rest_at text (place + found.width)) ≡ None = behind-of-past (rest_at text (place + found.width)) None e in
+mark-open : (scope : Scope) (text : List ℕ) (kind : Kind) (place : ℕ) (found : Piece) → (kind ≡ Else → ⊥) → (kind ≡ End → ⊥) → IsBehind scope text kind (place + found.width) None →
+    SameBehind (before kind place found (rest_at scope text (place + found.width))) (Last Nothing)
+mark-open scope text Plain place found b d e = cc
+mark-open scope text Reference place found b d e = cc
+mark-open scope text Test place found b d e =
+    let there : behind_end (rest_at scope text (place + found.width)) ≡ None = behind-of-past (rest_at scope text (place + found.width)) None e in
     rw there (record { second = refl; behind = refl })
-mark-open text Else place found b d e = absurd (b refl)
-mark-open text End place found b d e = absurd (d refl)
-mark-open text Unclosed place found b d e = record { second = refl; behind = refl }
+mark-open scope text Else place found b d e = absurd (b refl)
+mark-open scope text End place found b d e = absurd (d refl)
+mark-open scope text Unclosed place found b d e = record { second = refl; behind = refl }
 
-pub mark-none : (text front : List ℕ) (place : ℕ) (found : Construct) → front ≡ drop place text → place < length text → Shows found (first_piece front) (length front) → (found.kind ≡ Else → ⊥) → (found.kind ≡ End → ⊥) → IsBehind text found.kind (place + found.width) None →
-    SameBehind (rest_at text place) (Last Nothing)
-mark-none text front place found e h shows b d behind =
-    same-along (rest_at text place) (before found.kind place (piece found.kind found.text.now found.width) (rest_at text (place + found.width))) (Last Nothing)
-    (rest-found text front place found e h shows)
-    (mark-open text found.kind place (piece found.kind found.text.now found.width) b d behind)
+pub mark-none : (scope : Scope) (text front : List ℕ) (place : ℕ) (found : Construct) → front ≡ drop place text → place < length text → Shows found (first_piece scope front) (length front) → (found.kind ≡ Else → ⊥) → (found.kind ≡ End → ⊥) → IsBehind scope text found.kind (place + found.width) None →
+    SameBehind (rest_at scope text place) (Last Nothing)
+mark-none scope text front place found e h shows b d behind =
+    same-along (rest_at scope text place) (before found.kind place (piece found.kind found.text.now found.width) (rest_at scope text (place + found.width))) (Last Nothing)
+    (rest-found scope text front place found e h shows)
+    (mark-open scope text found.kind place (piece found.kind found.text.now found.width) b d behind)
 
 -- the rest by the construct there, where its kind is known
-pub rest-kind : (text front : List ℕ) (place : ℕ) (found : Construct) (kind : Kind) → front ≡ drop place text → place < length text → Shows found (first_piece front) (length front) → found.kind ≡ kind →
-    rest_at text place ≡ before kind place (piece kind found.text.now found.width) (rest_at text (place + found.width))
-rest-kind text front place found kind e h shows k =
-    rest-found text front place found e h shows ∙ ap (λ kind. before kind place (piece kind found.text.now found.width) (rest_at text (place + found.width))) k
+pub rest-kind : (scope : Scope) (text front : List ℕ) (place : ℕ) (found : Construct) (kind : Kind) → front ≡ drop place text → place < length text → Shows found (first_piece scope front) (length front) → found.kind ≡ kind →
+    rest_at scope text place ≡ before kind place (piece kind found.text.now found.width) (rest_at scope text (place + found.width))
+rest-kind scope text front place found kind e h shows k =
+    rest-found scope text front place found e h shows ∙ ap (λ kind. before kind place (piece kind found.text.now found.width) (rest_at scope text (place + found.width))) k
 
-pub same-end : (text : List ℕ) (place : ℕ) → length text ≤ place → SameBehind (rest_at text place) (Last Nothing)
-same-end text place h = rw (rest-end text place h) (record { second = refl; behind = refl })
+pub same-end : (scope : Scope) (text : List ℕ) (place : ℕ) → length text ≤ place → SameBehind (rest_at scope text place) (Last Nothing)
+same-end scope text place h = rw (rest-end scope text place h) (record { second = refl; behind = refl })
 
-pub behind-bounds : (text : List ℕ) (kind : Kind) (next passed : ℕ) → next ≤ length text → IsBehind text kind next (Some passed) → (next ≤ passed) × (passed ≤ length text)
-behind-bounds text Plain next passed h e = let f : next ≡ passed = cc in (omega arith, omega arith)
-behind-bounds text Reference next passed h e = let f : next ≡ passed = cc in (omega arith, omega arith)
-behind-bounds text Test next passed h e = (e.1, e.2)
-behind-bounds text Else next passed h e = let f : next ≡ passed = cc in (omega arith, omega arith)
-behind-bounds text End next passed h e = let f : next ≡ passed = cc in (omega arith, omega arith)
-behind-bounds text Unclosed next passed h e = let f : next ≡ passed = cc in (omega arith, omega arith)
+pub behind-bounds : (scope : Scope) (text : List ℕ) (kind : Kind) (next passed : ℕ) → next ≤ length text → IsBehind scope text kind next (Some passed) → (next ≤ passed) × (passed ≤ length text)
+behind-bounds scope text Plain next passed h e = let f : next ≡ passed = cc in (omega arith, omega arith)
+behind-bounds scope text Reference next passed h e = let f : next ≡ passed = cc in (omega arith, omega arith)
+behind-bounds scope text Test next passed h e = (e.1, e.2)
+behind-bounds scope text Else next passed h e = let f : next ≡ passed = cc in (omega arith, omega arith)
+behind-bounds scope text End next passed h e = let f : next ≡ passed = cc in (omega arith, omega arith)
+behind-bounds scope text Unclosed next passed h e = let f : next ≡ passed = cc in (omega arith, omega arith)
 
 -- what was found at a place ends within the text
-pub found-within : (text front : List ℕ) (place : ℕ) (found : Construct) → front ≡ drop place text → place < length text → Shows found (first_piece front) (length front) → place + found.width ≤ length text
-found-within text front place found e h shows = omega (arith, ap length e, length-drop place text, shows.within)
+pub found-within : (scope : Scope) (text front : List ℕ) (place : ℕ) (found : Construct) → front ≡ drop place text → place < length text → Shows found (first_piece scope front) (length front) → place + found.width ≤ length text
+found-within scope text front place found e h shows = omega (arith, ap length e, length-drop place text, shows.within)

@@ -6,8 +6,9 @@ use Rattle.cf_macros.specs.declared.fault.ExpandFault.TheVariants.{Deep, Large}
 use Rattle.cf_macros.specs.declared.level.Level.{Level}
 use Rattle.cf_macros.specs.declared.level.Given.{Given}
 use Rattle.cf_macros.specs.declared.run.Run.{Run}
+use Rattle.cf_macros.specs.declared.scope.Scope.{Scope}
 use Rattle.cf_macros.specs.Readings.{Nothing, Last, reading}
-use Rattle.cf_macros.specs.Expansion.{Act, Follows, Fails, whole, followed, outcome, value}
+use Rattle.cf_macros.specs.Expansion.{Act, Follows, Fails, whole, followed, outcome, value_in}
 use Rattle.cf_macros.specs.Insides.{rest_at, inside}
 use Rattle.cf_macros.specs.Levels.{above, stacked, top, told, room, ending, state, is_silent, level_rest, Goes, IsAtEnd, IsNew, Resumes}
 use Rattle.cf_macros.specs.Runs.{left, comes_to, Finishes}
@@ -17,7 +18,7 @@ use Rattle.cf_macros.proofs.StackLemmas.{stacked-append, stacked-follows, ending
 -- nothing is left of a level at its end
 top-end : (f : List ℕ → List Act) (level : Level) → IsAtEnd level → top f level None ≡ above level.gave []
 top-end f level end =
-    let none : inside f level.depth (level_rest level) ≡ [] = ap (inside f level.depth) (rest-end level.text.now level.place end.end) ∙ nothing level.depth in
+    let none : inside f level.depth (level_rest level) ≡ [] = ap (inside f level.depth) (rest-end level.scope level.text.now level.place end.end) ∙ nothing level.depth in
     rw (end.reads, none) refl
   where
     nothing : (depth : ℕ) → inside f depth (Last Nothing) ≡ []
@@ -35,7 +36,7 @@ run-ends start below count old level was now same goes silent empty end = record
   same = λ macros.
       sym (same macros) ∙ sym (goes.same below macros (left count) silent)
       ∙ ap (λ below. state below macros (left count) now.text level None) empty
-      ∙ ap (λ over. told now.text (outcome (left count) (room now.text) over.acts)) (top-end (followed 10 macros) level end)
+      ∙ ap (λ over. told now.text (outcome (left count) (room now.text) over.acts)) (top-end (followed level.scope 10 macros) level end)
       ∙ ap Ok (append-nil now.text);
 }
 
@@ -44,9 +45,10 @@ pub run-resumes : (start : Run) (below front : List Level) (outer : Level) (coun
     Goes old was level now None → is_silent below ≡ was.silent → below ≡ front ++ outer ∷ [] → IsAtEnd level → Resumes outer level.gave next →
     (macros : List (List ℕ × List ℕ)) → state front macros (left count) now.text next None ≡ comes_to macros start None
 run-resumes start below front outer count old level next was now same goes silent joined end resumes macros =
-    ap (λ over. ending front macros (left count) now.text over) (resumes.same (followed (10 - length front) macros))
+    ap (λ scope. ending front macros (left count) now.text (top (followed scope (10 - length front) macros) next None)) resumes.scoped
+    ∙ ap (λ over. ending front macros (left count) now.text over) (resumes.same (followed outer.scope (10 - length front) macros))
     ∙ ap (λ over. told now.text (outcome (left count) (room now.text) over.acts)) (sym (stacked-append 10 macros front outer (above level.gave [])))
-    ∙ ap (λ over. ending (front ++ outer ∷ []) macros (left count) now.text over) (sym (top-end (followed (10 - length (front ++ outer ∷ [])) macros) level end))
+    ∙ ap (λ over. ending (front ++ outer ∷ []) macros (left count) now.text over) (sym (top-end (followed level.scope (10 - length (front ++ outer ∷ [])) macros) level end))
     ∙ ap (λ below. state below macros (left count) now.text level None) (sym joined)
     ∙ goes.same below macros (left count) silent
     ∙ same macros
@@ -57,32 +59,32 @@ none-end (Some name) level e end = absurd (cc)
 
 -- a reference above the levels
 
-pub followed-zero : (levels : ℕ) (macros : List (List ℕ × List ℕ)) (name : List ℕ) → levels ≡ 0 → followed levels macros name ≡ Fails Deep ∷ []
+pub followed-zero : (scope : Scope) (levels : ℕ) (macros : List (List ℕ × List ℕ)) (name : List ℕ) → levels ≡ 0 → followed scope levels macros name ≡ Fails Deep ∷ []
 unfolding followed
-followed-zero levels macros name e = rw e refl
+followed-zero scope levels macros name e = rw e refl
 
-pub followed-suc : (levels less : ℕ) (macros : List (List ℕ × List ℕ)) (name : List ℕ) → levels ≡ suc less → followed levels macros name ≡ Follows ∷ whole (followed less macros) (reading 0 0 (unwrap_or (value_at name macros) []))
+pub followed-suc : (scope : Scope) (levels less : ℕ) (macros : List (List ℕ × List ℕ)) (name : List ℕ) → levels ≡ suc less → followed scope levels macros name ≡ Follows ∷ whole (followed scope less macros) (reading scope 0 0 (unwrap_or (value_at name macros) []))
 unfolding followed
-followed-suc levels less macros name e = rw e refl
+followed-suc scope levels less macros name e = rw e refl
 
 -- the level on top waits like those below it
 on-top : (below : List Level) (macros : List (List ℕ × List ℕ)) (references : ℕ) (given : List ℕ) (level : Level) (name : List ℕ) →
-    state below macros references given level (Some name) ≡ ending (below ++ level ∷ []) macros references given (above false (followed (10 - length below) macros name))
+    state below macros references given level (Some name) ≡ ending (below ++ level ∷ []) macros references given (above false (followed level.scope (10 - length below) macros name))
 on-top below macros references given level name =
-    ap (λ over. told given (outcome references (room given) over.acts)) (sym (stacked-append 10 macros below level (above false (followed (10 - length below) macros name))))
+    ap (λ over. told given (outcome references (room given) over.acts)) (sym (stacked-append 10 macros below level (above false (followed level.scope (10 - length below) macros name))))
 
 pub too-deep : (below : List Level) (macros : List (List ℕ × List ℕ)) (references : ℕ) (given : List ℕ) (level : Level) (name : List ℕ) → 10 ≤ length below → state below macros references given level (Some name) ≡ Err Deep
 too-deep below macros references given level name h =
     on-top below macros references given level name
-    ∙ ending-refuses (below ++ level ∷ []) macros references given Deep (above false (followed (10 - length below) macros name)) (record { more = []; acts = followed-zero (10 - length below) macros name (omega arith) })
+    ∙ ending-refuses (below ++ level ∷ []) macros references given Deep (above false (followed level.scope (10 - length below) macros name)) (record { more = []; acts = followed-zero level.scope (10 - length below) macros name (omega arith) })
 
 -- a reference that is followed
 followed-first : (below : List Level) (macros : List (List ℕ × List ℕ)) (references : ℕ) (given : List ℕ) (level : Level) (name : List ℕ) (less : ℕ) → 10 - length below ≡ suc less →
-    state below macros references given level (Some name) ≡ told given (outcome references (room given) (Follows ∷ (stacked 10 macros (below ++ level ∷ []) (above false (whole (followed less macros) (reading 0 0 (unwrap_or (value_at name macros) []))))).acts))
+    state below macros references given level (Some name) ≡ told given (outcome references (room given) (Follows ∷ (stacked 10 macros (below ++ level ∷ []) (above false (whole (followed level.scope less macros) (reading level.scope 0 0 (unwrap_or (value_at name macros) []))))).acts))
 followed-first below macros references given level name less e =
-    let reads : List Act = whole (followed less macros) (reading 0 0 (unwrap_or (value_at name macros) [])) in
+    let reads : List Act = whole (followed level.scope less macros) (reading level.scope 0 0 (unwrap_or (value_at name macros) [])) in
     on-top below macros references given level name
-    ∙ ap (λ acts. ending (below ++ level ∷ []) macros references given (above false acts)) (followed-suc (10 - length below) less macros name e)
+    ∙ ap (λ acts. ending (below ++ level ∷ []) macros references given (above false acts)) (followed-suc level.scope (10 - length below) less macros name e)
     ∙ ap (λ over. told given (outcome references (room given) over.acts)) (stacked-follows 10 macros (below ++ level ∷ []) (above false reads))
 
 pub too-many : (below : List Level) (macros : List (List ℕ × List ℕ)) (count : ℕ) (given : List ℕ) (level : Level) (name : List ℕ) → length below < 10 → 10000 ≤ count → state below macros (left count) given level (Some name) ≡ Err Large
@@ -93,32 +95,34 @@ too-many below macros count given level name h many =
     followed-first below macros (10000 - count) given level name (9 - length below) e
     ∙ rw none refl
 
-new-top : (f : List ℕ → List Act) (level : Level) (text : List ℕ) → IsNew text level → top f level None ≡ above false (whole f (reading 0 0 text))
-new-top f level text new =
-    let at : level_rest level ≡ reading 0 0 text = ap (λ t. rest_at t level.place) new.same ∙ ap (rest_at text) new.place in
+new-top : (f : List ℕ → List Act) (scope : Scope) (level : Level) (text : List ℕ) → IsNew scope text level → top f level None ≡ above false (whole f (reading scope 0 0 text))
+new-top f scope level text new =
+    let at : level_rest level ≡ reading scope 0 0 text = ap (λ s. rest_at s level.text.now level.place) new.scoped ∙ ap (λ t. rest_at scope t level.place) new.same ∙ ap (rest_at scope text) new.place in
     rw (new.reads, new.gave, new.depth, at) refl
 
-pub follows : (below now : List Level) (macros : List (List ℕ × List ℕ)) (count next : ℕ) (given : List ℕ) (level later : Level) (name : List ℕ) → length below < 10 → count < 10000 → next ≡ count + 1 → now ≡ below ++ level ∷ [] → IsNew (unwrap_or (value_at name macros) []) later →
+pub follows : (below now : List Level) (macros : List (List ℕ × List ℕ)) (count next : ℕ) (given : List ℕ) (level later : Level) (name : List ℕ) → length below < 10 → count < 10000 → next ≡ count + 1 → now ≡ below ++ level ∷ [] → IsNew level.scope (unwrap_or (value_at name macros) []) later →
     state now macros (left next) given later None ≡ state below macros (left count) given level (Some name)
 unfolding left
 follows below now macros count next given level later name h few counts joined new =
     let e : 10 - length below ≡ suc (9 - length below) = omega arith in
     let one : 10000 - count ≡ suc (10000 - next) = omega arith in
     let levels : 10 - length now ≡ 9 - length below = omega (arith, ap length joined, length-append below (level ∷ [])) in
-    let reads : List Act = whole (followed (9 - length below) macros) (reading 0 0 (unwrap_or (value_at name macros) [])) in
-    ap (λ n. ending now macros (10000 - next) given (top (followed n macros) later None)) levels
-    ∙ ap (λ over. ending now macros (10000 - next) given over) (new-top (followed (9 - length below) macros) later (unwrap_or (value_at name macros) []) new)
+    let reads : List Act = whole (followed level.scope (9 - length below) macros) (reading level.scope 0 0 (unwrap_or (value_at name macros) [])) in
+    ap (λ scope. ending now macros (10000 - next) given (top (followed scope (10 - length now) macros) later None)) new.scoped
+    ∙ ap (λ n. ending now macros (10000 - next) given (top (followed level.scope n macros) later None)) levels
+    ∙ ap (λ over. ending now macros (10000 - next) given over) (new-top (followed level.scope (9 - length below) macros) level.scope later (unwrap_or (value_at name macros) []) new)
     ∙ ap (λ now. ending now macros (10000 - next) given (above false reads)) joined
     ∙ sym (followed-first below macros (10000 - count) given level name (9 - length below) e ∙ ap (λ n. told given (outcome n (room given) (Follows ∷ (stacked 10 macros (below ++ level ∷ []) (above false reads)).acts))) one)
 
-pub is-new : (bytes text : List ℕ) (level : Level) → bytes ≡ text → IsNew bytes level → IsNew text level
-is-new bytes text level e new = record { same = new.same ∙ e; place = new.place; depth = new.depth; gave = new.gave; reads = new.reads }
+pub is-new : (scope : Scope) (bytes text : List ℕ) (level : Level) → bytes ≡ text → IsNew scope bytes level → IsNew scope text level
+is-new scope bytes text level e new = record { same = new.same ∙ e; scoped = new.scoped; place = new.place; depth = new.depth; gave = new.gave; reads = new.reads }
 
 -- the whole at its beginning
-pub begins : (text : List ℕ) (macros : List (List ℕ × List ℕ)) (below : List Level) (given : List ℕ) (level : Level) → below ≡ [] → given ≡ [] → IsNew text level → state below macros (left 0) given level None ≡ value text macros
-unfolding left value room
-begins text macros below given level e f new =
+pub begins : (scope : Scope) (text : List ℕ) (macros : List (List ℕ × List ℕ)) (below : List Level) (given : List ℕ) (level : Level) → below ≡ [] → given ≡ [] → IsNew scope text level → state below macros (left 0) given level None ≡ value_in scope text macros
+unfolding left value_in room
+begins scope text macros below given level e f new =
     ap (λ below. state below macros 10000 given level None) e
     ∙ ap (λ given. state [] macros 10000 given level None) f
-    ∙ ap (λ over. told [] (outcome 10000 1048576 over.acts)) (new-top (followed 10 macros) level text new)
-    ∙ told-none (outcome 10000 1048576 (whole (followed 10 macros) (reading 0 0 text)))
+    ∙ ap (λ s. ending [] macros 10000 [] (top (followed s 10 macros) level None)) new.scoped
+    ∙ ap (λ over. told [] (outcome 10000 1048576 over.acts)) (new-top (followed scope 10 macros) scope level text new)
+    ∙ told-none (outcome 10000 1048576 (whole (followed scope 10 macros) (reading scope 0 0 text)))

@@ -41,11 +41,11 @@ outcome-large references (suc bytes) (byte ∷ given) acts h = ap (with_byte byt
 -- stacks
 
 pub stacked-append : (levels : ℕ) (macros : List (List ℕ × List ℕ)) (below : List Level) (level : Level) (over : Above) →
-    stacked levels macros (below ++ level ∷ []) over ≡ stacked levels macros below (under (followed (levels - length below) macros) level over)
+    stacked levels macros (below ++ level ∷ []) over ≡ stacked levels macros below (under (followed level.scope (levels - length below) macros) level over)
 stacked-append levels macros [] level over = let e : levels - 0 ≡ levels = omega arith in rw e refl
 stacked-append levels macros (first ∷ below) level over =
     let e : levels - 1 - length below ≡ levels - suc (length below) = omega arith in
-    ap (under (followed levels macros) first) (stacked-append (levels - 1) macros below level over ∙ ap (λ n. stacked (levels - 1) macros below (under (followed n macros) level over)) e)
+    ap (under (followed first.scope levels macros) first) (stacked-append (levels - 1) macros below level over ∙ ap (λ n. stacked (levels - 1) macros below (under (followed level.scope n macros) level over)) e)
 
 -- a byte that is given while a test is open is noted, and nothing else
 
@@ -87,7 +87,7 @@ pub stacked-shown : (levels : ℕ) (macros : List (List ℕ × List ℕ)) (below
 stacked-shown levels macros [] byte bytes one other h e = h
 stacked-shown levels macros (level ∷ below) byte bytes one other h e =
     let both = either-cases level.tests (is_silent below) e in
-    waits-gives level.tests level.gave (inside (followed levels macros) level.depth (level_rest level)) (inside_other (followed levels macros) level.depth (level_rest level)) byte bytes (stacked (levels - 1) macros below one) (stacked (levels - 1) macros below other) (stacked-shown (levels - 1) macros below byte bytes one other h both.1) both.0
+    waits-gives level.tests level.gave (inside (followed level.scope levels macros) level.depth (level_rest level)) (inside_other (followed level.scope levels macros) level.depth (level_rest level)) byte bytes (stacked (levels - 1) macros below one) (stacked (levels - 1) macros below other) (stacked-shown (levels - 1) macros below byte bytes one other h both.1) both.0
 
 pub stacked-kept : (levels : ℕ) (macros : List (List ℕ × List ℕ)) (below : List Level) (byte : ℕ) (bytes : List ℕ) (one other : Above) → GivesFirst (byte ∷ bytes) one other → is_silent below ≡ true →
     stacked levels macros below one ≡ stacked levels macros below other
@@ -98,9 +98,9 @@ stacked-kept levels macros (level ∷ below) byte bytes one other h e = by_inner
     waits true other e i = refl
     waits false other e i = absurd (cc)
 
-    by_inner : (inner : Bool) → is_silent below ≡ inner → (is_silent below ≡ true → stacked (levels - 1) macros below one ≡ stacked (levels - 1) macros below other) → under (followed levels macros) level (stacked (levels - 1) macros below one) ≡ under (followed levels macros) level (stacked (levels - 1) macros below other)
-    by_inner true i inner = ap (under (followed levels macros) level) (inner i)
-    by_inner false i inner = tests-gives level.tests level.gave (inside (followed levels macros) level.depth (level_rest level)) (inside_other (followed levels macros) level.depth (level_rest level)) byte bytes (stacked (levels - 1) macros below one) (stacked (levels - 1) macros below other) (stacked-shown (levels - 1) macros below byte bytes one other h i) (waits level.tests (is_silent below) e i)
+    by_inner : (inner : Bool) → is_silent below ≡ inner → (is_silent below ≡ true → stacked (levels - 1) macros below one ≡ stacked (levels - 1) macros below other) → under (followed level.scope levels macros) level (stacked (levels - 1) macros below one) ≡ under (followed level.scope levels macros) level (stacked (levels - 1) macros below other)
+    by_inner true i inner = ap (under (followed level.scope levels macros) level) (inner i)
+    by_inner false i inner = tests-gives level.tests level.gave (inside (followed level.scope levels macros) level.depth (level_rest level)) (inside_other (followed level.scope levels macros) level.depth (level_rest level)) byte bytes (stacked (levels - 1) macros below one) (stacked (levels - 1) macros below other) (stacked-shown (levels - 1) macros below byte bytes one other h i) (waits level.tests (is_silent below) e i)
 
 -- a reference that is followed comes first, and so does a refusal
 
@@ -114,8 +114,8 @@ waits-follows false gave here there over = refl
 pub stacked-follows : (levels : ℕ) (macros : List (List ℕ × List ℕ)) (below : List Level) (over : Above) → stacked levels macros below (following over) ≡ following (stacked levels macros below over)
 stacked-follows levels macros [] over = refl
 stacked-follows levels macros (level ∷ below) over =
-    ap (under (followed levels macros) level) (stacked-follows (levels - 1) macros below over)
-    ∙ waits-follows level.tests level.gave (inside (followed levels macros) level.depth (level_rest level)) (inside_other (followed levels macros) level.depth (level_rest level)) (stacked (levels - 1) macros below over)
+    ap (under (followed level.scope levels macros) level) (stacked-follows (levels - 1) macros below over)
+    ∙ waits-follows level.tests level.gave (inside (followed level.scope levels macros) level.depth (level_rest level)) (inside_other (followed level.scope levels macros) level.depth (level_rest level)) (stacked (levels - 1) macros below over)
 
 -- the first act is a refusal
 pub record Refuses (fault : ExpandFault) (over : Above) : Type 0 where
@@ -129,7 +129,7 @@ waits-refuses false gave here there fault over h = record { more = _; acts = ap 
 pub stacked-refuses : (levels : ℕ) (macros : List (List ℕ × List ℕ)) (below : List Level) (fault : ExpandFault) (over : Above) → Refuses fault over → Refuses fault (stacked levels macros below over)
 stacked-refuses levels macros [] fault over h = h
 stacked-refuses levels macros (level ∷ below) fault over h =
-    waits-refuses level.tests level.gave (inside (followed levels macros) level.depth (level_rest level)) (inside_other (followed levels macros) level.depth (level_rest level)) fault (stacked (levels - 1) macros below over) (stacked-refuses (levels - 1) macros below fault over h)
+    waits-refuses level.tests level.gave (inside (followed level.scope levels macros) level.depth (level_rest level)) (inside_other (followed level.scope levels macros) level.depth (level_rest level)) fault (stacked (levels - 1) macros below over) (stacked-refuses (levels - 1) macros below fault over h)
 
 pub ending-refuses : (below : List Level) (macros : List (List ℕ × List ℕ)) (references : ℕ) (given : List ℕ) (fault : ExpandFault) (over : Above) → Refuses fault over → ending below macros references given over ≡ Err fault
 ending-refuses below macros references given fault over h =
@@ -182,10 +182,12 @@ pub gives-top : (f : List ℕ → List Act) (old new : Level) (bytes : List ℕ)
 gives-top f old new [] o n g e = rw (o, n, g, e) refl
 gives-top f old new (byte ∷ bytes) o n g e = rw (o, n) (record { acts = e; given = g })
 
-pub goes-give : (old new : Level) (was now : Given) (bytes : List ℕ) → IsGiven was bytes now → old.tests ≡ false → new.tests ≡ false → new.gave ≡ gave_after old.gave bytes →
+pub goes-give : (old new : Level) (was now : Given) (bytes : List ℕ) → IsGiven was bytes now → old.tests ≡ false → new.tests ≡ false → new.gave ≡ gave_after old.gave bytes → new.scope ≡ old.scope →
     ((f : List ℕ → List Act) → inside f old.depth (level_rest old) ≡ map Gives bytes ++ inside f new.depth (level_rest new)) → Goes old was new now None
-goes-give old new was now bytes given o n g e = record {
-  same = λ below macros references silent. ending-gives below macros references was.text now.text bytes (top (followed (10 - length below) macros) old None) (top (followed (10 - length below) macros) new None) was.silent (gives-top (followed (10 - length below) macros) old new bytes o n g (e (followed (10 - length below) macros))) silent given.kept given.given given.fits;
+goes-give old new was now bytes given o n g s e = record {
+  same = λ below macros references silent.
+      ap (λ scope. ending below macros references now.text (top (followed scope (10 - length below) macros) new None)) s
+      ∙ ending-gives below macros references was.text now.text bytes (top (followed old.scope (10 - length below) macros) old None) (top (followed old.scope (10 - length below) macros) new None) was.silent (gives-top (followed old.scope (10 - length below) macros) old new bytes o n g (e (followed old.scope (10 - length below) macros))) silent given.kept given.given given.fits;
   silent = given.silent;
 }
 
@@ -197,7 +199,7 @@ gives-first f old (byte ∷ bytes) later o e = rw o (record { acts = e; given = 
 stops-large : (old : Level) (was : Given) (bytes : List ℕ) (later : (List ℕ → List Act) → List Act) → Overflows was bytes → old.tests ≡ false →
     ((f : List ℕ → List Act) → inside f old.depth (level_rest old) ≡ map Gives bytes ++ later f) → StopsBy Large old was
 stops-large old was bytes later over o e = record {
-  stops = λ below macros references silent. ending-large below macros references was.text bytes (top (followed (10 - length below) macros) old None) (above (gave_after old.gave bytes) (later (followed (10 - length below) macros))) (gives-first (followed (10 - length below) macros) old bytes (later (followed (10 - length below) macros)) o (e (followed (10 - length below) macros))) (silent ∙ over.shown) over.large;
+  stops = λ below macros references silent. ending-large below macros references was.text bytes (top (followed old.scope (10 - length below) macros) old None) (above (gave_after old.gave bytes) (later (followed old.scope (10 - length below) macros))) (gives-first (followed old.scope (10 - length below) macros) old bytes (later (followed old.scope (10 - length below) macros)) o (e (followed old.scope (10 - length below) macros))) (silent ∙ over.shown) over.large;
 }
 
 pub stops-refusal : (old : Level) (was : Given) (bytes : List ℕ) (later : (List ℕ → List Act) → List Act) (fault : ExpandFault) → KeepsOut fault was bytes → old.tests ≡ false →
@@ -210,16 +212,18 @@ stops-refusal old was bytes later NoMemory refused o e = tt
 -- a refused level
 pub stops-refused : (old : Level) (was : Given) (fault : ExpandFault) → old.tests ≡ false → ((f : List ℕ → List Act) → Refuses fault (above false (inside f old.depth (level_rest old)))) → StopsBy fault old was
 stops-refused old was fault o h = record {
-  stops = λ below macros references silent. ending-refuses below macros references was.text fault (top (followed (10 - length below) macros) old None) (refuses (followed (10 - length below) macros));
+  stops = λ below macros references silent. ending-refuses below macros references was.text fault (top (followed old.scope (10 - length below) macros) old None) (refuses (followed old.scope (10 - length below) macros));
 }
   where
     refuses : (f : List ℕ → List Act) → Refuses fault (top f old None)
     refuses f = rw o (record { more = (h f).more; acts = (h f).acts })
 
 -- levels that come to the same
-pub goes-same : (old new : Level) (was : Given) (name : Option (List ℕ)) → ((f : List ℕ → List Act) → top f new name ≡ top f old None) → Goes old was new was name
-goes-same old new was name e = record {
-  same = λ below macros references silent. ap (ending below macros references was.text) (e (followed (10 - length below) macros));
+pub goes-same : (old new : Level) (was : Given) (name : Option (List ℕ)) → new.scope ≡ old.scope → ((f : List ℕ → List Act) → top f new name ≡ top f old None) → Goes old was new was name
+goes-same old new was name s e = record {
+  same = λ below macros references silent.
+      ap (λ scope. ending below macros references was.text (top (followed scope (10 - length below) macros) new name)) s
+      ∙ ap (ending below macros references was.text) (e (followed old.scope (10 - length below) macros));
   silent = refl;
 }
 

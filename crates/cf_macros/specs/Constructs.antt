@@ -6,6 +6,8 @@ use Rattle.cf_macros.specs.declared.construct.Kind.{Kind}
 use Rattle.cf_macros.specs.declared.construct.Kind.TheVariants.{Plain, Reference, Test, Else, End, Unclosed}
 use Rattle.cf_macros.specs.declared.construct.Naming.{Naming}
 use Rattle.cf_macros.specs.declared.construct.Naming.TheVariants.{Letter, Word, Open, Nameless}
+use Rattle.cf_macros.specs.declared.scope.Scope.{Scope}
+use Rattle.cf_macros.specs.declared.scope.Scope.TheVariants.{Outside, Rule}
 
 -- the bytes that are no names of macros without braces
 abbrev pub nameless_bytes : List ℕ
@@ -35,7 +37,7 @@ pub record Piece : Type 0 where
 abbrev pub piece : Kind → List ℕ → ℕ → Piece
 piece kind text width = record { kind = kind; text = text; width = width }
 
--- `$x`, `${x}`, and with an offset of 2 `$&x` and `$&{x}`
+-- `$x` and `${x}`, and with an offset of 2 `$&x` and `$&{x}` outside rules
 abbrev pub reference_at : ℕ → List ℕ → Naming → Piece
 reference_at offset text Letter = piece Reference (take 1 (drop offset text)) (offset + 1)
 reference_at offset text (Word length) = piece Reference (take length (drop (offset + 1) text)) (offset + length + 2)
@@ -49,22 +51,39 @@ test_of text (Word length) = piece Test (take length (drop 3 text)) (length + 4)
 test_of text Open = piece Unclosed [] 1
 test_of text Nameless = piece Plain (take 2 text) 2
 
+-- `$$`, which stands for a dollar sign outside rules, and in a rule stays as it is written
+abbrev pub doubled : Scope → List ℕ → Piece
+doubled Outside text = piece Plain (take 1 text) 2
+doubled Rule text = piece Plain (take 2 text) 2
+
+-- `$&x` and `$&{x}` as they are written
+abbrev pub kept : List ℕ → Naming → Piece
+kept text Letter = piece Plain (take 3 text) 3
+kept text (Word length) = piece Plain (take (length + 4) text) (length + 4)
+kept text Open = piece Unclosed [] 3
+kept text Nameless = piece Plain (take 2 text) 2
+
+-- `$&x` and `$&{x}`, which outside rules stand for the macro, and in a rule stay as they are written
+abbrev pub late : Scope → List ℕ → Naming → Piece
+late Outside text naming = reference_at 2 text naming
+late Rule text naming = kept text naming
+
 -- a dollar sign and the byte behind it
-abbrev pub dollar_piece : List ℕ → ℕ → Piece
-dollar_piece text next =
-    if next == 36 then piece Plain (take 1 text) 2
+abbrev pub dollar_piece : Scope → List ℕ → ℕ → Piece
+dollar_piece scope text next =
+    if next == 36 then doubled scope text
     else if next == 124 then piece Else [] 2
     else if next == 46 then piece End [] 2
     else if next == 63 then test_of text (name_at (drop 2 text))
-    else if next == 38 then reference_at 2 text (name_at (drop 2 text))
+    else if next == 38 then late scope text (name_at (drop 2 text))
     else reference_at 1 text (name_at (drop 1 text))
 
 -- the first construct of a text that isn't empty
-abbrev pub first_piece : List ℕ → Piece
-first_piece [] = piece Plain [] 1
-first_piece (byte ∷ []) = piece Plain (byte ∷ []) 1
-first_piece (byte ∷ next ∷ rest) =
-    if byte == 36 then dollar_piece (byte ∷ next ∷ rest) next else piece Plain (byte ∷ []) 1
+abbrev pub first_piece : Scope → List ℕ → Piece
+first_piece scope [] = piece Plain [] 1
+first_piece scope (byte ∷ []) = piece Plain (byte ∷ []) 1
+first_piece scope (byte ∷ next ∷ rest) =
+    if byte == 36 then dollar_piece scope (byte ∷ next ∷ rest) next else piece Plain (byte ∷ []) 1
 
 -- what the naming takes is within so many bytes
 abbrev pub IsWithin : Naming → ℕ → Type 0

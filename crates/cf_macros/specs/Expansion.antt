@@ -3,6 +3,8 @@ use Rattle.std.specs.Prelude.{ℕ, zero, suc, List, [], ◌∷◌, ◌++◌, map
 use Rattle.mail_base.specs.Catalogs.{value_at}
 use Rattle.cf_macros.specs.declared.fault.ExpandFault.{ExpandFault}
 use Rattle.cf_macros.specs.declared.fault.ExpandFault.TheVariants.{Unclosed, Deep, Large, NoMemory}
+use Rattle.cf_macros.specs.declared.scope.Scope.{Scope}
+use Rattle.cf_macros.specs.declared.scope.Scope.TheVariants.{Outside, Rule}
 use Rattle.cf_macros.specs.Readings.{Parts, Nothing, Bytes, Refer, Choose, Broken, Reading, Last, BeforeElse, BeforeEnd, reading}
 
 -- what happens in an expansion, in reading order: a byte is given, a reference is followed, or something is refused
@@ -40,9 +42,9 @@ whole followed (BeforeElse parts more) = acts_of followed parts ++ (map Gives (c
 whole followed (BeforeEnd parts more) = acts_of followed parts ++ (map Gives (codes "$.") ++ whole followed more)
 
 -- the acts of a reference, with so many levels left; a macro that isn't set has the empty value
-unfoldable pub followed : ℕ → List (List ℕ × List ℕ) → List ℕ → List Act
-followed zero macros name = Fails Deep ∷ []
-followed (suc levels) macros name = Follows ∷ whole (followed levels macros) (reading 0 0 (unwrap_or (value_at name macros) []))
+unfoldable pub followed : Scope → ℕ → List (List ℕ × List ℕ) → List ℕ → List Act
+followed scope zero macros name = Fails Deep ∷ []
+followed scope (suc levels) macros name = Follows ∷ whole (followed scope levels macros) (reading scope 0 0 (unwrap_or (value_at name macros) []))
 
 abbrev pub with_byte : ℕ → Result (List ℕ) ExpandFault → Result (List ℕ) ExpandFault
 with_byte byte (Ok text) = Ok (byte ∷ text)
@@ -58,8 +60,16 @@ outcome (suc references) bytes (Follows ∷ acts) = outcome references bytes act
 outcome references bytes (Fails fault ∷ acts) = Err fault
 
 -- the expansion of a text: at most ten levels of references, 10,000 references and 1,048,576 bytes
-unfoldable pub value : List ℕ → List (List ℕ × List ℕ) → Result (List ℕ) ExpandFault
-value text macros = outcome 10_000 1_048_576 (whole (followed 10 macros) (reading 0 0 text))
+unfoldable pub value_in : Scope → List ℕ → List (List ℕ × List ℕ) → Result (List ℕ) ExpandFault
+value_in scope text macros = outcome 10_000 1_048_576 (whole (followed scope 10 macros) (reading scope 0 0 text))
+
+-- outside rules
+abbrev pub value : List ℕ → List (List ℕ × List ℕ) → Result (List ℕ) ExpandFault
+value text macros = value_in Outside text macros
+
+-- as a side of a rule, in which `$$`, `$&x` and `$&{x}` stay as they are written at every level
+abbrev pub rule_value : List ℕ → List (List ℕ × List ℕ) → Result (List ℕ) ExpandFault
+rule_value text macros = value_in Rule text macros
 
 -- the expansion is refused for this cause; want of memory may come at any time
 abbrev pub IsRefused : ExpandFault → Result (List ℕ) ExpandFault → Type 0

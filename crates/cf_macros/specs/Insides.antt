@@ -4,12 +4,13 @@ use Rattle.cf_macros.specs.declared.construct.Kind.{Kind}
 use Rattle.cf_macros.specs.declared.construct.Kind.TheVariants.{Plain, Reference, Test, Else, End, Unclosed}
 use Rattle.cf_macros.specs.declared.scan.Mark.{Mark}
 use Rattle.cf_macros.specs.declared.scan.Mark.TheVariants.{OtherPart, Behind, NoMark}
+use Rattle.cf_macros.specs.declared.scope.Scope.{Scope}
 use Rattle.cf_macros.specs.Readings.{Nothing, Reading, first_part, second_part, behind_end, reading}
 use Rattle.cf_macros.specs.Expansion.{Act, acts_of, whole}
 
 -- a text from a place on
-abbrev pub rest_at : List ℕ → ℕ → Reading
-rest_at text place = reading place 0 (drop place text)
+abbrev pub rest_at : Scope → List ℕ → ℕ → Reading
+rest_at scope text place = reading scope place 0 (drop place text)
 
 -- what a test has of a rest that may be there
 abbrev pub if_there : (Reading → Bool) → Option Reading → Bool
@@ -55,23 +56,23 @@ ends_behind Else ends = ends
 ends_behind Unclosed ends = ends
 
 -- the place is the one behind those signs
-abbrev pub IsPast : List ℕ → ℕ → ℕ → Option ℕ → Type 0
-IsPast text ends from None = past ends (rest_at text from) ≡ None
-IsPast text ends from (Some place) = (past ends (rest_at text from) ≡ Some (rest_at text place)) × (from ≤ place) × (place ≤ length text)
+abbrev pub IsPast : Scope → List ℕ → ℕ → ℕ → Option ℕ → Type 0
+IsPast scope text ends from None = past ends (rest_at scope text from) ≡ None
+IsPast scope text ends from (Some place) = (past ends (rest_at scope text from) ≡ Some (rest_at scope text place)) × (from ≤ place) × (place ≤ length text)
 
 -- a conditional that begins behind a test is passed to its end
-abbrev pub IsBehind : List ℕ → Kind → ℕ → Option ℕ → Type 0
-IsBehind text Test next passed = IsPast text 1 next passed
-IsBehind text Plain next passed = passed ≡ Some next
-IsBehind text Reference next passed = passed ≡ Some next
-IsBehind text Else next passed = passed ≡ Some next
-IsBehind text End next passed = passed ≡ Some next
-IsBehind text Unclosed next passed = passed ≡ Some next
+abbrev pub IsBehind : Scope → List ℕ → Kind → ℕ → Option ℕ → Type 0
+IsBehind scope text Test next passed = IsPast scope text 1 next passed
+IsBehind scope text Plain next passed = passed ≡ Some next
+IsBehind scope text Reference next passed = passed ≡ Some next
+IsBehind scope text Else next passed = passed ≡ Some next
+IsBehind scope text End next passed = passed ≡ Some next
+IsBehind scope text Unclosed next passed = passed ≡ Some next
 
 -- the other part of the conditional begins there, or there is none and the conditional ends there, or nothing closes it
-abbrev pub IsMark : List ℕ → ℕ → Mark → Type 0
-IsMark text from (OtherPart place) =
-    (second_part (rest_at text from) ≡ first_part (rest_at text place)) × (behind_end (rest_at text from) ≡ behind_end (rest_at text place)) × (from ≤ place) × (place ≤ length text)
-IsMark text from (Behind place) =
-    (second_part (rest_at text from) ≡ Nothing) × (behind_end (rest_at text from) ≡ Some (rest_at text place)) × (from ≤ place) × (place ≤ length text)
-IsMark text from NoMark = (second_part (rest_at text from) ≡ Nothing) × (behind_end (rest_at text from) ≡ None)
+abbrev pub IsMark : Scope → List ℕ → ℕ → Mark → Type 0
+IsMark scope text from (OtherPart place) =
+    (second_part (rest_at scope text from) ≡ first_part (rest_at scope text place)) × (behind_end (rest_at scope text from) ≡ behind_end (rest_at scope text place)) × (from ≤ place) × (place ≤ length text)
+IsMark scope text from (Behind place) =
+    (second_part (rest_at scope text from) ≡ Nothing) × (behind_end (rest_at scope text from) ≡ Some (rest_at scope text place)) × (from ≤ place) × (place ≤ length text)
+IsMark scope text from NoMark = (second_part (rest_at scope text from) ≡ Nothing) × (behind_end (rest_at scope text from) ≡ None)

@@ -4,6 +4,7 @@ use Rattle.cf_macros.specs.declared.fault.ExpandFault.{ExpandFault}
 use Rattle.cf_macros.specs.declared.fault.ExpandFault.TheVariants.{Unclosed, Deep, Large, NoMemory}
 use Rattle.cf_macros.specs.declared.level.Level.{Level}
 use Rattle.cf_macros.specs.declared.level.Given.{Given}
+use Rattle.cf_macros.specs.declared.scope.Scope.{Scope}
 use Rattle.cf_macros.specs.Readings.{Reading}
 use Rattle.cf_macros.specs.Expansion.{Act, Gives, silent, gives_any, followed, outcome}
 use Rattle.cf_macros.specs.Insides.{rest_at, is_closed, inside, inside_other}
@@ -21,7 +22,7 @@ either true other = true
 either false other = other
 
 abbrev pub level_rest : Level → Reading
-level_rest level = rest_at level.text.now level.place
+level_rest level = rest_at level.scope level.text.now level.place
 
 -- what waits for the levels above it, for a test or for a reference: its acts from here on, or else those of the other part
 abbrev pub waiting : Bool → Bool → List Act → List Act → Above → Above
@@ -35,7 +36,7 @@ under followed level over =
 -- a stack of levels, of which the first has so many levels left
 abbrev pub stacked : ℕ → List (List ℕ × List ℕ) → List Level → Above → Above
 stacked levels macros [] over = over
-stacked levels macros (level ∷ more) over = under (followed levels macros) level (stacked (levels - 1) macros more over)
+stacked levels macros (level ∷ more) over = under (followed level.scope levels macros) level (stacked (levels - 1) macros more over)
 
 -- the level on top, with the reference that it has come to
 abbrev pub top : (List ℕ → List Act) → Level → Option (List ℕ) → Above
@@ -55,7 +56,7 @@ abbrev pub ending : List Level → List (List ℕ × List ℕ) → ℕ → List 
 ending below macros references given over = told given (outcome references (room given) (stacked 10 macros below over).acts)
 
 abbrev pub state : List Level → List (List ℕ × List ℕ) → ℕ → List ℕ → Level → Option (List ℕ) → Result (List ℕ) ExpandFault
-state below macros references given level name = ending below macros references given (top (followed (10 - length below) macros) level name)
+state below macros references given level name = ending below macros references given (top (followed level.scope (10 - length below) macros) level name)
 
 -- whether one of the levels waits for its test
 abbrev pub is_silent : List Level → Bool
@@ -85,8 +86,8 @@ pub record MovesOn (old new : Level) : Type 0 where
 
 -- the next construct gives these bytes
 pub record GivesNext (level : Level) (bytes : List ℕ) (next : ℕ) : Type 0 where
-  pub acts : (followed : List ℕ → List Act) → inside followed level.depth (level_rest level) ≡ map Gives bytes ++ inside followed level.depth (rest_at level.text.now next)
-  pub closed : is_closed level.depth (rest_at level.text.now next) ≡ true
+  pub acts : (followed : List ℕ → List Act) → inside followed level.depth (level_rest level) ≡ map Gives bytes ++ inside followed level.depth (rest_at level.scope level.text.now next)
+  pub closed : is_closed level.depth (rest_at level.scope level.text.now next) ≡ true
   pub place : level.place < next
   pub in_text : next ≤ length level.text.now
 
@@ -115,12 +116,14 @@ gave_after gave (byte ∷ bytes) = true
 -- the level that goes on where the one above it has ended, which gave something or not
 pub record Resumes (outer : Level) (gave : Bool) (level : Level) : Type 0 where
   pub same : (followed : List ℕ → List Act) → under followed level (above false []) ≡ under followed outer (above gave [])
+  pub scoped : level.scope ≡ outer.scope
   pub reads : level.tests ≡ false
 
 -- the level at another place of its text, where it waits for no test
 pub record IsAt (old : Level) (place depth : ℕ) (new : Level) : Type 0 where
   pub same : new.text.now ≡ old.text.now
   pub there : new.place ≡ place
+  pub scoped : new.scope ≡ old.scope
   pub inside : new.depth ≡ depth
   pub gave : new.gave ≡ old.gave
   pub reads : new.tests ≡ false
@@ -130,8 +133,9 @@ pub record IsAtEnd (level : Level) : Type 0 where
   pub reads : level.tests ≡ false
 
 -- a text at its beginning
-pub record IsNew (text : List ℕ) (level : Level) : Type 0 where
+pub record IsNew (scope : Scope) (text : List ℕ) (level : Level) : Type 0 where
   pub same : level.text.now ≡ text
+  pub scoped : level.scope ≡ scope
   pub place : level.place ≡ 0
   pub depth : level.depth ≡ 0
   pub gave : level.gave ≡ false

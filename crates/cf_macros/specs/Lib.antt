@@ -5,3 +5,4 @@ pub mod Insides
 pub mod Levels
 pub mod Readings
 pub mod Runs
+pub mod Written

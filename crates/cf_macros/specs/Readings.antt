@@ -2,6 +2,7 @@
 use Rattle.std.specs.Prelude.{ℕ, zero, suc, List, [], ◌∷◌, Option, None, Some, ◌+◌, ◌-◌}
 use Rattle.cf_macros.specs.declared.construct.Kind.{Kind}
 use Rattle.cf_macros.specs.declared.construct.Kind.TheVariants.{Plain, Reference, Test, Else, End, Unclosed}
+use Rattle.cf_macros.specs.declared.scope.Scope.{Scope}
 use Rattle.cf_macros.specs.Constructs.{Piece, first_piece}
 
 -- what stands in a text, in order: bytes, references, conditionals with both their parts; it ends where something is unclosed, with that place
@@ -57,8 +58,8 @@ before End place found rest = BeforeEnd Nothing rest
 before Unclosed place found rest = Last (Broken (place + (found.width - 1)))
 
 -- the text from a place on, where some bytes are skipped first
-unfoldable pub reading : ℕ → ℕ → List ℕ → Reading
-reading place skipped [] = Last Nothing
-reading place (suc skipped) (byte ∷ text) = reading (suc place) skipped text
-reading place zero (byte ∷ text) =
-    let found = first_piece (byte ∷ text) in before found.kind place found (reading (suc place) (found.width - 1) text)
+unfoldable pub reading : Scope → ℕ → ℕ → List ℕ → Reading
+reading scope place skipped [] = Last Nothing
+reading scope place (suc skipped) (byte ∷ text) = reading scope (suc place) skipped text
+reading scope place zero (byte ∷ text) =
+    let found = first_piece scope (byte ∷ text) in before found.kind place found (reading scope (suc place) (found.width - 1) text)

@@ -1,14 +1,17 @@
 ghost use Rattle.std.specs.Prelude.{◌≡◌, ◌==◌, ◌+◌, ◌<◌, ◌≤◌, [], take, drop, length};
 ghost use Rattle.std.specs.List.{position};
 ghost use Rattle.cf_macros.specs.declared.construct.Kind.TheVariants.{Plain};
-ghost use Rattle.cf_macros.specs.Constructs.{is_name, name_at, IsWithin, piece, reference_at, test_of, dollar_piece, first_piece, Shows};
+ghost use Rattle.cf_macros.specs.Constructs.{is_name, name_at, IsWithin, piece, reference_at, test_of, doubled, kept, late, dollar_piece, first_piece, Shows};
+
+use crate::scope::Scope;
+use bstr::ByteSlice;
 
 /// What a construct is.
 #[derive(Clone, Copy)]
 pub(crate) enum Kind {
-    /// Bytes that stand for themselves, and a dollar sign that was written twice.
+    /// Bytes that stand for themselves or stay as they are written, and a dollar sign that was written twice.
     Plain,
-    /// `$x`, `${x}`, `$&x` and `$&{x}`.
+    /// `$x` and `${x}`, and outside rules `$&x` and `$&{x}`.
     Reference,
     /// `$?x` and `$?{x}`.
     Test,
@@ -52,7 +55,7 @@ fn is_name(byte: u8) -> bool
 fn word_length(text: &[u8]) -> Option<usize>
     ensures { result ≡ position (λ other. other == 125) text.now }
 {
-    text.iter().position(|other| *other == b'}')
+    text.find_byte(b'}')
 }
 
 fn name_at(text: &[u8]) -> Naming
@@ -154,24 +157,60 @@ fn sign(kind: Kind) -> Construct<'static>
     }
 }
 
-fn dollar_piece(text: &[u8], next: u8) -> Construct<'_>
+fn doubled(scope: Scope, text: &[u8]) -> Construct<'_>
     requires { 2 ≤ length text.now }
-    ensures { Shows result (dollar_piece text.now next) (length text.now) }
+    ensures { Shows result (doubled scope text.now) (length text.now) }
+{
+    match scope {
+        Scope::Outside => plain(text, 1, 2),
+        Scope::Rule => plain(text, 2, 2),
+    }
+}
+
+fn kept(text: &[u8]) -> Construct<'_>
+    requires { 2 ≤ length text.now }
+    ensures { Shows result (kept text.now (name_at (drop 2 text.now))) (length text.now) }
+{
+    match name_at(&text[2..]) {
+        Naming::Letter => plain(text, 3, 3),
+        Naming::Word(count) => plain(text, count + 4, count + 4),
+        Naming::Open => Construct {
+            kind: Kind::Unclosed,
+            text: &[],
+            width: 3,
+        },
+        Naming::Nameless => plain(text, 2, 2),
+    }
+}
+
+fn late(scope: Scope, text: &[u8]) -> Construct<'_>
+    requires { 2 ≤ length text.now }
+    ensures { Shows result (late scope text.now (name_at (drop 2 text.now))) (length text.now) }
+{
+    match scope {
+        Scope::Outside => reference_at(text, 2),
+        Scope::Rule => kept(text),
+    }
+}
+
+fn dollar_piece(scope: Scope, text: &[u8], next: u8) -> Construct<'_>
+    requires { 2 ≤ length text.now }
+    ensures { Shows result (dollar_piece scope text.now next) (length text.now) }
 {
     match next {
-        b'$' => plain(text, 1, 2),
+        b'$' => doubled(scope, text),
         b'|' => sign(Kind::Else),
         b'.' => sign(Kind::End),
         b'?' => test_of(text),
-        b'&' => reference_at(text, 2),
+        b'&' => late(scope, text),
         _ => reference_at(text, 1),
     }
 }
 
 /// The construct at the front of a text.
-pub(crate) fn first_piece(text: &[u8]) -> Construct<'_>
+pub(crate) fn first_piece(scope: Scope, text: &[u8]) -> Construct<'_>
     requires { 0 < length text.now }
-    ensures { Shows result (first_piece text.now) (length text.now) }
+    ensures { Shows result (first_piece scope text.now) (length text.now) }
 {
     if text.len() == 1 {
         return plain(text, 1, 1);
@@ -179,5 +218,5 @@ pub(crate) fn first_piece(text: &[u8]) -> Construct<'_>
     if text[0] != b'$' {
         return plain(text, 1, 1);
     }
-    dollar_piece(text, text[1])
+    dollar_piece(scope, text, text[1])
 }

@@ -1,13 +1,14 @@
 ghost use Rattle.std.specs.Prelude.{◌≡◌, ◌≤◌, ◌+◌, [], false, true, None, Some, Ok, unwrap_or, OnOk, IfOk, IfErr, option_copied};
 ghost use Rattle.std.specs.List.{list_any};
 ghost use Rattle.mail_base.specs.Catalogs.{value_at};
-ghost use Rattle.cf_macros.specs.Expansion.{value, IsRefused};
+ghost use Rattle.cf_macros.specs.Expansion.{value, rule_value, value_in, IsRefused};
 ghost use Rattle.cf_macros.specs.Levels.{is_silent};
 ghost use Rattle.cf_macros.specs.Runs.{Continues, Reads, Fails, comes_to};
 
 use crate::ExpandFault;
 use crate::level::{Given, Level};
 use crate::run::Run;
+use crate::scope::Scope;
 use mail_base::{Macros, Text};
 use std::alloc::Global;
 
@@ -65,7 +66,7 @@ impl<'a> Run<'a> {
         }
         let name = Text::of(self.given.text.allocator(), name)?;
         self.below.push(self.level)?;
-        self.level = Level::new(value_of(macros, &name));
+        self.level = Level::new(self.level.scope, value_of(macros, &name));
         self.followed += 1;
         Ok(())
     }
@@ -81,17 +82,13 @@ fn value_of<'a>(macros: &'a Macros, name: &Text) -> &'a [u8]
     }
 }
 
-/// The text with the values of its macros in their places, and of each conditional the part that is to be
-/// given. It follows at most ten levels and 10,000 references, those of tests among them, and gives at most
-/// 1,048,576 bytes. What comes first as the text is read is the refusal (Sendmail Installation and Operation
-/// Guide, macros and conditionals).
-pub fn expand(alloc: Global, text: &Text, macros: &Macros) -> Result<Text, ExpandFault>
-    ensures value { IfOk result (λ given. value text.now macros.now ≡ Ok given) }
-    ensures refused { IfErr result (λ fault. IsRefused fault (value text.now macros.now)) }
+fn expand_in(alloc: Global, scope: Scope, text: &Text, macros: &Macros) -> Result<Text, ExpandFault>
+    ensures value { IfOk result (λ given. value_in scope text.now macros.now ≡ Ok given) }
+    ensures refused { IfErr result (λ fault. IsRefused fault (value_in scope text.now macros.now)) }
 {
     let mut run = Run {
         below: Vec::new(alloc),
-        level: Level::new(text.bytes()),
+        level: Level::new(scope, text.bytes()),
         given: Given {
             text: Text::new(alloc),
             silent: false,
@@ -102,4 +99,25 @@ pub fn expand(alloc: Global, text: &Text, macros: &Macros) -> Result<Text, Expan
         run.follow(macros, name)?;
     }
     Ok(run.given.text)
+}
+
+/// The text with the values of its macros in their places, and of each conditional the part that is to be
+/// given. It follows at most ten levels and 10,000 references, those of tests among them, and gives at most
+/// 1,048,576 bytes. What comes first as the text is read is the refusal (Sendmail Installation and Operation
+/// Guide, macros and conditionals).
+pub fn expand(alloc: Global, text: &Text, macros: &Macros) -> Result<Text, ExpandFault>
+    ensures value { IfOk result (λ given. value text.now macros.now ≡ Ok given) }
+    ensures refused { IfErr result (λ fault. IsRefused fault (value text.now macros.now)) }
+{
+    expand_in(alloc, Scope::Outside, text, macros)
+}
+
+/// A side of a rule, expanded as by [`expand`], but that `$$`, `$&x` and `$&{x}` stay as they are written, in
+/// the side and in the values of its macros: they are for whoever cuts the side into tokens and runs the rule
+/// (Sendmail Installation and Operation Guide, macros and "R: Rewriting Rules").
+pub fn expand_rule(alloc: Global, text: &Text, macros: &Macros) -> Result<Text, ExpandFault>
+    ensures value { IfOk result (λ given. rule_value text.now macros.now ≡ Ok given) }
+    ensures refused { IfErr result (λ fault. IsRefused fault (rule_value text.now macros.now)) }
+{
+    expand_in(alloc, Scope::Rule, text, macros)
 }

@@ -1,11 +1,14 @@
 ghost use Rattle.std.specs.Prelude.{◌≡◌, ◌≤◌, true, length};
 ghost use Rattle.cf_macros.specs.Insides.{rest_at, is_closed};
 
+use crate::scope::Scope;
 use mail_base::Text;
 
 /// A text under way: a level of references.
 #[derive(Clone, Copy)]
 pub(crate) struct Level<'a> {
+    /// What the text is expanded for, which is the same at all levels of a run.
+    pub(crate) scope: Scope,
     pub(crate) text: &'a [u8],
     pub(crate) place: usize,
     /// How many conditionals are open at the place.
@@ -16,7 +19,7 @@ pub(crate) struct Level<'a> {
     pub(crate) tests: bool,
     ghost in_text: { place ≤ length text.now },
     ghost few: { depth ≤ place },
-    ghost closed: { is_closed depth (rest_at text.now place) ≡ true },
+    ghost closed: { is_closed depth (rest_at scope text.now place) ≡ true },
     ghost waits: { tests ≡ true → 1 ≤ depth },
 }
 

@@ -1,5 +1,6 @@
 //! The values of macros in a text, and the dates that macros have. `specs/Expansion.antt` says what
-//! [`expand`] gives, and `specs/Dates.antt` what [`date`] gives.
+//! [`expand`] gives and what [`expand_rule`] gives of a side of a rule, and `specs/Dates.antt` what [`date`]
+//! gives.
 #![tactic(auto)]
 
 mod construct;
@@ -7,12 +8,15 @@ mod dates;
 mod expansion;
 mod fault;
 mod form;
+mod law;
 mod level;
 mod run;
 mod scan;
+mod scope;
 mod steps;
 
 pub use dates::date;
-pub use expansion::expand;
+pub use expansion::{expand, expand_rule};
 pub use fault::ExpandFault;
 pub use form::Form;
+pub use law::{rule_values_by_first_construct, values_by_first_construct};

@@ -2,6 +2,7 @@ ghost use Rattle.std.specs.Prelude.{◌≡◌, ◌+◌, ◌<◌, ◌≤◌, ◌^
 ghost use Rattle.cf_macros.specs.Insides.{IsPast, IsBehind, IsMark, ends_behind};
 
 use crate::construct::{Kind, first_piece};
+use crate::scope::Scope;
 
 /// The sign at which a conditional goes on, where its first part isn't given.
 #[derive(Clone, Copy)]
@@ -34,14 +35,14 @@ fn ends_behind(kind: Kind, ends: usize) -> usize
 }
 
 /// The place behind the first `$.` that is free from a place on, or `None` where there is none.
-pub(crate) fn behind_end(text: &[u8], from: usize) -> Option<usize>
+pub(crate) fn behind_end(scope: Scope, text: &[u8], from: usize) -> Option<usize>
     requires { from ≤ length text.now }
-    ensures { IsPast text.now 1 from result }
+    ensures { IsPast scope text.now 1 from result }
 {
     let mut place = from;
     let mut ends = 1;
     'constructs: while place < text.len() {
-        let found = first_piece(rest(text, place));
+        let found = first_piece(scope, rest(text, place));
         if let Kind::Unclosed = found.kind {
             return None;
         }
@@ -54,24 +55,24 @@ pub(crate) fn behind_end(text: &[u8], from: usize) -> Option<usize>
     None
 }
 
-fn behind(text: &[u8], kind: Kind, next: usize) -> Option<usize>
+fn behind(scope: Scope, text: &[u8], kind: Kind, next: usize) -> Option<usize>
     requires { next ≤ length text.now }
-    ensures { IsBehind text.now kind next result }
+    ensures { IsBehind scope text.now kind next result }
 {
     match kind {
-        Kind::Test => behind_end(text, next),
+        Kind::Test => behind_end(scope, text, next),
         _ => Some(next),
     }
 }
 
 /// The sign behind which a conditional goes on from a place on, where its first part isn't given.
-pub(crate) fn find_mark(text: &[u8], from: usize) -> Mark
+pub(crate) fn find_mark(scope: Scope, text: &[u8], from: usize) -> Mark
     requires { from ≤ length text.now }
-    ensures { IsMark text.now from result }
+    ensures { IsMark scope text.now from result }
 {
     let mut place = from;
     'constructs: while place < text.len() {
-        let found = first_piece(rest(text, place));
+        let found = first_piece(scope, rest(text, place));
         let next = place + found.width;
         match found.kind {
             Kind::Unclosed => return Mark::NoMark,
@@ -79,7 +80,7 @@ pub(crate) fn find_mark(text: &[u8], from: usize) -> Mark
             Kind::End => return Mark::Behind(next),
             _ => {}
         }
-        let Some(passed) = behind(text, found.kind, next) else {
+        let Some(passed) = behind(scope, text, found.kind, next) else {
             return Mark::NoMark;
         };
         place = passed;

@@ -8,6 +8,7 @@ use crate::ExpandFault;
 use crate::construct::{Construct, Kind, first_piece};
 use crate::level::{Given, Level};
 use crate::scan::{Mark, behind_end, find_mark, rest};
+use crate::scope::Scope;
 
 /// The most bytes that an expansion gives.
 const MOST_BYTES: usize = 1_048_576;
@@ -39,10 +40,11 @@ fn gave_after(gave: bool, bytes: &[u8]) -> bool
 }
 
 impl<'a> Level<'a> {
-    pub(crate) fn new(text: &'a [u8]) -> Level<'a>
-        ensures { IsNew text.now result }
+    pub(crate) fn new(scope: Scope, text: &'a [u8]) -> Level<'a>
+        ensures { IsNew scope text.now result }
     {
         Level {
+            scope,
             text,
             place: 0,
             depth: 0,
@@ -54,10 +56,11 @@ impl<'a> Level<'a> {
     fn at(self, place: usize, depth: usize) -> Level<'a>
         requires in_text { place ≤ length self.text.now }
         requires few { depth ≤ place }
-        requires closed { is_closed depth (rest_at self.text.now place) ≡ true }
+        requires closed { is_closed depth (rest_at self.scope self.text.now place) ≡ true }
         ensures { IsAt self.entry place depth result }
     {
         Level {
+            scope: self.scope,
             text: self.text,
             place,
             depth,
@@ -75,6 +78,7 @@ impl<'a> Level<'a> {
     {
         given.give(bytes)?;
         Ok(Level {
+            scope: self.scope,
             text: self.text,
             place: next,
             depth: self.depth,
@@ -88,11 +92,11 @@ impl<'a> Level<'a> {
         requires inside { 1 ≤ self.depth }
         requires moves { 1 ≤ found.width }
         requires in_text { self.place + found.width ≤ length self.text.now }
-        requires rest { level_rest self ≡ BeforeElse Nothing (rest_at self.text.now (self.place + found.width)) }
+        requires rest { level_rest self ≡ BeforeElse Nothing (rest_at self.scope self.text.now (self.place + found.width)) }
         ensures goes { (was : Given) → Goes self.entry was result was None }
         ensures moves { MovesOn self.entry result }
     {
-        match behind_end(self.text, self.place + found.width) {
+        match behind_end(self.scope, self.text, self.place + found.width) {
             Some(place) => self.at(place, self.depth - 1),
             None => self.at(self.text.len(), 0),
         }
@@ -102,7 +106,7 @@ impl<'a> Level<'a> {
         requires reads { self.tests ≡ false }
         requires moves { 1 ≤ found.width }
         requires in_text { self.place + found.width ≤ length self.text.now }
-        requires rest { level_rest self ≡ BeforeElse Nothing (rest_at self.text.now (self.place + found.width)) }
+        requires rest { level_rest self ≡ BeforeElse Nothing (rest_at self.scope self.text.now (self.place + found.width)) }
         ensures goes { IfOk result (λ level. Goes self.entry given.old level given.new None) }
         ensures moves { IfOk result (λ level. MovesOn self.entry level) }
         ensures err { IfErr result (λ fault. Stops fault self.entry given.old) }
@@ -117,7 +121,7 @@ impl<'a> Level<'a> {
         requires reads { self.tests ≡ false }
         requires moves { 1 ≤ found.width }
         requires in_text { self.place + found.width ≤ length self.text.now }
-        requires rest { level_rest self ≡ BeforeEnd Nothing (rest_at self.text.now (self.place + found.width)) }
+        requires rest { level_rest self ≡ BeforeEnd Nothing (rest_at self.scope self.text.now (self.place + found.width)) }
         ensures goes { IfOk result (λ level. Goes self.entry given.old level given.new None) }
         ensures moves { IfOk result (λ level. MovesOn self.entry level) }
         ensures err { IfErr result (λ fault. Stops fault self.entry given.old) }
@@ -126,6 +130,7 @@ impl<'a> Level<'a> {
             return self.give(given, b"$.", self.place + found.width);
         }
         Ok(Level {
+            scope: self.scope,
             text: self.text,
             place: self.place + found.width,
             depth: self.depth - 1,
@@ -137,10 +142,11 @@ impl<'a> Level<'a> {
     fn refer(self, found: Construct<'_>) -> Level<'a>
         requires reads { self.tests ≡ false }
         requires in_text { self.place + found.width ≤ length self.text.now }
-        requires rest { level_rest self ≡ put (Refer found.text.now) (rest_at self.text.now (self.place + found.width)) }
+        requires rest { level_rest self ≡ put (Refer found.text.now) (rest_at self.scope self.text.now (self.place + found.width)) }
         ensures { (was : Given) → Goes self.entry was result was (Some found.entry.text.now) }
     {
         Level {
+            scope: self.scope,
             text: self.text,
             place: self.place + found.width,
             depth: self.depth,
@@ -152,14 +158,14 @@ impl<'a> Level<'a> {
     // Whether the conditional that begins with this test is closed. One inside another is.
     fn is_closed(self, found: Construct<'_>) -> bool
         requires in_text { self.place + found.width ≤ length self.text.now }
-        requires rest { level_rest self ≡ closing self.place found.text.now (rest_at self.text.now (self.place + found.width)) (behind_end (rest_at self.text.now (self.place + found.width))) }
-        ensures closed { result ≡ true → is_closed (suc self.entry.depth) (rest_at self.entry.text.now (self.entry.place + found.entry.width)) ≡ true }
-        ensures unclosed { result ≡ false → behind_end (rest_at self.entry.text.now (self.entry.place + found.entry.width)) ≡ None }
+        requires rest { level_rest self ≡ closing self.place found.text.now (rest_at self.scope self.text.now (self.place + found.width)) (behind_end (rest_at self.scope self.text.now (self.place + found.width))) }
+        ensures closed { result ≡ true → is_closed (suc self.entry.depth) (rest_at self.entry.scope self.entry.text.now (self.entry.place + found.entry.width)) ≡ true }
+        ensures unclosed { result ≡ false → behind_end (rest_at self.entry.scope self.entry.text.now (self.entry.place + found.entry.width)) ≡ None }
     {
         if self.depth > 0 {
             return true;
         }
-        match behind_end(self.text, self.place + found.width) {
+        match behind_end(self.scope, self.text, self.place + found.width) {
             Some(_) => true,
             None => false,
         }
@@ -169,7 +175,7 @@ impl<'a> Level<'a> {
         requires reads { self.tests ≡ false }
         requires moves { 1 ≤ found.width }
         requires in_text { self.place + found.width ≤ length self.text.now }
-        requires rest { level_rest self ≡ closing self.place found.text.now (rest_at self.text.now (self.place + found.width)) (behind_end (rest_at self.text.now (self.place + found.width))) }
+        requires rest { level_rest self ≡ closing self.place found.text.now (rest_at self.scope self.text.now (self.place + found.width)) (behind_end (rest_at self.scope self.text.now (self.place + found.width))) }
         ensures goes { IfOk result (λ level. (was : Given) → Goes self.entry was level was (Some found.entry.text.now)) }
         ensures err { IfErr result (λ fault. (was : Given) → Stops fault self.entry was) }
     {
@@ -177,6 +183,7 @@ impl<'a> Level<'a> {
             return Err(ExpandFault::Unclosed(self.place as u64));
         }
         Ok(Level {
+            scope: self.scope,
             text: self.text,
             place: self.place + found.width,
             depth: self.depth + 1,
@@ -192,7 +199,7 @@ impl<'a> Level<'a> {
         ensures moves { IfOk result (λ step. IfNone step.1 (MovesOn self.entry step.0)) }
         ensures err { IfErr result (λ fault. Stops fault self.entry given.old) }
     {
-        let found = first_piece(rest(self.text, self.place));
+        let found = first_piece(self.scope, rest(self.text, self.place));
         match found.kind {
             Kind::Plain => Ok((
                 self.give(given, found.text, self.place + found.width)?,
@@ -233,6 +240,7 @@ impl<'a> Level<'a> {
     {
         if !self.tests {
             return Level {
+                scope: self.scope,
                 text: self.text,
                 place: self.place,
                 depth: self.depth,
@@ -243,7 +251,7 @@ impl<'a> Level<'a> {
         if gave {
             return self.at(self.place, self.depth);
         }
-        match find_mark(self.text, self.place) {
+        match find_mark(self.scope, self.text, self.place) {
             Mark::OtherPart(place) => self.at(place, self.depth),
             Mark::Behind(place) => self.at(place, self.depth - 1),
             Mark::NoMark => self.at(self.text.len(), 0),

@@ -1,11 +1,11 @@
-use cf_macros::{ExpandFault, Form, date, expand};
+use cf_macros::{ExpandFault, Form, date, expand, expand_rule};
 use mail_base::{Macros, NoMemory, Text};
 use std::alloc::Global;
 use std::test::Fail;
 
 // Eleven macros a to k, each of which names the next, ten o to y of which each names the next ten times,
 // and others.
-const SETTINGS: [(&str, &str); 28] = [
+static SETTINGS: [(&str, &str); 33] = [
     ("a", "$b"),
     ("b", "$c"),
     ("c", "$d"),
@@ -34,39 +34,81 @@ const SETTINGS: [(&str, &str); 28] = [
     ("mail", "long"),
     ("O", "x$?S"),
     ("B", "xy${S"),
+    ("L", "a$&{y}b"),
+    ("D", "$$"),
+    ("T", "$$1$L"),
+    ("C", "x$"),
+    ("G", "$&{S"),
 ];
+
+fn set(alloc: Global, macros: &mut Macros, name: &str, value: &str) -> Result<(), NoMemory> {
+    let name = Text::of(alloc, name.as_bytes())?;
+    macros.set(&name, &Text::of(alloc, value.as_bytes())?)
+}
 
 fn settings(alloc: Global) -> Result<Macros, NoMemory> {
     let mut macros = Macros::new(alloc);
-    for (name, value) in SETTINGS {
-        macros.set(
-            &Text::of(alloc, name.as_bytes())?,
-            &Text::of(alloc, value.as_bytes())?,
-        )?;
+    for (name, value) in &SETTINGS {
+        set(alloc, &mut macros, name, value)?;
     }
     Ok(macros)
 }
 
+/// The call that expands a text.
+#[derive(Clone, Copy)]
+enum Call {
+    Expand,
+    ExpandRule,
+}
+
+fn expansion(alloc: Global, call: Call, text: &Text, macros: &Macros) -> Result<Text, ExpandFault> {
+    match call {
+        Call::Expand => expand(alloc, text, macros),
+        Call::ExpandRule => expand_rule(alloc, text, macros),
+    }
+}
+
 // What the text gives, or `!` and the refusal.
-fn outcome(alloc: Global, macros: &Macros, text: &str) -> Result<Text, NoMemory> {
-    match expand(alloc, &Text::of(alloc, text.as_bytes())?, macros) {
+fn outcome(alloc: Global, call: Call, macros: &Macros, text: &str) -> Result<Text, NoMemory> {
+    let text = Text::of(alloc, text.as_bytes())?;
+    match expansion(alloc, call, &text, macros) {
         Ok(given) => Ok(given),
-        Err(ExpandFault::Unclosed(place)) => {
+        Err(fault) => refusal(alloc, fault),
+    }
+}
+
+fn refusal(alloc: Global, fault: ExpandFault) -> Result<Text, NoMemory> {
+    match fault {
+        ExpandFault::Unclosed(place) => {
             let mut told = Text::of(alloc, b"!unclosed at ")?;
             told.push(b'0' + (place % 10) as u8)?;
             Ok(told)
         }
-        Err(ExpandFault::Deep) => Text::of(alloc, b"!deep"),
-        Err(ExpandFault::Large) => Text::of(alloc, b"!large"),
-        Err(ExpandFault::NoMemory) => Err(NoMemory),
+        ExpandFault::Deep => Text::of(alloc, b"!deep"),
+        ExpandFault::Large => Text::of(alloc, b"!large"),
+        ExpandFault::NoMemory => Err(NoMemory),
     }
 }
 
+fn gives(
+    alloc: Global,
+    call: Call,
+    macros: &Macros,
+    text: &str,
+    wanted: &str,
+) -> Result<bool, NoMemory> {
+    Ok(outcome(alloc, call, macros, text)?.bytes() == wanted.as_bytes())
+}
+
 // The first case of which the text doesn't come to what is wanted.
-fn first_wrong<'a>(alloc: Global, cases: &[(&'a str, &str)]) -> Result<Option<&'a str>, NoMemory> {
+fn first_wrong<'a>(
+    alloc: Global,
+    call: Call,
+    cases: &[(&'a str, &str)],
+) -> Result<Option<&'a str>, NoMemory> {
     let macros = settings(alloc)?;
     for (text, wanted) in cases {
-        if outcome(alloc, &macros, text)?.bytes() != wanted.as_bytes() {
+        if !gives(alloc, call, &macros, text, wanted)? {
             return Ok(Some(*text));
         }
     }
@@ -81,18 +123,26 @@ fn repeated(alloc: Global, bytes: &str, count: usize) -> Result<Text, NoMemory> 
     Ok(text)
 }
 
+// What the macro y gives where z has this value.
+fn conditional(alloc: Global, z: Option<&str>) -> Result<Text, NoMemory> {
+    let mut macros = settings(alloc)?;
+    if let Some(value) = z {
+        set(alloc, &mut macros, "z", value)?;
+    }
+    outcome(alloc, Call::Expand, &macros, "$y")
+}
+
 #[test]
 fn conditional_macro(rt: HostRuntime) -> Result<(), Fail> {
-    let alloc = rt.alloc();
-    let mut macros = settings(alloc)?;
-    let unset = outcome(alloc, &macros, "$y")?;
-    assert_eq!(rt; unset.bytes(), b"acd".as_slice());
-    macros.set(&Text::of(alloc, b"z")?, &Text::of(alloc, b"1")?)?;
-    assert_eq!(rt; outcome(alloc, &macros, "$y")?.bytes(), b"abd".as_slice());
+    assert_eq!(rt; conditional(rt.alloc(), None)?.bytes(), b"acd".as_slice());
+    assert_eq!(rt;
+        conditional(rt.alloc(), Some("1"))?.bytes(),
+        b"abd".as_slice()
+    );
     Ok(())
 }
 
-const VALUES: [(&str, &str); 22] = [
+static VALUES: [(&str, &str); 25] = [
     ("", ""),
     ("plain", "plain"),
     ("$S-${S}-$&S-$&{S}", "set-set-set-set"),
@@ -118,9 +168,12 @@ const VALUES: [(&str, &str); 22] = [
     ("$?U[$?Su$|v$.]$|w$?Sx$|y$.$.z", "wxz"),
     ("$?Sa$|b$|c$.d", "ad"),
     ("$?Ua$|b$|c$.d", "bd"),
+    ("$L", "ab"),
+    ("$D1", "$1"),
+    ("$T", "$1ab"),
 ];
 
-const REFUSALS: [(&str, &str); 14] = [
+static REFUSALS: [(&str, &str); 14] = [
     ("${S", "!unclosed at 1"),
     ("ab$&{S", "!unclosed at 4"),
     ("a$?Sb", "!unclosed at 1"),
@@ -139,13 +192,72 @@ const REFUSALS: [(&str, &str); 14] = [
 
 #[test]
 fn values_by_the_first_construct(rt: HostRuntime) -> Result<(), Fail> {
-    assert_eq!(rt; first_wrong(rt.alloc(), &VALUES)?, None);
+    assert_eq!(rt; first_wrong(rt.alloc(), Call::Expand, &VALUES)?, None);
     Ok(())
 }
 
 #[test]
 fn refusals_in_reading_order(rt: HostRuntime) -> Result<(), Fail> {
-    assert_eq!(rt; first_wrong(rt.alloc(), &REFUSALS)?, None);
+    assert_eq!(rt; first_wrong(rt.alloc(), Call::Expand, &REFUSALS)?, None);
+    Ok(())
+}
+
+// Sides of rules: `$$` and `$&` stay, in the side, in values and in parts of conditionals.
+static SIDES: [(&str, &str); 24] = [
+    ("", ""),
+    ("$*<@$+>$*", "$*<@$+>$*"),
+    ("$S$@$mail", "set$@ail"),
+    ("<${mail}>", "<long>"),
+    ("$$", "$$"),
+    ("$$1", "$$1"),
+    ("$$$S", "$$set"),
+    ("$&m", "$&m"),
+    ("$&{S}", "$&{S}"),
+    ("$&{a$S}", "$&{a$S}"),
+    ("a$&", "a$&"),
+    ("$&+$S", "$&+set"),
+    ("$L", "a$&{y}b"),
+    ("$D", "$$"),
+    ("$T", "$$1a$&{y}b"),
+    ("$C*", "x$*"),
+    ("$?Sa$|b$.", "a"),
+    ("$?Ua$|b$.", "b"),
+    ("$?S$$1$|$2$.$#", "$$1$#"),
+    ("$?U$1$|$&{mail}$.", "$&{mail}"),
+    ("$?Lyes$|no$.", "yes"),
+    ("$?Dyes$|no$.", "yes"),
+    ("$?Eyes$|no$.", "no"),
+    ("a$|b$.c", "a$|b$.c"),
+];
+
+static SIDE_REFUSALS: [(&str, &str); 13] = [
+    ("${S", "!unclosed at 1"),
+    ("ab$&{S", "!unclosed at 4"),
+    ("ab$$${S", "!unclosed at 5"),
+    ("a$?Sb", "!unclosed at 1"),
+    ("a$?{Sb", "!unclosed at 1"),
+    ("$&m$?Sb", "!unclosed at 3"),
+    ("$?S$&{a$.", "!unclosed at 0"),
+    ("xyz$G", "!unclosed at 2"),
+    ("$B", "!unclosed at 3"),
+    ("$O", "!unclosed at 1"),
+    ("$a", "!deep"),
+    ("$o", "!large"),
+    ("$?ox$.", "!large"),
+];
+
+#[test]
+fn sides_keep_their_late_macros_and_dollars(rt: HostRuntime) -> Result<(), Fail> {
+    assert_eq!(rt; first_wrong(rt.alloc(), Call::ExpandRule, &SIDES)?, None);
+    Ok(())
+}
+
+#[test]
+fn sides_are_refused_in_reading_order(rt: HostRuntime) -> Result<(), Fail> {
+    assert_eq!(rt;
+        first_wrong(rt.alloc(), Call::ExpandRule, &SIDE_REFUSALS)?,
+        None
+    );
     Ok(())
 }
 
@@ -162,21 +274,29 @@ fn ten_thousand_references(rt: HostRuntime) -> Result<(), Fail> {
     Ok(())
 }
 
+static BOMBS: [(&str, &str); 2] = [("$o", "!large"), ("$?ox$.", "!large")];
+
 #[test]
 fn a_macro_bomb_ends_at_its_limit(rt: HostRuntime) -> Result<(), Fail> {
-    assert_eq!(rt;
-        first_wrong(rt.alloc(), &[("$o", "!large"), ("$?ox$.", "!large")])?,
-        None
-    );
+    assert_eq!(rt; first_wrong(rt.alloc(), Call::Expand, &BOMBS)?, None);
     Ok(())
+}
+
+// A test of so many bytes.
+fn long_test(alloc: Global, count: usize) -> Result<Text, NoMemory> {
+    let mut text = Text::of(alloc, b"$?x")?;
+    for _ in 0..count {
+        text.push(b'b')?;
+    }
+    text.extend(b"$.")?;
+    Ok(text)
 }
 
 // How many bytes a test of many bytes and then so many bytes give.
 fn size(alloc: Global, count: usize) -> Result<usize, ExpandFault> {
-    let mut text = Text::of(alloc, b"$?x")?;
-    text.extend(repeated(alloc, "b", count)?.bytes())?;
-    text.extend(b"$.")?;
-    Ok(expand(alloc, &text, &settings(alloc)?)?.len())
+    let text = long_test(alloc, count)?;
+    let macros = settings(alloc)?;
+    Ok(expand(alloc, &text, &macros)?.len())
 }
 
 #[test]
@@ -191,7 +311,7 @@ type DateRow = (u64, &'static str, &'static str, &'static str);
 
 // Moments and their forms Mail, Unix and Short, as GNU date prints them by `date -u -d @MOMENT` with
 // `+%a, %-d %b %Y %H:%M:%S +0000`, `+%a %b %e %H:%M:%S %Y` and `+%Y%m%d%H%M`.
-const MOMENTS: [DateRow; 5] = [
+static MOMENTS: [DateRow; 5] = [
     (
         0,
         "Thu, 1 Jan 1970 00:00:00 +0000",
@@ -224,7 +344,7 @@ const MOMENTS: [DateRow; 5] = [
     ),
 ];
 
-const LEAP_DAYS: [DateRow; 5] = [
+static LEAP_DAYS: [DateRow; 5] = [
     (
         951_782_400,
         "Tue, 29 Feb 2000 00:00:00 +0000",
@@ -258,7 +378,7 @@ const LEAP_DAYS: [DateRow; 5] = [
 ];
 
 // The second and the third count as the first.
-const LAST: [DateRow; 3] = [
+static LAST: [DateRow; 3] = [
     (
         32_503_680_000,
         "Wed, 1 Jan 3000 00:00:00 +0000",

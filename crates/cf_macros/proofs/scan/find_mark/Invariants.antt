@@ -6,7 +6,7 @@ use Rattle.cf_macros.proofs.scan.find_mark.Given as goal
 -- what has been passed has no sign of the conditional
 abbrev pub invariant-constructs : goal.invariant-constructs
 invariant-constructs l = record {
-  same : SameBehind (rest_at l.text l.fn.from) (rest_at l.text l.place);
+  same : SameBehind (rest_at l.scope l.text l.fn.from) (rest_at l.scope l.text l.place);
   begun : l.fn.from ≤ l.place;
   in_text : l.place ≤ length l.text;
 }

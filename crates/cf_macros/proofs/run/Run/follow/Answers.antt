@@ -18,4 +18,4 @@ pub returns-clause-same : goal.returns-clause-same
 returns-clause-same c =
     follows c.args.self.now.below.items c.push.new.self.items c.args.macros.now c.args.self.now.followed _ c.args.self.now.given.text c.args.self.now.level c.new-self.result c.args.name.now
     (omega (arith, c.args.self.now.below.ok, c.len.ensures, c.if-len-ge-MOST_LEVELS.false)) c.if-self-ge-MOST_REFERENCES.false refl c.in_ok-push.ensures.items
-    (is-new _ _ c.new-self.result (c.value_of.ensures ∙ ap (λ name. unwrap_or (value_at name c.args.macros.now) []) c.in_ok-name.ensures) c.new-self.ensures)
+    (is-new _ _ _ c.new-self.result (c.value_of.ensures ∙ ap (λ name. unwrap_or (value_at name c.args.macros.now) []) c.in_ok-name.ensures) c.new-self.ensures)
