@@ -1,15 +1,31 @@
 -- Tokens that are joined and cut again.
-use Rattle.std.proofs.Common.{◌≡◌, ℕ, ◌≤◌, Bool, true, false, ◌&&◌, cond, List, [], ◌∷◌, ◌++◌, length, Option, Some, None, refl, sym, ◌∙◌, ap, subst, arith}
+use Rattle.std.proofs.Common.{◌≡◌, ℕ, ◌≤◌, Bool, true, false, ◌&&◌, cond, List, [], ◌∷◌, ◌++◌, length, map, Option, Some, None, refl, sym, ◌∙◌, ap, subst, arith}
 use Rattle.std.specs.List.{flat_map, AllByRecursion}
 use Rattle.std.proofs.lemmas.Bool.{false≢true, true≢false}
 use Rattle.std.proofs.lemmas.List.{append-nil, length-append}
 use Rattle.mail_base.specs.declared.token.Token.{Token}
 use Rattle.mail_base.specs.declared.token.Token.TheVariants.{Word, Quoted, Op, Sign}
 use Rattle.mail_base.specs.Whites.{is_white}
-use Rattle.addr_tokens.specs.Pieces.{IsPiece, IsRun, IsQuotation, Piece, White, Comment, Quotation, Operator, Run, bytes_of, token_of, tokens_of, are_apart, is_operator}
+use Rattle.addr_tokens.specs.declared.lexeme.Dollars.TheVariants.{Bytes}
+use Rattle.addr_tokens.specs.declared.lexeme.Lexeme.TheVariants.{Token as Plain}
+use Rattle.addr_tokens.specs.Pieces.{InWord, word_nothing, word_plain, word_escaped, word_doubled, IsPiece, IsRun, IsQuotation, ArePieces, Piece, White, Comment, Quotation, Operator, Dollar, Run, bytes_of, after_dollar, lexemes_of, plain, are_apart, is_operator}
 use Rattle.addr_tokens.specs.Scans.{AreTokens}
 use Rattle.addr_tokens.specs.Joins.{joined, between, token_bytes, is_string, blank_bytes, have_neighbours}
+use Rattle.addr_tokens.specs.Reader.{token_in}
 use Rattle.addr_tokens.proofs.FirstLemmas.{piece_some}
+use Rattle.addr_tokens.proofs.PlainLemmas.{token_in-map}
+
+-- the token that a piece gives, where no dollar sign means anything
+abbrev token_of : Piece → List Token
+token_of (White byte) = []
+token_of (Comment bytes) = []
+token_of (Quotation bytes) = Quoted bytes ∷ []
+token_of (Operator byte) = Op byte ∷ []
+token_of (Dollar construct) = []
+token_of (Run bytes) = Word bytes ∷ []
+
+abbrev tokens_of : List Piece → List Token
+tokens_of pieces = flat_map token_of pieces
 
 -- the piece that gives a token
 abbrev piece_for : Token → Piece
@@ -35,25 +51,49 @@ IsBlank None = Unit {0}
 IsBlank (Some byte) = is_white byte ≡ true
 
 module _ (operators : List ℕ) where
+  -- a word is one wherever it stands
+  word_anywhere : (word rest other : List ℕ) → InWord (plain operators) word rest → InWord (plain operators) word other
+  word_anywhere _ _ other (word_nothing rest) = word_nothing other
+  word_anywhere _ _ other (word_plain b more rest w is) = word_plain b more other w (word_anywhere more rest other is)
+  word_anywhere _ _ other (word_escaped b more rest is) = word_escaped b more other (word_anywhere more rest other is)
+  word_anywhere _ _ other (word_doubled more rest two is) = absurd (false≢true two)
+
+  run_anywhere : (bytes rest other : List ℕ) → IsRun (plain operators) bytes rest → IsRun (plain operators) bytes other
+  run_anywhere bytes rest other is = record { some = is.some; is = word_anywhere bytes rest other is.is }
+
   abbrev Fits : Token → Type 0
-  Fits (Word text) = IsRun operators text
+  Fits (Word text) = IsRun (plain operators) text []
   Fits (Quoted text) = IsQuotation text
-  Fits (Op byte) = is_operator operators byte ≡ true
+  Fits (Op byte) = is_operator (plain operators) byte [] ≡ true
   Fits (Sign mark) = ⊥
 
-  fits_of : (pieces : List Piece) → AllByRecursion (IsPiece operators) pieces → AllByRecursion Fits (tokens_of pieces)
-  fits_of [] each = tt
-  fits_of (White b ∷ pieces) each = fits_of pieces each.1
-  fits_of (Comment bytes ∷ pieces) each = fits_of pieces each.1
-  fits_of (Quotation bytes ∷ pieces) each = (each.0, fits_of pieces each.1)
-  fits_of (Operator b ∷ pieces) each = (each.0, fits_of pieces each.1)
-  fits_of (Run bytes ∷ pieces) each = (each.0, fits_of pieces each.1)
+  fits_of : (pieces : List Piece) (rest : List ℕ) → ArePieces (plain operators) pieces rest → AllByRecursion Fits (tokens_of pieces)
+  fits_of [] rest each = tt
+  fits_of (White b ∷ pieces) rest each = fits_of pieces rest each.1
+  fits_of (Comment bytes ∷ pieces) rest each = fits_of pieces rest each.1
+  fits_of (Quotation bytes ∷ pieces) rest each = (each.0, fits_of pieces rest each.1)
+  fits_of (Operator b ∷ pieces) rest each = (each.0, fits_of pieces rest each.1)
+  fits_of (Dollar construct ∷ pieces) rest each = absurd (false≢true each.0)
+  fits_of (Run bytes ∷ pieces) rest each = (run_anywhere bytes (flat_map bytes_of pieces ++ rest) [] each.0, fits_of pieces rest each.1)
 
-  piece_fits : (token : Token) → Fits token → IsPiece operators (piece_for token)
-  piece_fits (Word text) fits = fits
-  piece_fits (Quoted text) fits = fits
-  piece_fits (Op byte) fits = fits
-  piece_fits (Sign mark) fits = absurd fits
+  given_tokens : (pieces : List Piece) (rest : List ℕ) → ArePieces (plain operators) pieces rest → lexemes_of Bytes pieces ≡ map Plain (tokens_of pieces)
+  given_tokens [] rest each = refl
+  given_tokens (White b ∷ pieces) rest each = given_tokens pieces rest each.1
+  given_tokens (Comment bytes ∷ pieces) rest each = given_tokens pieces rest each.1
+  given_tokens (Quotation bytes ∷ pieces) rest each = ap (λ x. Plain (Quoted bytes) ∷ x) (given_tokens pieces rest each.1)
+  given_tokens (Operator b ∷ pieces) rest each = ap (λ x. Plain (Op b) ∷ x) (given_tokens pieces rest each.1)
+  given_tokens (Dollar construct ∷ pieces) rest each = absurd (false≢true each.0)
+  given_tokens (Run bytes ∷ pieces) rest each = ap (λ x. Plain (Word bytes) ∷ x) (given_tokens pieces rest each.1)
+
+  tokens_are : (angles : Bool) (text : List ℕ) (tokens : List Token) → (a : AreTokens (plain operators) angles text tokens) → tokens_of a.pieces ≡ tokens
+  tokens_are angles text tokens a =
+      sym (token_in-map (tokens_of a.pieces)) ∙ ap (flat_map token_in) (sym (given_tokens a.pieces [] a.cut.each) ∙ a.lexemes_are) ∙ token_in-map tokens
+
+  piece_fits : (token : Token) (rest : List ℕ) → Fits token → IsPiece (plain operators) (piece_for token) rest
+  piece_fits (Word text) rest fits = run_anywhere text [] rest fits
+  piece_fits (Quoted text) rest fits = fits
+  piece_fits (Op byte) rest fits = fits
+  piece_fits (Sign mark) rest fits = absurd fits
 
   piece_bytes : (token : Token) → Fits token → bytes_of (piece_for token) ≡ token_bytes token
   piece_bytes (Word text) fits = refl
@@ -78,7 +118,7 @@ module _ (operators : List ℕ) where
   gap_tokens None true more = refl
   gap_tokens (Some byte) true more = refl
 
-  gap_each : (blank : Option ℕ) (strings : Bool) (more : List Piece) → IsBlank blank → AllByRecursion (IsPiece operators) more → AllByRecursion (IsPiece operators) (cond strings (blank_pieces blank) [] ++ more)
+  gap_each : (blank : Option ℕ) (strings : Bool) (more : List Piece) → IsBlank blank → ArePieces (plain operators) more [] → ArePieces (plain operators) (cond strings (blank_pieces blank) [] ++ more) []
   gap_each blank false more white each = each
   gap_each None true more white each = each
   gap_each (Some byte) true more white each = (white, each)
@@ -95,10 +135,10 @@ module _ (operators : List ℕ) where
       (λ i. piece_token token fits i ++ gap_tokens blank (is_string token && is_string next) (piece_for next ∷ behind blank next tokens) i)
       ∙ ap (λ x. token ∷ x) (joined_tokens blank next tokens all.0 all.1)
 
-  joined_each : (blank : Option ℕ) (token : Token) (tokens : List Token) → IsBlank blank → Fits token → AllByRecursion Fits tokens → AllByRecursion (IsPiece operators) (piece_for token ∷ behind blank token tokens)
-  joined_each blank token [] white fits all = (piece_fits token fits, tt)
+  joined_each : (blank : Option ℕ) (token : Token) (tokens : List Token) → IsBlank blank → Fits token → AllByRecursion Fits tokens → ArePieces (plain operators) (piece_for token ∷ behind blank token tokens) []
+  joined_each blank token [] white fits all = (piece_fits token [] fits, tt)
   joined_each blank token (next ∷ tokens) white fits all =
-      (piece_fits token fits, gap_each blank (is_string token && is_string next) (piece_for next ∷ behind blank next tokens) white (joined_each blank next tokens white all.0 all.1))
+      (piece_fits token (flat_map bytes_of (behind blank token (next ∷ tokens)) ++ []) fits, gap_each blank (is_string token && is_string next) (piece_for next ∷ behind blank next tokens) white (joined_each blank next tokens white all.0 all.1))
 
   apart_spaced : (white : ℕ) (token : Token) (tokens : List Token) → Fits token → AllByRecursion Fits tokens → are_apart (piece_for token ∷ behind (Some white) token tokens) ≡ true
   apart_spaced white (Word x) [] fits all = refl
@@ -138,23 +178,24 @@ module _ (operators : List ℕ) where
 
   -- ---- joined tokens are cut into the same
 
-  again : (angles : Bool) (text : List ℕ) (blank : Option ℕ) (tokens : List Token) → (a : AreTokens operators angles text tokens) → IsBlank blank
-      → ((token : Token) (more : List Token) → tokens ≡ token ∷ more → Fits token → AllByRecursion Fits more → are_apart (piece_for token ∷ behind blank token more) ≡ true) → AreTokens operators angles (joined blank tokens) tokens
-  again angles text blank [] a white apart = record { pieces = []; cut = record { whole = refl; each = tt; apart = refl }; tokens_are = refl; balanced = a.balanced; short = a.short }
+  again : (angles : Bool) (text : List ℕ) (blank : Option ℕ) (tokens : List Token) → (a : AreTokens (plain operators) angles text tokens) → IsBlank blank
+      → ((token : Token) (more : List Token) → tokens ≡ token ∷ more → Fits token → AllByRecursion Fits more → are_apart (piece_for token ∷ behind blank token more) ≡ true) → AreTokens (plain operators) angles (joined blank tokens) tokens
+  again angles text blank [] a white apart = record { pieces = []; cut = record { whole = refl; each = tt; apart = refl }; lexemes_are = refl; balanced = a.balanced; short = a.short }
   again angles text blank (token ∷ more) a white apart =
-      let all : AllByRecursion Fits (token ∷ more) = subst (AllByRecursion Fits) a.tokens_are (fits_of a.pieces a.cut.each) in
+      let all : AllByRecursion Fits (token ∷ more) = subst (AllByRecursion Fits) (tokens_are angles text (token ∷ more) a) (fits_of a.pieces [] a.cut.each) in
+      let each = joined_each blank token more white all.0 all.1 in
       record {
         pieces = piece_for token ∷ behind blank token more;
-        cut = record { whole = joined_bytes blank token more all.0 all.1; each = joined_each blank token more white all.0 all.1; apart = apart token more refl all.0 all.1 };
-        tokens_are = joined_tokens blank token more all.0 all.1;
+        cut = record { whole = joined_bytes blank token more all.0 all.1; each = each; apart = apart token more refl all.0 all.1 };
+        lexemes_are = given_tokens (piece_for token ∷ behind blank token more) [] each ∙ ap (map Plain) (joined_tokens blank token more all.0 all.1);
         balanced = a.balanced;
         short = a.short;
       }
 
-  pub spaced_again : (angles : Bool) (text : List ℕ) (tokens : List Token) (white : ℕ) → AreTokens operators angles text tokens → is_white white ≡ true → AreTokens operators angles (joined (Some white) tokens) tokens
+  pub spaced_again : (angles : Bool) (text : List ℕ) (tokens : List Token) (white : ℕ) → AreTokens (plain operators) angles text tokens → is_white white ≡ true → AreTokens (plain operators) angles (joined (Some white) tokens) tokens
   spaced_again angles text tokens white a is = again angles text (Some white) tokens a is (λ token more whole fits all. apart_spaced white token more fits all)
 
-  pub close_again : (angles : Bool) (text : List ℕ) (tokens : List Token) → AreTokens operators angles text tokens → have_neighbours tokens ≡ false → AreTokens operators angles (joined None tokens) tokens
+  pub close_again : (angles : Bool) (text : List ℕ) (tokens : List Token) → AreTokens (plain operators) angles text tokens → have_neighbours tokens ≡ false → AreTokens (plain operators) angles (joined None tokens) tokens
   close_again angles text tokens a none = again angles text None tokens a tt (λ token more whole fits all. apart_close token more fits all (ap have_neighbours (sym whole) ∙ none))
 
   -- ---- and else they are not
@@ -181,28 +222,31 @@ module _ (operators : List ℕ) where
   no_more (Comment bytes ∷ pieces) = omega (arith, no_more pieces, length-append bytes (flat_map bytes_of pieces))
   no_more (Quotation bytes ∷ pieces) = omega (arith, no_more pieces, length-append bytes (flat_map bytes_of pieces), length-append bytes (flat_map token_bytes (tokens_of pieces)))
   no_more (Operator b ∷ pieces) = omega (arith, no_more pieces)
+  no_more (Dollar construct ∷ pieces) = omega (arith, no_more pieces, length-append (after_dollar construct) (flat_map bytes_of pieces))
   no_more (Run bytes ∷ pieces) = omega (arith, no_more pieces, length-append bytes (flat_map bytes_of pieces), length-append bytes (flat_map token_bytes (tokens_of pieces)))
 
   -- where every byte is one of a token, words are apart in the tokens as in the pieces
-  none_between : (pieces : List Piece) → AllByRecursion (IsPiece operators) pieces → are_apart pieces ≡ true → size pieces ≡ size_in pieces → have_neighbours (tokens_of pieces) ≡ false
-  none_between [] each apart same = refl
-  none_between (White b ∷ pieces) each apart same = absurd (omega (arith, no_more pieces))
-  none_between (Comment bytes ∷ pieces) each apart same = absurd (omega (arith, no_more pieces, length-append bytes (flat_map bytes_of pieces), piece_some operators (Comment bytes) each.0))
-  none_between (Quotation bytes ∷ pieces) each apart same =
-      none_between pieces each.1 apart (omega (arith, length-append bytes (flat_map bytes_of pieces), length-append bytes (flat_map token_bytes (tokens_of pieces))))
-  none_between (Operator b ∷ pieces) each apart same = none_between pieces each.1 apart (omega arith)
-  none_between (Run bytes ∷ []) each apart same = refl
-  none_between (Run bytes ∷ White b ∷ pieces) each apart same =
+  none_between : (pieces : List Piece) (rest : List ℕ) → ArePieces (plain operators) pieces rest → are_apart pieces ≡ true → size pieces ≡ size_in pieces → have_neighbours (tokens_of pieces) ≡ false
+  none_between [] rest each apart same = refl
+  none_between (White b ∷ pieces) rest each apart same = absurd (omega (arith, no_more pieces))
+  none_between (Comment bytes ∷ pieces) rest each apart same = absurd (omega (arith, no_more pieces, length-append bytes (flat_map bytes_of pieces), piece_some (plain operators) (Comment bytes) (flat_map bytes_of pieces ++ rest) each.0))
+  none_between (Quotation bytes ∷ pieces) rest each apart same =
+      none_between pieces rest each.1 apart (omega (arith, length-append bytes (flat_map bytes_of pieces), length-append bytes (flat_map token_bytes (tokens_of pieces))))
+  none_between (Operator b ∷ pieces) rest each apart same = none_between pieces rest each.1 apart (omega arith)
+  none_between (Dollar construct ∷ pieces) rest each apart same = absurd (false≢true each.0)
+  none_between (Run bytes ∷ []) rest each apart same = refl
+  none_between (Run bytes ∷ White b ∷ pieces) rest each apart same =
       absurd (omega (arith, no_more pieces, length-append bytes (flat_map bytes_of (White b ∷ pieces)), length-append bytes (flat_map token_bytes (tokens_of pieces))))
-  none_between (Run bytes ∷ Comment inside ∷ pieces) each apart same =
-      absurd (omega (arith, no_more pieces, length-append bytes (flat_map bytes_of (Comment inside ∷ pieces)), length-append inside (flat_map bytes_of pieces), length-append bytes (flat_map token_bytes (tokens_of pieces)), piece_some operators (Comment inside) each.1.0))
-  none_between (Run bytes ∷ Quotation inside ∷ pieces) each apart same =
-      none_between (Quotation inside ∷ pieces) each.1 apart (omega (arith, length-append bytes (flat_map bytes_of (Quotation inside ∷ pieces)), length-append bytes (flat_map token_bytes (tokens_of (Quotation inside ∷ pieces)))))
-  none_between (Run bytes ∷ Operator b ∷ pieces) each apart same =
-      none_between (Operator b ∷ pieces) each.1 apart (omega (arith, length-append bytes (flat_map bytes_of (Operator b ∷ pieces)), length-append bytes (flat_map token_bytes (tokens_of (Operator b ∷ pieces)))))
-  none_between (Run bytes ∷ Run more ∷ pieces) each apart same = absurd (false≢true apart)
+  none_between (Run bytes ∷ Comment inside ∷ pieces) rest each apart same =
+      absurd (omega (arith, no_more pieces, length-append bytes (flat_map bytes_of (Comment inside ∷ pieces)), length-append inside (flat_map bytes_of pieces), length-append bytes (flat_map token_bytes (tokens_of pieces)), piece_some (plain operators) (Comment inside) (flat_map bytes_of pieces ++ rest) each.1.0))
+  none_between (Run bytes ∷ Quotation inside ∷ pieces) rest each apart same =
+      none_between (Quotation inside ∷ pieces) rest each.1 apart (omega (arith, length-append bytes (flat_map bytes_of (Quotation inside ∷ pieces)), length-append bytes (flat_map token_bytes (tokens_of (Quotation inside ∷ pieces)))))
+  none_between (Run bytes ∷ Operator b ∷ pieces) rest each apart same =
+      none_between (Operator b ∷ pieces) rest each.1 apart (omega (arith, length-append bytes (flat_map bytes_of (Operator b ∷ pieces)), length-append bytes (flat_map token_bytes (tokens_of (Operator b ∷ pieces)))))
+  none_between (Run bytes ∷ Dollar construct ∷ pieces) rest each apart same = absurd (false≢true each.1.0)
+  none_between (Run bytes ∷ Run more ∷ pieces) rest each apart same = absurd (false≢true apart)
 
-  pub only_apart : (angles : Bool) (tokens : List Token) → AreTokens operators angles (joined None tokens) tokens → have_neighbours tokens ≡ false
+  pub only_apart : (angles : Bool) (tokens : List Token) → AreTokens (plain operators) angles (joined None tokens) tokens → have_neighbours tokens ≡ false
   only_apart angles tokens a =
-      let same : size a.pieces ≡ size_in a.pieces = ap length (a.cut.whole ∙ joined-none tokens ∙ ap (flat_map token_bytes) (sym a.tokens_are)) in
-      ap have_neighbours (sym a.tokens_are) ∙ none_between a.pieces a.cut.each a.cut.apart same
+      let same : size a.pieces ≡ size_in a.pieces = ap length (a.cut.whole ∙ joined-none tokens ∙ ap (flat_map token_bytes) (sym (tokens_are angles (joined None tokens) tokens a))) in
+      ap have_neighbours (sym (tokens_are angles (joined None tokens) tokens a)) ∙ none_between a.pieces [] a.cut.each a.cut.apart same

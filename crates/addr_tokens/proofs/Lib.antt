@@ -1,13 +1,16 @@
 mod TableLemmas
 mod WordLemmas
+mod ConstructLemmas
 mod QuoteLemmas
 mod CommentLemmas
 mod StepLemmas
 mod FrontLemmas
 mod FirstLemmas
+mod DollarLemmas
 mod ReadingLemmas
 mod JudgeLemmas
 mod OutcomeLemmas
+mod PlainLemmas
 mod ScanLemmas
 mod JoinLemmas
 mod GatherLemmas

@@ -2,8 +2,8 @@
 use Rattle.std.proofs.Common.{◌≡◌, ℕ, zero, suc, ◌+◌, ◌-◌, ◌<◌, true, false, List, ◌∷◌, length, drop, refl, ◌∙◌, ap, get_or, arith}
 use Rattle.std.proofs.lemmas.Bool.{cond-true, cond-false, eq-eqb, ne_eqb}
 use Rattle.std.proofs.lemmas.List.{drop_more}
-use Rattle.addr_tokens.specs.Pieces.{is_word_byte}
-use Rattle.addr_tokens.specs.Reader.{past_word, past_comment}
+use Rattle.addr_tokens.specs.Pieces.{Alphabet, is_word_byte}
+use Rattle.addr_tokens.specs.Reader.{takes_next, past_word, past_comment}
 
 module _ (text : List ℕ) (i : ℕ) (within : i < length text) where
   abbrev b : ℕ
@@ -36,14 +36,15 @@ module _ (text : List ℕ) (i : ℕ) (within : i < length text) where
   pub comment_byte : (depth : ℕ) → (get_or text i 0 ≡ 92 → ⊥) → (get_or text i 0 ≡ 40 → ⊥) → (get_or text i 0 ≡ 41 → ⊥) → past_comment depth false (drop i text) ≡ past_comment depth false (drop (i + 1) text)
   comment_byte depth unslashed none opens = ap (past_comment depth false) at ∙ cond-false _ _ _ (ne_eqb _ _ unslashed) ∙ cond-false _ _ _ (ne_eqb _ _ none) ∙ cond-false _ _ _ (ne_eqb _ _ opens)
 
-  pub word_escaped_byte : (operators : List ℕ) → past_word operators true (drop i text) ≡ past_word operators false (drop (i + 1) text)
-  word_escaped_byte operators = ap (past_word operators true) at
+  pub word_taken_byte : (alphabet : Alphabet) → past_word alphabet true (drop i text) ≡ past_word alphabet false (drop (i + 1) text)
+  word_taken_byte alphabet = ap (past_word alphabet true) at
 
-  pub word_backslash : (operators : List ℕ) → get_or text i 0 ≡ 92 → past_word operators false (drop i text) ≡ past_word operators true (drop (i + 1) text)
-  word_backslash operators is = ap (past_word operators false) at ∙ cond-true _ _ _ (eq-eqb _ _ is)
+  pub word_taking_byte : (alphabet : Alphabet) → takes_next alphabet (get_or text i 0) (drop (i + 1) text) ≡ true → past_word alphabet false (drop i text) ≡ past_word alphabet true (drop (i + 1) text)
+  word_taking_byte alphabet takes = ap (past_word alphabet false) at ∙ cond-true _ _ _ takes
 
-  pub word_byte : (operators : List ℕ) → (get_or text i 0 ≡ 92 → ⊥) → is_word_byte operators (get_or text i 0) ≡ true → past_word operators false (drop i text) ≡ past_word operators false (drop (i + 1) text)
-  word_byte operators unslashed is = ap (past_word operators false) at ∙ cond-false _ _ _ (ne_eqb _ _ unslashed) ∙ cond-true _ _ _ is
+  pub word_byte : (alphabet : Alphabet) → takes_next alphabet (get_or text i 0) (drop (i + 1) text) ≡ false → is_word_byte alphabet (get_or text i 0) (drop (i + 1) text) ≡ true
+      → past_word alphabet false (drop i text) ≡ past_word alphabet false (drop (i + 1) text)
+  word_byte alphabet takes is = ap (past_word alphabet false) at ∙ cond-false _ _ _ takes ∙ cond-true _ _ _ is
 
   pub backslash_last : get_or text i 0 ≡ 92 → drop (i + 1 - 1) text ≡ 92 ∷ drop (i + 1) text
   backslash_last is = let e : i + 1 - 1 ≡ i = omega arith in ap (λ n. drop n text) e ∙ at ∙ ap (λ x. x ∷ after) is

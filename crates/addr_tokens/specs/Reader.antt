@@ -1,10 +1,14 @@
--- How a text is read from the left. No public contract speaks of it: what is read is proved to be what Pieces and Scans say.
-use Rattle.std.specs.Prelude.{◌≡◌, ℕ, zero, suc, ◌+◌, ◌-◌, ◌<◌, Bool, true, false, ◌&&◌, ◌==◌, nat_le, List, [], ◌∷◌, ◌++◌, length, take, slice_index_or, Option, Some, None, Result, Ok, Err, if◌then◌else◌}
+-- How a text is read from the left: the lexemes or the fault that `outcome_of` computes are those that Pieces and Scans say, by a law.
+use Rattle.std.specs.Prelude.{◌≡◌, ℕ, zero, suc, ◌+◌, ◌-◌, ◌<◌, Bool, true, false, ◌&&◌, ◌||◌, ◌==◌, nat_le, List, [], ◌∷◌, ◌++◌, length, take, slice_index, slice_index_or, Option, Some, None, Result, Ok, Err, if◌then◌else◌}
 use Rattle.mail_base.specs.declared.token.Token.{Token}
+use Rattle.addr_tokens.specs.declared.lexeme.Dollars.{Dollars}
+use Rattle.addr_tokens.specs.declared.lexeme.Lexeme.{Lexeme}
+use Rattle.addr_tokens.specs.declared.lexeme.Lexeme.TheVariants.{Token as Plain, Dollar as Metasign, Named}
+use Rattle.std.specs.List.{flat_map}
 use Rattle.addr_tokens.specs.declared.fault.ScanFault.{ScanFault}
-use Rattle.addr_tokens.specs.declared.fault.ScanFault.TheVariants.{Unbalanced, BadQuote, Long}
+use Rattle.addr_tokens.specs.declared.fault.ScanFault.TheVariants.{Unbalanced, BadQuote, BadDollar, Long}
 use Rattle.mail_base.specs.Whites.{is_white}
-use Rattle.addr_tokens.specs.Pieces.{Piece, White, Comment, Quotation, Operator, Run, bytes_of, token_of, is_control, is_listed, is_word_byte}
+use Rattle.addr_tokens.specs.Pieces.{Alphabet, Single, Letter, Braced, Piece, White, Comment, Quotation, Operator, Dollar, Run, bytes_of, given_by, is_control, is_listed, is_word_byte, means, is_dollar, is_doubled, is_construct, is_naming, is_name}
 use Rattle.addr_tokens.specs.Scans.{most_tokens}
 use Rattle.addr_tokens.specs.Joins.{token_bytes, is_string, blank_bytes}
 
@@ -14,12 +18,23 @@ pub data Ending : Type 0 where
   Unclosed : Ending
   Bad : (left : ℕ) → Ending
 
--- what is behind the bytes of a word; quoted says that a backslash stands before the text
-abbrev pub past_word : List ℕ → Bool → List ℕ → List ℕ
-past_word operators true [] = 92 ∷ []
-past_word operators false [] = []
-past_word operators true (b ∷ bs) = past_word operators false bs
-past_word operators false (b ∷ bs) = if b == 92 then past_word operators true bs else if is_word_byte operators b then past_word operators false bs else b ∷ bs
+abbrev pub begins_dollar : List ℕ → Bool
+begins_dollar text = slice_index text 0 == 36
+
+-- two dollar signs that stand for one in a word
+abbrev pub is_pair : Alphabet → ℕ → List ℕ → Bool
+is_pair alphabet b after = b == 36 && (begins_dollar after && is_doubled alphabet)
+
+-- the byte takes the next one into the word
+abbrev pub takes_next : Alphabet → ℕ → List ℕ → Bool
+takes_next alphabet b after = b == 92 || is_pair alphabet b after
+
+-- what is behind the bytes of a word; quoted says that a byte that takes the next one stands before the text
+abbrev pub past_word : Alphabet → Bool → List ℕ → List ℕ
+past_word alphabet true [] = 92 ∷ []
+past_word alphabet false [] = []
+past_word alphabet true (b ∷ bs) = past_word alphabet false bs
+past_word alphabet false (b ∷ bs) = if takes_next alphabet b bs then past_word alphabet true bs else if is_word_byte alphabet b bs then past_word alphabet false bs else b ∷ bs
 
 abbrev pub past_quote : Bool → List ℕ → Ending
 past_quote true [] = Bad 1
@@ -59,16 +74,48 @@ first_comment place text (Closed rest) = Ok (Comment (front_of text rest), rest)
 first_comment place text Unclosed = Err (Unbalanced place)
 first_comment place text (Bad left) = Err (BadQuote (place + (length text - left)))
 
+-- up to the first closing brace, and what is behind it
+abbrev pub with_byte : ℕ → Option (List ℕ × List ℕ) → Option (List ℕ × List ℕ)
+with_byte b None = None
+with_byte b (Some parts) = Some (b ∷ parts.0, parts.1)
+
+abbrev pub in_braces : List ℕ → Option (List ℕ × List ℕ)
+in_braces [] = None
+in_braces (b ∷ bs) = if b == 125 then Some ([], bs) else with_byte b (in_braces bs)
+
+abbrev pub first_braced : ℕ → ℕ → Option (List ℕ × List ℕ) → First
+first_braced place b None = Err (BadDollar place)
+first_braced place b (Some parts) = Ok (Dollar (Braced b parts.0), parts.1)
+
+-- the name behind a dollar sign with this byte
+abbrev pub first_named : ℕ → ℕ → List ℕ → First
+first_named place b [] = Err (BadDollar place)
+first_named place b (c ∷ cs) = if c == 123 then first_braced place b (in_braces cs) else if is_name c then Ok (Dollar (Letter b c), cs) else Err (BadDollar place)
+
+-- what is behind a dollar sign that begins a construct, if any does
+abbrev pub first_dollar : Alphabet → ℕ → List ℕ → First
+first_dollar alphabet place [] = Err (BadDollar place)
+first_dollar alphabet place (b ∷ bs) = if is_construct alphabet (Single b) then Ok (Dollar (Single b), bs) else if is_naming b then first_named place b bs else Err (BadDollar place)
+
+-- the same of a text that begins with a dollar sign
+abbrev pub first_at_dollar : Alphabet → ℕ → List ℕ → First
+first_at_dollar alphabet place bs =
+    if begins_dollar bs && is_doubled alphabet then first_word place (36 ∷ bs) (past_word alphabet false (36 ∷ bs))
+    else if means alphabet.dollars bs then first_dollar alphabet place bs
+    else if is_listed alphabet 36 then Ok (Operator 36, bs)
+    else first_word place (36 ∷ bs) (past_word alphabet false (36 ∷ bs))
+
 -- the first piece of a text that has a byte, and what is behind it; or the fault
-abbrev pub first_of : List ℕ → ℕ → ℕ → List ℕ → First
-first_of operators place b bs =
+abbrev pub first_of : Alphabet → ℕ → ℕ → List ℕ → First
+first_of alphabet place b bs =
     if is_white b then Ok (White b, bs)
     else if b == 40 then first_comment place (b ∷ bs) (past_comment zero false bs)
     else if b == 41 then Err (Unbalanced place)
     else if b == 34 then first_quote place (b ∷ bs) (past_quote false bs)
-    else if b == 92 then first_word place (b ∷ bs) (past_word operators false (b ∷ bs))
-    else if is_listed operators b then Ok (Operator b, bs)
-    else first_word place (b ∷ bs) (past_word operators false (b ∷ bs))
+    else if takes_next alphabet b bs then first_word place (b ∷ bs) (past_word alphabet false (b ∷ bs))
+    else if is_dollar alphabet.dollars b bs then first_dollar alphabet place bs
+    else if is_listed alphabet b then Ok (Operator b, bs)
+    else first_word place (b ∷ bs) (past_word alphabet false (b ∷ bs))
 
 -- the pieces of a text up to its end, or to what no piece begins
 pub record Reading : Type 0 where
@@ -83,14 +130,14 @@ read_on go place (Ok first) = with_piece first.0 (go (place + length (bytes_of f
 read_on go place (Err fault) = record { pieces = []; fault = Some fault }
 
 -- so many pieces at most
-abbrev pub reading_by : ℕ → List ℕ → ℕ → List ℕ → Reading
-reading_by zero operators place text = record { pieces = []; fault = None }
-reading_by (suc n) operators place [] = record { pieces = []; fault = None }
-reading_by (suc n) operators place (b ∷ bs) = read_on (reading_by n operators) place (first_of operators place b bs)
+abbrev pub reading_by : ℕ → Alphabet → ℕ → List ℕ → Reading
+reading_by zero alphabet place text = record { pieces = []; fault = None }
+reading_by (suc n) alphabet place [] = record { pieces = []; fault = None }
+reading_by (suc n) alphabet place (b ∷ bs) = read_on (reading_by n alphabet) place (first_of alphabet place b bs)
 
 -- a text has no more pieces than bytes
-abbrev pub reading_of : List ℕ → ℕ → List ℕ → Reading
-reading_of operators place text = reading_by (length text) operators place text
+abbrev pub reading_of : Alphabet → ℕ → List ℕ → Reading
+reading_of alphabet place text = reading_by (length text) alphabet place text
 
 -- after a `>`, where these `<` are open
 abbrev pub close_angle : ℕ → List ℕ → Result (List ℕ) ScanFault
@@ -102,41 +149,59 @@ abbrev pub note_angle : Bool → ℕ → List ℕ → Piece → Result (List ℕ
 note_angle true place lefts (Operator byte) = if byte == 60 then Ok (place ∷ lefts) else if byte == 62 then close_angle place lefts else Ok lefts
 note_angle angles place lefts piece = Ok lefts
 
-abbrev pub with_tokens : List Token → Result (List Token) ScanFault → Result (List Token) ScanFault
-with_tokens tokens (Ok more) = Ok (tokens ++ more)
-with_tokens tokens (Err fault) = Err fault
+abbrev pub Answer : Type 0
+Answer = Result (List Lexeme) ScanFault
 
-abbrev pub judge_on : (List ℕ → Result (List Token) ScanFault) → List Token → Result (List ℕ) ScanFault → Result (List Token) ScanFault
-judge_on go tokens (Ok lefts) = with_tokens tokens (go lefts)
-judge_on go tokens (Err fault) = Err fault
+abbrev pub with_lexemes : List Lexeme → Answer → Answer
+with_lexemes lexemes (Ok more) = Ok (lexemes ++ more)
+with_lexemes lexemes (Err fault) = Err fault
+
+abbrev pub judge_on : (List ℕ → Answer) → List Lexeme → Result (List ℕ) ScanFault → Answer
+judge_on go lexemes (Ok lefts) = with_lexemes lexemes (go lefts)
+judge_on go lexemes (Err fault) = Err fault
 
 -- at the end, where these `<` are open
-abbrev pub judge_end : List ℕ → Option ScanFault → Result (List Token) ScanFault
+abbrev pub judge_end : List ℕ → Option ScanFault → Answer
 judge_end lefts (Some fault) = Err fault
 judge_end [] None = Ok []
 judge_end (last ∷ lefts) None = Err (Unbalanced last)
 
--- the tokens of pieces, or the fault of their angles, or the one behind them
-abbrev pub judged : Bool → ℕ → List ℕ → List Piece → Option ScanFault → Result (List Token) ScanFault
-judged angles place lefts [] fault = judge_end lefts fault
-judged angles place lefts (piece ∷ pieces) fault = judge_on (λ lefts. judged angles (place + length (bytes_of piece)) lefts pieces fault) (token_of piece) (note_angle angles place lefts piece)
+-- what the pieces give, or the fault of their angles, or the one behind them
+abbrev pub judged : Dollars → Bool → ℕ → List ℕ → List Piece → Option ScanFault → Answer
+judged dollars angles place lefts [] fault = judge_end lefts fault
+judged dollars angles place lefts (piece ∷ pieces) fault =
+    judge_on (λ lefts. judged dollars angles (place + length (bytes_of piece)) lefts pieces fault) (given_by dollars piece) (note_angle angles place lefts piece)
 
-abbrev pub limited : List Token → Result (List Token) ScanFault
-limited tokens = if nat_le (length tokens) most_tokens then Ok tokens else Err Long
+abbrev pub limited : List Lexeme → Answer
+limited lexemes = if nat_le (length lexemes) most_tokens then Ok lexemes else Err Long
 
--- what is answered where these tokens were gathered, or too many, before the others
-abbrev pub gathered : Bool → List Token → Result (List Token) ScanFault → Result (List Token) ScanFault
-gathered is_long tokens (Err fault) = Err fault
-gathered true tokens (Ok more) = Err Long
-gathered false tokens (Ok more) = limited (tokens ++ more)
+-- what is answered where these lexemes were gathered, or too many, before the others
+abbrev pub gathered : Bool → List Lexeme → Answer → Answer
+gathered is_long lexemes (Err fault) = Err fault
+gathered true lexemes (Ok more) = Err Long
+gathered false lexemes (Ok more) = limited (lexemes ++ more)
 
 -- of what is left of a text
-abbrev pub outcome_on : List ℕ → Bool → ℕ → List ℕ → List ℕ → Result (List Token) ScanFault
-outcome_on operators angles place lefts text = let reading = reading_of operators place text in judged angles place lefts reading.pieces reading.fault
+abbrev pub outcome_on : Alphabet → Bool → ℕ → List ℕ → List ℕ → Answer
+outcome_on alphabet angles place lefts text = let reading = reading_of alphabet place text in judged alphabet.dollars angles place lefts reading.pieces reading.fault
 
--- the tokens of a text, or its first fault
-abbrev pub outcome_of : List ℕ → Bool → List ℕ → Result (List Token) ScanFault
-outcome_of operators angles text = gathered false [] (outcome_on operators angles 0 [] text)
+-- the lexemes of a text, or its first fault
+abbrev pub outcome_of : Alphabet → Bool → List ℕ → Answer
+outcome_of alphabet angles text = gathered false [] (outcome_on alphabet angles 0 [] text)
+
+-- the tokens among the lexemes
+abbrev pub token_in : Lexeme → List Token
+token_in (Plain token) = token ∷ []
+token_in (Metasign byte) = []
+token_in (Named byte name) = []
+
+abbrev pub tokens_among : Answer → Result (List Token) ScanFault
+tokens_among (Ok lexemes) = Ok (flat_map token_in lexemes)
+tokens_among (Err fault) = Err fault
+
+-- where each lexeme is a token
+abbrev pub tokens_or_fault : Alphabet → Bool → List ℕ → Result (List Token) ScanFault
+tokens_or_fault alphabet angles text = tokens_among (outcome_of alphabet angles text)
 
 -- the blank that stands before a token, where a Word or a Quoted token stands before it or doesn't
 abbrev pub joined_on : Bool → Option ℕ → List Token → List ℕ
@@ -144,5 +209,6 @@ joined_on after blank [] = []
 joined_on after blank (token ∷ tokens) = (if after && is_string token then blank_bytes blank else []) ++ (token_bytes token ++ joined_on (is_string token) blank tokens)
 
 -- a table says of each byte whether it is an operator
-pub record IsTable (operators : List ℕ) (listed : List Bool) : Type 0 where
-  pub at : (b : ℕ) → b < 256 → slice_index_or listed b false ≡ is_listed operators b
+pub record IsTable (alphabet : Alphabet) (listed : List Bool) (dollars : Dollars) : Type 0 where
+  pub at : (b : ℕ) → b < 256 → slice_index_or listed b false ≡ is_listed alphabet b
+  pub means : dollars ≡ alphabet.dollars

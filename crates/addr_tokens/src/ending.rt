@@ -1,4 +1,5 @@
 ghost use Rattle.std.specs.Prelude.{◌≡◌, ◌<◌, ◌≤◌, ℕ, List, [], false, true, length, drop};
+ghost use Rattle.addr_tokens.specs.Pieces.{Alphabet};
 ghost use Rattle.addr_tokens.specs.Reader.{IsTable, past_word, past_quote, past_comment};
 ghost use Rattle.addr_tokens.specs.Views.{ending_in, IsWithin};
 
@@ -16,20 +17,21 @@ pub(crate) enum Ending {
 /// How many bytes the word at the front has.
 pub(crate) fn word_length(table: &Table, text: &[u8]) -> usize
     ensures within { result ≤ length text.now }
-    ensures rest { (operators : List ℕ) → IsTable operators table.now.listed
-        → drop result text.now ≡ past_word operators false text.now }
+    ensures rest { (alphabet : Alphabet) → IsTable alphabet table.now.listed table.now.dollars
+        → drop result text.now ≡ past_word alphabet false text.now }
 {
-    let mut quoted = false;
+    let mut taken = false;
     'bytes: for (index, byte) in text.iter().enumerate() {
-        if quoted {
-            quoted = false;
-        } else if *byte == b'\\' {
-            quoted = true;
-        } else if !table.is_word_byte(*byte) {
+        let after = &text[index + 1..];
+        if taken {
+            taken = false;
+        } else if table.takes_next(*byte, after) {
+            taken = true;
+        } else if !table.is_word_byte(*byte, after) {
             return index;
         }
     }
-    if quoted { text.len() - 1 } else { text.len() }
+    if taken { text.len() - 1 } else { text.len() }
 }
 
 /// How the quoted string ends whose first double quote stands before the text.

@@ -15,6 +15,10 @@ pub enum ScanFault {
     /// text.
     #[error("BadQuote {0}")]
     BadQuote(u64),
+    /// In a rule's side a dollar sign that ends the text or stands before a byte with which it means
+    /// nothing, or a `$=`, `$~` or `$&` without a name.
+    #[error("BadDollar {0}")]
+    BadDollar(u64),
     /// There are more than 2,000 tokens.
     #[error("Long")]
     Long,

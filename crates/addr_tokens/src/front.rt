@@ -1,9 +1,12 @@
-ghost use Rattle.std.specs.Prelude.{◌≡◌, ◌+◌, ◌^◌, ◌<◌, ◌≤◌, ℕ, List, false, length, drop, slice_index, Ok, Err, IfOk, IfErr};
+ghost use Rattle.mail_base.specs.Whites.{is_white};
+ghost use Rattle.std.specs.Prelude.{◌≡◌, ◌≢◌, ◌+◌, ◌^◌, ◌<◌, ◌≤◌, ℕ, List, false, length, drop, slice_index, IfOk};
 ghost use Rattle.addr_tokens.specs.Reader as reader;
+ghost use Rattle.addr_tokens.specs.Pieces.{Alphabet};
 ghost use Rattle.addr_tokens.specs.Reader.{IsTable};
-ghost use Rattle.addr_tokens.specs.Views.{piece_of, size_of};
+ghost use Rattle.addr_tokens.specs.Views.{front_read, size_of};
 
 use crate::ScanFault;
+use crate::construct::{Construct, construct_of};
 use crate::ending::{Ending, comment_end, quote_end, word_length};
 use crate::table::{Table, is_white};
 
@@ -14,16 +17,19 @@ pub(crate) enum Front {
     Comment(usize),
     Quotation(usize),
     Operator(u8),
+    Dollar(Construct),
     Run(usize),
 }
 
 impl Front {
     pub(crate) fn size(&self) -> usize
+        requires { size_of self.now < 2 ^ 64 }
         ensures { result ≡ size_of self.now }
     {
         match *self {
             Front::White | Front::Operator(_) => 1,
             Front::Comment(size) | Front::Quotation(size) | Front::Run(size) => size,
+            Front::Dollar(construct) => construct.size_behind() + 1,
         }
     }
 }
@@ -34,11 +40,8 @@ pub(crate) fn first_of(table: &Table, text: &[u8], place: u64) -> Result<Front, 
     requires place { place + length text.now < 2 ^ 64 }
     ensures some { IfOk result (λ front. 0 < size_of front) }
     ensures within { IfOk result (λ front. size_of front ≤ length text.now) }
-    ensures piece { IfOk result (λ front. (operators : List ℕ) → IsTable operators table.now.listed
-        → reader.first_of operators place (slice_index text.now 0) (drop 1 text.now)
-        ≡ Ok (piece_of front text.now, drop (size_of front) text.now)) }
-    ensures fault { IfErr result (λ fault. (operators : List ℕ) → IsTable operators table.now.listed
-        → reader.first_of operators place (slice_index text.now 0) (drop 1 text.now) ≡ Err fault) }
+    ensures read { (alphabet : Alphabet) → IsTable alphabet table.now.listed table.now.dollars
+        → reader.first_of alphabet place (slice_index text.now 0) (drop 1 text.now) ≡ front_read text.now result }
 {
     let byte = text[0];
     if is_white(byte) {
@@ -49,19 +52,60 @@ pub(crate) fn first_of(table: &Table, text: &[u8], place: u64) -> Result<Front, 
         b')' => Err(ScanFault::Unbalanced(place)),
         b'"' => quotation_of(text, place),
         b'\\' => run_of(table, text, place),
-        _ if table.is_listed(byte) => Ok(Front::Operator(byte)),
-        _ => run_of(table, text, place),
+        b'$' => dollar_of(table, text, place),
+        _ => plain_of(table, text, place),
     }
+}
+
+/// The same, where an operator or a word begins the text.
+fn plain_of(table: &Table, text: &[u8], place: u64) -> Result<Front, ScanFault>
+    requires some { 0 < length text.now }
+    requires white { is_white (slice_index text.now 0) ≡ false }
+    requires opening { slice_index text.now 0 ≢ 40 }
+    requires closing { slice_index text.now 0 ≢ 41 }
+    requires quote { slice_index text.now 0 ≢ 34 }
+    requires slash { slice_index text.now 0 ≢ 92 }
+    requires dollar { slice_index text.now 0 ≢ 36 }
+    ensures some { IfOk result (λ front. 0 < size_of front) }
+    ensures within { IfOk result (λ front. size_of front ≤ length text.now) }
+    ensures read { (alphabet : Alphabet) → IsTable alphabet table.now.listed table.now.dollars
+        → reader.first_of alphabet place (slice_index text.now 0) (drop 1 text.now) ≡ front_read text.now result }
+{
+    let byte = text[0];
+    if table.is_listed(byte) {
+        return Ok(Front::Operator(byte));
+    }
+    run_of(table, text, place)
+}
+
+/// The same, where a dollar sign begins the text.
+fn dollar_of(table: &Table, text: &[u8], place: u64) -> Result<Front, ScanFault>
+    requires some { 0 < length text.now }
+    requires first { slice_index text.now 0 ≡ 36 }
+    ensures some { IfOk result (λ front. 0 < size_of front) }
+    ensures within { IfOk result (λ front. size_of front ≤ length text.now) }
+    ensures read { (alphabet : Alphabet) → IsTable alphabet table.now.listed table.now.dollars
+        → reader.first_at_dollar alphabet place (drop 1 text.now) ≡ front_read text.now result }
+{
+    let after = &text[1..];
+    if table.is_doubled(after) {
+        return run_of(table, text, place);
+    }
+    if table.means(after) {
+        let construct = construct_of(table, after, place)?;
+        return Ok(Front::Dollar(construct));
+    }
+    if table.is_listed(b'$') {
+        return Ok(Front::Operator(b'$'));
+    }
+    run_of(table, text, place)
 }
 
 fn run_of(table: &Table, text: &[u8], place: u64) -> Result<Front, ScanFault>
     ensures some { IfOk result (λ front. 0 < size_of front) }
     ensures within { IfOk result (λ front. size_of front ≤ length text.now) }
-    ensures piece { IfOk result (λ front. (operators : List ℕ) → IsTable operators table.now.listed
-        → reader.first_word place text.now (reader.past_word operators false text.now)
-        ≡ Ok (piece_of front text.now, drop (size_of front) text.now)) }
-    ensures fault { IfErr result (λ fault. (operators : List ℕ) → IsTable operators table.now.listed
-        → reader.first_word place text.now (reader.past_word operators false text.now) ≡ Err fault) }
+    ensures read { (alphabet : Alphabet) → IsTable alphabet table.now.listed table.now.dollars
+        → reader.first_word place text.now (reader.past_word alphabet false text.now) ≡ front_read text.now result }
 {
     let size = word_length(table, text);
     if size == 0 {
@@ -75,10 +119,7 @@ fn quotation_of(text: &[u8], place: u64) -> Result<Front, ScanFault>
     requires place { place + length text.now < 2 ^ 64 }
     ensures some { IfOk result (λ front. 0 < size_of front) }
     ensures within { IfOk result (λ front. size_of front ≤ length text.now) }
-    ensures piece { IfOk result (λ front. reader.first_quote place text.now (reader.past_quote false (drop 1 text.now))
-        ≡ Ok (piece_of front text.now, drop (size_of front) text.now)) }
-    ensures fault { IfErr result (λ fault. reader.first_quote place text.now (reader.past_quote false (drop 1 text.now))
-        ≡ Err fault) }
+    ensures read { reader.first_quote place text.now (reader.past_quote false (drop 1 text.now)) ≡ front_read text.now result }
 {
     match quote_end(&text[1..]) {
         Ending::Closed(size) => Ok(Front::Quotation(size + 1)),
@@ -92,10 +133,7 @@ fn comment_of(text: &[u8], place: u64) -> Result<Front, ScanFault>
     requires place { place + length text.now < 2 ^ 64 }
     ensures some { IfOk result (λ front. 0 < size_of front) }
     ensures within { IfOk result (λ front. size_of front ≤ length text.now) }
-    ensures piece { IfOk result (λ front. reader.first_comment place text.now (reader.past_comment 0 false (drop 1 text.now))
-        ≡ Ok (piece_of front text.now, drop (size_of front) text.now)) }
-    ensures fault { IfErr result (λ fault. reader.first_comment place text.now (reader.past_comment 0 false (drop 1 text.now))
-        ≡ Err fault) }
+    ensures read { reader.first_comment place text.now (reader.past_comment 0 false (drop 1 text.now)) ≡ front_read text.now result }
 {
     match comment_end(&text[1..]) {
         Ending::Closed(size) => Ok(Front::Comment(size + 1)),

@@ -1,15 +1,15 @@
-ghost use Rattle.std.specs.Prelude.{◌≡◌, ◌≢◌, ◌≤◌, ◌++◌, ◌∷◌, [], List, ℕ, false, if◌then◌else◌, length, reverse, None, Result, Ok, Err, OnOk, OnErr, IfOk, IfErr};
-ghost use Rattle.mail_base.specs.declared.token.Token.{Token as TheToken};
-ghost use Rattle.addr_tokens.specs.declared.fault.ScanFault.{ScanFault as TheFault};
+ghost use Rattle.std.specs.Prelude.{◌≡◌, ◌≢◌, ◌≤◌, ◌∷◌, [], List, ℕ, true, false, length, map, reverse, None, Ok, Err, OnOk, IfOk, IfErr};
+ghost use Rattle.addr_tokens.specs.declared.lexeme.Dollars.{Dollars as TheDollars};
 ghost use Rattle.addr_tokens.specs.declared.fault.ScanFault.TheVariants.{NoMemory as Memory, Unbalanced};
-ghost use Rattle.addr_tokens.specs.Pieces.{token_of};
+ghost use Rattle.addr_tokens.specs.Pieces.{given_by};
 ghost use Rattle.addr_tokens.specs.Scans.{most_tokens};
-ghost use Rattle.addr_tokens.specs.Reader.{note_angle, close_angle, judge_end, with_tokens, gathered};
-ghost use Rattle.addr_tokens.specs.Views.{piece_of, size_of};
+ghost use Rattle.addr_tokens.specs.Reader.{Answer, note_angle, close_angle, judge_end, with_lexemes, gathered};
+ghost use Rattle.addr_tokens.specs.Views.{piece_of, size_of, Suits};
 
 use crate::ScanFault;
 use crate::front::Front;
-use mail_base::{NoMemory, Seq, Text, Token};
+use crate::given::Given;
+use mail_base::{NoMemory, Seq};
 use std::alloc::Global;
 
 /// The most tokens that a text may have.
@@ -83,81 +83,75 @@ impl Angles {
     }
 }
 
-/// The tokens so far.
+/// What was gathered so far.
 #[derive(Drop)]
-pub(crate) struct Gathering {
-    tokens: Seq<Token>,
-    /// There were more than 2,000. The others aren't kept.
+pub(crate) struct Gathering<T> {
+    given: Seq<T>,
+    /// There was more than 2,000. The rest isn't kept.
     is_long: bool,
-    ghost short: { length tokens ≤ most_tokens },
+    ghost short: { length given ≤ most_tokens },
 }
 
-impl Gathering {
-    pub(crate) fn new(alloc: Global) -> Gathering
-        ensures tokens { result.tokens ≡ [] }
+impl<T: Given> Gathering<T> {
+    pub(crate) fn new(alloc: Global) -> Gathering<T>
+        ensures given { result.given ≡ [] }
         ensures short { result.is_long ≡ false }
     {
         Gathering {
-            tokens: Seq::new(alloc),
+            given: Seq::new(alloc),
             is_long: false,
         }
     }
 
-    /// Adds the token, if there is one, of the piece that a text begins with.
+    /// Adds what the piece gives that a text begins with.
     pub(crate) fn add(&mut self, front: Front, text: &[u8]) -> Result<(), NoMemory>
         requires { size_of front ≤ length text.now }
-        ensures { OnOk result ((more : Result (List TheToken) TheFault)
-            → gathered self.new.is_long self.new.tokens more
-            ≡ gathered self.old.is_long self.old.tokens (with_tokens (token_of (piece_of front text.now)) more)) }
+        ensures { OnOk result ((dollars : TheDollars) → T.serves dollars → Suits dollars front → (more : Answer)
+            → gathered self.new.is_long (map T.seen self.new.given) more
+            ≡ gathered self.old.is_long (map T.seen self.old.given) (with_lexemes (given_by dollars (piece_of front text.now)) more)) }
     {
-        if !is_token(front) {
+        if gives_nothing(front) {
             return Ok(());
         }
-        if self.tokens.len() >= MOST_TOKENS {
+        if self.given.len() >= MOST_TOKENS {
             self.is_long = true;
             return Ok(());
         }
-        push_token(&mut self.tokens, front, text)
+        let Some(given) = T::of(self.given.allocator(), front, text)? else {
+            return Ok(());
+        };
+        self.given.push(given)
     }
 
-    pub(crate) fn tokens(self) -> Result<Seq<Token>, ScanFault>
-        ensures ok { IfOk result (λ tokens. gathered self.is_long self.tokens (Ok []) ≡ Ok tokens) }
-        ensures long { IfErr result (λ fault. gathered self.is_long self.tokens (Ok []) ≡ Err fault) }
+    pub(crate) fn given(self) -> Result<Seq<T>, ScanFault>
+        ensures ok { IfOk result (λ given. gathered self.is_long (map T.seen self.given) (Ok []) ≡ Ok (map T.seen given)) }
+        ensures long { IfErr result (λ fault. gathered self.is_long (map T.seen self.given) (Ok []) ≡ Err fault) }
     {
         if self.is_long {
             return Err(ScanFault::Long);
         }
-        Ok(self.tokens)
+        Ok(self.given)
     }
 }
 
 /// What is answered at the end of a text: a `<` that stays open goes before `Long`.
-pub(crate) fn answer_of(angles: &Angles, gathering: Gathering) -> Result<Seq<Token>, ScanFault>
-    ensures ok { IfOk result (λ tokens. gathered gathering.is_long gathering.tokens
-        (judge_end (reverse angles.now.places.items) None) ≡ Ok tokens) }
-    ensures fault { IfErr result (λ fault. gathered gathering.is_long gathering.tokens
+pub(crate) fn answer_of<T: Given>(
+    angles: &Angles,
+    gathering: Gathering<T>,
+) -> Result<Seq<T>, ScanFault>
+    ensures ok { IfOk result (λ given. gathered gathering.is_long (map T.seen gathering.given)
+        (judge_end (reverse angles.now.places.items) None) ≡ Ok (map T.seen given)) }
+    ensures fault { IfErr result (λ fault. gathered gathering.is_long (map T.seen gathering.given)
         (judge_end (reverse angles.now.places.items) None) ≡ Err fault) }
 {
     angles.end()?;
-    gathering.tokens()
+    gathering.given()
 }
 
-fn is_token(front: Front) -> bool
-    ensures { (text : List ℕ) → length (token_of (piece_of front text)) ≡ (if result then 1 else 0) }
+/// White space and comments give nothing.
+fn gives_nothing(front: Front) -> bool
+    ensures nothing { result ≡ true → (dollars : TheDollars) (text : List ℕ) → given_by dollars (piece_of front text) ≡ [] }
+    ensures one { result ≡ false → (dollars : TheDollars) (text : List ℕ) → length (given_by dollars (piece_of front text)) ≡ 1 }
 {
-    !matches!(front, Front::White | Front::Comment(_))
-}
-
-fn push_token(tokens: &mut Seq<Token>, front: Front, text: &[u8]) -> Result<(), NoMemory>
-    requires { size_of front ≤ length text.now }
-    ensures ok { OnOk result (tokens.new ≡ tokens.old ++ token_of (piece_of front text.now)) }
-    ensures err { OnErr result (tokens.new ≡ tokens.old) }
-{
-    let alloc = tokens.allocator();
-    match front {
-        Front::White | Front::Comment(_) => Ok(()),
-        Front::Quotation(size) => tokens.push(Token::Quoted(Text::of(alloc, &text[..size])?)),
-        Front::Operator(byte) => tokens.push(Token::Op(byte)),
-        Front::Run(size) => tokens.push(Token::Word(Text::of(alloc, &text[..size])?)),
-    }
+    matches!(front, Front::White | Front::Comment(_))
 }

@@ -1,17 +1,22 @@
 //! The tokens of an address: [`tokens`] cuts a text into its tokens, and [`join`] joins tokens to a text.
+//! [`typed_tokens`] reads an address that is typed, and [`lexemes`] a side of a rule, with its dollar signs.
 //! `specs/Pieces.antt` says what a cutting is, and `specs/Scans.antt` which fault is the first.
 #![tactic(auto)]
 
+mod construct;
 mod ending;
 mod fault;
 mod front;
 mod gathering;
+mod given;
 mod joining;
 mod law;
+mod lexeme;
 mod scan;
 mod table;
 
 pub use fault::ScanFault;
 pub use joining::join;
-pub use law::{cut_again, one_answer, one_cutting};
-pub use scan::tokens;
+pub use law::{computed, cut_again, lexemes_are_tokens, one_answer, one_cutting};
+pub use lexeme::{Dollars, Lexeme};
+pub use scan::{lexemes, tokens, typed_tokens};

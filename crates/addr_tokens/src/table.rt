@@ -1,41 +1,100 @@
 ghost use Rattle.mail_base.specs.Whites.{is_white};
-ghost use Rattle.std.specs.Prelude.{◌≡◌, ◌<◌, ◌==◌, ◌||◌, ℕ, List, false, slice_index_or};
+ghost use Rattle.std.specs.Prelude.{◌≡◌, ◌<◌, ◌==◌, ◌&&◌, ◌||◌, ◌⊎◌, ℕ, List, true, false, length, slice_index, slice_index_or};
 ghost use Rattle.std.specs.List.{list_any};
 ghost use Rattle.addr_tokens.specs.Pieces as spec;
+ghost use Rattle.addr_tokens.specs.Pieces.{Alphabet, alphabet_of};
+ghost use Rattle.addr_tokens.specs.Reader as reader;
 ghost use Rattle.addr_tokens.specs.Reader.{IsTable};
+
+use crate::lexeme::Dollars;
 
 /// These are operators always, beside the parentheses, which make comments.
 const FIXED_OPERATORS: &[u8] = b"<>,;";
 
-/// Which bytes are operators.
+/// Which bytes are operators, and what a dollar sign means.
 #[derive(Drop)]
 pub(crate) struct Table {
     listed: [bool; 256],
+    dollars: Dollars,
 }
 
 impl Table {
-    pub(crate) fn of(operators: &[u8]) -> Table
-        ensures { IsTable operators.now result.listed }
+    pub(crate) fn of(operators: &[u8], dollars: Dollars) -> Table
+        ensures { IsTable (alphabet_of operators.now dollars) result.listed result.dollars }
     {
         let mut listed = [false; 256];
         list(&mut listed, operators);
         list(&mut listed, FIXED_OPERATORS);
-        Table { listed }
+        Table { listed, dollars }
     }
 
     /// Whether a byte is an operator, where it isn't white space and neither quotes nor comments.
     pub(crate) fn is_listed(&self, byte: u8) -> bool
-        ensures { (operators : List ℕ) → IsTable operators self.now.listed
-            → result ≡ spec.is_listed operators byte }
+        ensures { (alphabet : Alphabet) → IsTable alphabet self.now.listed self.now.dollars
+            → result ≡ spec.is_listed alphabet byte }
     {
         self.listed[usize::from(byte)]
     }
 
-    pub(crate) fn is_word_byte(&self, byte: u8) -> bool
-        ensures { (operators : List ℕ) → IsTable operators self.now.listed
-            → result ≡ spec.is_word_byte operators byte }
+    /// Whether a byte stands in a word by itself, before what is behind it.
+    pub(crate) fn is_word_byte(&self, byte: u8, after: &[u8]) -> bool
+        ensures { (alphabet : Alphabet) → IsTable alphabet self.now.listed self.now.dollars
+            → result ≡ spec.is_word_byte alphabet byte after.now }
     {
-        !is_white(byte) && !is_special(byte) && !self.is_listed(byte)
+        !is_white(byte)
+            && !is_special(byte)
+            && !self.is_listed(byte)
+            && !(byte == b'$' && self.means(after))
+    }
+
+    /// Whether a byte takes the next one into its word.
+    pub(crate) fn takes_next(&self, byte: u8, after: &[u8]) -> bool
+        ensures value { (alphabet : Alphabet) → IsTable alphabet self.now.listed self.now.dollars
+            → result ≡ reader.takes_next alphabet byte after.now }
+        ensures some { result ≡ true → (byte ≡ 92) ⊎ (0 < length after.now) }
+    {
+        byte == b'\\' || (byte == b'$' && self.is_doubled(after))
+    }
+
+    /// Whether the dollar sign before a text and the one that begins it stand for one in a word.
+    pub(crate) fn is_doubled(&self, after: &[u8]) -> bool
+        ensures value { (alphabet : Alphabet) → IsTable alphabet self.now.listed self.now.dollars
+            → result ≡ (reader.begins_dollar after.now && spec.is_doubled alphabet) }
+        ensures some { result ≡ true → 0 < length after.now }
+    {
+        byte_at_front(after) == b'$' && self.is_side() && !self.is_listed(b'$')
+    }
+
+    /// Whether the dollar sign before a text begins a construct or is refused.
+    pub(crate) fn means(&self, after: &[u8]) -> bool
+        ensures { result ≡ spec.means self.now.dollars after.now }
+    {
+        match self.dollars {
+            Dollars::Bytes => false,
+            Dollars::Typed => is_mark(byte_at_front(after)),
+            Dollars::Side => true,
+        }
+    }
+
+    /// Whether a dollar sign with this byte is a construct by itself.
+    pub(crate) fn is_single(&self, byte: u8) -> bool
+        ensures { (alphabet : Alphabet) → IsTable alphabet self.now.listed self.now.dollars
+            → result ≡ spec.is_construct alphabet (spec.Single byte) }
+    {
+        match self.dollars {
+            Dollars::Bytes => false,
+            Dollars::Typed => is_mark(byte),
+            Dollars::Side => is_bare(byte) || (byte == b'$' && self.is_listed(b'$')),
+        }
+    }
+
+    fn is_side(&self) -> bool
+        ensures { result ≡ spec.is_side self.now.dollars }
+    {
+        match self.dollars {
+            Dollars::Bytes | Dollars::Typed => false,
+            Dollars::Side => true,
+        }
     }
 }
 
@@ -46,6 +105,14 @@ fn list(listed: &mut [bool; 256], bytes: &[u8])
     'bytes: for byte in bytes {
         listed[usize::from(*byte)] = true;
     }
+}
+
+/// The first byte of a text, or 0 where there is none.
+fn byte_at_front(text: &[u8]) -> u8
+    ensures value { result ≡ slice_index text.now 0 }
+    ensures some { 0 < result → 0 < length text.now }
+{
+    if text.is_empty() { 0 } else { text[0] }
 }
 
 /// White space: a space, a tab, any byte below 32, and 127.
@@ -66,4 +133,16 @@ fn is_special(byte: u8) -> bool
     ensures { result ≡ spec.is_special byte }
 {
     byte == b'"' || byte == b'\\' || byte == b'(' || byte == b')'
+}
+
+fn is_mark(byte: u8) -> bool
+    ensures { result ≡ spec.is_mark byte }
+{
+    b"|#@:.".contains(&byte)
+}
+
+fn is_bare(byte: u8) -> bool
+    ensures { result ≡ spec.is_bare byte }
+{
+    b"0123456789*+-@:#>[]()|.".contains(&byte)
 }

@@ -1,7 +1,7 @@
 //! Cuts a text of a mebibyte into tokens, of the kind `mixed`, `words` or `comment`, the first where that is left
-//! out, and tells what it gave.
+//! out, or as sides of rules, of the kind `sides` or `side_words`, and tells what it gave.
 
-use addr_tokens::{ScanFault, tokens};
+use addr_tokens::{ScanFault, lexemes, tokens};
 use anyhow::{Result, bail};
 use mail_base::{NoMemory, Text};
 use std::alloc::Global;
@@ -17,6 +17,10 @@ enum Kind {
     Words,
     /// One comment in many.
     Comment,
+    /// Sides of rules.
+    Sides,
+    /// The same words as a side of a rule.
+    SideWords,
 }
 
 pub(crate) fn answer(alloc: Global, kind: Option<&str>, rounds: u32) -> Result<String> {
@@ -24,6 +28,8 @@ pub(crate) fn answer(alloc: Global, kind: Option<&str>, rounds: u32) -> Result<S
         None | Some("mixed") => Kind::Mixed,
         Some("words") => Kind::Words,
         Some("comment") => Kind::Comment,
+        Some("sides") => Kind::Sides,
+        Some("side_words") => Kind::SideWords,
         Some(_) => bail!("no kind of text"),
     };
     Ok(cut(alloc, kind, rounds)?)
@@ -40,10 +46,12 @@ fn text_of(alloc: Global, kind: Kind) -> Result<Text, NoMemory> {
 
 fn byte_at(kind: Kind, place: usize) -> u8 {
     let mixed = b"\"Ann B.\" <ann.b@mx.example> (home (old)), carl\\@x@[10.1.2.3]; d ";
+    let side = b"$* < @ $=w . $~{x} > $&m \"a $1\" $(host $1 $: $2 $) $[ $3 $] a$$b ";
     match kind {
         Kind::Mixed => mixed[place % mixed.len()],
-        Kind::Words if place % 1_024 == 1_023 => b' ',
-        Kind::Words => b'w',
+        Kind::Sides => side[place % side.len()],
+        Kind::Words | Kind::SideWords if place % 1_024 == 1_023 => b' ',
+        Kind::Words | Kind::SideWords => b'w',
         Kind::Comment if place < 1_000 => b'(',
         Kind::Comment if place >= SIZE - 1_000 => b')',
         Kind::Comment => b'c',
@@ -56,14 +64,24 @@ fn cut(alloc: Global, kind: Kind, rounds: u32) -> Result<String, NoMemory> {
     let operators = Text::of(alloc, b".:@[]")?;
     let mut answer = String::new(alloc);
     for _ in 0..rounds {
-        answer = match tokens(alloc, &text, &operators, true) {
-            Ok(tokens) => {
-                let count = tokens.len();
-                format!(in alloc; "{count} tokens")?
-            }
+        answer = match count_of(alloc, kind, &text, &operators) {
+            Ok(count) => format!(in alloc; "{count} tokens")?,
             Err(ScanFault::NoMemory) => return Err(NoMemory),
             Err(fault) => format!(in alloc; "{fault}")?,
         };
     }
     Ok(answer)
+}
+
+fn count_of(alloc: Global, kind: Kind, text: &Text, operators: &Text) -> Result<usize, ScanFault> {
+    match kind {
+        Kind::Mixed | Kind::Words | Kind::Comment => {
+            let tokens = tokens(alloc, text, operators, true)?;
+            Ok(tokens.len())
+        }
+        Kind::Sides | Kind::SideWords => {
+            let lexemes = lexemes(alloc, text, operators, false)?;
+            Ok(lexemes.len())
+        }
+    }
 }

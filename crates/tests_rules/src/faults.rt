@@ -7,10 +7,11 @@ use std::alloc::Global;
 use std::fmt::Display;
 use std::test::Fail;
 
-static SCAN: [(ScanFault, &str); 5] = [
+static SCAN: [(ScanFault, &str); 6] = [
     (ScanFault::Unbalanced(0), "Unbalanced 0"),
     (ScanFault::Unbalanced(1_048_576), "Unbalanced 1048576"),
     (ScanFault::BadQuote(7), "BadQuote 7"),
+    (ScanFault::BadDollar(3), "BadDollar 3"),
     (ScanFault::Long, "Long"),
     (ScanFault::NoMemory, "NoMemory"),
 ];

@@ -1,4 +1,4 @@
-use addr_tokens::{ScanFault, join, tokens};
+use addr_tokens::{Lexeme, ScanFault, join, lexemes, tokens, typed_tokens};
 use mail_base::{Mark, NoMemory, Seq, Text, Token};
 use std::alloc::Global;
 use std::test::Fail;
@@ -97,6 +97,104 @@ static ODD: [Row; 6] = [
     (b")", b"Unbalanced 0"),
 ];
 
+/// Addresses that are typed, by the operators `.:@[]`, where angles are checked.
+static TYPED: [Row; 20] = [
+    (b"$| $# $@ $: $.", b"S:| S:# S:@ S:: S:."),
+    (b"a$|b$.", b"W:a S:| W:b S:."),
+    (b"$#local$:eric", b"S:# W:local S:: W:eric"),
+    (b"a$b@c", b"W:a$b O:@ W:c"),
+    (b"$", b"W:$"),
+    (b"a$ b", b"W:a$ W:b"),
+    (b"$*$1", b"W:$*$1"),
+    (b"$$|", b"W:$ S:|"),
+    (b"a$$b", b"W:a$$b"),
+    (b"$=w$&m", b"W:$=w$&m"),
+    (b"$(a)b", b"W:$ W:b"),
+    (b"\"$|\"", b"Q:\"$|\""),
+    (b"\"a$$\"", b"Q:\"a$$\""),
+    (b"\\$|a", b"W:\\$|a"),
+    (b"($|)a", b"W:a"),
+    (b"<a$@>", b"O:< W:a S:@ O:>"),
+    (b"<$@", b"Unbalanced 0"),
+    (b"$@ )", b"Unbalanced 3"),
+    (b"$: \"", b"BadQuote 3"),
+    (b"$.\\", b"BadQuote 2"),
+];
+
+/// Sides of rules, by the operators `.:@[]`.
+static SIDES: [Row; 47] = [
+    (b"$-:$+", b"D:- O:: D:+"),
+    (
+        b"$* < @ $=w . $~{x} > $&m",
+        b"D:* O:< O:@ N:=w O:. N:~x O:> N:&m",
+    ),
+    (b"$(host $1 $: $2 $)", b"D:( W:host D:1 D:: D:2 D:)"),
+    (b"$[ $1 $]", b"D:[ D:1 D:]"),
+    (b"$>Parse0 $1", b"D:> W:Parse0 D:1"),
+    (b"a$*b", b"W:a D:* W:b"),
+    (
+        b"a$|b$.c$#d$@e$:",
+        b"W:a D:| W:b D:. W:c D:# W:d D:@ W:e D::",
+    ),
+    (b"$0$12$9", b"D:0 D:1 W:2 D:9"),
+    (b"\"a $1\"", b"Q:\"a $1\""),
+    (b"\\$1", b"W:\\$1"),
+    (b"a\\$b", b"W:a\\$b"),
+    (b"( $1 )", b""),
+    (b"($)a", b"W:a"),
+    (b"\"$\"", b"Q:\"$\""),
+    (b"$$", b"W:$"),
+    (b"a$$b", b"W:a$b"),
+    (b"$$1", b"W:$1"),
+    (b"$$$1", b"W:$ D:1"),
+    (b"$$$$", b"W:$$"),
+    (b"\"a$$b\"", b"Q:\"a$b\""),
+    (b"\"\\$$\"", b"Q:\"\\$$\""),
+    (b"\\$$$", b"W:\\$$"),
+    (b"($$)", b""),
+    (b"$={}a", b"N:= W:a"),
+    (b"$={a b}c", b"N:=a b W:c"),
+    (b"$={$x}", b"N:=$x"),
+    (b"$~wx", b"N:~w W:x"),
+    (b"$=w$&m", b"N:=w N:&m"),
+    (b"$={a}}", b"N:=a W:}"),
+    (b"<a", b"O:< W:a"),
+    (b"$", b"BadDollar 0"),
+    (b"a b$", b"BadDollar 3"),
+    (b"$x", b"BadDollar 0"),
+    (b"${x}", b"BadDollar 0"),
+    (b"$ 1", b"BadDollar 0"),
+    (b"$?x", b"BadDollar 0"),
+    (b"$* $=", b"BadDollar 3"),
+    (b"$~ w", b"BadDollar 0"),
+    (b"a$={w", b"BadDollar 1"),
+    (b"$&$1", b"BadDollar 0"),
+    (b"\\$$", b"BadDollar 2"),
+    (b"$1)", b"Unbalanced 2"),
+    (b"$1 ($(", b"Unbalanced 3"),
+    (b"$* \"a", b"BadQuote 3"),
+    (b"$* \\", b"BadQuote 3"),
+    (b"\"$\x01\"", b"BadQuote 2"),
+    (b") $", b"Unbalanced 0"),
+];
+
+/// The same text as tokens, typed and in a side, where a dollar sign is an operator.
+static LISTED: [(&[u8], &[u8], &[u8], &[u8]); 3] = [
+    (b"a$b", b"W:a O:$ W:b", b"W:a O:$ W:b", b"BadDollar 1"),
+    (
+        b"a$$b",
+        b"W:a O:$ O:$ W:b",
+        b"W:a O:$ O:$ W:b",
+        b"W:a O:$ W:b",
+    ),
+    (
+        b"$|$$$#",
+        b"O:$ W:| O:$ O:$ O:$ W:#",
+        b"S:| O:$ O:$ S:#",
+        b"D:| O:$ D:#",
+    ),
+];
+
 fn show(text: &mut Text, tag: &[u8], bytes: &[u8]) -> Result<(), NoMemory> {
     if !text.is_empty() {
         text.push(b' ')?;
@@ -105,14 +203,45 @@ fn show(text: &mut Text, tag: &[u8], bytes: &[u8]) -> Result<(), NoMemory> {
     text.extend(bytes)
 }
 
+fn show_token(text: &mut Text, token: &Token) -> Result<(), NoMemory> {
+    match token {
+        Token::Word(word) => show(text, b"W:", word.bytes()),
+        Token::Quoted(quoted) => show(text, b"Q:", quoted.bytes()),
+        Token::Op(byte) => show(text, b"O:", &[*byte]),
+        Token::Sign(mark) => show(text, b"S:", &[mark_byte(*mark)]),
+    }
+}
+
+fn mark_byte(mark: Mark) -> u8 {
+    match mark {
+        Mark::Alt => b'|',
+        Mark::Mailer => b'#',
+        Mark::Host => b'@',
+        Mark::User => b':',
+        Mark::End => b'.',
+    }
+}
+
 fn show_tokens(alloc: Global, tokens: &Seq<Token>) -> Result<Text, NoMemory> {
     let mut text = Text::new(alloc);
     for token in tokens.items() {
-        match token {
-            Token::Word(word) => show(&mut text, b"W:", word.bytes())?,
-            Token::Quoted(quoted) => show(&mut text, b"Q:", quoted.bytes())?,
-            Token::Op(byte) => show(&mut text, b"O:", &[*byte])?,
-            Token::Sign(_) => show(&mut text, b"S", b"")?,
+        show_token(&mut text, token)?;
+    }
+    Ok(text)
+}
+
+fn show_named(text: &mut Text, byte: u8, name: &Text) -> Result<(), NoMemory> {
+    show(text, b"N:", &[byte])?;
+    text.extend(name.bytes())
+}
+
+fn show_lexemes(alloc: Global, lexemes: &Seq<Lexeme>) -> Result<Text, NoMemory> {
+    let mut text = Text::new(alloc);
+    for lexeme in lexemes.items() {
+        match lexeme {
+            Lexeme::Token(token) => show_token(&mut text, token)?,
+            Lexeme::Dollar(byte) => show(&mut text, b"D:", &[*byte])?,
+            Lexeme::Named(byte, name) => show_named(&mut text, *byte, name)?,
         }
     }
     Ok(text)
@@ -131,6 +260,55 @@ fn shown(alloc: Global, text: &[u8], operators: &[u8], angles: bool) -> Result<T
         Ok(tokens) => show_tokens(alloc, &tokens),
         Err(fault) => show_fault(alloc, fault),
     }
+}
+
+fn shown_typed(alloc: Global, text: &[u8], operators: &[u8]) -> Result<Text, NoMemory> {
+    let text = Text::of(alloc, text)?;
+    let operators = Text::of(alloc, operators)?;
+    match typed_tokens(alloc, &text, &operators, true) {
+        Ok(tokens) => show_tokens(alloc, &tokens),
+        Err(fault) => show_fault(alloc, fault),
+    }
+}
+
+fn shown_side(alloc: Global, text: &[u8], operators: &[u8]) -> Result<Text, NoMemory> {
+    let text = Text::of(alloc, text)?;
+    let operators = Text::of(alloc, operators)?;
+    match lexemes(alloc, &text, &operators, false) {
+        Ok(lexemes) => show_lexemes(alloc, &lexemes),
+        Err(fault) => show_fault(alloc, fault),
+    }
+}
+
+#[test]
+fn typed_signs_by_the_rules(rt: HostRuntime) -> Result<(), Fail> {
+    for (text, answer) in &TYPED {
+        let shown = shown_typed(rt.alloc(), text, b".:@[]")?;
+        assert_eq!(rt; shown.bytes(), *answer);
+    }
+    Ok(())
+}
+
+#[test]
+fn sides_by_the_rules(rt: HostRuntime) -> Result<(), Fail> {
+    for (text, answer) in &SIDES {
+        let shown = shown_side(rt.alloc(), text, b".:@[]")?;
+        assert_eq!(rt; shown.bytes(), *answer);
+    }
+    Ok(())
+}
+
+#[test]
+fn a_dollar_sign_may_be_an_operator(rt: HostRuntime) -> Result<(), Fail> {
+    for (text, plain, typed, side) in &LISTED {
+        let answer = shown(rt.alloc(), text, b"$", false)?;
+        assert_eq!(rt; answer.bytes(), *plain);
+        let answer = shown_typed(rt.alloc(), text, b"$")?;
+        assert_eq!(rt; answer.bytes(), *typed);
+        let answer = shown_side(rt.alloc(), text, b"$")?;
+        assert_eq!(rt; answer.bytes(), *side);
+    }
+    Ok(())
 }
 
 #[test]
@@ -225,21 +403,6 @@ fn a_blank_stands_between_words_alone(rt: HostRuntime) -> Result<(), Fail> {
     for (blank, answer) in &rows {
         let joined = join(rt.alloc(), &tokens, *blank)?;
         assert_eq!(rt; joined.bytes(), *answer);
-    }
-    Ok(())
-}
-
-#[test]
-fn each_fault_has_its_text(rt: HostRuntime) -> Result<(), Fail> {
-    let rows: [(ScanFault, &[u8]); 4] = [
-        (ScanFault::Unbalanced(0), b"Unbalanced 0"),
-        (ScanFault::BadQuote(17), b"BadQuote 17"),
-        (ScanFault::Long, b"Long"),
-        (ScanFault::NoMemory, b"NoMemory"),
-    ];
-    for (fault, answer) in &rows {
-        let shown = show_fault(rt.alloc(), *fault)?;
-        assert_eq!(rt; shown.bytes(), *answer);
     }
     Ok(())
 }
