@@ -1,6 +1,6 @@
 use mail_base::{
-    Cause, Classes, Id, LineFault, Member, NoMemory, Note, Options, Seq, State, Status,
-    Text, Token, TryCopy, Verb, is_blank, is_white,
+    Cause, Classes, Id, LineFault, Member, NoMemory, Note, Options, Seq, State, Status, Text,
+    Token, TryCopy, Verb, is_blank, is_white,
 };
 use std::alloc::Global;
 use std::test::Fail;

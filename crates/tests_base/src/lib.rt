@@ -2,14 +2,13 @@
 //! libraries, which a check would else prove twice.
 #![tactic(auto)]
 
-mod drawing;
-
 #[cfg(test)]
 mod classes;
 #[cfg(test)]
 mod configs;
 #[cfg(test)]
 mod copies;
+mod drawing;
 #[cfg(test)]
 mod edges;
 #[cfg(test)]
