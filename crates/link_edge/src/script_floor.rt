@@ -22,7 +22,6 @@ use std::alloc::Global;
 /// those. A call that fails takes no step and sends nothing, and a send that isn't told goes nowhere. The
 /// count of a session is the number of its sends that are told as failed; a failed send that isn't told,
 /// since its session is not open or a send to it had failed, counts for all of them.
-#[derive(Drop)]
 pub struct ScriptFloor {
     steps: Seq<Step>,
     at: usize,
@@ -32,6 +31,22 @@ pub struct ScriptFloor {
     pub turns: Script,
     pub sends: Script,
     pub starved: u64,
+}
+
+// Written out, since a caller's proof goes through the parts of a derived drop at each way out.
+impl Drop for ScriptFloor {
+    fn drop(self) {
+        let ScriptFloor {
+            steps: _,
+            at: _,
+            said: _,
+            told: _,
+            strays: _,
+            turns: _,
+            sends: _,
+            starved: _,
+        } = self;
+    }
 }
 
 impl ScriptFloor {

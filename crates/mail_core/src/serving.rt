@@ -53,7 +53,6 @@ pub struct Site {
 }
 
 /// The sessions that are open, one at most, and the store of the queue.
-#[derive(Drop)]
 pub struct Core {
     alloc: Global,
     host: Text,
@@ -61,6 +60,19 @@ pub struct Core {
     full: Text,
     caller: Option<Caller>,
     intake: Intake,
+}
+
+// Written out, since a caller's proof goes through the parts of a derived drop at each way out.
+impl Drop for Core {
+    fn drop(self) {
+        let Core {
+            alloc: _,
+            host: _,
+            full: _,
+            caller: _,
+            intake: _,
+        } = self;
+    }
 }
 
 impl Core {

@@ -18,11 +18,21 @@ use std::alloc::Global;
 /// first at a place counts, and a record of the calls that changed them, from which its files and what
 /// a stop since any moment may have left are told. A call that fails, also where the record found no
 /// memory to grow, leaves the files and the record as they were.
-#[derive(Drop)]
 pub struct MemSpool {
     pub start: Seq<File>,
     pub past: Seq<Attempt>,
     pub script: Script,
+}
+
+// Written out, since a caller's proof goes through the parts of a derived drop at each way out.
+impl Drop for MemSpool {
+    fn drop(self) {
+        let MemSpool {
+            start: _,
+            past: _,
+            script: _,
+        } = self;
+    }
 }
 
 impl MemSpool {

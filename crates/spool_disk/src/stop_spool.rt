@@ -17,11 +17,21 @@ use std::alloc::Global;
 /// A spool in memory that stops: so many calls that change files pass, the next such call is cut short,
 /// and it and every call after it fail. Where there is no memory to record the call that is cut short,
 /// it fails, and the stop comes with the next.
-#[derive(Drop)]
 pub struct StopSpool {
     pub spool: MemSpool,
     pub left: u64,
     pub stopped: bool,
+}
+
+// Written out, since a caller's proof goes through the parts of a derived drop at each way out.
+impl Drop for StopSpool {
+    fn drop(self) {
+        let StopSpool {
+            spool: _,
+            left: _,
+            stopped: _,
+        } = self;
+    }
 }
 
 impl StopSpool {
