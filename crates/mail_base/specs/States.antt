@@ -8,19 +8,19 @@ use Rattle.mail_base.specs.declared.control.State.TheVariants.{Queued, Sent, Fai
 
 -- something is still to be done for it: it is tried, or awaits its return
 abbrev pub is_open : State → Bool
-is_open (Queued note) = true
+is_open (Queued _) = true
 is_open Sent = false
-is_open (Failed status note) = true
-is_open (Returned id) = false
-is_open (Dead status note) = false
+is_open (Failed _ _) = true
+is_open (Returned _) = false
+is_open (Dead _ _) = false
 
 -- a row of a double bounce that failed, whose body is kept
 abbrev pub is_dead : State → Bool
-is_dead (Queued note) = false
+is_dead (Queued _) = false
 is_dead Sent = false
-is_dead (Failed status note) = false
-is_dead (Returned id) = false
-is_dead (Dead status note) = true
+is_dead (Failed _ _) = false
+is_dead (Returned _) = false
+is_dead (Dead _ _) = true
 
 -- every row is done
 abbrev pub is_finished : Control → Bool
