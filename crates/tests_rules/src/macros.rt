@@ -168,9 +168,9 @@ static VALUES: [(&str, &str); 25] = [
     ("$?U[$?Su$|v$.]$|w$?Sx$|y$.$.z", "wxz"),
     ("$?Sa$|b$|c$.d", "ad"),
     ("$?Ua$|b$|c$.d", "bd"),
-    ("$L", "ab"),
+    ("$L", "aacdb"),
     ("$D1", "$1"),
-    ("$T", "$1ab"),
+    ("$T", "$1aacdb"),
 ];
 
 static REFUSALS: [(&str, &str); 14] = [
