@@ -1,2 +1,3 @@
+pub mod Books
 pub mod Phrases
 pub mod TokenLaws

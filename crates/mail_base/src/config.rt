@@ -5,8 +5,8 @@ ghost use Rattle.mail_base.specs.Configs.{initial, first_macros, first_classes, 
 
 use crate::options::QUEUE_DIRECTORY;
 use crate::{
-    Catalog, Classes, Group, HeaderLine, Macros, Mailer, MapClass, MapLine, Member, NoMemory,
-    Options, Precedence, RuleSet, Seq, Text, Token, TryCopy,
+    Book, Catalog, Classes, Group, HeaderLine, Macros, Mailer, MapClass, MapLine, Member, NoMemory,
+    Options, Precedence, Seq, Text, Token, TryCopy,
 };
 use std::alloc::Global;
 
@@ -15,7 +15,7 @@ pub struct Config {
     pub macros: Macros,
     pub classes: Classes,
     /// The rulesets, in the order of the lines that first name them.
-    pub book: Seq<RuleSet>,
+    pub book: Book,
     /// The mailers by their names in small letters.
     pub mailers: Catalog<Mailer>,
     /// The queue groups by their names.
@@ -60,7 +60,7 @@ impl Config {
             groups: first_groups(alloc)?,
             maps: first_maps(alloc)?,
             options: Options::new(alloc)?,
-            book: Seq::new(alloc),
+            book: Book::new(alloc),
             mailers: Catalog::new(alloc),
             precedences: Seq::new(alloc),
             headers: Seq::new(alloc),

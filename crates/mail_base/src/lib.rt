@@ -3,6 +3,7 @@
 //! items.
 #![tactic(auto)]
 
+mod book;
 mod bounded;
 mod buckets;
 mod byte;
@@ -32,6 +33,7 @@ mod text;
 mod token;
 mod try_copy;
 
+pub use book::Book;
 pub use buckets::Buckets;
 pub use byte::{is_blank, is_white};
 pub use catalog::Catalog;

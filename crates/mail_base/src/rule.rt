@@ -3,6 +3,7 @@ ghost use Rattle.std.specs.List.{list_any};
 ghost use Rattle.std.specs.Option.{option_copied};
 ghost use Rattle.mail_base.specs.Candidates.{anchor, anchored, first_word, first_exact, free, is_late, or_else};
 ghost use Rattle.mail_base.specs.Metas.{is_meta};
+ghost use Rattle.mail_base.specs.Rulesets.{is_named};
 
 use crate::{Buckets, NoMemory, Seq, Text, Token, TryCopy};
 use std::marker::Model;
@@ -303,6 +304,13 @@ impl RuleSet {
         self.names.items()
     }
 
+    /// Whether one of the names is this one, without ASCII case. It takes no memory.
+    pub fn is_named(&self, name: &Text) -> bool
+        ensures { result ≡ is_named name.now self.now }
+    {
+        self.names().iter().any(|given| given.is_folded(name))
+    }
+
     /// The number of rules. It takes no memory.
     pub fn count(&self) -> u32
         ensures { result ≡ length self.now.rules }
@@ -338,6 +346,15 @@ impl RuleSet {
         ensures err { OnErr result (self.new ≡ self.old) }
     {
         self.rules.push(rule)
+    }
+
+    /// Adds a name at the end. After `NoMemory` the ruleset is as before. In a book a name is added by
+    /// the book, whose index has it then.
+    pub(crate) fn push_name(&mut self, name: Text) -> Result<(), NoMemory>
+        ensures ok { OnOk result (self.new ≡ record self.old { names = self.old.names ++ name ∷ [] }) }
+        ensures err { OnErr result (self.new ≡ self.old) }
+    {
+        self.names.push(name)
     }
 }
 

@@ -5,7 +5,8 @@ use Rattle.std.specs.Prelude.{slice_get}
 use Rattle.std.proofs.lemmas.Bool.{and_parts, and_from, and_left, and_right, true≢false}
 use Rattle.mail_base.specs.declared.rule.Rule.{Rule}
 use Rattle.mail_base.specs.declared.rule.RuleSet.{RuleSet}
-use Rattle.ruleset_run.specs.Books.{is_named, is_standard, rules_found, rules_named}
+use Rattle.mail_base.specs.Rulesets.{is_named}
+use Rattle.ruleset_run.specs.Books.{is_standard, rules_found, rules_named}
 use Rattle.ruleset_run.specs.Plain.{is_plain_rule, is_plain_there, is_plain_book}
 
 named_by : (name : List ℕ) (set found : RuleSet) (book : List RuleSet) (named : Bool) → list_all is_plain_rule set.rules ≡ true → (find (is_named name) book ≡ Some found → list_all is_plain_rule found.rules ≡ true)

@@ -1,13 +1,9 @@
 -- The ruleset of a name (Sendmail Operation Guide, S: rewriting rulesets).
 use Rattle.std.specs.Prelude.{ℕ, List, [], ◌∷◌, Bool, false, Option, Some, None, nat_le, nat_lt, ◌&&◌, if◌then◌else◌}
-use Rattle.std.specs.List.{find, list_any}
-use Rattle.std.specs.Str.{str_eq_ignore_ascii_case}
+use Rattle.std.specs.List.{find}
+use Rattle.mail_base.specs.Rulesets.{is_named}
 use Rattle.mail_base.specs.declared.rule.Rule.{Rule}
 use Rattle.mail_base.specs.declared.rule.RuleSet.{RuleSet}
-
--- one of the set's names is this one without ascii case (own)
-abbrev pub is_named : List ℕ → RuleSet → Bool
-is_named name set = list_any (λ given. str_eq_ignore_ascii_case given name) set.names
 
 -- the names `0` to `5`
 abbrev pub is_standard : List ℕ → Bool

@@ -75,7 +75,7 @@ pub fn is_resolved(tokens: &Seq<Token>) -> bool
 pub fn is_plain(config: &Config) -> bool
     ensures { result ≡ is_plain_book config.now.book }
 {
-    config.book.items().iter().all(|set| is_plain_set(set))
+    config.book.sets().iter().all(|set| is_plain_set(set))
 }
 
 fn is_plain_set(set: &RuleSet) -> bool

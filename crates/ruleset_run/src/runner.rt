@@ -1,14 +1,14 @@
 ghost use Rattle.std.specs.Prelude.{◌≡◌, ◌+◌, ◌≤◌, ◌<◌, List, ℕ, [], IfOk, OnOk, IsTrue, None};
 ghost use Rattle.std.specs.List.{list_all, find};
+ghost use Rattle.mail_base.specs.Rulesets.{is_named};
 ghost use Rattle.mail_base.specs.declared.rule.RuleSet.{RuleSet};
 ghost use Rattle.rule_match.specs.Kept.{IsChoice};
-ghost use Rattle.ruleset_run.specs.Books.{is_named};
 ghost use Rattle.ruleset_run.specs.Looks.{times_at};
 ghost use Rattle.ruleset_run.specs.Plain.{is_plain_book, is_plain_rule};
 ghost use Rattle.ruleset_run.specs.Runs.{Gives, Macros, Outcome, Runs, RunsSet, Applies};
 
 use crate::RunFault;
-use crate::book::{is_standard, set_of};
+use crate::book::is_standard;
 use crate::filler::{fill, is_resolved};
 use mail_base::{Config, Go, Rule, RuleSet, Seq, Text, Token, TryCopy};
 use rule_index::next;
@@ -36,7 +36,7 @@ pub fn run(alloc: Global, config: &Config, set: &Text, tokens: &Seq<Token>) -> R
     ensures run { Gives result (RunsSet config.now.book set.now tokens.now 0 0 []) }
     ensures only { (outcome : Outcome) → RunsSet config.now.book set.now tokens.now 0 0 [] outcome → Gives result (λ given. given ≡ outcome) }
 {
-    let Some(found) = set_of(&config.book, set) else {
+    let Some(found) = config.book.get(set) else {
         return run_absent(set, tokens);
     };
     let tokens = tokens.copy()?;

@@ -20,7 +20,8 @@ use Rattle.sendmail_run.specs.declared.fault.Refusal.{Refusal}
 use Rattle.sendmail_run.specs.Tokens.{tokens_of, default_operators}
 use Rattle.sendmail_run.specs.Sides.{Part, Text, Dollar, parts_of, items_of, items_of_part, steps_of_part, template_of, is_binding_sign, signs_item, left_of, right_of, body_of}
 use Rattle.sendmail_run.specs.LogicalLines.{logical_lines}
-use Rattle.sendmail_run.specs.Configuration.{Reading, configuration, read_lines, first_reading, after_line, after_set, after_rule, with_set, with_rule, rule_of, is_named, empty_set, refused_or, fault_of, set_name}
+use Rattle.mail_base.specs.Rulesets.{is_named}
+use Rattle.sendmail_run.specs.Configuration.{Reading, configuration, read_lines, first_reading, after_line, after_set, after_rule, with_set, with_rule, rule_of, empty_set, refused_or, fault_of, set_name}
 
 -- both parts of a test
 both : (x y : Bool) → x ≡ true → y ≡ true → (x && y) ≡ true

@@ -1,12 +1,12 @@
 -- What the reader of rules and rulesets keeps.
-use Rattle.std.proofs.Common.{◌≡◌, ℕ, zero, suc, ◌+◌, ◌<◌, List, [], ◌∷◌, ◌++◌, length, get_or, set, Bool, true, false, cond, not, ◌||◌, eqb, Some, None, refl, sym, ◌∙◌, ap, subst, arith, rules}
-use Rattle.std.specs.Prelude.{map, count_by}
+use Rattle.std.proofs.Common.{◌≡◌, ℕ, zero, suc, ◌+◌, ◌<◌, ◌≤◌, List, [], ◌∷◌, ◌++◌, length, get_or, set, Bool, true, false, cond, not, ◌||◌, eqb, Some, None, refl, sym, ◌∙◌, ap, subst, arith, rules}
+use Rattle.std.specs.Prelude.{Option, map, count_by, nat_lt, position}
 use Rattle.std.specs.List.{list_any, list_all, flat_map, position_or_len}
 use Rattle.std.specs.Str.{str_eq_ignore_ascii_case, str_to_ascii_lowercase}
 use Rattle.std.proofs.lemmas.Slice.Eq.{bytes_eq-Decides}
-use Rattle.std.proofs.lemmas.Bool.{cond-true, cond-false, cond_both}
+use Rattle.std.proofs.lemmas.Bool.{cond-true, cond-false, cond_both, ltb-true, ltb-false}
 use Rattle.std.proofs.lemmas.List.{length_push, get_or_push, get_or_append_left}
-use Rattle.std.proofs.lemmas.List.Sums.{position_or_len_is, passes_at_first, sum_by-append, sum_by-cons}
+use Rattle.std.proofs.lemmas.List.Sums.{position_or_len_is, passes_at_first, fails_before_first, sum_by-append, sum_by-cons}
 use Rattle.std.proofs.lemmas.List.Folds.{list_any_none, list_any_at}
 use Rattle.mail_base.specs.declared.token.Token.{Token}
 use Rattle.mail_base.specs.declared.token.Token.TheVariants.{Word, Quoted, Op, Sign}
@@ -17,7 +17,9 @@ use Rattle.mail_base.specs.declared.rule.Rule.{Rule}
 use Rattle.mail_base.specs.Metas.{is_sign, is_meta}
 use Rattle.sendmail_run.specs.Tokens.{tokens_of, is_gap, is_operator, begins_word, put_byte, default_operators}
 use Rattle.sendmail_run.specs.Sides.{Part, Text, Dollar, parts_of, items_of, items_of_part, is_binding, is_binding_sign, signs_item}
-use Rattle.sendmail_run.specs.Configuration.{is_named, with_set, with_rule}
+use Rattle.mail_base.specs.Rulesets.{is_named}
+use Rattle.mail_base.specs.Rulesets as base
+use Rattle.sendmail_run.specs.Configuration.{with_set, with_rule}
 use Rattle.sendmail_run.specs.Readings.{IsPlace}
 
 -- ---- items that are written with a dollar sign
@@ -114,9 +116,6 @@ with_set_at name (s ∷ ss) place at =
     let there : is_named name (get_or (s ∷ ss) place s) ≡ true = rw (← at.first) (passes_at_first (is_named name) (s ∷ ss) s (omega (arith, at.first, at.within))) in
     sym (cond-true (list_any (is_named name) (s ∷ ss)) (s ∷ ss) _ (list_any_at (is_named name) (s ∷ ss) place s at.within there))
 
-abbrev pub grown : RuleSet → Rule → RuleSet
-grown s rule = record s { rules = s.rules ++ rule ∷ [] }
-
 place_here : (named : Bool) (n place : ℕ) → cond (not named) (1 + n) 0 ≡ place → place ≡ 0 → named ≡ true
 place_here true n place e z = refl
 place_here false n place e z = absurd (omega (arith, e))
@@ -126,19 +125,19 @@ place_after true n place e = absurd (omega (arith, e))
 place_after false n place e = (refl, omega (arith, e))
 
 -- the rule goes to the ruleset at that place
-pub with_rule_at : (name : List ℕ) (rule : Rule) (book : List RuleSet) (place : ℕ) (d : RuleSet) → IsPlace name book place → set book place (grown (get_or book place d) rule) ≡ with_rule name rule book
+pub with_rule_at : (name : List ℕ) (rule : Rule) (book : List RuleSet) (place : ℕ) (d : RuleSet) → IsPlace name book place → set book place (base.with_rule (get_or book place d) rule) ≡ with_rule name rule book
 with_rule_at name rule [] place d at = absurd (omega (arith, at.within))
 with_rule_at name rule (s ∷ ss) zero d at =
     let here = place_here (is_named name s) (position_or_len (is_named name) ss) zero at.first refl in
-    sym (cond-true (is_named name s) (grown s rule ∷ ss) (s ∷ with_rule name rule ss) here)
+    sym (cond-true (is_named name s) (base.with_rule s rule ∷ ss) (s ∷ with_rule name rule ss) here)
 with_rule_at name rule (s ∷ ss) (suc place) d at =
     let after = place_after (is_named name s) (position_or_len (is_named name) ss) place at.first in
     let lt : place < length ss = omega (arith, at.within) in
     ap (λ (q : List RuleSet). s ∷ q) (with_rule_at name rule ss place d (record { within = lt; first = after.1 }))
-    ∙ sym (cond-false (is_named name s) (grown s rule ∷ ss) (s ∷ with_rule name rule ss) after.0)
+    ∙ sym (cond-false (is_named name s) (base.with_rule s rule ∷ ss) (s ∷ with_rule name rule ss) after.0)
 
 -- a ruleset keeps its place as it grows
-pub grown_place : (name : List ℕ) (rule : Rule) (book : List RuleSet) (place : ℕ) (d : RuleSet) → IsPlace name book place → IsPlace name (set book place (grown (get_or book place d) rule)) place
+pub grown_place : (name : List ℕ) (rule : Rule) (book : List RuleSet) (place : ℕ) (d : RuleSet) → IsPlace name book place → IsPlace name (set book place (base.with_rule (get_or book place d) rule)) place
 grown_place name rule [] place d at = absurd (omega (arith, at.within))
 grown_place name rule (s ∷ ss) zero d at = record { within = omega arith; first = at.first }
 grown_place name rule (s ∷ ss) (suc place) d at =
@@ -146,14 +145,39 @@ grown_place name rule (s ∷ ss) (suc place) d at =
     let lt : place < length ss = omega (arith, at.within) in
     let more = grown_place name rule ss place d (record { within = lt; first = after.1 }) in record {
       within = omega (arith, more.within);
-      first = ap (λ (b : Bool). cond (not b) (1 + position_or_len (is_named name) (set ss place (grown (get_or ss place d) rule))) 0) after.0 ∙ omega (arith, more.first);
+      first = ap (λ (b : Bool). cond (not b) (1 + position_or_len (is_named name) (set ss place (base.with_rule (get_or ss place d) rule))) 0) after.0 ∙ omega (arith, more.first);
     }
 
--- what a push to the rules of the ruleset at that place leaves
-pub pushed_rule : (name : List ℕ) (rule : Rule) (book : List RuleSet) (place : ℕ) (s one : RuleSet) → s ≡ get_or book place s → one ≡ grown s rule → IsPlace name book place
-    → let new = set book place one in (new ≡ with_rule name rule book) × IsPlace name new place
-pushed_rule name rule book place s one is more at =
-    let e : grown (get_or book place s) rule ≡ one = ap (λ (q : RuleSet). grown q rule) (sym is) ∙ sym more in (
-      ap (λ (q : RuleSet). set book place q) (sym e) ∙ with_rule_at name rule book place s at,
-      subst (λ (q : RuleSet). IsPlace name (set book place q) place) e (grown_place name rule book place s at),
+-- a rule that is added at the place of a name goes to its ruleset, which keeps its place
+pub added_rule : (name : List ℕ) (rule : Rule) (book new : List RuleSet) (place : ℕ) → IsPlace name book place → ((d : RuleSet) → new ≡ set book place (base.with_rule (get_or book place d) rule)) → (new ≡ with_rule name rule book) × IsPlace name new place
+added_rule name rule book new place at is =
+    let d : RuleSet = record { names = []; rules = [] } in (
+      is d ∙ with_rule_at name rule book place d at,
+      subst (λ (b : List RuleSet). IsPlace name b place) (sym (is d)) (grown_place name rule book place d at),
     )
+
+-- ---- what the book answers
+
+pub found_place : (name : List ℕ) (book : List RuleSet) (answer : Option ℕ) (place : ℕ) → answer ≡ position (is_named name) book → answer ≡ Some place → IsPlace name book place
+found_place name book answer place was is = by (nat_lt (position_or_len (is_named name) book) (length book)) refl
+  where
+    by : (b : Bool) → nat_lt (position_or_len (is_named name) book) (length book) ≡ b → IsPlace name book place
+    by true e =
+        let same : Some (position_or_len (is_named name) book) ≡ Some place = sym (ap (λ b. cond b (Some (position_or_len (is_named name) book)) None) e) ∙ sym was ∙ is in
+        let at : position_or_len (is_named name) book ≡ place = cc same in
+        let lt : position_or_len (is_named name) book < length book = ltb-true (position_or_len (is_named name) book) (length book) e in
+        record { within = subst (λ (k : ℕ). k < length book) at lt; first = at }
+    by false e =
+        let same : None ≡ Some place = sym (ap (λ b. cond b (Some (position_or_len (is_named name) book)) None) e) ∙ sym was ∙ is in
+        absurd (cc same)
+
+pub no_place : (name : List ℕ) (book : List RuleSet) (answer : Option ℕ) → answer ≡ position (is_named name) book → answer ≡ None → (k : ℕ) (e : RuleSet) → k < length book → is_named name (get_or book k e) ≡ false
+no_place name book answer was is k e lt = by (nat_lt (position_or_len (is_named name) book) (length book)) refl
+  where
+    by : (b : Bool) → nat_lt (position_or_len (is_named name) book) (length book) ≡ b → is_named name (get_or book k e) ≡ false
+    by true t =
+        let same : Some (position_or_len (is_named name) book) ≡ None = sym (ap (λ b. cond b (Some (position_or_len (is_named name) book)) None) t) ∙ sym was ∙ is in
+        absurd (cc same)
+    by false f =
+        let most : length book ≤ position_or_len (is_named name) book = ltb-false (position_or_len (is_named name) book) (length book) f in
+        fails_before_first (is_named name) book k e (omega (arith, lt, most))

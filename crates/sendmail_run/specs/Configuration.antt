@@ -1,11 +1,11 @@
 -- What a configuration's lines say, and the first that is refused (Sendmail Installation and Operation Guide, "The Whole Scoop on the Configuration File"): so far the S and R lines.
 use Rattle.std.specs.Prelude.{ℕ, ◌-◌, List, [], ◌∷◌, ◌++◌, length, take, drop, count_by, filter, Bool, not, ◌||◌, ◌==◌, nat_lt, if◌then◌else◌, codes, Option, Some, None, Result, Ok, Err}
 use Rattle.std.specs.List.{list_any, prefix_len, suffix_len}
-use Rattle.std.specs.Str.{str_eq_ignore_ascii_case}
 use Rattle.mail_base.specs.declared.rule.Rule.{Rule}
 use Rattle.mail_base.specs.declared.rule.RuleSet.{RuleSet}
 use Rattle.mail_base.specs.declared.config.Config.{Config}
 use Rattle.mail_base.specs.Configs.{initial}
+use Rattle.mail_base.specs.Rulesets.{is_named}
 use Rattle.sendmail_run.specs.declared.logical.Logical.{Logical}
 use Rattle.sendmail_run.specs.declared.fault.Fault.{Fault}
 use Rattle.sendmail_run.specs.declared.fault.Fault.TheVariants.{NoTab, TooManyMetas, BadReference, NotYet}
@@ -59,10 +59,6 @@ stripped text = let rest = drop (prefix_len is_blank text) text in take (length 
 -- the name on an S line, whose double quotes (34) are dropped
 abbrev pub set_name : List ℕ → List ℕ
 set_name text = filter (λ b. not (b == 34)) (stripped text)
-
--- names of rulesets are compared without ASCII case (own)
-abbrev pub is_named : List ℕ → RuleSet → Bool
-is_named name set = list_any (λ n. str_eq_ignore_ascii_case n name) set.names
 
 abbrev pub empty_set : List ℕ → RuleSet
 empty_set name = record { names = name ∷ []; rules = [] }

@@ -12,7 +12,7 @@ use crate::sides::{
     has_bad_reference, is_unread_left, is_unread_right, items_of, left_of, metas_of, right_of,
     split_prefix, template_of,
 };
-use mail_base::{Buckets, Config, NoMemory, Pattern, Rule, RuleSet, Seq, Text, TryCopy};
+use mail_base::{Book, Buckets, Config, NoMemory, Pattern, Rule, RuleSet, Seq, Text, TryCopy};
 use std::alloc::Global;
 
 /// The configuration that a file's bytes give, or the number and the fault of the first line that has one.
@@ -32,7 +32,7 @@ pub fn read(alloc: Global, bytes: &[u8]) -> Result<Config, ReadFault>
         reading.take(alloc, line.text.bytes())?;
     }
     let mut config = Config::new(alloc)?;
-    config.book = Seq::from_vec(reading.book);
+    config.book = reading.book;
     Ok(config)
 }
 
@@ -101,7 +101,7 @@ fn is_unread(rule: &[u8]) -> bool
 // The rulesets so far, the name of the last S line, and where its ruleset stands once it was looked for.
 #[derive(Drop)]
 struct Reading {
-    book: Vec<RuleSet>,
+    book: Book,
     current: Text,
     place: Option<usize>,
 }
@@ -112,7 +112,7 @@ impl Reading {
         ensures place { IfOk result IsPlaced }
     {
         Ok(Reading {
-            book: Vec::new(alloc),
+            book: Book::new(alloc),
             current: Text::of(alloc, b"0")?,
             place: None,
         })
@@ -159,8 +159,8 @@ impl Reading {
     // Where the ruleset of the last S line stands.
     fn current_place(&mut self, alloc: Global) -> Result<usize, NoMemory>
         requires placed { IsPlaced self.old }
-        ensures book { OnOk result (self.new.book.items ≡ spec.with_set self.old.current self.old.book.items) }
-        ensures place { IfOk result (λ place. IsPlace self.new.current self.new.book.items place) }
+        ensures book { OnOk result (self.new.book ≡ spec.with_set self.old.current self.old.book) }
+        ensures place { IfOk result (λ place. IsPlace self.new.current self.new.book place) }
         ensures current { self.new.current ≡ self.old.current }
     {
         match self.place {
@@ -171,26 +171,23 @@ impl Reading {
 }
 
 // Adds a rule to the ruleset at a place.
-fn push_rule(book: &mut Vec<RuleSet>, place: usize, rule: Rule) -> Result<(), NoMemory>
-    requires { place < length book.old.items }
-    ensures { (name : List ℕ) → IsPlace name book.old.items place → OnOk result (book.new.items ≡ spec.with_rule name rule book.old.items × IsPlace name book.new.items place) }
+fn push_rule(book: &mut Book, place: usize, rule: Rule) -> Result<(), NoMemory>
+    requires { place < length book.old }
+    ensures { (name : List ℕ) → IsPlace name book.old place → OnOk result (book.new ≡ spec.with_rule name rule book.old × IsPlace name book.new place) }
 {
-    book[place].push(rule)?;
-    Ok(())
+    book.push_rule(place, rule)
 }
 
 // Where the ruleset of a name stands, which is made where there is none.
-fn enter(alloc: Global, book: &mut Vec<RuleSet>, name: &Text) -> Result<usize, NoMemory>
-    ensures book { OnOk result (book.new.items ≡ spec.with_set name.now book.old.items) }
-    ensures place { IfOk result (λ place. IsPlace name.now book.new.items place) }
+fn enter(alloc: Global, book: &mut Book, name: &Text) -> Result<usize, NoMemory>
+    ensures book { OnOk result (book.new ≡ spec.with_set name.now book.old) }
+    ensures place { IfOk result (λ place. IsPlace name.now book.new place) }
 {
-    for place in 0..book.len() {
-        if is_named(name, &book[place]) {
-            return Ok(place);
-        }
+    if let Some(place) = book.place_of(name) {
+        return Ok(place);
     }
     let set = empty_set(alloc, name)?;
-    let place = book.len();
+    let place = book.sets().len();
     book.push(set)?;
     Ok(place)
 }
@@ -201,17 +198,6 @@ fn empty_set(alloc: Global, name: &Text) -> Result<RuleSet, NoMemory>
     let mut names = Seq::new(alloc);
     names.push(name.copy()?)?;
     Ok(RuleSet::of(names, Buckets::new(alloc)))
-}
-
-fn is_named(name: &Text, set: &RuleSet) -> bool
-    ensures { result ≡ spec.is_named name.now set.now }
-{
-    for other in set.names() {
-        if other.is_folded(name) {
-            return true;
-        }
-    }
-    false
 }
 
 fn rule_of(alloc: Global, rule: &[u8]) -> Result<Rule, NoMemory>

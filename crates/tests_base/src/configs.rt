@@ -1,5 +1,5 @@
 use mail_base::{
-    Buckets, Catalog, Classes, Config, DaemonPort, Go, Group, HeaderLine, Item, Mailer, MapClass,
+    Book, Buckets, Catalog, Classes, Config, DaemonPort, Go, Group, HeaderLine, Item, Mailer, MapClass,
     MapLine, Member, NoMemory, Options, Pattern, Piece, Precedence, Rule, RuleSet, Seq, Step,
     Template, Text, Token, TryCopy,
 };
@@ -11,7 +11,7 @@ fn is_preset(config: &Config) -> bool {
         && config.groups.len() == 1
         && config.maps.len() == 1
         && config.mailers.is_empty()
-        && config.book.is_empty()
+        && config.book.sets().is_empty()
 }
 
 fn are_preset(options: &Options) -> bool {
@@ -242,7 +242,7 @@ fn add_rule(alloc: Global, set: &mut RuleSet) -> Result<(), Fail> {
     Ok(set.push(Rule { left, right })?)
 }
 
-fn add_ruleset(alloc: Global, book: &mut Seq<RuleSet>) -> Result<(), Fail> {
+fn add_ruleset(alloc: Global, book: &mut Book) -> Result<(), Fail> {
     let names = words(alloc, &[b"parse"])?;
     let mut set = RuleSet::of(names, Buckets::new(alloc));
     add_rule(alloc, &mut set)?;
@@ -435,7 +435,7 @@ fn has_lines(config: &Config) -> bool {
     is_header(config.headers.get(0))
         && is_precedence(config.precedences.get(0))
         && are_maps(config.maps.items())
-        && is_ruleset(config.book.items())
+        && is_ruleset(config.book.sets())
         && config.warnings.items() == [7].as_slice()
         && config.options.daemon_port.port == 587
         && is_word(config.options.daemon_port.address.as_ref(), b"127.0.0.1")

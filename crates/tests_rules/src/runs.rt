@@ -1,6 +1,6 @@
 // What a run of a ruleset ends with, and the sets that are found.
 use crate::signs::{are_same, pattern_of, steps_of, tokens_of, words};
-use mail_base::{Config, Go, NoMemory, Piece, Rule, RuleSet, Seq, Step, Template, Text, Token};
+use mail_base::{Book, Config, Go, NoMemory, Piece, Rule, RuleSet, Seq, Step, Template, Text, Token};
 use rule_index::build;
 use ruleset_run::{Ran, RunFault, is_plain, run};
 use std::alloc::Global;
@@ -35,16 +35,17 @@ fn set_of(name: &str, rules: Seq<Rule>) -> Result<RuleSet, Fail> {
 }
 
 // No clause: no test needs to know what a configuration has before any line.
-fn config_of(book: Seq<RuleSet>) -> Result<Config, Fail> {
-    let mut config = Config::new(book.allocator())?;
+fn config_of(alloc: Global, book: Book) -> Result<Config, Fail> {
+    let mut config = Config::new(alloc)?;
     config.book = book;
     Ok(config)
 }
 
 fn config_of_rules(rules: Seq<Rule>) -> Result<Config, Fail> {
-    let mut book = Seq::new(rules.allocator());
+    let alloc = rules.allocator();
+    let mut book = Book::new(alloc);
     book.push(set_of("Set", rules)?)?;
-    config_of(book)
+    config_of(alloc, book)
 }
 
 // Runs the set `name`, where no rule asks for more than a plain one does.
@@ -194,12 +195,12 @@ fn fills_two_thousand_tokens(rt: HostRuntime) -> Result<(), Fail> {
 }
 
 fn three_sets(alloc: Global) -> Result<Config, Fail> {
-    let mut book = Seq::new(alloc);
+    let mut book = Book::new(alloc);
     for (name, right) in [("one", "1x"), ("ONE", "1y"), ("3", "1z")] {
         let rules = rules_of(alloc, &[("*", Go::Return, right)])?;
         book.push(set_of(name, rules)?)?;
     }
-    config_of(book)
+    config_of(alloc, book)
 }
 
 #[test]

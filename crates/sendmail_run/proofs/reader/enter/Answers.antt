@@ -1,20 +1,20 @@
-use Rattle.std.proofs.Common.{◌≡◌, ◌∙◌, ℕ, ◌<◌, [], ◌∷◌, ◌++◌, false, length, get_or, sym, ap, arith}
+use Rattle.std.proofs.Common.{List, ◌∷◌, [], ◌++◌, ap, ◌∙◌, length}
 use Rattle.mail_base.specs.declared.rule.RuleSet.{RuleSet}
-use Rattle.sendmail_run.specs.Configuration.{is_named}
-use Rattle.sendmail_run.proofs.ReaderLemmas.{place_first, entered, entered_place}
+use Rattle.sendmail_run.proofs.ReaderLemmas.{entered, entered_place, found_place, no_place, with_set_at}
 use Rattle.sendmail_run.proofs.reader.enter.Goals as goal
 
-pub returns-then-is_named-clause-place : goal.returns-then-is_named-clause-place
-returns-then-is_named-clause-place c =
-    place_first c.args.name.now c.args.book.now.items c.loop-place.place c.index.result.now (omega arith) c.loop-place.invariant
-    (ap (is_named c.args.name.now) (sym c.index.ensures) ∙ sym c.is_named.ensures ∙ c.if-is_named.true)
+pub returns-in-Some-clause-book : goal.returns-in-Some-clause-book
+returns-in-Some-clause-book c = with_set_at c.args.name.now c.args.book.now c.in-Some.place (found_place c.args.name.now c.args.book.now c.place_of.result c.in-Some.place c.place_of.ensures c.in-Some.is)
+
+pub returns-in-Some-clause-place : goal.returns-in-Some-clause-place
+returns-in-Some-clause-place c = found_place c.args.name.now c.args.book.now c.place_of.result c.in-Some.place c.place_of.ensures c.in-Some.is
 
 pub returns-clause-book : goal.returns-clause-book
 returns-clause-book c =
-    let none : (k : ℕ) (e : RuleSet) → k < length c.args.book.now.items → is_named c.args.name.now (get_or c.args.book.now.items k e) ≡ false = λ k e lt. c.loop-place.invariant k e (omega arith) in
-    entered c.args.name.now c.args.book.now.items _ none (c.in_ok-push.ensures.items ∙ ap (λ (set : RuleSet). c.args.book.now.items ++ set ∷ []) c.in_ok-set.ensures)
+    entered c.args.name.now c.args.book.now _ (no_place c.args.name.now c.args.book.now c.place_of.result c.place_of.ensures c.in_default.is)
+    (c.in_ok-push.ensures.ok ∙ ap (λ (set : RuleSet). c.args.book.now ++ set ∷ []) c.in_ok-set.ensures)
 
 pub returns-clause-place : goal.returns-clause-place
 returns-clause-place c =
-    let none : (k : ℕ) (e : RuleSet) → k < length c.args.book.now.items → is_named c.args.name.now (get_or c.args.book.now.items k e) ≡ false = λ k e lt. c.loop-place.invariant k e (omega arith) in
-    entered_place c.args.name.now c.args.book.now.items _ _ none (c.in_ok-push.ensures.items ∙ ap (λ (set : RuleSet). c.args.book.now.items ++ set ∷ []) c.in_ok-set.ensures) (omega arith)
+    entered_place c.args.name.now c.args.book.now _ _ (no_place c.args.name.now c.args.book.now c.place_of.result c.place_of.ensures c.in_default.is)
+    (c.in_ok-push.ensures.ok ∙ ap (λ (set : RuleSet). c.args.book.now ++ set ∷ []) c.in_ok-set.ensures) (ap (λ (sets : List RuleSet). length sets) c.sets-place.ensures)

@@ -1,5 +1,6 @@
-use Rattle.sendmail_run.proofs.ReaderLemmas.{pushed_rule}
+use Rattle.std.proofs.lemmas.Result.{on_ok_weaker}
+use Rattle.sendmail_run.proofs.ReaderLemmas.{added_rule}
 use Rattle.sendmail_run.proofs.reader.push_rule.Goals as goal
 
 pub returns : goal.returns
-returns c = λ name at. pushed_rule name c.args.rule c.args.book.now.items c.args.place c.index_mut.result.now c.push.new.self c.index_mut.ensures.value c.in_ok-push.ensures.ok at
+returns c = λ name at. on_ok_weaker c.push_rule.result (λ is. added_rule name c.args.rule c.args.book.now c.push_rule.new.self c.args.place at is) c.push_rule.ensures.ok
