@@ -1,8 +1,9 @@
 //! Does one thing over much input, so that its time can be measured. The first word says what: `lines`, `tokens`,
-//! `control` or `rules`. The second says over what, as each module tells, and the third how many times it is done, once
+//! `control`, `rules` or `classes`. The second says over what, as each module tells, and the third how many times it is done, once
 //! where it is left out. The scripts in `bench/` measure it.
 #![tactic(auto)]
 
+mod classes;
 mod control;
 mod lines;
 mod rules;
@@ -28,6 +29,7 @@ fn main(rt: HostRuntime) -> Result<()> {
         "lines" => lines::answer(alloc, over.as_deref(), rounds)?,
         "tokens" => tokens::answer(alloc, over.as_deref(), rounds)?,
         "control" => control::answer(alloc, over.as_deref(), rounds)?,
+        "classes" => classes::answer(alloc, over.as_deref(), rounds)?,
         "rules" => rules::answer(alloc, over.as_deref(), rounds)?,
         _ => bail!("nothing to measure"),
     };

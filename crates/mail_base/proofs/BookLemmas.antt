@@ -1,5 +1,5 @@
 -- What the index of a book finds.
-use Rattle.std.proofs.Common.{◌≡◌, ℕ, zero, suc, ◌+◌, ◌*◌, ◌%◌, ◌^◌, ◌≤◌, ◌<◌, List, [], ◌∷◌, ◌++◌, Bool, true, false, ◌||◌, ◌&&◌, not, Option, Some, None, length, map, fold, set, get_or, take, position, slice_get, nat_eq, nat_lt, cond, refl, ap, sym, subst, ◌∙◌, arith, if◌then◌else◌, true≢false, inl, inr, ◌⊎◌}
+use Rattle.std.proofs.Common.{◌≡◌, ℕ, zero, suc, ◌+◌, ◌*◌, ◌%◌, ◌^◌, ◌≤◌, ◌<◌, List, [], ◌∷◌, ◌++◌, Bool, true, false, ◌||◌, ◌&&◌, Option, Some, None, length, map, fold, set, get_or, take, position, slice_get, nat_eq, nat_lt, cond, refl, ap, sym, subst, ◌∙◌, arith, if◌then◌else◌, true≢false, inl, inr, ◌⊎◌}
 use Rattle.std.specs.List.{find, list_any, position_or_len}
 use Rattle.std.specs.Map.{lookup}
 use Rattle.std.specs.Char.{to_ascii_lowercase}
@@ -113,7 +113,7 @@ module _ (name : List ℕ) (sets : List Ruled) where
   least_is_first d (Some q) h =
       let lt : q < length sets = within q (slice_get sets q) refl h.0 in
       let n : position_or_len (is_named name) sets ≡ q =
-        position_or_len_is (is_named name) sets q d (omega (arith, lt)) (λ k less. none_named k d (omega (arith, less, lt)) (λ t. absurd (omega (arith, h.1 k t, less)))) (λ l. sym (at_some q d lt) ∙ h.0) in
+      position_or_len_is (is_named name) sets q d (omega (arith, lt)) (λ k less. none_named k d (omega (arith, less, lt)) (λ t. absurd (omega (arith, h.1 k t, less)))) (λ l. sym (at_some q d lt) ∙ h.0) in
       rw n grind (arith, lt)
 
 -- the first place of a name is the least of those that are held for it
@@ -125,6 +125,7 @@ first_place name sets index others found is indexed =
     held : (place : ℕ) (o : Option Ruled) → slice_get sets place ≡ o → is_named_at name o ≡ true → is_held place found others ≡ true
     held place None at h = absurd (true≢false (sym h))
     held place (Some set) at h = ap (λ (f : Option ℕ). is_held place f others) is ∙ indexed name place set at h
+
     by : (f : Option ℕ) → found ≡ f → Least name sets (fold (earlier name sets) (found_at name sets found) others)
     by None e =
         let rest = least name sets others None tt in
@@ -229,6 +230,7 @@ renamed sets place d name index now others now_others lt keeps held indexed =
     old : (other : List ℕ) → (is_named other (get_or sets place d) ≡ true) ⊎ ((str_eq_ignore_ascii_case name other || false) ≡ true) → is_held_for other place now now_others ≡ true
     old other (inl named) = keeps other place (indexed other place (get_or sets place d) (slice_get-get_or sets place d lt) named)
     old other (inr same) = held_alike name other place now now_others (sym (or_false (str_eq_ignore_ascii_case name other)) ∙ same) held
+
     by : (other : List ℕ) (at : ℕ) (one : Ruled) → (slice_get sets at ≡ Some one) ⊎ ((at ≡ place) × (one ≡ with_name (get_or sets place d) name) × (place < length sets)) → is_named other one ≡ true → is_held_for other at now now_others ≡ true
     by other at one (inl there) named = keeps other at (indexed other at one there named)
     by other at one (inr new) named =

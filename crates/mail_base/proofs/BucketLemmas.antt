@@ -1,7 +1,7 @@
 -- One rule more in the buckets of a ruleset.
 use Rattle.std.proofs.Common.{◌≡◌, ℕ, ◌+◌, ◌<◌, ◌^◌, List, [], ◌∷◌, ◌++◌, length, map, take, Bool, true, false, refl, sym, ap, ◌∙◌, subst, arith, Some, None, zero, suc, inl, inr}
 use Rattle.std.specs.Prelude.{Option, cond, filter, slice_get, unwrap_or, Result, Ok, Err, OnOk, OnErr}
-use Rattle.std.specs.List.{flat_map, IsDistinct}
+use Rattle.std.specs.List.{IsDistinct}
 use Rattle.std.specs.Option.{option_map}
 use Rattle.std.specs.Result.{is_err}
 use Rattle.std.specs.Map.{lookup, lookup_key, keys_of, values_of}
@@ -16,10 +16,10 @@ use Rattle.mail_base.specs.declared.rule.Rule.{Rule}
 use Rattle.mail_base.specs.declared.rule.Numbered.{Numbered}
 use Rattle.mail_base.specs.declared.rule.Slot.{Slot}
 use Rattle.mail_base.specs.declared.fault.NoMemory.{NoMemory}
-use Rattle.mail_base.specs.Candidates.{anchor, anchored, free, has_anchor, holds, is_free, is_none, numbered_from}
+use Rattle.mail_base.specs.Candidates.{anchor, anchored, has_anchor, holds, is_free, is_none, numbered_from}
 use Rattle.mail_base.specs.Tokens.{same_token}
 use Rattle.mail_base.specs.inner.TokenLaws.{same_equiv}
-use Rattle.mail_base.specs.Buckets.{bucket_of, listed, at_place, in_bucket, stored, rule_in, in_order, IsIndex, IsEndOf, IsSlotAt, IsSlotFor, IsBucket, Keeps, Grows, Puts}
+use Rattle.mail_base.specs.Buckets.{bucket_of, listed, at_place, in_bucket, stored, rule_in, in_order, IsIndex, IsSlotAt, IsSlotFor, IsBucket, Keeps, Grows, Puts}
 
 -- ---- lists
 

@@ -1,14 +1,16 @@
 -- What a class keeps when members are put in.
-use Rattle.std.proofs.Common.{◌≡◌, ℕ, ◌≤◌, List, [], ◌∷◌, ◌++◌, Bool, true, false, ◌||◌, Option, Vec, length, take, fold, refl, ap, sym, subst, append_assoc, ◌∙◌, arith, if◌then◌else◌}
+use Rattle.std.proofs.Common.{◌≡◌, ℕ, ◌≤◌, List, [], ◌∷◌, ◌++◌, Bool, true, false, ◌||◌, Vec, length, take, fold, refl, ap, sym, subst, append_assoc, ◌∙◌, arith, if◌then◌else◌}
 use Rattle.std.specs.List.{list_any, IsDistinct, AllByRecursion}
 use Rattle.std.specs.Cmp.{IsEquivalence}
 use Rattle.std.specs.Cmp.Lexicographic.{pointwise, lists_equiv, nat_list_eq_equiv}
 use Rattle.std.proofs.Math.Seq.{take-append_seam, take-length}
-use Rattle.std.proofs.lemmas.List.{append-nil, take-take, length-take}
+use Rattle.std.proofs.lemmas.List.Sums.{fold-append}
+use Rattle.std.specs.Prelude.{drop, max}
+use Rattle.std.proofs.lemmas.List.{append-nil, take-append-drop, take-take, length-take}
 use Rattle.std.proofs.lemmas.Map.Keys.{IsDistinct-head, IsDistinct-tail}
 use Rattle.std.proofs.lemmas.List.Folds.{list_any-append}
 use Rattle.indexmap.specs.IndexSet.{insert_key}
-use Rattle.mail_base.specs.Classes.{is_cut_into, is_phrase, same_member, with_members}
+use Rattle.mail_base.specs.Classes.{is_cut_into, is_phrase, longest_from, longest_phrase, phrase_length, same_member, with_members}
 use Rattle.mail_base.specs.Tokens.{same_token, same_tokens}
 use Rattle.mail_base.specs.inner.Phrases.{HasPhrases, Keeps, is_among}
 use Rattle.mail_base.specs.inner.TokenLaws.{same_equiv}
@@ -102,3 +104,12 @@ indexed_put phrases more members member step has t =
 -- a member that isn't there is put last
 pub put_last : (members : List Member) (member : Member) → list_any (same_member member) members ≡ false → insert_key same_member members member ≡ members ++ member ∷ []
 put_last members member new = ap (λ b. if b then members else members ++ member ∷ []) new
+
+-- the longest phrase of a class that grew is the longest of what it was and of what is new
+pub longest_grown : (old new : List Member) (least from : ℕ) → Keeps old new → from ≡ length old → least ≡ longest_phrase old → longest_from least (drop from new) ≡ longest_phrase new
+longest_grown old new least from keeps is was =
+    let step : ℕ → Member → ℕ = λ most member. max most (phrase_length member.tokens) in
+    (λ i. longest_from (was i) (drop (is i) new))
+    ∙ ap (λ (xs : List Member). longest_from (longest_from 0 xs) (drop (length old) new)) (sym keeps)
+    ∙ sym (fold-append step 0 (take (length old) new) (drop (length old) new))
+    ∙ ap (longest_from 0) (take-append-drop (length old) new)

@@ -1,5 +1,5 @@
 -- The members of a class (Sendmail Installation and Operation Guide, C and F: define classes).
-use Rattle.std.specs.Prelude.{◌≡◌, List, [], ◌∷◌, ◌++◌, Bool, false, Option, None, Some, bytes_eq, fold, if◌then◌else◌, codes, refl}
+use Rattle.std.specs.Prelude.{◌≡◌, ℕ, List, length, max, [], ◌∷◌, ◌++◌, Bool, false, Option, None, Some, bytes_eq, fold, if◌then◌else◌, codes, refl}
 use Rattle.std.specs.List.{list_any}
 use Rattle.mail_base.specs.Tokens.{same_tokens}
 use Rattle.mail_base.specs.declared.class.Member.{Member}
@@ -26,12 +26,25 @@ is_cut_into tokens (Some others) = same_tokens tokens others
 abbrev pub is_phrase : List Token → List Member → Bool
 is_phrase tokens members = list_any (λ member. is_cut_into tokens member.tokens) members
 
+-- how many tokens a member has; one that can't be cut has none
+abbrev pub phrase_length : Option (List Token) → ℕ
+phrase_length None = 0
+phrase_length (Some tokens) = length tokens
+
+-- how many tokens the longest of these has, and at least so many
+abbrev pub longest_from : ℕ → List Member → ℕ
+longest_from least members = fold (λ most member. max most (phrase_length member.tokens)) least members
+
+-- how many tokens the longest member of a class has
+abbrev pub longest_phrase : List Member → ℕ
+longest_phrase members = longest_from 0 members
+
 ann : Member
 ann = record { text = codes "ann"; tokens = Some (Word (codes "ann") ∷ []) }
 
 bob : Member
 bob = record { text = codes "bob"; tokens = None }
 
-example : with_members (ann ∷ []) (bob ∷ ann ∷ bob ∷ []) ≡ ann ∷ bob ∷ []
+example : (with_members (ann ∷ []) (bob ∷ ann ∷ bob ∷ []) ≡ ann ∷ bob ∷ []) × (longest_phrase (bob ∷ ann ∷ []) ≡ 1)
 unfolding ann bob
-example = refl
+example = (refl, refl)

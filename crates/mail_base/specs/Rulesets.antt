@@ -1,6 +1,6 @@
 -- Rulesets, as their names and their rules in order (Sendmail Operation Guide, S: rewriting rulesets).
-use Rattle.std.specs.Prelude.{◌≡◌, ℕ, List, [], ◌∷◌, ◌++◌, Bool, true, Option, None, Some, position, set, codes, refl}
-use Rattle.std.specs.List.{find, list_any}
+use Rattle.std.specs.Prelude.{◌≡◌, ℕ, List, [], ◌∷◌, ◌++◌, Bool, Some, position, codes, refl}
+use Rattle.std.specs.List.{list_any}
 use Rattle.std.specs.Str.{str_eq_ignore_ascii_case}
 use Rattle.mail_base.specs.declared.rule.Rule.{Rule}
 

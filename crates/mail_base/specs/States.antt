@@ -2,7 +2,6 @@
 use Rattle.std.specs.Prelude.{◌||◌, Bool, true, false, not, IsTrue}
 use Rattle.std.specs.List.{list_all, list_any}
 use Rattle.mail_base.specs.declared.control.Control.{Control}
-use Rattle.mail_base.specs.declared.control.Row.{Row}
 use Rattle.mail_base.specs.declared.control.State.{State}
 use Rattle.mail_base.specs.declared.control.State.TheVariants.{Queued, Sent, Failed, Returned, Dead}
 

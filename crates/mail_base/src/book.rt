@@ -148,7 +148,9 @@ fn hold(
 fn hash_of(name: &Text) -> u32
     ensures { result ≡ spec.hash_of name.now }
 {
-    name.bytes().iter().fold(0, |hash, byte| hash_step(hash, *byte))
+    name.bytes()
+        .iter()
+        .fold(0, |hash, byte| hash_step(hash, *byte))
 }
 
 fn hash_step(hash: u32, byte: u8) -> u32

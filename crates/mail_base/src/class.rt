@@ -2,7 +2,8 @@ ghost use Rattle.std.specs.Prelude.{◌≡◌, ◌||◌, [], List, length, take,
 ghost use Rattle.std.specs.Cmp.{on_equiv, on_per, partial_equiv_from_equiv};
 ghost use Rattle.std.specs.Cmp.Lexicographic.{nat_list_eq_equiv};
 ghost use Rattle.std.specs.Hash as fed;
-ghost use Rattle.mail_base.specs.Classes.{is_cut_into, is_phrase, with_member, with_members};
+ghost use Rattle.mail_base.specs.Classes.{is_cut_into, is_phrase, longest_phrase, with_member, with_members};
+ghost use Rattle.mail_base.specs.Classes as spec;
 ghost use Rattle.mail_base.specs.inner.Phrases.{HasPhrases, Keeps, is_among};
 
 use crate::{NoMemory, Seq, Text, Token, TryCopy};
@@ -23,6 +24,7 @@ pub struct Member {
 pub(crate) struct Class {
     members: IndexSet<Member>,
     phrases: IndexSet<Vec<Token>>,
+    longest: usize,
 }
 
 // Written out, since a caller's proof goes through the parts of a derived drop at each way out.
@@ -31,12 +33,13 @@ impl Drop for Class {
         let Class {
             members: _,
             phrases: _,
+            longest: _,
         } = self;
     }
 }
 
 impl Model for Class {
-    ghost use Rattle.std.specs.Prelude.{List};
+    ghost use Rattle.std.specs.Prelude.{◌≡◌, List};
     ghost use Rattle.mail_base.specs.declared.class.Member.{Member};
 
     ghost Value = { List Member };
@@ -45,7 +48,9 @@ impl Model for Class {
 
     ghost view = { λ c. c.members.keys };
 
-    ghost invariant = { λ c. HasPhrases c.phrases.keys c.members.keys };
+    ghost use Rattle.mail_base.specs.Classes.{longest_phrase};
+
+    ghost invariant = { λ c. record { phrases : HasPhrases c.phrases.keys c.members.keys; longest : c.longest ≡ longest_phrase c.members.keys } };
 }
 
 impl PartialEq for Member {
@@ -85,6 +90,7 @@ impl Class {
         Class {
             members: IndexSet::new(alloc),
             phrases: IndexSet::new(alloc),
+            longest: 0,
         }
     }
 
@@ -101,6 +107,13 @@ impl Class {
         self.phrases.contains(tokens)
     }
 
+    // How many tokens the longest member has.
+    pub(crate) fn longest_phrase(&self) -> usize
+        ensures { result ≡ longest_phrase self.now }
+    {
+        self.longest
+    }
+
     // Adds the members that aren't there, in order. After `NoMemory` the class is as before.
     pub(crate) fn extend(&mut self, more: Seq<Member>) -> Result<(), NoMemory>
         ensures ok { OnOk result (self.new ≡ with_members self.old more) }
@@ -113,7 +126,27 @@ impl Class {
             self.phrases.truncate(phrases);
             return Err(error);
         }
+        self.longest = longest_from(self.longest, &self.members.as_slice()[members..]);
         Ok(())
+    }
+}
+
+// How many tokens the longest of these has, and at least so many.
+fn longest_from(least: usize, members: &[Member]) -> usize
+    ensures { result ≡ spec.longest_from least members.now }
+{
+    members.iter().fold(
+        least,
+        |most, member| most.max(phrase_length(&member.tokens)),
+    )
+}
+
+fn phrase_length(tokens: &Option<Seq<Token>>) -> usize
+    ensures { result ≡ spec.phrase_length tokens.now }
+{
+    match tokens {
+        Some(tokens) => tokens.len(),
+        None => 0,
     }
 }
 

@@ -1,6 +1,6 @@
 ghost use Rattle.std.specs.Prelude.{◌≡◌, [], IfOk, OnOk, OnErr};
 ghost use Rattle.mail_base.specs.Catalogs.{value_at, with_value, members_of};
-ghost use Rattle.mail_base.specs.Classes.{with_members, is_phrase};
+ghost use Rattle.mail_base.specs.Classes.{is_phrase, longest_phrase, with_members};
 
 use crate::class::Class;
 use crate::{Catalog, Member, NoMemory, Seq, Text, Token, TryCopy};
@@ -51,6 +51,17 @@ impl Classes {
         match self.classes.get(name) {
             Some(class) => class.has_phrase(tokens),
             None => false,
+        }
+    }
+
+    /// How many tokens the longest member of the class has, 0 where the class isn't there. No longer list
+    /// of tokens is a phrase of it. It takes no memory, and its time is that of the name.
+    pub fn longest_phrase(&self, name: &Text) -> usize
+        ensures { result ≡ longest_phrase (members_of (value_at name.now self.now)) }
+    {
+        match self.classes.get(name) {
+            Some(class) => class.longest_phrase(),
+            None => 0,
         }
     }
 

@@ -1,5 +1,5 @@
 -- A rule that is no candidate has no `$&x` and no match.
-use Rattle.std.proofs.Common.{◌≡◌, ℕ, List, [], ◌∷◌, ◌++◌, length, take, drop, Bool, true, false, Some, None, Option, cond, refl, sym, ap, subst, ◌∙◌, zero, suc}
+use Rattle.std.proofs.Common.{◌≡◌, ℕ, List, [], ◌∷◌, take, drop, Bool, true, false, Some, None, Option, cond, refl, sym, ap, subst, ◌∙◌, zero, suc}
 use Rattle.std.specs.Prelude.{◌||◌}
 use Rattle.std.specs.List.{list_any}
 use Rattle.std.proofs.lemmas.Bool.{or_parts, or_right, or_left, true≢false}

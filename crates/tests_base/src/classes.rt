@@ -97,6 +97,13 @@ fn phrases_are_found_without_case(rt: HostRuntime) -> Result<(), Fail> {
         assert_eq!(rt; classes.has_phrase(&name, tokens.items()), *has);
         assert!(rt; !classes.has_phrase(&other, tokens.items()));
     }
+    assert_eq!(rt;
+        (
+            classes.longest_phrase(&name),
+            classes.longest_phrase(&other)
+        ),
+        (3, 0)
+    );
     Ok(())
 }
 

@@ -1,7 +1,7 @@
 use mail_base::{
-    Book, Buckets, Catalog, Classes, Config, DaemonPort, Go, Group, HeaderLine, Item, Mailer, MapClass,
-    MapLine, Member, NoMemory, Options, Pattern, Piece, Precedence, Rule, RuleSet, Seq, Step,
-    Template, Text, Token, TryCopy,
+    Book, Buckets, Catalog, Classes, Config, DaemonPort, Go, Group, HeaderLine, Item, Mailer,
+    MapClass, MapLine, Member, NoMemory, Options, Pattern, Piece, Precedence, Rule, RuleSet, Seq,
+    Step, Template, Text, Token, TryCopy,
 };
 use std::alloc::Global;
 use std::test::Fail;

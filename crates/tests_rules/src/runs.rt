@@ -1,6 +1,8 @@
 // What a run of a ruleset ends with, and the sets that are found.
 use crate::signs::{are_same, pattern_of, steps_of, tokens_of, words};
-use mail_base::{Book, Config, Go, NoMemory, Piece, Rule, RuleSet, Seq, Step, Template, Text, Token};
+use mail_base::{
+    Book, Config, Go, NoMemory, Piece, Rule, RuleSet, Seq, Step, Template, Text, Token,
+};
 use rule_index::build;
 use ruleset_run::{Ran, RunFault, is_plain, run};
 use std::alloc::Global;

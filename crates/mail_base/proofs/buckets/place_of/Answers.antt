@@ -1,6 +1,4 @@
-use Rattle.std.proofs.Common.{refl, sym, ◌∙◌, ap, subst, ◌≡◌, ◌++◌, ◌∷◌, [], Some, List}
-use Rattle.std.specs.Prelude.{slice_get}
-use Rattle.std.specs.Option.{option_map}
+use Rattle.std.proofs.Common.{refl, sym, ◌∙◌, ap, subst, [], List}
 use Rattle.indexmap.specs.IndexMap.{get, insert_entry}
 use Rattle.indexmap.proofs.CallerLemmas.{insert_entry-new}
 use Rattle.mail_base.specs.declared.token.Token.{Token}
@@ -8,7 +6,7 @@ use Rattle.mail_base.specs.declared.rule.Numbered.{Numbered}
 use Rattle.mail_base.specs.Tokens.{same_token}
 use Rattle.mail_base.specs.inner.TokenLaws.{same_equiv}
 use Rattle.mail_base.specs.Buckets.{Keeps}
-use Rattle.mail_base.proofs.BucketLemmas.{key_passes, keeps_end, last_entry, added}
+use Rattle.mail_base.proofs.BucketLemmas.{key_passes, keeps_end, added}
 use Rattle.mail_base.proofs.buckets.place_of.Goals as goal
 
 pub returns-in-Some-clause-slot : goal.returns-in-Some-clause-slot

@@ -1,4 +1,4 @@
-use Rattle.std.proofs.Common.{◌≡◌, [], Err, Ok, refl, sym, ◌∙◌, ap, subst, Some, None, cond, List}
+use Rattle.std.proofs.Common.{[], Err, Ok, sym, ◌∙◌, subst, Some, None, List}
 use Rattle.std.proofs.lemmas.Bool.{cond-true, cond-false}
 use Rattle.mail_base.specs.declared.token.Token.{Token}
 use Rattle.ruleset_run.specs.declared.fault.RunFault.TheVariants.{NoRuleset}

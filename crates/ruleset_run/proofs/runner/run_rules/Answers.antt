@@ -1,9 +1,9 @@
-use Rattle.std.proofs.Common.{◌+◌, arith, sym, ◌∙◌, ap, drop}
+use Rattle.std.proofs.Common.{◌+◌, arith, sym, ◌∙◌, drop}
 use Rattle.std.specs.List.{list_all}
 use Rattle.std.proofs.lemmas.Bool.{and_parts}
 use Rattle.std.proofs.lemmas.Result.{err_from_is_err_and}
 use Rattle.rule_match.specs.Items.{is_plain}
-use Rattle.ruleset_run.specs.Plain.{is_plain_rule, is_plain_step}
+use Rattle.ruleset_run.specs.Plain.{is_plain_step}
 use Rattle.ruleset_run.specs.Runs.{Runs}
 use Rattle.ruleset_run.proofs.Moves.{step_unmatched, step_refused, step_resolved, step_returned, step_next, step_again}
 use Rattle.ruleset_run.proofs.Skipping.{drop_at, plain_at, below_length, skipped, all_passed, few_times}

@@ -1,6 +1,6 @@
-use Rattle.std.proofs.Common.{◌≡◌, ◌+◌, ◌<◌, ◌^◌, ◌∷◌, ◌++◌, [], List, refl, sym, ◌∙◌, ap, subst}
+use Rattle.std.proofs.Common.{◌∷◌, ◌++◌, [], List, sym, ◌∙◌, ap}
 use Rattle.mail_base.specs.declared.rule.Rule.{Rule}
-use Rattle.mail_base.specs.Buckets.{in_order, IsIndex}
+use Rattle.mail_base.specs.Buckets.{in_order}
 use Rattle.mail_base.proofs.BucketLemmas.{still, calm_order, bucket_there, still_slots, still_order, undone, done, failed, worked, on_err, on_ok}
 use Rattle.mail_base.proofs.buckets.Buckets.push.Goals as goal
 

@@ -1,4 +1,4 @@
-use Rattle.std.proofs.Common.{◌≡◌, [], ap, ◌∙◌}
+use Rattle.std.proofs.Common.{[], ap, ◌∙◌}
 use Rattle.mail_base.specs.Classes.{with_members}
 use Rattle.mail_base.proofs.ClassLemmas.{all_again}
 use Rattle.mail_base.proofs.class.ClassTryCopy.copy.Goals as goal
