@@ -4,16 +4,17 @@ use Rattle.std.specs.Str.{bytes_eq}
 use Rattle.std.proofs.lemmas.Bool.{lt-leb, cases_lt, cases_Bool, cond-true, cond-false}
 use Rattle.std.proofs.lemmas.List.{take_all, take_at, take_min, take-take, take-append-le, length-take, length-append}
 use Rattle.std.proofs.Math.Seq.{take-append-add}
+use Rattle.mail_base.specs.Limits.{most_message, most_command}
 use Rattle.smtp_lines.specs.declared.line.Line.TheVariants.{Command, TooLong, Data, DataEnd}
 use Rattle.smtp_lines.specs.declared.line.Mode.TheVariants.{Commands, Message}
 use Rattle.smtp_lines.specs.Stream.{command_line, message_line, without_dot, without_cr}
 use Rattle.smtp_lines.specs.Reader.{IsKept, enough}
 
-pub enough-commands : enough Commands ≡ 2048
+pub enough-commands : enough Commands ≡ most_command
 unfolding enough
 enough-commands = refl
 
-pub enough-message : enough Message ≡ 16777219
+pub enough-message : enough Message ≡ most_message + 3
 unfolding enough
 enough-message = refl
 
@@ -22,14 +23,14 @@ take_joined front back most le =
     let e : most ≡ length front + (most - length front) = omega arith in
     ap (λ n. take n (front ++ back)) e ∙ take-append-add front back (most - length front)
 
-pub command-long : (begun bytes content kept : List ℕ) → IsKept Commands begun kept → begun ++ bytes ≡ content ++ 10 ∷ [] → 2048 < length kept + length bytes → TooLong ≡ command_line content
+pub command-long : (begun bytes content kept : List ℕ) → IsKept Commands begun kept → begun ++ bytes ≡ content ++ 10 ∷ [] → most_command < length kept + length bytes → TooLong ≡ command_line content
 command-long begun bytes content kept is whole long =
     let lens = sym (length-append begun bytes) ∙ ap length whole ∙ length-append content (10 ∷ []) in
     let short = ap length is.is ∙ length-take is.most begun in
-    let more : 2048 < length content + 1 = omega arith in
+    let more : most_command < length content + 1 = omega arith in
     sym (cond-false _ (Command (without_cr content)) TooLong (lt-leb _ _ more))
 
-pub command-short : (begun bytes content kept : List ℕ) → IsKept Commands begun kept → 0 < length bytes → begun ++ bytes ≡ content ++ 10 ∷ [] → length kept + length bytes ≤ 2048 → take (length kept + length bytes - 1) (kept ++ bytes) ≡ content
+pub command-short : (begun bytes content kept : List ℕ) → IsKept Commands begun kept → 0 < length bytes → begun ++ bytes ≡ content ++ 10 ∷ [] → length kept + length bytes ≤ most_command → take (length kept + length bytes - 1) (kept ++ bytes) ≡ content
 command-short begun bytes content kept is some whole short =
     let lens = sym (length-append begun bytes) ∙ ap length whole ∙ length-append content (10 ∷ []) in
     let kept_len = ap length is.is ∙ length-take is.most begun in
@@ -79,7 +80,8 @@ dot_alone limit (b ∷ []) = refl
 dot_alone limit (b ∷ c ∷ content) = refl
 
 -- a line of a message that is longer than what stands of it
-pub message_line-front : (content : List ℕ) → message_line (take 16777218 content) ≡ message_line content
+pub message_line-front : (content : List ℕ) → message_line (take (most_message + 2) content) ≡ message_line content
+unfolding most_message
 message_line-front content =
-    ap (λ t. cond t DataEnd (Data (take 16777217 (without_dot (take 16777218 content))))) (dot_alone 16777216 content)
-    ∙ ap (λ x. cond (bytes_eq content (46 ∷ [])) DataEnd (Data x)) (dot_front 16777217 content)
+    ap (λ t. cond t DataEnd (Data (take (most_message + 1) (without_dot (take (most_message + 2) content))))) (dot_alone most_message content)
+    ∙ ap (λ x. cond (bytes_eq content (46 ∷ [])) DataEnd (Data x)) (dot_front (most_message + 1) content)

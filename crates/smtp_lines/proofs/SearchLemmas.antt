@@ -6,7 +6,7 @@ use Rattle.std.proofs.lemmas.Bool.{false≢true}
 use Rattle.std.proofs.lemmas.List.Sums.{prefix_len_is, suffix_len_is}
 use Rattle.bstr.specs.Find.{IsFirstByte, IsLastByte, is_byte}
 use Rattle.bstr.specs.Bytes.{is_in, not_in}
-use Rattle.smtp_lines.specs.Stream.{is_blank}
+use Rattle.mail_base.specs.Texts.{is_blank}
 
 -- a byte that the search passes over stays in the run, and one at which it stops doesn't
 kept : (found stays : Bool) → found ≡ not stays → (found ≡ true → ⊥) → stays ≡ true

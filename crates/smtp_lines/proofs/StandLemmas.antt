@@ -2,6 +2,7 @@
 use Rattle.std.proofs.Common.{◌≡◌, ℕ, Bool, true, false, List, [], ◌∷◌, ◌++◌, take, drop, refl, sym, ap, subst, ◌∙◌}
 use Rattle.std.proofs.lemmas.Bool.{false≢true}
 use Rattle.std.proofs.lemmas.List.{append-nil, append_assoc}
+use Rattle.mail_base.specs.Limits.{most_command}
 use Rattle.smtp_lines.specs.declared.line.Line.{Line}
 use Rattle.smtp_lines.specs.declared.line.Mode.{Mode}
 use Rattle.smtp_lines.specs.declared.line.Mode.TheVariants.{Commands, Message}
@@ -11,7 +12,7 @@ use Rattle.smtp_lines.proofs.EndLemmas.{crlf_from_lf}
 use Rattle.smtp_lines.proofs.ReadLemmas.{reads_more, reads_join}
 
 pub stands_fresh : Stands fresh empty_stream
-unfolding most_kept
+unfolding most_kept most_command
 stands_fresh = record {
   begun = [];
   holds = record { none = refl; kept = refl; cr = refl; commands = λ is. refl };

@@ -2,6 +2,7 @@
 use Rattle.std.proofs.Common.{◌≡◌, ℕ, ◌+◌, ◌-◌, ◌<◌, ◌≤◌, ◌==◌, Bool, true, false, List, [], ◌∷◌, ◌++◌, length, take, drop, get_or, refl, sym, ap, subst, ◌∙◌, arith, ⊎_elim}
 use Rattle.std.proofs.lemmas.Bool.{cases_lt}
 use Rattle.std.proofs.lemmas.List.{append-nil, take_all, drop_all, take-append-le, length-take, length-append, get_or-append-add}
+use Rattle.mail_base.specs.Limits.{most_message, most_command}
 use Rattle.smtp_lines.specs.declared.line.Line.{Line}
 use Rattle.smtp_lines.specs.declared.line.Mode.{Mode}
 use Rattle.smtp_lines.specs.declared.line.Mode.TheVariants.{Commands, Message}
@@ -10,7 +11,7 @@ use Rattle.smtp_lines.specs.Reader.{enough, most_kept, cr_after, asked_after, aw
 use Rattle.smtp_lines.proofs.LineLemmas.{take_joined}
 
 pub enough_kept : (mode : Mode) (may_turn : Bool) → enough mode ≤ most_kept mode may_turn
-unfolding enough most_kept
+unfolding enough most_kept most_message most_command
 enough_kept Commands false = omega arith
 enough_kept Commands true = omega arith
 enough_kept Message may_turn = omega arith

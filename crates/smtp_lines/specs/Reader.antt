@@ -1,6 +1,7 @@
 -- What a reader of a stream keeps of it, and what it stands for.
-use Rattle.std.specs.Prelude.{◌≡◌, ℕ, ◌≤◌, Bool, true, false, List, [], ◌∷◌, ◌++◌, take, drop, Option, Some, None}
+use Rattle.std.specs.Prelude.{◌≡◌, ℕ, ◌+◌, ◌≤◌, Bool, true, false, List, [], ◌∷◌, ◌++◌, take, drop, Option, Some, None}
 use Rattle.std.specs.List.{list_any}
+use Rattle.mail_base.specs.Limits.{most_message, most_command}
 use Rattle.smtp_lines.specs.declared.line.Line.{Line}
 use Rattle.smtp_lines.specs.declared.line.Mode.{Mode}
 use Rattle.smtp_lines.specs.declared.line.Mode.TheVariants.{Commands, Message}
@@ -19,8 +20,8 @@ Ends mode begun bytes (Some n) = EndsAt mode begun bytes n
 
 -- how much of a line under way tells what it will be, whatever comes after it
 unfoldable pub enough : Mode → ℕ
-enough Commands = 2048
-enough Message = 16777219
+enough Commands = most_command
+enough Message = most_message + 3
 
 -- what is kept of a line under way is all of it, or its front where that is enough
 pub record IsKept (mode : Mode) (begun kept : List ℕ) : Type 0 where
@@ -53,9 +54,9 @@ pub record ReadsOn (mode : Mode) (begun bytes : List ℕ) (lines : List Line) (n
 
 -- how much is kept of a line under way; one that may become a message's is kept as such
 unfoldable pub most_kept : Mode → Bool → ℕ
-most_kept Commands false = 2048
-most_kept Commands true = 16777219
-most_kept Message may_turn = 16777219
+most_kept Commands false = most_command
+most_kept Commands true = most_message + 3
+most_kept Message may_turn = most_message + 3
 
 -- whether a CR is last, where bytes come after what was there
 abbrev pub cr_after : Bool → List ℕ → Bool

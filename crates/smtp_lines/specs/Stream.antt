@@ -2,6 +2,8 @@
 use Rattle.std.specs.Prelude.{◌≡◌, ℕ, zero, suc, ◌+◌, ◌-◌, slice_index, ◌==◌, nat_le, Bool, true, false, ◌||◌, ◌&&◌, List, [], ◌∷◌, ◌++◌, length, take, drop, Option, Some, None, if◌then◌else◌, codes}
 use Rattle.std.specs.List.{before_first}
 use Rattle.std.specs.Str.{bytes_eq, str_eq_ignore_ascii_case}
+use Rattle.mail_base.specs.Limits.{most_message, most_command}
+use Rattle.mail_base.specs.Texts.{crlf, is_blank}
 use Rattle.smtp_lines.specs.declared.line.Line.{Line}
 use Rattle.smtp_lines.specs.declared.line.Line.TheVariants.{Command, TooLong, Data, DataEnd}
 use Rattle.smtp_lines.specs.declared.line.Mode.{Mode}
@@ -10,7 +12,7 @@ use Rattle.smtp_lines.specs.declared.line.Mode.TheVariants.{Commands, Message}
 -- the bytes that end a line: LF in commands (own; the standard has CR LF alone), and CR LF in a message
 abbrev pub end_of : Mode → List ℕ
 end_of Commands = 10 ∷ []
-end_of Message = 13 ∷ 10 ∷ []
+end_of Message = crlf
 
 -- whether the bytes begin with a line end
 abbrev pub begins_with_end : Mode → List ℕ → Bool
@@ -33,26 +35,22 @@ ends_in_cr bytes = slice_index bytes (length bytes - 1) == 13
 abbrev pub without_cr : List ℕ → List ℕ
 without_cr bytes = if ends_in_cr bytes then take (length bytes - 1) bytes else bytes
 
--- the command line of the bytes before its LF; it has at most 2,048 bytes with its end
+-- the command line of the bytes before its LF, with which it is no longer than a command may be
 abbrev pub command_line : List ℕ → Line
-command_line content = if nat_le (length content + 1) 2048 then Command (without_cr content) else TooLong
+command_line content = if nat_le (length content + 1) most_command then Command (without_cr content) else TooLong
 
 -- without the dot that a line of a message may begin with
 abbrev pub without_dot : List ℕ → List ℕ
 without_dot bytes = if slice_index bytes 0 == 46 then drop 1 bytes else bytes
 
--- the line of a message of the bytes before its CR LF; of those after its dot the first 16,777,217 stand
+-- the line of a message of the bytes before its CR LF; of those after its dot stands one more than a message may have
 abbrev pub message_line : List ℕ → Line
-message_line content = if bytes_eq content (46 ∷ []) then DataEnd else Data (take 16777217 (without_dot content))
+message_line content = if bytes_eq content (46 ∷ []) then DataEnd else Data (take (most_message + 1) (without_dot content))
 
 -- the line of the bytes before its end
 abbrev pub line_of : Mode → List ℕ → Line
 line_of Commands content = command_line content
 line_of Message content = message_line content
-
--- a space or a tab
-abbrev pub is_blank : ℕ → Bool
-is_blank b = b == 32 || b == 9
 
 -- the bytes up to the first blank
 abbrev pub verb_of : List ℕ → List ℕ

@@ -2,7 +2,10 @@ ghost use Rattle.std.specs.Prelude.{◌≡◌};
 ghost use Rattle.smtp_lines.specs.Stream.{asks, is_data, verb_of, mode_after, command_line, without_cr, ends_in_cr, message_line, without_dot};
 
 use bstr::ByteSlice;
-use mail_base::Text;
+use mail_base::{MOST_COMMAND, MOST_MESSAGE, Text};
+
+/// The bytes that stand of a line of a message: one more than a message may have.
+pub(crate) const MOST_DATA: usize = MOST_MESSAGE as usize + 1;
 
 /// How the bytes of a stream are read.
 #[derive(Clone, Copy)]
@@ -18,9 +21,10 @@ pub enum Mode {
 pub enum Line {
     /// A command, without the one CR that may stand before its LF.
     Command(Text),
-    /// A command of more than 2,048 bytes with its end.
+    /// A command of more than [`MOST_COMMAND`] bytes with its end.
     TooLong,
-    /// A line of a message, without its first dot. Of one that then has more than 16,777,217 bytes, these are the first 16,777,217.
+    /// A line of a message, without its first dot. Of one that is then longer than a message may be,
+    /// one byte more than [`MOST_MESSAGE`] stands.
     Data(Text),
     /// The line of one dot, which ends a message.
     DataEnd,
@@ -64,10 +68,11 @@ pub(crate) fn mode_after(line: &Line) -> Mode
 }
 
 /// The command line of the bytes before its LF.
+#[tactic(auto, unfolding(mail_base::specs::Limits::most_command))]
 pub(crate) fn command_line(mut content: Vec<u8>) -> Line
     ensures { result ≡ command_line content.items }
 {
-    if content.len() + 1 > 2_048 {
+    if content.len() + 1 > MOST_COMMAND {
         return Line::TooLong;
     }
     drop_cr(&mut content);
@@ -89,6 +94,7 @@ pub(crate) fn ends_in_cr(bytes: &[u8]) -> bool
 }
 
 /// The line of a message of the bytes before its CR LF.
+#[tactic(auto, unfolding(mail_base::specs::Limits::most_message))]
 pub(crate) fn message_line(mut content: Vec<u8>) -> Line
     ensures { result ≡ message_line content.items }
 {
@@ -96,7 +102,7 @@ pub(crate) fn message_line(mut content: Vec<u8>) -> Line
         return Line::DataEnd;
     }
     drop_dot(&mut content);
-    content.truncate(16_777_217);
+    content.truncate(MOST_DATA);
     Line::Data(Text::from_vec(content))
 }
 

@@ -2,10 +2,10 @@ ghost use Rattle.std.specs.Prelude.{◌≡◌, ◌≤◌, ◌<◌, ◌+◌, ℕ,
 ghost use Rattle.smtp_lines.specs.Stream.{has_end, ends_in_cr, line_of, end_of, command_line, message_line};
 ghost use Rattle.smtp_lines.specs.Reader.{Ends, IsKept, ReadsOn, asked_after};
 
-use crate::line::{command_line, message_line, mode_after};
+use crate::line::{MOST_DATA, command_line, message_line, mode_after};
 use crate::{Line, Mode};
 use bstr::ByteSlice;
-use mail_base::{NoMemory, Seq};
+use mail_base::{MOST_COMMAND, NoMemory, Seq};
 use std::alloc::Global;
 
 /// The lines that some bytes complete, with how the stream goes on.
@@ -84,7 +84,7 @@ fn command_of(alloc: Global, kept: &[u8], bytes: &[u8]) -> Result<Line, NoMemory
         → IfOk result (λ line. line ≡ command_line content) }
 {
     let length = kept.len() + bytes.len();
-    if length > 2_048 {
+    if length > MOST_COMMAND {
         return Ok(Line::TooLong);
     }
     Ok(command_line(joined(alloc, kept, bytes, length.saturating_sub(1))?))
@@ -96,7 +96,7 @@ fn message_line_of(alloc: Global, kept: &[u8], bytes: &[u8]) -> Result<Line, NoM
         → IfOk result (λ line. line ≡ message_line content) }
 {
     let length = kept.len() + bytes.len();
-    let most = length.saturating_sub(2).min(16_777_218);
+    let most = length.saturating_sub(2).min(MOST_DATA + 1);
     Ok(message_line(joined(alloc, kept, bytes, most)?))
 }
 

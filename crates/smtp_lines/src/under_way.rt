@@ -3,10 +3,10 @@ ghost use Rattle.smtp_lines.specs.Stream.{ends_in_cr};
 ghost use Rattle.smtp_lines.specs.Reader.{asked_after, most_kept, cr_after, Under, Holds, Takes};
 ghost use Rattle.smtp_lines.specs.Views.{under};
 
-use crate::line::ends_in_cr;
+use crate::line::{MOST_DATA, ends_in_cr};
 use crate::reading::read;
 use crate::{Line, Mode};
-use mail_base::{NoMemory, Seq};
+use mail_base::{MOST_COMMAND, NoMemory, Seq};
 use std::alloc::Global;
 
 /// What is kept of the line under way.
@@ -104,13 +104,19 @@ impl Begun {
     }
 }
 
-#[tactic(auto, unfolding(crate::specs::Reader::most_kept))]
+#[tactic(auto, unfolding(crate::specs::Reader::most_kept, mail_base::specs::Limits::most_message, mail_base::specs::Limits::most_command))]
 fn most_kept(mode: Mode, may_turn: bool) -> usize
     ensures { result ≡ most_kept mode may_turn }
 {
     match mode {
-        Mode::Message => 16_777_219,
-        Mode::Commands => { if may_turn { 16_777_219 } else { 2_048 } }
+        Mode::Message => MOST_DATA + 2,
+        Mode::Commands => {
+            if may_turn {
+                MOST_DATA + 2
+            } else {
+                MOST_COMMAND
+            }
+        }
     }
 }
 

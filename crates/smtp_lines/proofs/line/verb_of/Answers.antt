@@ -1,6 +1,6 @@
 use Rattle.std.proofs.Common.{not, take, sym, ap, ◌∙◌, arith}
 use Rattle.std.proofs.lemmas.List.{take_all}
-use Rattle.smtp_lines.specs.Stream.{is_blank}
+use Rattle.mail_base.specs.Texts.{is_blank}
 use Rattle.smtp_lines.proofs.SearchLemmas.{front_some, front_none, blank_found}
 use Rattle.smtp_lines.proofs.line.verb_of.Goals as goal
 
