@@ -1,13 +1,13 @@
 -- The lines of the marks, of 8BITMIME and of the sender.
 use Rattle.std.proofs.Common.{ℕ, Bool, true, false, List, ◌++◌, refl, arith}
 use Rattle.std.specs.Prelude.{codes}
+use Rattle.mail_base.specs.Texts.{IsBracketed}
 use Rattle.mail_base.specs.declared.message.Marks.{Marks}
 use Rattle.qf_format.specs.declared.part.Envelope.{Envelope}
 use Rattle.qf_format.specs.declared.stop.Stop.{Stop}
 use Rattle.qf_format.specs.Parts.{AnyBool, AnyMarks, At, IsEnvelope, NotAt, envelope_text}
 use Rattle.qf_format.specs.Reading.{Front, Stops, Anything}
 use Rattle.qf_format.specs.Spelling.{eight_line, line, marks_line}
-use Rattle.qf_format.specs.Valid.{IsSender}
 use Rattle.qf_format.proofs.ReadLemmas.{both, BothFormed, front_then, Retold, front_as}
 use Rattle.qf_format.proofs.ListLemmas.{stop_first, stop_second, stop_as}
 use Rattle.qf_format.proofs.ApartLemmas.{Apart, apart_then, apart_as}
@@ -34,7 +34,7 @@ abbrev s3 : List ℕ → List ℕ
 s3 = λ y. line (codes "S" ++ y)
 
 abbrev v3 : List ℕ → Type 0
-v3 = IsSender
+v3 = IsBracketed
 
 abbrev n3 : List ℕ → Type 0
 n3 = Anything

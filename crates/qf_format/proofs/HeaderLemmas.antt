@@ -6,12 +6,12 @@ use Rattle.std.proofs.Math.ListN.{get_or-append}
 use Rattle.std.proofs.Math.Seq.{take-append_seam, get_or-append_seam}
 use Rattle.std.proofs.lemmas.Bool.{cases_lt, cases_eq, cases_order}
 use Rattle.std.proofs.lemmas.List.{take-append-drop, get_or-take, get_or-append-add, get_or_past, append_cancel_left}
+use Rattle.mail_base.specs.Texts.{IsBlank, IsHeader}
 use Rattle.qf_format.specs.declared.stop.Stop.{Stop}
 use Rattle.qf_format.specs.declared.stop.Stop.TheVariants.{Outside, Memory}
 use Rattle.qf_format.specs.Reading.{Front, NoFront, Stops}
 use Rattle.qf_format.specs.Parts.{At, NotAt, NotBlank, EachHeader, EndsAt, IsHeaderEnd}
 use Rattle.qf_format.specs.Spelling.{header_lines}
-use Rattle.qf_format.specs.Valid.{IsBlank, IsHeader}
 use Rattle.qf_format.proofs.ListLemmas.{ReadSoFar, none_so_far, one_more, all_read, stuck}
 use Rattle.qf_format.proofs.ApartLemmas.{Apart, list_apart}
 

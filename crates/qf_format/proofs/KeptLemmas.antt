@@ -1,11 +1,12 @@
 -- The lines of the macros.
 use Rattle.std.proofs.Common.{ℕ, List, ◌++◌, refl}
 use Rattle.std.specs.Prelude.{codes}
+use Rattle.mail_base.specs.Texts.{IsLine}
 use Rattle.mail_base.specs.declared.message.Kept.{Kept}
 use Rattle.qf_format.specs.declared.stop.Stop.{Stop}
 use Rattle.qf_format.specs.Reading.{Front, Stops, Anything}
 use Rattle.qf_format.specs.Spelling.{kept_lines, line}
-use Rattle.qf_format.specs.Valid.{AreKept, IsLine}
+use Rattle.qf_format.specs.Valid.{AreKept}
 use Rattle.qf_format.proofs.ReadLemmas.{both, BothFormed, front_then, Retold, front_as}
 use Rattle.qf_format.proofs.ListLemmas.{stop_first, stop_second, stop_as}
 use Rattle.qf_format.proofs.ApartLemmas.{Apart, apart_then, apart_as}

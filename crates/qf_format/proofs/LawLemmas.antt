@@ -5,11 +5,12 @@ use Rattle.std.specs.Int.{w64, w128}
 use Rattle.std.specs.Fmt.{decimal, signed_decimal}
 use Rattle.std.proofs.lemmas.List.{append_cancel_left}
 use Rattle.std.proofs.lemmas.List.Elements.{All-nil, All-cons, All-append}
+use Rattle.mail_base.specs.Texts.{IsLine, IsBracketed}
 use Rattle.mail_base.specs.declared.message.Marks.{Marks}
 use Rattle.qf_format.specs.Parts.{AnyBool, AnyMarks, At, IsParentOrNone, IsSmall, NotAt, control_front, parent_text}
 use Rattle.qf_format.specs.Reading.{Anything}
 use Rattle.qf_format.specs.Spelling.{eight_line, letter, letters, line, marks_line, parent_line, spelled, state_text}
-use Rattle.qf_format.specs.Valid.{IsLine, IsParent, IsRevision, IsSender, IsState, IsValid}
+use Rattle.qf_format.specs.Valid.{IsParent, IsRevision, IsState, IsValid}
 use Rattle.qf_format.proofs.ApartLemmas.{Apart, Once, apart_within, apart_fewer, line_apart}
 use Rattle.qf_format.proofs.OnceLemmas.{small_once, revision_once, priority_once, class_once, parent_once, state_once}
 use Rattle.qf_format.proofs.TextLemmas.{NotLf, small_line, revision_line, priority_line, class_line, state_is_line}
@@ -128,8 +129,8 @@ states_apart = tagged_apart (codes "e") state_text IsState state_is_line state_o
 
 -- ---- the whole
 
-sender_apart : Apart (λ text. line (codes "S" ++ text)) IsSender Anything
-sender_apart = apart_fewer (λ text. line (codes "S" ++ text)) IsLine IsSender Anything (λ x h. h.line) (line_apart (codes "S"))
+sender_apart : Apart (λ text. line (codes "S" ++ text)) IsBracketed Anything
+sender_apart = apart_fewer (λ text. line (codes "S" ++ text)) IsLine IsBracketed Anything (λ x h. h.line) (line_apart (codes "S"))
 
 front_apart : Apart control_front IsValid (At 46)
 front_apart = Control.apart_all

@@ -6,12 +6,13 @@ use Rattle.std.specs.Fmt.{decimal, signed_decimal}
 use Rattle.std.specs.Str.Parse.{digits_value}
 use Rattle.std.proofs.lemmas.Fmt.{decimal_is_IsNumeral_wide}
 use Rattle.std.proofs.lemmas.Int.{ints}
+use Rattle.mail_base.specs.Limits.{IsId}
 use Rattle.mail_base.specs.Names.{digits, id_text}
 use Rattle.mail_base.specs.declared.control.State.{State}
 use Rattle.mail_base.specs.declared.control.State.TheVariants.{Queued, Sent, Failed, Returned, Dead}
 use Rattle.qf_format.specs.Parts.{IsSmall, parent_text}
 use Rattle.qf_format.specs.Spelling.{cause, state_text}
-use Rattle.qf_format.specs.Valid.{IsCause, IsId, IsParent, IsRevision, IsState}
+use Rattle.qf_format.specs.Valid.{IsCause, IsParent, IsRevision, IsState}
 use Rattle.qf_format.proofs.ApartLemmas.{Once}
 use Rattle.qf_format.proofs.FieldLemmas.{split_once}
 use Rattle.qf_format.proofs.Numbers.{first_digit}

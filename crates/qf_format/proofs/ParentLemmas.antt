@@ -6,14 +6,16 @@ use Rattle.std.specs.Str.Parse.{AllDigits}
 use Rattle.std.proofs.lemmas.Str.Parse.{digit_from_value}
 use Rattle.std.proofs.lemmas.List.Elements.{All-nil, All-cons, All-append}
 use Rattle.bstr.specs.Find.{IsFirstByte, is_byte}
+use Rattle.mail_base.specs.Limits.{IsId}
 use Rattle.mail_base.specs.Names.{digits, id_text}
+use Rattle.mail_base.specs.Texts.{IsLine}
 use Rattle.mail_base.specs.declared.control.Parent.{Parent}
 use Rattle.qf_format.specs.declared.stop.Stop.{Stop}
 use Rattle.qf_format.specs.declared.stop.Stop.TheVariants.{Outside, Memory}
 use Rattle.qf_format.specs.Reading.{Front, NoFront, Stops, Whole, NoWhole, Anything}
 use Rattle.qf_format.specs.Parts.{At, NotAt, IsParentOrNone, parent_text}
 use Rattle.qf_format.specs.Spelling.{line, parent_line}
-use Rattle.qf_format.specs.Valid.{IsId, IsLine, IsParent, IsRevision}
+use Rattle.qf_format.specs.Valid.{IsParent, IsRevision}
 use Rattle.qf_format.proofs.FieldLemmas.{Without, IsFirst, split_once, first_at, none_in}
 use Rattle.qf_format.proofs.ReadLemmas.{within, none_within, none_around}
 use Rattle.qf_format.proofs.SignedLemmas.{are_digits}

@@ -2,13 +2,14 @@
 use Rattle.std.proofs.Common.{ℕ, List, ◌++◌, Option, refl, arith}
 use Rattle.std.specs.Prelude.{codes}
 use Rattle.std.specs.Fmt.{decimal}
+use Rattle.mail_base.specs.Texts.{IsLine}
 use Rattle.mail_base.specs.declared.control.Parent.{Parent}
 use Rattle.qf_format.specs.declared.part.Place.{Place}
 use Rattle.qf_format.specs.declared.stop.Stop.{Stop}
 use Rattle.qf_format.specs.Parts.{IsParentOrNone, IsPlace, NotAt, place_text}
 use Rattle.qf_format.specs.Reading.{Front, Stops, Anything}
 use Rattle.qf_format.specs.Spelling.{line, parent_line}
-use Rattle.qf_format.specs.Valid.{IsLine, IsRevision}
+use Rattle.qf_format.specs.Valid.{IsRevision}
 use Rattle.qf_format.proofs.ReadLemmas.{both, BothFormed, front_then, Retold, front_as}
 use Rattle.qf_format.proofs.ListLemmas.{stop_first, stop_second, stop_as}
 use Rattle.qf_format.proofs.ApartLemmas.{Apart, apart_then, apart_as}

@@ -3,13 +3,15 @@ use Rattle.std.proofs.Common.{◌≡◌, ℕ, ◌<◌, ◌≤◌, Bool, false, L
 use Rattle.std.specs.Prelude.{IsTrue, codes}
 use Rattle.std.proofs.lemmas.Bool.{false≢true}
 use Rattle.std.specs.List.{flat_map}
+use Rattle.mail_base.specs.Limits.{most_rows}
+use Rattle.mail_base.specs.Texts.{IsAddress}
 use Rattle.mail_base.specs.declared.control.Row.{Row}
 use Rattle.mail_base.specs.declared.control.State.{State}
 use Rattle.qf_format.specs.declared.stop.Stop.{Stop}
 use Rattle.qf_format.specs.Reading.{Front, NoFront, Stops, Anything}
 use Rattle.qf_format.specs.Parts.{address_line, At, NotAt, EachRow}
 use Rattle.qf_format.specs.Spelling.{line, row_lines, state_text}
-use Rattle.qf_format.specs.Valid.{AreRows, most_rows, IsAddress, IsRow, IsState}
+use Rattle.qf_format.specs.Valid.{AreRows, IsRow, IsState}
 use Rattle.qf_format.proofs.ReadLemmas.{both, BothFormed, front_then, Retold, front_as}
 use Rattle.qf_format.proofs.ListLemmas.{ReadSoFar, none_so_far, one_more, all_read, stuck, front_narrow, front_away, none_narrow, stop_first, stop_second, stop_as}
 use Rattle.qf_format.proofs.ApartLemmas.{Apart, apart_then, apart_as, apart_fewer, list_apart}
@@ -107,12 +109,10 @@ pub rows_stop : (bytes : List ℕ) (e : Stop) → Stops (flat_map row_lines) Eac
 rows_stop bytes Outside h = none_narrow (flat_map row_lines) EachRow AreRows (NotAt 82) rows_weaker bytes h
 rows_stop bytes Memory h = tt
 
-pub are_rows : (bytes : List ℕ) (xs : List Row) (rest : List ℕ) → Front (flat_map row_lines) EachRow (NotAt 82) bytes xs rest → 0 < length xs → length xs ≤ 10000 → AreRows xs
-unfolding most_rows
+pub are_rows : (bytes : List ℕ) (xs : List Row) (rest : List ℕ) → Front (flat_map row_lines) EachRow (NotAt 82) bytes xs rest → 0 < length xs → length xs ≤ most_rows → AreRows xs
 are_rows bytes xs rest a some few = record { some = some; few = few; each = a.is_formed }
 
-pub not_few : (xs : List Row) → 10000 < length xs → AreRows xs → ⊥
-unfolding most_rows
+pub not_few : (xs : List Row) → most_rows < length xs → AreRows xs → ⊥
 not_few xs h a = omega (arith, a.few)
 
 pub no_empty : (xs : List Row) → xs ≡ [] → AreRows xs → ⊥

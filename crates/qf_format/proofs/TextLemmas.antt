@@ -8,8 +8,10 @@ use Rattle.std.proofs.lemmas.Fmt.{decimal_is_IsNumeral_wide}
 use Rattle.std.proofs.lemmas.Int.{ints}
 use Rattle.std.proofs.lemmas.Str.Parse.{digit_from_value}
 use Rattle.std.proofs.lemmas.List.Elements.{All-nil, All-cons, All-append, All-weaker}
+use Rattle.mail_base.specs.Limits.{IsId}
 use Rattle.mail_base.specs.Names.{digits, id_text}
 use Rattle.mail_base.specs.Notes.{IsNote, IsLineByte, is_status}
+use Rattle.mail_base.specs.Texts.{IsLine}
 use Rattle.mail_base.specs.declared.control.State.{State}
 use Rattle.mail_base.specs.declared.control.State.TheVariants.{Queued, Sent, Failed, Returned, Dead}
 use Rattle.qf_format.specs.declared.stop.Stop.{Stop}
@@ -17,7 +19,7 @@ use Rattle.qf_format.specs.declared.stop.Stop.TheVariants.{Outside, Memory}
 use Rattle.qf_format.specs.Parts.{IsSmall}
 use Rattle.qf_format.specs.Reading.{Stops, Anything}
 use Rattle.qf_format.specs.Spelling.{cause, state_text}
-use Rattle.qf_format.specs.Valid.{IsLine, IsId, IsCause, IsState, IsRevision}
+use Rattle.qf_format.specs.Valid.{IsCause, IsState, IsRevision}
 use Rattle.qf_format.proofs.ReadLemmas.{none_around}
 use Rattle.qf_format.proofs.SignedLemmas.{are_digits}
 use Rattle.qf_format.proofs.StatusLemmas.{IsStatusByte, status_in}

@@ -2,6 +2,7 @@
 use Rattle.std.specs.Prelude.{◌≡◌, ◌≢◌, ℕ, ◌+◌, ◌-◌, ◌<◌, ◌≤◌, ◌^◌, Bool, true, false, ◌∷◌, ◌==◌, if◌then◌else◌, List, [], ◌++◌, Option, None, Some, IfSome, All, FitsSigned, Result, Ok, Err, codes, length, slice_index, ◌||◌}
 use Rattle.std.specs.Int.{w64, w128}
 use Rattle.std.specs.Fmt.{decimal, signed_decimal}
+use Rattle.mail_base.specs.Texts.{IsBlank, IsHeader, IsLine, IsBracketed}
 use Rattle.mail_base.specs.declared.message.Marks.{Marks}
 use Rattle.std.specs.List.{flat_map}
 use Rattle.mail_base.specs.declared.control.Control.{Control}
@@ -15,7 +16,7 @@ use Rattle.qf_format.specs.declared.part.Order.{Order}
 use Rattle.qf_format.specs.declared.part.Envelope.{Envelope}
 use Rattle.mail_base.specs.Names.{id_text}
 use Rattle.qf_format.specs.Spelling.{eight_line, flags, header_lines, kept_lines, line, marks_line, order_lines, parent_line, place_lines, row_lines, sender_lines, spelled}
-use Rattle.qf_format.specs.Valid.{IsBlank, IsHeader, IsLine, IsParent, IsRevision, IsRow, IsSender, IsValid}
+use Rattle.qf_format.specs.Valid.{IsParent, IsRevision, IsRow, IsValid}
 
 -- a letter stands first
 abbrev pub At : ℕ → List ℕ → Type 0
@@ -59,7 +60,7 @@ unfoldable pub envelope_text : Envelope → List ℕ
 envelope_text e = marks_line e.marks ++ eight_line e.eight ++ line (codes "S" ++ e.sender)
 
 pub record IsEnvelope (e : Envelope) : Type 0 where
-  pub sender_form : IsSender e.sender
+  pub sender_form : IsBracketed e.sender
 
 -- a note behind a space, if there is one
 abbrev pub queued_text : Option (List ℕ) → List ℕ

@@ -1,13 +1,13 @@
 ghost use Rattle.std.specs.Prelude.{◌≡◌, ◌+◌, ◌<◌, ◌++◌, ◌↔◌, IsTrue, ℕ, Option, None, Some, drop, length, slice_index, take};
 ghost use Rattle.std.specs.List.{flat_map};
+ghost use Rattle.mail_base.specs.Texts.{IsHeader};
 ghost use Rattle.qf_format.specs.Reading.{Reads};
 ghost use Rattle.qf_format.specs.Parts.{At, EachHeader, NotBlank, IsHeaderEnd};
 ghost use Rattle.qf_format.specs.Spelling.{header_lines};
-ghost use Rattle.qf_format.specs.Valid.{IsBlank, IsHeader};
 
 use crate::field::{after_tag, byte_at, first_byte, split_end};
 use crate::stop::Stop;
-use mail_base::{Seq, Text};
+use mail_base::{Seq, Text, is_blank};
 use std::alloc::Global;
 
 // The headers at the front, and what comes after them.
@@ -49,10 +49,4 @@ fn header_end(text: &[u8]) -> Option<usize>
         }
     }
     None
-}
-
-fn is_blank(byte: u8) -> bool
-    ensures { IsTrue result ↔ IsBlank byte }
-{
-    byte == b' ' || byte == b'\t'
 }

@@ -1,10 +1,11 @@
 ghost use Rattle.std.specs.Prelude.{◌≡◌, ◌<◌, ◌↔◌, ◌++◌, IsTrue, Bool, List, ℕ, IfSome, codes, FitsSigned};
 ghost use Rattle.std.specs.Int.{w64, w128};
 ghost use Rattle.std.specs.Fmt.{decimal, signed_decimal};
+ghost use Rattle.mail_base.specs.Texts.{IsBracketed};
 ghost use Rattle.qf_format.specs.Reading.{Reads, Spells, Anything};
 ghost use Rattle.qf_format.specs.Parts.{At, NotAt, HasBrackets, IsMarked, IsSmall, AnyMarks, AnyBool, IsParentOrNone, letter_first, parent_text};
 ghost use Rattle.qf_format.specs.Spelling.{eight_line, letters, line, marks_line, parent_line};
-ghost use Rattle.qf_format.specs.Valid.{IsParent, IsRevision, IsSender};
+ghost use Rattle.qf_format.specs.Valid.{IsParent, IsRevision};
 
 use crate::field::{after_tag, byte_at, field, first_byte, split_end, text_field};
 use crate::number::{class_of, id_of, priority_of, revision_of, small_of};
@@ -143,7 +144,7 @@ pub(crate) fn eight_of(bytes: &[u8]) -> Result<(bool, &[u8]), Stop>
 }
 
 pub(crate) fn sender_of(alloc: Global, bytes: &[u8]) -> Result<(Text, &[u8]), Stop>
-    ensures { Reads (λ r. r.0) (λ r. r.1.now) (λ text. line (codes "S" ++ text)) IsSender Anything bytes.now result }
+    ensures { Reads (λ r. r.0) (λ r. r.1.now) (λ text. line (codes "S" ++ text)) IsBracketed Anything bytes.now result }
 {
     let (sender, rest) = text_field(alloc, b"S", bytes)?;
     if !has_brackets(sender.bytes()) {

@@ -1,10 +1,11 @@
 ghost use Rattle.std.specs.Prelude.{◌≡◌, ◌↔◌, IsTrue, ◌⊎◌, ◌-◌, ◌<◌, ◌≤◌, ◌^◌, ℕ, Some, MatchOption, FitsSigned, length, negsuc};
 ghost use Rattle.std.specs.Int.{w64, w128};
 ghost use Rattle.std.specs.Fmt.{decimal, signed_decimal};
+ghost use Rattle.mail_base.specs.Limits.{IsId};
 ghost use Rattle.mail_base.specs.Names.{digits, id_text};
 ghost use Rattle.qf_format.specs.Reading.{Spells};
 ghost use Rattle.qf_format.specs.Parts.{IsPlain, IsSmall};
-ghost use Rattle.qf_format.specs.Valid.{IsId, IsRevision};
+ghost use Rattle.qf_format.specs.Valid.{IsRevision};
 
 use crate::field::{after_tag, first_byte};
 use mail_base::{Id, Kind};

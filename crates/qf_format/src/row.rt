@@ -1,18 +1,16 @@
 ghost use Rattle.std.specs.Prelude.{◌≡◌, ◌++◌, ◌<◌, Bool, List, ℕ, codes, length};
 ghost use Rattle.std.specs.List.{flat_map};
+ghost use Rattle.mail_base.specs.Texts.{IsAddress};
 ghost use Rattle.qf_format.specs.Reading.{Reads, Anything};
 ghost use Rattle.qf_format.specs.Parts.{NotAt, EachRow, address_line};
 ghost use Rattle.qf_format.specs.Spelling.{line, row_lines, state_text, flags};
-ghost use Rattle.qf_format.specs.Valid.{AreRows, IsAddress, IsRow, IsState};
+ghost use Rattle.qf_format.specs.Valid.{AreRows, IsRow, IsState};
 
 use crate::field::{after_tag, field, first_byte, text_field};
 use crate::state::state_of;
 use crate::stop::Stop;
-use mail_base::{Row, Seq, State, Text};
+use mail_base::{MOST_ROWS, Row, Seq, State, Text};
 use std::alloc::Global;
-
-// The most rows of an entry.
-const MOST_ROWS: usize = 10_000;
 
 // The rows at the front, and what comes after them.
 pub(crate) fn rows_of(alloc: Global, bytes: &[u8]) -> Result<(Seq<Row>, &[u8]), Stop>
