@@ -1,14 +1,16 @@
 -- One reply alone says that a message is stored.
-use Rattle.std.proofs.Common.{◌≡◌, ℕ, ◌≤◌, false, List, [], ◌∷◌, ◌++◌, Option, Some, refl, sym, ap, subst, ◌∙◌, codes, append_assoc}
+use Rattle.std.proofs.Common.{◌≡◌, ℕ, false, List, [], ◌∷◌, ◌++◌, Option, Some, refl, sym, ap, subst, ◌∙◌, codes, append_assoc}
 use Rattle.std.specs.Prelude.{IfSome, nat_eq, slice_index}
 use Rattle.std.proofs.lemmas.Bool.{false≢true, eq-eqb}
 use Rattle.std.proofs.lemmas.List.{append_cancel_left, append_cancel_right, same_from_push}
+use Rattle.mail_base.specs.Limits.{IsId}
 use Rattle.mail_base.specs.Names.{id_text}
+use Rattle.mail_base.specs.Texts.{crlf}
 use Rattle.mail_base.specs.declared.id.Kind.TheVariants.{Qf}
 use Rattle.mail_base.proofs.FileNames.{same_number}
 use Rattle.smtp_receive.specs.declared.reply.Reply.{Reply}
 use Rattle.smtp_receive.specs.declared.reply.Reply.TheVariants.{LineTooLong, BadByte, Unrecognized, ArgumentNeeded, NoArgument, SenderGiven, NeedMail, NeedRcpt, SyntaxError, PathTooLong, ParameterNotKnown, UserRequired, TooManyRecipients, SenderOk, RecipientOk, EnterMail, MessageTooLarge, HeaderTooLarge}
-use Rattle.smtp_receive.specs.Replies.{crlf, text_of, greeting_text, hello_text, closing_text, stored_text, out_of_memory_text, too_many_sessions_text}
+use Rattle.smtp_receive.specs.Replies.{text_of, greeting_text, hello_text, closing_text, stored_text, out_of_memory_text, too_many_sessions_text}
 use Rattle.smtp_receive.specs.Dialogue.{Answer, Says, Greets, Closes, Gives, Takes, Lacks, said_by, did_of}
 use Rattle.smtp_receive.specs.Finals.{text_told, IsFinal}
 
@@ -93,7 +95,7 @@ did_final host Lacks = tt
 pub told_final : (host : List ℕ) (answer : Answer) (text : List ℕ) → text_told (did_of host answer) ≡ Some text → IsFinal text → ⊥
 told_final host answer text is = subst NotFinal is (did_final host answer)
 
-pub same_id : (one other : ℕ) → one ≤ 999_999_999_999 → other ≤ 999_999_999_999 → stored_text one ≡ stored_text other → one ≡ other
+pub same_id : (one other : ℕ) → IsId one → IsId other → stored_text one ≡ stored_text other → one ≡ other
 same_id one other one_fits other_fits same =
     let back : List ℕ = codes " Message accepted for delivery" in
     let front : List ℕ = codes "250 2.0.0 " in

@@ -6,9 +6,11 @@ use Rattle.std.specs.List.{list_any, list_all, AllByRecursion, prefix_len, suffi
 use Rattle.std.proofs.lemmas.Bool.{false≢true, cond_both, or_parts, or_cases, and_parts, eqb-true, ltb-false}
 use Rattle.std.proofs.lemmas.List.{get_or_push, length_push}
 use Rattle.std.proofs.lemmas.List.Elements.{All-nil, All-cons, All-head, All-tail, All-push, All-take, All-drop, All-weaker, All-from_recursion}
+use Rattle.mail_base.specs.Limits.{most_message}
+use Rattle.mail_base.specs.Texts.{is_blank, IsLine, IsBracketed, IsBlank, IsHeader, crlf}
 use Rattle.smtp_lines.specs.declared.line.Line.{Line}
 use Rattle.smtp_lines.specs.declared.line.Line.TheVariants.{Command, TooLong, Data as DataLine, DataEnd}
-use Rattle.smtp_lines.specs.Stream.{is_blank, verb_of}
+use Rattle.smtp_lines.specs.Stream.{verb_of}
 use Rattle.mail_base.specs.declared.message.Kept.{Kept}
 use Rattle.smtp_receive.specs.declared.received.Received.{Received}
 use Rattle.smtp_receive.specs.declared.reply.Reply.TheVariants.{SenderOk, RecipientOk, MessageTooLarge, HeaderTooLarge}
@@ -19,11 +21,10 @@ use Rattle.smtp_receive.specs.declared.command.LineFault.TheVariants.{BadByte, A
 use Rattle.smtp_receive.specs.PathEnds.{path_end, parts_at, angle_parts}
 use Rattle.smtp_receive.specs.Paths.{Parts}
 use Rattle.smtp_receive.specs.Commands.{Order, Greet, From, To, Begin, End, order_of, order_by, ordered, lone_order, is_bad_byte, argument_of, without_blanks, path_after, path_parts, word_end, checked, without_route, has_route, is_colon, is_parted, is_too_long, is_nothing, verb_named}
-use Rattle.smtp_receive.specs.Replies.{crlf}
 use Rattle.smtp_receive.specs.Splits.{is_plain, is_name_byte, is_header, is_header_by, is_continuation, belongs, block_of, goes_on, joined, headers_in, headers_of, body_of, size_of, is_too_large, is_large_block}
 use Rattle.smtp_receive.specs.Dialogue.{Answer, Says, Greets, Closes, Gives, Takes, Lacks, Exchange, Heard, bracketed, ends, sender_by, recipient_by, helo_by, sender_told, recipient_told, helo_told, latest, sender_in, recipient_in, lines_in, helo_in, path_from, path_to, argument_in, asked, order_in, or_else, command_answer, message_answer, end_answer, answer_to, exchanges}
 use Rattle.smtp_receive.specs.Sessions.{answer_of}
-use Rattle.smtp_receive.specs.Forms.{IsLine, IsBracketed, IsBlank, IsHeader, IsFormed}
+use Rattle.smtp_receive.specs.Forms.{IsFormed}
 
 abbrev NotLf : ℕ → Type 0
 NotLf b = b ≡ 10 → ⊥
@@ -128,7 +129,6 @@ asked_line DataEnd = tt
 brackets_form : (path : List ℕ) → IsLine path → IsBracketed (bracketed path)
 brackets_form path line = record {
   line = All-push NotLf (60 ∷ path) 62 (All-cons NotLf 60 path (λ is. absurd (omega arith)) line) (λ is. absurd (omega arith));
-  some = omega arith;
   opens = refl;
   closes = get_or_push (60 ∷ path) 62 0 (length (bracketed path) - 1) (omega (arith, length_push (60 ∷ path) 62));
 }
@@ -268,9 +268,9 @@ headers_form lines =
 
 -- ---- messages
 
-small_size : (size : ℕ) → is_too_large size ≡ false → size ≤ 16777216
+small_size : (size : ℕ) → is_too_large size ≡ false → size ≤ most_message
 unfolding is_too_large
-small_size size small = ltb-false 16777216 size small
+small_size size small = ltb-false most_message size small
 
 -- the message of an answer, if it gives one, is formed
 abbrev AnswerFormed : List ℕ → Answer → Type 0

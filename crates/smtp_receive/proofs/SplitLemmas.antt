@@ -4,7 +4,8 @@ use Rattle.std.specs.List.{flat_map}
 use Rattle.std.proofs.lemmas.Bool.{cond-true, cond-false, false≢true, cases_Bool, cases_lt, eqb-true, ltb-false, lt-ltb, le-ltb}
 use Rattle.std.proofs.lemmas.List.Concat.{flat_map-append}
 use Rattle.std.proofs.lemmas.List.Sums.{sum_by_push}
-use Rattle.smtp_receive.specs.Replies.{crlf}
+use Rattle.mail_base.specs.Limits.{most_message, most_headers}
+use Rattle.mail_base.specs.Texts.{crlf}
 use Rattle.smtp_receive.specs.Splits.{belongs, block_of, rest_of, is_continuation, goes_on, joined, headers_in, without_empty, with_end, body_of, size_of, is_too_large, is_large_block}
 use Rattle.smtp_receive.specs.declared.gathered.Gathered.{Gathered}
 use Rattle.smtp_receive.specs.Sessions.{counted, is_some_line, onto_last, header_added, AddsHeader, IsSplit, Gathers}
@@ -178,31 +179,31 @@ body_first lines b line none unmet =
 pub earlier_size : (size length : ℕ) → is_too_large (counted (size + length + 2)) ≡ false → is_too_large size ≡ false
 unfolding is_too_large counted
 earlier_size size length h =
-    let most = ltb-false 16777216 (min (size + length + 2) 16777217) h in
-    let le : size ≤ 16777216 = omega arith in
-    le-ltb 16777216 size le
+    let most = ltb-false most_message (min (size + length + 2) (most_message + 1)) h in
+    let le : size ≤ most_message = omega arith in
+    le-ltb most_message size le
 
 pub exact_size : (size : ℕ) → is_too_large (counted size) ≡ false → counted size ≡ size
 unfolding is_too_large counted
 exact_size size h =
-    let most = ltb-false 16777216 (min size 16777217) h in
+    let most = ltb-false most_message (min size (most_message + 1)) h in
     omega arith
 
 pub same_too_large : (size : ℕ) → is_too_large (counted size) ≡ is_too_large size
 unfolding is_too_large counted
 same_too_large size =
     ⊎_elim
-    (λ (above : 16777216 < size). lt-ltb 16777216 (min size 16777217) (omega arith) ∙ sym (lt-ltb 16777216 size above))
-    (λ (within : size ≤ 16777216). le-ltb 16777216 (min size 16777217) (omega arith) ∙ sym (le-ltb 16777216 size within))
-    (cases_lt 16777216 size)
+    (λ (above : most_message < size). lt-ltb most_message (min size (most_message + 1)) (omega arith) ∙ sym (lt-ltb most_message size above))
+    (λ (within : size ≤ most_message). le-ltb most_message (min size (most_message + 1)) (omega arith) ∙ sym (le-ltb most_message size within))
+    (cases_lt most_message size)
 
 pub same_large_block : (size : ℕ) → is_large_block (counted size) ≡ is_large_block size
-unfolding is_large_block counted
+unfolding is_large_block counted most_message most_headers
 same_large_block size =
     ⊎_elim
-    (λ (above : 65536 < size). lt-ltb 65536 (min size 16777217) (omega arith) ∙ sym (lt-ltb 65536 size above))
-    (λ (within : size ≤ 65536). le-ltb 65536 (min size 16777217) (omega arith) ∙ sym (le-ltb 65536 size within))
-    (cases_lt 65536 size)
+    (λ (above : most_headers < size). lt-ltb most_headers (min size (most_message + 1)) (omega arith) ∙ sym (lt-ltb most_headers size above))
+    (λ (within : size ≤ most_headers). le-ltb most_headers (min size (most_message + 1)) (omega arith) ∙ sym (le-ltb most_headers size within))
+    (cases_lt most_headers size)
 
 -- ---- what is kept, with one line more
 
@@ -210,7 +211,7 @@ moved_split : (g m : Gathered) (lines : List (List ℕ)) → m ≡ record g { si
 moved_split g m lines same is = subst (λ x. IsSplit x lines) (sym same) (record { headers = is.headers; has_header = is.has_header; block = is.block; body = is.body; has_body = is.has_body })
 
 pub gathers_none : (g : Gathered) → g.size ≡ 0 → g.block ≡ 0 → g.headers.items ≡ [] → g.has_header ≡ false → g.body ≡ [] → g.has_body ≡ false → Gathers g []
-unfolding counted
+unfolding counted most_message
 gathers_none g size block headers has_header body has_body = record { size = size; split = λ small. record { headers = headers; has_header = has_header; block = block; body = body; has_body = has_body } }
 
 pub gathers_large : (g n : Gathered) (line : List ℕ) (lines : List (List ℕ)) → n.size ≡ counted (g.size + length line + 2) → is_too_large n.size ≡ true → Gathers g lines → Gathers n (lines ++ line ∷ [])

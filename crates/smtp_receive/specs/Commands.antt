@@ -3,7 +3,9 @@ use denote.Ref.{Bor}
 use Rattle.std.specs.Prelude.{ℕ, ◌+◌, ◌-◌, slice_index, ◌==◌, nat_lt, Bool, true, false, not, ◌||◌, ◌&&◌, List, [], ◌∷◌, length, take, drop, Option, Some, None, Result, Ok, Err, if◌then◌else◌, codes}
 use Rattle.std.specs.List.{list_any, prefix_len, position_or_len, suffix_len}
 use Rattle.std.specs.Str.{str_eq_ignore_ascii_case}
-use Rattle.smtp_lines.specs.Stream.{is_blank, verb_of}
+use Rattle.mail_base.specs.Limits.{most_path, most_local_part}
+use Rattle.mail_base.specs.Texts.{is_blank}
+use Rattle.smtp_lines.specs.Stream.{verb_of}
 use Rattle.smtp_receive.specs.declared.command.Verb.{Verb}
 use Rattle.smtp_receive.specs.declared.command.Verb.TheVariants.{Helo, Mail, Rcpt, Data, Quit}
 use Rattle.smtp_receive.specs.declared.command.Command.{Command}
@@ -81,9 +83,9 @@ last_at_end path = length path - suffix_len is_not_at path
 abbrev pub local_part : List ℕ → List ℕ
 local_part path = if last_at_end path == 0 then path else take (last_at_end path - 1) path
 
--- a path has at most 256 bytes with its angles, and its local part 64; so its domain is never above 255
+-- a path with its angles, or its local part, is above its limit; where neither is, its domain isn't either
 abbrev pub is_too_long : List ℕ → Bool
-is_too_long path = nat_lt 254 (length path) || nat_lt 64 (length (local_part path))
+is_too_long path = nat_lt most_path (length path + 2) || nat_lt most_local_part (length (local_part path))
 
 -- nothing, or a blank and more
 abbrev pub is_parted : List ℕ → Bool

@@ -1,11 +1,10 @@
 -- The texts of the replies (RFC 5321 section 4.2; their words and enhanced statuses, RFC 3463, are our own).
-use Rattle.std.specs.Prelude.{ℕ, List, [], ◌∷◌, ◌++◌, take, codes}
+use Rattle.std.specs.Prelude.{ℕ, List, ◌∷◌, ◌++◌, take, codes}
+use Rattle.mail_base.specs.Limits.{most_domain}
 use Rattle.mail_base.specs.Names.{id_text}
+use Rattle.mail_base.specs.Texts.{crlf}
 use Rattle.smtp_receive.specs.declared.reply.Reply.{Reply}
 use Rattle.smtp_receive.specs.declared.reply.Reply.TheVariants.{LineTooLong, BadByte, Unrecognized, ArgumentNeeded, NoArgument, SenderGiven, NeedMail, NeedRcpt, SyntaxError, PathTooLong, ParameterNotKnown, UserRequired, TooManyRecipients, SenderOk, RecipientOk, EnterMail, MessageTooLarge, HeaderTooLarge}
-
-abbrev pub crlf : List ℕ
-crlf = 13 ∷ 10 ∷ []
 
 -- the words of a reply that is always the same
 abbrev pub words_of : Reply → List ℕ
@@ -32,9 +31,9 @@ words_of HeaderTooLarge = codes "552 5.6.0 Header too large"
 abbrev pub text_of : Reply → List ℕ
 text_of reply = words_of reply ++ crlf
 
--- the host as replies show it
+-- the host as replies show it, no longer than a domain may be
 unfoldable pub shown_host : List ℕ → List ℕ
-shown_host host = take 255 host
+shown_host host = take most_domain host
 
 abbrev pub greeting_text : List ℕ → List ℕ
 greeting_text host = codes "220 " ++ host ++ codes " ESMTP ready" ++ crlf

@@ -1,17 +1,19 @@
 -- What a session keeps of its lines, and what it stands for.
 use Rattle.std.specs.Prelude.{◌≡◌, ℕ, ◌+◌, length, Bool, true, false, not, ◌&&◌, is_some, List, [], ◌∷◌, ◌++◌, Option, Some, None, min, reverse, if◌then◌else◌}
+use Rattle.mail_base.specs.Limits.{most_message}
+use Rattle.mail_base.specs.Texts.{crlf}
 use Rattle.smtp_lines.specs.declared.line.Line.{Line}
 use Rattle.smtp_receive.specs.declared.received.Did.{Did}
 use Rattle.smtp_receive.specs.declared.gathered.Gathered.{Gathered}
 use Rattle.smtp_receive.specs.declared.session.Session.{Session}
 use Rattle.smtp_receive.specs.Commands.{is_nothing}
-use Rattle.smtp_receive.specs.Replies.{crlf, shown_host}
+use Rattle.smtp_receive.specs.Replies.{shown_host}
 use Rattle.smtp_receive.specs.Splits.{headers_of, body_of, block_of, rest_of, size_of, is_too_large, is_continuation}
 use Rattle.smtp_receive.specs.Dialogue.{Heard, Exchange, Answer, exchanges, answer_to, did_of, sender_in, recipient_in, lines_in, helo_in}
 
 -- a size that counts no further once it is too large
 unfoldable pub counted : ℕ → ℕ
-counted size = min size 16777217
+counted size = min size (most_message + 1)
 
 abbrev pub is_some_line : List (List ℕ) → Bool
 is_some_line [] = false

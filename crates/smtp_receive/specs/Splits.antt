@@ -1,8 +1,8 @@
 -- The headers and the body of a message (RFC 5322 sections 2.1 and 2.2).
 use Rattle.std.specs.Prelude.{ℕ, ◌+◌, slice_index, ◌==◌, nat_lt, nat_le, Bool, true, false, not, ◌||◌, ◌&&◌, List, [], ◌∷◌, ◌++◌, length, sum_by, if◌then◌else◌}
 use Rattle.std.specs.List.{list_all, prefix_len, flat_map}
-use Rattle.smtp_lines.specs.Stream.{is_blank}
-use Rattle.smtp_receive.specs.Replies.{crlf}
+use Rattle.mail_base.specs.Limits.{most_message, most_headers}
+use Rattle.mail_base.specs.Texts.{is_blank, crlf}
 
 -- a byte of a header's name
 abbrev pub is_name_byte : ℕ → Bool
@@ -74,10 +74,10 @@ body_of lines = flat_map with_end (without_empty (rest_of false lines))
 abbrev pub size_of : List (List ℕ) → ℕ
 size_of lines = sum_by (λ line. length line + 2) lines
 
--- a message has at most 16,777,216 bytes
+-- a message is above its limit
 unfoldable pub is_too_large : ℕ → Bool
-is_too_large size = nat_lt 16777216 size
+is_too_large size = nat_lt most_message size
 
--- a header block has at most 65,536 bytes
+-- a header block is above its limit
 unfoldable pub is_large_block : ℕ → Bool
-is_large_block size = nat_lt 65536 size
+is_large_block size = nat_lt most_headers size

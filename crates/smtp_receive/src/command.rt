@@ -1,10 +1,12 @@
 ghost use Rattle.std.specs.Prelude.{◌≡◌, ◌≤◌, ◌-◌, Some, length};
 ghost use Rattle.std.specs.List.{prefix_len, suffix_len, list_any};
-ghost use Rattle.smtp_lines.specs.Stream.{is_blank, verb_of};
+ghost use Rattle.mail_base.specs.Texts.{is_blank};
+ghost use Rattle.smtp_lines.specs.Stream.{verb_of};
 ghost use Rattle.smtp_receive.specs.Commands as spec;
 
-use crate::path::{is_blank, is_too_long, path_parts, without_route, word_end};
+use crate::path::{is_too_long, path_parts, without_route, word_end};
 use bstr::ByteSlice;
+use mail_base::is_blank;
 
 /// A command without its arguments.
 #[derive(Clone, Copy)]

@@ -1,16 +1,16 @@
 ghost use Rattle.std.specs.Prelude.{◌≡◌, ◌+◌, ◌++◌, ◌∷◌, [], List, ℕ, Bool, length, true, false, IfOk, OnOk};
-ghost use Rattle.smtp_receive.specs.Replies.{crlf};
+ghost use Rattle.mail_base.specs.Texts.{crlf};
 ghost use Rattle.smtp_receive.specs.Splits as spec;
 ghost use Rattle.smtp_receive.specs.Sessions.{counted, header_added, onto_last, AddsHeader, Gathers, IsSplit};
 
 use crate::header::{belongs, is_continuation};
-use mail_base::{NoMemory, Text};
+use mail_base::{MOST_HEADERS, MOST_MESSAGE, NoMemory, Text};
 use std::alloc::Global;
 
 /// The lines of a message so far, split into headers and body. Once they are too large no more is kept.
 #[derive(Drop)]
 pub(crate) struct Gathered {
-    /// The bytes of the lines with CR LF, or 16,777,217 where there are more.
+    /// The bytes of the lines with CR LF, or one more than [`MOST_MESSAGE`] where there are more.
     pub(crate) size: u64,
     /// The bytes of the header block's lines with CR LF.
     pub(crate) block: u64,
@@ -127,25 +127,25 @@ fn put(headers: &mut Vec<Text>, header: Text) -> Result<(), NoMemory>
 }
 
 /// A size with a line more and its end. Above the limit it counts no further.
-#[tactic(auto, unfolding(crate::specs::Sessions::counted))]
+#[tactic(auto, unfolding(crate::specs::Sessions::counted, mail_base::specs::Limits::most_message))]
 fn size_with(size: u64, length: usize) -> u64
     ensures { result ≡ counted (size + length + 2) }
 {
     size.saturating_add(length as u64)
         .saturating_add(2)
-        .min(16_777_217)
+        .min(MOST_MESSAGE + 1)
 }
 
-#[tactic(auto, unfolding(crate::specs::Splits::is_too_large))]
+#[tactic(auto, unfolding(crate::specs::Splits::is_too_large, mail_base::specs::Limits::most_message))]
 pub(crate) fn is_too_large(size: u64) -> bool
     ensures { result ≡ spec.is_too_large size }
 {
-    size > 16_777_216
+    size > MOST_MESSAGE
 }
 
-#[tactic(auto, unfolding(crate::specs::Splits::is_large_block))]
+#[tactic(auto, unfolding(crate::specs::Splits::is_large_block, mail_base::specs::Limits::most_headers))]
 pub(crate) fn is_large_block(size: u64) -> bool
     ensures { result ≡ spec.is_large_block size }
 {
-    size > 65_536
+    size > MOST_HEADERS
 }

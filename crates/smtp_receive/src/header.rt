@@ -2,8 +2,8 @@ ghost use Rattle.std.specs.Prelude.{◌≡◌, ◌≤◌, ◌&&◌, nat_lt, leng
 ghost use Rattle.std.specs.List.{list_all};
 ghost use Rattle.smtp_receive.specs.Splits as spec;
 
-use crate::path::is_blank;
 use bstr::ByteSlice;
+use mail_base::is_blank;
 
 /// Whether a line stands in the header block, by whether that has begun.
 pub(crate) fn belongs(begun: bool, line: &[u8]) -> bool

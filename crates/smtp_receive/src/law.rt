@@ -1,4 +1,5 @@
 ghost use Rattle.std.specs.Prelude.{◌≡◌, ◌≤◌, ◌++◌, ◌∷◌, [], List, ℕ, Some, reverse};
+ghost use Rattle.mail_base.specs.Limits.{IsId};
 ghost use Rattle.smtp_lines.specs.declared.line.Line.{Line};
 ghost use Rattle.smtp_receive.specs.declared.received.Received.{Received};
 ghost use Rattle.smtp_receive.specs.Replies.{greeting_text, stored_text, out_of_memory_text, too_many_sessions_text};
@@ -30,6 +31,6 @@ pub fn no_other_reply_is_final()
 
 /// The reply to a message that is stored tells which it is.
 pub fn a_final_reply_tells_its_message()
-    ensures { (one other : ℕ) → one ≤ 999_999_999_999 → other ≤ 999_999_999_999
+    ensures { (one other : ℕ) → IsId one → IsId other
         → stored_text one ≡ stored_text other → one ≡ other }
 {}

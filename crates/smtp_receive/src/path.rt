@@ -1,21 +1,15 @@
 ghost use Rattle.std.specs.Prelude.{◌≡◌, ◌≤◌, ◌<◌, length, IfSome, option_map};
-ghost use Rattle.smtp_lines.specs.Stream.{is_blank};
 ghost use Rattle.smtp_receive.specs.Commands as spec;
 ghost use Rattle.smtp_receive.specs.PathEnds as ends;
 
 use bstr::ByteSlice;
+use mail_base::{MOST_LOCAL_PART, MOST_PATH};
 
 /// A path, and what is after it.
 #[derive(Clone, Copy)]
 pub(crate) struct Parts<'a> {
     pub(crate) front: &'a [u8],
     pub(crate) back: &'a [u8],
-}
-
-pub(crate) fn is_blank(byte: u8) -> bool
-    ensures { result ≡ is_blank byte }
-{
-    byte == b' ' || byte == b'\t'
 }
 
 /// The path at the front of a text, without its angles, or `None` where it doesn't end.
@@ -101,11 +95,12 @@ pub(crate) fn without_route(path: &[u8]) -> &[u8]
     path
 }
 
-/// Whether the path or its local part is above its limit.
+/// Whether the path with its angles, or its local part, is above its limit.
+#[tactic(auto, unfolding(mail_base::specs::Limits::most_path, mail_base::specs::Limits::most_local_part))]
 pub(crate) fn is_too_long(path: &[u8]) -> bool
     ensures { result ≡ spec.is_too_long path.now }
 {
-    path.len() > 254 || local_part(path).len() > 64
+    path.len() + 2 > MOST_PATH || local_part(path).len() > MOST_LOCAL_PART
 }
 
 fn local_part(path: &[u8]) -> &[u8]

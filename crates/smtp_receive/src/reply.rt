@@ -1,5 +1,6 @@
 ghost use Rattle.std.specs.Prelude.{◌≡◌, ◌++◌, IfOk};
-ghost use Rattle.smtp_receive.specs.Replies.{crlf, words_of, text_of, out_of_memory_text, too_many_sessions_text};
+ghost use Rattle.mail_base.specs.Texts.{crlf};
+ghost use Rattle.smtp_receive.specs.Replies.{words_of, text_of, out_of_memory_text, too_many_sessions_text};
 
 use mail_base::{NoMemory, Text};
 use std::alloc::Global;

@@ -1,13 +1,14 @@
 ghost use Rattle.std.specs.Prelude.{◌≡◌, ◌∷◌, ◌++◌, [], List, ℕ, Bool, Option, Some, None, true, false, is_some, take, IfOk, OnOk, OnErr, codes};
+ghost use Rattle.mail_base.specs.Texts.{crlf};
 ghost use Rattle.smtp_receive.specs.Dialogue.{Heard, Exchange, did_of, said_by, answer_to, bracketed, with_text, mail_reply, rcpt_reply, to_reply, data_reply, path_reply, fault_reply, message_answer};
-ghost use Rattle.smtp_receive.specs.Replies.{crlf, text_of, hello_text, closing_text, greeting_text, stored_text, shown_host};
+ghost use Rattle.smtp_receive.specs.Replies.{text_of, hello_text, closing_text, greeting_text, stored_text, shown_host};
 ghost use Rattle.smtp_receive.specs.Sessions.{Stands, Remembers, Knows, Keeps, Goes, Gathers, Holds, BeginsMessage, answer_of, takes_recipient};
 
 use crate::command::{Command, LineFault, Verb, read_command};
 use crate::gathered::{Gathered, is_large_block, is_too_large};
 use crate::received::{Did, Received};
 use crate::reply::{Reply, host_text};
-use mail_base::{Id, Kept, Kind, NoMemory, Seq, Text, TryCopy};
+use mail_base::{Id, Kept, Kind, MOST_DOMAIN, NoMemory, Seq, Text, TryCopy};
 use smtp_lines::Line;
 use std::alloc::Global;
 
@@ -27,7 +28,7 @@ pub struct Session {
 }
 
 impl Session {
-    /// A session of which no line has come. In replies the host is cut at 255 bytes.
+    /// A session of which no line has come. In replies the host is cut at [`MOST_DOMAIN`] bytes.
     pub fn new(alloc: Global, host: &Text, peer: &Text) -> Result<Session, NoMemory>
         ensures { IfOk result (λ session. Stands session host.now peer.now []) }
     {
@@ -271,11 +272,11 @@ impl Session {
 }
 
 /// The host as replies show it.
-#[tactic(auto, unfolding(crate::specs::Replies::shown_host))]
+#[tactic(auto, unfolding(crate::specs::Replies::shown_host, mail_base::specs::Limits::most_domain))]
 fn shown(host: &[u8]) -> &[u8]
     ensures { result.now ≡ shown_host host.now }
 {
-    first(host, 255)
+    first(host, MOST_DOMAIN)
 }
 
 #[tactic(auto, using(crate::proofs::ReplyLemmas::take_short))]

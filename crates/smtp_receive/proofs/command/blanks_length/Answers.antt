@@ -1,6 +1,6 @@
 use Rattle.std.proofs.Common.{◌∙◌, arith}
 use Rattle.std.proofs.lemmas.List.Sums.{prefix_len-le-length}
-use Rattle.smtp_lines.specs.Stream.{is_blank}
+use Rattle.mail_base.specs.Texts.{is_blank}
 use Rattle.smtp_lines.proofs.SearchLemmas.{front_length, solid_found}
 use Rattle.smtp_receive.proofs.command.blanks_length.Goals as goal
 

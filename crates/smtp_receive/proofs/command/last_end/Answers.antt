@@ -1,5 +1,5 @@
 use Rattle.std.proofs.Common.{arith}
-use Rattle.smtp_lines.specs.Stream.{is_blank}
+use Rattle.mail_base.specs.Texts.{is_blank}
 use Rattle.smtp_lines.proofs.SearchLemmas.{back_some, back_none, solid_found}
 use Rattle.smtp_receive.proofs.command.last_end.Goals as goal
 
