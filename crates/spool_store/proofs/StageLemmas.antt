@@ -1,6 +1,7 @@
 -- The files after each call of a commit.
-use Rattle.std.proofs.Common.{◌≡◌, ◌≢◌, ◌⊎◌, inl, inr, ⊎_elim, ℕ, ◌≤◌, List, [], ◌∷◌, ◌++◌, Option, Some, None, true, false, true≢false, sym, ◌∙◌, ap, subst, arith, append_assoc}
+use Rattle.std.proofs.Common.{◌≡◌, ◌≢◌, ◌⊎◌, inl, inr, ⊎_elim, ℕ, List, [], ◌∷◌, ◌++◌, Option, Some, None, true, false, true≢false, sym, ◌∙◌, ap, subst, arith, append_assoc}
 use Rattle.std.specs.Prelude.{Contains, if◌then◌else◌}
+use Rattle.mail_base.specs.Limits.{IsId}
 use Rattle.mail_base.specs.declared.control.Draft.{Draft}
 use Rattle.mail_base.specs.declared.id.Kind.{Kind}
 use Rattle.mail_base.specs.declared.id.Kind.TheVariants.{Df, Qf, Tf}
@@ -78,7 +79,7 @@ published dirs files s f g fresh are r = λ p among.
 pub record IsTurn (dirs : List (List ℕ)) (table : Table) (id : ℕ) : Type 0 where
   pub sound : IsSound dirs table
   pub next : table.next ≡ id
-  pub within : id ≤ 999_999_999_999
+  pub within : IsId id
 
 fresh_at : (dirs : List (List ℕ)) (table : Table) (id : ℕ) → IsTurn dirs table id → (dir : List ℕ) (kind : Kind) → bytes_at (files_of table.entries) (dir, name_of kind id) ≡ None
 fresh_at dirs table id t dir kind = free_at table.entries table.next id kind dir t.sound.below (omega (arith, t.next)) t.within

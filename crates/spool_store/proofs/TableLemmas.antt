@@ -8,6 +8,7 @@ use Rattle.std.proofs.lemmas.Grind.{flat_map-append}
 use Rattle.std.specs.Cmp.{nat_cmp_is}
 use Rattle.std.proofs.lemmas.List.{map-append}
 use Rattle.std.proofs.lemmas.List.Elements.{All-nil, All-head, All-tail, All-push, All-cons, All-map}
+use Rattle.mail_base.specs.Limits.{IsId}
 use Rattle.mail_base.specs.declared.control.Draft.{Draft}
 use Rattle.mail_base.specs.declared.id.Kind.{Kind}
 use Rattle.mail_base.specs.declared.id.Kind.TheVariants.{Df, Qf}
@@ -23,11 +24,11 @@ pub applied_more : (table : Table) (some more : List Command) → applied table 
 applied_more table [] more = refl
 applied_more table (command ∷ some) more = applied_more (after table command) some more
 
-unlike : (kind other : Kind) (id : ℕ) (s : Stored) (next : ℕ) → s.entry.id < next → next ≤ id → id ≤ 999_999_999_999 → name_of kind id ≢ name_of other s.entry.id
+unlike : (kind other : Kind) (id : ℕ) (s : Stored) (next : ℕ) → s.entry.id < next → next ≤ id → IsId id → name_of kind id ≢ name_of other s.entry.id
 unlike kind other id s next lt free within = λ e. let same : id ≡ s.entry.id = same_number kind other id s.entry.id within (omega (arith, lt, free, within)) e in omega (arith, same, lt, free)
 
 -- a name of an id that is free is that of no file of the table
-pub free_at : (entries : List Stored) (next id : ℕ) (kind : Kind) (dir : List ℕ) → All (λ s. s.entry.id < next) entries → next ≤ id → id ≤ 999_999_999_999 → bytes_at (files_of entries) (dir, name_of kind id) ≡ None
+pub free_at : (entries : List Stored) (next id : ℕ) (kind : Kind) (dir : List ℕ) → All (λ s. s.entry.id < next) entries → next ≤ id → IsId id → bytes_at (files_of entries) (dir, name_of kind id) ≡ None
 free_at [] next id kind dir below free within = refl
 free_at (s ∷ entries) next id kind dir below free within =
     let lt : s.entry.id < next = All-head (λ (q : Stored). q.entry.id < next) s entries below in

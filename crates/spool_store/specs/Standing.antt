@@ -1,10 +1,10 @@
 -- The files that a table stands in (own; df, qf and tf are those of the Sendmail Installation and Operation Guide, "The queue").
 use Rattle.std.specs.Prelude.{◌≡◌, ◌⊎◌, ℕ, ◌≤◌, List, [], ◌∷◌, None, Contains, IsSome}
 use Rattle.std.specs.List.{flat_map}
+use Rattle.mail_base.specs.Limits.{IsId}
 use Rattle.mail_base.specs.Names.{name_of}
 use Rattle.mail_base.specs.declared.id.Kind.TheVariants.{Df, Qf, Tf}
 use Rattle.qf_format.specs.Spelling.{spelled}
-use Rattle.qf_format.specs.Valid.{IsId}
 use Rattle.spool_disk.specs.Disk.{Place, FileMap, bytes_at}
 use Rattle.spool_disk.specs.declared.file.File.{File}
 use Rattle.spool_store.specs.Tables.{Stored, Table, Command, after}

@@ -1,4 +1,5 @@
-ghost use Rattle.std.specs.Prelude.{◌≡◌, ◌≤◌, IfOk};
+ghost use Rattle.std.specs.Prelude.{◌≡◌, IfOk};
+ghost use Rattle.mail_base.specs.Limits.{IsId};
 ghost use Rattle.mail_base.specs.Names.{name_of};
 ghost use Rattle.mail_base.specs.declared.id.Kind.TheVariants.{Df as BodyKind, Qf as ControlKind, Tf as DraftKind};
 ghost use Rattle.qf_format.specs.Spelling.{spelled};
@@ -18,7 +19,7 @@ pub struct Change {
     pub(crate) df: Text,
     pub(crate) tf: Text,
     pub(crate) qf: Text,
-    pub ghost within: { id ≤ 999_999_999_999 },
+    pub ghost within: { IsId id },
     pub ghost printed: { control ≡ spelled draft.control },
     pub ghost df_is: { df ≡ name_of BodyKind id },
     pub ghost tf_is: { tf ≡ name_of DraftKind id },
@@ -43,7 +44,7 @@ impl Drop for Change {
 impl Change {
     // The change that commits a draft with its body under an id.
     pub(crate) fn of(alloc: Global, id: Id, draft: Draft, body: Text) -> Result<Change, NoMemory>
-        requires within { id ≤ 999_999_999_999 }
+        requires within { IsId id }
         requires valid { IsValid draft.control }
         ensures id { IfOk result (λ change. change.id ≡ id) }
         ensures draft { IfOk result (λ change. change.draft ≡ draft) }
@@ -64,7 +65,7 @@ impl Change {
     // The texts of an entry's commit: its control text, and the names of its body, its draft and its
     // control file.
     fn texts(alloc: Global, id: Id, control: &Control) -> Result<(Text, Text, Text, Text), NoMemory>
-        requires within { id ≤ 999_999_999_999 }
+        requires within { IsId id }
         requires valid { IsValid control.now }
         ensures { IfOk result (λ texts. texts ≡ (spelled control.now, name_of BodyKind id, name_of DraftKind id, name_of ControlKind id)) }
     {

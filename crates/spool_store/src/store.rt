@@ -51,7 +51,7 @@ impl Store {
     }
 
     /// Makes a new entry ready to be committed under the first free id. Nothing is written. `IdsSpent`
-    /// comes exactly where that id would pass 999,999,999,999.
+    /// comes exactly where that id would pass [`Id::MOST`].
     pub fn prepare(&self, draft: Draft, body: Text) -> Result<Change, StoreFault>
         requires new { draft.id ≡ None }
         requires place { Contains self.now.dirs draft.dir }
@@ -59,7 +59,7 @@ impl Store {
         ensures id { IfOk result (λ change. change.id ≡ self.now.next) }
         ensures draft { IfOk result (λ change. change.draft ≡ draft) }
         ensures body { IfOk result (λ change. change.body ≡ body) }
-        ensures spent { IsErrOf result Spent ↔ (999_999_999_999 < self.now.next) }
+        ensures spent { IsErrOf result Spent ↔ (Id.MOST < self.now.next) }
         ensures never { result ≢ Err Broke }
     {
         if self.next > Id::MOST {
