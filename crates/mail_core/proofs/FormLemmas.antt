@@ -1,12 +1,13 @@
 -- A message that was received has a control text.
 use Rattle.std.proofs.Common.{◌≡◌, ◌≢◌, ℕ, ◌+◌, ◌<◌, ◌≤◌, ◌^◌, List, [], ◌∷◌, sym, ap, subst, arith, ℤ, pos, ◌∙◌}
-use Rattle.std.specs.Prelude.{All, FitsSigned, codes}
+use Rattle.std.specs.Prelude.{All, FitsSigned, codes, length, slice_index}
 use Rattle.std.specs.Int.{w64, w128}
 use Rattle.std.proofs.lemmas.Int.{fits_signed_from_abs, to_z-of_z}
 use Rattle.std.proofs.Common.{◌+ℤ◌, to_z, of_z}
 use Rattle.std.proofs.lemmas.List.Elements.{All-nil, All-cons}
+use Rattle.mail_base.specs.Limits.{most_message, most_rows}
 use Rattle.mail_base.specs.declared.control.Row.{Row}
-use Rattle.qf_format.specs.Valid.{IsValid, IsRow, most_rows}
+use Rattle.qf_format.specs.Valid.{IsValid, IsRow}
 use Rattle.smtp_receive.specs.declared.received.Received.{Received}
 use Rattle.smtp_receive.specs.Forms.{IsFormed}
 use Rattle.mail_core.specs.Messages.{control_of, row_of, recipient_factor}
@@ -23,12 +24,17 @@ group_line = line_of 109 (113 ∷ 117 ∷ 101 ∷ 117 ∷ 101 ∷ []) (λ e. ome
 protocol_line : All NotLf (codes "SMTP")
 protocol_line = line_of 83 (77 ∷ 84 ∷ 80 ∷ []) (λ e. omega (arith, e)) (line_of 77 (84 ∷ 80 ∷ []) (λ e. omega (arith, e)) (line_of 84 (80 ∷ []) (λ e. omega (arith, e)) (line_of 80 ([]) (λ e. omega (arith, e)) (All-nil NotLf))))
 
-priority_fits : (size : ℕ) → size ≤ 16_777_216 → FitsSigned w128 (pos (size + recipient_factor))
-unfolding recipient_factor
+priority_fits : (size : ℕ) → size ≤ most_message → FitsSigned w128 (pos (size + recipient_factor))
+unfolding recipient_factor most_message
 priority_fits size le = fits_signed_from_abs w128 (pos (size + recipient_factor)) (omega (arith, le))
 
 class_fits : FitsSigned w64 (pos 0)
 class_fits = fits_signed_from_abs w64 (pos 0) (omega arith)
+
+-- a text with a first byte is not empty
+some_byte : (text : List ℕ) → slice_index text 0 ≡ 60 → 0 < length text
+some_byte [] e = absurd (omega (arith, e))
+some_byte (b ∷ text) e = omega arith
 
 pub valid_message : (moment : ℕ) (message : Received) (peer : List ℕ) → moment < 2 ^ 64 → All NotLf peer → IsFormed message peer → IsValid (control_of moment message)
 unfolding most_rows
@@ -41,7 +47,7 @@ valid_message moment message peer fits line form = record {
   tries_range = omega arith;
   priority_range = priority_fits message.size form.size_range;
   class_range = class_fits;
-  sender_form = record { line = form.sender_form.line; opens = form.sender_form.opens; closes = form.sender_form.closes };
+  sender_form = form.sender_form;
   kept_form = record {
     protocol_form = subst (All NotLf) (sym form.protocol_is) protocol_line;
     helo_form = form.helo_form;
@@ -50,7 +56,7 @@ valid_message moment message peer fits line form = record {
   rows_form = record {
     some = omega arith;
     few = omega arith;
-    each = All-cons IsRow (row_of message) [] (record { address_form = record { line = form.recipient_form.line; some = form.recipient_form.some }; state_form = tt }) (All-nil IsRow);
+    each = All-cons IsRow (row_of message) [] (record { address_form = record { line = form.recipient_form.line; some = some_byte message.recipient form.recipient_form.opens }; state_form = tt }) (All-nil IsRow);
   };
   headers_form = form.headers_form;
 }

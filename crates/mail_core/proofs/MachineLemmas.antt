@@ -1,9 +1,10 @@
 -- Each step of the machine does acts that lead from its table to the next, and says the final 250 of entries alone.
-use Rattle.std.proofs.Common.{◌≡◌, ℕ, ◌≤◌, List, [], ◌∷◌, ◌++◌, Bool, true, false, Option, Some, None, refl, sym, ◌∙◌, ap, subst, append_assoc}
+use Rattle.std.proofs.Common.{◌≡◌, ℕ, List, [], ◌∷◌, ◌++◌, Bool, true, false, Option, Some, None, refl, sym, ◌∙◌, ap, subst, append_assoc}
 use Rattle.std.specs.Prelude.{if◌then◌else◌, nat_le, length, fold, is_some}
 use Rattle.std.proofs.lemmas.List.{append-nil}
 use Rattle.std.proofs.lemmas.List.Elements.{Contains-push, Contains-append_left}
 use Rattle.std.proofs.lemmas.Bool.{ltb-false}
+use Rattle.mail_base.specs.Limits.{IsId}
 use Rattle.link_edge.specs.declared.event.Event.{Event}
 use Rattle.link_edge.specs.declared.event.Event.TheVariants.{Opens, Brings, Closes, Rests, Stops}
 use Rattle.smtp_lines.specs.declared.line.Line.{Line}
@@ -127,7 +128,7 @@ words did (Gives message) e = tt
 words did Passes e = tt
 words did Lacks e = tt
 
-unspent : (table : Table) → is_spent table ≡ false → table.next ≤ 999_999_999_999
+unspent : (table : Table) → is_spent table ≡ false → IsId table.next
 unfolding last_id
 unspent table e = ltb-false last_id table.next e
 

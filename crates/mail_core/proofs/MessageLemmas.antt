@@ -3,6 +3,7 @@ use Rattle.std.proofs.Common.{◌≡◌, ◌⊎◌, inl, inr, ℕ, ◌+◌, ◌<
 use Rattle.std.specs.Prelude.{Contains}
 use Rattle.std.proofs.lemmas.Bool.{cond-true, cond-false, false≢true, lt-ltb, le-ltb}
 use Rattle.mail_base.specs.Histories.{Gains, Rose}
+use Rattle.mail_base.specs.Limits.{IsId}
 use Rattle.mail_base.specs.declared.control.Draft.{Draft}
 use Rattle.mail_edge.specs.Seen.{ClockSeen}
 use Rattle.link_edge.specs.Heard.{Heard as FloorHeard}
@@ -31,13 +32,12 @@ use Rattle.mail_core.proofs.GoingLemmas.{IsSpoken, does_says, does_spent, does_f
 
 -- ---- ids
 
-pub spent_is : (table : Table) (next : ℕ) → next ≡ table.next → 999_999_999_999 < next → is_spent table ≡ true
-unfolding last_id
-spent_is table next e lt = lt-ltb 999_999_999_999 table.next (omega (arith, lt, e))
+pub spent_is : (table : Table) (next : ℕ) → next ≡ table.next → last_id < next → is_spent table ≡ true
+spent_is table next e lt = lt-ltb last_id table.next (omega (arith, lt, e))
 
-pub left_is : (table : Table) (next : ℕ) → next ≡ table.next → next ≤ 999_999_999_999 → is_spent table ≡ false
+pub left_is : (table : Table) (next : ℕ) → next ≡ table.next → IsId next → is_spent table ≡ false
 unfolding last_id
-left_is table next e le = le-ltb 999_999_999_999 table.next (omega (arith, le, e))
+left_is table next e le = le-ltb last_id table.next (omega (arith, le, e))
 
 -- ---- the store
 

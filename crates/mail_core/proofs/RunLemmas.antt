@@ -9,6 +9,7 @@ use Rattle.std.proofs.Math.Nat.{le_refl}
 use Rattle.std.proofs.lemmas.List.{append-nil, length_push}
 use Rattle.std.proofs.lemmas.List.Elements.{All-contains, Contains-push, Contains-push_cases, Contains-append_left, Contains-append_right, Contains-append_cases}
 use Rattle.mail_base.specs.Histories.{Gains}
+use Rattle.mail_base.specs.Limits.{IsId}
 use Rattle.mail_base.specs.Names.{name_of}
 use Rattle.mail_base.specs.declared.id.Kind.{Kind}
 use Rattle.mail_base.specs.declared.id.Kind.TheVariants.{Df, Qf, Tf}
@@ -138,12 +139,12 @@ sent_done (act ∷ acts) session text h = ⊎_elim
     (Contains-append_cases (heard act) (heard_of acts) (Sent session text) h)
 
 -- the entry of a final 250 is in the table after the acts
-acked_entry : (id session : ℕ) (table : Table) (acts : List Act) → id ≤ 999_999_999_999 → AreAcked table acts → Contains acts (Sends session (stored_text id) true) → HasEntry (table_after table acts) id
+acked_entry : (id session : ℕ) (table : Table) (acts : List Act) → IsId id → AreAcked table acts → Contains acts (Sends session (stored_text id) true) → HasEntry (table_after table acts) id
 acked_entry id session table [] within acked h = absurd (nothing_there (Sends session (stored_text id) true) h)
 acked_entry id session table (act ∷ acts) within acked h = ⊎_elim
     (λ first.
     let is : act ≡ Sends session (stored_text id) true = one_only act (Sends session (stored_text id) true) first in
-    let there : (i : ℕ) → i ≤ 999_999_999_999 → stored_text id ≡ stored_text i → HasEntry table i = subst (IsAcked table) is acked.0 in
+    let there : (i : ℕ) → IsId i → stored_text id ≡ stored_text i → HasEntry table i = subst (IsAcked table) is acked.0 in
     entry_stays id table (commands_of (act ∷ acts)) (there id within refl))
     (λ rest. subst (λ t. HasEntry t id) (sym (table_more table (act ∷ []) acts)) (acked_entry id session (table_after table (act ∷ [])) acts within acked.1 rest))
     (Contains-append_cases (act ∷ []) acts (Sends session (stored_text id) true) h)
@@ -175,7 +176,7 @@ first_below x (e ∷ entries) s h among = ⊎_elim
     (Contains-append_cases (e ∷ []) entries s among)
 
 -- names of ids of which one is below the other
-apart : (kind other : Kind) (high low : ℕ) → high ≤ 999_999_999_999 → low < high → name_of kind high ≢ name_of other low
+apart : (kind other : Kind) (high low : ℕ) → IsId high → low < high → name_of kind high ≢ name_of other low
 apart kind other high low within below = λ e. let same : high ≡ low = same_number kind other high low within (omega (arith, within, below)) e in omega (arith, same, below)
 
 kinds_apart : (id : ℕ) → name_of Df id ≢ name_of Qf id
@@ -193,19 +194,19 @@ there_first s entries = record {
       ∙ here (body_file s) (files_of entries) (place_of (body_file s)) (at_own (body_file s));
 }
 
-past_first : (e : Stored) (entries : List Stored) (kind : Kind) (dir : List ℕ) (id : ℕ) → id ≤ 999_999_999_999 → e.entry.id < id → bytes_at (files_of (e ∷ entries)) (dir, name_of kind id) ≡ bytes_at (files_of entries) (dir, name_of kind id)
+past_first : (e : Stored) (entries : List Stored) (kind : Kind) (dir : List ℕ) (id : ℕ) → IsId id → e.entry.id < id → bytes_at (files_of (e ∷ entries)) (dir, name_of kind id) ≡ bytes_at (files_of entries) (dir, name_of kind id)
 past_first e entries kind dir id within below =
     let place : Place = (dir, name_of kind id) in
     later (control_file e) (body_file e ∷ files_of entries) place (named_apart place (control_file e) (apart kind Qf id e.entry.id within below))
     ∙ later (body_file e) (files_of entries) place (named_apart place (body_file e) (apart kind Df id e.entry.id within below))
 
-there_behind : (e : Stored) (entries : List Stored) (s : Stored) → s.entry.id ≤ 999_999_999_999 → e.entry.id < s.entry.id → AreThere entries s → AreThere (e ∷ entries) s
+there_behind : (e : Stored) (entries : List Stored) (s : Stored) → IsId s.entry.id → e.entry.id < s.entry.id → AreThere entries s → AreThere (e ∷ entries) s
 there_behind e entries s within below h = record {
   control = past_first e entries Qf s.entry.dir s.entry.id within below ∙ h.control;
   body = past_first e entries Df s.entry.dir s.entry.id within below ∙ h.body;
 }
 
-are_there : (entries : List Stored) (s : Stored) → s.entry.id ≤ 999_999_999_999 → IsStrictlySortedBy nat_cmp (ids entries) → Contains entries s → AreThere entries s
+are_there : (entries : List Stored) (s : Stored) → IsId s.entry.id → IsStrictlySortedBy nat_cmp (ids entries) → Contains entries s → AreThere entries s
 unfolding IsStrictlySortedBy
 are_there [] s within sorted among = absurd (nothing_there s among)
 are_there (e ∷ entries) s within sorted among = ⊎_elim
@@ -214,21 +215,21 @@ are_there (e ∷ entries) s within sorted among = ⊎_elim
     (Contains-append_cases (e ∷ []) entries s among)
 
 -- an unfinished name is that of no control file, and of no body of an id that is taken
-taken_name : (kind : Kind) (next id : ℕ) → kind ≢ Tf → id ≤ 999_999_999_999 → id < next → IsUnfinished next (name_of kind id) → ⊥
+taken_name : (kind : Kind) (next id : ℕ) → kind ≢ Tf → IsId id → id < next → IsUnfinished next (name_of kind id) → ⊥
 taken_name kind next id not_draft within below u = ⊎_elim
     (λ body. let same : id ≡ u.id = same_number kind Df id u.id within u.within body in omega (arith, same, u.free, below))
     (λ draft. not_draft (same_kind kind Tf id u.id draft))
     u.is
 
-standing : (dirs : List (List ℕ)) (table : Table) (files : FileMap) (kind : Kind) (dir : List ℕ) (id : ℕ) → kind ≢ Tf → id ≤ 999_999_999_999 → id < table.next → StandsFor dirs table files → Contains dirs dir
+standing : (dirs : List (List ℕ)) (table : Table) (files : FileMap) (kind : Kind) (dir : List ℕ) (id : ℕ) → kind ≢ Tf → IsId id → id < table.next → StandsFor dirs table files → Contains dirs dir
     → bytes_at files (dir, name_of kind id) ≡ bytes_at (files_of table.entries) (dir, name_of kind id)
 standing dirs table files kind dir id not_draft within below stands among = ⊎_elim (λ e. e) (λ u. absurd (taken_name kind table.next id not_draft within below u)) (stands (dir, name_of kind id) among)
 
 -- an entry of a sound table is kept in the files that stand for it
-kept_by : (site : Site) (table : Table) (files : FileMap) (id : ℕ) → IsSound (dirs_of site) table → StandsFor (dirs_of site) table files → id ≤ 999_999_999_999 → HasEntry table id → IsKept site.dir table files id
+kept_by : (site : Site) (table : Table) (files : FileMap) (id : ℕ) → IsSound (dirs_of site) table → StandsFor (dirs_of site) table files → IsId id → HasEntry table id → IsKept site.dir table files id
 kept_by site table files id sound stands within h =
     let s : Stored = h.stored in
-    let fits : s.entry.id ≤ 999_999_999_999 = omega (arith, within, h.id_is) in
+    let fits : IsId s.entry.id = omega (arith, within, h.id_is) in
     let below : s.entry.id < table.next = All-contains (λ (q : Stored). q.entry.id < table.next) table.entries s sound.below h.among in
     let among : Contains (dirs_of site) s.entry.dir = All-contains (λ (q : Stored). Contains (dirs_of site) q.entry.dir) table.entries s sound.placed h.among in
     let dir : site.dir ≡ s.entry.dir = one_only site.dir s.entry.dir among in
@@ -264,14 +265,14 @@ not_last command session text = λ e. cc e
 
 -- where all went well
 kept_well : (site : Site) (table : Table) (acts : List Act) (files : FileMap) (session id : ℕ) → IsSound (dirs_of site) table → AreAcked table acts → AreOurs site acts → IsClean (dirs_of site) (table_after table acts) files
-    → id ≤ 999_999_999_999 → Contains acts (Sends session (stored_text id) true) → IsKept site.dir (table_after table acts) files id
+    → IsId id → Contains acts (Sends session (stored_text id) true) → IsKept site.dir (table_after table acts) files id
 kept_well site table acts files session id sound acked ours clean within said =
     let now = table_after table acts in
     kept_by site now files id (sound_after site table acts sound ours) (clean_stands (dirs_of site) now files clean) within (acked_entry id session table acts within acked said)
 
 -- where the spool failed at the last act, before which the final 250 was said
 kept_failed : (site : Site) (table : Table) (acts : List Act) (files : FileMap) (session id : ℕ) → IsSound (dirs_of site) table → AreAcked table acts → AreOurs site acts → LacksLast (dirs_of site) table acts files
-    → id ≤ 999_999_999_999 → Contains acts (Sends session (stored_text id) true) → IsKept site.dir (table_after table acts) files id
+    → IsId id → Contains acts (Sends session (stored_text id) true) → IsKept site.dir (table_after table acts) files id
 kept_failed site table acts files session id sound acked ours lacks within said =
     let done = lacks.done in
     let last : List Act = Commits lacks.command ∷ [] in
@@ -289,7 +290,7 @@ kept_failed site table acts files session id sound acked ours lacks within said 
     lacks.stands)
 
 kept_left : (site : Site) (table : Table) (acts : List Act) (well : Bool) (files : FileMap) (session id : ℕ) → IsSound (dirs_of site) table → AreAcked table acts → AreOurs site acts → Left (dirs_of site) table acts well files
-    → id ≤ 999_999_999_999 → Contains acts (Sends session (stored_text id) true) → IsKept site.dir (table_after table acts) files id
+    → IsId id → Contains acts (Sends session (stored_text id) true) → IsKept site.dir (table_after table acts) files id
 kept_left site table acts true files session id sound acked ours left within said = kept_well site table acts files session id sound acked ours left within said
 kept_left site table acts false files session id sound acked ours left within said = kept_failed site table acts files session id sound acked ours left within said
 

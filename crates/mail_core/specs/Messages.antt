@@ -5,6 +5,7 @@ use Rattle.mail_base.specs.declared.control.Draft.{Draft}
 use Rattle.mail_base.specs.declared.control.Row.{Row}
 use Rattle.mail_base.specs.declared.control.State.TheVariants.{Queued}
 use Rattle.mail_base.specs.declared.message.Marks.{Marks}
+use Rattle.mail_base.specs.declared.id.TheConstants.Id.{MOST}
 use Rattle.smtp_receive.specs.declared.received.Received.{Received}
 use Rattle.spool_store.specs.Tables.{Table, Command}
 use Rattle.mail_core.specs.declared.serving.Site.{Site}
@@ -49,7 +50,7 @@ accept_of site moment message = Accept (draft_of site moment message) message.bo
 
 -- the greatest id
 unfoldable pub last_id : ℕ
-last_id = 999_999_999_999
+last_id = MOST
 
 -- whether no id is left for a new entry
 abbrev pub is_spent : Table → Bool

@@ -1,6 +1,7 @@
 -- A whole run: the machine's turns are all that happened, and what was acknowledged is in the queue (own).
 use Rattle.std.specs.Prelude.{◌≡◌, ℕ, ◌+◌, ◌≤◌, List, [], ◌∷◌, ◌++◌, length, Option, Some, Bool, true, Contains}
 use Rattle.mail_base.specs.Histories.{Gains, Rose}
+use Rattle.mail_base.specs.Limits.{IsId}
 use Rattle.mail_base.specs.Names.{name_of}
 use Rattle.mail_base.specs.declared.id.Kind.TheVariants.{Df, Qf}
 use Rattle.link_edge.specs.declared.event.Event.TheVariants.{Stops}
@@ -45,7 +46,7 @@ pub record HasEntry (table : Table) (id : ℕ) : Type 0 where
 abbrev pub IsAcked : Table → Act → Type 0
 IsAcked table (Takes event reading) = Unit {0}
 IsAcked table (Commits command) = Unit {0}
-IsAcked table (Sends session text whole) = (id : ℕ) → id ≤ 999_999_999_999 → text ≡ stored_text id → HasEntry table id
+IsAcked table (Sends session text whole) = (id : ℕ) → IsId id → text ≡ stored_text id → HasEntry table id
 IsAcked table (HangsUp session) = Unit {0}
 
 -- each final 250 names an entry of the table as it is then
@@ -66,7 +67,7 @@ pub record IsLeft (site : Site) (table : Table) (acts : List Act) (well : Bool) 
   pub files : FileMap
   pub told_is : told ≡ Some files
   pub leaves : Leaves (dirs_of site) table acts well files
-  pub acked : (session id : ℕ) → id ≤ 999_999_999_999 → Contains (heard_of acts) (Sent session (stored_text id)) → IsKept site.dir (table_after table acts) files id
+  pub acked : (session id : ℕ) → IsId id → Contains (heard_of acts) (Sent session (stored_text id)) → IsKept site.dir (table_after table acts) files id
 
 -- these turns are all that happened from a to b, over files that were exactly the table's
 pub record Headline (site : Site) (table : Table) (turns : List Turn) (a b : Seen) (well : Bool) : Type 0 where

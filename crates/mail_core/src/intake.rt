@@ -1,5 +1,6 @@
 ghost use Rattle.std.specs.Prelude.{◌≡◌, ◌≤◌, ◌<◌, ◌⊎◌, ◌++◌, ◌∷◌, ◌^◌, [], List, ℕ, Bool, length, Some, None, IfOk, IfErr, IsErrOf, IsTrue, true, false, Contains};
 ghost use Rattle.mail_base.specs.Histories.{Gains};
+ghost use Rattle.mail_base.specs.Limits.{IsId};
 ghost use Rattle.mail_base.specs.declared.fault.StoreFault.TheVariants.{IdsSpent as NoIdLeft};
 ghost use Rattle.mail_edge.specs.Seen.{ClockSeen};
 ghost use Rattle.qf_format.specs.Valid.{IsValid};
@@ -115,14 +116,15 @@ impl Intake {
     }
 
     // The change that takes a message in.
+    #[tactic(auto, unfolding(crate::specs::Messages::last_id))]
     fn change(&self, message: Received) -> Result<Change, StoreFault>
         requires place { Contains self.now.store.dirs self.now.dir }
         requires valid { IsValid (entry.control_of self.now.moment message) }
         ensures id { IfOk result (λ change. change.id ≡ self.now.store.next) }
         ensures draft { IfOk result (λ change. change.draft ≡ record { id = None; dir = self.now.dir; control = entry.control_of self.now.moment message }) }
         ensures body { IfOk result (λ change. change.body ≡ message.body) }
-        ensures room { IfOk result (λ _. self.now.store.next ≤ 999_999_999_999) }
-        ensures spent { IsErrOf result NoIdLeft → 999_999_999_999 < self.now.store.next }
+        ensures room { IfOk result (λ _. IsId self.now.store.next) }
+        ensures spent { IsErrOf result NoIdLeft → entry.last_id < self.now.store.next }
     {
         let (control, body) = control_of(self.alloc, self.moment, message)?;
         let draft = Draft {
