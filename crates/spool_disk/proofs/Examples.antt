@@ -3,7 +3,6 @@ use Rattle.std.specs.Prelude.{◌≡◌, [], ◌∷◌, Some, None, codes, false
 use Rattle.spool_disk.specs.declared.change.Change.TheVariants.{Rename, Remove}
 use Rattle.spool_disk.specs.Changes.{after}
 use Rattle.spool_disk.specs.Disk.{bytes_at}
-use Rattle.spool_disk.specs.Listings.{names_of}
 use Rattle.spool_disk.specs.Samples.{draft_place, one_draft}
 use Rattle.spool_disk.specs.Stops.{left_maps, stopped_call}
 
@@ -15,9 +14,6 @@ gone_after_removal = refl
 
 renamed_file : after (Rename (codes "q") (codes "tf1") (codes "qf1")) one_draft ≡ record { dir = codes "q"; name = codes "qf1"; bytes = codes "control" } ∷ []
 renamed_file = refl
-
-name_of_the_file : names_of one_draft (codes "q") ≡ codes "tf1" ∷ []
-name_of_the_file = refl
 
 cut_short : stopped_call (record { change = Remove (codes "q") (codes "tf1"); done = false } ∷ []) ≡ Some (Remove (codes "q") (codes "tf1"))
 cut_short = refl

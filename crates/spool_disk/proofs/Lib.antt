@@ -1,5 +1,7 @@
 pub mod Calling
 mod Examples
+pub mod Filing
+pub mod Holding
 pub mod Finding
 pub mod Naming
 pub mod Placing

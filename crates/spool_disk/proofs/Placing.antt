@@ -17,10 +17,11 @@ alone p q file h k =
     let names = (bytes_decides p.1 file.name).0 (second_so (bytes_eq p.0 file.dir) (bytes_eq p.1 file.name) h) ∙ sym ((bytes_decides q.1 file.name).0 (second_so (bytes_eq q.0 file.dir) (bytes_eq q.1 file.name) k)) in
     λ i. (dirs i, names i)
 
-same_place : Place → Place → Bool
+pub same_place : Place → Place → Bool
 same_place p q = bytes_eq p.0 q.0 && bytes_eq p.1 q.1
 
-places_decide : (p q : Place) → (same_place p q ≡ true → p ≡ q) × (p ≡ q → same_place p q ≡ true)
+-- whether two places are the same
+pub places_decide : (p q : Place) → (same_place p q ≡ true → p ≡ q) × (p ≡ q → same_place p q ≡ true)
 unfolding same_place
 places_decide p q = (
   λ h. let dirs = (bytes_decides p.0 q.0).0 (first_so (bytes_eq p.0 q.0) (bytes_eq p.1 q.1) h) in let names = (bytes_decides p.1 q.1).0 (second_so (bytes_eq p.0 q.0) (bytes_eq p.1 q.1) h) in λ i. (dirs i, names i),
@@ -85,7 +86,7 @@ put_back_step p place bytes files false same apart e =
     others_now p place bytes (without_file place files) ne ∙ others_stay p place files ne
 
 -- a file that is written as it was
-put_back : (place : Place) (bytes : List ℕ) (files : FileMap) → bytes_at files place ≡ Some bytes → IsSame files (with_file place bytes (without_file place files))
+pub put_back : (place : Place) (bytes : List ℕ) (files : FileMap) → bytes_at files place ≡ Some bytes → IsSame files (with_file place bytes (without_file place files))
 put_back place bytes files e = λ p. put_back_step p place bytes files (same_place p place) (places_decide p place).0 (places_decide p place).1 e
 
 renamed_by : (dir from to : List ℕ) (files : FileMap) (o : Option (List ℕ)) → from ≢ to → bytes_at files (dir, from) ≡ o → IsSome o → HasRenamed dir from to files (with_renamed dir from to o files)

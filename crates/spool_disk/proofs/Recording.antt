@@ -11,7 +11,8 @@ use Rattle.spool_disk.proofs.Placing.{still_image, image_of_done}
 use Rattle.mail_base.specs.declared.fault.Failed.{Failed}
 use Rattle.spool_disk.specs.declared.change.Change.{Change}
 
-after_more : (past : List Attempt) (attempt : Attempt) (files : FileMap) → after_all (past ++ attempt ∷ []) files ≡ after_attempt attempt (after_all past files)
+-- a call more
+pub after_more : (past : List Attempt) (attempt : Attempt) (files : FileMap) → after_all (past ++ attempt ∷ []) files ≡ after_attempt attempt (after_all past files)
 after_more [] attempt files = refl
 after_more (a ∷ past) attempt files = after_more past attempt (after_attempt a files)
 

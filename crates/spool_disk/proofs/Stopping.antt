@@ -7,7 +7,7 @@ use Rattle.std.proofs.lemmas.List.Elements.{All-cons, All-nil}
 use Rattle.spool_disk.specs.declared.change.Change.{Change}
 use Rattle.spool_disk.specs.declared.change.Change.TheVariants.{Write, Rename, Remove}
 use Rattle.spool_disk.specs.declared.attempt.Attempt.{Attempt}
-use Rattle.spool_disk.specs.declared.mem_spool.MemSpool.{MemSpool}
+use Rattle.spool_disk.specs.Memory.{Memory}
 use Rattle.spool_disk.specs.Disk.{FileMap, IsImage, IsDone}
 use Rattle.spool_disk.specs.Changes.{after, after_all, record_seen}
 use Rattle.spool_disk.specs.Spooled.{Calls}
@@ -16,7 +16,7 @@ use Rattle.spool_disk.proofs.Placing.{has_written, has_removed, still_image, ima
 use Rattle.spool_disk.proofs.Recording.{calls_recorded, calls_nothing}
 
 -- a spool that begins with files that may be left
-abbrev Leaves : Option Change → FileMap → MemSpool → Type 0
+abbrev Leaves : Option Change → FileMap → Memory → Type 0
 Leaves call files spool = MayLeave call files spool.start
 
 none : (call : Option Change) (files : FileMap) → All (Leaves call files) []
@@ -44,12 +44,12 @@ each_may_be (Some (Write dir name bytes)) files =
 each_may_be (Some (Rename dir from to)) files = both (Rename dir from to) files
 each_may_be (Some (Remove dir name)) files = both (Remove dir name) files
 
-each_made : (call : Option Change) (files : FileMap) (result : Result (List MemSpool) NoMemory) → IfOk result (λ spools. spools ≡ map fresh (left_maps call files)) → IfOk result (λ spools. All (Leaves call files) spools)
+each_made : (call : Option Change) (files : FileMap) (result : Result (List Memory) NoMemory) → IfOk result (λ spools. spools ≡ map fresh (left_maps call files)) → IfOk result (λ spools. All (Leaves call files) spools)
 each_made call files (Ok spools) h = subst (All (Leaves call files)) (sym h) (each_may_be call files)
 each_made call files (Err e) h = tt
 
 -- each of the spools that are handed out may be left
-pub each_of : (call named : Option Change) (files copied : FileMap) (result : Result (List MemSpool) NoMemory) → named ≡ call → copied ≡ files → IfOk result (λ spools. spools ≡ map fresh (left_maps named copied)) → IfOk result (λ spools. All (λ spool. MayLeave call files spool.start) spools)
+pub each_of : (call named : Option Change) (files copied : FileMap) (result : Result (List Memory) NoMemory) → named ≡ call → copied ≡ files → IfOk result (λ spools. spools ≡ map fresh (left_maps named copied)) → IfOk result (λ spools. All (λ spool. MayLeave call files spool.start) spools)
 each_of call named files copied result n e h =
     each_made call files result (subst (λ q. IfOk result (λ spools. spools ≡ map fresh (left_maps call q))) e (subst (λ q. IfOk result (λ spools. spools ≡ map fresh (left_maps q copied))) n h))
 

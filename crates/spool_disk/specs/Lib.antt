@@ -1,7 +1,9 @@
+pub mod inner
 pub mod Changes
 pub mod Disk
 pub mod Lefts
 pub mod Listings
+pub mod Memory
 pub mod Samples
 pub mod Spooled
 pub mod Stops

@@ -1,5 +1,5 @@
 -- The names of the files in a directory (own).
-use Rattle.std.specs.Prelude.{◌↔◌, ℕ, List, [], ◌∷◌, bytes_eq, if◌then◌else◌, Option, IsSome, Contains, IfSome}
+use Rattle.std.specs.Prelude.{◌↔◌, ℕ, List, Option, IsSome, Contains, IfSome}
 use Rattle.std.specs.Cmp.Lexicographic.{slice_cmp}
 use Rattle.std.specs.Ordering.{nat_cmp}
 use Rattle.std.specs.List.Sorted.{IsStrictlySortedBy}
@@ -21,8 +21,3 @@ AreSameNames names others = (name : List ℕ) → Contains names name ↔ Contai
 pub record IsListing (told : Option FileMap) (dir : List ℕ) (names : List (List ℕ)) : Type 0 where
   pub ascending : IsAscending names
   pub exactly : IfSome told (λ files. AreNames files dir names)
-
--- the names of the files of that directory, in the order of the files
-abbrev pub names_of : FileMap → List ℕ → List (List ℕ)
-names_of [] dir = []
-names_of (file ∷ files) dir = if bytes_eq dir file.dir then file.name ∷ names_of files dir else names_of files dir

@@ -1,11 +1,11 @@
 -- A spool in memory that stops in one of its calls, and some of what it may leave (own).
-use Rattle.std.specs.Prelude.{◌≡◌, ◌-◌, ◌/◌, List, [], ◌∷◌, ◌++◌, length, take, slice_get, Option, Some, None, Bool, true, false, if◌then◌else◌}
+use Rattle.std.specs.Prelude.{◌≡◌, ℕ, ◌&&◌, not, nat_eq, ◌-◌, ◌/◌, List, [], ◌∷◌, ◌++◌, length, take, slice_get, Option, Some, None, Bool, true, false, if◌then◌else◌}
 use Rattle.spool_disk.specs.declared.change.Change.{Change}
 use Rattle.spool_disk.specs.declared.change.Change.TheVariants.{Write, Rename, Remove}
 use Rattle.spool_disk.specs.declared.attempt.Attempt.{Attempt}
-use Rattle.spool_disk.specs.declared.mem_spool.MemSpool.{MemSpool}
 use Rattle.spool_disk.specs.Disk.{FileMap, IsImage}
 use Rattle.spool_disk.specs.Changes.{after}
+use Rattle.spool_disk.specs.Memory.{Memory, begins}
 
 -- the change of a call that wasn't done
 abbrev pub undone : Option Attempt → Option Change
@@ -33,5 +33,9 @@ MayLeave None files left = left ≡ files
 MayLeave (Some change) files left = IsImage change files left
 
 -- a spool in memory that begins with these files, none of whose calls fail
-abbrev pub fresh : FileMap → MemSpool
-fresh files = record { start = files; past = []; script = record { failing = []; calls = 0; faults = 0 } }
+abbrev pub fresh : FileMap → Memory
+fresh files = begins files []
+
+-- whether a changing call found no memory: with no call left to pass, where it didn't stop; before that, where it failed and wasn't to fail; after the stop it looks for none
+abbrev pub wants_memory : Bool → ℕ → Bool → Bool → Bool → Bool
+wants_memory stopped left listed stops failed = not stopped && (if nat_eq left 0 then not stops else (failed && not listed))

@@ -3,7 +3,7 @@ ghost use Rattle.spool_disk.specs.Changes.{after};
 ghost use Rattle.spool_disk.specs.declared.change.Change.TheVariants.{Write as Written, Rename as Renamed, Remove as Removed};
 
 use crate::File;
-use crate::listing::{copied, put, without};
+use crate::listing::{copied, find, put, without};
 use mail_base::{NoMemory, Seq, Text, TryCopy};
 
 /// A call that changes the files of a spool.
@@ -55,7 +55,7 @@ impl Change {
 fn renamed(files: Seq<File>, dir: &Text, from: &Text, to: &Text) -> Result<Seq<File>, NoMemory>
     ensures { IfOk result (λ now. now ≡ after (Renamed dir.now from.now to.now) files) }
 {
-    match copied(dir.allocator(), files.items(), dir, from)? {
+    match copied(dir.allocator(), find(files.items(), dir, from))? {
         None => Ok(files),
         Some(bytes) => put(without(files, dir, from), dir, to, &bytes),
     }

@@ -5,6 +5,8 @@
 mod attempt;
 mod change;
 mod file;
+mod folder;
+mod folders;
 mod listing;
 mod mem_spool;
 mod spool;

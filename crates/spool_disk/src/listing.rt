@@ -1,5 +1,5 @@
-ghost use Rattle.std.specs.Prelude.{◌≡◌, IfOk, Some};
-ghost use Rattle.spool_disk.specs.Listings.{IsListing, IsAscending, AreSameNames, names_of};
+ghost use Rattle.std.specs.Prelude.{◌≡◌, IfOk};
+ghost use Rattle.spool_disk.specs.Listings.{IsAscending, AreSameNames};
 ghost use Rattle.std.specs.Option.{option_copied};
 ghost use Rattle.spool_disk.specs.Disk.{bytes_at};
 ghost use Rattle.spool_disk.specs.Changes.{without_file, with_file};
@@ -9,7 +9,7 @@ use mail_base::{NoMemory, Seq, Text, TryCopy};
 use std::alloc::Global;
 
 // The bytes of the first file at that place.
-fn find<'a>(files: &'a [File], dir: &Text, name: &Text) -> Option<&'a Text>
+pub(crate) fn find<'a>(files: &'a [File], dir: &Text, name: &Text) -> Option<&'a Text>
     ensures { option_copied result ≡ bytes_at files.now (dir.now, name.now) }
 {
     for file in files {
@@ -20,16 +20,11 @@ fn find<'a>(files: &'a [File], dir: &Text, name: &Text) -> Option<&'a Text>
     None
 }
 
-// A copy of the bytes of the first file at that place.
-pub(crate) fn copied(
-    alloc: Global,
-    files: &[File],
-    dir: &Text,
-    name: &Text,
-) -> Result<Option<Text>, NoMemory>
-    ensures { IfOk result (λ bytes. bytes ≡ bytes_at files.now (dir.now, name.now)) }
+// A copy of the bytes that are lent.
+pub(crate) fn copied(alloc: Global, bytes: Option<&Text>) -> Result<Option<Text>, NoMemory>
+    ensures { IfOk result (λ copy. copy ≡ option_copied bytes.entry) }
 {
-    match find(files, dir, name) {
+    match bytes {
         None => Ok(None),
         Some(bytes) => Ok(Some(Text::of(alloc, bytes.bytes())?)),
     }
@@ -60,27 +55,6 @@ pub(crate) fn put(
         bytes: bytes.copy()?,
     })?;
     Ok(kept)
-}
-
-// The names of the files in that directory, in the order of the files.
-fn collected(alloc: Global, files: &[File], dir: &Text) -> Result<Vec<Text>, NoMemory>
-    ensures { IfOk result (λ names. names.items ≡ names_of files.now dir.now) }
-{
-    let mut names = Vec::new(alloc);
-    for file in files {
-        if dir.bytes() == file.dir.bytes() {
-            names.push(Text::of(alloc, file.name.bytes())?)?;
-        }
-    }
-    Ok(names)
-}
-
-// The names of the files in that directory, sorted by their bytes, each once.
-pub(crate) fn names_in(alloc: Global, files: &[File], dir: &Text) -> Result<Seq<Text>, NoMemory>
-    ensures { IfOk result (λ names. IsListing (Some files.now) dir.now names) }
-{
-    let names = collected(alloc, files, dir)?;
-    Ok(sorted_names(names)?)
 }
 
 /// Names as a spool lists them: sorted by their bytes, each once.

@@ -1,13 +1,13 @@
 ghost use Rattle.std.specs.Prelude.{◌≡◌, ◌≢◌, ◌≤◌, ◌+◌, ◌++◌, ◌∷◌, [], ◌⊎◌, ◌&&◌, ◌||◌, true, false, not, All, IfOk, OnOk, OnErr, IsErr, IsOk, IsSome, Some, is_ok, is_err, map, option_copied, if◌then◌else◌};
 ghost use Rattle.mail_base.specs.Histories.{HasCause, Rose};
-ghost use Rattle.mail_base.specs.Scripts.{is_listed};
+ghost use Rattle.mail_base.specs.Scripts.{is_listed, one_more};
 ghost use Rattle.mail_base.specs.Causes.{HasEdgeCause, has_failed};
 ghost use Rattle.spool_disk.specs.Changes.{after, after_all, record_seen};
 ghost use Rattle.spool_disk.specs.Disk.{bytes_at, IsImage, IsDone};
 ghost use Rattle.spool_disk.specs.Lefts.{left_now, left_at_rest, left_earlier};
 ghost use Rattle.spool_disk.specs.Listings.{IsListing};
 ghost use Rattle.spool_disk.specs.Spooled.{Calls, Reads};
-ghost use Rattle.spool_disk.specs.Stops.{MayLeave, fresh, left_maps, past_after, stopped_call};
+ghost use Rattle.spool_disk.specs.Stops.{MayLeave, fresh, left_maps, past_after, stopped_call, wants_memory};
 ghost use Rattle.spool_disk.specs.declared.change.Change.TheVariants.{Write, Rename, Remove};
 
 use crate::{Change, File, MemSpool, Spool};
@@ -16,7 +16,7 @@ use std::alloc::Global;
 
 /// A spool in memory that stops: so many calls that change files pass, the next such call is cut short,
 /// and it and every call after it fail. Where there is no memory to record the call that is cut short,
-/// it fails, and the stop comes with the next.
+/// it fails, which the spool's own count of those calls tells, and the stop comes with the next.
 pub struct StopSpool {
     pub spool: MemSpool,
     pub left: u64,
@@ -53,7 +53,7 @@ impl StopSpool {
         ensures maps { IfOk result (λ spools. spools ≡ map fresh (left_maps (stopped_call self.now.spool.past) (after_all self.now.spool.past self.now.spool.start))) }
         ensures each { IfOk result (λ spools. All (λ spool. MayLeave (stopped_call self.now.spool.past) (after_all self.now.spool.past self.now.spool.start) spool.start) spools) }
     {
-        let files = self.spool.files()?;
+        let files = self.spool.replayed()?;
         match self.stopped_call() {
             None => at_rest(files),
             Some(change) => left_by(files, change),
@@ -64,7 +64,7 @@ impl StopSpool {
     fn stopped_call(&self) -> Option<&Change>
         ensures { option_copied result ≡ stopped_call self.now.spool.past }
     {
-        let attempt = self.spool.past.items().last()?;
+        let attempt = self.spool.last()?;
         if attempt.done {
             None
         } else {
@@ -74,13 +74,18 @@ impl StopSpool {
 
     // Cuts a call short, which is the stop.
     fn stop(&mut self, change: Change) -> Failed
+        requires { self.old.stopped ≡ false }
         ensures left { self.new.left ≡ self.old.left }
         ensures start { self.new.spool.start ≡ self.old.spool.start }
         ensures past { self.new.spool.past ≡ past_after self.old.spool.past change false self.new.stopped }
+        ensures starved { self.new.spool.starved ≡ (if self.new.stopped then self.old.spool.starved else one_more self.old.spool.starved) }
         ensures rose { Rose self.old.spool.script.faults self.new.spool.script.faults }
         ensures later { self.old.spool.script.faults ≤ self.new.spool.script.faults }
     {
-        self.stopped = self.spool.keep(change, false).is_ok();
+        if let Err(failed) = self.spool.keep(change, false) {
+            return failed;
+        }
+        self.stopped = true;
         self.spool.lost()
     }
 }
@@ -91,7 +96,7 @@ fn left_after(files: &Seq<File>, change: &Change) -> Result<MemSpool, NoMemory>
 {
     let alloc = files.allocator();
     let left = change.applied(files.copy()?)?;
-    Ok(MemSpool::of(alloc, left, Seq::new(alloc)))
+    MemSpool::of(alloc, left, Seq::new(alloc))
 }
 
 // Adds a spool of the files after a change.
@@ -121,7 +126,7 @@ fn at_rest(files: Seq<File>) -> Result<Seq<MemSpool>, NoMemory>
 {
     let alloc = files.allocator();
     let mut spools = Seq::new(alloc);
-    spools.push(MemSpool::of(alloc, files, Seq::new(alloc)))?;
+    spools.push(MemSpool::of(alloc, files, Seq::new(alloc))?)?;
     Ok(spools)
 }
 
@@ -206,6 +211,8 @@ impl Spool for StopSpool {
         ensures over { self.old.stopped ≡ true → IsErr result × (self.new.stopped ≡ true) }
         ensures stop { self.old.left ≡ 0 → IsErr result }
         ensures stopped { self.new.stopped ≡ true → (self.old.stopped ≡ true) ⊎ (self.old.left ≡ 0) }
+        ensures cut { self.old.left ≡ 0 → self.old.stopped ≡ false → (self.new.stopped ≡ true) ⊎ (self.new.spool.starved ≡ one_more self.old.spool.starved) }
+        ensures starved { self.new.spool.starved ≡ (if wants_memory self.old.stopped self.old.left (is_listed self.old.spool.script) self.new.stopped (is_err result) then one_more self.old.spool.starved else self.old.spool.starved) }
         ensures left { self.old.left ≡ self.new.left + (if is_ok result then 1 else 0) }
         ensures start { self.new.spool.start ≡ self.old.spool.start }
         ensures past { self.new.spool.past ≡ past_after self.old.spool.past (Write dir.now name.now bytes.now) (is_ok result) (self.new.stopped && not self.old.stopped) }
@@ -217,7 +224,7 @@ impl Spool for StopSpool {
         }
         if self.left == 0 {
             let Ok(change) = Change::writing(dir, name, bytes) else {
-                return Err(self.spool.lost());
+                return Err(self.spool.starve());
             };
             return Err(self.stop(change));
         }
@@ -232,6 +239,8 @@ impl Spool for StopSpool {
         ensures over { self.old.stopped ≡ true → IsErr result × (self.new.stopped ≡ true) }
         ensures stop { self.old.left ≡ 0 → IsErr result }
         ensures stopped { self.new.stopped ≡ true → (self.old.stopped ≡ true) ⊎ (self.old.left ≡ 0) }
+        ensures cut { self.old.left ≡ 0 → self.old.stopped ≡ false → (self.new.stopped ≡ true) ⊎ (self.new.spool.starved ≡ one_more self.old.spool.starved) }
+        ensures starved { self.new.spool.starved ≡ (if wants_memory self.old.stopped self.old.left (is_listed self.old.spool.script) self.new.stopped (is_err result) then one_more self.old.spool.starved else self.old.spool.starved) }
         ensures left { self.old.left ≡ self.new.left + (if is_ok result then 1 else 0) }
         ensures start { self.new.spool.start ≡ self.old.spool.start }
         ensures past { self.new.spool.past ≡ past_after self.old.spool.past (Rename dir.now from.now to.now) (is_ok result) (self.new.stopped && not self.old.stopped) }
@@ -243,7 +252,7 @@ impl Spool for StopSpool {
         }
         if self.left == 0 {
             let Ok(change) = Change::renaming(dir, from, to) else {
-                return Err(self.spool.lost());
+                return Err(self.spool.starve());
             };
             return Err(self.stop(change));
         }
@@ -256,6 +265,8 @@ impl Spool for StopSpool {
         ensures over { self.old.stopped ≡ true → IsErr result × (self.new.stopped ≡ true) }
         ensures stop { self.old.left ≡ 0 → IsErr result }
         ensures stopped { self.new.stopped ≡ true → (self.old.stopped ≡ true) ⊎ (self.old.left ≡ 0) }
+        ensures cut { self.old.left ≡ 0 → self.old.stopped ≡ false → (self.new.stopped ≡ true) ⊎ (self.new.spool.starved ≡ one_more self.old.spool.starved) }
+        ensures starved { self.new.spool.starved ≡ (if wants_memory self.old.stopped self.old.left (is_listed self.old.spool.script) self.new.stopped (is_err result) then one_more self.old.spool.starved else self.old.spool.starved) }
         ensures left { self.old.left ≡ self.new.left + (if is_ok result then 1 else 0) }
         ensures start { self.new.spool.start ≡ self.old.spool.start }
         ensures past { self.new.spool.past ≡ past_after self.old.spool.past (Remove dir.now name.now) (is_ok result) (self.new.stopped && not self.old.stopped) }
@@ -267,7 +278,7 @@ impl Spool for StopSpool {
         }
         if self.left == 0 {
             let Ok(change) = Change::removal(dir, name) else {
-                return Err(self.spool.lost());
+                return Err(self.spool.starve());
             };
             return Err(self.stop(change));
         }

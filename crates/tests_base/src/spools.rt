@@ -165,7 +165,7 @@ fn one_file(alloc: Global, failing: &[u64]) -> Result<MemSpool, NoMemory>
         name: Text::of(alloc, b"tf1")?,
         bytes: Text::of(alloc, b"control")?,
     })?;
-    Ok(MemSpool::of(alloc, files, calls(alloc, failing)?))
+    MemSpool::of(alloc, files, calls(alloc, failing)?)
 }
 
 // Renames that file.
@@ -210,7 +210,7 @@ fn calls_fail_as_listed_and_change_nothing(rt: HostRuntime) -> Result<(), Fail> 
     assert!(rt; shown(alloc, &mut spool).is_err());
     let text = shown(alloc, &mut spool)?;
     assert_eq!(rt; text.bytes(), b"tf1=control ".as_slice());
-    assert_eq!(rt; (spool.script.calls, spool.script.faults), (5, 3));
+    assert_eq!(rt; (spool.calls(), spool.faults()), (5, 3));
     Ok(())
 }
 

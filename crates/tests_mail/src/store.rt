@@ -165,7 +165,7 @@ fn each_call_that_fails_is_told(rt: HostRuntime) -> Result<(), Fail> {
     for call in 0..4u64 {
         let mut spool = failing_at(alloc, call)?;
         assert_eq!(rt; commit_twice(alloc, &mut spool)?, (false, false));
-        assert_eq!(rt; spool.script.calls, call + 1);
+        assert_eq!(rt; spool.calls(), call + 1);
         assert!(rt; is_either(alloc, &mut spool)?);
     }
     Ok(())

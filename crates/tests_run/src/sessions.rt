@@ -433,7 +433,7 @@ fn used_spool(alloc: Global) -> Result<MemSpool, NoMemory> {
         name: Text::of(alloc, b"xfw000000000007")?,
         bytes: Text::of(alloc, b"x")?,
     })?;
-    Ok(MemSpool::of(alloc, files, Seq::new(alloc)))
+    MemSpool::of(alloc, files, Seq::new(alloc))
 }
 
 // How a run over that spool ends, how much its floor told, and the files.
