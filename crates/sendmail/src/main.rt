@@ -4,6 +4,7 @@
 // The tests of the devices stand here, since no other crate can import a program.
 
 mod clock;
+mod descriptor;
 mod directory;
 mod disk;
 mod floor;
@@ -69,7 +70,7 @@ fn run(rt: &HostRuntime, words: &Seq<Text>) -> Outcome {
         rt.alloc(),
         words,
         &mut DiskFiles::new(rt),
-        &mut QueueDirs::new(),
+        &mut QueueDirs::new(rt.alloc(), b""),
         &mut SystemFloor::new(*rt, rt.stdin(), rt.stdout()),
         &mut SystemClock::new(*rt),
         &mut InputStream::new(rt.stdin()),

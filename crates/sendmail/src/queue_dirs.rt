@@ -4,27 +4,52 @@ ghost use Rattle.mail_base.specs.Causes.{HasEdgeCause};
 ghost use Rattle.mail_base.specs.Histories.{HasCause};
 ghost use Rattle.spool_disk.specs.Listings.{IsAscending};
 
-use crate::directory::{is_there, names_in};
-use crate::path::{Path, path_of};
-use mail_base::{EdgeFault, Failed, NoMemory, Seq, Text};
+use crate::descriptor::Descriptor;
+use crate::directory::names_in;
+use crate::path::{Path, dir_path, path_of};
+use mail_base::{EdgeFault, Failed, NoMemory, Seq, Text, TryCopy};
 use mail_edge::LARGEST_FILE;
 use spool_disk::{Spool, sorted_names};
 use std::alloc::Global;
 
-/// Directories of a disk as a spool. Their files' names may have any bytes but NUL and `/`. A file that
-/// is written belongs to its owner alone. A directory that is absent, a file larger than
-/// 67,108,864 bytes and a disk without room are faults. Nothing is forced to the disk.
+/// Directories of a disk as a spool. Their files' names may have any bytes but NUL and `/`.
+///
+/// A directory is opened and locked at its first use, and stays so to the end, so that it has one owner; one that
+/// another opening has locked is a fault, as are a directory that is absent, a file larger than 67,108,864 bytes and
+/// a disk without room. A file that is written belongs to its owner alone and is on the disk before the call
+/// answers, and so is a change of names.
 #[derive(Drop)]
-pub struct QueueDirs {
+pub struct QueueDirs<'a> {
+    /// What stands before the name of each directory.
+    prefix: &'a [u8],
+    held: Vec<Held>,
     faults: u64,
 }
 
-impl QueueDirs {
-    pub fn new() -> QueueDirs {
-        QueueDirs { faults: 0 }
+/// A directory that is locked.
+#[derive(Drop)]
+struct Held {
+    dir: Text,
+    open: Descriptor,
+}
+
+impl<'a> QueueDirs<'a> {
+    pub fn new(alloc: Global, prefix: &'a [u8]) -> QueueDirs<'a> {
+        QueueDirs {
+            prefix,
+            held: Vec::new(alloc),
+            faults: 0,
+        }
+    }
+
+    /// Where its memory comes from.
+    #[cfg(test)]
+    pub fn allocator(&self) -> Global {
+        *self.held.allocator()
     }
 
     /// How many calls failed.
+    #[cfg(test)]
     pub fn faults(&self) -> u64 {
         self.faults
     }
@@ -45,42 +70,119 @@ impl QueueDirs {
     }
 
     // Counts a fault where a change failed.
-    fn changed(&mut self, went: Option<()>) -> Result<(), Failed>
+    fn changed(&mut self, went: Result<(), EdgeFault>) -> Result<(), Failed>
         ensures cause { HasCause self.old.faults self.new.faults result }
     {
         match went {
-            Some(()) => Ok(()),
-            None => {
+            Ok(()) => Ok(()),
+            Err(_) => {
                 self.faults = self.faults.saturating_add(1);
                 Err(Failed)
             }
         }
     }
+
+    // The place of a directory among those that are held.
+    fn hold(&mut self, dir: &Text) -> Result<usize, EdgeFault>
+        ensures { self.new.faults ≡ self.old.faults }
+    {
+        if let Some(place) = self.held.iter().position(|held| held.dir == *dir) {
+            return Ok(place);
+        }
+        let held = locked(self.prefix, dir)?;
+        match self.held.push(held) {
+            Ok(()) => Ok(self.held.len().saturating_sub(1)),
+            Err(_) => Err(EdgeFault::NoMemory),
+        }
+    }
+
+    // The names of the files in a directory.
+    fn listed(&mut self, alloc: Global, dir: &Text) -> Result<Seq<Text>, EdgeFault>
+        ensures order { IfOk result IsAscending }
+        ensures faults { self.new.faults ≡ self.old.faults }
+    {
+        let place = self.hold(dir)?;
+        let held = self.held.get(place).ok_or(EdgeFault::Failed)?;
+        let names = names_in(alloc, &held.open)?;
+        Ok(sorted_names(names)?)
+    }
+
+    // The bytes of a file, or `None` where it isn't there.
+    fn found(&mut self, alloc: Global, dir: &Text, name: &Text) -> Result<Option<Text>, EdgeFault>
+        ensures { self.new.faults ≡ self.old.faults }
+    {
+        self.hold(dir)?;
+        read_file(alloc, &path_of(self.prefix, dir, name)?)
+    }
+
+    // Makes a file hold these bytes.
+    fn write(&mut self, dir: &Text, name: &Text, bytes: &[u8]) -> Result<(), EdgeFault>
+        ensures { self.new.faults ≡ self.old.faults }
+    {
+        self.hold(dir)?;
+        write_file(&path_of(self.prefix, dir, name)?, bytes)?;
+        Ok(())
+    }
+
+    // Gives a file another name.
+    fn move_file(&mut self, dir: &Text, from: &Text, to: &Text) -> Result<(), EdgeFault>
+        ensures { self.new.faults ≡ self.old.faults }
+    {
+        let place = self.hold(dir)?;
+        let from = path_of(self.prefix, dir, from)?;
+        let to = path_of(self.prefix, dir, to)?;
+        if os::rename(&from, &to) != 0 {
+            return Err(EdgeFault::Failed);
+        }
+        self.sync(place)
+    }
+
+    // Takes a file away, if it is there.
+    fn unlink(&mut self, dir: &Text, name: &Text) -> Result<(), EdgeFault>
+        ensures { self.new.faults ≡ self.old.faults }
+    {
+        let place = self.hold(dir)?;
+        let path = path_of(self.prefix, dir, name)?;
+        if os::unlink(&path) != 0 && os::errno() != libc::ENOENT {
+            return Err(EdgeFault::Failed);
+        }
+        self.sync(place)
+    }
+
+    // Waits until the names in a directory have reached the disk.
+    fn sync(&self, place: usize) -> Result<(), EdgeFault> {
+        let held = self.held.get(place).ok_or(EdgeFault::Failed)?;
+        held.open.sync()?;
+        Ok(())
+    }
 }
 
-impl Spool for QueueDirs {
+impl Spool for QueueDirs<'_> {
     ghost seen = { λ s. record { told = None; moment = 0; left_since = λ _ _. ⊥; faults = s.faults } };
 
     fn list(&mut self, alloc: Global, dir: &Text) -> Result<Seq<Text>, EdgeFault> {
-        let names = listed(alloc, dir);
+        let names = self.listed(alloc, dir);
         self.counted(names)
     }
 
     fn read(&mut self, alloc: Global, dir: &Text, name: &Text) -> Result<Option<Text>, EdgeFault> {
-        let bytes = read_file(alloc, dir, name);
+        let bytes = self.found(alloc, dir, name);
         self.counted(bytes)
     }
 
     fn write_new(&mut self, dir: &Text, name: &Text, bytes: &Text) -> Result<(), Failed> {
-        self.changed(write_file(dir, name, bytes.bytes()))
+        let went = self.write(dir, name, bytes.bytes());
+        self.changed(went)
     }
 
     fn rename(&mut self, dir: &Text, from: &Text, to: &Text) -> Result<(), Failed> {
-        self.changed(rename_file(dir, from, to))
+        let went = self.move_file(dir, from, to);
+        self.changed(went)
     }
 
     fn remove(&mut self, dir: &Text, name: &Text) -> Result<(), Failed> {
-        self.changed(remove_file(dir, name))
+        let went = self.unlink(dir, name);
+        self.changed(went)
     }
 
     ghost only_now = { λ s c h. absurd h };
@@ -90,91 +192,49 @@ impl Spool for QueueDirs {
     ghost earlier = { λ s t u c le h. absurd h };
 }
 
-fn listed(alloc: Global, dir: &Text) -> Result<Seq<Text>, EdgeFault>
-    ensures { IfOk result IsAscending }
-{
-    let names = names_in(alloc, dir)?;
-    Ok(sorted_names(names)?)
+// Opens and locks a directory. Its name is copied first, so that what is locked is kept.
+fn locked(prefix: &[u8], dir: &Text) -> Result<Held, EdgeFault> {
+    let open = Descriptor::to_dir(&dir_path(prefix, dir)?)?;
+    open.lock()?;
+    Ok(Held {
+        dir: dir.copy()?,
+        open,
+    })
 }
 
 // The bytes of a file, or `None` where it isn't there.
-fn read_file(alloc: Global, dir: &Text, name: &Text) -> Result<Option<Text>, EdgeFault> {
-    let path = path_of(dir, name).ok_or(EdgeFault::Failed)?;
-    let opened = os::open_read(&path);
-    if opened < 0 {
-        return if os::errno() == libc::ENOENT && is_there(dir) {
-            Ok(None)
-        } else {
-            Err(EdgeFault::Failed)
-        };
+fn read_file(alloc: Global, path: &Path) -> Result<Option<Text>, EdgeFault> {
+    match Descriptor::to_read(path)? {
+        Some(file) => Ok(Some(read_whole(alloc, &file)?)),
+        None => Ok(None),
     }
-    let bytes = read_whole(alloc, opened);
-    libc::close(opened);
-    Ok(Some(bytes?))
 }
 
-fn read_whole(alloc: Global, opened: i32) -> Result<Text, EdgeFault> {
+fn read_whole(alloc: Global, file: &Descriptor) -> Result<Text, EdgeFault> {
     let mut bytes = Text::new(alloc);
+    add_whole(file, &mut bytes)?;
+    Ok(bytes)
+}
+
+fn add_whole(file: &Descriptor, bytes: &mut Text) -> Result<(), EdgeFault> {
     let mut piece = [0u8; 8192];
     for _ in 0..u64::MAX {
-        let count = count_of(libc::read(opened, &mut piece)).ok_or(EdgeFault::Failed)?;
+        let count = file.read(&mut piece)?;
         if count == 0 {
-            return Ok(bytes);
+            return Ok(());
         }
         if bytes.len().saturating_add(count) > LARGEST_FILE {
             return Err(EdgeFault::Failed);
         }
-        bytes.extend(piece.get(..count).ok_or(EdgeFault::Failed)?)?;
+        bytes.extend(piece.get(..count).ok_or(Failed)?)?;
     }
     Err(EdgeFault::Failed)
 }
 
-// Makes the file hold these bytes; `None` where it may hold others.
-fn write_file(dir: &Text, name: &Text, bytes: &[u8]) -> Option<()> {
-    let path = path_of(dir, name)?;
-    let opened = os::open_with(&path, libc::O_WRONLY | libc::O_CREAT | libc::O_TRUNC, 0o600);
-    if opened < 0 {
-        return None;
-    }
-    let written = write_whole(opened, bytes);
-    // A disk may tell only here that it had no room.
-    if libc::close(opened) != 0 {
-        return None;
-    }
-    written
-}
-
-fn write_whole(opened: i32, bytes: &[u8]) -> Option<()> {
-    let mut rest = bytes;
-    for _ in 0..u64::MAX {
-        if rest.is_empty() {
-            return Some(());
-        }
-        let count = count_of(libc::write(opened, rest))?;
-        rest = rest.get(count..)?;
-    }
-    None
-}
-
-// How many bytes were read or written; `None` where the call failed.
-fn count_of(answer: isize) -> Option<usize> {
-    usize::try_from(answer).ok()
-}
-
-fn rename_file(dir: &Text, from: &Text, to: &Text) -> Option<()> {
-    let from = path_of(dir, from)?;
-    let to = path_of(dir, to)?;
-    if os::rename(&from, &to) != 0 {
-        return None;
-    }
-    Some(())
-}
-
-// Takes the file away, if it is there.
-fn remove_file(dir: &Text, name: &Text) -> Option<()> {
-    let path = path_of(dir, name)?;
-    if os::unlink(&path) != 0 && !(os::errno() == libc::ENOENT && is_there(dir)) {
-        return None;
-    }
-    Some(())
+// Makes a file that holds these bytes, on the disk.
+fn write_file(path: &Path, bytes: &[u8]) -> Result<(), Failed> {
+    let file = Descriptor::to_write(path)?;
+    file.write_all(bytes)?;
+    file.sync()?;
+    file.close()
 }
