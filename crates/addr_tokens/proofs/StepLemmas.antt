@@ -1,9 +1,30 @@
 -- One byte of a text, as it is read.
-use Rattle.std.proofs.Common.{◌≡◌, ℕ, zero, suc, ◌+◌, ◌-◌, ◌<◌, true, false, List, ◌∷◌, length, drop, refl, ◌∙◌, ap, get_or, arith}
-use Rattle.std.proofs.lemmas.Bool.{cond-true, cond-false, eq-eqb, ne_eqb}
-use Rattle.std.proofs.lemmas.List.{drop_more}
-use Rattle.addr_tokens.specs.Pieces.{Alphabet, is_word_byte}
-use Rattle.addr_tokens.specs.Reader.{takes_next, past_word, past_comment}
+use Rattle.std.proofs.Common.{◌≡◌, ℕ, zero, suc, ◌+◌, ◌-◌, ◌<◌, ◌==◌, Bool, true, false, not, ◌&&◌, ◌||◌, List, [], ◌∷◌, length, drop, refl, sym, ◌∙◌, ap, get_or, arith}
+use Rattle.std.proofs.lemmas.Bool.{cond-true, cond-false, eq-eqb, ne_eqb, and_parts, not-true}
+use Rattle.std.proofs.lemmas.List.{drop_more, nil_from_length}
+use Rattle.addr_tokens.specs.Pieces.{Alphabet, is_word_byte, is_special, is_listed, is_doubled, means}
+use Rattle.addr_tokens.specs.Reader.{is_lone, takes_next, begins_dollar, past_word, past_comment}
+use Rattle.mail_base.specs.Whites.{is_white}
+use Rattle.addr_tokens.proofs.WordLemmas.{special_parts}
+
+-- a byte that stands in a word whatever is behind it, before any text
+lone_parts : (alphabet : Alphabet) (b : ℕ) → is_lone (is_listed alphabet b) b ≡ true → (is_white b ≡ false) × (is_special b ≡ false) × (is_listed alphabet b ≡ false) × ((b == 36) ≡ false)
+lone_parts alphabet b lone =
+    let p = and_parts (not (is_white b) && not (is_special b) && not (is_listed alphabet b)) (not (b == 36)) lone in
+    let q = and_parts (not (is_white b) && not (is_special b)) (not (is_listed alphabet b)) p.0 in
+    let r = and_parts (not (is_white b)) (not (is_special b)) q.0 in
+    (not-true _ r.0, not-true _ r.1, not-true _ q.1, not-true _ p.1)
+
+lone_takes : (alphabet : Alphabet) (b : ℕ) (after : List ℕ) → is_lone (is_listed alphabet b) b ≡ true → takes_next alphabet b after ≡ false
+lone_takes alphabet b after lone =
+    let p = lone_parts alphabet b lone in
+    let slash = (special_parts b p.1).1 in
+    λ i. slash i || (p.3 i && (begins_dollar after && is_doubled alphabet))
+
+lone_is : (alphabet : Alphabet) (b : ℕ) (after : List ℕ) → is_lone (is_listed alphabet b) b ≡ true → is_word_byte alphabet b after ≡ true
+lone_is alphabet b after lone =
+    let p = lone_parts alphabet b lone in
+    λ i. not (p.0 i) && not (p.1 i) && not (p.2 i) && not (p.3 i && means alphabet.dollars after)
 
 module _ (text : List ℕ) (i : ℕ) (within : i < length text) where
   abbrev b : ℕ
@@ -46,5 +67,16 @@ module _ (text : List ℕ) (i : ℕ) (within : i < length text) where
       → past_word alphabet false (drop i text) ≡ past_word alphabet false (drop (i + 1) text)
   word_byte alphabet takes is = ap (past_word alphabet false) at ∙ cond-false _ _ _ takes ∙ cond-true _ _ _ is
 
-  pub backslash_last : get_or text i 0 ≡ 92 → drop (i + 1 - 1) text ≡ 92 ∷ drop (i + 1) text
-  backslash_last is = let e : i + 1 - 1 ≡ i = omega arith in ap (λ n. drop n text) e ∙ at ∙ ap (λ x. x ∷ after) is
+  pub lone_byte : (alphabet : Alphabet) → is_lone (is_listed alphabet (get_or text i 0)) (get_or text i 0) ≡ true → past_word alphabet false (drop i text) ≡ past_word alphabet false (drop (i + 1) text)
+  lone_byte alphabet lone = word_byte alphabet (lone_takes alphabet b after lone) (lone_is alphabet b after lone)
+
+  pub word_pair : i + 1 < length text → (alphabet : Alphabet) → takes_next alphabet (get_or text i 0) (drop (i + 1) text) ≡ true → past_word alphabet false (drop i text) ≡ past_word alphabet false (drop (i + 2) text)
+  word_pair more alphabet takes =
+      let e : i + 1 + 1 ≡ i + 2 = omega arith in
+      word_taking_byte alphabet takes ∙ ap (past_word alphabet true) (drop_more text (i + 1) 0 more) ∙ ap (λ n. past_word alphabet false (drop n text)) e
+
+  -- a backslash that ends the text
+  pub word_end : get_or text i 0 ≡ 92 → length (drop (i + 1) text) ≡ 0 → (alphabet : Alphabet) → drop i text ≡ past_word alphabet false (drop i text)
+  word_end is none alphabet =
+      let one : drop i text ≡ 92 ∷ [] = at ∙ (λ j. is j ∷ nil_from_length after none j) in
+      one ∙ ap (past_word alphabet false) (sym one)

@@ -1,8 +1,9 @@
 -- The table of operators.
-use Rattle.std.proofs.Common.{◌≡◌, ℕ, ◌+◌, ◌<◌, ◌==◌, Bool, true, false, ◌||◌, List, length, drop, sym, ◌∙◌, ap, ⊎_elim, get_or, set}
+use Rattle.std.proofs.Common.{◌≡◌, ℕ, ◌+◌, ◌<◌, ◌≤◌, ◌==◌, nat_le, Bool, true, false, not, ◌&&◌, ◌||◌, List, [], ◌∷◌, length, drop, refl, sym, ◌∙◌, ap, ⊎_elim, get_or, set, arith}
 use Rattle.std.specs.List.{list_any}
-use Rattle.std.proofs.lemmas.Bool.{cases_eq, eq-eqb, ne_eqb, or_left, or_right}
+use Rattle.std.proofs.lemmas.Bool.{cases_eq, eq-eqb, ne_eqb, or_left, or_right, or_parts, false≢true, leb-true}
 use Rattle.std.proofs.lemmas.List.{get_or-set_same, get_or-set_other, drop_more}
+use Rattle.addr_tokens.specs.Reader.{is_lone}
 
 -- one more byte is listed
 pub listed_more : (listed : List Bool) (bytes : List ℕ) (i b : ℕ) → b < length listed → i < length bytes
@@ -19,3 +20,41 @@ listed_more listed bytes i b within more =
     ap (λ t. t || rest) (get_or-set_other listed x b true false (λ e. ne (sym e)))
     ∙ sym (ap (λ t. before || (t || rest)) (ne_eqb x b ne))) (cases_eq x b)
     ∙ ap (λ xs. get_or listed b false || list_any (λ o. o == b) xs) (sym (drop_more bytes i 0 more))
+
+-- what is listed stays so
+pub stays_listed : (listed : List Bool) (i b : ℕ) → i < length listed → get_or listed b false ≡ true → get_or (set listed i true) b false ≡ true
+stays_listed listed i b within is =
+    ⊎_elim (λ (e : b ≡ i). ap (λ k. get_or (set listed i true) k false) e ∙ get_or-set_same listed i true false within)
+    (λ (ne : b ≡ i → ⊥). get_or-set_other listed i b true false ne ∙ is) (cases_eq b i)
+
+-- one more byte from below is listed
+pub low_more : (listed : List Bool) (i b : ℕ) → i < length listed → (b < i → get_or listed b false ≡ true) → b < i + 1 → get_or (set listed i true) b false ≡ true
+low_more listed i b within before few =
+    ⊎_elim (λ (e : b ≡ i). ap (λ k. get_or (set listed i true) k false) e ∙ get_or-set_same listed i true false within)
+    (λ (ne : b ≡ i → ⊥). get_or-set_other listed i b true false ne ∙ before (omega (arith, ne, few))) (cases_eq b i)
+
+false_by : (x y : Bool) → (x ≡ true → y ≡ true) → y ≡ false → x ≡ false
+false_by false y to none = refl
+false_by true y to none = absurd (false≢true (sym none ∙ to refl))
+
+turned : (a b : ℕ) → (a == b) ≡ false → (b == a) ≡ false
+turned a b other = ne_eqb b a (λ e. false≢true (sym other ∙ eq-eqb a b (sym e)))
+
+-- the bytes of which it is asked whether they stand in a word, beside operators and white space up to the space
+abbrev pub asked_beside : List ℕ
+asked_beside = 34 ∷ 92 ∷ 40 ∷ 41 ∷ 36 ∷ 127 ∷ []
+
+-- a byte that isn't asked
+pub lone_byte_is : (listed low : List Bool) (b : ℕ) → (get_or listed b false ≡ true → get_or low b false ≡ true) → (b ≤ 32 → get_or low b false ≡ true)
+    → (get_or low b false || list_any (λ o. o == b) asked_beside) ≡ false → is_lone (get_or listed b false) b ≡ true
+lone_byte_is listed low b kept white none =
+    let p = or_parts (get_or low b false) _ none in
+    let quote = or_parts (34 == b) _ p.1 in
+    let slash = or_parts (92 == b) _ quote.1 in
+    let opens = or_parts (40 == b) _ slash.1 in
+    let closes = or_parts (41 == b) _ opens.1 in
+    let dollar = or_parts (36 == b) _ closes.1 in
+    let delete = or_parts (127 == b) _ dollar.1 in
+    let high = false_by (nat_le b 32) (get_or low b false) (λ le. white (leb-true b 32 le)) p.0 in
+    let unlisted = false_by (get_or listed b false) (get_or low b false) kept p.0 in
+    λ i. not (high i || turned 127 b delete.0 i) && not (turned 34 b quote.0 i || turned 92 b slash.0 i || turned 40 b opens.0 i || turned 41 b closes.0 i) && not (unlisted i) && not (turned 36 b dollar.0 i)

@@ -1,5 +1,5 @@
 -- How a text is read from the left: the lexemes or the fault that `outcome_of` computes are those that Pieces and Scans say, by a law.
-use Rattle.std.specs.Prelude.{◌≡◌, ℕ, zero, suc, ◌+◌, ◌-◌, ◌<◌, Bool, true, false, ◌&&◌, ◌||◌, ◌==◌, nat_le, List, [], ◌∷◌, ◌++◌, length, take, slice_index, slice_index_or, Option, Some, None, Result, Ok, Err, if◌then◌else◌}
+use Rattle.std.specs.Prelude.{◌≡◌, ℕ, zero, suc, ◌+◌, ◌-◌, ◌<◌, Bool, true, false, not, ◌&&◌, ◌||◌, ◌==◌, nat_le, List, [], ◌∷◌, ◌++◌, length, take, slice_index, slice_index_or, Option, Some, None, Result, Ok, Err, if◌then◌else◌}
 use Rattle.mail_base.specs.declared.token.Token.{Token}
 use Rattle.addr_tokens.specs.declared.lexeme.Dollars.{Dollars}
 use Rattle.addr_tokens.specs.declared.lexeme.Lexeme.{Lexeme}
@@ -8,7 +8,7 @@ use Rattle.std.specs.List.{flat_map}
 use Rattle.addr_tokens.specs.declared.fault.ScanFault.{ScanFault}
 use Rattle.addr_tokens.specs.declared.fault.ScanFault.TheVariants.{Unbalanced, BadQuote, BadDollar, Long}
 use Rattle.mail_base.specs.Whites.{is_white}
-use Rattle.addr_tokens.specs.Pieces.{Alphabet, Single, Letter, Braced, Piece, White, Comment, Quotation, Operator, Dollar, Run, bytes_of, given_by, is_control, is_listed, is_word_byte, means, is_dollar, is_doubled, is_construct, is_naming, is_name}
+use Rattle.addr_tokens.specs.Pieces.{Alphabet, Single, Letter, Braced, Piece, White, Comment, Quotation, Operator, Dollar, Run, bytes_of, given_by, is_control, is_special, is_listed, is_word_byte, means, is_dollar, is_doubled, is_construct, is_naming, is_name}
 use Rattle.addr_tokens.specs.Scans.{most_tokens}
 use Rattle.addr_tokens.specs.Joins.{token_bytes, is_string, blank_bytes}
 
@@ -212,3 +212,11 @@ joined_on after blank (token ∷ tokens) = (if after && is_string token then bla
 pub record IsTable (alphabet : Alphabet) (listed : List Bool) (dollars : Dollars) : Type 0 where
   pub at : (b : ℕ) → b < 256 → slice_index_or listed b false ≡ is_listed alphabet b
   pub means : dollars ≡ alphabet.dollars
+
+-- a byte that stands in a word whatever is behind it, where it is listed or isn't
+abbrev pub is_lone : Bool → ℕ → Bool
+is_lone listed b = not (is_white b) && not (is_special b) && not listed && not (b == 36)
+
+-- a byte that isn't in the second table is one, by the first, of operators
+abbrev pub AreLone : List Bool → List Bool → Type 0
+AreLone listed asked = (b : ℕ) → b < 256 → slice_index_or asked b false ≡ false → is_lone (slice_index_or listed b false) b ≡ true

@@ -6,7 +6,8 @@ ghost use Rattle.addr_tokens.specs.Reader.{IsTable};
 ghost use Rattle.addr_tokens.specs.Views.{construct_read, braces_read, size_behind};
 
 use crate::ScanFault;
-use crate::table::{Table, is_white};
+use crate::table::Table;
+use mail_base::is_white;
 
 /// A dollar sign with its byte, and maybe with a name.
 #[derive(Clone, Copy)]
@@ -55,7 +56,8 @@ pub(crate) fn construct_of(table: &Table, text: &[u8], place: u64) -> Result<Con
 fn named_of(text: &[u8], place: u64) -> Result<Construct, ScanFault>
     requires { 0 < length text.now }
     ensures within { IfOk result (λ found. size_behind found ≤ length text.now) }
-    ensures read { reader.first_named place (slice_index text.now 0) (drop 1 text.now) ≡ construct_read text.now result }
+    ensures read { reader.first_named place (slice_index text.now 0) (drop 1 text.now)
+        ≡ construct_read text.now result }
 {
     if text.len() < 2 {
         return Err(ScanFault::BadDollar(place));
@@ -74,7 +76,8 @@ fn named_of(text: &[u8], place: u64) -> Result<Construct, ScanFault>
 fn braced_of(text: &[u8], place: u64) -> Result<Construct, ScanFault>
     requires { 1 < length text.now }
     ensures within { IfOk result (λ found. size_behind found ≤ length text.now) }
-    ensures read { reader.first_braced place (slice_index text.now 0) (reader.in_braces (drop 2 text.now))
+    ensures read { reader.first_braced place (slice_index text.now 0)
+        (reader.in_braces (drop 2 text.now))
         ≡ construct_read text.now result }
 {
     match brace_at(&text[2..]) {

@@ -20,18 +20,26 @@ pub(crate) fn word_length(table: &Table, text: &[u8]) -> usize
     ensures rest { (alphabet : Alphabet) → IsTable alphabet table.now.listed table.now.dollars
         → drop result text.now ≡ past_word alphabet false text.now }
 {
-    let mut taken = false;
-    'bytes: for (index, byte) in text.iter().enumerate() {
-        let after = &text[index + 1..];
-        if taken {
-            taken = false;
-        } else if table.takes_next(*byte, after) {
-            taken = true;
-        } else if !table.is_word_byte(*byte, after) {
-            return index;
+    let mut size = 0usize;
+    'bytes: while size < text.len() {
+        let byte = text[size];
+        if table.is_lone(byte) {
+            size += 1;
+            continue 'bytes;
+        }
+        let after = &text[size + 1..];
+        if table.takes_next(byte, after) {
+            if size + 1 == text.len() {
+                return size;
+            }
+            size += 2;
+        } else if table.is_word_byte(byte, after) {
+            size += 1;
+        } else {
+            return size;
         }
     }
-    if taken { text.len() - 1 } else { text.len() }
+    size
 }
 
 /// How the quoted string ends whose first double quote stands before the text.

@@ -8,7 +8,8 @@ ghost use Rattle.addr_tokens.specs.Views.{front_read, size_of};
 use crate::ScanFault;
 use crate::construct::{Construct, construct_of};
 use crate::ending::{Ending, comment_end, quote_end, word_length};
-use crate::table::{Table, is_white};
+use crate::table::Table;
+use mail_base::is_white;
 
 /// The piece that a text begins with, and how many bytes it has.
 #[derive(Clone, Copy)]
@@ -41,7 +42,8 @@ pub(crate) fn first_of(table: &Table, text: &[u8], place: u64) -> Result<Front, 
     ensures some { IfOk result (λ front. 0 < size_of front) }
     ensures within { IfOk result (λ front. size_of front ≤ length text.now) }
     ensures read { (alphabet : Alphabet) → IsTable alphabet table.now.listed table.now.dollars
-        → reader.first_of alphabet place (slice_index text.now 0) (drop 1 text.now) ≡ front_read text.now result }
+        → reader.first_of alphabet place (slice_index text.now 0) (drop 1 text.now)
+        ≡ front_read text.now result }
 {
     let byte = text[0];
     if is_white(byte) {
@@ -69,7 +71,8 @@ fn plain_of(table: &Table, text: &[u8], place: u64) -> Result<Front, ScanFault>
     ensures some { IfOk result (λ front. 0 < size_of front) }
     ensures within { IfOk result (λ front. size_of front ≤ length text.now) }
     ensures read { (alphabet : Alphabet) → IsTable alphabet table.now.listed table.now.dollars
-        → reader.first_of alphabet place (slice_index text.now 0) (drop 1 text.now) ≡ front_read text.now result }
+        → reader.first_of alphabet place (slice_index text.now 0) (drop 1 text.now)
+        ≡ front_read text.now result }
 {
     let byte = text[0];
     if table.is_listed(byte) {
@@ -105,7 +108,8 @@ fn run_of(table: &Table, text: &[u8], place: u64) -> Result<Front, ScanFault>
     ensures some { IfOk result (λ front. 0 < size_of front) }
     ensures within { IfOk result (λ front. size_of front ≤ length text.now) }
     ensures read { (alphabet : Alphabet) → IsTable alphabet table.now.listed table.now.dollars
-        → reader.first_word place text.now (reader.past_word alphabet false text.now) ≡ front_read text.now result }
+        → reader.first_word place text.now (reader.past_word alphabet false text.now)
+        ≡ front_read text.now result }
 {
     let size = word_length(table, text);
     if size == 0 {
@@ -119,7 +123,8 @@ fn quotation_of(text: &[u8], place: u64) -> Result<Front, ScanFault>
     requires place { place + length text.now < 2 ^ 64 }
     ensures some { IfOk result (λ front. 0 < size_of front) }
     ensures within { IfOk result (λ front. size_of front ≤ length text.now) }
-    ensures read { reader.first_quote place text.now (reader.past_quote false (drop 1 text.now)) ≡ front_read text.now result }
+    ensures read { reader.first_quote place text.now (reader.past_quote false (drop 1 text.now))
+        ≡ front_read text.now result }
 {
     match quote_end(&text[1..]) {
         Ending::Closed(size) => Ok(Front::Quotation(size + 1)),
@@ -133,7 +138,8 @@ fn comment_of(text: &[u8], place: u64) -> Result<Front, ScanFault>
     requires place { place + length text.now < 2 ^ 64 }
     ensures some { IfOk result (λ front. 0 < size_of front) }
     ensures within { IfOk result (λ front. size_of front ≤ length text.now) }
-    ensures read { reader.first_comment place text.now (reader.past_comment 0 false (drop 1 text.now)) ≡ front_read text.now result }
+    ensures read { reader.first_comment place text.now
+        (reader.past_comment 0 false (drop 1 text.now)) ≡ front_read text.now result }
 {
     match comment_end(&text[1..]) {
         Ending::Closed(size) => Ok(Front::Comment(size + 1)),

@@ -38,10 +38,12 @@ impl Angles {
     pub(crate) fn note(&mut self, front: Front, place: u64) -> Result<(), ScanFault>
         ensures checked { self.new.checked ≡ self.old.checked }
         ensures places { OnOk result ((text : List ℕ)
-            → note_angle self.old.checked place (reverse self.old.places.items) (piece_of front text)
+            → note_angle self.old.checked place (reverse self.old.places.items)
+            (piece_of front text)
             ≡ Ok (reverse self.new.places.items)) }
         ensures fault { IfErr result (λ fault. fault ≢ Memory → (text : List ℕ)
-            → note_angle self.old.checked place (reverse self.old.places.items) (piece_of front text) ≡ Err fault) }
+            → note_angle self.old.checked place (reverse self.old.places.items)
+            (piece_of front text) ≡ Err fault) }
     {
         if !self.checked {
             return Ok(());
@@ -55,15 +57,18 @@ impl Angles {
 
     fn begin(&mut self, place: u64) -> Result<(), NoMemory>
         ensures checked { self.new.checked ≡ self.old.checked }
-        ensures places { OnOk result (reverse self.new.places.items ≡ place ∷ reverse self.old.places.items) }
+        ensures places { OnOk result (reverse self.new.places.items
+            ≡ place ∷ reverse self.old.places.items) }
     {
         Ok(self.places.push(place)?)
     }
 
     fn close(&mut self, place: u64) -> Result<(), ScanFault>
         ensures checked { self.new.checked ≡ self.old.checked }
-        ensures places { OnOk result (close_angle place (reverse self.old.places.items) ≡ Ok (reverse self.new.places.items)) }
-        ensures fault { IfErr result (λ fault. close_angle place (reverse self.old.places.items) ≡ Err fault) }
+        ensures places { OnOk result (close_angle place (reverse self.old.places.items)
+            ≡ Ok (reverse self.new.places.items)) }
+        ensures fault { IfErr result (λ fault. close_angle place (reverse self.old.places.items)
+            ≡ Err fault) }
     {
         match self.places.pop() {
             Some(_) => Ok(()),
@@ -74,7 +79,8 @@ impl Angles {
     /// At the end of the text.
     pub(crate) fn end(&self) -> Result<(), ScanFault>
         ensures none { OnOk result (judge_end (reverse self.now.places.items) None ≡ Ok []) }
-        ensures fault { IfErr result (λ fault. judge_end (reverse self.now.places.items) None ≡ Err fault) }
+        ensures fault { IfErr result (λ fault. judge_end (reverse self.now.places.items) None
+            ≡ Err fault) }
     {
         match self.places.last() {
             Some(place) => Err(ScanFault::Unbalanced(*place)),
@@ -106,9 +112,11 @@ impl<T: Given> Gathering<T> {
     /// Adds what the piece gives that a text begins with.
     pub(crate) fn add(&mut self, front: Front, text: &[u8]) -> Result<(), NoMemory>
         requires { size_of front ≤ length text.now }
-        ensures { OnOk result ((dollars : TheDollars) → T.serves dollars → Suits dollars front → (more : Answer)
+        ensures { OnOk result ((dollars : TheDollars) → T.serves dollars → Suits dollars front
+            → (more : Answer)
             → gathered self.new.is_long (map T.seen self.new.given) more
-            ≡ gathered self.old.is_long (map T.seen self.old.given) (with_lexemes (given_by dollars (piece_of front text.now)) more)) }
+            ≡ gathered self.old.is_long (map T.seen self.old.given)
+            (with_lexemes (given_by dollars (piece_of front text.now)) more)) }
     {
         if gives_nothing(front) {
             return Ok(());
@@ -124,8 +132,10 @@ impl<T: Given> Gathering<T> {
     }
 
     pub(crate) fn given(self) -> Result<Seq<T>, ScanFault>
-        ensures ok { IfOk result (λ given. gathered self.is_long (map T.seen self.given) (Ok []) ≡ Ok (map T.seen given)) }
-        ensures long { IfErr result (λ fault. gathered self.is_long (map T.seen self.given) (Ok []) ≡ Err fault) }
+        ensures ok { IfOk result (λ given. gathered self.is_long (map T.seen self.given) (Ok [])
+            ≡ Ok (map T.seen given)) }
+        ensures long { IfErr result (λ fault. gathered self.is_long (map T.seen self.given) (Ok [])
+            ≡ Err fault) }
     {
         if self.is_long {
             return Err(ScanFault::Long);
@@ -150,8 +160,10 @@ pub(crate) fn answer_of<T: Given>(
 
 /// White space and comments give nothing.
 fn gives_nothing(front: Front) -> bool
-    ensures nothing { result ≡ true → (dollars : TheDollars) (text : List ℕ) → given_by dollars (piece_of front text) ≡ [] }
-    ensures one { result ≡ false → (dollars : TheDollars) (text : List ℕ) → length (given_by dollars (piece_of front text)) ≡ 1 }
+    ensures nothing { result ≡ true → (dollars : TheDollars) (text : List ℕ)
+        → given_by dollars (piece_of front text) ≡ [] }
+    ensures one { result ≡ false → (dollars : TheDollars) (text : List ℕ)
+        → length (given_by dollars (piece_of front text)) ≡ 1 }
 {
     matches!(front, Front::White | Front::Comment(_))
 }

@@ -26,7 +26,8 @@ pub(crate) trait Given: Drop {
     /// What the piece that begins a text gives.
     fn of(alloc: Global, front: Front, text: &[u8]) -> Result<Option<Self>, NoMemory>
         requires { size_of front ≤ length text.now }
-        ensures { IfOk result (λ given. (dollars : TheDollars) → serves dollars → Suits dollars front
+        ensures { IfOk result (λ given. (dollars : TheDollars) → serves dollars
+            → Suits dollars front
             → given_by dollars (piece_of front text.now) ≡ seen_in seen given) };
 }
 
@@ -110,7 +111,8 @@ fn lexeme_of(alloc: Global, front: Front, text: &[u8]) -> Result<Option<Lexeme>,
 /// The lexeme of a construct in a rule's side. The dollar sign stands before the text.
 fn construct_lexeme(alloc: Global, construct: Construct, text: &[u8]) -> Result<Lexeme, NoMemory>
     requires { size_behind construct ≤ length text.now }
-    ensures { IfOk result (λ lexeme. lexeme ≡ spec.lexeme_of Side (construct_in construct text.now)) }
+    ensures { IfOk result (λ lexeme. lexeme
+        ≡ spec.lexeme_of Side (construct_in construct text.now)) }
 {
     match construct {
         Construct::Single(b'$') => Ok(Lexeme::Token(Token::Op(b'$'))),
@@ -153,7 +155,8 @@ fn front_size(bytes: &[u8]) -> (usize, usize)
     ensures some { 0 < result.1 }
     ensures within { result.1 ≤ length bytes.now }
     ensures kept { result.0 ≤ result.1 }
-    ensures undoubled { spec.undoubled bytes.now ≡ take result.0 bytes.now ++ spec.undoubled (drop result.1 bytes.now) }
+    ensures undoubled { spec.undoubled bytes.now
+        ≡ take result.0 bytes.now ++ spec.undoubled (drop result.1 bytes.now) }
 {
     if bytes.len() < 2 {
         return (1, 1);

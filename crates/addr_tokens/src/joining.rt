@@ -4,8 +4,8 @@ ghost use Rattle.addr_tokens.specs.Joins as spec;
 use mail_base::{Mark, NoMemory, Seq, Text, Token};
 use std::alloc::Global;
 
-/// The bytes of the tokens, with the blank between two neighbours that are both Word or Quoted. A sign is
-/// written `$|`, `$#`, `$@`, `$:` or `$.`.
+/// The bytes of the tokens, with the blank between two neighbours that are both Word or Quoted. A
+/// sign is written `$|`, `$#`, `$@`, `$:` or `$.`.
 pub fn join(alloc: Global, tokens: &Seq<Token>, blank: Option<u8>) -> Result<Text, NoMemory>
     ensures { IfOk result (λ text. text ≡ spec.joined blank tokens.now) }
 {

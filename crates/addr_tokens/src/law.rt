@@ -20,11 +20,14 @@ pub fn one_answer()
     ensures some { (alphabet : Alphabet) (angles : Bool) (text : List ℕ)
         → ((lexemes : List TheLexeme) × AreLexemes alphabet angles text lexemes)
         ⊎ ((fault : TheFault) × HasFault alphabet angles text fault) }
-    ensures lexemes { (alphabet : Alphabet) (angles : Bool) (text : List ℕ) (one other : List TheLexeme)
-        → AreLexemes alphabet angles text one → AreLexemes alphabet angles text other → one ≡ other }
+    ensures lexemes { (alphabet : Alphabet) (angles : Bool) (text : List ℕ)
+        (one other : List TheLexeme)
+        → AreLexemes alphabet angles text one → AreLexemes alphabet angles text other
+        → one ≡ other }
     ensures fault { (alphabet : Alphabet) (angles : Bool) (text : List ℕ) (one other : TheFault)
         → HasFault alphabet angles text one → HasFault alphabet angles text other → one ≡ other }
-    ensures either { (alphabet : Alphabet) (angles : Bool) (text : List ℕ) (lexemes : List TheLexeme) (fault : TheFault)
+    ensures either { (alphabet : Alphabet) (angles : Bool) (text : List ℕ)
+        (lexemes : List TheLexeme) (fault : TheFault)
         → AreLexemes alphabet angles text lexemes → HasFault alphabet angles text fault → ⊥ }
 {}
 
@@ -37,24 +40,29 @@ pub fn lexemes_are_tokens()
 
 /// What is computed is what a cutting gives, or the first fault.
 pub fn computed()
-    ensures lexemes { (alphabet : Alphabet) (angles : Bool) (text : List ℕ) (lexemes : List TheLexeme)
-        → ((outcome_of alphabet angles text ≡ Ok lexemes) ↔ (AreLexemes alphabet angles text lexemes)) }
+    ensures lexemes { (alphabet : Alphabet) (angles : Bool) (text : List ℕ)
+        (lexemes : List TheLexeme)
+        → ((outcome_of alphabet angles text ≡ Ok lexemes)
+        ↔ (AreLexemes alphabet angles text lexemes)) }
     ensures fault { (alphabet : Alphabet) (angles : Bool) (text : List ℕ) (fault : TheFault)
         → ((outcome_of alphabet angles text ≡ Err fault) ↔ (HasFault alphabet angles text fault)) }
     ensures tokens { (alphabet : Alphabet) (angles : Bool) (text : List ℕ) (tokens : List TheToken)
         → is_side alphabet.dollars ≡ false
-        → ((tokens_or_fault alphabet angles text ≡ Ok tokens) ↔ (AreTokens alphabet angles text tokens)) }
+        → ((tokens_or_fault alphabet angles text ≡ Ok tokens)
+        ↔ (AreTokens alphabet angles text tokens)) }
 {}
 
-/// The tokens of a text that are joined with white space are cut into the same tokens, under the same
-/// operators. Without a blank they are where no two words are neighbours, and only there.
+/// The tokens of a text that are joined with white space are cut into the same tokens, under the
+/// same operators. Without a blank they are where no two words are neighbours, and only there.
 pub fn cut_again()
-    ensures spaced { (operators : List ℕ) (angles : Bool) (text : List ℕ) (tokens : List TheToken) (white : ℕ)
+    ensures spaced { (operators : List ℕ) (angles : Bool) (text : List ℕ) (tokens : List TheToken)
+        (white : ℕ)
         → AreTokens (plain operators) angles text tokens → is_white white ≡ true
         → AreTokens (plain operators) angles (joined (Some white) tokens) tokens }
     ensures close { (operators : List ℕ) (angles : Bool) (text : List ℕ) (tokens : List TheToken)
         → AreTokens (plain operators) angles text tokens → have_neighbours tokens ≡ false
         → AreTokens (plain operators) angles (joined None tokens) tokens }
     ensures only { (operators : List ℕ) (angles : Bool) (tokens : List TheToken)
-        → AreTokens (plain operators) angles (joined None tokens) tokens → have_neighbours tokens ≡ false }
+        → AreTokens (plain operators) angles (joined None tokens) tokens
+        → have_neighbours tokens ≡ false }
 {}

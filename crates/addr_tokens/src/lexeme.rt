@@ -1,13 +1,13 @@
 use mail_base::{Text, Token};
 
-/// What a dollar sign means in a text, where it stands neither in quotes nor in a comment nor behind a
-/// backslash.
+/// What a dollar sign means in a text, where it stands neither in quotes nor in a comment nor
+/// behind a backslash.
 #[derive(Clone, Copy)]
 pub enum Dollars {
     /// Nothing: it is a byte like another.
     Bytes,
-    /// In an address that is typed `$|`, `$#`, `$@`, `$:` and `$.` are those signs, and each other dollar
-    /// sign is a byte.
+    /// In an address that is typed `$|`, `$#`, `$@`, `$:` and `$.` are those signs, and each other
+    /// dollar sign is a byte.
     Typed,
     /// In a side of a rule each begins a construct, or is doubled and stands for one dollar sign.
     Side,

@@ -1,6 +1,7 @@
-//! The tokens of an address: [`tokens`] cuts a text into its tokens, and [`join`] joins tokens to a text.
-//! [`typed_tokens`] reads an address that is typed, and [`lexemes`] a side of a rule, with its dollar signs.
-//! `specs/Pieces.antt` says what a cutting is, and `specs/Scans.antt` which fault is the first.
+//! The tokens of an address: [`tokens`] cuts a text into its tokens, and [`join`] joins tokens to a
+//! text. [`typed_tokens`] reads an address that is typed, and [`lexemes`] a side of a rule, with
+//! its dollar signs. `specs/Pieces.antt` says what a cutting is, and `specs/Scans.antt` which fault
+//! is the first.
 #![tactic(auto)]
 
 mod construct;

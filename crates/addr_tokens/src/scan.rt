@@ -13,16 +13,18 @@ use mail_base::{Seq, Text, Token};
 use std::alloc::Global;
 
 /// The tokens of a text, each a Word, a Quoted token or an operator. The operators are the bytes of
-/// `operators` and always `(`, `)`, `<`, `>`, `,` and `;`. Where `angles` says so, each `<` needs its `>`.
-/// At most 2,000 tokens are given; a fault of the text goes before `Long`.
+/// `operators` and always `(`, `)`, `<`, `>`, `,` and `;`. Where `angles` says so, each `<` needs
+/// its `>`. At most 2,000 tokens are given; a fault of the text goes before `Long`.
 pub fn tokens(
     alloc: Global,
     text: &Text,
     operators: &Text,
     angles: bool,
 ) -> Result<Seq<Token>, ScanFault>
-    ensures tokens { IfOk result (λ tokens. AreTokens (plain operators.now) angles text.now tokens) }
-    ensures fault { IfErr result (λ fault. ExplainsFault (plain operators.now) angles text.now fault) }
+    ensures tokens { IfOk result (λ tokens.
+        AreTokens (plain operators.now) angles text.now tokens) }
+    ensures fault { IfErr result (λ fault.
+        ExplainsFault (plain operators.now) angles text.now fault) }
 {
     scan(
         alloc,
@@ -33,16 +35,18 @@ pub fn tokens(
     )
 }
 
-/// The tokens of an address that is typed, in which `$|`, `$#`, `$@`, `$:` and `$.` are those signs. All
-/// else is as in [`tokens`].
+/// The tokens of an address that is typed, in which `$|`, `$#`, `$@`, `$:` and `$.` are those
+/// signs. All else is as in [`tokens`].
 pub fn typed_tokens(
     alloc: Global,
     text: &Text,
     operators: &Text,
     angles: bool,
 ) -> Result<Seq<Token>, ScanFault>
-    ensures tokens { IfOk result (λ tokens. AreTokens (alphabet_of operators.now Typed) angles text.now tokens) }
-    ensures fault { IfErr result (λ fault. ExplainsFault (alphabet_of operators.now Typed) angles text.now fault) }
+    ensures tokens { IfOk result (λ tokens.
+        AreTokens (alphabet_of operators.now Typed) angles text.now tokens) }
+    ensures fault { IfErr result (λ fault.
+        ExplainsFault (alphabet_of operators.now Typed) angles text.now fault) }
 {
     scan(
         alloc,
@@ -53,17 +57,20 @@ pub fn typed_tokens(
     )
 }
 
-/// What a side of a rule is made of, under the same operators as [`tokens`]: tokens, and dollar signs with
-/// their bytes and names. A doubled dollar sign is one in its token; in a comment or behind a backslash a
-/// dollar sign is a byte, and so it is in quotes. At most 2,000 lexemes are given.
+/// What a side of a rule is made of, under the same operators as [`tokens`]: tokens, and dollar
+/// signs with their bytes and names. A doubled dollar sign is one in its token; in a comment or
+/// behind a backslash a dollar sign is a byte, and so it is in quotes. At most 2,000 lexemes are
+/// given.
 pub fn lexemes(
     alloc: Global,
     text: &Text,
     operators: &Text,
     angles: bool,
 ) -> Result<Seq<Lexeme>, ScanFault>
-    ensures lexemes { IfOk result (λ lexemes. AreLexemes (alphabet_of operators.now Side) angles text.now lexemes) }
-    ensures fault { IfErr result (λ fault. ExplainsFault (alphabet_of operators.now Side) angles text.now fault) }
+    ensures lexemes { IfOk result (λ lexemes.
+        AreLexemes (alphabet_of operators.now Side) angles text.now lexemes) }
+    ensures fault { IfErr result (λ fault.
+        ExplainsFault (alphabet_of operators.now Side) angles text.now fault) }
 {
     scan(
         alloc,
@@ -82,8 +89,10 @@ fn scan<T: Given>(
     dollars: Dollars,
 ) -> Result<Seq<T>, ScanFault>
     requires { T.serves dollars }
-    ensures given { IfOk result (λ given. AreLexemes (alphabet_of operators.now dollars) angles text.now (map T.seen given)) }
-    ensures fault { IfErr result (λ fault. ExplainsFault (alphabet_of operators.now dollars) angles text.now fault) }
+    ensures given { IfOk result (λ given.
+        AreLexemes (alphabet_of operators.now dollars) angles text.now (map T.seen given)) }
+    ensures fault { IfErr result (λ fault.
+        ExplainsFault (alphabet_of operators.now dollars) angles text.now fault) }
 {
     let table = Table::of(operators, dollars);
     let mut open = Angles::new(alloc, angles);

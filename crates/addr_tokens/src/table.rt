@@ -1,21 +1,28 @@
-ghost use Rattle.mail_base.specs.Whites.{is_white};
-ghost use Rattle.std.specs.Prelude.{◌≡◌, ◌<◌, ◌==◌, ◌&&◌, ◌||◌, ◌⊎◌, ℕ, List, true, false, length, slice_index, slice_index_or};
+ghost use Rattle.std.specs.Prelude.{◌≡◌, ◌≤◌, ◌<◌, ◌==◌, ◌&&◌, ◌||◌, ◌⊎◌, ℕ, List, true, false, length, slice_index, slice_index_or};
 ghost use Rattle.std.specs.List.{list_any};
 ghost use Rattle.addr_tokens.specs.Pieces as spec;
 ghost use Rattle.addr_tokens.specs.Pieces.{Alphabet, alphabet_of};
 ghost use Rattle.addr_tokens.specs.Reader as reader;
-ghost use Rattle.addr_tokens.specs.Reader.{IsTable};
+ghost use Rattle.addr_tokens.specs.Reader.{IsTable, AreLone};
 
 use crate::lexeme::Dollars;
+use mail_base::is_white;
 
 /// These are operators always, beside the parentheses, which make comments.
 const FIXED_OPERATORS: &[u8] = b"<>,;";
 
-/// Which bytes are operators, and what a dollar sign means.
+/// These have a meaning of their own, and so have operators and white space up to the space.
+const ASKED: &[u8] = b"\"\\()$\x7f";
+
+/// Which bytes are operators, which stand in words whatever is behind them, and what a dollar sign
+/// means.
 #[derive(Drop)]
 pub(crate) struct Table {
     listed: [bool; 256],
+    /// Each other byte stands in a word whatever is behind it.
+    asked: [bool; 256],
     dollars: Dollars,
+    ghost lone: { AreLone listed asked },
 }
 
 impl Table {
@@ -25,7 +32,12 @@ impl Table {
         let mut listed = [false; 256];
         list(&mut listed, operators);
         list(&mut listed, FIXED_OPERATORS);
-        Table { listed, dollars }
+        let asked = asked_bytes(listed);
+        Table {
+            listed,
+            asked,
+            dollars,
+        }
     }
 
     /// Whether a byte is an operator, where it isn't white space and neither quotes nor comments.
@@ -45,6 +57,14 @@ impl Table {
             && !is_special(byte)
             && !self.is_listed(byte)
             && !(byte == b'$' && self.means(after))
+    }
+
+    /// Whether a byte stands in a word whatever is behind it.
+    pub(crate) fn is_lone(&self, byte: u8) -> bool
+        ensures { (alphabet : Alphabet) → IsTable alphabet self.now.listed self.now.dollars
+            → result ≡ true → reader.is_lone (spec.is_listed alphabet byte) byte ≡ true }
+    {
+        !self.asked[usize::from(byte)]
     }
 
     /// Whether a byte takes the next one into its word.
@@ -107,19 +127,34 @@ fn list(listed: &mut [bool; 256], bytes: &[u8])
     }
 }
 
+/// A table that has all but the bytes that stand in a word whatever is behind them, made of that of
+/// the operators.
+fn asked_bytes(listed: [bool; 256]) -> [bool; 256]
+    ensures { AreLone listed result }
+{
+    let mut asked = listed;
+    list_low(&mut asked);
+    list(&mut asked, ASKED);
+    asked
+}
+
+/// Lists the space and the bytes below it, which are white space.
+fn list_low(listed: &mut [bool; 256])
+    ensures kept { (b : ℕ) → slice_index_or listed.old b false ≡ true
+        → slice_index_or listed.new b false ≡ true }
+    ensures low { (b : ℕ) → b ≤ 32 → slice_index_or listed.new b false ≡ true }
+{
+    'bytes: for byte in 0..33usize {
+        listed[byte] = true;
+    }
+}
+
 /// The first byte of a text, or 0 where there is none.
 fn byte_at_front(text: &[u8]) -> u8
     ensures value { result ≡ slice_index text.now 0 }
     ensures some { 0 < result → 0 < length text.now }
 {
     if text.is_empty() { 0 } else { text[0] }
-}
-
-/// White space: a space, a tab, any byte below 32, and 127.
-pub(crate) fn is_white(byte: u8) -> bool
-    ensures { result ≡ is_white byte }
-{
-    byte <= b' ' || byte == 127
 }
 
 /// A byte that may not stand in quotes.

@@ -1,5 +1,5 @@
 -- What the levels of references under way stand for, from the text that is expanded up to the value that is read.
-use Rattle.std.specs.Prelude.{ℕ, List, [], ◌∷◌, ◌++◌, map, Option, None, Some, Bool, true, false, if◌then◌else◌, Result, Ok, Err, ◌≡◌, ◌<◌, ◌≤◌, ◌-◌, length}
+use Rattle.std.specs.Prelude.{ℕ, List, [], ◌∷◌, ◌++◌, map, Option, None, Some, Bool, true, false, if◌then◌else◌, Result, Ok, Err, ◌≡◌, ◌<◌, ◌≤◌, ◌+◌, ◌-◌, length}
 use Rattle.cf_macros.specs.declared.fault.ExpandFault.{ExpandFault}
 use Rattle.cf_macros.specs.declared.fault.ExpandFault.TheVariants.{Unclosed, Deep, Large, NoMemory}
 use Rattle.cf_macros.specs.declared.level.Level.{Level}
@@ -23,6 +23,10 @@ either false other = other
 
 abbrev pub level_rest : Level → Reading
 level_rest level = rest_at level.scope level.text.now level.place
+
+-- what is left of the text behind so many bytes more
+abbrev pub rest_behind : Level → ℕ → Reading
+rest_behind level width = rest_at level.scope level.text.now (level.place + width)
 
 -- what waits for the levels above it, for a test or for a reference: its acts from here on, or else those of the other part
 abbrev pub waiting : Bool → Bool → List Act → List Act → Above → Above

@@ -9,7 +9,8 @@ use bstr::ByteSlice;
 /// What a construct is.
 #[derive(Clone, Copy)]
 pub(crate) enum Kind {
-    /// Bytes that stand for themselves or stay as they are written, and a dollar sign that was written twice.
+    /// Bytes that stand for themselves or stay as they are written, and a dollar sign that was
+    /// written twice.
     Plain,
     /// `$x` and `${x}`, and outside rules `$&x` and `$&{x}`.
     Reference,
@@ -88,7 +89,8 @@ fn reference_at(text: &[u8], offset: usize) -> Construct<'_>
     requires behind { 1 ≤ offset }
     requires within { offset ≤ length text.now }
     requires two { 2 ≤ length text.now }
-    ensures { Shows result (reference_at offset text.now (name_at (drop offset text.now))) (length text.now) }
+    ensures { Shows result (reference_at offset text.now (name_at (drop offset text.now)))
+        (length text.now) }
 {
     match name_at(&text[offset..]) {
         Naming::Letter => Construct {

@@ -153,9 +153,9 @@ fn civil_of(seconds: u64) -> Civil
     }
 }
 
-/// The date of a moment in UTC, a count of seconds from the beginning of 1970, as the macro b, d or t has
-/// it. A moment above 32,503,680,000, the beginning of the year 3000, counts as that (RFC 5322, section 3.3;
-/// Sendmail Installation and Operation Guide, macros).
+/// The date of a moment in UTC, a count of seconds from the beginning of 1970, as the macro b, d or
+/// t has it. A moment above 32,503,680,000, the beginning of the year 3000, counts as that (RFC
+/// 5322, section 3.3; Sendmail Installation and Operation Guide, macros).
 pub fn date(alloc: Global, moment: u64, form: Form) -> Result<Text, NoMemory>
     ensures { IfOk result (IsDateText form moment) }
 {

@@ -52,11 +52,13 @@ impl<'a> Run<'a> {
     }
 
     fn follow(&mut self, macros: &'a Macros, name: &[u8]) -> Result<(), ExpandFault>
-        ensures same { OnOk result (comes_to macros.now self.new None ≡ comes_to macros.now self.old (Some name.now)) }
+        ensures same { OnOk result (comes_to macros.now self.new None
+            ≡ comes_to macros.now self.old (Some name.now)) }
         ensures reads { OnOk result (self.new.level.tests ≡ false) }
         ensures counts { OnOk result (self.new.followed ≡ self.old.followed + 1) }
         ensures few { OnOk result (self.new.followed ≤ 10_000) }
-        ensures err { IfErr result (λ fault. IsRefused fault (comes_to macros.now self.old (Some name.now))) }
+        ensures err { IfErr result (λ fault. IsRefused fault (comes_to macros.now self.old
+            (Some name.now))) }
     {
         if self.below.len() >= MOST_LEVELS {
             return Err(ExpandFault::Deep);
@@ -101,10 +103,10 @@ fn expand_in(alloc: Global, scope: Scope, text: &Text, macros: &Macros) -> Resul
     Ok(run.given.text)
 }
 
-/// The text with the values of its macros in their places, and of each conditional the part that is to be
-/// given. It follows at most ten levels and 10,000 references, those of tests among them, and gives at most
-/// 1,048,576 bytes. What comes first as the text is read is the refusal (Sendmail Installation and Operation
-/// Guide, macros and conditionals).
+/// The text with the values of its macros in their places, and of each conditional the part that is
+/// to be given. It follows at most ten levels and 10,000 references, those of tests among them, and
+/// gives at most 1,048,576 bytes. What comes first as the text is read is the refusal (Sendmail
+/// Installation and Operation Guide, macros and conditionals).
 pub fn expand(alloc: Global, text: &Text, macros: &Macros) -> Result<Text, ExpandFault>
     ensures value { IfOk result (λ given. value text.now macros.now ≡ Ok given) }
     ensures refused { IfErr result (λ fault. IsRefused fault (value text.now macros.now)) }
@@ -112,9 +114,10 @@ pub fn expand(alloc: Global, text: &Text, macros: &Macros) -> Result<Text, Expan
     expand_in(alloc, Scope::Outside, text, macros)
 }
 
-/// A side of a rule, expanded as by [`expand`], but that `$$`, `$&x` and `$&{x}` stay as they are written, in
-/// the side and in the values of its macros: they are for whoever cuts the side into tokens and runs the rule
-/// (Sendmail Installation and Operation Guide, macros and "R: Rewriting Rules").
+/// A side of a rule, expanded as by [`expand`], but that `$$`, `$&x` and `$&{x}` stay as they are
+/// written, in the side and in the values of its macros: they are for whoever cuts the side into
+/// tokens and runs the rule (Sendmail Installation and Operation Guide, macros and "R: Rewriting
+/// Rules").
 pub fn expand_rule(alloc: Global, text: &Text, macros: &Macros) -> Result<Text, ExpandFault>
     ensures value { IfOk result (λ given. rule_value text.now macros.now ≡ Ok given) }
     ensures refused { IfErr result (λ fault. IsRefused fault (rule_value text.now macros.now)) }

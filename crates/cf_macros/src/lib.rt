@@ -1,6 +1,6 @@
 //! The values of macros in a text, and the dates that macros have. `specs/Expansion.antt` says what
-//! [`expand`] gives and what [`expand_rule`] gives of a side of a rule, and `specs/Dates.antt` what [`date`]
-//! gives.
+//! [`expand`] gives and what [`expand_rule`] gives of a side of a rule, and `specs/Dates.antt` what
+//! [`date`] gives.
 #![tactic(auto)]
 
 mod construct;

@@ -2,7 +2,7 @@ ghost use Rattle.std.specs.Prelude.{◌≡◌, ◌≤◌, ◌<◌, ◌+◌, suc,
 ghost use Rattle.cf_macros.specs.declared.level.Given.{Given};
 ghost use Rattle.cf_macros.specs.Insides.{rest_at, is_closed};
 ghost use Rattle.cf_macros.specs.Readings.{Nothing, BeforeElse, BeforeEnd, put, Refer, closing, behind_end};
-ghost use Rattle.cf_macros.specs.Levels.{Goes, Stops, MovesOn, GivesNext, IsAt, IsAtEnd, IsNew, Resumes, level_rest, gave_after, room, IsGiven, KeepsOut};
+ghost use Rattle.cf_macros.specs.Levels.{Goes, Stops, MovesOn, GivesNext, IsAt, IsAtEnd, IsNew, Resumes, level_rest, rest_behind, gave_after, room, IsGiven, KeepsOut};
 
 use crate::ExpandFault;
 use crate::construct::{Construct, Kind, first_piece};
@@ -92,7 +92,7 @@ impl<'a> Level<'a> {
         requires inside { 1 ≤ self.depth }
         requires moves { 1 ≤ found.width }
         requires in_text { self.place + found.width ≤ length self.text.now }
-        requires rest { level_rest self ≡ BeforeElse Nothing (rest_at self.scope self.text.now (self.place + found.width)) }
+        requires rest { level_rest self ≡ BeforeElse Nothing (rest_behind self found.width) }
         ensures goes { (was : Given) → Goes self.entry was result was None }
         ensures moves { MovesOn self.entry result }
     {
@@ -106,7 +106,7 @@ impl<'a> Level<'a> {
         requires reads { self.tests ≡ false }
         requires moves { 1 ≤ found.width }
         requires in_text { self.place + found.width ≤ length self.text.now }
-        requires rest { level_rest self ≡ BeforeElse Nothing (rest_at self.scope self.text.now (self.place + found.width)) }
+        requires rest { level_rest self ≡ BeforeElse Nothing (rest_behind self found.width) }
         ensures goes { IfOk result (λ level. Goes self.entry given.old level given.new None) }
         ensures moves { IfOk result (λ level. MovesOn self.entry level) }
         ensures err { IfErr result (λ fault. Stops fault self.entry given.old) }
@@ -121,7 +121,7 @@ impl<'a> Level<'a> {
         requires reads { self.tests ≡ false }
         requires moves { 1 ≤ found.width }
         requires in_text { self.place + found.width ≤ length self.text.now }
-        requires rest { level_rest self ≡ BeforeEnd Nothing (rest_at self.scope self.text.now (self.place + found.width)) }
+        requires rest { level_rest self ≡ BeforeEnd Nothing (rest_behind self found.width) }
         ensures goes { IfOk result (λ level. Goes self.entry given.old level given.new None) }
         ensures moves { IfOk result (λ level. MovesOn self.entry level) }
         ensures err { IfErr result (λ fault. Stops fault self.entry given.old) }
@@ -142,7 +142,7 @@ impl<'a> Level<'a> {
     fn refer(self, found: Construct<'_>) -> Level<'a>
         requires reads { self.tests ≡ false }
         requires in_text { self.place + found.width ≤ length self.text.now }
-        requires rest { level_rest self ≡ put (Refer found.text.now) (rest_at self.scope self.text.now (self.place + found.width)) }
+        requires rest { level_rest self ≡ put (Refer found.text.now) (rest_behind self found.width) }
         ensures { (was : Given) → Goes self.entry was result was (Some found.entry.text.now) }
     {
         Level {
@@ -158,9 +158,12 @@ impl<'a> Level<'a> {
     // Whether the conditional that begins with this test is closed. One inside another is.
     fn is_closed(self, found: Construct<'_>) -> bool
         requires in_text { self.place + found.width ≤ length self.text.now }
-        requires rest { level_rest self ≡ closing self.place found.text.now (rest_at self.scope self.text.now (self.place + found.width)) (behind_end (rest_at self.scope self.text.now (self.place + found.width))) }
-        ensures closed { result ≡ true → is_closed (suc self.entry.depth) (rest_at self.entry.scope self.entry.text.now (self.entry.place + found.entry.width)) ≡ true }
-        ensures unclosed { result ≡ false → behind_end (rest_at self.entry.scope self.entry.text.now (self.entry.place + found.entry.width)) ≡ None }
+        requires rest { let after = rest_behind self found.width in
+            level_rest self ≡ closing self.place found.text.now after (behind_end after) }
+        ensures closed { result ≡ true
+            → is_closed (suc self.entry.depth) (rest_behind self.entry found.entry.width) ≡ true }
+        ensures unclosed { result ≡ false
+            → behind_end (rest_behind self.entry found.entry.width) ≡ None }
     {
         if self.depth > 0 {
             return true;
@@ -175,8 +178,10 @@ impl<'a> Level<'a> {
         requires reads { self.tests ≡ false }
         requires moves { 1 ≤ found.width }
         requires in_text { self.place + found.width ≤ length self.text.now }
-        requires rest { level_rest self ≡ closing self.place found.text.now (rest_at self.scope self.text.now (self.place + found.width)) (behind_end (rest_at self.scope self.text.now (self.place + found.width))) }
-        ensures goes { IfOk result (λ level. (was : Given) → Goes self.entry was level was (Some found.entry.text.now)) }
+        requires rest { let after = rest_behind self found.width in
+            level_rest self ≡ closing self.place found.text.now after (behind_end after) }
+        ensures goes { IfOk result (λ level. (was : Given)
+            → Goes self.entry was level was (Some found.entry.text.now)) }
         ensures err { IfErr result (λ fault. (was : Given) → Stops fault self.entry was) }
     {
         if !self.is_closed(found) {
@@ -195,7 +200,8 @@ impl<'a> Level<'a> {
     fn step(self, given: &mut Given) -> Result<(Level<'a>, Option<&'a [u8]>), ExpandFault>
         requires reads { self.tests ≡ false }
         requires unfinished { self.place < length self.text.now }
-        ensures goes { IfOk result (λ step. Goes self.entry given.old step.0 given.new (option_copied step.1)) }
+        ensures goes { IfOk result (λ step. Goes self.entry given.old step.0 given.new
+            (option_copied step.1)) }
         ensures moves { IfOk result (λ step. IfNone step.1 (MovesOn self.entry step.0)) }
         ensures err { IfErr result (λ fault. Stops fault self.entry given.old) }
     {
@@ -219,7 +225,8 @@ impl<'a> Level<'a> {
         given: &mut Given,
     ) -> Result<(Level<'a>, Option<&'a [u8]>), ExpandFault>
         requires { self.tests ≡ false }
-        ensures goes { IfOk result (λ step. Goes self.entry given.old step.0 given.new (option_copied step.1)) }
+        ensures goes { IfOk result (λ step. Goes self.entry given.old step.0 given.new
+            (option_copied step.1)) }
         ensures end { IfOk result (λ step. IfNone step.1 (IsAtEnd step.0)) }
         ensures err { IfErr result (λ fault. Stops fault self.entry given.old) }
     {

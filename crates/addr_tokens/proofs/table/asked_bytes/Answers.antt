@@ -1,0 +1,6 @@
+use Rattle.std.proofs.Common.{sym, ◌∙◌}
+use Rattle.addr_tokens.proofs.TableLemmas.{lone_byte_is}
+use Rattle.addr_tokens.proofs.table.asked_bytes.Goals as goal
+
+pub returns : goal.returns
+returns c = λ b few none. lone_byte_is c.args.listed _ b (c.list_low.ensures.kept b) (c.list_low.ensures.low b) (sym (c.list.ensures b few) ∙ none)
