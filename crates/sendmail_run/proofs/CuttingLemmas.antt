@@ -2,18 +2,19 @@
 use Rattle.std.proofs.Common.{◌≡◌, ℕ, List, [], ◌∷◌, ◌++◌, Bool, true, false, not, ◌&&◌, refl, sym, ◌∙◌, ap}
 use Rattle.std.specs.List.{flat_map, list_all}
 use Rattle.std.proofs.lemmas.Bool.{cond-false, and_parts, and_from, not-true, not_from_false}
+use Rattle.mail_base.specs.Whites.{is_white}
 use Rattle.mail_base.specs.declared.token.Token.{Token}
 use Rattle.mail_base.specs.declared.token.Token.TheVariants.{Word, Op}
-use Rattle.sendmail_run.specs.Tokens.{tokens_of, is_gap, is_operator, is_word_byte, begins_word, put_first, put_byte, Cutting, Gap, Operator, Run, bytes_of, is_piece, are_apart, Cuts, token_of}
+use Rattle.sendmail_run.specs.Tokens.{tokens_of, is_operator, is_word_byte, begins_word, put_first, put_byte, Cutting, Gap, Operator, Run, bytes_of, is_piece, are_apart, Cuts, token_of}
 use Rattle.sendmail_run.proofs.TokenLemmas.{gap_first, operator_first}
 
 module _ (operators : List ℕ) where
   -- a byte of a word separates nothing and is no operator
-  word_byte : (b : ℕ) → is_word_byte operators b ≡ true → (is_gap b ≡ false) × (is_operator operators b ≡ false)
-  word_byte b h = let p = and_parts (not (is_gap b)) (not (is_operator operators b)) h in (not-true _ p.0, not-true _ p.1)
+  word_byte : (b : ℕ) → is_word_byte operators b ≡ true → (is_white b ≡ false) × (is_operator operators b ≡ false)
+  word_byte b h = let p = and_parts (not (is_white b)) (not (is_operator operators b)) h in (not-true _ p.0, not-true _ p.1)
 
   step : (b : ℕ) (bs : List ℕ) → is_word_byte operators b ≡ true → tokens_of operators (b ∷ bs) ≡ put_byte b (begins_word operators bs) (tokens_of operators bs)
-  step b bs h = let w = word_byte b h in cond-false (is_gap b) _ _ w.0 ∙ cond-false (is_operator operators b) _ _ w.1
+  step b bs h = let w = word_byte b h in cond-false (is_white b) _ _ w.0 ∙ cond-false (is_operator operators b) _ _ w.1
 
   -- a run of bytes of a word, before what begins no word, is one word
   run_first : (b : ℕ) (bs rest : List ℕ) → list_all (is_word_byte operators) (b ∷ bs) ≡ true → begins_word operators rest ≡ false → tokens_of operators ((b ∷ bs) ++ rest) ≡ Word (b ∷ bs) ∷ tokens_of operators rest
@@ -31,11 +32,11 @@ module _ (operators : List ℕ) where
   no_word : (bytes : List ℕ) (pieces : List Cutting) → list_all (is_piece operators) pieces ≡ true → are_apart (Run bytes ∷ pieces) ≡ true → begins_word operators (flat_map bytes_of pieces) ≡ false
   no_word bytes [] each apart = refl
   no_word bytes (Gap b ∷ ps) each apart =
-      let p = and_parts (is_gap b) (list_all (is_piece operators) ps) each in
+      let p = and_parts (is_white b) (list_all (is_piece operators) ps) each in
       ap (λ (t : Bool). not t && not (is_operator operators b)) p.0
   no_word bytes (Operator b ∷ ps) each apart =
-      let p = and_parts (not (is_gap b) && is_operator operators b) (list_all (is_piece operators) ps) each in
-      let o = and_parts (not (is_gap b)) (is_operator operators b) p.0 in
+      let p = and_parts (not (is_white b) && is_operator operators b) (list_all (is_piece operators) ps) each in
+      let o = and_parts (not (is_white b)) (is_operator operators b) p.0 in
       (λ i. o.0 i && not (o.1 i))
   no_word bytes (Run more ∷ ps) each apart = absurd (cc apart)
 
@@ -50,11 +51,11 @@ module _ (operators : List ℕ) where
   tokens_of_pieces : (pieces : List Cutting) → list_all (is_piece operators) pieces ≡ true → are_apart pieces ≡ true → tokens_of operators (flat_map bytes_of pieces) ≡ flat_map token_of pieces
   tokens_of_pieces [] each apart = refl
   tokens_of_pieces (Gap b ∷ ps) each apart =
-      let p = and_parts (is_gap b) (list_all (is_piece operators) ps) each in
+      let p = and_parts (is_white b) (list_all (is_piece operators) ps) each in
       gap_first operators b (flat_map bytes_of ps) p.0 ∙ tokens_of_pieces ps p.1 apart
   tokens_of_pieces (Operator b ∷ ps) each apart =
-      let p = and_parts (not (is_gap b) && is_operator operators b) (list_all (is_piece operators) ps) each in
-      let o = and_parts (not (is_gap b)) (is_operator operators b) p.0 in
+      let p = and_parts (not (is_white b) && is_operator operators b) (list_all (is_piece operators) ps) each in
+      let o = and_parts (not (is_white b)) (is_operator operators b) p.0 in
       operator_first operators b (flat_map bytes_of ps) (not-true _ o.0) o.1 ∙ ap (λ (ts : List Token). Op b ∷ ts) (tokens_of_pieces ps p.1 apart)
   tokens_of_pieces (Run [] ∷ ps) each apart = absurd (cc each)
   tokens_of_pieces (Run (b ∷ bs) ∷ ps) each apart =
@@ -69,22 +70,22 @@ module _ (operators : List ℕ) where
   abbrev Cut : List ℕ → Type 0
   Cut text = (pieces : List Cutting) × Cuts operators text pieces
 
-  gap_cut : (b : ℕ) (bs : List ℕ) → is_gap b ≡ true → Cut bs → Cut (b ∷ bs)
+  gap_cut : (b : ℕ) (bs : List ℕ) → is_white b ≡ true → Cut bs → Cut (b ∷ bs)
   gap_cut b bs gap cut = (
     Gap b ∷ cut.0,
     record {
       whole = ap (λ (t : List ℕ). b ∷ t) cut.1.whole;
-      each = and_from (is_gap b) (list_all (is_piece operators) cut.0) gap cut.1.each;
+      each = and_from (is_white b) (list_all (is_piece operators) cut.0) gap cut.1.each;
       apart = cut.1.apart;
     },
   )
 
-  operator_cut : (b : ℕ) (bs : List ℕ) → is_gap b ≡ false → is_operator operators b ≡ true → Cut bs → Cut (b ∷ bs)
+  operator_cut : (b : ℕ) (bs : List ℕ) → is_white b ≡ false → is_operator operators b ≡ true → Cut bs → Cut (b ∷ bs)
   operator_cut b bs gap operator cut = (
     Operator b ∷ cut.0,
     record {
       whole = ap (λ (t : List ℕ). b ∷ t) cut.1.whole;
-      each = and_from (not (is_gap b) && is_operator operators b) (list_all (is_piece operators) cut.0) (and_from (not (is_gap b)) (is_operator operators b) (not_from_false _ gap) operator) cut.1.each;
+      each = and_from (not (is_white b) && is_operator operators b) (list_all (is_piece operators) cut.0) (and_from (not (is_white b)) (is_operator operators b) (not_from_false _ gap) operator) cut.1.each;
       apart = cut.1.apart;
     },
   )
@@ -134,11 +135,11 @@ module _ (operators : List ℕ) where
       same_apart c cs (Operator d ∷ ps) a = a
       same_apart c cs (Run more ∷ ps) a = absurd (cc a)
 
-  front_cut : (b : ℕ) (bs : List ℕ) → (gap operator : Bool) → is_gap b ≡ gap → is_operator operators b ≡ operator → Cut bs → Cut (b ∷ bs)
+  front_cut : (b : ℕ) (bs : List ℕ) → (gap operator : Bool) → is_white b ≡ gap → is_operator operators b ≡ operator → Cut bs → Cut (b ∷ bs)
   front_cut b bs true operator g o cut = gap_cut b bs g cut
   front_cut b bs false true g o cut = operator_cut b bs g o cut
-  front_cut b bs false false g o cut = word_cut b bs (and_from (not (is_gap b)) (not (is_operator operators b)) (not_from_false _ g) (not_from_false _ o)) cut.0 cut.1
+  front_cut b bs false false g o cut = word_cut b bs (and_from (not (is_white b)) (not (is_operator operators b)) (not_from_false _ g) (not_from_false _ o)) cut.0 cut.1
 
   pub some_cutting : (text : List ℕ) → (pieces : List Cutting) × Cuts operators text pieces
   some_cutting [] = ([], record { whole = refl; each = refl; apart = refl })
-  some_cutting (b ∷ bs) = front_cut b bs (is_gap b) (is_operator operators b) refl refl (some_cutting bs)
+  some_cutting (b ∷ bs) = front_cut b bs (is_white b) (is_operator operators b) refl refl (some_cutting bs)

@@ -2,6 +2,7 @@
 use Rattle.std.proofs.Common.{◌≡◌, ℕ, suc, ◌+◌, ◌-◌, ◌<◌, ◌≤◌, List, [], ◌∷◌, ◌++◌, length, take, Bool, true, false, cond, refl, sym, ◌∙◌, ap, subst, arith, append-nil, length-append, eqb}
 use Rattle.std.specs.Prelude.{Result, Ok, Err, OnOk, codes, ltb}
 use Rattle.std.proofs.lemmas.Slice.Eq.{bytes_eq-Decides}
+use Rattle.mail_base.specs.Limits.{most_line}
 use Rattle.mail_base.specs.declared.fault.NoMemory.{NoMemory}
 use Rattle.sendmail_run.specs.declared.input.Partial.{Partial}
 use Rattle.std.specs.Str.Lines.{strip_carriage_return}
@@ -85,14 +86,14 @@ strip_begins b c bs =
     (λ e. (take (length bs) (c ∷ bs), ap (λ (k : ℕ). take k (b ∷ c ∷ bs)) n, omega (arith, length-take-le (length bs) (c ∷ bs) (omega arith))))
     (λ e. (c ∷ bs, refl, omega arith))
 
-cut_begins : (config : Config) (b : ℕ) (tail text : List ℕ) → 65536 < length (b ∷ tail) → text ≡ cond (eqb b 35) [] (line_of (codes "line too long")) → Answers config (b ∷ tail) text
+cut_begins : (config : Config) (b : ℕ) (tail text : List ℕ) → most_line < length (b ∷ tail) → text ≡ cond (eqb b 35) [] (line_of (codes "line too long")) → Answers config (b ∷ tail) text
 cut_begins config b tail text long is = by (eqb b 35) refl where
   by : (q : Bool) → eqb b 35 ≡ q → Answers config (b ∷ tail) text
   by true e = subst (λ (f : Form). AnswersForm f config (b ∷ tail) text) (sym (cond-true (eqb b 35) Quiet _ e)) (is ∙ cond-true (eqb b 35) [] _ e)
-  by false e = subst (λ (f : Form). AnswersForm f config (b ∷ tail) text) (sym (cond-false (eqb b 35) Quiet _ e ∙ cond-true (ltb 65536 (length (b ∷ tail))) TooLong _ (lt-ltb 65536 (length (b ∷ tail)) long))) (is ∙ cond-false (eqb b 35) [] _ e)
+  by false e = subst (λ (f : Form). AnswersForm f config (b ∷ tail) text) (sym (cond-false (eqb b 35) Quiet _ e ∙ cond-true (ltb most_line (length (b ∷ tail))) TooLong _ (lt-ltb most_line (length (b ∷ tail)) long))) (is ∙ cond-false (eqb b 35) [] _ e)
 
 front_text : (b : ℕ) (tail front : List ℕ) → front ≡ take most_kept (b ∷ tail) → cut_text front ≡ cond (eqb b 35) [] (line_of (codes "line too long"))
-unfolding most_kept
+unfolding most_kept most_line
 front_text b tail front is = ap cut_text is
 
 pub cut_answers : (config : Config) (rest front : List ℕ) → most_kept < length rest → front ≡ take most_kept rest → Answers config (strip_carriage_return rest) (cut_text front)
@@ -110,7 +111,7 @@ no_quit l long = false_from_ne_true (is_quit l) (λ e.
     omega (arith, ap length same))
 
 pub cut_no_quit : (rest : List ℕ) → most_kept < length rest → is_quit (strip_carriage_return rest) ≡ false
-unfolding most_kept
+unfolding most_kept most_line
 cut_no_quit [] long = absurd (omega arith)
 cut_no_quit (b ∷ []) long = absurd (omega arith)
 cut_no_quit (b ∷ c ∷ bs) long =
@@ -118,7 +119,7 @@ cut_no_quit (b ∷ c ∷ bs) long =
     no_quit (strip_carriage_return (b ∷ c ∷ bs)) (omega (arith, ap length s.1, s.2))
 
 pub cut_last : (config : Config) (rest front : List ℕ) → most_kept < length rest → front ≡ take most_kept rest → AnswersLast config rest (cut_text front)
-unfolding most_kept
+unfolding most_kept most_line
 cut_last config [] front long is = absurd (omega arith)
 cut_last config (b ∷ bs) front long is = no_match (is_quit (b ∷ bs)) _ _ (no_quit (b ∷ bs) (omega arith)) (cut_begins config b bs (cut_text front) (omega arith) (front_text b bs front is))
 
@@ -132,14 +133,12 @@ last_of_cut config partial front old new r h f long = on_ok r _ _ (λ (e : new �
 
 -- ---- after a take
 
-pub took_all : (old : Partial) (more bytes : List ℕ) (room : ℕ) (r : Result (Unit {0}) NoMemory) → OnOk r (more ≡ old.front ++ bytes) → room ≡ 65537 - length old.front → length bytes ≤ room
+pub took_all : (old : Partial) (more bytes : List ℕ) (room : ℕ) (r : Result (Unit {0}) NoMemory) → OnOk r (more ≡ old.front ++ bytes) → room ≡ most_kept - length old.front → length bytes ≤ room
     → OnOk r ((rest : List ℕ) → Keeps old rest → Keeps (record { front = more; is_cut = old.is_cut }) (rest ++ bytes))
-unfolding most_kept
 took_all old more bytes room r h e le = on_ok r _ _ (λ (is : more ≡ old.front ++ bytes). λ rest k.
-    let kept = kept_all 65537 room rest old.front more bytes old.is_cut old.is_cut k.front k.cut e le is refl in record { front = kept.0; cut = kept.1 }) h
+    let kept = kept_all most_kept room rest old.front more bytes old.is_cut old.is_cut k.front k.cut e le is refl in record { front = kept.0; cut = kept.1 }) h
 
-pub took_front : (old : Partial) (more bytes : List ℕ) (room : ℕ) → more ≡ old.front ++ take room bytes → room ≡ 65537 - length old.front → room < length bytes
+pub took_front : (old : Partial) (more bytes : List ℕ) (room : ℕ) → more ≡ old.front ++ take room bytes → room ≡ most_kept - length old.front → room < length bytes
     → (rest : List ℕ) → Keeps old rest → Keeps (record { front = more; is_cut = true }) (rest ++ bytes)
-unfolding most_kept
 took_front old more bytes room is e lt rest k =
-    let kept = kept_front 65537 room rest old.front more bytes k.front e lt is in record { front = kept.0; cut = kept.1 }
+    let kept = kept_front most_kept room rest old.front more bytes k.front e lt is in record { front = kept.0; cut = kept.1 }

@@ -8,6 +8,7 @@ use Rattle.std.proofs.lemmas.Bool.{cond-true, cond-false, cond_both, ltb-true, l
 use Rattle.std.proofs.lemmas.List.{length_push, get_or_push, get_or_append_left}
 use Rattle.std.proofs.lemmas.List.Sums.{position_or_len_is, passes_at_first, fails_before_first, sum_by-append, sum_by-cons}
 use Rattle.std.proofs.lemmas.List.Folds.{list_any_none, list_any_at}
+use Rattle.mail_base.specs.Whites.{is_white}
 use Rattle.mail_base.specs.declared.token.Token.{Token}
 use Rattle.mail_base.specs.declared.token.Token.TheVariants.{Word, Quoted, Op, Sign}
 use Rattle.mail_base.specs.declared.rule.Item.{Item}
@@ -15,7 +16,7 @@ use Rattle.mail_base.specs.declared.rule.Item.TheVariants.{Exact, Any, More, One
 use Rattle.mail_base.specs.declared.rule.RuleSet.{RuleSet}
 use Rattle.mail_base.specs.declared.rule.Rule.{Rule}
 use Rattle.mail_base.specs.Metas.{is_sign, is_meta}
-use Rattle.sendmail_run.specs.Tokens.{tokens_of, is_gap, is_operator, begins_word, put_byte, default_operators}
+use Rattle.sendmail_run.specs.Tokens.{tokens_of, is_operator, begins_word, put_byte, default_operators}
 use Rattle.sendmail_run.specs.Sides.{Part, Text, Dollar, parts_of, items_of, items_of_part, is_binding, is_binding_sign, signs_item}
 use Rattle.mail_base.specs.Rulesets.{is_named}
 use Rattle.mail_base.specs.Rulesets as base
@@ -43,7 +44,7 @@ none_signs operators [] = refl
 none_signs operators (b ∷ bs) =
     let rest = none_signs operators bs in
     let P : List Token → Type 0 = λ ts. list_all is_none_sign ts ≡ true in
-    cond_both (is_gap b) (tokens_of operators bs) (cond (is_operator operators b) (Op b ∷ tokens_of operators bs) (put_byte b (begins_word operators bs) (tokens_of operators bs))) P
+    cond_both (is_white b) (tokens_of operators bs) (cond (is_operator operators b) (Op b ∷ tokens_of operators bs) (put_byte b (begins_word operators bs) (tokens_of operators bs))) P
     (λ e. rest)
     (λ e. cond_both (is_operator operators b) (Op b ∷ tokens_of operators bs) (put_byte b (begins_word operators bs) (tokens_of operators bs)) P (λ f. rest) (λ f. none_put b (begins_word operators bs) (tokens_of operators bs) rest))
 

@@ -1,6 +1,7 @@
 -- What a configuration's lines say, and the first that is refused (Sendmail Installation and Operation Guide, "The Whole Scoop on the Configuration File"): so far the S and R lines.
 use Rattle.std.specs.Prelude.{ℕ, ◌-◌, List, [], ◌∷◌, ◌++◌, length, take, drop, count_by, filter, Bool, not, ◌||◌, ◌==◌, nat_lt, if◌then◌else◌, codes, Option, Some, None, Result, Ok, Err}
 use Rattle.std.specs.List.{list_any, prefix_len, suffix_len}
+use Rattle.mail_base.specs.Texts.{is_blank}
 use Rattle.mail_base.specs.declared.rule.Rule.{Rule}
 use Rattle.mail_base.specs.declared.rule.RuleSet.{RuleSet}
 use Rattle.mail_base.specs.declared.config.Config.{Config}
@@ -10,7 +11,7 @@ use Rattle.sendmail_run.specs.declared.logical.Logical.{Logical}
 use Rattle.sendmail_run.specs.declared.fault.Fault.{Fault}
 use Rattle.sendmail_run.specs.declared.fault.Fault.TheVariants.{NoTab, TooManyMetas, BadReference, NotYet}
 use Rattle.sendmail_run.specs.declared.fault.Refusal.{Refusal}
-use Rattle.sendmail_run.specs.LogicalLines.{is_blank, logical_lines}
+use Rattle.sendmail_run.specs.LogicalLines.{logical_lines}
 use Rattle.sendmail_run.specs.Sides.{parts_of, is_binding, is_bad_reference, is_unread_left, is_unread_right, items_of, template_of, is_tab, left_of, right_of, body_of}
 
 -- ---- faults of one line

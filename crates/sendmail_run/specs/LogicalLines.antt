@@ -2,6 +2,7 @@
 use Rattle.std.specs.Prelude.{ℕ, ◌+◌, ◌-◌, List, [], ◌∷◌, ◌++◌, length, take, Bool, true, false, not, ◌&&◌, ◌||◌, ◌==◌, nat_lt, if◌then◌else◌}
 use Rattle.std.specs.Str.Lines.{lines}
 use Rattle.std.specs.List.{flat_map, take_while, suffix_len}
+use Rattle.mail_base.specs.Texts.{is_blank}
 use Rattle.sendmail_run.specs.declared.logical.Logical.{Logical}
 
 -- a list begins with this byte
@@ -12,10 +13,6 @@ begins_with byte (b ∷ bs) = b == byte
 -- a physical line ends at LF, and a CR before that is dropped; what follows the last LF is a line where it isn't empty
 abbrev pub physical_lines : List ℕ → List (List ℕ)
 physical_lines text = lines text
-
--- a space or a tab
-abbrev pub is_blank : ℕ → Bool
-is_blank b = (b == 32) || (b == 9)
 
 -- a line that belongs to the one before
 abbrev pub is_indented : List ℕ → Bool

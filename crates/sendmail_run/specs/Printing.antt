@@ -2,6 +2,8 @@
 use Rattle.std.specs.Prelude.{◌≡◌, ℕ, List, [], ◌∷◌, ◌++◌, length, drop, bytes_eq, Bool, true, false, ◌||◌, ◌==◌, nat_lt, if◌then◌else◌, codes, Ok, Err, MatchBool}
 use Rattle.std.specs.Fmt.{decimal}
 use Rattle.std.specs.List.{list_any, flat_map, before_first}
+use Rattle.mail_base.specs.Limits.{most_line}
+use Rattle.mail_base.specs.Whites.{is_white}
 use Rattle.mail_base.specs.declared.token.Token.{Token}
 use Rattle.mail_base.specs.declared.token.Token.TheVariants.{Word, Quoted, Op, Sign}
 use Rattle.mail_base.specs.declared.token.Mark.{Mark}
@@ -10,11 +12,7 @@ use Rattle.mail_base.specs.declared.config.Config.{Config}
 use Rattle.ruleset_run.specs.declared.fault.RunFault.{RunFault}
 use Rattle.ruleset_run.specs.declared.fault.RunFault.TheVariants.{Loop, Work, Long, NoRuleset, NoMemory}
 use Rattle.ruleset_run.specs.Runs.{Outcome, RunsSet}
-use Rattle.sendmail_run.specs.Tokens.{tokens_of, is_gap, default_operators, most_tokens}
-
--- the most bytes of a line of input
-abbrev pub most_line : ℕ
-most_line = 65536
+use Rattle.sendmail_run.specs.Tokens.{tokens_of, default_operators, most_tokens}
 
 -- a text, on a line of its own
 abbrev pub line_of : List ℕ → List ℕ
@@ -56,7 +54,7 @@ warnings_text numbers = flat_map (λ number. line_of (codes "warning: line " ++ 
 
 -- the name of a set: what stands before the first white space
 abbrev pub name_of : List ℕ → List ℕ
-name_of line = before_first is_gap line
+name_of line = before_first is_white line
 
 -- the address: what stands after the name
 abbrev pub address_of : List ℕ → List ℕ

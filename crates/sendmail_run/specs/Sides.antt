@@ -1,6 +1,8 @@
 -- The two sides of a rule (Sendmail Installation and Operation Guide, "R and S: Rewriting Rules").
-use Rattle.std.specs.Prelude.{ℕ, ◌-◌, List, [], ◌∷◌, length, map, drop, Bool, true, false, not, ◌&&◌, ◌||◌, ◌==◌, nat_le, nat_lt, if◌then◌else◌, codes, Option, Some, None}
+use Rattle.std.specs.Prelude.{ℕ, ◌-◌, List, [], ◌∷◌, length, map, drop, Bool, true, false, not, ◌&&◌, ◌||◌, ◌==◌, nat_lt, if◌then◌else◌, codes, Option, Some, None}
 use Rattle.std.specs.List.{list_any, flat_map, prefix_len, before_first}
+use Rattle.mail_base.specs.Notes.{is_digit}
+use Rattle.mail_base.specs.Whites.{is_white}
 use Rattle.mail_base.specs.declared.rule.Item.{Item}
 use Rattle.mail_base.specs.declared.rule.Item.TheVariants.{Any, More, One, Exact}
 use Rattle.mail_base.specs.declared.rule.Piece.TheVariants.{Give, Cut}
@@ -9,7 +11,7 @@ use Rattle.mail_base.specs.declared.rule.Step.TheVariants.{Plain}
 use Rattle.mail_base.specs.declared.rule.Go.{Go}
 use Rattle.mail_base.specs.declared.rule.Go.TheVariants.{Again, Return, Next}
 use Rattle.mail_base.specs.declared.rule.Template.{Template}
-use Rattle.sendmail_run.specs.Tokens.{tokens_of, is_gap, default_operators}
+use Rattle.sendmail_run.specs.Tokens.{tokens_of, default_operators}
 
 -- a side is cut at its dollar signs: a text without one, or a dollar sign with the byte after it, if there is one
 pub data Part : Type 0 where
@@ -34,9 +36,6 @@ abbrev pub is_binding : Part → Bool
 is_binding (Text bytes) = false
 is_binding (Dollar None) = false
 is_binding (Dollar (Some b)) = is_binding_sign b
-
-abbrev pub is_digit : ℕ → Bool
-is_digit b = nat_le 48 b && nat_le b 57
 
 -- `$0`, or a number above that of the items that bind
 abbrev pub is_bad_reference : ℕ → Part → Bool
@@ -79,7 +78,7 @@ steps_of_part (Dollar (Some b)) = Plain (Cut (b - 48)) ∷ []
 
 -- without white space in front
 abbrev pub without_gap : List ℕ → List ℕ
-without_gap text = drop (prefix_len is_gap text) text
+without_gap text = drop (prefix_len is_white text) text
 
 -- the prefix of a right side: `$@` or `$:`
 abbrev pub go_of : List ℕ → Go

@@ -1,7 +1,8 @@
 -- Where the answers to the lines of input stand, as code has them.
-use Rattle.std.specs.Prelude.{◌≡◌, ℕ, ◌≤◌, List, [], ◌∷◌, ◌++◌, length, map, take, Bool, true, false, nat_lt, ◌==◌, if◌then◌else◌, codes, MatchBool}
+use Rattle.std.specs.Prelude.{◌≡◌, ℕ, ◌+◌, ◌≤◌, List, [], ◌∷◌, ◌++◌, length, map, take, Bool, true, false, nat_lt, ◌==◌, if◌then◌else◌, codes, MatchBool}
 use Rattle.std.specs.List.{list_any, flat_map}
 use Rattle.std.specs.Str.Lines.{strip_carriage_return}
+use Rattle.mail_base.specs.Limits.{most_line}
 use Rattle.mail_base.specs.declared.config.Config.{Config}
 use Rattle.sendmail_run.specs.declared.input.Partial.{Partial}
 use Rattle.sendmail_run.specs.declared.address_test.Step.{Step}
@@ -21,7 +22,7 @@ lines_of raws = map strip_carriage_return raws
 
 -- the most bytes that are kept of a line: those of the longest, and a CR before its LF
 unfoldable pub most_kept : ℕ
-most_kept = 65537
+most_kept = most_line + 1
 
 -- what is kept of a line, of which so much came
 pub record Keeps (partial : Partial) (rest : List ℕ) : Type 0 where

@@ -1,12 +1,9 @@
 -- Tokens of an address (Sendmail Installation and Operation Guide, "R and S: Rewriting Rules", and its option OperatorChars).
-use Rattle.std.specs.Prelude.{◌≡◌, ℕ, List, [], ◌∷◌, Bool, true, false, not, ◌&&◌, ◌||◌, ◌==◌, nat_le, if◌then◌else◌, codes}
+use Rattle.std.specs.Prelude.{◌≡◌, ℕ, List, [], ◌∷◌, Bool, true, false, not, ◌&&◌, ◌||◌, ◌==◌, if◌then◌else◌, codes}
 use Rattle.std.specs.List.{list_any, list_all, flat_map}
+use Rattle.mail_base.specs.Whites.{is_white}
 use Rattle.mail_base.specs.declared.token.Token.{Token}
 use Rattle.mail_base.specs.declared.token.Token.TheVariants.{Word, Op}
-
--- what separates tokens: a space, a tab, any byte below 32, and 127 (own)
-abbrev pub is_gap : ℕ → Bool
-is_gap b = nat_le b 32 || (b == 127)
 
 -- the bytes of OperatorChars by default
 abbrev pub default_operators : List ℕ
@@ -21,7 +18,7 @@ is_operator operators b = list_any (λ o. o == b) operators || list_any (λ o. o
 
 -- a byte of a word
 abbrev pub is_word_byte : List ℕ → ℕ → Bool
-is_word_byte operators b = not (is_gap b) && not (is_operator operators b)
+is_word_byte operators b = not (is_white b) && not (is_operator operators b)
 
 -- the text begins with a byte of a word
 abbrev pub begins_word : List ℕ → List ℕ → Bool
@@ -38,12 +35,12 @@ abbrev pub put_byte : ℕ → Bool → List Token → List Token
 put_byte b true tokens = put_first b tokens
 put_byte b false tokens = Word (b ∷ []) ∷ tokens
 
--- The tokens of a text without quotes, backslashes and parentheses: what separates tokens is none itself, an operator
+-- The tokens of a text without quotes, backslashes and parentheses: white space is none itself, an operator
 -- is one, and so is each longest run of other bytes.
 abbrev pub tokens_of : List ℕ → List ℕ → List Token
 tokens_of operators [] = []
 tokens_of operators (b ∷ bs) =
-    if is_gap b then tokens_of operators bs
+    if is_white b then tokens_of operators bs
     else if is_operator operators b then Op b ∷ tokens_of operators bs
     else put_byte b (begins_word operators bs) (tokens_of operators bs)
 
@@ -60,8 +57,8 @@ bytes_of (Run bytes) = bytes
 
 -- a word has a byte, and only such as are neither operators nor white space
 abbrev pub is_piece : List ℕ → Cutting → Bool
-is_piece operators (Gap byte) = is_gap byte
-is_piece operators (Operator byte) = not (is_gap byte) && is_operator operators byte
+is_piece operators (Gap byte) = is_white byte
+is_piece operators (Operator byte) = not (is_white byte) && is_operator operators byte
 is_piece operators (Run []) = false
 is_piece operators (Run (b ∷ bs)) = list_all (is_word_byte operators) (b ∷ bs)
 

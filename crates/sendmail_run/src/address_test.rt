@@ -6,10 +6,10 @@ ghost use Rattle.ruleset_run.specs.Plain.{is_plain_book};
 ghost use Rattle.sendmail_run.specs.Runs.{Seen, Tests, seen};
 ghost use Rattle.sendmail_run.specs.Taking.{Answered, At, Stands, Went, has_end};
 
-use crate::buffer::{PIECE, zeros};
+use crate::buffer::zeros;
 use crate::input::Partial;
 use crate::outcome::Outcome;
-use mail_base::{Config, Failed, NoMemory, Text};
+use mail_base::{Config, Failed, MOST_PIECE, NoMemory, Text};
 use mail_edge::{Sink, Source};
 use memchr::memchr;
 use std::alloc::Global;
@@ -30,7 +30,7 @@ pub fn address_test<I: Source, O: Sink>(
     ensures input { (I.seen input.old).faults ≤ (I.seen input.new).faults }
     ensures output { (O.seen output.old).faults ≤ (O.seen output.new).faults }
 {
-    let Ok(mut buffer) = zeros(alloc, PIECE) else {
+    let Ok(mut buffer) = zeros(alloc, MOST_PIECE) else {
         return Outcome::NoMemory;
     };
     answer_all(alloc, config, input, output, &mut buffer)

@@ -1,23 +1,22 @@
 ghost use Rattle.std.specs.Prelude.{◌≡◌, ◌≤◌, ◌++◌, List, ℕ, length, OnOk, IsTrue, codes};
 ghost use Rattle.std.specs.List.{list_any, position_or_len};
+ghost use Rattle.mail_base.specs.Whites.{is_white};
 ghost use Rattle.ruleset_run.specs.Plain.{is_plain_book};
-ghost use Rattle.sendmail_run.specs.Tokens.{tokens_of, default_operators, is_gap as is_gap_byte};
+ghost use Rattle.sendmail_run.specs.Tokens.{tokens_of, default_operators};
 ghost use Rattle.sendmail_run.specs.Printing.{Answers, AnswersRun, spaced, line_of};
 ghost use Rattle.sendmail_run.specs.Printing as spec;
 
 use crate::tokens;
-use crate::tokens::{DEFAULT_OPERATORS, is_gap};
-use mail_base::{Config, Mark, NoMemory, Seq, Text, Token};
+use crate::tokens::DEFAULT_OPERATORS;
+use mail_base::{Config, MOST_LINE, Mark, NoMemory, Seq, Text, Token, is_white};
 use ruleset_run::{RunFault, run};
 use std::alloc::Global;
-
-/// The most bytes of a line of input, without its end.
-pub const MOST_LINE: usize = 65_536;
 
 /// The most tokens of an address.
 const MOST_TOKENS: usize = 2_000;
 
 /// Adds the text that a line of input is answered with. After `NoMemory` a part of it may have been added.
+#[tactic(auto, unfolding(mail_base::specs::Limits::most_line))]
 pub fn answer(alloc: Global, config: &Config, line: &[u8], out: &mut Text) -> Result<(), NoMemory>
     requires { IsTrue (is_plain_book config.now.book) }
     ensures { OnOk result ((text : List ℕ) × Answers config.now line.now text × (out.new ≡ out.old ++ text)) }
@@ -142,11 +141,11 @@ fn name_of(line: &[u8]) -> &[u8]
 }
 
 fn name_length(line: &[u8]) -> usize
-    ensures length { result ≡ position_or_len is_gap_byte line.now }
+    ensures length { result ≡ position_or_len is_white line.now }
     ensures within { result ≤ length line.now }
 {
     for (index, byte) in line.iter().enumerate() {
-        if is_gap(*byte) {
+        if is_white(*byte) {
             return index;
         }
     }

@@ -2,9 +2,6 @@ ghost use Rattle.std.specs.Prelude.{◌≡◌, IfOk, length};
 
 use std::alloc::{AllocError, Global};
 
-/// The most bytes that are taken at once, of the input or of a session.
-pub const PIECE: usize = 65_536;
-
 /// So many bytes, each of them zero.
 pub fn zeros(alloc: Global, size: usize) -> Result<Vec<u8>, AllocError>
     ensures { IfOk result (λ zeros. length zeros.items ≡ size) }

@@ -5,16 +5,16 @@ ghost use Rattle.sendmail_run.specs.Printing.{Answers};
 ghost use Rattle.sendmail_run.specs.Printing as spec;
 ghost use Rattle.sendmail_run.specs.Taking.{Keeps, AnswersLast, cut_text, most_kept};
 
-use crate::answers::{MOST_LINE, answer};
+use crate::answers::answer;
 use crate::logical::without_return;
-use mail_base::{Config, NoMemory, Text};
+use mail_base::{Config, MOST_LINE, NoMemory, Text};
 use std::alloc::Global;
 
 /// The most bytes that are kept of a line: its own, and a CR that may stand before its end.
 const MOST_KEPT: usize = MOST_LINE + 1;
 
 /// What came of a line of input that isn't ended yet. Of a line that is too long only the front is kept, so
-/// it holds at most 65,537 bytes.
+/// it holds at most [`MOST_KEPT`] bytes.
 #[derive(Drop)]
 pub struct Partial {
     front: Text,

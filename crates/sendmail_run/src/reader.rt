@@ -1,6 +1,6 @@
 ghost use Rattle.std.specs.Prelude.{◌≡◌, ◌<◌, ◌≤◌, ◌^◌, ℕ, List, length, IfOk, OnOk, None};
 ghost use Rattle.std.specs.List.{prefix_len};
-ghost use Rattle.sendmail_run.specs.LogicalLines.{is_blank as is_blank_byte};
+ghost use Rattle.mail_base.specs.Texts.{is_blank};
 ghost use Rattle.sendmail_run.specs.Refusals.{Gives};
 ghost use Rattle.sendmail_run.specs.Readings.{reading_of, IsPlace, IsPlaced};
 ghost use Rattle.sendmail_run.specs.Configuration.{after_set, after_rule};
@@ -12,7 +12,9 @@ use crate::sides::{
     has_bad_reference, is_unread_left, is_unread_right, items_of, left_of, metas_of, right_of,
     split_prefix, template_of,
 };
-use mail_base::{Book, Buckets, Config, NoMemory, Pattern, Rule, RuleSet, Seq, Text, TryCopy};
+use mail_base::{
+    Book, Buckets, Config, NoMemory, Pattern, Rule, RuleSet, Seq, Text, TryCopy, is_blank,
+};
 use std::alloc::Global;
 
 /// The configuration that a file's bytes give, or the number and the fault of the first line that has one.
@@ -224,12 +226,6 @@ fn set_name(alloc: Global, text: &[u8]) -> Result<Text, NoMemory>
     Ok(name)
 }
 
-fn is_blank(byte: u8) -> bool
-    ensures { result ≡ is_blank_byte byte }
-{
-    byte == b' ' || byte == b'\t'
-}
-
 fn stripped(text: &[u8]) -> &[u8]
     ensures { result.now ≡ spec.stripped text.now }
 {
@@ -242,7 +238,7 @@ fn stripped(text: &[u8]) -> &[u8]
 }
 
 fn blanks_length(text: &[u8]) -> usize
-    ensures length { result ≡ prefix_len is_blank_byte text.now }
+    ensures length { result ≡ prefix_len is_blank text.now }
     ensures within { result ≤ length text.now }
 {
     for (index, byte) in text.iter().enumerate() {

@@ -9,10 +9,10 @@ ghost use Rattle.sendmail_run.specs.Opening.{HasRefused};
 ghost use Rattle.sendmail_run.specs.Serving as spec;
 ghost use Rattle.sendmail_run.specs.Serving.{Serves};
 
-use crate::buffer::{PIECE, zeros};
+use crate::buffer::zeros;
 use crate::outcome::Outcome;
 use link_edge::{Floor, Place};
-use mail_base::{NoMemory, Seq, Text};
+use mail_base::{MOST_PIECE, NoMemory, Seq, Text};
 use mail_core::{Core, Ending, Site, Went};
 use mail_edge::Clock;
 use spool_disk::Spool;
@@ -42,7 +42,7 @@ pub fn session_mode<D: Spool, L: Floor, C: Clock>(
     requires { (C.seen clock.old).readings ≤ 2 ^ 63 }
     ensures { Serves (seen (L.seen floor.old) (D.seen spool.old) (C.seen clock.old)) (seen (L.seen floor.new) (D.seen spool.new) (C.seen clock.new)) result }
 {
-    let Ok(mut buffer) = zeros(alloc, PIECE) else {
+    let Ok(mut buffer) = zeros(alloc, MOST_PIECE) else {
         return Outcome::NoMemory;
     };
     serve(alloc, spool, floor, clock, &mut buffer)

@@ -1,13 +1,14 @@
 ghost use Rattle.std.specs.Prelude.{◌≡◌, ◌++◌, ◌∷◌, ◌<◌, ◌≤◌, [], length, count_by, map, drop, not, ◌==◌, IfOk, IfSome, IfNone, OnOk};
 ghost use Rattle.std.specs.List.{list_any, flat_map, prefix_len};
 ghost use Rattle.std.specs.Iterator.{YieldsFirstBy, item_count};
+ghost use Rattle.mail_base.specs.Notes.{is_digit};
+ghost use Rattle.mail_base.specs.Whites.{is_white};
 ghost use Rattle.sendmail_run.specs.Parts.{shown, rest_of};
 ghost use Rattle.sendmail_run.specs.Sides.{parts_of};
-ghost use Rattle.sendmail_run.specs.Tokens.{is_gap as is_gap_byte};
 ghost use Rattle.sendmail_run.specs.Sides as spec;
 
-use crate::tokens::{DEFAULT_OPERATORS, is_gap, tokens_of};
-use mail_base::{Go, Item, NoMemory, Piece, Seq, Step, Template};
+use crate::tokens::{DEFAULT_OPERATORS, tokens_of};
+use mail_base::{Go, Item, NoMemory, Piece, Seq, Step, Template, is_white};
 use memchr::memchr;
 use std::alloc::Global;
 
@@ -151,11 +152,11 @@ fn without_gap(text: &[u8]) -> &[u8]
 }
 
 fn gap_length(text: &[u8]) -> usize
-    ensures length { result ≡ prefix_len is_gap_byte text.now }
+    ensures length { result ≡ prefix_len is_white text.now }
     ensures within { result ≤ length text.now }
 {
     for (index, byte) in text.iter().enumerate() {
-        if !is_gap(*byte) {
+        if !is_white(*byte) {
             return index;
         }
     }
@@ -297,7 +298,7 @@ fn is_binding_sign(byte: u8) -> bool
 }
 
 fn is_digit(byte: u8) -> bool
-    ensures { result ≡ spec.is_digit byte }
+    ensures { result ≡ is_digit byte }
 {
     b'0' <= byte && byte <= b'9'
 }

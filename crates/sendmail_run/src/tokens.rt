@@ -2,7 +2,7 @@ ghost use Rattle.std.specs.Prelude.{◌≡◌, ◌<◌, ◌++◌, IfOk, OnOk};
 ghost use Rattle.std.specs.List.{prefix_len};
 ghost use Rattle.sendmail_run.specs.Tokens as spec;
 
-use mail_base::{NoMemory, Seq, Text, Token};
+use mail_base::{NoMemory, Seq, Text, Token, is_white};
 use std::alloc::Global;
 
 /// The bytes that are operators unless a configuration says otherwise.
@@ -26,7 +26,7 @@ pub fn push_tokens(tokens: &mut Seq<Token>, operators: &[u8], text: &[u8]) -> Re
     let alloc = tokens.allocator();
     let mut rest = text;
     'cutting: while let Some((first, after)) = rest.split_first() {
-        if is_gap(*first) {
+        if is_white(*first) {
             rest = after;
         } else if is_operator(operators, *first) {
             tokens.push(Token::Op(*first))?;
@@ -40,12 +40,6 @@ pub fn push_tokens(tokens: &mut Seq<Token>, operators: &[u8], text: &[u8]) -> Re
     Ok(())
 }
 
-pub fn is_gap(byte: u8) -> bool
-    ensures { result ≡ spec.is_gap byte }
-{
-    byte <= b' ' || byte == 127
-}
-
 fn is_operator(operators: &[u8], byte: u8) -> bool
     ensures { result ≡ spec.is_operator operators.now byte }
 {
@@ -55,7 +49,7 @@ fn is_operator(operators: &[u8], byte: u8) -> bool
 fn is_word_byte(operators: &[u8], byte: u8) -> bool
     ensures { result ≡ spec.is_word_byte operators.now byte }
 {
-    !is_gap(byte) && !is_operator(operators, byte)
+    !is_white(byte) && !is_operator(operators, byte)
 }
 
 // How many bytes the word at the front has.

@@ -1,6 +1,6 @@
 use Rattle.std.proofs.Common.{◌≡◌, ◌+◌, drop}
 use Rattle.std.specs.List.{prefix_len}
-use Rattle.sendmail_run.specs.LogicalLines.{is_blank}
+use Rattle.mail_base.specs.Texts.{is_blank}
 use Rattle.sendmail_run.proofs.reader.blanks_length.Given as goal
 
 abbrev pub invariant-loop-index : goal.invariant-loop-index

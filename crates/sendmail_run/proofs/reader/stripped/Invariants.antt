@@ -1,6 +1,6 @@
 use Rattle.std.proofs.Common.{◌≡◌, ◌≤◌, ◌+◌, length, take}
 use Rattle.std.specs.List.{suffix_len}
-use Rattle.sendmail_run.specs.LogicalLines.{is_blank}
+use Rattle.mail_base.specs.Texts.{is_blank}
 use Rattle.sendmail_run.proofs.reader.stripped.Given as goal
 
 abbrev pub invariant-loop-end : goal.invariant-loop-end
