@@ -2,15 +2,15 @@
 ghost use Rattle.std.specs.Prelude.{◌≡◌, ◌≤◌, IfOk, None, length};
 ghost use Rattle.link_edge.specs.Turns.{Fits};
 
+use crate::limits::Limits;
 use crate::port::Port;
-use crate::stream::{InputStream, OutputStream};
-use link_edge::{Floor, OneFloor, Place, Turn};
+use crate::standard::{Standard, Wires};
+use link_edge::{Floor, Place, Turn};
 use mail_base::{Failed, Text};
 use std::io;
 use std::io::{ErrorKind, Read, Write};
 
 /// One session on a reader and a writer, or, once it began at a port, many there.
-#[derive(Drop)]
 pub struct SystemFloor<R, W> {
     site: Site<R, W>,
     faults: u64,
@@ -21,16 +21,36 @@ pub struct SystemFloor<R, W> {
 #[derive(Drop)]
 struct Site<R, W> {
     rt: HostRuntime,
-    standard: OneFloor<InputStream<R>, OutputStream<W>>,
+    limits: Limits,
+    standard: Standard<R, W>,
     port: Option<Port>,
 }
 
+// Written out, since a caller's proof goes through the parts of a derived drop at each way out.
+impl<R: Drop, W: Drop> Drop for SystemFloor<R, W> {
+    fn drop(self) {
+        let SystemFloor {
+            site: _,
+            faults: _,
+            send_faults: _,
+        } = self;
+    }
+}
+
 impl<R: Read, W: Write> SystemFloor<R, W> {
-    pub fn new(rt: HostRuntime, reader: R, writer: W) -> SystemFloor<R, W> {
+    /// A floor that didn't begin. A session on a reader and a writer that have no descriptors is never silent.
+    pub fn new(
+        rt: HostRuntime,
+        reader: R,
+        writer: W,
+        wires: Option<Wires>,
+        limits: Limits,
+    ) -> SystemFloor<R, W> {
         SystemFloor {
             site: Site {
                 rt,
-                standard: OneFloor::new(InputStream::new(reader), OutputStream::new(writer)),
+                limits,
+                standard: Standard::new(reader, writer, wires, limits.silence),
                 port: None,
             },
             faults: 0,
@@ -38,16 +58,35 @@ impl<R: Read, W: Write> SystemFloor<R, W> {
         }
     }
 
+    /// Ends all sessions, and writes what waits, for a while.
+    pub fn finish(&mut self) {
+        if let Some(port) = &mut self.site.port {
+            // The run is over, and nobody is left to be told.
+            let _ = port.finish(&self.site.rt);
+        }
+    }
+
     /// How often `begin` and `turn` failed.
+    #[cfg(test)]
     pub fn faults(&self) -> u64 {
         self.faults
     }
 
     /// The port that is listened at, where it is one.
+    #[cfg(test)]
     pub fn port(&self) -> io::Result<u16> {
         match &self.site.port {
             Some(port) => Ok(port.address()?.port()),
             None => Err(io::Error::from(ErrorKind::NotConnected)),
+        }
+    }
+
+    /// How many sessions at the port were hung up and aren't over yet.
+    #[cfg(test)]
+    pub fn parting(&self) -> usize {
+        match &self.site.port {
+            Some(port) => port.parting(),
+            None => 0,
         }
     }
 }
@@ -55,14 +94,15 @@ impl<R: Read, W: Write> SystemFloor<R, W> {
 impl<R: Read, W: Write> Site<R, W> {
     fn begin(&mut self, place: &Place, most: u64) -> io::Result<()> {
         match place {
-            Place::Standard => Ok(()),
+            Place::Standard => match self.standard.begin() {
+                Ok(()) => Ok(()),
+                Err(Failed) => Err(io::Error::from(ErrorKind::NotConnected)),
+            },
             Place::Port { address, port } => {
                 let address = str::from_utf8(address.bytes()).map_err(|_| io::Error::from(
                     ErrorKind::InvalidInput,
                 ))?;
-                let address = if address.is_empty() { "::" } else { address };
-                let alloc = self.rt.alloc();
-                self.port = Some(Port::bind(&self.rt, alloc, address, *port, most)?);
+                self.port = Some(Port::bind(&self.rt, address, *port, most, self.limits)?);
                 Ok(())
             }
         }
@@ -74,7 +114,7 @@ impl<R: Read, W: Write> Site<R, W> {
     {
         match &mut self.port {
             None => self.standard.turn(buf),
-            Some(port) => match port.turn(self.rt.alloc(), buf) {
+            Some(port) => match port.turn(&self.rt, buf) {
                 Ok(turn) => Ok(turn),
                 Err(_) => Err(Failed),
             },
@@ -84,10 +124,7 @@ impl<R: Read, W: Write> Site<R, W> {
     fn send(&mut self, session: u64, bytes: &Text) -> Result<(), Failed> {
         match &mut self.port {
             None => self.standard.send(session, bytes),
-            Some(port) => match port.send(&self.rt, session, bytes.bytes()) {
-                Ok(()) => Ok(()),
-                Err(_) => Err(Failed),
-            },
+            Some(port) => port.send(session, bytes.bytes()),
         }
     }
 

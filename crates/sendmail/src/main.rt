@@ -10,23 +10,30 @@ mod disk;
 mod floor;
 #[cfg(test)]
 mod floor_tests;
+mod limits;
+mod link;
 mod notice;
+mod parting;
 mod path;
+mod peer;
 mod port;
 mod queue_dirs;
 #[cfg(test)]
 mod queue_tests;
-mod sending;
+mod standard;
 mod stream;
 #[cfg(test)]
 mod tests;
+mod waiting;
 mod words;
 
 use crate::clock::SystemClock;
 use crate::disk::DiskFiles;
 use crate::floor::SystemFloor;
+use crate::limits::LIMITS;
 use crate::notice::tell;
 use crate::queue_dirs::QueueDirs;
+use crate::standard::Wires;
 use crate::stream::{InputStream, OutputStream};
 use crate::words::{Asked, read_words};
 use mail_base::{Seq, Text};
@@ -66,16 +73,20 @@ fn run(rt: &HostRuntime, words: &Seq<Text>) -> Outcome {
     if words.len() > MOST_WORDS {
         return Outcome::Usage(u32::MAX);
     }
-    sendmail(
+    let wires = Wires::of(&rt.stdin(), &rt.stdout());
+    let mut floor = SystemFloor::new(*rt, rt.stdin(), rt.stdout(), Some(wires), LIMITS);
+    let outcome = sendmail(
         rt.alloc(),
         words,
         &mut DiskFiles::new(rt),
         &mut QueueDirs::new(rt.alloc(), b""),
-        &mut SystemFloor::new(*rt, rt.stdin(), rt.stdout()),
+        &mut floor,
         &mut SystemClock::new(*rt),
         &mut InputStream::new(rt.stdin()),
         &mut OutputStream::new(rt.stdout()),
-    )
+    );
+    floor.finish();
+    outcome
 }
 
 fn print(rt: &HostRuntime, text: &[u8]) -> Outcome {

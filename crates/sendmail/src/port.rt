@@ -1,36 +1,45 @@
 // Many sessions at a port, in one thread.
-ghost use Rattle.std.specs.Prelude.{◌≡◌, ◌≤◌, IfOk, IfSome, length, take};
-ghost use Rattle.link_edge.specs.Turns.{Fits, IsPeer};
+ghost use Rattle.std.specs.Prelude.{◌≡◌, ◌≤◌, IfOk, IfSome, length};
+ghost use Rattle.link_edge.specs.Turns.{Fits};
 
-use crate::sending::send_all;
+use crate::limits::Limits;
+use crate::link::Link;
+use crate::parting::Parting;
+use crate::peer::put_peer;
+use crate::waiting::{asking, is_ready};
 use libc::net::POLLIN;
 use libc::types::pollfd;
 use link_edge::Turn;
-use std::alloc::{AllocError, Global};
+use mail_base::Failed;
+use std::alloc::Global;
 use std::io;
-use std::io::{ErrorKind, Read};
-use std::net::{Net, SocketAddr, TcpListener, TcpStream};
+use std::net::{IpAddr, Net, SocketAddr, TcpListener, TcpStream};
 use std::os::fd::AsRawFd;
+use std::time::Instant;
 
-/// How long a turn waits at most for something to come, in milliseconds.
-const WAIT: i32 = 50;
+/// What a session that was silent for too long is told.
+pub const SILENT: &[u8] = b"421 4.4.2 Nothing came for too long, closing connection\r\n";
 
-/// The most bytes of a peer's address.
-const LONGEST_PEER: usize = 64;
+/// The errors of the system for want of descriptors, of all processes, and of room for a socket.
+const ENFILE: i32 = 23;
+
+const ENOBUFS: i32 = 105;
 
 /// A session with a peer.
 #[derive(Drop)]
 struct Session {
     number: u64,
-    stream: TcpStream,
+    link: Link,
 }
 
-/// A listener and its open sessions, which are served in turn: each turn begins behind the place that
-/// the last one served, so that none waits for ever.
-#[derive(Drop)]
+/// A listener and its sessions, which are served in turn: each turn begins behind the place that the last one
+/// served, so that none waits for ever. No call waits for a peer, and what fails with one peer ends that
+/// peer's session alone.
 pub struct Port {
     listener: TcpListener,
+    limits: Limits,
     sessions: Vec<Session>,
+    parting: Vec<Parting>,
     asked: Vec<pollfd>,
     /// The place that is looked at first: 0 is the listener, and each other the session before it.
     first: usize,
@@ -38,6 +47,34 @@ pub struct Port {
     opened: u64,
     closed: u64,
     most: u64,
+    start: Instant,
+    /// The moment of the turn, in milliseconds since the start.
+    now: u64,
+    /// How long the next turn waits at most.
+    wait: i32,
+    /// Until when nobody is let in.
+    rested: u64,
+}
+
+// Written out, since a caller's proof goes through the parts of a derived drop at each way out.
+impl Drop for Port {
+    fn drop(self) {
+        let Port {
+            listener: _,
+            limits: _,
+            sessions: _,
+            parting: _,
+            asked: _,
+            first: _,
+            opened: _,
+            closed: _,
+            most: _,
+            start: _,
+            now: _,
+            wait: _,
+            rested: _,
+        } = self;
+    }
 }
 
 impl Port {
@@ -45,21 +82,28 @@ impl Port {
     /// any more, unless it is 0.
     pub fn bind(
         rt: &HostRuntime,
-        alloc: Global,
         address: &str,
         port: u16,
         most: u64,
+        limits: Limits,
     ) -> io::Result<Port> {
-        let listener = TcpListener::bind(rt, (address, port))?;
+        let listener = listen(rt, address, port)?;
         listener.set_nonblocking(true)?;
+        let alloc = rt.alloc();
         Ok(Port {
+            start: Instant::now(rt)?,
             listener,
+            limits,
             sessions: Vec::new(alloc),
+            parting: Vec::new(alloc),
             asked: Vec::new(alloc),
             first: 0,
             opened: 0,
             closed: 0,
             most,
+            now: 0,
+            wait: 0,
+            rested: 0,
         })
     }
 
@@ -68,53 +112,104 @@ impl Port {
         self.listener.local_addr()
     }
 
-    /// Waits a little for something to come.
-    pub fn turn(&mut self, alloc: Global, buf: &mut [u8]) -> io::Result<Turn>
+    /// How many sessions were hung up and aren't over yet.
+    #[cfg(test)]
+    pub fn parting(&self) -> usize {
+        self.parting.len()
+    }
+
+    /// Waits a little for something to come, unless the turn before had something.
+    pub fn turn(&mut self, rt: &HostRuntime, buf: &mut [u8]) -> io::Result<Turn>
         requires { 64 ≤ length buf.old }
         ensures { IfOk result (λ turn. Fits turn buf.new) }
     {
         if self.most > 0 && self.closed >= self.most {
             return Ok(Turn::Stop);
         }
-        if !self.wait()? {
-            return Ok(Turn::Idle);
+        self.look(rt)?;
+        if let Some(session) = self.end_overdue() {
+            return Ok(Turn::Closed(session));
         }
-        let places = self.asked.len();
-        for step in 0..places {
-            let place = turned(self.first, step, places);
-            if self.is_ready(place) {
-                self.first = place.saturating_add(1);
-                if let Some(turn) = self.serve(alloc, place, buf)? {
-                    return Ok(turn);
-                }
+        match self.serve(rt.alloc(), buf)? {
+            Some(turn) => {
+                self.wait = 0;
+                Ok(turn)
+            }
+            None => {
+                self.wait = longer(self.wait, self.limits.wait);
+                Ok(Turn::Idle)
             }
         }
-        Ok(Turn::Idle)
     }
 
-    /// Sends all of the bytes to a session, or fails in 5 seconds.
-    pub fn send(&mut self, rt: &HostRuntime, session: u64, bytes: &[u8]) -> io::Result<()> {
+    /// Sends bytes to a session: what doesn't go now waits, at most so many bytes.
+    pub fn send(&mut self, session: u64, bytes: &[u8]) -> Result<(), Failed> {
+        let (now, most) = (self.now, self.limits.backlog);
         match self.sessions.iter_mut().find(|open| open.number == session) {
-            Some(open) => send_all(rt, &mut open.stream, bytes),
-            None => Err(io::Error::from(ErrorKind::NotConnected)),
+            Some(open) => open.link.send(bytes, now, most),
+            None => Err(Failed),
         }
     }
 
-    /// Ends a session.
+    /// Ends a session. What waits is written in later turns.
     pub fn hang_up(&mut self, session: u64) {
         if let Some(place) = self.sessions.iter().position(|open| open.number == session) {
-            self.close(place);
+            if self.parting.len() >= self.limits.parting && !self.parting.is_empty() {
+                self.parting.remove(0);
+            }
+            self.part(place);
         }
     }
 
-    // Waits until something is ready, or the time is up.
-    fn wait(&mut self) -> Result<bool, AllocError> {
-        self.asked.clear();
-        self.asked.push(asking(self.listener.as_raw_fd()))?;
-        for session in &self.sessions {
-            self.asked.push(asking(session.stream.as_raw_fd()))?;
+    /// Ends all sessions, and writes what waits, for a while.
+    pub fn finish(&mut self, rt: &HostRuntime) -> io::Result<()> {
+        for _ in 0..self.sessions.len() {
+            self.part(0);
         }
-        Ok(libc::net::poll(&mut self.asked, WAIT) > 0)
+        self.look(rt)?;
+        let until = self.now.saturating_add(self.limits.farewell);
+        for _ in 0..u64::MAX {
+            if self.parting.is_empty() || self.now >= until {
+                break;
+            }
+            self.wait = longer(self.wait, self.limits.wait);
+            self.look(rt)?;
+        }
+        Ok(())
+    }
+
+    // Waits until something is ready or the time is up, and lets go of the sessions that are over.
+    fn look(&mut self, rt: &HostRuntime) -> io::Result<()> {
+        self.ask()?;
+        let ready = is_ready(&mut self.asked, self.wait);
+        self.now = millis_since(rt, self.start)?;
+        let (now, limits) = (self.now, self.limits);
+        self.parting
+            .retain_mut(|parting| !parting.is_over(now, &limits));
+        match ready {
+            Ok(_) => Ok(()),
+            Err(Failed) => Err(io::Error::from(io::ErrorKind::Other)),
+        }
+    }
+
+    // Makes the list of what is waited for: the listener, the sessions, and those that part.
+    fn ask(&mut self) -> io::Result<()> {
+        self.asked.clear();
+        let listener = if self.now < self.rested {
+            -1
+        } else {
+            self.listener.as_raw_fd()
+        };
+        self.asked.push(asking(listener, POLLIN))?;
+        for session in &self.sessions {
+            let link = &session.link;
+            self.asked.push(asking(link.descriptor(), link.events()))?;
+        }
+        for parting in &self.parting {
+            let link = parting.link();
+            self.asked.push(asking(link.descriptor(), link.events()))?;
+        }
+        Ok(())
     }
 
     fn is_ready(&self, place: usize) -> bool {
@@ -123,8 +218,58 @@ impl Port {
             .is_some_and(|asked| asked.revents != 0)
     }
 
+    // Ends a session that was silent for too long, or reads nothing, and gives its number.
+    fn end_overdue(&mut self) -> Option<u64> {
+        let place = (0..self.sessions.len()).find(|place| self.is_overdue(*place))?;
+        let session = self.sessions.get_mut(place)?;
+        let number = session.number;
+        if session.link.is_waiting() {
+            self.close(place);
+        } else {
+            // Nobody can be told that this one line doesn't arrive.
+            let _ = session.link.send(SILENT, self.now, self.limits.backlog);
+            self.hang_up(number);
+        }
+        Some(number)
+    }
+
+    fn is_overdue(&self, place: usize) -> bool {
+        let Some(session) = self.sessions.get(place) else {
+            return false;
+        };
+        let longest = if session.link.is_waiting() {
+            self.limits.stall
+        } else {
+            self.limits.silence
+        };
+        session.link.stillness(self.now) > longest && !self.is_ready(place.saturating_add(1))
+    }
+
+    // What is at the first place that has something.
+    fn serve(&mut self, alloc: Global, buf: &mut [u8]) -> io::Result<Option<Turn>>
+        requires { 64 ≤ length buf.old }
+        ensures { IfOk result (λ turn. IfSome turn (λ turn. Fits turn buf.new)) }
+    {
+        let places = self.sessions.len().saturating_add(1);
+        for step in 0..places {
+            let place = turned(self.first, step, places);
+            if self.is_ready(place) {
+                self.first = place.saturating_add(1);
+                if let Some(turn) = self.serve_place(alloc, place, buf)? {
+                    return Ok(Some(turn));
+                }
+            }
+        }
+        Ok(None)
+    }
+
     // What is at a place that is ready, or `None` where there is nothing after all.
-    fn serve(&mut self, alloc: Global, place: usize, buf: &mut [u8]) -> io::Result<Option<Turn>>
+    fn serve_place(
+        &mut self,
+        alloc: Global,
+        place: usize,
+        buf: &mut [u8],
+    ) -> io::Result<Option<Turn>>
         requires { 64 ≤ length buf.old }
         ensures room { length buf.new ≡ length buf.old }
         ensures fits { IfOk result (λ turn. IfSome turn (λ turn. Fits turn buf.new)) }
@@ -135,37 +280,75 @@ impl Port {
         }
     }
 
+    // Lets a peer in. An error of one that doesn't come in ends nothing else.
     fn accept(&mut self, alloc: Global, buf: &mut [u8]) -> io::Result<Option<Turn>>
         requires { 64 ≤ length buf.old }
         ensures room { length buf.new ≡ length buf.old }
         ensures fits { IfOk result (λ turn. IfSome turn (λ turn. Fits turn buf.new)) }
     {
-        let (stream, peer) = match self.listener.accept() {
-            Ok(accepted) => accepted,
-            Err(error) if is_passing(error.kind()) => return Ok(None),
-            Err(error) => return Err(error),
-        };
-        stream.set_nonblocking(true)?;
-        let peer = format!(in alloc; "{}", peer.ip())?;
-        self.opened = self.opened.saturating_add(1);
-        let number = self.opened;
-        self.sessions
-            .push(Session { number, stream })
-            .map_err(AllocError::from)?;
-        Ok(Some(Turn::Opened(number, put_peer(peer.as_bytes(), buf))))
+        match self.listener.accept() {
+            Ok((stream, peer)) => Ok(self.open(alloc, stream, peer.ip(), buf)),
+            Err(error) => match error.raw_os_error() {
+                Some(libc::EBADF | libc::EINVAL | libc::ENOTSOCK) => Err(error),
+                Some(libc::EMFILE | ENFILE | ENOBUFS | libc::ENOMEM) => {
+                    self.rested = self.now.saturating_add(self.limits.rest);
+                    Ok(None)
+                }
+                _ => Ok(None),
+            },
+        }
     }
 
+    fn open(
+        &mut self,
+        alloc: Global,
+        stream: TcpStream,
+        peer: IpAddr,
+        buf: &mut [u8],
+    ) -> Option<Turn>
+        requires { 64 ≤ length buf.old }
+        ensures room { length buf.new ≡ length buf.old }
+        ensures fits { IfSome result (λ turn. Fits turn buf.new) }
+    {
+        if self.room().is_err() {
+            self.rested = self.now.saturating_add(self.limits.rest);
+            return None;
+        }
+        let number = self.opened.saturating_add(1);
+        let link = Link::new(alloc, stream, self.now).ok()?;
+        self.sessions.push(Session { number, link }).ok()?;
+        self.opened = number;
+        Some(Turn::Opened(number, put_peer(Some(peer), buf)))
+    }
+
+    // Makes room for one more session, until it is over.
+    fn room(&mut self) -> io::Result<()> {
+        self.sessions.reserve(1)?;
+        self.parting.reserve(self.sessions.len().saturating_add(1))?;
+        let places = self.sessions.len().saturating_add(self.parting.len());
+        self.asked.reserve(places.saturating_add(2))?;
+        Ok(())
+    }
+
+    // What a session that is ready brings.
     fn hear(&mut self, place: usize, buf: &mut [u8]) -> Option<Turn>
         requires { 64 ≤ length buf.old }
         ensures room { length buf.new ≡ length buf.old }
         ensures fits { IfSome result (λ turn. Fits turn buf.new) }
     {
+        let now = self.now;
         let session = self.sessions.get_mut(place)?;
         let number = session.number;
-        match session.stream.read(buf) {
-            Ok(count) if count > 0 => return Some(Turn::Piece(number, count)),
-            Err(error) if is_passing(error.kind()) => return None,
-            _ => {}
+        if session.link.is_waiting() {
+            if session.link.flush(now).is_ok() {
+                return None;
+            }
+        } else {
+            match session.link.read(buf, now) {
+                Ok(Some(count)) => return Some(Turn::Piece(number, count)),
+                Ok(None) => return None,
+                Err(Failed) => {}
+            }
         }
         self.close(place);
         Some(Turn::Closed(number))
@@ -178,39 +361,47 @@ impl Port {
             self.closed = self.closed.saturating_add(1);
         }
     }
+
+    // Puts the session at a place among those that part. With no memory for that it ends at once.
+    fn part(&mut self, place: usize) {
+        if place < self.sessions.len() {
+            let Session { number: _, link } = self.sessions.remove(place);
+            self.closed = self.closed.saturating_add(1);
+            let _ = self.parting.push(Parting::new(link));
+        }
+    }
+}
+
+// A listener; where all addresses are meant and there are none of IPv6, it listens at those of IPv4.
+fn listen(rt: &HostRuntime, address: &str, port: u16) -> io::Result<TcpListener> {
+    if !address.is_empty() && address != "::" {
+        return TcpListener::bind(rt, (address, port));
+    }
+    match TcpListener::bind(rt, ("::", port)) {
+        Ok(listener) => Ok(listener),
+        Err(error) if lacks_family(&error) => TcpListener::bind(rt, ("0.0.0.0", port)),
+        Err(error) => Err(error),
+    }
+}
+
+// Whether the machine has no addresses of that kind.
+fn lacks_family(error: &io::Error) -> bool {
+    matches!(
+        error.raw_os_error(),
+        Some(libc::EAFNOSUPPORT | libc::EADDRNOTAVAIL)
+    )
+}
+
+fn millis_since(rt: &HostRuntime, start: Instant) -> io::Result<u64> {
+    Ok(u64::try_from(start.elapsed(rt)?.as_millis()).unwrap_or(u64::MAX))
+}
+
+// How long is waited where nothing came: more each time, up to the longest.
+fn longer(wait: i32, longest: i32) -> i32 {
+    wait.saturating_mul(2).saturating_add(1).min(longest)
 }
 
 // The place so many steps behind the first one, of so many places in a ring.
 fn turned(first: usize, step: usize, places: usize) -> usize {
     first.saturating_add(step).checked_rem(places).unwrap_or(0)
-}
-
-// Whether a later call may go well.
-fn is_passing(kind: ErrorKind) -> bool {
-    matches!(
-        kind,
-        ErrorKind::WouldBlock | ErrorKind::Interrupted | ErrorKind::ConnectionAborted
-    )
-}
-
-fn asking(fd: i32) -> pollfd {
-    pollfd {
-        fd,
-        events: POLLIN,
-        revents: 0,
-    }
-}
-
-// Puts a peer's address at the front of the buffer; none where it hasn't the form of one.
-fn put_peer(peer: &[u8], buf: &mut [u8]) -> usize
-    requires { 64 ≤ length buf.old }
-    ensures room { length buf.new ≡ length buf.old }
-    ensures within { result ≤ length buf.new }
-    ensures peer { IsPeer (take result buf.new) }
-{
-    if peer.len() > LONGEST_PEER || peer.contains(&b'\n') {
-        return 0;
-    }
-    buf[..peer.len()].copy_from_slice(peer);
-    peer.len()
 }

@@ -1,9 +1,11 @@
 // Standard input and output as a source and a sink. They tell nothing but how often they failed.
 ghost use Rattle.std.specs.Prelude.{◌<◌, None, length};
+ghost use Rattle.std.specs.Io.{ReadsAtMost};
 
 use mail_base::Failed;
 use mail_edge::{Sink, Source};
-use std::io::{Read, Write};
+use std::io;
+use std::io::{ErrorKind, Read, Write};
 
 /// A reader as a source.
 #[derive(Drop)]
@@ -22,7 +24,7 @@ impl<R: Read> Source for InputStream<R> {
     ghost seen = { λ s. record { left = None; faults = s.faults } };
 
     fn take(&mut self, buf: &mut [u8]) -> Result<usize, Failed> {
-        match self.reader.read(buf) {
+        match read_some(&mut self.reader, buf) {
             Ok(count) => Ok(count),
             Err(_) => {
                 self.faults = self.faults.saturating_add(1);
@@ -32,7 +34,21 @@ impl<R: Read> Source for InputStream<R> {
     }
 }
 
-/// A writer as a sink.
+// Reads what comes, again where a signal came.
+fn read_some(reader: &mut impl Read, buf: &mut [u8]) -> io::Result<usize>
+    ensures { ReadsAtMost result buf.new }
+{
+    for _ in 0..u64::MAX {
+        match reader.read(buf) {
+            Ok(count) => return Ok(count),
+            Err(error) if error.kind() == ErrorKind::Interrupted => {}
+            Err(error) => return Err(error),
+        }
+    }
+    Err(io::Error::from(ErrorKind::Interrupted))
+}
+
+/// A writer as a sink. Its writes are made again where a signal came.
 #[derive(Drop)]
 pub struct OutputStream<W> {
     writer: W,

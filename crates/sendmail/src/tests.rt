@@ -1,10 +1,12 @@
 use crate::disk::DiskFiles;
 use crate::notice::tell;
+use crate::peer::put_peer;
 use crate::stream::{InputStream, OutputStream};
 use mail_base::{EdgeFault, Failed, Text};
 use mail_edge::{Files, Sink, Source};
 use sendmail_run::Outcome;
 use std::io::{ErrorKind, Read, Write};
+use std::net::IpAddr;
 use std::test::Fail;
 use std::{fs, io};
 
@@ -28,6 +30,61 @@ impl Write for Broken {
     }
 }
 
+// A signal comes in each second call, beginning with the first.
+#[derive(Drop)]
+struct Signalled<S> {
+    inner: S,
+    calls: u32,
+}
+
+impl<S> Signalled<S> {
+    // Counts a call, in which a signal came or not.
+    fn call(&mut self) -> io::Result<()> {
+        self.calls = self.calls.wrapping_add(1);
+        if self.calls % 2 == 1 {
+            return Err(io::Error::from(ErrorKind::Interrupted));
+        }
+        Ok(())
+    }
+}
+
+impl<S: Read> Read for Signalled<S> {
+    fn read(&mut self, buf: &mut [u8]) -> io::Result<usize> {
+        self.call()?;
+        self.inner.read(buf)
+    }
+}
+
+impl<S: Write> Write for Signalled<S> {
+    fn write(&mut self, bytes: &[u8]) -> io::Result<usize> {
+        self.call()?;
+        self.inner.write(bytes)
+    }
+
+    fn flush(&mut self) -> io::Result<()> {
+        self.inner.flush()
+    }
+}
+
+#[test]
+fn signals_change_nothing(rt: HostRuntime) -> Result<(), Fail> {
+    let mut buf = [0u8; 8];
+    let mut input = InputStream::new(Signalled {
+        inner: b"bytes".as_slice(),
+        calls: 0,
+    });
+    assert_eq!(rt; input.take(&mut buf)?, 5);
+    assert_eq!(rt; input.take(&mut buf)?, 0);
+    let mut written = Vec::new(rt.alloc());
+    OutputStream::new(Signalled {
+        inner: &mut written,
+        calls: 0,
+    })
+    .give(b"bytes")?;
+    assert_eq!(rt; written.as_slice(), b"bytes".as_slice());
+    Ok(())
+}
+
 #[test]
 fn a_reader_is_a_source(rt: HostRuntime) -> Result<(), Fail> {
     let mut buf = [0u8; 4];
@@ -47,6 +104,25 @@ fn a_writer_is_a_sink(rt: HostRuntime) -> Result<(), Fail> {
     assert_eq!(rt; written.as_slice(), b"bytes".as_slice());
     assert_eq!(rt; OutputStream::new(Broken).give(b"bytes"), Err(Failed));
     Ok(())
+}
+
+#[test]
+fn addresses_are_those_that_rules_expect(rt: HostRuntime) {
+    for (peer, wanted) in [
+        (IpAddr::from([192u8, 0, 2, 1]), b"192.0.2.1".as_slice()),
+        (
+            IpAddr::from([0u16, 0, 0, 0, 0, 0xffff, 0xc000, 0x0201]),
+            b"192.0.2.1",
+        ),
+        (
+            IpAddr::from([0x2001u16, 0xdb8, 0, 0, 0, 0, 0, 1]),
+            b"IPv6:2001:db8::1",
+        ),
+    ] {
+        let mut buf = [0u8; 64];
+        let count = put_peer(Some(peer), &mut buf);
+        assert!(rt; buf.get(..count) == Some(wanted));
+    }
 }
 
 #[test]

@@ -1,0 +1,58 @@
+// Sessions that were hung up, until what they were sent has arrived.
+use crate::limits::Limits;
+use crate::link::Link;
+use mail_base::Failed;
+
+/// The bytes that are drained in one reading, and the most readings at once.
+const PIECE: usize = 8192;
+
+const READINGS: u32 = 16;
+
+/// A session that was hung up: what waits is written, then the peer is told that nothing more comes, and what it
+/// still sends is drained for a while, so that it isn't reset before it has read all.
+#[derive(Drop)]
+pub struct Parting {
+    link: Link,
+    /// Until when it is drained, where all is written.
+    until: Option<u64>,
+}
+
+impl Parting {
+    pub fn new(link: Link) -> Parting {
+        Parting { link, until: None }
+    }
+
+    pub fn link(&self) -> &Link {
+        &self.link
+    }
+
+    /// Does what can be done now, and says whether it is over.
+    pub fn is_over(&mut self, now: u64, limits: &Limits) -> bool {
+        if self.link.flush(now).is_err() {
+            return true;
+        }
+        if self.link.is_waiting() {
+            return self.link.stillness(now) > limits.stall;
+        }
+        match self.until {
+            Some(until) => now >= until || self.drain(now),
+            None => {
+                self.until = Some(now.saturating_add(limits.drain));
+                self.link.finish().is_err()
+            }
+        }
+    }
+
+    // Drops what came, and says whether nothing comes any more.
+    fn drain(&mut self, now: u64) -> bool {
+        let mut piece = [0u8; PIECE];
+        for _ in 0..READINGS {
+            match self.link.read(&mut piece, now) {
+                Ok(Some(_)) => {}
+                Ok(None) => return false,
+                Err(Failed) => return true,
+            }
+        }
+        false
+    }
+}
