@@ -25,6 +25,8 @@ mod stream;
 #[cfg(test)]
 mod tests;
 mod waiting;
+#[cfg(test)]
+mod whole_tests;
 mod words;
 
 use crate::clock::SystemClock;

@@ -1,0 +1,129 @@
+// The program's own call over the real devices.
+ghost use Rattle.std.specs.Prelude.{◌<◌, ◌^◌, IfOk, length};
+
+use crate::clock::SystemClock;
+use crate::disk::DiskFiles;
+use crate::floor::SystemFloor;
+use crate::limits::LIMITS;
+use crate::queue_dirs::QueueDirs;
+use crate::standard::Wires;
+use crate::stream::{InputStream, OutputStream};
+use mail_base::{NoMemory, Seq, Text};
+use mail_edge::Clock;
+use sendmail_run::{Outcome, sendmail};
+use std::io::{PipeReader, PipeWriter, Read, Write};
+use std::test::Fail;
+use std::{fs, io};
+
+/// Where the queue and the configuration of the test are.
+const ROOT: &str = "/tmp/sendmail-whole";
+
+const QUEUE: &str = "/tmp/sendmail-whole/var/spool/mqueue";
+
+const ASKED: &[u8] =
+    b"HELO c.example\r\nMAIL FROM:<bob@c.example>\r\nRCPT TO:<ann@mx.example>\r\nDATA\r\nSubject: hi\r\n\r\nhello\r\n.\r\nQUIT\r\n";
+
+const REPLIES: &[u8] =
+    b"220 localhost ESMTP ready\r\n250 localhost Hello\r\n250 2.1.0 Sender ok\r\n250 2.1.5 Recipient ok\r\n354 Enter mail, end with \".\" on a line by itself\r\n250 2.0.0 w000000000001 Message accepted for delivery\r\n221 2.0.0 localhost closing connection\r\n";
+
+/// The control text before the moment of the message, and behind it.
+const BEFORE: &[u8] = b"V1\nv1\ngmqueue\nT";
+
+const BEHIND: &[u8] =
+    b"\nK0\nN0\nP30022\nc0\nS<bob@c.example>\n$rSMTP\n$sc.example\n${client_addr}\nRPFD:<ann@mx.example>\neQ\nHSubject: hi\n.\n";
+
+// An empty queue, and a configuration beside it.
+fn make_site(rt: &HostRuntime) -> io::Result<()> {
+    if fs::exists(rt, ROOT)? {
+        fs::remove_dir_all(rt, ROOT)?;
+    }
+    fs::create_dir_all(rt, QUEUE)?;
+    fs::write(rt, "/tmp/sendmail-whole/sendmail.cf", b"S5\n".as_slice())
+}
+
+// The command line.
+fn words(rt: &HostRuntime) -> Result<Seq<Text>, NoMemory>
+    ensures { IfOk result (λ words. length words < 2 ^ 32) }
+{
+    let mut words = Seq::new(rt.alloc());
+    words.push(Text::of(rt.alloc(), b"-bs")?)?;
+    words.push(Text::of(rt.alloc(), b"-C/tmp/sendmail-whole/sendmail.cf")?)?;
+    Ok(words)
+}
+
+// Serves a session from one pipe to another.
+fn serve(rt: &HostRuntime, reader: PipeReader, writer: PipeWriter) -> Result<Outcome, NoMemory> {
+    let wires = Wires::of(&reader, &writer);
+    let mut floor = SystemFloor::new(*rt, reader, writer, Some(wires), LIMITS);
+    let outcome = sendmail(
+        rt.alloc(),
+        &words(rt)?,
+        &mut DiskFiles::new(rt),
+        &mut QueueDirs::new(rt.alloc(), ROOT.as_bytes()),
+        &mut floor,
+        &mut SystemClock::new(*rt),
+        &mut InputStream::new(b"".as_slice()),
+        &mut OutputStream::new(Vec::new(rt.alloc())),
+    );
+    floor.finish();
+    Ok(outcome)
+}
+
+// How a run ends whose peer says these bytes and hangs up, and whether it is replied so.
+fn converse(rt: &HostRuntime, asked: &[u8], wanted: &[u8]) -> Result<(u8, bool), Fail> {
+    let (reader, mut far_writer) = io::pipe(rt)?;
+    let (mut far_reader, writer) = io::pipe(rt)?;
+    far_writer.write_all(asked)?;
+    drop(far_writer);
+    let status = serve(rt, reader, writer)?.status();
+    Ok((status, is_rest(rt, &mut far_reader, wanted)?))
+}
+
+// Whether this is all that comes.
+fn is_rest(rt: &HostRuntime, reader: &mut PipeReader, wanted: &[u8]) -> io::Result<bool> {
+    let mut bytes = Vec::new(rt.alloc());
+    reader.read_to_end(&mut bytes)?;
+    Ok(bytes.as_slice() == wanted)
+}
+
+// Whether a file holds these bytes.
+fn is_file(rt: &HostRuntime, path: &str, wanted: &[u8]) -> io::Result<bool> {
+    Ok(fs::read(rt, path)?.as_slice() == wanted)
+}
+
+// Whether a file is the control text of the message at such a moment.
+fn is_control(rt: &HostRuntime, path: &str, since: u64, until: u64) -> io::Result<bool> {
+    let bytes = fs::read(rt, path)?;
+    let moment = bytes
+        .strip_prefix(BEFORE)
+        .and_then(|rest| rest.strip_suffix(BEHIND))
+        .and_then(|digits| str::from_utf8(digits).ok())
+        .and_then(|digits| digits.parse::<u64>().ok());
+    Ok(moment.is_some_and(|moment| since <= moment && moment <= until))
+}
+
+#[test]
+fn a_message_is_in_the_queue_on_the_disk(rt: HostRuntime) -> Result<(), Fail> {
+    make_site(&rt)?;
+    let mut clock = SystemClock::new(rt);
+    let since = clock.now();
+    assert_eq!(rt; converse(&rt, ASKED, REPLIES)?, (0, true));
+    assert!(rt;
+        is_control(
+            &rt,
+            "/tmp/sendmail-whole/var/spool/mqueue/qfw000000000001",
+            since,
+            clock.now()
+        )?
+    );
+    assert!(rt;
+        is_file(
+            &rt,
+            "/tmp/sendmail-whole/var/spool/mqueue/dfw000000000001",
+            b"hello\r\n"
+        )?
+    );
+    assert_eq!(rt; fs::read_dir(&rt, QUEUE)?.count(), 2);
+    fs::remove_dir_all(&rt, ROOT)?;
+    Ok(())
+}
