@@ -107,34 +107,50 @@ fn put<S: Spool>(alloc: Global, spool: &mut S, name: &[u8], bytes: &[u8]) -> Res
     Ok(written(spool, &dir, &name, &bytes)?)
 }
 
+// Adds the name and the bytes of a file, with a space behind them.
+fn add_file<S: Spool>(
+    alloc: Global,
+    spool: &mut S,
+    dir: &Text,
+    name: &Text,
+    text: &mut Text,
+) -> Result<(), EdgeFault> {
+    text.extend(name.bytes())?;
+    text.push(b'=')?;
+    if let Some(bytes) = bytes_in(alloc, spool, dir, name)? {
+        text.extend(bytes.bytes())?;
+    }
+    Ok(text.push(b' ')?)
+}
+
+fn shown_files<S: Spool>(
+    alloc: Global,
+    spool: &mut S,
+    dir: &Text,
+    names: &Seq<Text>,
+) -> Result<Text, EdgeFault> {
+    let mut text = Text::new(alloc);
+    for name in names.items() {
+        add_file(alloc, spool, dir, name, &mut text)?;
+    }
+    Ok(text)
+}
+
 // The names and the bytes of the files of the directory q, each with a space behind it.
 fn shown<S: Spool>(alloc: Global, spool: &mut S) -> Result<Text, EdgeFault> {
     let dir = Text::of(alloc, b"q")?;
-    let mut text = Text::new(alloc);
-    for name in listed_in(alloc, spool, &dir)?.items() {
-        text.extend(name.bytes())?;
-        text.push(b'=')?;
-        if let Some(bytes) = bytes_in(alloc, spool, &dir, name)? {
-            text.extend(bytes.bytes())?;
-        }
-        text.push(b' ')?;
-    }
-    Ok(text)
+    let names = listed_in(alloc, spool, &dir)?;
+    shown_files(alloc, spool, &dir, &names)
 }
 
 fn calls(alloc: Global, failing: &[u64]) -> Result<Seq<u64>, NoMemory> {
     Ok(Seq::from_vec(Vec::from_slice(alloc, failing)?))
 }
 
-// What the directory shows after a file was written.
-fn shown_with<S: Spool>(
-    alloc: Global,
-    spool: &mut S,
-    name: &[u8],
-    bytes: &[u8],
-) -> Result<Text, EdgeFault> {
-    put(alloc, spool, name, bytes)?;
-    shown(alloc, spool)
+// Whether the directory shows this.
+fn shows<S: Spool>(alloc: Global, spool: &mut S, wanted: &[u8]) -> Result<bool, EdgeFault> {
+    let text = shown(alloc, spool)?;
+    Ok(text.bytes() == wanted)
 }
 
 // Files as they are written one after the other, and what the directory then shows.
@@ -144,14 +160,25 @@ const WRITES: [(&[u8], &[u8], &[u8]); 3] = [
     (b"df1", b"again", b"df1=again qf2=second "),
 ];
 
+// The place of the first file after whose writing the directory shows something else.
+fn wrong_write<S: Spool>(alloc: Global, spool: &mut S) -> Result<Option<usize>, EdgeFault> {
+    for (at, (name, bytes, all)) in WRITES.iter().enumerate() {
+        put(alloc, spool, name, bytes)?;
+        if !shows(alloc, spool, all)? {
+            return Ok(Some(at));
+        }
+    }
+    Ok(None)
+}
+
+fn wrong_write_in_memory(alloc: Global) -> Result<Option<usize>, EdgeFault> {
+    let mut spool = MemSpool::new(alloc, Seq::new(alloc));
+    wrong_write(alloc, &mut spool)
+}
+
 #[test]
 fn files_are_listed_in_order_and_read(rt: HostRuntime) -> Result<(), Fail> {
-    let alloc = rt.alloc();
-    let mut spool = MemSpool::new(alloc, Seq::new(alloc));
-    for (name, bytes, all) in WRITES {
-        let text = shown_with(alloc, &mut spool, name, bytes)?;
-        assert_eq!(rt; text.bytes(), all);
-    }
+    assert_eq!(rt; wrong_write_in_memory(rt.alloc())?, None);
     Ok(())
 }
 
@@ -184,34 +211,51 @@ fn unlinked<S: Spool>(alloc: Global, spool: &mut S, name: &[u8]) -> Result<(), E
     Ok(removed(spool, &dir, &name)?)
 }
 
-// What the directory shows once that file is renamed, and once it is gone.
-fn renamed_and_removed(alloc: Global) -> Result<(Text, Text), EdgeFault> {
+// Whether the directory shows that the file is renamed, and then that it is gone.
+fn renames_and_removes<S: Spool>(alloc: Global, spool: &mut S) -> Result<bool, EdgeFault>
+    requires { IfSome (S.seen spool.old).told (λ files. IsSome (bytes_at files draft_place)) }
+{
+    published(alloc, spool)?;
+    let is_renamed = shows(alloc, spool, b"qf1=control ")?;
+    unlinked(alloc, spool, b"qf1")?;
+    Ok(is_renamed && shows(alloc, spool, b"")?)
+}
+
+fn is_renamed_and_removed(alloc: Global) -> Result<bool, EdgeFault> {
     let mut spool = one_file(alloc, &[])?;
-    published(alloc, &mut spool)?;
-    let renamed = shown(alloc, &mut spool)?;
-    unlinked(alloc, &mut spool, b"qf1")?;
-    Ok((renamed, shown(alloc, &mut spool)?))
+    renames_and_removes(alloc, &mut spool)
 }
 
 #[test]
 fn a_file_is_renamed_and_removed(rt: HostRuntime) -> Result<(), Fail> {
-    let (renamed, removed) = renamed_and_removed(rt.alloc())?;
-    assert_eq!(rt; renamed.bytes(), b"qf1=control ".as_slice());
-    assert!(rt; removed.is_empty());
+    assert!(rt; is_renamed_and_removed(rt.alloc())?);
     Ok(())
+}
+
+// Whether the first three calls fail, and the files are as they were.
+fn fails_three_times<S: Spool>(alloc: Global, spool: &mut S) -> Result<bool, EdgeFault> {
+    Ok(
+        put(alloc, spool, b"df1", b"first").is_err()
+            && unlinked(alloc, spool, b"tf1").is_err()
+            && shown(alloc, spool).is_err()
+            && shows(alloc, spool, b"tf1=control ")?,
+    )
+}
+
+fn fails_as_listed(alloc: Global) -> Result<bool, EdgeFault> {
+    let mut spool = one_file(alloc, &[0, 1, 2])?;
+    Ok(fails_three_times(alloc, &mut spool)? && spool.calls() == 5 && spool.faults() == 3)
 }
 
 #[test]
 fn calls_fail_as_listed_and_change_nothing(rt: HostRuntime) -> Result<(), Fail> {
-    let alloc = rt.alloc();
-    let mut spool = one_file(alloc, &[0, 1, 2])?;
-    assert!(rt; put(alloc, &mut spool, b"df1", b"first").is_err());
-    assert!(rt; unlinked(alloc, &mut spool, b"tf1").is_err());
-    assert!(rt; shown(alloc, &mut spool).is_err());
-    let text = shown(alloc, &mut spool)?;
-    assert_eq!(rt; text.bytes(), b"tf1=control ".as_slice());
-    assert_eq!(rt; (spool.calls(), spool.faults()), (5, 3));
+    assert!(rt; fails_as_listed(rt.alloc())?);
     Ok(())
+}
+
+fn bytes_fail(alloc: Global, spool: &mut Quiet) -> Result<bool, NoMemory> {
+    let text = Text::of(alloc, b"q")?;
+    Ok(bytes_in(alloc, spool, &text, &text).is_err())
 }
 
 #[test]
@@ -221,18 +265,21 @@ fn a_spool_that_tells_nothing_needs_no_proof(rt: HostRuntime) -> Result<(), Fail
     put(alloc, &mut spool, b"df1", b"first")?;
     published(alloc, &mut spool)?;
     unlinked(alloc, &mut spool, b"qf1")?;
-    let text = Text::of(alloc, b"q")?;
-    assert!(rt; bytes_in(alloc, &mut spool, &text, &text).is_err());
+    assert!(rt; bytes_fail(alloc, &mut spool)?);
     assert_eq!(rt; spool.faults, 1);
     Ok(())
+}
+
+fn add_shown<S: Spool>(alloc: Global, text: &mut Text, spool: &mut S) -> Result<(), EdgeFault> {
+    text.extend(shown(alloc, spool)?.bytes())?;
+    Ok(text.push(b'\n')?)
 }
 
 // What each of the images of a stop shows, each with a line end behind it.
 fn all_shown(alloc: Global, spool: &StopSpool) -> Result<Text, EdgeFault> {
     let mut text = Text::new(alloc);
     for mut image in spool.images()?.into_vec() {
-        text.extend(shown(alloc, &mut image)?.bytes())?;
-        text.push(b'\n')?;
+        add_shown(alloc, &mut text, &mut image)?;
     }
     Ok(text)
 }
@@ -255,23 +302,35 @@ const STOPS: [(u64, &[u8]); 3] = [
     (2, b"df1=body \n"),
 ];
 
+fn images_show(alloc: Global, spool: &StopSpool, wanted: &[u8]) -> Result<bool, EdgeFault> {
+    let text = all_shown(alloc, spool)?;
+    Ok(text.bytes() == wanted)
+}
+
+fn stop_leaves(alloc: Global, passes: u64, images: &[u8]) -> Result<bool, EdgeFault> {
+    let spool = until_the_stop(alloc, passes)?;
+    images_show(alloc, &spool, images)
+}
+
 #[test]
 fn a_stop_leaves_some_of_its_images(rt: HostRuntime) -> Result<(), Fail> {
-    let alloc = rt.alloc();
     for (passes, images) in STOPS {
-        let text = all_shown(alloc, &until_the_stop(alloc, passes)?)?;
-        assert_eq!(rt; text.bytes(), images, "after {passes}");
+        assert!(rt; stop_leaves(rt.alloc(), passes, images)?, "after {passes}");
     }
     Ok(())
 }
 
+fn fails_after_the_stop(alloc: Global) -> Result<bool, EdgeFault> {
+    let mut spool = StopSpool::new(one_file(alloc, &[])?, 0);
+    Ok(
+        published(alloc, &mut spool).is_err()
+            && shown(alloc, &mut spool).is_err()
+            && images_show(alloc, &spool, b"tf1=control \nqf1=control \n")?,
+    )
+}
+
 #[test]
 fn every_call_after_a_stop_fails(rt: HostRuntime) -> Result<(), Fail> {
-    let alloc = rt.alloc();
-    let mut spool = StopSpool::new(one_file(alloc, &[])?, 0);
-    assert!(rt; published(alloc, &mut spool).is_err());
-    assert!(rt; shown(alloc, &mut spool).is_err());
-    let text = all_shown(alloc, &spool)?;
-    assert_eq!(rt; text.bytes(), b"tf1=control \nqf1=control \n".as_slice());
+    assert!(rt; fails_after_the_stop(rt.alloc())?);
     Ok(())
 }
