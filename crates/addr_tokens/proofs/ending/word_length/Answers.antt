@@ -1,6 +1,5 @@
-use Rattle.std.proofs.Common.{◌≡◌, ◌+◌, ◌<◌, false, length, drop, get_or, sym, ◌∙◌, ap, arith, ⊎_elim}
+use Rattle.std.proofs.Common.{◌≡◌, ◌+◌, ◌<◌, length, drop, get_or, sym, ◌∙◌, ap, arith, ⊎_elim}
 use Rattle.std.proofs.lemmas.List.{take_rest, length-drop}
-use Rattle.addr_tokens.specs.Pieces.{is_word_byte}
 use Rattle.addr_tokens.specs.Reader.{takes_next}
 use Rattle.addr_tokens.proofs.StepLemmas.{word_pair, word_end}
 use Rattle.addr_tokens.proofs.ending.word_length.Goals as goal
