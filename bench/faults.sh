@@ -1,0 +1,81 @@
+#!/bin/bash
+# Serves one message by the built program while strace lets each call of a kind fail in turn. A signal (EINTR) in any
+# of them must change nothing. A disk without room (ENOSPC in a write to the queue), and an error in a sync, in a close of
+# a file of the queue or in the renaming, must be status 75 with no 250 for the message, and the message's control
+# file may be there only where the renaming was made. The syncs of a message must be those of its body, of its control
+# text and of the directory, in this order. It ends with status 1 otherwise. Build the program first, by `make run`.
+# It wants strace. This is no part of the gate.
+set -euo pipefail
+[ "${OWN_SPOOL:-}" ] || exec "$(dirname "$0")/own_spool.sh" "$0"
+cd "$(dirname "$0")/../crates/sendmail"
+program=$PWD/out/sendmail
+queue=/var/spool/mqueue
+work=$(mktemp -d)
+trap 'rm -rf "$work"' EXIT
+
+printf 'S5\n' > "$work/empty.cf"
+printf '%s\r\n' 'HELO c.example' 'MAIL FROM:<bob@c.example>' 'RCPT TO:<ann@mx.example>' DATA 'Subject: hi' '' hello . QUIT \
+    > "$work/asked"
+
+# Runs the program while strace writes down calls, and keeps its status, replies and calls.
+serve() {
+    rm -rf "${queue:?}"/*
+    status=0
+    strace -y -o "$work/calls" "$@" "$program" -bs "-C$work/empty.cf" \
+        < "$work/asked" > "$work/replies" 2> "$work/errors" || status=$?
+}
+
+# The numbers of the calls of a kind whose lines fit a pattern, without those before the first look at the configuration,
+# which are the loader's.
+places() {
+    serve -e trace="openat,$1"
+    awk -v kind="$1" -v fits="$2" '
+        $0 ~ "^" kind "\\(" { count++ }
+        /empty\.cf/ { own = 1 }
+        own && $0 ~ "^" kind "\\(" && $0 ~ fits { print count }' "$work/calls"
+}
+
+failed() {
+    echo "$1: status $status"
+    cat "$work/errors" "$work/replies"
+    exit 1
+}
+
+serve -e trace=fsync
+cp "$work/replies" "$work/wanted"
+[ "$status" = 0 ] && grep -q '^250 2.0.0 w' "$work/wanted" || failed 'no fault'
+[ "$(sed -n 's/^fsync([0-9]*<\(.*\)>).*/\1/p' "$work/calls")" = "$queue/dfw000000000001
+$queue/tfw000000000001
+$queue" ] || failed "$(cat "$work/calls")"
+echo 'syncs of a message: df, tf, directory'
+
+for kind in read write openat fsync poll close getdents64; do
+    count=0
+    for at in $(places "$kind" .); do
+        serve -e inject="$kind:error=EINTR:when=$at"
+        [ "$status" = 0 ] && cmp -s "$work/replies" "$work/wanted" && [ "$(ls "$queue" | wc -l)" = 2 ] ||
+            failed "EINTR in $kind $at"
+        count=$((count + 1))
+    done
+    [ "$count" -gt 0 ] || { echo "no call of $kind"; exit 1; }
+    echo "EINTR in each of $count calls of $kind: nothing changed"
+done
+
+# A call, its error, which of its lines are tried, and the one of them at which the renaming was made before.
+while read -r kind error fits renamed; do
+    count=0
+    for at in $(places "$kind" "$fits"); do
+        serve -e inject="$kind:error=$error:when=$at"
+        [ "$status" = 75 ] && ! grep -q '^250 2.0.0 w' "$work/replies" || failed "$error in $kind $at"
+        there=$(find "$queue" -name 'qf*' | wc -l)
+        [ "$there" = 0 ] || [ "$renamed" = "$at" ] || failed "$error in $kind $at leaves a control file"
+        count=$((count + 1))
+    done
+    [ "$count" -gt 0 ] || { echo "no call of $kind"; exit 1; }
+    echo "$error in each of $count calls of $kind: status 75, and no 250"
+done << 'ROWS'
+write ENOSPC mqueue/[dt]f none
+fsync EIO . 3
+close EIO mqueue/[dt]f none
+rename EIO . none
+ROWS
