@@ -1,4 +1,4 @@
-ghost use Rattle.std.specs.Prelude.{◌≡◌, ◌≤◌, ℕ, length, IfOk, IfSome, is_ok};
+ghost use Rattle.std.specs.Prelude.{◌≡◌, ◌≤◌, ℕ, length, IfOk, IfSome, OnOk, is_ok};
 ghost use Rattle.mail_base.specs.Histories.{Gains, HasCause};
 ghost use Rattle.link_edge.specs.Heard.{Heard, KeepsCounts};
 ghost use Rattle.link_edge.specs.Sessions.{Follows, sent_in, hung_up_in};
@@ -9,8 +9,9 @@ use mail_base::{Failed, Text};
 
 /// Sessions with those who connect, at a port, on standard input and output, or in memory. It may tell
 /// what happened, in order; whether it does never changes. It has a count of faults of its own, which
-/// `begin` and `turn` raise, and one for each session, which `send` raises; no count ever falls. A floor may
-/// keep one count for several sessions.
+/// `begin` and `turn` raise, and one for each session, which `send` raises; no count ever falls. A call that
+/// doesn't fail leaves its count as it was. A floor may keep one count for several sessions; then a send
+/// raises those of others too.
 pub trait Floor {
     /// All that is seen of it.
     ghost seen: { Self → Heard };
@@ -20,6 +21,7 @@ pub trait Floor {
     fn begin(&mut self, place: &Place, most: u64) -> Result<(), Failed>
         ensures told { (seen self.new).told ≡ (seen self.old).told }
         ensures cause { HasCause (seen self.old).faults (seen self.new).faults result }
+        ensures calm { OnOk result ((seen self.new).faults ≡ (seen self.old).faults) }
         ensures counts { KeepsCounts (seen self.old) (seen self.new) };
 
     /// Waits a little for something to come. The buffer has at least 64 bytes; a peer's address, or the
@@ -32,6 +34,7 @@ pub trait Floor {
         ensures fits { IfOk result (λ turn. Fits turn buf.new) }
         ensures follows { IfOk result (λ turn. IfSome (seen self.old).told (λ history. Follows history (told_of turn buf.new))) }
         ensures cause { HasCause (seen self.old).faults (seen self.new).faults result }
+        ensures calm { OnOk result ((seen self.new).faults ≡ (seen self.old).faults) }
         ensures counts { KeepsCounts (seen self.old) (seen self.new) };
 
     /// Sends all of the bytes to a session. After `Failed` a part of them was sent, at their front. It is
@@ -39,6 +42,7 @@ pub trait Floor {
     fn send(&mut self, session: u64, bytes: &Text) -> Result<(), Failed>
         ensures told { Gains (seen self.old).told (seen self.new).told (sent_in (seen self.old).told session bytes.now (is_ok result)) }
         ensures cause { HasCause ((seen self.old).session_faults session) ((seen self.new).session_faults session) result }
+        ensures calm { OnOk result (IfSome (seen self.old).told (λ _. (seen self.new).session_faults session ≡ (seen self.old).session_faults session)) }
         ensures others { (other : ℕ) → (seen self.old).session_faults other ≤ (seen self.new).session_faults other }
         ensures own { (seen self.new).faults ≡ (seen self.old).faults };
 

@@ -104,6 +104,7 @@ impl<I: Source, O: Sink> Floor for OneFloor<I, O> {
         ensures written { session ≡ 1 → OnOk result (Gains (O.seen self.old.sink).written (O.seen self.new.sink).written bytes.now) }
         ensures part { session ≡ 1 → OnErr result (GainsPart (O.seen self.old.sink).written (O.seen self.new.sink).written bytes.now) }
         ensures cause { HasCause ((one_heard (O.seen self.old.sink)).session_faults session) ((one_heard (O.seen self.new.sink)).session_faults session) result }
+        ensures calm { OnOk result ((one_heard (O.seen self.new.sink)).session_faults session ≡ (one_heard (O.seen self.old.sink)).session_faults session) }
         ensures others { (other : ℕ) → (one_heard (O.seen self.old.sink)).session_faults other ≤ (one_heard (O.seen self.new.sink)).session_faults other }
         ensures strange { session ≢ 1 → self.new.sink ≡ self.old.sink }
         ensures refused { session ≢ 1 → IsErr result }

@@ -197,6 +197,7 @@ impl Floor for ScriptFloor {
         ensures fails { is_err result ≡ is_listed self.old.turns }
         ensures counted { self.new ≡ record self.old { turns = after_call self.old.turns (is_err result) } }
         ensures cause { HasCause self.old.turns.faults self.new.turns.faults result }
+        ensures calm { OnOk result (self.new.turns.faults ≡ self.old.turns.faults) }
     {
         self.turns.call()
     }
@@ -216,6 +217,7 @@ impl Floor for ScriptFloor {
         ensures fits { IfOk result (λ turn. Fits turn buf.new) }
         ensures follows { IfOk result (λ turn. Follows self.old.told (told_of turn buf.new)) }
         ensures cause { HasCause self.old.turns.faults self.new.turns.faults result }
+        ensures calm { OnOk result (self.new.turns.faults ≡ self.old.turns.faults) }
         ensures counts { KeepsCounts (script_heard self.old.told self.old.turns.faults self.old.strays) (script_heard self.new.told self.new.turns.faults self.new.strays) }
     {
         self.turns.call()?;
@@ -231,6 +233,7 @@ impl Floor for ScriptFloor {
         ensures steps { unsaid self.new.said (drop self.new.at self.new.steps) ≡ unsaid self.old.said (drop self.old.at self.old.steps) }
         ensures turns { self.new.turns ≡ self.old.turns }
         ensures cause { HasCause (session_count self.old.told self.old.strays session) (session_count self.new.told self.new.strays session) result }
+        ensures calm { OnOk result (session_count self.new.told self.new.strays session ≡ session_count self.old.told self.old.strays session) }
         ensures others { (other : ℕ) → session_count self.old.told self.old.strays other ≤ session_count self.new.told self.new.strays other }
     {
         if self.sends.call().is_err() {

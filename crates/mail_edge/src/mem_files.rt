@@ -1,4 +1,4 @@
-ghost use Rattle.std.specs.Prelude.{◌≡◌, ◌≤◌, ◌↔◌, length, All, IfOk, IfSome, IsSome, Some};
+ghost use Rattle.std.specs.Prelude.{◌≡◌, ◌≤◌, ◌↔◌, false, length, All, IfOk, IfSome, IsSome, Some};
 ghost use Rattle.std.specs.Option.{option_copied};
 ghost use Rattle.mail_base.specs.Causes.{HasEdgeCause, has_failed};
 ghost use Rattle.mail_base.specs.Scripts.{is_listed, after_call};
@@ -109,6 +109,7 @@ impl Files for MemFiles {
         ensures bound { IfOk result (λ text. IfSome text (λ bytes. length bytes ≤ LARGEST_FILE)) }
         ensures fixed { self.new.files ≡ self.old.files }
         ensures cause { HasEdgeCause self.old.script.faults self.new.script.faults result }
+        ensures calm { has_failed result ≡ false → self.new.script.faults ≡ self.old.script.faults }
     {
         self.script.call()?;
         Ok(self.files.copied(alloc, name)?)

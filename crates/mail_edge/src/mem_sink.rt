@@ -46,6 +46,7 @@ impl Sink for MemSink {
         ensures kept { OnErr result (self.new.written.items ≡ self.old.written.items) }
         ensures part { OnErr result (GainsPart (Some self.old.written.items) (Some self.new.written.items) bytes.now) }
         ensures cause { HasCause self.old.script.faults self.new.script.faults result }
+        ensures calm { OnOk result (self.new.script.faults ≡ self.old.script.faults) }
     {
         self.script.call()?;
         if self.written.extend_from_slice(bytes).is_err() {

@@ -1,4 +1,4 @@
-ghost use Rattle.std.specs.Prelude.{◌≡◌, ◌<◌, ◌≤◌, ◌↔◌, ◌++◌, [], List, ℕ, length, take, drop, min, IfOk, OnErr, Some, Ok, is_err};
+ghost use Rattle.std.specs.Prelude.{◌≡◌, ◌<◌, ◌≤◌, ◌↔◌, ◌++◌, [], List, ℕ, length, take, drop, min, IfOk, OnOk, OnErr, Some, Ok, is_err};
 ghost use Rattle.mail_base.specs.Histories.{HasCause};
 ghost use Rattle.mail_base.specs.Scripts.{is_listed, after_call};
 
@@ -80,6 +80,7 @@ impl Source for MemSource {
         ensures end { IfOk result (λ count. (count ≡ 0) ↔ (self.old.source ≡ [])) }
         ensures kept { OnErr result (self.new.source ≡ self.old.source) }
         ensures cause { HasCause self.old.script.faults self.new.script.faults result }
+        ensures calm { OnOk result (self.new.script.faults ≡ self.old.script.faults) }
     {
         self.script.call()?;
         self.source.take(buf)

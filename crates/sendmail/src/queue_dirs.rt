@@ -1,6 +1,6 @@
 // Queue directories on a disk. They tell nothing but how often they failed.
-ghost use Rattle.std.specs.Prelude.{◌≡◌, IfOk, None};
-ghost use Rattle.mail_base.specs.Causes.{HasEdgeCause};
+ghost use Rattle.std.specs.Prelude.{◌≡◌, IfOk, None, OnOk, false};
+ghost use Rattle.mail_base.specs.Causes.{HasEdgeCause, has_failed};
 ghost use Rattle.mail_base.specs.Histories.{HasCause};
 ghost use Rattle.spool_disk.specs.Listings.{IsAscending};
 
@@ -58,6 +58,7 @@ impl<'a> QueueDirs<'a> {
     fn counted<T: Drop>(&mut self, answer: Result<T, EdgeFault>) -> Result<T, EdgeFault>
         ensures same { result ≡ answer }
         ensures cause { HasEdgeCause self.old.faults self.new.faults result }
+        ensures calm { has_failed result ≡ false → self.new.faults ≡ self.old.faults }
     {
         match answer {
             Ok(value) => Ok(value),
@@ -72,6 +73,7 @@ impl<'a> QueueDirs<'a> {
     // Counts a fault where a change failed.
     fn changed(&mut self, went: Result<(), EdgeFault>) -> Result<(), Failed>
         ensures cause { HasCause self.old.faults self.new.faults result }
+        ensures calm { OnOk result (self.new.faults ≡ self.old.faults) }
     {
         match went {
             Ok(()) => Ok(()),

@@ -1,4 +1,4 @@
-ghost use Rattle.std.specs.Prelude.{◌≡◌, ◌≢◌, ◌≤◌, ◌-◌, ◌&&◌, ◌++◌, ◌∷◌, [], true, not, length, slice_get, IfOk, OnOk, OnErr, IsErr, IsOk, IsSome, Some, is_ok, is_err, option_copied, if◌then◌else◌};
+ghost use Rattle.std.specs.Prelude.{◌≡◌, ◌≢◌, ◌≤◌, ◌-◌, ◌&&◌, ◌++◌, ◌∷◌, [], true, false, not, length, slice_get, IfOk, OnOk, OnErr, IsErr, IsOk, IsSome, Some, is_ok, is_err, option_copied, if◌then◌else◌};
 ghost use Rattle.mail_base.specs.Histories.{HasCause};
 ghost use Rattle.mail_base.specs.Scripts.{is_listed, after_call, one_more};
 ghost use Rattle.mail_base.specs.Causes.{HasEdgeCause, has_failed};
@@ -191,6 +191,7 @@ impl Spool for MemSpool {
         ensures names { IfOk result (λ names. IsListing (Some (after_all self.old.past self.old.start)) dir.now names) }
         ensures call { Reads (record_seen self.old.start self.old.past self.old.script.faults) (record_seen self.new.start self.new.past self.new.script.faults) }
         ensures cause { HasEdgeCause self.old.script.faults self.new.script.faults result }
+        ensures calm { has_failed result ≡ false → self.new.script.faults ≡ self.old.script.faults }
     {
         self.script.call()?;
         Ok(self.standing.names(alloc, dir)?)
@@ -205,6 +206,7 @@ impl Spool for MemSpool {
         ensures bytes { IfOk result (λ bytes. bytes ≡ bytes_at (after_all self.old.past self.old.start) (dir.now, name.now)) }
         ensures call { Reads (record_seen self.old.start self.old.past self.old.script.faults) (record_seen self.new.start self.new.past self.new.script.faults) }
         ensures cause { HasEdgeCause self.old.script.faults self.new.script.faults result }
+        ensures calm { has_failed result ≡ false → self.new.script.faults ≡ self.old.script.faults }
     {
         self.script.call()?;
         let bytes = copied(alloc, self.standing.get(dir, name))?;
@@ -219,6 +221,7 @@ impl Spool for MemSpool {
         ensures past { self.new.past ≡ past_with self.old.past (Write dir.now name.now bytes.now) (is_ok result) }
         ensures call { Calls (record_seen self.old.start self.old.past self.old.script.faults) (record_seen self.new.start self.new.past self.new.script.faults) (IsImage (Write dir.now name.now bytes.now)) (IsDone (Write dir.now name.now bytes.now)) (IsOk result) }
         ensures cause { HasCause self.old.script.faults self.new.script.faults result }
+        ensures calm { OnOk result (self.new.script.faults ≡ self.old.script.faults) }
     {
         self.script.call()?;
         let Ok(change) = Change::writing(dir, name, bytes) else {
@@ -237,6 +240,7 @@ impl Spool for MemSpool {
         ensures past { self.new.past ≡ past_with self.old.past (Rename dir.now from.now to.now) (is_ok result) }
         ensures call { Calls (record_seen self.old.start self.old.past self.old.script.faults) (record_seen self.new.start self.new.past self.new.script.faults) (IsImage (Rename dir.now from.now to.now)) (IsDone (Rename dir.now from.now to.now)) (IsOk result) }
         ensures cause { HasCause self.old.script.faults self.new.script.faults result }
+        ensures calm { OnOk result (self.new.script.faults ≡ self.old.script.faults) }
     {
         self.script.call()?;
         let Ok(change) = Change::renaming(dir, from, to) else {
@@ -253,6 +257,7 @@ impl Spool for MemSpool {
         ensures past { self.new.past ≡ past_with self.old.past (Remove dir.now name.now) (is_ok result) }
         ensures call { Calls (record_seen self.old.start self.old.past self.old.script.faults) (record_seen self.new.start self.new.past self.new.script.faults) (IsImage (Remove dir.now name.now)) (IsDone (Remove dir.now name.now)) (IsOk result) }
         ensures cause { HasCause self.old.script.faults self.new.script.faults result }
+        ensures calm { OnOk result (self.new.script.faults ≡ self.old.script.faults) }
     {
         self.script.call()?;
         let Ok(change) = Change::removal(dir, name) else {

@@ -185,6 +185,7 @@ impl Spool for StopSpool {
         ensures names { IfOk result (λ names. IsListing (Some (after_all self.old.spool.past self.old.spool.start)) dir.now names) }
         ensures call { Reads (record_seen self.old.spool.start self.old.spool.past self.old.spool.script.faults) (record_seen self.new.spool.start self.new.spool.past self.new.spool.script.faults) }
         ensures cause { HasEdgeCause self.old.spool.script.faults self.new.spool.script.faults result }
+        ensures calm { has_failed result ≡ false → self.new.spool.script.faults ≡ self.old.spool.script.faults }
     {
         if self.stopped {
             let failed = self.spool.lost();
@@ -199,6 +200,7 @@ impl Spool for StopSpool {
         ensures bytes { IfOk result (λ bytes. bytes ≡ bytes_at (after_all self.old.spool.past self.old.spool.start) (dir.now, name.now)) }
         ensures call { Reads (record_seen self.old.spool.start self.old.spool.past self.old.spool.script.faults) (record_seen self.new.spool.start self.new.spool.past self.new.spool.script.faults) }
         ensures cause { HasEdgeCause self.old.spool.script.faults self.new.spool.script.faults result }
+        ensures calm { has_failed result ≡ false → self.new.spool.script.faults ≡ self.old.spool.script.faults }
     {
         if self.stopped {
             let failed = self.spool.lost();
@@ -218,6 +220,7 @@ impl Spool for StopSpool {
         ensures past { self.new.spool.past ≡ past_after self.old.spool.past (Write dir.now name.now bytes.now) (is_ok result) (self.new.stopped && not self.old.stopped) }
         ensures call { Calls (record_seen self.old.spool.start self.old.spool.past self.old.spool.script.faults) (record_seen self.new.spool.start self.new.spool.past self.new.spool.script.faults) (IsImage (Write dir.now name.now bytes.now)) (IsDone (Write dir.now name.now bytes.now)) (IsOk result) }
         ensures cause { HasCause self.old.spool.script.faults self.new.spool.script.faults result }
+        ensures calm { OnOk result (self.new.spool.script.faults ≡ self.old.spool.script.faults) }
     {
         if self.stopped {
             return Err(self.spool.lost());
@@ -246,6 +249,7 @@ impl Spool for StopSpool {
         ensures past { self.new.spool.past ≡ past_after self.old.spool.past (Rename dir.now from.now to.now) (is_ok result) (self.new.stopped && not self.old.stopped) }
         ensures call { Calls (record_seen self.old.spool.start self.old.spool.past self.old.spool.script.faults) (record_seen self.new.spool.start self.new.spool.past self.new.spool.script.faults) (IsImage (Rename dir.now from.now to.now)) (IsDone (Rename dir.now from.now to.now)) (IsOk result) }
         ensures cause { HasCause self.old.spool.script.faults self.new.spool.script.faults result }
+        ensures calm { OnOk result (self.new.spool.script.faults ≡ self.old.spool.script.faults) }
     {
         if self.stopped {
             return Err(self.spool.lost());
@@ -272,6 +276,7 @@ impl Spool for StopSpool {
         ensures past { self.new.spool.past ≡ past_after self.old.spool.past (Remove dir.now name.now) (is_ok result) (self.new.stopped && not self.old.stopped) }
         ensures call { Calls (record_seen self.old.spool.start self.old.spool.past self.old.spool.script.faults) (record_seen self.new.spool.start self.new.spool.past self.new.spool.script.faults) (IsImage (Remove dir.now name.now)) (IsDone (Remove dir.now name.now)) (IsOk result) }
         ensures cause { HasCause self.old.spool.script.faults self.new.spool.script.faults result }
+        ensures calm { OnOk result (self.new.spool.script.faults ≡ self.old.spool.script.faults) }
     {
         if self.stopped {
             return Err(self.spool.lost());
