@@ -6,14 +6,9 @@
 # text and of the directory, in this order. It ends with status 1 otherwise. Build the program first, by `make run`.
 # It wants strace. This is no part of the gate.
 set -euo pipefail
-[ "${OWN_SPOOL:-}" ] || exec "$(dirname "$0")/own_spool.sh" "$0"
-cd "$(dirname "$0")/../crates/sendmail"
-program=$PWD/out/sendmail
+. "$(dirname "$0")/session.sh"
 queue=/var/spool/mqueue
-work=$(mktemp -d)
-trap 'rm -rf "$work"' EXIT
 
-printf 'S5\n' > "$work/empty.cf"
 printf '%s\r\n' 'HELO c.example' 'MAIL FROM:<bob@c.example>' 'RCPT TO:<ann@mx.example>' DATA 'Subject: hi' '' hello . QUIT \
     > "$work/asked"
 

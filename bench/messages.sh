@@ -3,12 +3,7 @@
 # is loaded before: the best of five runs of 100 messages. Build the program first, by `make run`. The queue is on
 # the disk of TMPDIR. This is no part of the gate.
 set -euo pipefail
-[ "${OWN_SPOOL:-}" ] || exec "$(dirname "$0")/own_spool.sh" "$0"
-cd "$(dirname "$0")/../crates/sendmail"
-program=$PWD/out/sendmail
-work=$(mktemp -d)
-trap 'rm -rf "$work"' EXIT
-printf 'S5\n' > "$work/empty.cf"
+. "$(dirname "$0")/session.sh"
 printf 'int fsync(int fd) { return 0; }\n' > "$work/unsynced.c"
 cc -shared -fPIC -O1 -o "$work/unsynced.so" "$work/unsynced.c"
 

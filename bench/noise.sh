@@ -4,11 +4,8 @@
 # first tenth, but for 1 MiB. It ends with status 1 otherwise. The bytes are the same in each run. Build the program
 # first, by `make run`. This is no part of the gate.
 set -euo pipefail
-[ "${OWN_SPOOL:-}" ] || TMPDIR=/dev/shm exec "$(dirname "$0")/own_spool.sh" "$0"
-cd "$(dirname "$0")/../crates/sendmail"
-program=$PWD/out/sendmail
-work=$(mktemp -d)
-trap 'rm -rf "$work"' EXIT
+export TMPDIR=/dev/shm
+. "$(dirname "$0")/session.sh"
 cat > "$work/noise.c" <<'C'
 #include <stdio.h>
 #include <stdlib.h>

@@ -3,12 +3,7 @@
 # first must go on and keep its message. It ends with status 1 otherwise. Build the program first, by `make run`. This
 # is no part of the gate.
 set -euo pipefail
-[ "${OWN_SPOOL:-}" ] || exec "$(dirname "$0")/own_spool.sh" "$0"
-cd "$(dirname "$0")/../crates/sendmail"
-program=$PWD/out/sendmail
-work=$(mktemp -d)
-trap 'rm -rf "$work"' EXIT
-printf 'S5\n' > "$work/empty.cf"
+. "$(dirname "$0")/session.sh"
 message() {
     printf '%s\r\n' 'HELO c.example' 'MAIL FROM:<bob@c.example>' 'RCPT TO:<ann@mx.example>' DATA 'Subject: hi' '' "$1" . QUIT
 }
