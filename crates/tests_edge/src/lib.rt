@@ -1,0 +1,10 @@
+//! Tests of the devices in memory, as tables. They stand apart from the libraries, which a check would
+//! else prove twice.
+#![tactic(auto)]
+
+#[cfg(test)]
+mod edges;
+#[cfg(test)]
+mod floors;
+#[cfg(test)]
+mod spools;
