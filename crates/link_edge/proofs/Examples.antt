@@ -1,10 +1,10 @@
 -- Worked examples of the definitions.
-use Rattle.std.specs.Prelude.{◌≡◌, List, [], ◌∷◌, Some, codes, true, refl}
+use Rattle.std.specs.Prelude.{◌≡◌, List, [], ◌∷◌, codes, false, refl}
 use Rattle.link_edge.specs.declared.event.Event.TheVariants.{Opens, Brings, Closes, Rests}
 use Rattle.link_edge.specs.declared.event.FloorEvent.{FloorEvent}
 use Rattle.link_edge.specs.declared.event.FloorEvent.TheVariants.{Took, Sent, Unsent, HungUp}
 use Rattle.link_edge.specs.declared.step.Step.TheVariants.{Open, Say}
-use Rattle.link_edge.specs.Sessions.{AllFollow, hung_up_in, open_in, sent_in, sound_in}
+use Rattle.link_edge.specs.Sessions.{AllFollow, Follows, is_open, is_sound, open_in, sound_in}
 use Rattle.link_edge.specs.Steps.{later_steps, next_event}
 
 -- two sessions, of which the first was ended by its peer, and the second was sent to in vain
@@ -23,17 +23,17 @@ each_event_follows : AllFollow [] history
 unfolding history
 each_event_follows = (refl, (refl, (refl, (refl, (refl, (refl, tt))))))
 
-only_an_open_session_is_hung_up : hung_up_in (Some history) 1 ≡ []
+an_ended_session_is_not_open : is_open 1 history ≡ false
 unfolding history
-only_an_open_session_is_hung_up = refl
+an_ended_session_is_not_open = refl
 
-open_session_is_hung_up : hung_up_in (Some history) 2 ≡ HungUp 2 ∷ []
+a_hang_up_follows_a_failed_send : Follows history (HungUp 2)
 unfolding history
-open_session_is_hung_up = refl
+a_hang_up_follows_a_failed_send = refl
 
-no_send_after_a_failed_one : sent_in (Some history) 2 (codes "250") true ≡ []
+no_send_follows_a_failed_one : is_sound 2 history ≡ false
 unfolding history
-no_send_after_a_failed_one = refl
+no_send_follows_a_failed_one = refl
 
 bytes_of_an_ended_session_are_idle : next_event history 64 (Say 1 (codes "late") ∷ []) ≡ Took Rests
 unfolding history

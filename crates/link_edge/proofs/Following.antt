@@ -1,12 +1,12 @@
 -- Events that may stand behind a history.
-use Rattle.std.proofs.Common.{◌≡◌, ℕ, ◌+◌, ◌≤◌, Bool, true, false, cond, List, [], ◌∷◌, ◌++◌, Some, refl, sym, subst, arith, append_assoc, append-nil}
+use Rattle.std.proofs.Common.{◌≡◌, ℕ, ◌+◌, ◌≤◌, Bool, true, false, cond, List, [], ◌∷◌, ◌++◌, refl, sym, subst, arith, append_assoc, append-nil}
 use Rattle.std.specs.Prelude.{count_by}
 use mathlib.Core.Bool.{true≢false}
-use Rattle.std.proofs.lemmas.Bool.{cond_both, eqb-true}
+use Rattle.std.proofs.lemmas.Bool.{eqb-true}
 use Rattle.link_edge.specs.declared.event.Event.TheVariants.{Opens, Brings, Closes, Rests, Stops}
 use Rattle.link_edge.specs.declared.event.FloorEvent.{FloorEvent}
 use Rattle.link_edge.specs.declared.event.FloorEvent.TheVariants.{Took, Sent, Unsent, HungUp}
-use Rattle.link_edge.specs.Sessions.{AllFollow, Follows, NumbersOnce, hung_up_in, is_open, is_sound, opens, send_event, sent_in}
+use Rattle.link_edge.specs.Sessions.{AllFollow, Follows, NumbersOnce, is_sound, opens, send_event}
 use Rattle.link_edge.proofs.Sessioning.{count_push}
 
 -- these events, and then those
@@ -16,21 +16,10 @@ follow_join history (event ∷ events) more h k =
     let P : List FloorEvent → Type 0 = λ xs. AllFollow xs more in
     (h.0, follow_join (history ++ event ∷ []) events more h.1 (subst P (sym (append_assoc history (event ∷ []) events)) k))
 
--- what is told of a send follows
-pub send_follows : (history : List FloorEvent) (session : ℕ) (bytes : List ℕ) (whole : Bool) → AllFollow history (sent_in (Some history) session bytes whole)
-send_follows history session bytes whole =
-    let P : List FloorEvent → Type 0 = λ xs. AllFollow history xs in
-    cond_both (is_sound session history) (send_event session bytes whole ∷ []) [] P (λ sound. (sent_as history session bytes whole sound, tt)) (λ unsound. tt)
-  where
-    sent_as : (history : List FloorEvent) (session : ℕ) (bytes : List ℕ) (whole : Bool) → is_sound session history ≡ true → Follows history (send_event session bytes whole)
-    sent_as history session bytes true sound = sound
-    sent_as history session bytes false sound = sound
-
--- what is told of a hang-up follows
-pub hang_up_follows : (history : List FloorEvent) (session : ℕ) → AllFollow history (hung_up_in (Some history) session)
-hang_up_follows history session =
-    let P : List FloorEvent → Type 0 = λ xs. AllFollow history xs in
-    cond_both (is_open session history) (HungUp session ∷ []) [] P (λ live. (live, tt)) (λ dead. tt)
+-- a send to a session to which none has failed follows
+pub send_follows : (history : List FloorEvent) (session : ℕ) (bytes : List ℕ) (whole : Bool) → is_sound session history ≡ true → Follows history (send_event session bytes whole)
+send_follows history session bytes true sound = sound
+send_follows history session bytes false sound = sound
 
 -- an opening that follows has a number that wasn't used
 unused_number : (n : ℕ) (history : List FloorEvent) (event : FloorEvent) → Follows history event → opens n event ≡ true → count_by (opens n) history ≡ 0

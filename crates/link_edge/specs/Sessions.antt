@@ -1,5 +1,5 @@
 -- The sessions of a history of a floor, and which event may follow it (own).
-use Rattle.std.specs.Prelude.{◌≡◌, ◌≤◌, ℕ, List, [], ◌∷◌, ◌++◌, Option, Some, None, Bool, true, false, not, nat_eq, fold, filter, count_by, if◌then◌else◌}
+use Rattle.std.specs.Prelude.{◌≡◌, ◌≤◌, ℕ, List, [], ◌∷◌, ◌++◌, Bool, true, false, not, nat_eq, fold, filter, count_by, if◌then◌else◌}
 use Rattle.std.specs.List.{list_any}
 use Rattle.link_edge.specs.declared.event.Event.TheVariants.{Opens, Brings, Closes, Rests, Stops}
 use Rattle.link_edge.specs.declared.event.FloorEvent.{FloorEvent}
@@ -81,13 +81,3 @@ AllFollow history (event ∷ events) = Follows history event × AllFollow (histo
 -- a send, and whether all of it was sent
 abbrev pub send_event : ℕ → List ℕ → Bool → FloorEvent
 send_event session bytes whole = if whole then Sent session bytes else Unsent session
-
--- what is told of a send, behind what is told before
-abbrev pub sent_in : Option (List FloorEvent) → ℕ → List ℕ → Bool → List FloorEvent
-sent_in None session bytes whole = []
-sent_in (Some history) session bytes whole = if is_sound session history then send_event session bytes whole ∷ [] else []
-
--- what is told of a hang-up, behind what is told before
-abbrev pub hung_up_in : Option (List FloorEvent) → ℕ → List FloorEvent
-hung_up_in None session = []
-hung_up_in (Some history) session = if is_open session history then HungUp session ∷ [] else []

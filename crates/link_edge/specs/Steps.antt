@@ -1,5 +1,5 @@
 -- What the turns of a floor in memory bring of its steps (own).
-use Rattle.std.specs.Prelude.{◌≡◌, ℕ, ◌+◌, List, [], ◌∷◌, ◌++◌, length, take, drop, Option, Some, None, Bool, false, not, ◌&&◌, nat_eq, nat_le, nat_lt, count_by, if◌then◌else◌}
+use Rattle.std.specs.Prelude.{◌≡◌, ℕ, List, [], ◌∷◌, ◌++◌, length, take, drop, Option, Some, None, Bool, false, not, ◌&&◌, nat_eq, nat_le, nat_lt, count_by, if◌then◌else◌}
 use Rattle.std.specs.List.{list_any}
 use Rattle.link_edge.specs.declared.event.Event.TheVariants.{Opens, Brings, Closes, Rests, Stops}
 use Rattle.link_edge.specs.declared.event.FloorEvent.{FloorEvent}
@@ -75,10 +75,10 @@ is_unsent session (Sent other bytes) = false
 is_unsent session (Unsent other) = nat_eq other session
 is_unsent session (HungUp other) = false
 
--- the count of a session: how many of its sends are told as failed, and those that aren't told count for all sessions
-abbrev pub session_count : List FloorEvent → ℕ → ℕ → ℕ
-session_count told strays session = count_by (is_unsent session) told + strays
+-- the count of a session: how many sends to it failed
+abbrev pub session_count : List FloorEvent → ℕ → ℕ
+session_count told session = count_by (is_unsent session) told
 
 -- what is seen of the floor
-abbrev pub script_heard : List FloorEvent → ℕ → ℕ → Heard
-script_heard told faults strays = record { told = Some told; faults = faults; session_faults = session_count told strays }
+abbrev pub script_heard : List FloorEvent → ℕ → Heard
+script_heard told faults = record { told = Some told; faults = faults; session_faults = session_count told }

@@ -1,17 +1,18 @@
-ghost use Rattle.std.specs.Prelude.{◌≡◌, ◌≤◌, ℕ, length, IfOk, IfSome, OnOk, is_ok};
+ghost use Rattle.std.specs.Prelude.{◌≡◌, ◌≤◌, ◌∷◌, [], ℕ, length, IfOk, IfSome, OnOk, is_ok};
 ghost use Rattle.mail_base.specs.Histories.{Gains, HasCause};
-ghost use Rattle.link_edge.specs.Heard.{Heard, KeepsCounts};
-ghost use Rattle.link_edge.specs.Sessions.{Follows, sent_in, hung_up_in};
+ghost use Rattle.link_edge.specs.Heard.{Heard, IsOpenAt, IsSoundAt, KeepsCounts};
+ghost use Rattle.link_edge.specs.Sessions.{Follows, send_event};
 ghost use Rattle.link_edge.specs.Turns.{Fits, GainsTurn, told_of};
+ghost use Rattle.link_edge.specs.declared.event.FloorEvent.TheVariants.{HungUp};
 
 use crate::{Place, Turn};
 use mail_base::{Failed, Text};
 
 /// Sessions with those who connect, at a port, on standard input and output, or in memory. It may tell
 /// what happened, in order; whether it does never changes. It has a count of faults of its own, which
-/// `begin` and `turn` raise, and one for each session, which `send` raises; no count ever falls. A call that
-/// doesn't fail leaves its count as it was. A floor may keep one count for several sessions; then a send
-/// raises those of others too.
+/// `begin` and `turn` raise, and one for each session, which `send` raises; no count ever falls. A `begin` or
+/// `turn` that doesn't fail leaves its count as it was, and so does a send of a floor that tells. A floor may
+/// keep one count for several sessions; then a send raises those of others too.
 pub trait Floor {
     /// All that is seen of it.
     ghost seen: { Self → Heard };
@@ -38,17 +39,19 @@ pub trait Floor {
         ensures counts { KeepsCounts (seen self.old) (seen self.new) };
 
     /// Sends all of the bytes to a session. After `Failed` a part of them was sent, at their front. It is
-    /// told, with its answer, where the session is open and no send to it has failed before.
+    /// told with its answer. Of a floor that tells, the session is open and no send to it has failed.
     fn send(&mut self, session: u64, bytes: &Text) -> Result<(), Failed>
-        ensures told { Gains (seen self.old).told (seen self.new).told (sent_in (seen self.old).told session bytes.now (is_ok result)) }
+        requires sound { IsSoundAt (seen self.old) session }
+        ensures told { Gains (seen self.old).told (seen self.new).told (send_event session bytes.now (is_ok result) ∷ []) }
         ensures cause { HasCause ((seen self.old).session_faults session) ((seen self.new).session_faults session) result }
         ensures calm { OnOk result (IfSome (seen self.old).told (λ _. (seen self.new).session_faults session ≡ (seen self.old).session_faults session)) }
         ensures others { (other : ℕ) → (seen self.old).session_faults other ≤ (seen self.new).session_faults other }
         ensures own { (seen self.new).faults ≡ (seen self.old).faults };
 
-    /// Ends a session. It can't fail, and takes no memory. It is told where the session is open.
+    /// Ends a session. It can't fail, and takes no memory. Of a floor that tells, the session is open.
     fn hang_up(&mut self, session: u64)
-        ensures told { Gains (seen self.old).told (seen self.new).told (hung_up_in (seen self.old).told session) }
+        requires live { IsOpenAt (seen self.old) session }
+        ensures told { Gains (seen self.old).told (seen self.new).told (HungUp session ∷ []) }
         ensures own { (seen self.new).faults ≡ (seen self.old).faults }
         ensures counts { KeepsCounts (seen self.old) (seen self.new) };
 }

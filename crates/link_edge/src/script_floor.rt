@@ -1,11 +1,11 @@
 ghost use Rattle.std.specs.Prelude.{◌≡◌, ◌≤◌, ◌++◌, ◌∷◌, [], ℕ, List, length, take, drop, Some, true, false, not, ◌&&◌, is_ok, is_err, IfOk, IsErr, OnOk, OnErr, if◌then◌else◌};
-ghost use Rattle.mail_base.specs.Histories.{HasCause, Rose};
+ghost use Rattle.mail_base.specs.Histories.{HasCause};
 ghost use Rattle.mail_base.specs.Scripts.{is_listed, after_call, one_more};
 ghost use Rattle.link_edge.specs.Heard.{KeepsCounts};
-ghost use Rattle.link_edge.specs.Sessions.{Follows, hung_up_in, is_open, is_sound, sent_in};
+ghost use Rattle.link_edge.specs.Sessions.{Follows, is_open, is_sound, send_event};
 ghost use Rattle.link_edge.specs.Steps.{IsHeard, later_steps, next_event, script_heard, session_count, unsaid};
 ghost use Rattle.link_edge.specs.Turns.{Fits, GainsTurn, told_of};
-ghost use Rattle.link_edge.specs.declared.event.FloorEvent.TheVariants.{Sent};
+ghost use Rattle.link_edge.specs.declared.event.FloorEvent.TheVariants.{HungUp, Sent, Unsent};
 
 use crate::hearing::hear;
 use crate::telling::Telling;
@@ -19,15 +19,13 @@ use std::alloc::Global;
 ///
 /// Some of its calls fail: those of `begin` and `turn`, which are counted together from 0, as `turns` lists
 /// them, and those of `send` as `sends` does. A call also fails where it finds no memory, and `starved` counts
-/// those. A call that fails takes no step and sends nothing, and a send that isn't told goes nowhere. The
-/// count of a session is the number of its sends that are told as failed; a failed send that isn't told,
-/// since its session is not open or a send to it had failed, counts for all of them.
+/// those. A call that fails takes no step and sends nothing. The count of a session is the number of sends to it
+/// that failed.
 pub struct ScriptFloor {
     steps: Seq<Step>,
     at: usize,
     said: usize,
     told: Telling,
-    strays: u64,
     pub turns: Script,
     pub sends: Script,
     pub starved: u64,
@@ -41,7 +39,6 @@ impl Drop for ScriptFloor {
             at: _,
             said: _,
             told: _,
-            strays: _,
             turns: _,
             sends: _,
             starved: _,
@@ -60,7 +57,6 @@ impl ScriptFloor {
     ) -> ScriptFloor
         ensures steps { unsaid result.said (drop result.at result.steps) ≡ unsaid 0 steps }
         ensures told { result.told ≡ [] }
-        ensures strays { result.strays ≡ 0 }
         ensures turns { result.turns ≡ record { failing = failing_turns; calls = 0; faults = 0 } }
         ensures sends { result.sends ≡ record { failing = failing_sends; calls = 0; faults = 0 } }
         ensures starved { result.starved ≡ 0 }
@@ -70,7 +66,6 @@ impl ScriptFloor {
             at: 0,
             said: 0,
             told: Telling::new(alloc),
-            strays: 0,
             turns: Script::new(failing_turns),
             sends: Script::new(failing_sends),
             starved: 0,
@@ -84,6 +79,20 @@ impl ScriptFloor {
         self.told.events()
     }
 
+    /// Whether a session is open. It takes no memory.
+    pub fn is_open(&self, session: u64) -> bool
+        ensures { result ≡ is_open session self.now.told }
+    {
+        self.told.is_open(session)
+    }
+
+    /// Whether a session is open and no send to it has failed. It takes no memory.
+    pub fn is_sound(&self, session: u64) -> bool
+        ensures { result ≡ is_sound session self.now.told }
+    {
+        self.told.is_sound(session)
+    }
+
     // The turn of the next step. Where there is no memory to tell it, it is taken by the next turn.
     fn next(&mut self, buf: &mut [u8]) -> Result<Turn, NoMemory>
         requires { 64 ≤ length buf.old }
@@ -93,7 +102,6 @@ impl ScriptFloor {
         ensures turns { self.new.turns ≡ self.old.turns }
         ensures sends { self.new.sends ≡ self.old.sends }
         ensures starved { self.new.starved ≡ self.old.starved }
-        ensures strays { self.new.strays ≡ self.old.strays }
     {
         let _bound = self.steps.len();
         let Some(step) = self.steps.get(self.at) else {
@@ -123,7 +131,6 @@ impl ScriptFloor {
         ensures turns { self.new.turns ≡ record self.old.turns { faults = if is_err result then one_more self.old.turns.faults else self.old.turns.faults } }
         ensures sends { self.new.sends ≡ self.old.sends }
         ensures starved { self.new.starved ≡ (if is_err result then one_more self.old.starved else self.old.starved) }
-        ensures strays { self.new.strays ≡ self.old.strays }
         ensures cause { HasCause self.old.turns.faults self.new.turns.faults result }
     {
         match self.next(buf) {
@@ -138,19 +145,15 @@ impl ScriptFloor {
 
     // Takes a send that isn't listed to fail.
     fn fed_send(&mut self, session: u64, bytes: &Text) -> Result<(), Failed>
-        ensures told { self.new.told ≡ self.old.told ++ sent_in (Some self.old.told) session bytes.now (is_ok result) }
+        requires sound { is_sound session self.old.told ≡ true }
+        ensures told { self.new.told ≡ self.old.told ++ send_event session bytes.now (is_ok result) ∷ [] }
         ensures steps { self.new.steps ≡ self.old.steps }
         ensures at { self.new.at ≡ self.old.at }
         ensures said { self.new.said ≡ self.old.said }
         ensures turns { self.new.turns ≡ self.old.turns }
         ensures sends { self.new.sends ≡ record self.old.sends { faults = if is_err result then one_more self.old.sends.faults else self.old.sends.faults } }
         ensures starved { self.new.starved ≡ (if is_err result then one_more self.old.starved else self.old.starved) }
-        ensures strays { self.new.strays ≡ self.old.strays }
-        ensures sound { OnErr result (is_sound session self.old.told ≡ true) }
     {
-        if !self.told.is_sound(session) {
-            return Ok(());
-        }
         if tell_sent(&mut self.told, session, bytes).is_err() {
             self.sends.fail();
             self.starved = self.starved.saturating_add(1);
@@ -162,22 +165,16 @@ impl ScriptFloor {
 
     // Takes a send that is listed to fail.
     fn lose(&mut self, session: u64)
-        ensures told { self.new.told ≡ self.old.told ++ sent_in (Some self.old.told) session [] false }
+        requires sound { is_sound session self.old.told ≡ true }
+        ensures told { self.new.told ≡ self.old.told ++ Unsent session ∷ [] }
         ensures steps { self.new.steps ≡ self.old.steps }
         ensures at { self.new.at ≡ self.old.at }
         ensures said { self.new.said ≡ self.old.said }
         ensures turns { self.new.turns ≡ self.old.turns }
         ensures sends { self.new.sends ≡ self.old.sends }
         ensures starved { self.new.starved ≡ self.old.starved }
-        ensures strays { self.new.strays ≡ (if is_sound session self.old.told then self.old.strays else one_more self.old.strays) }
-        ensures rose { Rose (session_count self.old.told self.old.strays session) (session_count self.new.told self.new.strays session) }
-        ensures others { (other : ℕ) → session_count self.old.told self.old.strays other ≤ session_count self.new.told self.new.strays other }
     {
-        if self.told.is_sound(session) {
-            self.told.lose(session);
-        } else {
-            self.strays = self.strays.saturating_add(1);
-        }
+        self.told.lose(session);
     }
 }
 
@@ -191,7 +188,7 @@ fn tell_sent(told: &mut Telling, session: u64, bytes: &Text) -> Result<(), NoMem
 }
 
 impl Floor for ScriptFloor {
-    ghost seen = { λ f. script_heard f.told f.turns.faults f.strays };
+    ghost seen = { λ f. script_heard f.told f.turns.faults };
 
     fn begin(&mut self, _place: &Place, _most: u64) -> Result<(), Failed>
         ensures fails { is_err result ≡ is_listed self.old.turns }
@@ -212,29 +209,28 @@ impl Floor for ScriptFloor {
         ensures kept { OnErr result (unsaid self.new.said (drop self.new.at self.new.steps) ≡ unsaid self.old.said (drop self.old.at self.old.steps)) }
         ensures silent { OnErr result (self.new.told ≡ self.old.told) }
         ensures sends { self.new.sends ≡ self.old.sends }
-        ensures strays { self.new.strays ≡ self.old.strays }
         ensures told { GainsTurn (Some self.old.told) (Some self.new.told) result buf.new }
         ensures fits { IfOk result (λ turn. Fits turn buf.new) }
         ensures follows { IfOk result (λ turn. Follows self.old.told (told_of turn buf.new)) }
         ensures cause { HasCause self.old.turns.faults self.new.turns.faults result }
         ensures calm { OnOk result (self.new.turns.faults ≡ self.old.turns.faults) }
-        ensures counts { KeepsCounts (script_heard self.old.told self.old.turns.faults self.old.strays) (script_heard self.new.told self.new.turns.faults self.new.strays) }
+        ensures counts { KeepsCounts (script_heard self.old.told self.old.turns.faults) (script_heard self.new.told self.new.turns.faults) }
     {
         self.turns.call()?;
         self.fed_turn(buf)
     }
 
     fn send(&mut self, session: u64, bytes: &Text) -> Result<(), Failed>
+        requires sound { is_sound session self.old.told ≡ true }
         ensures listed { is_listed self.old.sends ≡ true → IsErr result }
         ensures counted { self.new.sends ≡ after_call self.old.sends (is_err result) }
         ensures starved { self.new.starved ≡ (if is_err result && not (is_listed self.old.sends) then one_more self.old.starved else self.old.starved) }
-        ensures told { self.new.told ≡ self.old.told ++ sent_in (Some self.old.told) session bytes.now (is_ok result) }
-        ensures strays { self.new.strays ≡ (if is_err result && not (is_sound session self.old.told) then one_more self.old.strays else self.old.strays) }
+        ensures told { self.new.told ≡ self.old.told ++ send_event session bytes.now (is_ok result) ∷ [] }
         ensures steps { unsaid self.new.said (drop self.new.at self.new.steps) ≡ unsaid self.old.said (drop self.old.at self.old.steps) }
         ensures turns { self.new.turns ≡ self.old.turns }
-        ensures cause { HasCause (session_count self.old.told self.old.strays session) (session_count self.new.told self.new.strays session) result }
-        ensures calm { OnOk result (session_count self.new.told self.new.strays session ≡ session_count self.old.told self.old.strays session) }
-        ensures others { (other : ℕ) → session_count self.old.told self.old.strays other ≤ session_count self.new.told self.new.strays other }
+        ensures cause { HasCause (session_count self.old.told session) (session_count self.new.told session) result }
+        ensures calm { OnOk result (session_count self.new.told session ≡ session_count self.old.told session) }
+        ensures others { (other : ℕ) → session_count self.old.told other ≤ session_count self.new.told other }
     {
         if self.sends.call().is_err() {
             self.lose(session);
@@ -244,16 +240,14 @@ impl Floor for ScriptFloor {
     }
 
     fn hang_up(&mut self, session: u64)
-        ensures told { self.new.told ≡ self.old.told ++ hung_up_in (Some self.old.told) session }
+        requires live { is_open session self.old.told ≡ true }
+        ensures told { self.new.told ≡ self.old.told ++ HungUp session ∷ [] }
         ensures steps { unsaid self.new.said (drop self.new.at self.new.steps) ≡ unsaid self.old.said (drop self.old.at self.old.steps) }
         ensures turns { self.new.turns ≡ self.old.turns }
         ensures sends { self.new.sends ≡ self.old.sends }
         ensures starved { self.new.starved ≡ self.old.starved }
-        ensures strays { self.new.strays ≡ self.old.strays }
-        ensures counts { KeepsCounts (script_heard self.old.told self.old.turns.faults self.old.strays) (script_heard self.new.told self.new.turns.faults self.new.strays) }
+        ensures counts { KeepsCounts (script_heard self.old.told self.old.turns.faults) (script_heard self.new.told self.new.turns.faults) }
     {
-        if self.told.is_open(session) {
-            self.told.hang_up(session);
-        }
+        self.told.hang_up(session);
     }
 }

@@ -2,7 +2,7 @@
 use Rattle.std.specs.Prelude.{◌≡◌, ℕ, ◌+◌, ◌≤◌, List, [], ◌∷◌, take, Option, None, Some, IfSome, Bool, true, false}
 use Rattle.mail_base.specs.Histories.{Gains, Rose}
 use Rattle.mail_edge.specs.Seen.{ClockSeen}
-use Rattle.link_edge.specs.Heard.{Heard}
+use Rattle.link_edge.specs.Heard.{Heard, IsSoundAt}
 use Rattle.link_edge.specs.Sessions.{Follows}
 use Rattle.link_edge.specs.declared.event.Event.{Event}
 use Rattle.link_edge.specs.declared.event.Event.TheVariants.{Opens, Brings, Closes, Rests, Stops}
@@ -23,7 +23,7 @@ use Rattle.mail_core.specs.Acts.{heard_of}
 use Rattle.mail_core.specs.Guests.{Guest, guest_of}
 use Rattle.mail_core.specs.Messages.{is_spent}
 use Rattle.mail_core.specs.Machine.{Choice, By, State, Step, stepped, opened}
-use Rattle.mail_core.specs.Seen.{Seen, Ran, IsSoundAt}
+use Rattle.mail_core.specs.Seen.{Seen, Ran}
 use Rattle.mail_core.specs.Standing.{dirs_of, Keeps, Stands}
 
 -- the event of a turn, with its bytes

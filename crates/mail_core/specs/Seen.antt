@@ -1,9 +1,8 @@
 -- What is seen of floor, spool and clock, and what a list of acts makes of it (own).
-use Rattle.std.specs.Prelude.{◌≡◌, ℕ, ◌+◌, ◌≤◌, List, [], ◌∷◌, ◌++◌, length, Bool, true, false, IfSome}
+use Rattle.std.specs.Prelude.{◌≡◌, ℕ, ◌+◌, ◌≤◌, List, [], ◌∷◌, ◌++◌, length, Bool, true, false}
 use Rattle.mail_base.specs.Histories.{Gains}
 use Rattle.mail_edge.specs.Seen.{ClockSeen}
 use Rattle.link_edge.specs.Heard.{Heard}
-use Rattle.link_edge.specs.Sessions.{is_sound}
 use Rattle.spool_disk.specs.Disk.{FileMap}
 use Rattle.spool_disk.specs.Spooled.{Spooled}
 use Rattle.spool_store.specs.Moves.{Moves}
@@ -51,7 +50,3 @@ pub record Ran (dirs : List (List ℕ)) (table : Table) (a b : Seen) (acts : Lis
   pub spool : Moves a.spool b.spool (IsClean dirs table) (Leaves dirs table acts well) (IsPart dirs table acts)
   pub floor_faults : a.floor.faults ≤ b.floor.faults
   pub spool_faults : a.spool.faults ≤ b.spool.faults
-
--- where the floor tells, that session is open and no send to it has failed
-abbrev pub IsSoundAt : Heard → ℕ → Type 0
-IsSoundAt floor session = IfSome floor.told (λ history. is_sound session history ≡ true)

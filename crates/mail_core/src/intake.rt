@@ -3,6 +3,7 @@ ghost use Rattle.mail_base.specs.Histories.{Gains};
 ghost use Rattle.mail_base.specs.Limits.{IsId};
 ghost use Rattle.mail_base.specs.declared.fault.StoreFault.TheVariants.{IdsSpent as NoIdLeft};
 ghost use Rattle.mail_edge.specs.Seen.{ClockSeen};
+ghost use Rattle.link_edge.specs.Heard.{IsSoundAt};
 ghost use Rattle.qf_format.specs.Valid.{IsValid};
 ghost use Rattle.smtp_lines.specs.declared.line.Line.{Line as AnyLine};
 ghost use Rattle.smtp_lines.specs.declared.line.Line.TheVariants.{DataEnd};
@@ -18,7 +19,7 @@ ghost use Rattle.mail_core.specs.Guests.{Guest, with_bytes, lines_of};
 ghost use Rattle.mail_core.specs.Machine as machine;
 ghost use Rattle.mail_core.specs.Machine.{moment_by};
 ghost use Rattle.mail_core.specs.Messages as entry;
-ghost use Rattle.mail_core.specs.Seen.{IsSoundAt, seen};
+ghost use Rattle.mail_core.specs.Seen.{seen};
 ghost use Rattle.mail_core.specs.Standing.{Serves, Talks, Keeps, IsReady, lines_heard};
 
 use crate::caller::Caller;

@@ -1,7 +1,7 @@
 ghost use Rattle.std.specs.Prelude.{◌≡◌, ◌≢◌, ◌∷◌, [], Bool, IfOk, IfSome, All};
 ghost use Rattle.mail_base.specs.Histories.{Gains};
 ghost use Rattle.mail_edge.specs.Seen.{ClockSeen};
-ghost use Rattle.link_edge.specs.Heard.{Heard};
+ghost use Rattle.link_edge.specs.Heard.{Heard, IsSoundAt};
 ghost use Rattle.link_edge.specs.Turns.{Fits};
 ghost use Rattle.link_edge.specs.declared.event.Event.TheVariants.{Stops};
 ghost use Rattle.smtp_receive.specs.Replies.{greeting_text, shown_host};
@@ -9,7 +9,7 @@ ghost use Rattle.mail_core.specs.Acts.{Sends, HangsUp, heard_of};
 ghost use Rattle.mail_core.specs.Events.{IsTaken, IsTakenUp, IsHeardAt, IsOpened, Steps, Turns, event_of, went_of};
 ghost use Rattle.mail_core.specs.Guests.{guest_of, newcomer};
 ghost use Rattle.mail_core.specs.Machine.{State, Step, at_moment, beginning, handled, opened, pieced};
-ghost use Rattle.mail_core.specs.Seen.{IsSoundAt, seen};
+ghost use Rattle.mail_core.specs.Seen.{seen};
 ghost use Rattle.mail_core.specs.Standing.{IsReady, IsStanding, Keeps, Stands, Stores, is_hosted};
 ghost use Rattle.spool_store.specs.Tables.{Table};
 

@@ -1,5 +1,5 @@
 use link_edge::{Event, Floor, FloorEvent, OneFloor, Place, ScriptFloor, Step, Turn};
-use mail_base::{NoMemory, Seq, Text, TryCopy};
+use mail_base::{Failed, NoMemory, Seq, Text, TryCopy};
 use mail_edge::{MemSink, MemSource, Source};
 use std::alloc::{AllocError, Global};
 use std::test::Fail;
@@ -18,35 +18,93 @@ enum Act {
     HangUp(u64),
 }
 
-// Does these acts, and gives what was heard, a word for each turn and for each call that failed.
-fn heard<F: Floor>(alloc: Global, floor: &mut F, acts: &[Act]) -> Result<Text, NoMemory> {
+// How an act went.
+#[derive(Clone, Copy)]
+enum Answer {
+    Done,
+    Failed,
+    // The floor may not be asked to do it.
+    Barred,
+}
+
+impl Answer {
+    fn of(call: Result<(), Failed>) -> Answer {
+        match call {
+            Ok(()) => Answer::Done,
+            Err(Failed) => Answer::Failed,
+        }
+    }
+
+    fn word(self) -> &'static [u8] {
+        match self {
+            Answer::Done => b"",
+            Answer::Failed => b"fail ",
+            Answer::Barred => b"no ",
+        }
+    }
+}
+
+// A floor that is sent to, and hung up, only where it may be.
+trait Driven: Floor {
+    fn say(&mut self, session: u64, bytes: &Text) -> Answer;
+
+    fn part(&mut self, session: u64) -> Answer;
+}
+
+impl Driven for ScriptFloor {
+    fn say(&mut self, session: u64, bytes: &Text) -> Answer {
+        if !self.is_sound(session) {
+            return Answer::Barred;
+        }
+        Answer::of(self.send(session, bytes))
+    }
+
+    fn part(&mut self, session: u64) -> Answer {
+        if !self.is_open(session) {
+            return Answer::Barred;
+        }
+        self.hang_up(session);
+        Answer::Done
+    }
+}
+
+// It tells nothing, so that nothing bars a call.
+impl Driven for OneFloor<MemSource, MemSink> {
+    fn say(&mut self, session: u64, bytes: &Text) -> Answer {
+        Answer::of(self.send(session, bytes))
+    }
+
+    fn part(&mut self, session: u64) -> Answer {
+        self.hang_up(session);
+        Answer::Done
+    }
+}
+
+// Does these acts, and gives what was heard, a word for each turn and for each call that failed or may not be made.
+fn heard<F: Driven>(alloc: Global, floor: &mut F, acts: &[Act]) -> Result<Text, NoMemory> {
     let mut text = Text::new(alloc);
     for act in acts {
-        if !is_done(floor, *act, &mut text)? {
-            text.extend(b"fail ")?;
-        }
+        let answer = done(floor, *act, &mut text)?;
+        text.extend(answer.word())?;
     }
     Ok(text)
 }
 
-// Whether the act didn't fail. A turn that fails is heard at its place.
-fn is_done<F: Floor>(floor: &mut F, act: Act, heard: &mut Text) -> Result<bool, NoMemory> {
+// Does an act. A turn that fails is heard at its place.
+fn done<F: Driven>(floor: &mut F, act: Act, heard: &mut Text) -> Result<Answer, NoMemory> {
     match act {
-        Act::Begin => Ok(floor.begin(&Place::Standard, 0).is_ok()),
+        Act::Begin => Ok(Answer::of(floor.begin(&Place::Standard, 0))),
         Act::Turns(turns) => {
             for _ in 0..turns {
                 hear(floor, heard)?;
             }
-            Ok(true)
+            Ok(Answer::Done)
         }
         Act::Send(session, bytes) => {
             let bytes = Text::of(heard.allocator(), bytes)?;
-            Ok(floor.send(session, &bytes).is_ok())
+            Ok(floor.say(session, &bytes))
         }
-        Act::HangUp(session) => {
-            floor.hang_up(session);
-            Ok(true)
-        }
+        Act::HangUp(session) => Ok(floor.part(session)),
     }
 }
 
@@ -151,7 +209,7 @@ const SCRIPTS: &[ScriptRow] = &[
         told: b"1+192.0.2.1 2+::1 1>NOOP 2>QUIT 1- rest stop stop ",
         faults: (0, 0, 0),
     },
-    // Sends and hang-ups are told while a session is open.
+    // Sends and hang-ups are told. A session is sent to until a send failed, and hung up once.
     ScriptRow {
         moves: TWO_SESSIONS,
         turns: &[],
@@ -160,11 +218,12 @@ const SCRIPTS: &[ScriptRow] = &[
             Act::Turns(2),
             Act::Send(1, b"220"),
             Act::Send(2, b"220"),
+            Act::Send(2, b"221"),
             Act::HangUp(2),
             Act::HangUp(2),
             Act::Turns(2),
         ],
-        heard: b"1+192.0.2.1 2+::1 fail 1>NOOP rest ",
+        heard: b"1+192.0.2.1 2+::1 fail no no 1>NOOP rest ",
         told: b"1+192.0.2.1 2+::1 1<220 2! 2x 1>NOOP rest ",
         faults: (0, 1, 0),
     },

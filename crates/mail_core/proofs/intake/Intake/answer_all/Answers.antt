@@ -1,6 +1,6 @@
 use Rattle.std.proofs.Common.{◌≡◌, true, false, refl, sym, ◌∙◌, subst}
 use Rattle.mail_core.specs.Going.{is_onward}
-use Rattle.mail_core.specs.Seen.{IsSoundAt}
+use Rattle.link_edge.specs.Heard.{IsSoundAt}
 use Rattle.mail_core.proofs.FeedLemmas.{answers_none, answers_next, answers_cut, answers_all}
 use Rattle.mail_core.proofs.intake.Intake.answer_all.Goals as goal
 

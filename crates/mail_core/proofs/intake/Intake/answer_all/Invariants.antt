@@ -1,11 +1,12 @@
 use Rattle.std.proofs.Common.{◌≡◌, ◌++◌, true, take}
 use Rattle.mail_edge.specs.Seen.{ClockSeen}
+use Rattle.link_edge.specs.Heard.{IsSoundAt}
 use Rattle.smtp_lines.specs.Reader.{OnlyLastAsks, StandsFirst}
 use Rattle.mail_core.specs.declared.serving.Site.{Site}
 use Rattle.mail_core.specs.Going.{AnswersLines, is_onward}
 use Rattle.mail_core.specs.Guests.{lines_of}
 use Rattle.mail_core.specs.Machine.{Did, GoesOn}
-use Rattle.mail_core.specs.Seen.{IsSoundAt, seen}
+use Rattle.mail_core.specs.Seen.{seen}
 use Rattle.mail_core.specs.Standing.{IsReady, Serves, Talks, lines_heard}
 use Rattle.mail_core.proofs.intake.Intake.answer_all.Given as goal
 

@@ -2,7 +2,7 @@ use Rattle.std.proofs.Common.{◌≡◌, true, false, refl, sym, ◌∙◌, ap, 
 use Rattle.smtp_lines.specs.Reader.{asked_after}
 use Rattle.smtp_lines.proofs.RunLemmas.{asked_after-turns}
 use Rattle.mail_core.specs.Going.{is_onward}
-use Rattle.mail_core.specs.Seen.{IsSoundAt}
+use Rattle.link_edge.specs.Heard.{IsSoundAt}
 use Rattle.mail_core.proofs.FeedLemmas.{pends_start, pends_more, batch_of, feeds_none, feeds_cut, feeds_lost, feeds_all, ready_lines, turned_lines}
 use Rattle.mail_core.proofs.intake.Intake.feed.Goals as goal
 

@@ -1,10 +1,11 @@
 use Rattle.std.proofs.Common.{◌≡◌, ◌+◌, true, false, cond, [], length}
 use Rattle.mail_edge.specs.Seen.{ClockSeen}
+use Rattle.link_edge.specs.Heard.{IsSoundAt}
 use Rattle.smtp_lines.specs.Reader.{asked_after}
 use Rattle.spool_store.specs.Tables.{Table}
 use Rattle.mail_core.specs.declared.serving.Site.{Site}
 use Rattle.mail_core.specs.Guests.{Guest}
-use Rattle.mail_core.specs.Seen.{IsSoundAt, seen}
+use Rattle.mail_core.specs.Seen.{seen}
 use Rattle.mail_core.specs.Standing.{IsReady, Keeps, Serves}
 use Rattle.mail_core.proofs.FeedLemmas.{Pends}
 use Rattle.mail_core.proofs.intake.Intake.feed.Given as goal

@@ -1,7 +1,7 @@
 use Rattle.std.proofs.Common.{◌∙◌, ap, [], ◌∷◌, ◌++◌}
 use Rattle.smtp_receive.specs.Replies.{greeting_text, shown_host}
 use Rattle.mail_core.specs.Guests.{newcomer}
-use Rattle.mail_core.proofs.SpeechLemmas.{open_of, hung_told}
+use Rattle.mail_core.proofs.SpeechLemmas.{open_of}
 use Rattle.mail_core.proofs.CoreLemmas.{full_at, empty_at, opens_full, opens_new, opens_unsent, opens_lacking}
 use Rattle.mail_core.proofs.serving.Core.open.Goals as goal
 
@@ -29,4 +29,7 @@ returns-else-say-clause-opens g c = λ site m st.
 
 pub returns-in-Err-clause-opens : goal.returns-in-Err-clause-opens
 returns-in-Err-clause-opens g c = λ site m st.
-    opens_lacking site m c.args.session c.args.peer.now _ _ _ (empty_at site _ m.guests c.if-is_some.ensures st.callers) (hung_told _ _ c.args.session (open_of _ c.args.session c.requires.sound) c.hang_up.ensures.told) st
+    opens_lacking site m c.args.session c.args.peer.now _ _ _ (empty_at site _ m.guests c.if-is_some.ensures st.callers) c.hang_up.ensures.told st
+
+pub hang_up-requires : goal.hang_up-requires
+hang_up-requires g c = record { live = open_of _ c.args.session c.requires.sound }
