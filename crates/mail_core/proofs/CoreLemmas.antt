@@ -76,6 +76,14 @@ pub empty_at : (site : Site) (o : Option Caller) (guests : List Guest) → false
 empty_at site None guests none h = h
 empty_at site (Some caller) guests none h = absurd (false≢true none)
 
+-- how it went for the run has the spool's fault from how it went for the session
+pub well_went : (fed : Fed) (went : Went) → went ≡ went_of fed → is_well went ≡ true → going.is_well fed ≡ true
+well_went Onward went e well = refl
+well_went Granted went e well = refl
+well_went HungUp went e well = refl
+well_went Faulted went e well = sym (ap is_well e) ∙ well
+well_went Spent went e well = refl
+
 -- ---- openings
 
 module _ (site : Site) (m : State) (session : ℕ) (peer : List ℕ) (core : Core) where

@@ -84,6 +84,14 @@ way_onward HungUp on = absurd (false≢true on)
 way_onward Faulted on = absurd (false≢true on)
 way_onward Spent on = absurd (false≢true on)
 
+-- the spool didn't fail where the session goes on
+pub well_onward : (fed : Fed) → is_onward fed ≡ true → is_well fed ≡ true
+well_onward Onward on = refl
+well_onward Granted on = refl
+well_onward HungUp on = refl
+well_onward Faulted on = on
+well_onward Spent on = refl
+
 -- ---- joins
 
 pub does_join : (site : Site) (d e x : Did) (a b c : Seen) (fed : Fed) → Does site d e a b Onward → Does site e x b c fed → Does site d x a c fed

@@ -14,7 +14,7 @@ ghost use Rattle.smtp_receive.specs.Sessions.{Remembers, Stands as Speaks};
 ghost use Rattle.spool_store.specs.Tables.{Table};
 ghost use Rattle.mail_core.specs.declared.serving.Site.{Site};
 ghost use Rattle.mail_core.specs.Acts.{heard_of, speech, Sends, HangsUp};
-ghost use Rattle.mail_core.specs.Going.{AnswersLine, AnswersLines, AnswersMessage, Feeds, is_onward};
+ghost use Rattle.mail_core.specs.Going.{AnswersLine, AnswersLines, AnswersMessage, Feeds, is_onward, is_well};
 ghost use Rattle.mail_core.specs.Guests.{Guest, with_bytes, lines_of};
 ghost use Rattle.mail_core.specs.Machine as machine;
 ghost use Rattle.mail_core.specs.Machine.{moment_by};
@@ -152,6 +152,8 @@ impl Intake {
             (seen (F.seen floor.old) (D.seen spool.old) clock)
             (seen (F.seen floor.new) (D.seen spool.new) clock)
             self.new caller.old caller.new result }
+        ensures own { (F.seen floor.new).faults ≡ (F.seen floor.old).faults }
+        ensures calm { is_well result ≡ true → (D.seen spool.new).faults ≡ (D.seen spool.old).faults }
         ensures moment { self.new.moment ≡ self.old.moment }
         ensures number { caller.new.number ≡ caller.old.number }
         ensures lines { caller.new.lines ≡ caller.old.lines }
@@ -187,6 +189,8 @@ impl Intake {
             (seen (F.seen floor.new) (D.seen spool.new) clock)
             self.new caller.new result }
         ensures ready { is_onward result ≡ true → IsReady self.new caller.new }
+        ensures own { (F.seen floor.new).faults ≡ (F.seen floor.old).faults }
+        ensures calm { is_well result ≡ true → (D.seen spool.new).faults ≡ (D.seen spool.old).faults }
         ensures moment { self.new.moment ≡ self.old.moment }
         ensures number { caller.new.number ≡ caller.old.number }
         ensures lines { caller.new.lines ≡ caller.old.lines }
@@ -219,6 +223,8 @@ impl Intake {
             (seen (F.seen floor.new) (D.seen spool.new) clock)
             self.new caller.new result }
         ensures ready { is_onward result ≡ true → IsReady self.new caller.new }
+        ensures own { (F.seen floor.new).faults ≡ (F.seen floor.old).faults }
+        ensures calm { is_well result ≡ true → (D.seen spool.new).faults ≡ (D.seen spool.old).faults }
         ensures moment { self.new.moment ≡ self.old.moment }
         ensures number { caller.new.number ≡ caller.old.number }
         ensures lines { caller.new.lines ≡ caller.old.lines }
@@ -250,6 +256,8 @@ impl Intake {
             (seen (F.seen floor.old) (D.seen spool.old) clock)
             (seen (F.seen floor.new) (D.seen spool.new) clock)
             self.new caller.new result }
+        ensures own { (F.seen floor.new).faults ≡ (F.seen floor.old).faults }
+        ensures calm { is_well result ≡ true → (D.seen spool.new).faults ≡ (D.seen spool.old).faults }
         ensures moment { self.new.moment ≡ self.old.moment }
     {
         let Ok(given) = caller.lines.feed(piece) else {

@@ -1,4 +1,4 @@
-ghost use Rattle.std.specs.Prelude.{◌≡◌, ◌≢◌, ◌∷◌, [], Bool, IfOk, IfSome, All};
+ghost use Rattle.std.specs.Prelude.{◌≡◌, ◌≢◌, ◌∷◌, [], Bool, true, IfOk, IfSome, All};
 ghost use Rattle.mail_base.specs.Histories.{Gains};
 ghost use Rattle.mail_edge.specs.Seen.{ClockSeen};
 ghost use Rattle.link_edge.specs.Heard.{Heard, IsSoundAt};
@@ -6,7 +6,7 @@ ghost use Rattle.link_edge.specs.Turns.{Fits};
 ghost use Rattle.link_edge.specs.declared.event.Event.TheVariants.{Stops};
 ghost use Rattle.smtp_receive.specs.Replies.{greeting_text, shown_host};
 ghost use Rattle.mail_core.specs.Acts.{Sends, HangsUp, heard_of};
-ghost use Rattle.mail_core.specs.Events.{IsTaken, IsTakenUp, IsHeardAt, IsOpened, Steps, Turns, event_of, went_of};
+ghost use Rattle.mail_core.specs.Events.{IsTaken, IsTakenUp, IsHeardAt, IsOpened, Steps, Turns, event_of, is_well, went_of};
 ghost use Rattle.mail_core.specs.Guests.{guest_of, newcomer};
 ghost use Rattle.mail_core.specs.Machine.{State, Step, at_moment, beginning, handled, opened, pieced};
 ghost use Rattle.mail_core.specs.Seen.{seen};
@@ -93,7 +93,8 @@ impl Core {
     /// never used twice by a floor that tells. A second session is told 421 4.3.2 and hung up while one is
     /// open, a piece of a session that isn't open is dropped, and an idle turn changes nothing.
     ///
-    /// Want of memory is answered by 452 4.3.1, or ends the session. After `Ends` nothing more is done.
+    /// Want of memory is answered by 452 4.3.1, or ends the session. After `Ends` nothing more is done. A fault of
+    /// the spool ends the run with it: its count stays with every other answer, and the floor's own with each.
     pub fn turn<F: Floor, D: Spool>(
         &mut self,
         floor: &mut F,
@@ -111,6 +112,8 @@ impl Core {
             (seen before (D.seen spool.old) clock)
             (seen (F.seen floor.new) (D.seen spool.new) read)
             self.new result }
+        ensures own { (F.seen floor.new).faults ≡ (F.seen floor.old).faults }
+        ensures calm { is_well result ≡ true → (D.seen spool.new).faults ≡ (D.seen spool.old).faults }
     {
         self.intake.at(reading);
         self.handle(floor, spool, turn, buf)
@@ -133,6 +136,8 @@ impl Core {
             (seen (F.seen floor.new) (D.seen spool.new) clock)
             self.new result }
         ensures stopped { result ≡ Went.Ends Ending.Stopped → event_of turn buf.now ≡ Stops }
+        ensures own { (F.seen floor.new).faults ≡ (F.seen floor.old).faults }
+        ensures calm { is_well result ≡ true → (D.seen spool.new).faults ≡ (D.seen spool.old).faults }
     {
         match turn {
             Turn::Opened(session, count) => {
@@ -237,6 +242,8 @@ impl Core {
             (seen (F.seen floor.new) (D.seen spool.new) clock)
             self.new result }
         ensures stopped { result ≢ Went.Ends Ending.Stopped }
+        ensures own { (F.seen floor.new).faults ≡ (F.seen floor.old).faults }
+        ensures calm { is_well result ≡ true → (D.seen spool.new).faults ≡ (D.seen spool.old).faults }
     {
         let Some(mut caller) = self.take(session) else {
             return Went::GoesOn;

@@ -11,9 +11,11 @@ use Rattle.mail_edge.proofs.Giving.{part_whole, part_none, part_join}
 use Rattle.mail_edge.proofs.Taking.{loses_none, loses_join}
 use Rattle.mail_edge.proofs.Causing.{rose_since}
 use Rattle.sendmail_run.specs.declared.input.Partial.{Partial}
+use Rattle.sendmail_run.specs.declared.outcome.Outcome.{Outcome}
 use Rattle.sendmail_run.specs.declared.outcome.Outcome.TheVariants as ends
 use Rattle.sendmail_run.specs.LogicalLines.{physical_lines}
 use Rattle.sendmail_run.specs.Printing.{Printed, Prints, warnings_text}
+use Rattle.sendmail_run.specs.Rises.{RisesOnlyAt}
 use Rattle.sendmail_run.specs.Runs.{Seen, seen, Tests, IsDone, IsCutOff, IsBroken, WritesFront, ended_lines}
 use Rattle.sendmail_run.specs.Taking.{Keeps, Stands, Quits, At, Answered, AnswersLast, lines_of}
 use Rattle.sendmail_run.proofs.EndedLemmas.{stands_none, stands_printed, stands_on, stands_front, stands_last}
@@ -174,6 +176,11 @@ left_none (Some x) None bytes count h end none = absurd h
 left_none (Some x) (Some y) bytes count h end none =
     let all : x ≡ [] = end.0 none in
     sym (h ∙ ap (λ (n : ℕ). take n bytes ++ y) none) ∙ all
+
+-- a count that stayed before has risen only then
+pub rises_since : (fault outcome : Outcome) (first before now : ℕ) → before ≡ first → RisesOnlyAt fault outcome before now → RisesOnlyAt fault outcome first now
+rises_since fault outcome first before now same (inl ended) = inl ended
+rises_since fault outcome first before now same (inr still) = inr (still ∙ same)
 
 pub same_count : (n : ℕ) → n ≤ n
 same_count n = omega arith

@@ -13,3 +13,4 @@ pub mod Runs
 pub mod Taking
 pub mod Beginning
 pub mod Opening
+pub mod Rises

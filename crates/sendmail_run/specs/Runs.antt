@@ -18,6 +18,7 @@ use Rattle.sendmail_run.specs.LogicalLines.{physical_lines}
 use Rattle.sendmail_run.specs.Configuration.{configuration}
 use Rattle.sendmail_run.specs.CommandLines.{IsCommandLine, IsRefusedAt}
 use Rattle.sendmail_run.specs.Printing.{Prints, is_quit}
+use Rattle.sendmail_run.specs.Rises.{RisesOnlyAt}
 use Rattle.sendmail_run.specs.Serving.{IsLeftAlone, Serves, site}
 
 -- ---- lines of input
@@ -168,6 +169,14 @@ pub record IsLater (before after : Seen) (a b : CoreSeen) : Type 0 where
   pub output : before.output.faults ≤ after.output.faults
   pub floor : a.floor.faults ≤ b.floor.faults
   pub spool : a.spool.faults ≤ b.spool.faults
+
+-- a count of faults that has risen ended the run with that device's fault, and every other outcome leaves it as it was
+pub record RisesEnd (before after : Seen) (a b : CoreSeen) (outcome : Outcome) : Type 0 where
+  pub files : RisesOnlyAt ends.FilesFault outcome before.files.faults after.files.faults
+  pub input : RisesOnlyAt ends.ReadFault outcome before.input.faults after.input.faults
+  pub output : RisesOnlyAt ends.WriteFault outcome before.output.faults after.output.faults
+  pub floor : RisesOnlyAt ends.FloorFault outcome a.floor.faults b.floor.faults
+  pub spool : RisesOnlyAt ends.SpoolFault outcome a.spool.faults b.spool.faults
 
 -- no device of address test mode failed
 pub record IsSound (before after : Seen) : Type 0 where

@@ -4,7 +4,9 @@ ghost use Rattle.mail_edge.specs.Moves.{Loses, GainsPart};
 ghost use Rattle.mail_edge.specs.Seen.{FilesSeen, SourceSeen};
 ghost use Rattle.ruleset_run.specs.Plain.{is_plain_book};
 ghost use Rattle.sendmail_run.specs.Runs.{Seen, Tests, seen};
+ghost use Rattle.sendmail_run.specs.Rises.{RisesOnlyAt, RisesOnlyIn};
 ghost use Rattle.sendmail_run.specs.Taking.{Answered, At, Stands, Went, has_end};
+ghost use Rattle.sendmail_run.specs.declared.outcome.Outcome.TheVariants.{ReadFault, WriteFault};
 
 use crate::buffer::zeros;
 use crate::input::Partial;
@@ -29,6 +31,8 @@ pub fn address_test<I: Source, O: Sink>(
     ensures tests { (files : FilesSeen) → Tests config.now (seen files (I.seen input.old) (O.seen output.old)) (seen files (I.seen input.new) (O.seen output.new)) result }
     ensures input { (I.seen input.old).faults ≤ (I.seen input.new).faults }
     ensures output { (O.seen output.old).faults ≤ (O.seen output.new).faults }
+    ensures read { RisesOnlyAt ReadFault result (I.seen input.old).faults (I.seen input.new).faults }
+    ensures written { RisesOnlyAt WriteFault result (O.seen output.old).faults (O.seen output.new).faults }
 {
     let Ok(mut buffer) = zeros(alloc, MOST_PIECE) else {
         return Outcome::NoMemory;
@@ -50,6 +54,8 @@ fn answer_all<I: Source, O: Sink>(
     ensures tests { (files : FilesSeen) → Tests config.now (seen files (I.seen input.old) (O.seen output.old)) (seen files (I.seen input.new) (O.seen output.new)) result }
     ensures input { (I.seen input.old).faults ≤ (I.seen input.new).faults }
     ensures output { (O.seen output.old).faults ≤ (O.seen output.new).faults }
+    ensures read { RisesOnlyAt ReadFault result (I.seen input.old).faults (I.seen input.new).faults }
+    ensures written { RisesOnlyAt WriteFault result (O.seen output.old).faults (O.seen output.new).faults }
 {
     let mut partial = Partial::new(alloc);
     let mut total: u64 = 0;
@@ -80,6 +86,7 @@ fn take_most<I: Source>(input: &mut I, buffer: &mut [u8], most: u64) -> Result<u
     ensures end { IfOk result (λ count. IfSome (I.seen input.old).left (λ bytes. (count ≡ 0) ↔ (bytes ≡ []))) }
     ensures kept { OnErr result ((I.seen input.new).left ≡ (I.seen input.old).left) }
     ensures cause { HasCause (I.seen input.old).faults (I.seen input.new).faults result }
+    ensures calm { OnOk result ((I.seen input.new).faults ≡ (I.seen input.old).faults) }
 {
     let room = (buffer.len() as u64).min(most) as usize;
     input.take(&mut buffer[..room])
@@ -102,6 +109,7 @@ fn answer_piece<O: Sink>(
     requires { IsTrue (is_plain_book config.now.book) }
     ensures went { (before : Seen) (input : SourceSeen) (taken : List ℕ) → At config.now before (seen before.files input (O.seen output.old)) (taken ++ bytes.now) taken partial.old → Went config.now before (seen before.files input (O.seen output.new)) (taken ++ bytes.now) partial.new result }
     ensures later { (O.seen output.old).faults ≤ (O.seen output.new).faults }
+    ensures rises { RisesOnlyIn result (O.seen output.old).faults (O.seen output.new).faults }
 {
     let Ok(answers) = answer_lines(alloc, config, partial, bytes) else {
         return Step::Ended(Outcome::NoMemory);
@@ -122,6 +130,7 @@ fn give<O: Sink>(output: &mut O, text: &Text) -> Result<(), Failed>
     ensures written { OnOk result (Gains (O.seen output.old).written (O.seen output.new).written text.now) }
     ensures part { OnErr result (GainsPart (O.seen output.old).written (O.seen output.new).written text.now) }
     ensures cause { HasCause (O.seen output.old).faults (O.seen output.new).faults result }
+    ensures calm { OnOk result ((O.seen output.new).faults ≡ (O.seen output.old).faults) }
 {
     if text.is_empty() {
         return Ok(());
@@ -182,6 +191,7 @@ fn end<O: Sink>(alloc: Global, config: &Config, partial: &Partial, output: &mut 
     requires { IsTrue (is_plain_book config.now.book) }
     ensures tests { (before : Seen) (input : SourceSeen) (taken : List ℕ) → IfSome input.left (λ left. left ≡ []) → At config.now before (seen before.files input (O.seen output.old)) taken taken partial.now → Tests config.now before (seen before.files input (O.seen output.new)) result }
     ensures later { (O.seen output.old).faults ≤ (O.seen output.new).faults }
+    ensures rises { RisesOnlyAt WriteFault result (O.seen output.old).faults (O.seen output.new).faults }
 {
     let mut text = Text::new(alloc);
     let Ok(()) = partial.answer_last(alloc, config, &mut text) else {

@@ -1,7 +1,9 @@
-ghost use Rattle.std.specs.Prelude.{◌≡◌, ◌<◌, ◌≤◌, ◌^◌, length, List, ℕ};
+ghost use Rattle.std.specs.Prelude.{◌≡◌, ◌<◌, ◌≤◌, ◌^◌, length, IfErr, List, OnOk, ℕ};
 ghost use Rattle.mail_core.specs.Seen.{seen as core_seen};
-ghost use Rattle.sendmail_run.specs.Runs.{Completes, CompletesService, Ends, IsLater, seen};
+ghost use Rattle.sendmail_run.specs.Runs.{Completes, CompletesService, Ends, IsLater, RisesEnd, seen};
 ghost use Rattle.sendmail_run.specs.Beginning.{Begins};
+ghost use Rattle.sendmail_run.specs.Rises.{RisesOnlyAt};
+ghost use Rattle.sendmail_run.specs.declared.outcome.Outcome.TheVariants.{FilesFault};
 
 use crate::address_test::address_test;
 use crate::command_line::{Job, Mode, WordFault, words};
@@ -43,6 +45,12 @@ pub fn sendmail<F: Files, D: Spool, L: Floor, C: Clock, I: Source, O: Sink>(
         (seen (F.seen files.new) (I.seen input.new) (O.seen output.new))
         (core_seen (L.seen floor.old) (D.seen spool.old) (C.seen clock.old))
         (core_seen (L.seen floor.new) (D.seen spool.new) (C.seen clock.new)) }
+    ensures rises { RisesEnd
+        (seen (F.seen files.old) (I.seen input.old) (O.seen output.old))
+        (seen (F.seen files.new) (I.seen input.new) (O.seen output.new))
+        (core_seen (L.seen floor.old) (D.seen spool.old) (C.seen clock.old))
+        (core_seen (L.seen floor.new) (D.seen spool.new) (C.seen clock.new))
+        result }
     ensures complete { Completes arguments.now
         (seen (F.seen files.old) (I.seen input.old) (O.seen output.old))
         (seen (F.seen files.new) (I.seen input.new) (O.seen output.new))
@@ -73,6 +81,8 @@ fn configuration<F: Files>(alloc: Global, name: Text, files: &mut F) -> Result<C
     ensures begins { Begins name (F.seen files.old) (F.seen files.new) result }
     ensures map { (F.seen files.new).map ≡ (F.seen files.old).map }
     ensures later { (F.seen files.old).faults ≤ (F.seen files.new).faults }
+    ensures kept { OnOk result ((F.seen files.new).faults ≡ (F.seen files.old).faults) }
+    ensures rises { IfErr result (λ outcome. RisesOnlyAt FilesFault outcome (F.seen files.old).faults (F.seen files.new).faults) }
 {
     let text = match files.read(alloc, &name) {
         Ok(Some(text)) => text,

@@ -1,4 +1,4 @@
-ghost use Rattle.std.specs.Prelude.{◌≡◌, ◌≤◌, ◌^◌, IfOk, IfErr, IfSome, length};
+ghost use Rattle.std.specs.Prelude.{◌≡◌, ◌≤◌, ◌^◌, IfOk, IfErr, IfSome, OnOk, length};
 ghost use Rattle.spool_disk.specs.Spooled.{Reads};
 ghost use Rattle.spool_store.specs.Standing.{IsClean};
 ghost use Rattle.spool_store.specs.Tables.{start};
@@ -6,8 +6,10 @@ ghost use Rattle.mail_core.specs.Machine.{beginning};
 ghost use Rattle.mail_core.specs.Seen.{seen};
 ghost use Rattle.mail_core.specs.Standing.{Stands, Stores, dirs_of};
 ghost use Rattle.sendmail_run.specs.Opening.{HasRefused};
+ghost use Rattle.sendmail_run.specs.Rises.{RisesOnlyAt};
 ghost use Rattle.sendmail_run.specs.Serving as spec;
 ghost use Rattle.sendmail_run.specs.Serving.{Serves};
+ghost use Rattle.sendmail_run.specs.declared.outcome.Outcome.TheVariants.{FloorFault, SpoolFault};
 
 use crate::buffer::zeros;
 use crate::outcome::Outcome;
@@ -40,7 +42,9 @@ pub fn session_mode<D: Spool, L: Floor, C: Clock>(
     clock: &mut C,
 ) -> Outcome
     requires { (C.seen clock.old).readings ≤ 2 ^ 63 }
-    ensures { Serves (seen (L.seen floor.old) (D.seen spool.old) (C.seen clock.old)) (seen (L.seen floor.new) (D.seen spool.new) (C.seen clock.new)) result }
+    ensures rises_floor { RisesOnlyAt FloorFault result (L.seen floor.old).faults (L.seen floor.new).faults }
+    ensures rises_spool { RisesOnlyAt SpoolFault result (D.seen spool.old).faults (D.seen spool.new).faults }
+    ensures serves { Serves (seen (L.seen floor.old) (D.seen spool.old) (C.seen clock.old)) (seen (L.seen floor.new) (D.seen spool.new) (C.seen clock.new)) result }
 {
     let Ok(mut buffer) = zeros(alloc, MOST_PIECE) else {
         return Outcome::NoMemory;
@@ -58,7 +62,9 @@ fn serve<D: Spool, L: Floor, C: Clock>(
 ) -> Outcome
     requires readings { (C.seen clock.old).readings ≤ 2 ^ 63 }
     requires room { 64 ≤ length buffer.old }
-    ensures { Serves (seen (L.seen floor.old) (D.seen spool.old) (C.seen clock.old)) (seen (L.seen floor.new) (D.seen spool.new) (C.seen clock.new)) result }
+    ensures rises_floor { RisesOnlyAt FloorFault result (L.seen floor.old).faults (L.seen floor.new).faults }
+    ensures rises_spool { RisesOnlyAt SpoolFault result (D.seen spool.old).faults (D.seen spool.new).faults }
+    ensures serves { Serves (seen (L.seen floor.old) (D.seen spool.old) (C.seen clock.old)) (seen (L.seen floor.new) (D.seen spool.new) (C.seen clock.new)) result }
 {
     let mut core = match opened(alloc, spool) {
         Ok(core) => core,
@@ -89,6 +95,8 @@ fn opened<D: Spool>(alloc: Global, spool: &mut D) -> Result<Core, Outcome>
     ensures core { IfOk result (λ core. Stands spec.site core (beginning start)) }
     ensures empty { IfOk result (λ _. IfSome (D.seen spool.old).told (IsClean (dirs_of spec.site) start)) }
     ensures refused { IfErr result (HasRefused (D.seen spool.old) (D.seen spool.new)) }
+    ensures kept { OnOk result ((D.seen spool.new).faults ≡ (D.seen spool.old).faults) }
+    ensures rises { IfErr result (λ outcome. RisesOnlyAt SpoolFault outcome (D.seen spool.old).faults (D.seen spool.new).faults) }
 {
     let Ok(dirs) = queue_dirs(alloc) else {
         return Err(Outcome::NoMemory);

@@ -1,14 +1,19 @@
 -- What a listing says of the files, and calls that only read.
 use Rattle.std.proofs.Common.{◌≡◌, ◌≢◌, inl, inr, ⊎_elim, ℕ, ◌<◌, List, [], ◌∷◌, ◌+◌, ◌++◌, take, length, get_or, Option, Some, None, IsSome, Bool, true, false, true≢false, refl, sym, ◌∙◌, ap, subst}
-use Rattle.std.specs.Prelude.{IfSome, Contains, not}
+use Rattle.std.specs.Prelude.{IfSome, Contains, not, Result, Ok, Err, IsErrOf, ◌⊎◌}
 use Rattle.std.proofs.Math.Nat.{le_refl, le_trans}
 use Rattle.std.proofs.lemmas.List.{take_more}
 use Rattle.std.proofs.lemmas.List.Elements.{Contains-append_left, Contains-append_cases, Contains-push}
+use Rattle.mail_base.specs.Causes.{has_failed}
+use Rattle.mail_base.specs.declared.fault.EdgeFault.{EdgeFault}
+use Rattle.mail_base.specs.declared.fault.EdgeFault.TheVariants.{Failed, NoMemory}
 use Rattle.spool_disk.specs.Disk.{FileMap, bytes_at}
 use Rattle.spool_disk.specs.Listings.{IsListing}
 use Rattle.spool_disk.specs.Spooled.{Spooled, Leads, Reads, Rests}
 use Rattle.spool_disk.proofs.Naming.{nothing_there, one_only}
 use Rattle.spool_store.specs.Standing.{AreEmpty, IsUsed}
+use Rattle.spool_store.specs.declared.fault.OpenFault.{OpenFault}
+use Rattle.spool_store.specs.declared.fault.OpenFault.TheVariants.{SpoolFault}
 use Rattle.spool_store.proofs.MovesLemmas.{leads_told}
 
 first_there : (x : List ℕ) (xs : List (List ℕ)) → Contains (x ∷ xs) x
@@ -97,3 +102,18 @@ step_used told now dirs i dir same lt is k =
     let there : Contains dirs dir = (i, lt, sym is) in
     used_among told dirs dir (λ other h. subst (λ (q : List ℕ). Contains dirs q) (one_only dir other h) there)
     (subst (λ (q : Option FileMap). IfSome q (IsUsed (dir ∷ []))) same k)
+
+-- a listing that failed is a fault of the opening, and with every other answer the count stays
+pub calm_listed : {T : Type 0} (fault : EdgeFault) (r : Result T OpenFault) (why : OpenFault) (before now : ℕ) → r ≡ Err why → (fault ≡ Failed → why ≡ SpoolFault) → (has_failed {T = T} (Err fault) ≡ false → now ≡ before) → IsErrOf r SpoolFault ⊎ (now ≡ before)
+calm_listed Failed r why before now is broke calm = inl (is ∙ ap (λ e. Err e) (broke refl))
+calm_listed NoMemory r why before now is broke calm = inr (calm refl)
+
+-- where there is an answer the count stays
+pub calm_given : {T : Type 0} (given : T) (before now : ℕ) → IsErrOf (Ok given) SpoolFault ⊎ (now ≡ before) → now ≡ before
+calm_given given before now (inl e) = absurd (cc e)
+calm_given given before now (inr same) = same
+
+-- what stayed before too
+pub calm_since : {T : Type 0} (r : Result T OpenFault) (first before now : ℕ) → before ≡ first → IsErrOf r SpoolFault ⊎ (now ≡ before) → IsErrOf r SpoolFault ⊎ (now ≡ first)
+calm_since r first before now same (inl e) = inl e
+calm_since r first before now same (inr still) = inr (still ∙ same)

@@ -20,6 +20,7 @@ fn put_body<D: Spool>(spool: &mut D, change: &Change) -> Result<(), Failed>
         (Ends result (HasBody dirs table (stored change.now.id change.now.draft change.now.body)) (IsEither dirs table (Accept change.now.draft change.now.body)))
         (IsEither dirs table (Accept change.now.draft change.now.body)) }
     ensures cause { HasCause (D.seen spool.old).faults (D.seen spool.new).faults result }
+    ensures calm { OnOk result ((D.seen spool.new).faults ≡ (D.seen spool.old).faults) }
 {
     spool.write_new(&change.draft.dir, &change.df, &change.body)
 }
@@ -34,6 +35,7 @@ fn put_draft<D: Spool>(spool: &mut D, change: &Change) -> Result<(), Failed>
         (IsEither dirs table (Accept change.now.draft change.now.body)) }
     ensures there { OnOk result (IfSome (D.seen spool.new).told (λ files. IsSome (bytes_at files (change.now.draft.dir, change.now.tf)))) }
     ensures cause { HasCause (D.seen spool.old).faults (D.seen spool.new).faults result }
+    ensures calm { OnOk result ((D.seen spool.new).faults ≡ (D.seen spool.old).faults) }
 {
     spool.write_new(&change.draft.dir, &change.tf, &change.control)
 }
@@ -48,6 +50,7 @@ fn publish<D: Spool>(spool: &mut D, change: &Change) -> Result<(), Failed>
         (Ends result (IsClean dirs (after table (Accept change.now.draft change.now.body))) (IsEither dirs table (Accept change.now.draft change.now.body)))
         (IsEither dirs table (Accept change.now.draft change.now.body)) }
     ensures cause { HasCause (D.seen spool.old).faults (D.seen spool.new).faults result }
+    ensures calm { OnOk result ((D.seen spool.new).faults ≡ (D.seen spool.old).faults) }
 {
     spool.rename(&change.draft.dir, &change.tf, &change.qf)
 }
@@ -61,6 +64,7 @@ pub(crate) fn put_entry<D: Spool>(spool: &mut D, change: &Change) -> Result<(), 
         (Ends result (IsClean dirs (after table (Accept change.now.draft change.now.body))) (IsEither dirs table (Accept change.now.draft change.now.body)))
         (IsEither dirs table (Accept change.now.draft change.now.body)) }
     ensures cause { HasCause (D.seen spool.old).faults (D.seen spool.new).faults result }
+    ensures calm { OnOk result ((D.seen spool.new).faults ≡ (D.seen spool.old).faults) }
 {
     put_body(spool, change)?;
     put_draft(spool, change)?;

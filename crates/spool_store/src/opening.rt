@@ -1,4 +1,4 @@
-ghost use Rattle.std.specs.Prelude.{◌≡◌, ◌≤◌, ◌∷◌, [], IfOk, IfSome, IsErrOf, false, true};
+ghost use Rattle.std.specs.Prelude.{◌≡◌, ◌⊎◌, ◌≤◌, ◌∷◌, [], IfOk, IfSome, IsErrOf, false, true};
 ghost use Rattle.mail_base.specs.Histories.{Rose};
 ghost use Rattle.spool_disk.specs.Spooled.{Reads};
 ghost use Rattle.spool_store.specs.Standing.{AreEmpty, IsUsed};
@@ -18,6 +18,7 @@ fn is_used<D: Spool>(alloc: Global, spool: &mut D, dir: &Text) -> Result<bool, O
     ensures never { IsErrOf result NotYet → ⊥ }
     ensures later { (D.seen spool.old).faults ≤ (D.seen spool.new).faults }
     ensures cause { IsErrOf result SpoolFault → Rose (D.seen spool.old).faults (D.seen spool.new).faults }
+    ensures calm { IsErrOf result SpoolFault ⊎ ((D.seen spool.new).faults ≡ (D.seen spool.old).faults) }
 {
     match spool.list(alloc, dir) {
         Ok(names) => Ok(!names.is_empty()),
@@ -36,6 +37,7 @@ pub(crate) fn find_empty<D: Spool>(
     ensures untouched { Reads (D.seen spool.old) (D.seen spool.new) }
     ensures later { (D.seen spool.old).faults ≤ (D.seen spool.new).faults }
     ensures cause { IsErrOf result SpoolFault → Rose (D.seen spool.old).faults (D.seen spool.new).faults }
+    ensures calm { IsErrOf result SpoolFault ⊎ ((D.seen spool.new).faults ≡ (D.seen spool.old).faults) }
 {
     for dir in dirs.items() {
         if is_used(alloc, spool, dir)? {

@@ -41,6 +41,7 @@ impl Store {
         ensures untouched { Reads (D.seen spool.old) (D.seen spool.new) }
         ensures later { (D.seen spool.old).faults ≤ (D.seen spool.new).faults }
         ensures cause { IsErrOf result OpenBroke → Rose (D.seen spool.old).faults (D.seen spool.new).faults }
+        ensures calm { IsErrOf result OpenBroke ⊎ ((D.seen spool.new).faults ≡ (D.seen spool.old).faults) }
     {
         find_empty(alloc, spool, dirs)?;
         Ok(Store {
@@ -84,6 +85,7 @@ impl Store {
         ensures err { OnErr result (self.new ≡ record self.old { broken = true }) }
         ensures broken { self.old.broken ≡ true → (result ≡ Err record {}) × (spool.new ≡ spool.old) }
         ensures later { (D.seen spool.old).faults ≤ (D.seen spool.new).faults }
+        ensures calm { OnOk result ((D.seen spool.new).faults ≡ (D.seen spool.old).faults) }
         ensures cause { OnErr result ((self.old.broken ≡ true) ⊎ Rose (D.seen spool.old).faults (D.seen spool.new).faults) }
     {
         if self.broken {

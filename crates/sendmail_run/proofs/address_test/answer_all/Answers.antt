@@ -1,6 +1,6 @@
-use Rattle.std.proofs.Common.{◌≡◌, ◌++◌, ℕ, List, [], length, take, refl, arith}
+use Rattle.std.proofs.Common.{◌≡◌, ◌++◌, ℕ, List, [], length, take, refl, ◌∙◌, inr, arith}
 use Rattle.sendmail_run.specs.Runs.{seen}
-use Rattle.sendmail_run.proofs.TestLemmas.{at_start, at_taken, at_read_fault, at_large, at_same, left_none, same_count, taken_length}
+use Rattle.sendmail_run.proofs.TestLemmas.{at_start, at_taken, at_read_fault, at_large, at_same, left_none, same_count, taken_length, rises_since}
 use Rattle.sendmail_run.proofs.address_test.answer_all.Goals as goal
 
 pub loop-total-init : goal.loop-total-init
@@ -9,6 +9,8 @@ loop-total-init g c = record {
   most = omega arith;
   input = same_count (g.I.Source.seen c.args.input.now).faults;
   output = same_count (g.O.Sink.seen c.args.output.now).faults;
+  read = refl;
+  written = refl;
 }
 
 pub loop-total-preserved : goal.loop-total-preserved
@@ -25,6 +27,8 @@ loop-total-preserved g c = record {
   most = omega (arith, c.in-Ok.ensures.most, c.loop-total-test.true);
   input = omega (arith, c.in-Ok.ensures.cause.later, c.loop-total.invariant.input);
   output = omega (arith, c.answer_piece.ensures.later, c.loop-total.invariant.output);
+  read = c.in-Ok.ensures.calm ∙ c.loop-total.invariant.read;
+  written = c.in-On.ensures.rises ∙ c.loop-total.invariant.written;
 }
 
 pub returns-in-Err-clause-tests : goal.returns-in-Err-clause-tests
@@ -54,3 +58,24 @@ returns-clause-tests g c = λ files.
     let so = c.loop-total.invariant.at files in
     let large : length so.0 ≡ 4294967296 = omega (arith, so.1, c.loop-total.invariant.most, c.loop-total-test.false) in
     at_large c.args.config.now (seen files (g.I.Source.seen c.args.input.now) (g.O.Sink.seen c.args.output.now)) files (g.I.Source.seen c.loop-total.input) (g.O.Sink.seen c.loop-total.output) so.0 c.loop-total.partial so.2 large
+
+pub returns-in-Err-clause-written : goal.returns-in-Err-clause-written
+returns-in-Err-clause-written g c = inr c.loop-total.invariant.written
+
+pub returns-then-count-eq0-clause-read : goal.returns-then-count-eq0-clause-read
+returns-then-count-eq0-clause-read g c = inr (c.in-Ok.ensures.calm ∙ c.loop-total.invariant.read)
+
+pub returns-then-count-eq0-clause-written : goal.returns-then-count-eq0-clause-written
+returns-then-count-eq0-clause-written g c = rises_since _ _ _ _ _ c.loop-total.invariant.written c.end.ensures.rises
+
+pub returns-in-Ended-clause-read : goal.returns-in-Ended-clause-read
+returns-in-Ended-clause-read g c = inr (c.in-Ok.ensures.calm ∙ c.loop-total.invariant.read)
+
+pub returns-in-Ended-clause-written : goal.returns-in-Ended-clause-written
+returns-in-Ended-clause-written g c = rises_since _ _ _ _ _ c.loop-total.invariant.written c.in-Ended.ensures.rises
+
+pub returns-clause-read : goal.returns-clause-read
+returns-clause-read g c = inr c.loop-total.invariant.read
+
+pub returns-clause-written : goal.returns-clause-written
+returns-clause-written g c = inr c.loop-total.invariant.written

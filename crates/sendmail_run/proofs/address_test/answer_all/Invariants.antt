@@ -11,6 +11,8 @@ invariant-loop-total g l = record {
   most : l.total ≤ 4294967296;
   input : (g.I.Source.seen l.fn.input).faults ≤ (g.I.Source.seen l.input).faults;
   output : (g.O.Sink.seen l.fn.output).faults ≤ (g.O.Sink.seen l.output).faults;
+  read : (g.I.Source.seen l.input).faults ≡ (g.I.Source.seen l.fn.input).faults;
+  written : (g.O.Sink.seen l.output).faults ≡ (g.O.Sink.seen l.fn.output).faults;
 }
 
 abbrev pub decreases-loop-total : goal.decreases-loop-total

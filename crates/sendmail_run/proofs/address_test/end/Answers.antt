@@ -1,4 +1,4 @@
-use Rattle.std.proofs.Common.{◌∙◌, ◌++◌, ℕ, List, ap}
+use Rattle.std.proofs.Common.{◌∙◌, ◌++◌, ℕ, List, ap, refl, inl, inr}
 use Rattle.sendmail_run.proofs.TestLemmas.{at_broken_last, at_end, at_end_fault}
 use Rattle.sendmail_run.proofs.address_test.end.Goals as goal
 
@@ -14,3 +14,12 @@ pub returns-clause-tests : goal.returns-clause-tests
 returns-clause-tests g c = λ before input taken over at.
     at_end_fault c.args.config.now before before.files input (g.O.Sink.seen c.args.output.now) (g.O.Sink.seen c.give.new.output) taken c.args.partial.now c.answer_last.new.out at
     (λ rest k. let a = c.in-Ok.ensures rest k in (a.0, a.1, a.2 ∙ ap (λ (q : List ℕ). q ++ a.0) c.new-text.ensures)) c.in-Err.ensures.part c.in-Err.ensures.cause.failed
+
+pub returns-in_default-clause-rises : goal.returns-in_default-clause-rises
+returns-in_default-clause-rises g c = inr refl
+
+pub returns-in-Ok-give-clause-rises : goal.returns-in-Ok-give-clause-rises
+returns-in-Ok-give-clause-rises g c = inr c.in-Ok-give.ensures.calm
+
+pub returns-clause-rises : goal.returns-clause-rises
+returns-clause-rises g c = inl refl

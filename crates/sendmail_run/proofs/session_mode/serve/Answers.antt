@@ -1,8 +1,8 @@
-use Rattle.std.proofs.Common.{refl, arith, inr}
+use Rattle.std.proofs.Common.{refl, arith, inr, ap, ◌∙◌}
 use Rattle.spool_store.specs.Tables.{start}
 use Rattle.mail_core.specs.declared.serving.Ending.TheVariants as ending
 use Rattle.mail_core.specs.declared.serving.Went.TheVariants.{Ends}
-use Rattle.mail_core.specs.Events.{event_of}
+use Rattle.mail_core.specs.Events.{event_of, is_well}
 use Rattle.mail_core.specs.Runs.{run_over}
 use Rattle.mail_core.specs.Seen.{seen}
 use Rattle.mail_edge.proofs.Causing.{rose_since}
@@ -11,8 +11,8 @@ use Rattle.mail_core.proofs.RunLemmas.{under_way_begin, under_way_floor, under_w
 use Rattle.sendmail_run.proofs.ServingLemmas.{heard_at, taken, standing, serves_lost, serves_spent, served_out}
 use Rattle.sendmail_run.proofs.session_mode.serve.Goals as goal
 
-pub returns-in_default : goal.returns-in_default
-returns-in_default g c =
+pub returns-in_default-clause-serves : goal.returns-in_default-clause-serves
+returns-in_default-clause-serves g c =
     serves_lost c.in-Ok.core 0
     (seen (g.L.Floor.seen c.args.floor.now) (g.D.Spool.seen c.args.spool.now) (g.C.Clock.seen c.args.clock.now))
     (seen (g.L.Floor.seen c.begin.new.self) (g.D.Spool.seen c.opened.new.spool) (g.C.Clock.seen c.args.clock.now))
@@ -26,10 +26,12 @@ loop-init g c = record {
   empty = c.in-Ok.ensures.empty;
   run = under_way_begin site start c.in-Ok.core (g.L.Floor.seen c.args.floor.now) (g.L.Floor.seen c.begin.new.self) (g.D.Spool.seen c.args.spool.now) (g.D.Spool.seen c.opened.new.spool) (g.C.Clock.seen c.args.clock.now)
       c.in-Ok.ensures.reads c.begin.ensures.told c.begin.ensures.cause.later c.in-Ok.ensures.later c.in-Ok.ensures.core;
+  floor = c.in-Ok-begin.ensures.calm;
+  spool = c.in-Ok.ensures.kept;
 }
 
-pub returns-in_default-turn : goal.returns-in_default-turn
-returns-in_default-turn g c =
+pub returns-in_default-turn-clause-serves : goal.returns-in_default-turn-clause-serves
+returns-in_default-turn-clause-serves g c =
     let u = c.loop.invariant.run in
     serves_lost c.loop.core c.loop.counter
     (seen (g.L.Floor.seen c.args.floor.now) (g.D.Spool.seen c.args.spool.now) (g.C.Clock.seen c.args.clock.now))
@@ -46,8 +48,8 @@ turn-requires-in-loop g c = record {
   standing = standing c.loop.core c.loop.counter (seen (g.L.Floor.seen c.args.floor.now) (g.D.Spool.seen c.args.spool.now) (g.C.Clock.seen c.args.clock.now)) (seen (g.L.Floor.seen c.loop.floor) (g.D.Spool.seen c.loop.spool) (g.C.Clock.seen c.loop.clock)) c.loop.invariant.run;
 }
 
-pub returns-in-Ends-Stopped : goal.returns-in-Ends-Stopped
-returns-in-Ends-Stopped g c =
+pub returns-in-Ends-Stopped-clause-serves : goal.returns-in-Ends-Stopped-clause-serves
+returns-in-Ends-Stopped-clause-serves g c =
     let u = c.loop.invariant.run in
     served_out c.loop.core c.turn-in-loop.new.self c.loop.counter
     (seen (g.L.Floor.seen c.args.floor.now) (g.D.Spool.seen c.args.spool.now) (g.C.Clock.seen c.args.clock.now))
@@ -59,8 +61,8 @@ returns-in-Ends-Stopped g c =
     c.in-Ok-turn.ensures.told c.in-Ok-turn.ensures.follows c.in-Ok-turn.ensures.cause.later c.now-reading.ensures.told c.now-reading.ensures.counted))
     c.now-reading.ensures.counted
 
-pub returns-in-Ends-SpoolFault : goal.returns-in-Ends-SpoolFault
-returns-in-Ends-SpoolFault g c =
+pub returns-in-Ends-SpoolFault-clause-serves : goal.returns-in-Ends-SpoolFault-clause-serves
+returns-in-Ends-SpoolFault-clause-serves g c =
     let u = c.loop.invariant.run in
     inr (served_out c.loop.core c.turn-in-loop.new.self c.loop.counter
     (seen (g.L.Floor.seen c.args.floor.now) (g.D.Spool.seen c.args.spool.now) (g.C.Clock.seen c.args.clock.now))
@@ -72,8 +74,8 @@ returns-in-Ends-SpoolFault g c =
     c.in-Ok-turn.ensures.told c.in-Ok-turn.ensures.follows c.in-Ok-turn.ensures.cause.later c.now-reading.ensures.told c.now-reading.ensures.counted))
     c.now-reading.ensures.counted)
 
-pub returns-in-Ends-IdsSpent : goal.returns-in-Ends-IdsSpent
-returns-in-Ends-IdsSpent g c =
+pub returns-in-Ends-IdsSpent-clause-serves : goal.returns-in-Ends-IdsSpent-clause-serves
+returns-in-Ends-IdsSpent-clause-serves g c =
     let u = c.loop.invariant.run in
     served_out c.loop.core c.turn-in-loop.new.self c.loop.counter
     (seen (g.L.Floor.seen c.args.floor.now) (g.D.Spool.seen c.args.spool.now) (g.C.Clock.seen c.args.clock.now))
@@ -99,11 +101,40 @@ loop-preserved g c =
           (taken (g.L.Floor.seen c.loop.floor) (g.L.Floor.seen c.turn.new.self) (g.C.Clock.seen c.loop.clock) (g.C.Clock.seen c.now-reading.new.self) c.in-Ok-turn.turn c.turn.new.buf c.now-reading.result
           c.in-Ok-turn.ensures.told c.in-Ok-turn.ensures.follows c.in-Ok-turn.ensures.cause.later c.now-reading.ensures.told c.now-reading.ensures.counted))
           c.now-reading.ensures.counted;
+      floor = c.turn-in-loop.ensures.own ∙ c.in-Ok-turn.ensures.calm ∙ c.loop.invariant.floor;
+      spool = c.turn-in-loop.ensures.calm (ap is_well c.in-GoesOn.is) ∙ c.loop.invariant.spool;
     }
 
-pub returns : goal.returns
-returns g c =
+pub returns-clause-serves : goal.returns-clause-serves
+returns-clause-serves g c =
     serves_spent c.loop.core c.loop.counter 1152921504606846976
     (seen (g.L.Floor.seen c.args.floor.now) (g.D.Spool.seen c.args.spool.now) (g.C.Clock.seen c.args.clock.now))
     (seen (g.L.Floor.seen c.loop.floor) (g.D.Spool.seen c.loop.spool) (g.C.Clock.seen c.loop.clock))
     c.loop.invariant.empty (g.met.D.Spool.only_now c.args.spool.now) (omega arith) refl c.loop.invariant.run
+
+pub returns-in_default-clause-rises_spool : goal.returns-in_default-clause-rises_spool
+returns-in_default-clause-rises_spool g c = inr c.in-Ok.ensures.kept
+
+pub returns-in_default-turn-clause-rises_spool : goal.returns-in_default-turn-clause-rises_spool
+returns-in_default-turn-clause-rises_spool g c = inr c.loop.invariant.spool
+
+pub returns-in-Ends-Stopped-clause-rises_floor : goal.returns-in-Ends-Stopped-clause-rises_floor
+returns-in-Ends-Stopped-clause-rises_floor g c = inr (c.turn-in-loop.ensures.own ∙ c.in-Ok-turn.ensures.calm ∙ c.loop.invariant.floor)
+
+pub returns-in-Ends-Stopped-clause-rises_spool : goal.returns-in-Ends-Stopped-clause-rises_spool
+returns-in-Ends-Stopped-clause-rises_spool g c = inr (c.turn-in-loop.ensures.calm (ap is_well (c.in-Ends-Stopped.is ∙ ap (λ e. Ends e) c.in-Ends-Stopped.field-0-is)) ∙ c.loop.invariant.spool)
+
+pub returns-in-Ends-SpoolFault-clause-rises_floor : goal.returns-in-Ends-SpoolFault-clause-rises_floor
+returns-in-Ends-SpoolFault-clause-rises_floor g c = inr (c.turn-in-loop.ensures.own ∙ c.in-Ok-turn.ensures.calm ∙ c.loop.invariant.floor)
+
+pub returns-in-Ends-IdsSpent-clause-rises_floor : goal.returns-in-Ends-IdsSpent-clause-rises_floor
+returns-in-Ends-IdsSpent-clause-rises_floor g c = inr (c.turn-in-loop.ensures.own ∙ c.in-Ok-turn.ensures.calm ∙ c.loop.invariant.floor)
+
+pub returns-in-Ends-IdsSpent-clause-rises_spool : goal.returns-in-Ends-IdsSpent-clause-rises_spool
+returns-in-Ends-IdsSpent-clause-rises_spool g c = inr (c.turn-in-loop.ensures.calm (ap is_well (c.in-Ends-IdsSpent.is ∙ ap (λ e. Ends e) c.in-Ends-IdsSpent.field-0-is)) ∙ c.loop.invariant.spool)
+
+pub returns-clause-rises_floor : goal.returns-clause-rises_floor
+returns-clause-rises_floor g c = inr c.loop.invariant.floor
+
+pub returns-clause-rises_spool : goal.returns-clause-rises_spool
+returns-clause-rises_spool g c = inr c.loop.invariant.spool

@@ -19,6 +19,8 @@ returns-in-Err g c = record {
   number = c.lack.ensures.number;
   lines = c.lack.ensures.lines;
   sound = c.lack.ensures.sound;
+  own = c.lack.ensures.own;
+  calm = λ well. refl;
 }
 
 pub returns-in_default-clause-accepts : goal.returns-in_default-clause-accepts

@@ -1,6 +1,7 @@
 use Rattle.std.proofs.Common.{◌≡◌, true, false, refl, sym, ◌∙◌, subst}
 use Rattle.mail_core.specs.Going.{is_onward}
 use Rattle.link_edge.specs.Heard.{IsSoundAt}
+use Rattle.mail_core.proofs.GoingLemmas.{well_onward}
 use Rattle.mail_core.proofs.FeedLemmas.{answers_none, answers_next, answers_cut, answers_all}
 use Rattle.mail_core.proofs.intake.Intake.answer_all.Goals as goal
 
@@ -12,6 +13,8 @@ loop-line-init g c = record {
   moment = refl;
   number = refl;
   reader = refl;
+  own = refl;
+  calm = refl;
   sound = c.requires.sound;
 }
 
@@ -28,6 +31,8 @@ loop-line-preserved g c =
       moment = k.moment ∙ h.moment;
       number = k.number ∙ h.number;
       reader = k.lines ∙ h.reader;
+      own = k.own ∙ h.own;
+      calm = k.calm (well_onward c.answer-last.result on) ∙ h.calm;
       sound = subst (IsSoundAt (g.F.Floor.seen c.answer-last.new.floor)) h.number (k.sound on);
     }
 
@@ -43,3 +48,9 @@ returns-then-not-is_onward-clause-answers g c = λ site d clock way serves talks
 pub returns-clause-answers : goal.returns-clause-answers
 returns-clause-answers g c = λ site d clock way serves talks only first.
     answers_all site c.args.self.now.moment d c.args.lines.now c.loop-line.line-index _ _ c.loop-line.self c.loop-line.caller c.loop-line.last c.loop-line-test.false (c.loop-line.invariant.answers site d clock way serves talks only first)
+
+pub returns-then-not-is_onward-clause-calm : goal.returns-then-not-is_onward-clause-calm
+returns-then-not-is_onward-clause-calm g c = λ well. c.answer-last.ensures.calm well ∙ c.loop-line.invariant.calm
+
+pub returns-clause-calm : goal.returns-clause-calm
+returns-clause-calm g c = λ well. c.loop-line.invariant.calm

@@ -21,5 +21,7 @@ invariant-loop-line g l = record {
   moment : l.self.moment ≡ l.fn.self.moment;
   number : l.caller.number ≡ l.fn.caller.number;
   reader : l.caller.lines ≡ l.fn.caller.lines;
+  own : (g.F.Floor.seen l.floor).faults ≡ (g.F.Floor.seen l.fn.floor).faults;
+  calm : (g.D.Spool.seen l.spool).faults ≡ (g.D.Spool.seen l.fn.spool).faults;
   sound : IsSoundAt (g.F.Floor.seen l.floor) l.fn.caller.number;
 }

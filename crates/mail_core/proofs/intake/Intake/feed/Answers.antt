@@ -3,6 +3,7 @@ use Rattle.smtp_lines.specs.Reader.{asked_after}
 use Rattle.smtp_lines.proofs.RunLemmas.{asked_after-turns}
 use Rattle.mail_core.specs.Going.{is_onward}
 use Rattle.link_edge.specs.Heard.{IsSoundAt}
+use Rattle.mail_core.proofs.GoingLemmas.{well_onward}
 use Rattle.mail_core.proofs.FeedLemmas.{pends_start, pends_more, batch_of, feeds_none, feeds_cut, feeds_lost, feeds_all, ready_lines, turned_lines}
 use Rattle.mail_core.proofs.intake.Intake.feed.Goals as goal
 
@@ -23,6 +24,8 @@ answers-init g c =
       all = k.all;
       ready = ready_lines c.args.self.now c.args.caller.now _ refl refl c.requires.ready;
       moment = refl;
+      own = refl;
+      calm = refl;
       sound = c.requires.sound;
     }
 
@@ -69,6 +72,8 @@ answers-preserved g c =
       all = m.all;
       ready = ready_lines c.answer_all-fed.new.self c.answer_all-fed.new.caller _ (ap (λ q. q.number) c.turn.ensures) (ap (λ q. q.session) c.turn.ensures) (k.ready on);
       moment = k.moment ∙ h.moment;
+      own = k.own ∙ h.own;
+      calm = k.calm (well_onward c.answer_all-fed.result on) ∙ h.calm;
       sound = subst (IsSoundAt (g.F.Floor.seen c.answer_all-fed.new.floor)) (sym k.number ∙ sym (ap (λ q. q.number) c.turn.ensures)) (k.sound on);
     }
 
@@ -81,3 +86,17 @@ returns-clause-feeds g c = λ site table guest clock serves keeps.
     batch_of site c.args.self.now.moment table guest c.args.piece.now c.answers.self.moment _ _ _ c.answers.self c.answer_all.new.self c.answers.caller c.answer_all.new.caller c.items-2.result.now c.answers.lines c.answer_all.result
     c.items-2.ensures h.moment (h.pends site table guest clock serves keeps) (λ d. k.answers site d clock) in
     feeds_all site c.args.self.now.moment table guest c.args.piece.now _ _ _ c.answers.lines c.answer_all.new.self c.answer_all.new.caller c.answer_all.result batch quiet (h.all quiet) k.lines
+
+pub returns-then-not-is_onward-clause-calm : goal.returns-then-not-is_onward-clause-calm
+returns-then-not-is_onward-clause-calm g c = λ well. c.answer_all-fed.ensures.calm well ∙ c.answers.invariant.calm
+
+pub returns-in_default-more-clause-own : goal.returns-in_default-more-clause-own
+returns-in_default-more-clause-own g c = c.drop_caller-in_default-more.ensures.own ∙ c.answer_all-fed.ensures.own ∙ c.answers.invariant.own
+
+pub returns-in_default-more-clause-calm : goal.returns-in_default-more-clause-calm
+returns-in_default-more-clause-calm g c = λ well.
+    let on : is_onward c.answer_all-fed.result ≡ true = sym c.is_onward.ensures ∙ c.if-not-is_onward.false in
+    c.answer_all-fed.ensures.calm (well_onward c.answer_all-fed.result on) ∙ c.answers.invariant.calm
+
+pub returns-clause-calm : goal.returns-clause-calm
+returns-clause-calm g c = λ well. c.answer_all.ensures.calm well ∙ c.answers.invariant.calm

@@ -20,6 +20,8 @@ invariant-answers g l = record {
   all : asked_after false l.lines ≡ false → l.caller.lines.left ≡ [];
   ready : IsReady l.self l.caller;
   moment : l.self.moment ≡ l.fn.self.moment;
+  own : (g.F.Floor.seen l.floor).faults ≡ (g.F.Floor.seen l.fn.floor).faults;
+  calm : (g.D.Spool.seen l.spool).faults ≡ (g.D.Spool.seen l.fn.spool).faults;
   sound : IsSoundAt (g.F.Floor.seen l.floor) l.caller.number;
 }
 

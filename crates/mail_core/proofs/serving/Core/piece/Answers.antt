@@ -4,7 +4,8 @@ use Rattle.mail_core.specs.Events.{Steps}
 use Rattle.mail_core.specs.Guests.{guest_of}
 use Rattle.mail_core.specs.Machine.{pieced}
 use Rattle.mail_core.specs.Seen.{seen}
-use Rattle.mail_core.proofs.CoreLemmas.{piece_dropped, piece_goes, piece_leaves}
+use Rattle.mail_core.proofs.CoreLemmas.{piece_dropped, piece_goes, piece_leaves, well_went}
+use Rattle.mail_core.proofs.GoingLemmas.{well_onward}
 use Rattle.mail_core.proofs.serving.Core.piece.Goals as goal
 
 pub returns-in_default-clause-steps : goal.returns-in_default-clause-steps
@@ -28,3 +29,9 @@ returns-clause-steps g c = λ site m clock st.
     (c.feed-fed.ensures.feeds site m.table t.guest clock t.stands.intake t.keeps) in
     subst (Steps site (λ choices. pieced site m c.args.piece.now choices (guest_of c.args.session m.guests)) m.table a b (record c.take.new.self { intake = c.feed-fed.new.self })) (sym c.went_after.ensures)
     (piece_leaves site m c.args.session c.args.piece.now a b _ t.guest c.feed-fed.new.self c.feed-fed.new.caller c.feed-fed.result t.is t.alone h c.take.new.self (sym c.is_onward.ensures ∙ c.if-is_onward.false) t.stands refl (c.feed-fed.ensures.moment ∙ t.stands.latest))
+
+pub returns-then-is_onward-clause-calm : goal.returns-then-is_onward-clause-calm
+returns-then-is_onward-clause-calm g c = λ well. c.feed-fed.ensures.calm (well_onward c.feed-fed.result (sym c.is_onward.ensures ∙ c.if-is_onward.true))
+
+pub returns-clause-calm : goal.returns-clause-calm
+returns-clause-calm g c = λ well. c.feed-fed.ensures.calm (well_went c.feed-fed.result c.went_after.result c.went_after.ensures well)

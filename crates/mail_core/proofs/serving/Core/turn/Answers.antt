@@ -13,4 +13,6 @@ returns g c = record {
       turns_of site m _ c.args.reading before _ _ clock read _ _ _ st.on taken
       (c.handle.ensures.steps site (at_moment m c.args.reading) read (at_stands site m c.args.self.now c.at.new.self c.args.reading st c.at.ensures.moment c.at.ensures.range))
       c.handle.ensures.stopped;
+  own = c.handle.ensures.own;
+  calm = c.handle.ensures.calm;
 }
