@@ -1,3 +1,4 @@
+pub mod Begins
 pub mod Heard
 pub mod Sessions
 pub mod Single

@@ -3,15 +3,16 @@ use Rattle.std.specs.Prelude.{◌≡◌, ◌⊎◌, ◌≤◌, ℕ, ◌-◌, ◌
 use Rattle.mail_base.specs.Histories.{Rose}
 use Rattle.mail_edge.specs.Moves.{Loses}
 use Rattle.mail_edge.specs.Seen.{SourceSeen, SinkSeen}
+use Rattle.link_edge.specs.Begins.{Beginnings}
 use Rattle.link_edge.specs.Heard.{Heard}
 use Rattle.link_edge.specs.declared.one_floor.Stage.{Stage}
 use Rattle.link_edge.specs.declared.one_floor.Stage.TheVariants.{Before, During, After}
 use Rattle.link_edge.specs.declared.turn.Turn.{Turn}
 use Rattle.link_edge.specs.declared.turn.Turn.TheVariants.{Opened, Piece, Closed, Idle, Stop}
 
--- what is seen of the floor, by what is seen of its sink: it tells nothing, the session's count is the sink's, and that of any other number stands at the greatest
-abbrev pub one_heard : SinkSeen → Heard
-one_heard sink = record { told = None; faults = 0; session_faults = λ session. if nat_eq session 1 then sink.faults else 2 ^ 64 - 1 }
+-- what is seen of the floor, by how it was begun and what is seen of its sink: it tells nothing else, the session's count is the sink's, and that of any other number stands at the greatest
+abbrev pub one_heard : Beginnings → SinkSeen → Heard
+one_heard begun sink = record { told = None; begun = begun; faults = 0; session_faults = λ session. if nat_eq session 1 then sink.faults else 2 ^ 64 - 1 }
 
 -- the source gave these bytes, and the session goes on
 pub record GoesOn (now : Stage) (session : ℕ) (bytes : List ℕ) (old new : SourceSeen) : Type 0 where

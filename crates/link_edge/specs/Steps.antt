@@ -6,6 +6,7 @@ use Rattle.link_edge.specs.declared.event.FloorEvent.{FloorEvent}
 use Rattle.link_edge.specs.declared.event.FloorEvent.TheVariants.{Took, Sent, Unsent, HungUp}
 use Rattle.link_edge.specs.declared.step.Step.{Step}
 use Rattle.link_edge.specs.declared.step.Step.TheVariants.{Open, Say, Close, Rest}
+use Rattle.link_edge.specs.Begins.{Beginnings}
 use Rattle.link_edge.specs.Heard.{Heard}
 use Rattle.link_edge.specs.Sessions.{Follows, is_open, is_sound}
 use Rattle.link_edge.specs.Turns.{Fits, told_of}
@@ -80,5 +81,5 @@ abbrev pub session_count : List FloorEvent → ℕ → ℕ
 session_count told session = count_by (is_unsent session) told
 
 -- what is seen of the floor
-abbrev pub script_heard : List FloorEvent → ℕ → Heard
-script_heard told faults = record { told = Some told; faults = faults; session_faults = session_count told }
+abbrev pub script_heard : List FloorEvent → Beginnings → ℕ → Heard
+script_heard told begun faults = record { told = Some told; begun = begun; faults = faults; session_faults = session_count told }

@@ -1,5 +1,6 @@
 ghost use Rattle.std.specs.Prelude.{◌≡◌, ◌≤◌, ◌∷◌, [], ℕ, length, IfOk, IfSome, OnOk, is_ok};
 ghost use Rattle.mail_base.specs.Histories.{Gains, HasCause};
+ghost use Rattle.link_edge.specs.Begins.{begun_after};
 ghost use Rattle.link_edge.specs.Heard.{Heard, IsOpenAt, IsSoundAt, KeepsCounts};
 ghost use Rattle.link_edge.specs.Sessions.{Follows, send_event};
 ghost use Rattle.link_edge.specs.Turns.{Fits, GainsTurn, told_of};
@@ -18,9 +19,12 @@ pub trait Floor {
     ghost seen: { Self → Heard };
 
     /// Begins at that place. `most` is how many sessions are wanted, and 0 is no limit: a floor at a port
-    /// answers `Stop` once so many were closed, and those in memory end by themselves. It isn't told.
+    /// answers `Stop` once so many were closed, and those in memory end by themselves. It is no event of
+    /// the history: each floor, also one that tells nothing, has how it was begun in a record of its own,
+    /// whatever the answer was.
     fn begin(&mut self, place: &Place, most: u64) -> Result<(), Failed>
         ensures told { (seen self.new).told ≡ (seen self.old).told }
+        ensures begun { (seen self.new).begun ≡ begun_after (seen self.old).begun place.now most }
         ensures cause { HasCause (seen self.old).faults (seen self.new).faults result }
         ensures calm { OnOk result ((seen self.new).faults ≡ (seen self.old).faults) }
         ensures counts { KeepsCounts (seen self.old) (seen self.new) };
@@ -32,6 +36,7 @@ pub trait Floor {
     fn turn(&mut self, buf: &mut [u8]) -> Result<Turn, Failed>
         requires { 64 ≤ length buf.old }
         ensures told { GainsTurn (seen self.old).told (seen self.new).told result buf.new }
+        ensures begun { (seen self.new).begun ≡ (seen self.old).begun }
         ensures fits { IfOk result (λ turn. Fits turn buf.new) }
         ensures follows { IfOk result (λ turn. IfSome (seen self.old).told (λ history. Follows history (told_of turn buf.new))) }
         ensures cause { HasCause (seen self.old).faults (seen self.new).faults result }
@@ -43,6 +48,7 @@ pub trait Floor {
     fn send(&mut self, session: u64, bytes: &Text) -> Result<(), Failed>
         requires sound { IsSoundAt (seen self.old) session }
         ensures told { Gains (seen self.old).told (seen self.new).told (send_event session bytes.now (is_ok result) ∷ []) }
+        ensures begun { (seen self.new).begun ≡ (seen self.old).begun }
         ensures cause { HasCause ((seen self.old).session_faults session) ((seen self.new).session_faults session) result }
         ensures calm { OnOk result (IfSome (seen self.old).told (λ _. (seen self.new).session_faults session ≡ (seen self.old).session_faults session)) }
         ensures others { (other : ℕ) → (seen self.old).session_faults other ≤ (seen self.new).session_faults other }
@@ -52,6 +58,7 @@ pub trait Floor {
     fn hang_up(&mut self, session: u64)
         requires live { IsOpenAt (seen self.old) session }
         ensures told { Gains (seen self.old).told (seen self.new).told (HungUp session ∷ []) }
+        ensures begun { (seen self.new).begun ≡ (seen self.old).begun }
         ensures own { (seen self.new).faults ≡ (seen self.old).faults }
         ensures counts { KeepsCounts (seen self.old) (seen self.new) };
 }

@@ -2,6 +2,7 @@
 //! its faults and may tell what happened, as the forms in memory do.
 #![tactic(auto)]
 
+mod begun;
 mod event;
 mod floor;
 mod hearing;
@@ -13,6 +14,7 @@ mod step;
 mod telling;
 mod turn;
 
+pub use begun::{Begun, Calls};
 pub use event::{Event, FloorEvent};
 pub use floor::Floor;
 pub use law::{numbers_are_used_once, sessions_follow_events};

@@ -1,12 +1,13 @@
 ghost use Rattle.std.specs.Prelude.{◌≡◌, ◌≢◌, ◌≤◌, ◌<◌, ℕ, [], length, take, Option, None, IfOk, IsOk, OnOk, OnErr, IsErr, nat_eq, if◌then◌else◌, ◌-◌, ◌^◌};
 ghost use Rattle.mail_base.specs.Histories.{Gains, HasCause};
 ghost use Rattle.mail_edge.specs.Moves.{GainsPart};
+ghost use Rattle.link_edge.specs.Begins.{Never, begun_after};
 ghost use Rattle.link_edge.specs.Single.{Hears, one_heard};
 ghost use Rattle.link_edge.specs.Turns.{Fits};
 ghost use Rattle.link_edge.specs.declared.one_floor.Stage.TheVariants.{Before, During, After};
 ghost use Rattle.link_edge.specs.declared.turn.Turn.TheVariants.{Closed};
 
-use crate::{Floor, Place, Turn};
+use crate::{Begun, Floor, Place, Turn};
 use mail_base::{Failed, Text};
 use mail_edge::{Sink, Source};
 
@@ -30,17 +31,19 @@ pub struct OneFloor<I, O> {
     pub source: I,
     pub sink: O,
     pub stage: Stage,
+    begun: Begun,
 }
 
 impl<I: Source, O: Sink> OneFloor<I, O> {
     /// A floor whose session is not opened yet.
     pub fn new(source: I, sink: O) -> OneFloor<I, O>
-        ensures { result ≡ record { source = source; sink = sink; stage = Before } }
+        ensures { result ≡ record { source = source; sink = sink; stage = Before; begun = Never } }
     {
         OneFloor {
             source,
             sink,
             stage: Stage::Before,
+            begun: Begun::never(),
         }
     }
 
@@ -56,6 +59,7 @@ impl<I: Source, O: Sink> OneFloor<I, O> {
         requires during { self.old.stage ≡ During }
         requires room { 0 < length buf.old }
         ensures sink { self.new.sink ≡ self.old.sink }
+        ensures begun { self.new.begun ≡ self.old.begun }
         ensures fits { Fits result buf.new }
         ensures heard { Hears self.old.stage self.new.stage result (I.seen self.old.source) (I.seen self.new.source) buf.new }
     {
@@ -72,12 +76,13 @@ impl<I: Source, O: Sink> OneFloor<I, O> {
 }
 
 impl<I: Source, O: Sink> Floor for OneFloor<I, O> {
-    ghost seen = { λ f. one_heard (O.seen f.sink) };
+    ghost seen = { λ f. one_heard f.begun (O.seen f.sink) };
 
-    fn begin(&mut self, _place: &Place, _most: u64) -> Result<(), Failed>
+    fn begin(&mut self, place: &Place, most: u64) -> Result<(), Failed>
         ensures sure { IsOk result }
-        ensures same { self.new ≡ self.old }
+        ensures same { self.new ≡ record self.old { begun = begun_after self.old.begun place.now most } }
     {
+        self.begun.note(place, most);
         Ok(())
     }
 
@@ -85,6 +90,7 @@ impl<I: Source, O: Sink> Floor for OneFloor<I, O> {
         requires { 64 ≤ length buf.old }
         ensures sure { IsOk result }
         ensures sink { self.new.sink ≡ self.old.sink }
+        ensures begun { self.new.begun ≡ self.old.begun }
         ensures fits { IfOk result (λ turn. Fits turn buf.new) }
         ensures heard { IfOk result (λ turn. Hears self.old.stage self.new.stage turn (I.seen self.old.source) (I.seen self.new.source) buf.new) }
     {
@@ -100,12 +106,13 @@ impl<I: Source, O: Sink> Floor for OneFloor<I, O> {
 
     fn send(&mut self, session: u64, bytes: &Text) -> Result<(), Failed>
         ensures stage { self.new.stage ≡ self.old.stage }
+        ensures begun { self.new.begun ≡ self.old.begun }
         ensures source { self.new.source ≡ self.old.source }
         ensures written { session ≡ 1 → OnOk result (Gains (O.seen self.old.sink).written (O.seen self.new.sink).written bytes.now) }
         ensures part { session ≡ 1 → OnErr result (GainsPart (O.seen self.old.sink).written (O.seen self.new.sink).written bytes.now) }
-        ensures cause { HasCause ((one_heard (O.seen self.old.sink)).session_faults session) ((one_heard (O.seen self.new.sink)).session_faults session) result }
-        ensures calm { OnOk result ((one_heard (O.seen self.new.sink)).session_faults session ≡ (one_heard (O.seen self.old.sink)).session_faults session) }
-        ensures others { (other : ℕ) → (one_heard (O.seen self.old.sink)).session_faults other ≤ (one_heard (O.seen self.new.sink)).session_faults other }
+        ensures cause { HasCause ((one_heard self.old.begun (O.seen self.old.sink)).session_faults session) ((one_heard self.new.begun (O.seen self.new.sink)).session_faults session) result }
+        ensures calm { OnOk result ((one_heard self.new.begun (O.seen self.new.sink)).session_faults session ≡ (one_heard self.old.begun (O.seen self.old.sink)).session_faults session) }
+        ensures others { (other : ℕ) → (one_heard self.old.begun (O.seen self.old.sink)).session_faults other ≤ (one_heard self.new.begun (O.seen self.new.sink)).session_faults other }
         ensures strange { session ≢ 1 → self.new.sink ≡ self.old.sink }
         ensures refused { session ≢ 1 → IsErr result }
     {

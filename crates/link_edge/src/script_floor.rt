@@ -1,6 +1,7 @@
 ghost use Rattle.std.specs.Prelude.{◌≡◌, ◌≤◌, ◌++◌, ◌∷◌, [], ℕ, List, length, take, drop, Some, true, false, not, ◌&&◌, is_ok, is_err, IfOk, IsErr, OnOk, OnErr, if◌then◌else◌};
 ghost use Rattle.mail_base.specs.Histories.{HasCause};
 ghost use Rattle.mail_base.specs.Scripts.{is_listed, after_call, one_more};
+ghost use Rattle.link_edge.specs.Begins.{Never, begun_after};
 ghost use Rattle.link_edge.specs.Heard.{KeepsCounts};
 ghost use Rattle.link_edge.specs.Sessions.{Follows, is_open, is_sound, send_event};
 ghost use Rattle.link_edge.specs.Steps.{IsHeard, later_steps, next_event, script_heard, session_count, unsaid};
@@ -9,7 +10,7 @@ ghost use Rattle.link_edge.specs.declared.event.FloorEvent.TheVariants.{HungUp, 
 
 use crate::hearing::hear;
 use crate::telling::Telling;
-use crate::{Event, Floor, FloorEvent, Place, Step, Turn};
+use crate::{Begun, Event, Floor, FloorEvent, Place, Step, Turn};
 use mail_base::{Failed, NoMemory, Script, Seq, Text, TryCopy};
 use std::alloc::Global;
 
@@ -26,6 +27,7 @@ pub struct ScriptFloor {
     at: usize,
     said: usize,
     told: Telling,
+    begun: Begun,
     pub turns: Script,
     pub sends: Script,
     pub starved: u64,
@@ -39,6 +41,7 @@ impl Drop for ScriptFloor {
             at: _,
             said: _,
             told: _,
+            begun: _,
             turns: _,
             sends: _,
             starved: _,
@@ -57,6 +60,7 @@ impl ScriptFloor {
     ) -> ScriptFloor
         ensures steps { unsaid result.said (drop result.at result.steps) ≡ unsaid 0 steps }
         ensures told { result.told ≡ [] }
+        ensures begun { result.begun ≡ Never }
         ensures turns { result.turns ≡ record { failing = failing_turns; calls = 0; faults = 0 } }
         ensures sends { result.sends ≡ record { failing = failing_sends; calls = 0; faults = 0 } }
         ensures starved { result.starved ≡ 0 }
@@ -66,6 +70,7 @@ impl ScriptFloor {
             at: 0,
             said: 0,
             told: Telling::new(alloc),
+            begun: Begun::never(),
             turns: Script::new(failing_turns),
             sends: Script::new(failing_sends),
             starved: 0,
@@ -102,6 +107,7 @@ impl ScriptFloor {
         ensures turns { self.new.turns ≡ self.old.turns }
         ensures sends { self.new.sends ≡ self.old.sends }
         ensures starved { self.new.starved ≡ self.old.starved }
+        ensures begun { self.new.begun ≡ self.old.begun }
     {
         let _bound = self.steps.len();
         let Some(step) = self.steps.get(self.at) else {
@@ -131,6 +137,7 @@ impl ScriptFloor {
         ensures turns { self.new.turns ≡ record self.old.turns { faults = if is_err result then one_more self.old.turns.faults else self.old.turns.faults } }
         ensures sends { self.new.sends ≡ self.old.sends }
         ensures starved { self.new.starved ≡ (if is_err result then one_more self.old.starved else self.old.starved) }
+        ensures begun { self.new.begun ≡ self.old.begun }
         ensures cause { HasCause self.old.turns.faults self.new.turns.faults result }
     {
         match self.next(buf) {
@@ -153,6 +160,7 @@ impl ScriptFloor {
         ensures turns { self.new.turns ≡ self.old.turns }
         ensures sends { self.new.sends ≡ record self.old.sends { faults = if is_err result then one_more self.old.sends.faults else self.old.sends.faults } }
         ensures starved { self.new.starved ≡ (if is_err result then one_more self.old.starved else self.old.starved) }
+        ensures begun { self.new.begun ≡ self.old.begun }
     {
         if tell_sent(&mut self.told, session, bytes).is_err() {
             self.sends.fail();
@@ -173,6 +181,7 @@ impl ScriptFloor {
         ensures turns { self.new.turns ≡ self.old.turns }
         ensures sends { self.new.sends ≡ self.old.sends }
         ensures starved { self.new.starved ≡ self.old.starved }
+        ensures begun { self.new.begun ≡ self.old.begun }
     {
         self.told.lose(session);
     }
@@ -188,14 +197,15 @@ fn tell_sent(told: &mut Telling, session: u64, bytes: &Text) -> Result<(), NoMem
 }
 
 impl Floor for ScriptFloor {
-    ghost seen = { λ f. script_heard f.told f.turns.faults };
+    ghost seen = { λ f. script_heard f.told f.begun f.turns.faults };
 
-    fn begin(&mut self, _place: &Place, _most: u64) -> Result<(), Failed>
+    fn begin(&mut self, place: &Place, most: u64) -> Result<(), Failed>
         ensures fails { is_err result ≡ is_listed self.old.turns }
-        ensures counted { self.new ≡ record self.old { turns = after_call self.old.turns (is_err result) } }
+        ensures counted { self.new ≡ record self.old { begun = begun_after self.old.begun place.now most; turns = after_call self.old.turns (is_err result) } }
         ensures cause { HasCause self.old.turns.faults self.new.turns.faults result }
         ensures calm { OnOk result (self.new.turns.faults ≡ self.old.turns.faults) }
     {
+        self.begun.note(place, most);
         self.turns.call()
     }
 
@@ -204,6 +214,7 @@ impl Floor for ScriptFloor {
         ensures listed { is_listed self.old.turns ≡ true → IsErr result }
         ensures counted { self.new.turns ≡ after_call self.old.turns (is_err result) }
         ensures starved { self.new.starved ≡ (if is_err result && not (is_listed self.old.turns) then one_more self.old.starved else self.old.starved) }
+        ensures begun { self.new.begun ≡ self.old.begun }
         ensures heard { IfOk result (λ turn. IsHeard self.old.told self.new.told (next_event self.old.told (length buf.old) (unsaid self.old.said (drop self.old.at self.old.steps))) turn buf.new) }
         ensures later { OnOk result (unsaid self.new.said (drop self.new.at self.new.steps) ≡ later_steps self.old.told (length buf.old) (unsaid self.old.said (drop self.old.at self.old.steps))) }
         ensures kept { OnErr result (unsaid self.new.said (drop self.new.at self.new.steps) ≡ unsaid self.old.said (drop self.old.at self.old.steps)) }
@@ -214,7 +225,7 @@ impl Floor for ScriptFloor {
         ensures follows { IfOk result (λ turn. Follows self.old.told (told_of turn buf.new)) }
         ensures cause { HasCause self.old.turns.faults self.new.turns.faults result }
         ensures calm { OnOk result (self.new.turns.faults ≡ self.old.turns.faults) }
-        ensures counts { KeepsCounts (script_heard self.old.told self.old.turns.faults) (script_heard self.new.told self.new.turns.faults) }
+        ensures counts { KeepsCounts (script_heard self.old.told self.old.begun self.old.turns.faults) (script_heard self.new.told self.new.begun self.new.turns.faults) }
     {
         self.turns.call()?;
         self.fed_turn(buf)
@@ -225,6 +236,7 @@ impl Floor for ScriptFloor {
         ensures listed { is_listed self.old.sends ≡ true → IsErr result }
         ensures counted { self.new.sends ≡ after_call self.old.sends (is_err result) }
         ensures starved { self.new.starved ≡ (if is_err result && not (is_listed self.old.sends) then one_more self.old.starved else self.old.starved) }
+        ensures begun { self.new.begun ≡ self.old.begun }
         ensures told { self.new.told ≡ self.old.told ++ send_event session bytes.now (is_ok result) ∷ [] }
         ensures steps { unsaid self.new.said (drop self.new.at self.new.steps) ≡ unsaid self.old.said (drop self.old.at self.old.steps) }
         ensures turns { self.new.turns ≡ self.old.turns }
@@ -246,7 +258,8 @@ impl Floor for ScriptFloor {
         ensures turns { self.new.turns ≡ self.old.turns }
         ensures sends { self.new.sends ≡ self.old.sends }
         ensures starved { self.new.starved ≡ self.old.starved }
-        ensures counts { KeepsCounts (script_heard self.old.told self.old.turns.faults) (script_heard self.new.told self.new.turns.faults) }
+        ensures begun { self.new.begun ≡ self.old.begun }
+        ensures counts { KeepsCounts (script_heard self.old.told self.old.begun self.old.turns.faults) (script_heard self.new.told self.new.begun self.new.turns.faults) }
     {
         self.told.hang_up(session);
     }

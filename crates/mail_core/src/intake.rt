@@ -76,6 +76,7 @@ impl Intake {
         ensures told { Gains (F.seen floor.old).told (F.seen floor.new).told (heard_of (speech session text.now (is_onward result))) }
         ensures sound { is_onward result ≡ true → IsSoundAt (F.seen floor.new) session }
         ensures own { (F.seen floor.new).faults ≡ (F.seen floor.old).faults }
+        ensures begun { (F.seen floor.new).begun ≡ (F.seen floor.old).begun }
         ensures fed { (result ≡ Fed.GoesOn) ⊎ (result ≡ Fed.HungUp) }
     {
         if say(floor, session, text) {
@@ -90,6 +91,7 @@ impl Intake {
         ensures told { Gains (F.seen floor.old).told (F.seen floor.new).told (heard_of (speech session text.now (is_onward result))) }
         ensures sound { is_onward result ≡ true → IsSoundAt (F.seen floor.new) session }
         ensures own { (F.seen floor.new).faults ≡ (F.seen floor.old).faults }
+        ensures begun { (F.seen floor.new).begun ≡ (F.seen floor.old).begun }
         ensures fed { (result ≡ Fed.Granted) ⊎ (result ≡ Fed.HungUp) }
     {
         if say(floor, session, text) {
@@ -104,6 +106,7 @@ impl Intake {
         ensures told { Gains (F.seen floor.old).told (F.seen floor.new).told (heard_of (speech caller.old.number self.now.short (is_onward result))) }
         ensures sound { is_onward result ≡ true → IsSoundAt (F.seen floor.new) caller.old.number }
         ensures own { (F.seen floor.new).faults ≡ (F.seen floor.old).faults }
+        ensures begun { (F.seen floor.new).begun ≡ (F.seen floor.old).begun }
         ensures fed { (result ≡ Fed.GoesOn) ⊎ (result ≡ Fed.HungUp) }
         ensures number { caller.new.number ≡ caller.old.number }
         ensures lines { caller.new.lines ≡ caller.old.lines }
@@ -153,6 +156,7 @@ impl Intake {
             (seen (F.seen floor.new) (D.seen spool.new) clock)
             self.new caller.old caller.new result }
         ensures own { (F.seen floor.new).faults ≡ (F.seen floor.old).faults }
+        ensures begun { (F.seen floor.new).begun ≡ (F.seen floor.old).begun }
         ensures calm { is_well result ≡ true → (D.seen spool.new).faults ≡ (D.seen spool.old).faults }
         ensures moment { self.new.moment ≡ self.old.moment }
         ensures number { caller.new.number ≡ caller.old.number }
@@ -190,6 +194,7 @@ impl Intake {
             self.new caller.new result }
         ensures ready { is_onward result ≡ true → IsReady self.new caller.new }
         ensures own { (F.seen floor.new).faults ≡ (F.seen floor.old).faults }
+        ensures begun { (F.seen floor.new).begun ≡ (F.seen floor.old).begun }
         ensures calm { is_well result ≡ true → (D.seen spool.new).faults ≡ (D.seen spool.old).faults }
         ensures moment { self.new.moment ≡ self.old.moment }
         ensures number { caller.new.number ≡ caller.old.number }
@@ -224,6 +229,7 @@ impl Intake {
             self.new caller.new result }
         ensures ready { is_onward result ≡ true → IsReady self.new caller.new }
         ensures own { (F.seen floor.new).faults ≡ (F.seen floor.old).faults }
+        ensures begun { (F.seen floor.new).begun ≡ (F.seen floor.old).begun }
         ensures calm { is_well result ≡ true → (D.seen spool.new).faults ≡ (D.seen spool.old).faults }
         ensures moment { self.new.moment ≡ self.old.moment }
         ensures number { caller.new.number ≡ caller.old.number }
@@ -257,6 +263,7 @@ impl Intake {
             (seen (F.seen floor.new) (D.seen spool.new) clock)
             self.new caller.new result }
         ensures own { (F.seen floor.new).faults ≡ (F.seen floor.old).faults }
+        ensures begun { (F.seen floor.new).begun ≡ (F.seen floor.old).begun }
         ensures calm { is_well result ≡ true → (D.seen spool.new).faults ≡ (D.seen spool.old).faults }
         ensures moment { self.new.moment ≡ self.old.moment }
     {
@@ -284,6 +291,7 @@ pub(crate) fn part<F: Floor>(floor: &mut F, session: u64, text: &Text) -> Fed
     requires sound { IsSoundAt (F.seen floor.old) session }
     ensures told { (whole : Bool) × Gains (F.seen floor.old).told (F.seen floor.new).told (heard_of (Sends session text.now whole ∷ HangsUp session ∷ [])) }
     ensures own { (F.seen floor.new).faults ≡ (F.seen floor.old).faults }
+    ensures begun { (F.seen floor.new).begun ≡ (F.seen floor.old).begun }
     ensures fed { result ≡ Fed.HungUp }
 {
     if say(floor, session, text) {
@@ -297,6 +305,7 @@ fn drop_caller<F: Floor>(floor: &mut F, session: u64) -> Fed
     requires sound { IsSoundAt (F.seen floor.old) session }
     ensures told { Gains (F.seen floor.old).told (F.seen floor.new).told (heard_of (HangsUp session ∷ [])) }
     ensures own { (F.seen floor.new).faults ≡ (F.seen floor.old).faults }
+    ensures begun { (F.seen floor.new).begun ≡ (F.seen floor.old).begun }
     ensures fed { result ≡ Fed.HungUp }
 {
     floor.hang_up(session);

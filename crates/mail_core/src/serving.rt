@@ -113,6 +113,7 @@ impl Core {
             (seen (F.seen floor.new) (D.seen spool.new) read)
             self.new result }
         ensures own { (F.seen floor.new).faults ≡ (F.seen floor.old).faults }
+        ensures begun { (F.seen floor.new).begun ≡ (F.seen floor.old).begun }
         ensures calm { is_well result ≡ true → (D.seen spool.new).faults ≡ (D.seen spool.old).faults }
     {
         self.intake.at(reading);
@@ -137,6 +138,7 @@ impl Core {
             self.new result }
         ensures stopped { result ≡ Went.Ends Ending.Stopped → event_of turn buf.now ≡ Stops }
         ensures own { (F.seen floor.new).faults ≡ (F.seen floor.old).faults }
+        ensures begun { (F.seen floor.new).begun ≡ (F.seen floor.old).begun }
         ensures calm { is_well result ≡ true → (D.seen spool.new).faults ≡ (D.seen spool.old).faults }
     {
         match turn {
@@ -161,6 +163,7 @@ impl Core {
         ensures opens { (site : Site) (m : State) → Stands site self.old m
             → IsOpened site m session peer.now (F.seen floor.old) (F.seen floor.new) self.new }
         ensures own { (F.seen floor.new).faults ≡ (F.seen floor.old).faults }
+        ensures begun { (F.seen floor.new).begun ≡ (F.seen floor.old).begun }
     {
         if self.hosts(session) {
             return;
@@ -184,6 +187,7 @@ impl Core {
         requires sound { IsSoundAt (F.seen floor.old) session }
         ensures told { (whole : Bool) × Gains (F.seen floor.old).told (F.seen floor.new).told (heard_of (Sends session self.now.full whole ∷ HangsUp session ∷ [])) }
         ensures own { (F.seen floor.new).faults ≡ (F.seen floor.old).faults }
+        ensures begun { (F.seen floor.new).begun ≡ (F.seen floor.old).begun }
     {
         let _told = part(floor, session, &self.full);
     }
@@ -243,6 +247,7 @@ impl Core {
             self.new result }
         ensures stopped { result ≢ Went.Ends Ending.Stopped }
         ensures own { (F.seen floor.new).faults ≡ (F.seen floor.old).faults }
+        ensures begun { (F.seen floor.new).begun ≡ (F.seen floor.old).begun }
         ensures calm { is_well result ≡ true → (D.seen spool.new).faults ≡ (D.seen spool.old).faults }
     {
         let Some(mut caller) = self.take(session) else {

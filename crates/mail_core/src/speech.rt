@@ -12,6 +12,7 @@ pub(crate) fn say<F: Floor>(floor: &mut F, session: u64, text: &Text) -> bool
     ensures told { Gains (F.seen floor.old).told (F.seen floor.new).told (heard_of (speech session text.now result)) }
     ensures sound { IsTrue result → IsSoundAt (F.seen floor.new) session }
     ensures own { (F.seen floor.new).faults ≡ (F.seen floor.old).faults }
+    ensures begun { (F.seen floor.new).begun ≡ (F.seen floor.old).begun }
 {
     if floor.send(session, text).is_err() {
         floor.hang_up(session);

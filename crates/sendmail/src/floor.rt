@@ -1,11 +1,11 @@
-// The program's floor: standard input and output, or a port. It tells nothing but its counts.
+// The program's floor: standard input and output, or a port. It tells nothing but how it was begun and its counts.
 ghost use Rattle.std.specs.Prelude.{◌≡◌, ◌≤◌, IfOk, None, length};
 ghost use Rattle.link_edge.specs.Turns.{Fits};
 
 use crate::limits::Limits;
 use crate::port::Port;
 use crate::standard::{Standard, Wires};
-use link_edge::{Floor, Place, Turn};
+use link_edge::{Begun, Floor, Place, Turn};
 use mail_base::{Failed, Text};
 use std::io;
 use std::io::{ErrorKind, Read, Write};
@@ -13,6 +13,7 @@ use std::io::{ErrorKind, Read, Write};
 /// One session on a reader and a writer, or, once it began at a port, many there.
 pub struct SystemFloor<R, W> {
     site: Site<R, W>,
+    begun: Begun,
     faults: u64,
     send_faults: u64,
 }
@@ -31,6 +32,7 @@ impl<R: Drop, W: Drop> Drop for SystemFloor<R, W> {
     fn drop(self) {
         let SystemFloor {
             site: _,
+            begun: _,
             faults: _,
             send_faults: _,
         } = self;
@@ -53,6 +55,7 @@ impl<R: Read, W: Write> SystemFloor<R, W> {
                 standard: Standard::new(reader, writer, wires, limits.silence),
                 port: None,
             },
+            begun: Begun::never(),
             faults: 0,
             send_faults: 0,
         }
@@ -137,9 +140,10 @@ impl<R: Read, W: Write> Site<R, W> {
 }
 
 impl<R: Read, W: Write> Floor for SystemFloor<R, W> {
-    ghost seen = { λ f. record { told = None; faults = f.faults; session_faults = λ _. f.send_faults } };
+    ghost seen = { λ f. record { told = None; begun = f.begun; faults = f.faults; session_faults = λ _. f.send_faults } };
 
     fn begin(&mut self, place: &Place, most: u64) -> Result<(), Failed> {
+        self.begun.note(place, most);
         match self.site.begin(place, most) {
             Ok(()) => Ok(()),
             Err(_) => {

@@ -35,7 +35,7 @@ use Rattle.mail_core.specs.Standing.{Stands, Stores, IsStanding, dirs_of}
 use Rattle.sendmail_run.specs.declared.outcome.Outcome.{Outcome}
 use Rattle.sendmail_run.specs.declared.outcome.Outcome.TheVariants as ends
 use Rattle.sendmail_run.specs.Opening.{HasRefused}
-use Rattle.sendmail_run.specs.Serving.{site, IsLeftAlone, IsUnserved, BeganEmpty, IsServed, IsServedOut, Serves}
+use Rattle.sendmail_run.specs.Serving.{site, IsBegun, IsLeftAlone, IsUnserved, BeganEmpty, IsServed, IsServedOut, Serves}
 use Rattle.mail_core.proofs.RunLemmas.{ended_by, cut_off}
 
 -- ---- what is read or left alone
@@ -117,31 +117,33 @@ standing core n a b u = record { site = site; state = (run_over site start u.tur
 abbrev pub OnlyNow : Seen → Type 0
 OnlyNow a = (c : FileMap) → a.spool.left_since a.spool.moment c → a.spool.told ≡ Some c
 
-served : (core : Core) (n : ℕ) (a b : Seen) → BeganEmpty a → OnlyNow a → IsUnderWay site start core n a b → IsServed n a b
-served core n a b empty only u = record {
+served : (core : Core) (n : ℕ) (a b : Seen) → BeganEmpty a → IsBegun a b → OnlyNow a → IsUnderWay site start core n a b → IsServed n a b
+served core n a b empty begun only u = record {
   turns = u.turns;
   events = u.events;
   on = u.stands.on;
   empty = empty;
+  begun = begun;
   headline = cut_off site start core n a b u (start_sound (dirs_of site)) only;
   readings = u.readings;
 }
 
 -- the floor failed
-pub serves_lost : (core : Core) (n : ℕ) (a b : Seen) → BeganEmpty a → OnlyNow a → n ≤ 2 ^ 60 → IsUnderWay site start core n a b → Rose a.floor.faults b.floor.faults → Serves a b ends.FloorFault
-serves_lost core n a b empty only few u rose = record { count = n; few = few; served = served core n a b empty only u; rose = rose }
+pub serves_lost : (core : Core) (n : ℕ) (a b : Seen) → BeganEmpty a → IsBegun a b → OnlyNow a → n ≤ 2 ^ 60 → IsUnderWay site start core n a b → Rose a.floor.faults b.floor.faults → Serves a b ends.FloorFault
+serves_lost core n a b empty begun only few u rose = record { count = n; few = few; served = served core n a b empty begun only u; rose = rose }
 
 -- all turns were taken
-pub serves_spent : (core : Core) (n most : ℕ) (a b : Seen) → BeganEmpty a → OnlyNow a → n ≡ most → most ≡ 2 ^ 60 → IsUnderWay site start core n a b → Serves a b (ends.TurnsSpent most)
-serves_spent core n most a b empty only all is u = (is, served core most a b empty only (subst (λ (q : ℕ). IsUnderWay site start core q a b) all u))
+pub serves_spent : (core : Core) (n most : ℕ) (a b : Seen) → BeganEmpty a → IsBegun a b → OnlyNow a → n ≡ most → most ≡ 2 ^ 60 → IsUnderWay site start core n a b → Serves a b (ends.TurnsSpent most)
+serves_spent core n most a b empty begun only all is u = (is, served core most a b empty begun only (subst (λ (q : ℕ). IsUnderWay site start core q a b) all u))
 
 -- a turn ended the run
-pub served_out : (core new : Core) (n : ℕ) (a b c : Seen) (event : Event) (reading : ℕ) (went : Went) → BeganEmpty a → OnlyNow a → n < 2 ^ 60
+pub served_out : (core new : Core) (n : ℕ) (a b c : Seen) (event : Event) (reading : ℕ) (went : Went) → BeganEmpty a → IsBegun a c → OnlyNow a → n < 2 ^ 60
     → (u : IsUnderWay site start core n a b) → Turns site (run_over site start u.turns).state event reading b c new went → c.clock.readings ≡ b.clock.readings + 1 → IsServedOut a c went
-served_out core new n a b c event reading went empty only few u turns counted = record {
+served_out core new n a b c event reading went empty begun only few u turns counted = record {
   count = n + 1;
   few = omega (arith, few);
   empty = empty;
+  begun = begun;
   ended = ended_by site start core new n event reading a b c went u turns (start_sound (dirs_of site)) only counted;
 }
 

@@ -1,6 +1,8 @@
 -- How session mode ends, and what was served by then (Sendmail Installation and Operation Guide, "Command Line Flags": -bs; the replies are those of RFC 5321; the outcomes are own).
 use Rattle.std.specs.Prelude.{◌≡◌, ℕ, ◌+◌, ◌^◌, ◌≤◌, List, length, None, IfSome, codes, true, ◌⊎◌}
 use Rattle.mail_base.specs.Histories.{Rose}
+use Rattle.link_edge.specs.Begins.{begun_after}
+use Rattle.link_edge.specs.declared.place.Place.TheVariants.{Standard}
 use Rattle.spool_disk.specs.Spooled.{Reads}
 use Rattle.spool_store.specs.Standing.{IsClean, IsUsed}
 use Rattle.spool_store.specs.Tables.{start}
@@ -26,7 +28,7 @@ pub record IsLeftAlone (a b : Seen) : Type 0 where
   pub spool : Reads a.spool b.spool
   pub spool_faults : b.spool.faults ≡ a.spool.faults
 
--- nothing was served: the spool was only read, and the floor and the clock are as before
+-- nothing was served: the spool was only read, and the floor and the clock are as before, so the floor was not begun
 pub record IsUnserved (a b : Seen) : Type 0 where
   pub floor : b.floor ≡ a.floor
   pub clock : b.clock ≡ a.clock
@@ -37,20 +39,26 @@ pub record IsUnserved (a b : Seen) : Type 0 where
 abbrev pub BeganEmpty : Seen → Type 0
 BeganEmpty a = IfSome a.spool.told (IsClean (dirs_of site) start)
 
--- so many turns were served, and the run goes on after them: what floor and clock tell since is the machine's run of these turns, the files are those of its table, and each final 250 names an entry whose two files are there (`Headline`)
+-- the floor was begun in the run: at its standard place, for one session
+abbrev pub IsBegun : Seen → Seen → Type 0
+IsBegun a b = b.floor.begun ≡ begun_after a.floor.begun Standard 1
+
+-- the floor was begun so, so many turns were served, and the run goes on after them: what floor and clock tell since is the machine's run of these turns, the files are those of its table, and each final 250 names an entry whose two files are there (`Headline`)
 pub record IsServed (count : ℕ) (a b : Seen) : Type 0 where
   pub turns : List Turn
   pub events : length turns ≡ count
   pub empty : BeganEmpty a
+  pub begun : IsBegun a b
   pub on : (run_over site start turns).state.over ≡ None
   pub headline : Headline site start turns a b true
   pub readings : b.clock.readings ≡ a.clock.readings + count
 
--- at most 2^60 turns were served, and the last of them ended the run so
+-- the floor was begun so, at most 2^60 turns were served, and the last of them ended the run so
 pub record IsServedOut (a b : Seen) (went : Went) : Type 0 where
   pub count : ℕ
   pub few : count ≤ 2 ^ 60
   pub empty : BeganEmpty a
+  pub begun : IsBegun a b
   pub ended : IsEnded site start count a b went
 
 -- the spool failed as it was opened

@@ -16,7 +16,7 @@ returns-in_default-clause-serves g c =
     serves_lost c.in-Ok.core 0
     (seen (g.L.Floor.seen c.args.floor.now) (g.D.Spool.seen c.args.spool.now) (g.C.Clock.seen c.args.clock.now))
     (seen (g.L.Floor.seen c.begin.new.self) (g.D.Spool.seen c.opened.new.spool) (g.C.Clock.seen c.args.clock.now))
-    c.in-Ok.ensures.empty (g.met.D.Spool.only_now c.args.spool.now) (omega arith)
+    c.in-Ok.ensures.empty c.begin.ensures.begun (g.met.D.Spool.only_now c.args.spool.now) (omega arith)
     (under_way_begin site start c.in-Ok.core (g.L.Floor.seen c.args.floor.now) (g.L.Floor.seen c.begin.new.self) (g.D.Spool.seen c.args.spool.now) (g.D.Spool.seen c.opened.new.spool) (g.C.Clock.seen c.args.clock.now)
     c.in-Ok.ensures.reads c.begin.ensures.told c.begin.ensures.cause.later c.in-Ok.ensures.later c.in-Ok.ensures.core)
     c.in_default.ensures.cause.failed
@@ -24,6 +24,7 @@ returns-in_default-clause-serves g c =
 pub loop-init : goal.loop-init
 loop-init g c = record {
   empty = c.in-Ok.ensures.empty;
+  begun = c.begin.ensures.begun;
   run = under_way_begin site start c.in-Ok.core (g.L.Floor.seen c.args.floor.now) (g.L.Floor.seen c.begin.new.self) (g.D.Spool.seen c.args.spool.now) (g.D.Spool.seen c.opened.new.spool) (g.C.Clock.seen c.args.clock.now)
       c.in-Ok.ensures.reads c.begin.ensures.told c.begin.ensures.cause.later c.in-Ok.ensures.later c.in-Ok.ensures.core;
   floor = c.in-Ok-begin.ensures.calm;
@@ -36,7 +37,7 @@ returns-in_default-turn-clause-serves g c =
     serves_lost c.loop.core c.loop.counter
     (seen (g.L.Floor.seen c.args.floor.now) (g.D.Spool.seen c.args.spool.now) (g.C.Clock.seen c.args.clock.now))
     (seen (g.L.Floor.seen c.turn.new.self) (g.D.Spool.seen c.loop.spool) (g.C.Clock.seen c.loop.clock))
-    c.loop.invariant.empty (g.met.D.Spool.only_now c.args.spool.now) (omega (arith, c.loop-test.true))
+    c.loop.invariant.empty (c.in_default-turn.ensures.begun ∙ c.loop.invariant.begun) (g.met.D.Spool.only_now c.args.spool.now) (omega (arith, c.loop-test.true))
     (under_way_floor site start c.loop.core c.loop.counter (seen (g.L.Floor.seen c.args.floor.now) (g.D.Spool.seen c.args.spool.now) (g.C.Clock.seen c.args.clock.now))
     (g.L.Floor.seen c.loop.floor) (g.L.Floor.seen c.turn.new.self) (g.D.Spool.seen c.loop.spool) (g.C.Clock.seen c.loop.clock) u c.in_default-turn.ensures.told c.in_default-turn.ensures.cause.later)
     (rose_since (g.L.Floor.seen c.args.floor.now).faults (g.L.Floor.seen c.loop.floor).faults (g.L.Floor.seen c.turn.new.self).faults u.ran.floor_faults c.in_default-turn.ensures.cause.failed)
@@ -55,7 +56,7 @@ returns-in-Ends-Stopped-clause-serves g c =
     (seen (g.L.Floor.seen c.args.floor.now) (g.D.Spool.seen c.args.spool.now) (g.C.Clock.seen c.args.clock.now))
     (seen (g.L.Floor.seen c.loop.floor) (g.D.Spool.seen c.loop.spool) (g.C.Clock.seen c.loop.clock))
     (seen (g.L.Floor.seen c.turn-in-loop.new.floor) (g.D.Spool.seen c.turn-in-loop.new.spool) (g.C.Clock.seen c.now-reading.new.self))
-    (event_of c.in-Ok-turn.turn c.turn.new.buf) c.now-reading.result (Ends ending.Stopped) c.loop.invariant.empty (g.met.D.Spool.only_now c.args.spool.now) (omega (arith, c.loop-test.true)) u
+    (event_of c.in-Ok-turn.turn c.turn.new.buf) c.now-reading.result (Ends ending.Stopped) c.loop.invariant.empty (c.turn-in-loop.ensures.begun ∙ c.in-Ok-turn.ensures.begun ∙ c.loop.invariant.begun) (g.met.D.Spool.only_now c.args.spool.now) (omega (arith, c.loop-test.true)) u
     (rw c.in-Ends-Stopped.field-0-is at c.in-Ends-Stopped.ensures.turns site (run_over site start u.turns).state (g.L.Floor.seen c.loop.floor) (g.C.Clock.seen c.loop.clock) (g.C.Clock.seen c.now-reading.new.self) u.stands
     (taken (g.L.Floor.seen c.loop.floor) (g.L.Floor.seen c.turn.new.self) (g.C.Clock.seen c.loop.clock) (g.C.Clock.seen c.now-reading.new.self) c.in-Ok-turn.turn c.turn.new.buf c.now-reading.result
     c.in-Ok-turn.ensures.told c.in-Ok-turn.ensures.follows c.in-Ok-turn.ensures.cause.later c.now-reading.ensures.told c.now-reading.ensures.counted))
@@ -68,7 +69,7 @@ returns-in-Ends-SpoolFault-clause-serves g c =
     (seen (g.L.Floor.seen c.args.floor.now) (g.D.Spool.seen c.args.spool.now) (g.C.Clock.seen c.args.clock.now))
     (seen (g.L.Floor.seen c.loop.floor) (g.D.Spool.seen c.loop.spool) (g.C.Clock.seen c.loop.clock))
     (seen (g.L.Floor.seen c.turn-in-loop.new.floor) (g.D.Spool.seen c.turn-in-loop.new.spool) (g.C.Clock.seen c.now-reading.new.self))
-    (event_of c.in-Ok-turn.turn c.turn.new.buf) c.now-reading.result (Ends ending.SpoolFault) c.loop.invariant.empty (g.met.D.Spool.only_now c.args.spool.now) (omega (arith, c.loop-test.true)) u
+    (event_of c.in-Ok-turn.turn c.turn.new.buf) c.now-reading.result (Ends ending.SpoolFault) c.loop.invariant.empty (c.turn-in-loop.ensures.begun ∙ c.in-Ok-turn.ensures.begun ∙ c.loop.invariant.begun) (g.met.D.Spool.only_now c.args.spool.now) (omega (arith, c.loop-test.true)) u
     (rw c.in-Ends-SpoolFault.field-0-is at c.in-Ends-SpoolFault.ensures.turns site (run_over site start u.turns).state (g.L.Floor.seen c.loop.floor) (g.C.Clock.seen c.loop.clock) (g.C.Clock.seen c.now-reading.new.self) u.stands
     (taken (g.L.Floor.seen c.loop.floor) (g.L.Floor.seen c.turn.new.self) (g.C.Clock.seen c.loop.clock) (g.C.Clock.seen c.now-reading.new.self) c.in-Ok-turn.turn c.turn.new.buf c.now-reading.result
     c.in-Ok-turn.ensures.told c.in-Ok-turn.ensures.follows c.in-Ok-turn.ensures.cause.later c.now-reading.ensures.told c.now-reading.ensures.counted))
@@ -81,7 +82,7 @@ returns-in-Ends-IdsSpent-clause-serves g c =
     (seen (g.L.Floor.seen c.args.floor.now) (g.D.Spool.seen c.args.spool.now) (g.C.Clock.seen c.args.clock.now))
     (seen (g.L.Floor.seen c.loop.floor) (g.D.Spool.seen c.loop.spool) (g.C.Clock.seen c.loop.clock))
     (seen (g.L.Floor.seen c.turn-in-loop.new.floor) (g.D.Spool.seen c.turn-in-loop.new.spool) (g.C.Clock.seen c.now-reading.new.self))
-    (event_of c.in-Ok-turn.turn c.turn.new.buf) c.now-reading.result (Ends ending.IdsSpent) c.loop.invariant.empty (g.met.D.Spool.only_now c.args.spool.now) (omega (arith, c.loop-test.true)) u
+    (event_of c.in-Ok-turn.turn c.turn.new.buf) c.now-reading.result (Ends ending.IdsSpent) c.loop.invariant.empty (c.turn-in-loop.ensures.begun ∙ c.in-Ok-turn.ensures.begun ∙ c.loop.invariant.begun) (g.met.D.Spool.only_now c.args.spool.now) (omega (arith, c.loop-test.true)) u
     (rw c.in-Ends-IdsSpent.field-0-is at c.in-Ends-IdsSpent.ensures.turns site (run_over site start u.turns).state (g.L.Floor.seen c.loop.floor) (g.C.Clock.seen c.loop.clock) (g.C.Clock.seen c.now-reading.new.self) u.stands
     (taken (g.L.Floor.seen c.loop.floor) (g.L.Floor.seen c.turn.new.self) (g.C.Clock.seen c.loop.clock) (g.C.Clock.seen c.now-reading.new.self) c.in-Ok-turn.turn c.turn.new.buf c.now-reading.result
     c.in-Ok-turn.ensures.told c.in-Ok-turn.ensures.follows c.in-Ok-turn.ensures.cause.later c.now-reading.ensures.told c.now-reading.ensures.counted))
@@ -91,6 +92,7 @@ pub loop-preserved : goal.loop-preserved
 loop-preserved g c =
     let u = c.loop.invariant.run in record {
       empty = c.loop.invariant.empty;
+      begun = c.turn-in-loop.ensures.begun ∙ c.in-Ok-turn.ensures.begun ∙ c.loop.invariant.begun;
       run = under_way_more site start c.loop.core c.turn-in-loop.new.self c.loop.counter
           (event_of c.in-Ok-turn.turn c.turn.new.buf) c.now-reading.result
           (seen (g.L.Floor.seen c.args.floor.now) (g.D.Spool.seen c.args.spool.now) (g.C.Clock.seen c.args.clock.now))
@@ -110,7 +112,7 @@ returns-clause-serves g c =
     serves_spent c.loop.core c.loop.counter 1152921504606846976
     (seen (g.L.Floor.seen c.args.floor.now) (g.D.Spool.seen c.args.spool.now) (g.C.Clock.seen c.args.clock.now))
     (seen (g.L.Floor.seen c.loop.floor) (g.D.Spool.seen c.loop.spool) (g.C.Clock.seen c.loop.clock))
-    c.loop.invariant.empty (g.met.D.Spool.only_now c.args.spool.now) (omega arith) refl c.loop.invariant.run
+    c.loop.invariant.empty c.loop.invariant.begun (g.met.D.Spool.only_now c.args.spool.now) (omega arith) refl c.loop.invariant.run
 
 pub returns-in_default-clause-rises_spool : goal.returns-in_default-clause-rises_spool
 returns-in_default-clause-rises_spool g c = inr c.in-Ok.ensures.kept

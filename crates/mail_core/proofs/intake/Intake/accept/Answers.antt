@@ -20,6 +20,7 @@ returns-in-Err g c = record {
   lines = c.lack.ensures.lines;
   sound = c.lack.ensures.sound;
   own = c.lack.ensures.own;
+  begun = c.lack.ensures.begun;
   calm = λ well. refl;
 }
 

@@ -14,6 +14,7 @@ loop-line-init g c = record {
   number = refl;
   reader = refl;
   own = refl;
+  begun = refl;
   calm = refl;
   sound = c.requires.sound;
 }
@@ -32,6 +33,7 @@ loop-line-preserved g c =
       number = k.number ∙ h.number;
       reader = k.lines ∙ h.reader;
       own = k.own ∙ h.own;
+      begun = k.begun ∙ h.begun;
       calm = k.calm (well_onward c.answer-last.result on) ∙ h.calm;
       sound = subst (IsSoundAt (g.F.Floor.seen c.answer-last.new.floor)) h.number (k.sound on);
     }

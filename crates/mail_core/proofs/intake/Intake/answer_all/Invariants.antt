@@ -22,6 +22,7 @@ invariant-loop-line g l = record {
   number : l.caller.number ≡ l.fn.caller.number;
   reader : l.caller.lines ≡ l.fn.caller.lines;
   own : (g.F.Floor.seen l.floor).faults ≡ (g.F.Floor.seen l.fn.floor).faults;
+  begun : (g.F.Floor.seen l.floor).begun ≡ (g.F.Floor.seen l.fn.floor).begun;
   calm : (g.D.Spool.seen l.spool).faults ≡ (g.D.Spool.seen l.fn.spool).faults;
   sound : IsSoundAt (g.F.Floor.seen l.floor) l.fn.caller.number;
 }

@@ -25,6 +25,7 @@ answers-init g c =
       ready = ready_lines c.args.self.now c.args.caller.now _ refl refl c.requires.ready;
       moment = refl;
       own = refl;
+      begun = refl;
       calm = refl;
       sound = c.requires.sound;
     }
@@ -73,6 +74,7 @@ answers-preserved g c =
       ready = ready_lines c.answer_all-fed.new.self c.answer_all-fed.new.caller _ (ap (λ q. q.number) c.turn.ensures) (ap (λ q. q.session) c.turn.ensures) (k.ready on);
       moment = k.moment ∙ h.moment;
       own = k.own ∙ h.own;
+      begun = k.begun ∙ h.begun;
       calm = k.calm (well_onward c.answer_all-fed.result on) ∙ h.calm;
       sound = subst (IsSoundAt (g.F.Floor.seen c.answer_all-fed.new.floor)) (sym k.number ∙ sym (ap (λ q. q.number) c.turn.ensures)) (k.sound on);
     }
@@ -92,6 +94,9 @@ returns-then-not-is_onward-clause-calm g c = λ well. c.answer_all-fed.ensures.c
 
 pub returns-in_default-more-clause-own : goal.returns-in_default-more-clause-own
 returns-in_default-more-clause-own g c = c.drop_caller-in_default-more.ensures.own ∙ c.answer_all-fed.ensures.own ∙ c.answers.invariant.own
+
+pub returns-in_default-more-clause-begun : goal.returns-in_default-more-clause-begun
+returns-in_default-more-clause-begun g c = c.drop_caller-in_default-more.ensures.begun ∙ c.answer_all-fed.ensures.begun ∙ c.answers.invariant.begun
 
 pub returns-in_default-more-clause-calm : goal.returns-in_default-more-clause-calm
 returns-in_default-more-clause-calm g c = λ well.

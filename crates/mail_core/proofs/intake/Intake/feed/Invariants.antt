@@ -21,6 +21,7 @@ invariant-answers g l = record {
   ready : IsReady l.self l.caller;
   moment : l.self.moment ≡ l.fn.self.moment;
   own : (g.F.Floor.seen l.floor).faults ≡ (g.F.Floor.seen l.fn.floor).faults;
+  begun : (g.F.Floor.seen l.floor).begun ≡ (g.F.Floor.seen l.fn.floor).begun;
   calm : (g.D.Spool.seen l.spool).faults ≡ (g.D.Spool.seen l.fn.spool).faults;
   sound : IsSoundAt (g.F.Floor.seen l.floor) l.caller.number;
 }

@@ -14,5 +14,6 @@ returns g c = record {
       (c.handle.ensures.steps site (at_moment m c.args.reading) read (at_stands site m c.args.self.now c.at.new.self c.args.reading st c.at.ensures.moment c.at.ensures.range))
       c.handle.ensures.stopped;
   own = c.handle.ensures.own;
+  begun = c.handle.ensures.begun;
   calm = c.handle.ensures.calm;
 }
