@@ -1,5 +1,5 @@
 -- The one session of a floor over a source and a sink (own).
-use Rattle.std.specs.Prelude.{◌≡◌, ◌⊎◌, ◌≤◌, ℕ, ◌-◌, ◌^◌, List, [], take, None, nat_eq, IfSome, if◌then◌else◌}
+use Rattle.std.specs.Prelude.{◌≡◌, ◌⊎◌, ℕ, ◌-◌, ◌^◌, List, [], take, None, nat_eq, IfSome, if◌then◌else◌}
 use Rattle.mail_base.specs.Histories.{Rose}
 use Rattle.mail_edge.specs.Moves.{Loses}
 use Rattle.mail_edge.specs.Seen.{SourceSeen, SinkSeen}
@@ -14,18 +14,18 @@ use Rattle.link_edge.specs.declared.turn.Turn.TheVariants.{Opened, Piece, Closed
 abbrev pub one_heard : Beginnings → SinkSeen → Heard
 one_heard begun sink = record { told = None; begun = begun; faults = 0; session_faults = λ session. if nat_eq session 1 then sink.faults else 2 ^ 64 - 1 }
 
--- the source gave these bytes, and the session goes on
+-- the source gave these bytes, with no fault, and the session goes on
 pub record GoesOn (now : Stage) (session : ℕ) (bytes : List ℕ) (old new : SourceSeen) : Type 0 where
   pub number : session ≡ 1
   pub stage : now ≡ During
   pub taken : Loses old.left new.left bytes
-  pub later : old.faults ≤ new.faults
+  pub calm : new.faults ≡ old.faults
 
--- the source had nothing left
+-- the source had nothing left, and no fault
 pub record IsAtEnd (old new : SourceSeen) : Type 0 where
   pub none : IfSome old.left (λ bytes. bytes ≡ [])
   pub taken : Loses old.left new.left []
-  pub later : old.faults ≤ new.faults
+  pub calm : new.faults ≡ old.faults
 
 -- the source failed
 pub record HasFailed (old new : SourceSeen) : Type 0 where
