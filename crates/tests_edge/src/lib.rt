@@ -6,5 +6,6 @@
 mod edges;
 #[cfg(test)]
 mod floors;
+pub mod once;
 #[cfg(test)]
 mod spools;
