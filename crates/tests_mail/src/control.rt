@@ -3,10 +3,9 @@ ghost use Rattle.qf_format.specs.Valid.{IsValid};
 use mail_base::{Control, NoMemory, Text};
 use qf_format::{Paper, parse, print, print_into, room};
 use std::alloc::Global;
-use std::test::Fail;
 
 // The control text of an entry whose one row is still tried, line by line.
-const LINES: [&[u8]; 17] = [
+static LINES: [&[u8]; 17] = [
     b"V1",
     b"v1",
     b"gmqueue",
@@ -26,8 +25,11 @@ const LINES: [&[u8]; 17] = [
     b".",
 ];
 
+// The number of a line, and what stands in its place.
+type Edit = (usize, &'static [u8]);
+
 // Lines in the place of one of them, with which the text is one still.
-const TAKEN: [(usize, &[u8]); 18] = [
+static TAKEN: [Edit; 18] = [
     (1, b"v18446744073709551615"),
     (1, b"v1\npw000000000007 3"),
     (2, b"g"),
@@ -49,7 +51,7 @@ const TAKEN: [(usize, &[u8]); 18] = [
 ];
 
 // Lines in the place of one of them, with which it is none.
-const REFUSED: [(usize, &[u8]); 30] = [
+static REFUSED: [Edit; 30] = [
     (0, b"V2"),
     (1, b"v0"),
     (1, b"v01"),
@@ -82,42 +84,21 @@ const REFUSED: [(usize, &[u8]); 30] = [
     (16, b".\n."),
 ];
 
-// The text of the lines, with other bytes in the place of one line.
-fn with_line(alloc: Global, place: usize, other: &[u8]) -> Result<Text, NoMemory> {
-    let mut text = Text::new(alloc);
-    for (at, line) in LINES.iter().enumerate() {
-        text.extend(if at == place { other } else { line })?;
+fn add(text: &mut Text, lines: &[&[u8]]) -> Result<(), NoMemory> {
+    for line in lines {
+        text.extend(line)?;
         text.push(b'\n')?;
     }
-    Ok(text)
+    Ok(())
 }
 
-// The text of the lines without one of them.
-fn without_line(alloc: Global, place: usize) -> Result<Text, NoMemory> {
+// The text of the lines up to one place and from another one on, with others between.
+fn spliced(alloc: Global, to: usize, from: usize, other: &[&[u8]]) -> Result<Text, NoMemory> {
     let mut text = Text::new(alloc);
-    for (at, line) in LINES.iter().enumerate() {
-        if at != place {
-            text.extend(line)?;
-            text.push(b'\n')?;
-        }
-    }
-    Ok(text)
-}
-
-// The text of the lines with one of them moved behind the next one.
-fn swapped(alloc: Global, place: usize) -> Result<Text, NoMemory> {
-    let mut text = Text::new(alloc);
-    for (at, line) in LINES.iter().enumerate() {
-        let is_next = at > place && at - place == 1;
-        let from = if at == place {
-            at + 1
-        } else if is_next {
-            place
-        } else {
-            at
-        };
-        text.extend(LINES.get(from).copied().unwrap_or(line))?;
-        text.push(b'\n')?;
+    add(&mut text, LINES.get(..to).unwrap_or(&LINES))?;
+    add(&mut text, other)?;
+    if let Some(rest) = LINES.get(from..) {
+        add(&mut text, rest)?;
     }
     Ok(text)
 }
@@ -126,7 +107,32 @@ fn swapped(alloc: Global, place: usize) -> Result<Text, NoMemory> {
 fn comes_back(text: &Text) -> Result<bool, NoMemory> {
     match parse(text)? {
         None => Ok(false),
-        Some(control) => Ok(print(&control)?.bytes() == text.bytes()),
+        Some(control) => is_print(&control, text),
+    }
+}
+
+fn is_print(control: &Control, text: &Text) -> Result<bool, NoMemory>
+    requires { IsValid control.now }
+{
+    Ok(print(control)?.bytes() == text.bytes())
+}
+
+// Whether the text comes back with a line, or several, in the place of one.
+fn takes(alloc: Global, place: usize, line: &[u8]) -> Result<bool, NoMemory> {
+    comes_back(&spliced(alloc, place, place.saturating_add(1), &[line])?)
+}
+
+// Whether the text comes back without one of its lines.
+fn lacks(alloc: Global, place: usize) -> Result<bool, NoMemory> {
+    comes_back(&spliced(alloc, place, place.saturating_add(1), &[])?)
+}
+
+// Whether the text comes back with a line behind the next one, if there is one.
+fn swaps(alloc: Global, place: usize) -> Result<bool, NoMemory> {
+    let from = place.saturating_add(2);
+    match LINES.get(place..from) {
+        Some([this, next]) => comes_back(&spliced(alloc, place, from, &[next, this])?),
+        _ => comes_back(&spliced(alloc, 17, 17, &[])?),
     }
 }
 
@@ -150,80 +156,83 @@ fn on_paper(control: &Control) -> Result<usize, NoMemory>
     Ok(paper.bytes().len())
 }
 
-// The text with a note of that many bytes.
-fn with_note(alloc: Global, length: usize) -> Result<Text, NoMemory> {
+fn takes_note(alloc: Global, length: usize) -> Result<bool, NoMemory> {
     let mut line = Text::of(alloc, b"eQ ")?;
     for _ in 0..length {
         line.push(b'x')?;
     }
-    with_line(alloc, 13, line.bytes())
+    takes(alloc, 13, line.bytes())
 }
 
-// The text with an address of all bytes but LF.
-fn with_bytes(alloc: Global) -> Result<Text, NoMemory> {
+// Whether the text comes back with an address of all bytes but LF.
+fn takes_bytes(alloc: Global) -> Result<bool, NoMemory> {
     let mut line = Text::of(alloc, b"RFD:")?;
     for byte in 0..=255u8 {
         if byte != b'\n' {
             line.push(byte)?;
         }
     }
-    with_line(alloc, 12, line.bytes())
+    takes(alloc, 12, line.bytes())
 }
 
+fn is_written_whole(alloc: Global) -> Result<bool, NoMemory> {
+    let text = spliced(alloc, 17, 17, &[])?;
+    Ok(comes_back(&text)? && written(&text)? == text.len())
+}
+
+// How long a note is, and whether it is taken.
+const NOTES: &[(usize, bool)] = &[(1, true), (512, true), (0, false), (513, false)];
+
 #[test]
-fn the_example_comes_back(rt: HostRuntime) -> Result<(), Fail> {
-    let text = without_line(rt.alloc(), 17)?;
-    assert!(rt; comes_back(&text)?);
-    assert_eq!(rt; written(&text)?, text.len());
+fn the_example_comes_back(rt: HostRuntime) -> Result<(), NoMemory> {
+    assert!(rt; is_written_whole(rt.alloc())?);
+    assert!(rt; takes_bytes(rt.alloc())?);
+    for (length, is_taken) in NOTES {
+        assert!(rt; takes_note(rt.alloc(), *length)? == *is_taken, "{length}");
+    }
     Ok(())
 }
 
 #[test]
-fn fields_have_their_ranges(rt: HostRuntime) -> Result<(), Fail> {
-    for (place, line) in TAKEN {
-        assert!(rt; comes_back(&with_line(rt.alloc(), place, line)?)?);
+fn fields_have_their_ranges(rt: HostRuntime) -> Result<(), NoMemory> {
+    for (place, line) in &TAKEN {
+        assert!(rt; takes(rt.alloc(), *place, line)?, "{line:?}");
     }
-    for (place, line) in REFUSED {
-        assert!(rt; !comes_back(&with_line(rt.alloc(), place, line)?)?);
+    for (place, line) in &REFUSED {
+        assert!(rt; !takes(rt.alloc(), *place, line)?, "{line:?}");
     }
     Ok(())
 }
 
 #[test]
-fn each_line_has_its_place(rt: HostRuntime) -> Result<(), Fail> {
+fn each_line_has_its_place(rt: HostRuntime) -> Result<(), NoMemory> {
     for place in 0..17usize {
         let is_header = place == 14 || place == 15;
-        assert_eq!(rt; comes_back(&without_line(rt.alloc(), place)?)?, is_header);
-        assert_eq!(rt;
-            comes_back(&swapped(rt.alloc(), place)?)?,
-            place == 14 || place == 16
+        assert!(rt; lacks(rt.alloc(), place)? == is_header, "without {place}");
+        let is_last = place == 14 || place == 16;
+        assert!(rt;
+            swaps(rt.alloc(), place)? == is_last,
+            "behind the next, {place}"
         );
     }
     Ok(())
 }
 
-#[test]
-fn notes_and_addresses_have_their_bytes(rt: HostRuntime) -> Result<(), Fail> {
-    let alloc = rt.alloc();
-    for length in [1usize, 512] {
-        assert!(rt; comes_back(&with_note(alloc, length)?)?);
+fn has_its_room(alloc: Global) -> Result<bool, NoMemory> {
+    let mut paper = Paper::with_room(alloc, 4)?;
+    paper.put(b"ab");
+    paper.put(b"cd");
+    let is_full = paper.bytes() == b"abcd".as_slice();
+    paper.clear();
+    if paper.room() != 4 {
+        return Ok(false);
     }
-    for length in [0usize, 513] {
-        assert!(rt; !comes_back(&with_note(alloc, length)?)?);
-    }
-    assert!(rt; comes_back(&with_bytes(alloc)?)?);
-    Ok(())
+    paper.put(b"ef");
+    Ok(is_full && paper.into_text().bytes() == b"ef".as_slice())
 }
 
 #[test]
-fn paper_has_its_room(rt: HostRuntime) -> Result<(), Fail> {
-    let mut paper = Paper::with_room(rt.alloc(), 4)?;
-    paper.put(b"ab");
-    paper.put(b"cd");
-    assert_eq!(rt; paper.bytes(), b"abcd".as_slice());
-    paper.clear();
-    assert_eq!(rt; paper.room(), 4);
-    paper.put(b"ef");
-    assert_eq!(rt; paper.into_text().bytes(), b"ef".as_slice());
+fn paper_has_its_room(rt: HostRuntime) -> Result<(), NoMemory> {
+    assert!(rt; has_its_room(rt.alloc())?);
     Ok(())
 }

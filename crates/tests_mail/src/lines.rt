@@ -1,10 +1,9 @@
 use mail_base::{NoMemory, Seq, Text};
 use smtp_lines::{Line, Lines, last_asks, read_stream};
 use std::alloc::Global;
-use std::test::Fail;
 
 /// Where a stream is cut into pieces.
-#[derive(Clone, Copy, Debug)]
+#[derive(Clone, Copy)]
 enum Cuts {
     Nowhere,
     Everywhere,
@@ -97,14 +96,18 @@ fn pieces_of(alloc: Global, bytes: &[u8], cuts: Cuts) -> Result<Vec<Text>, NoMem
 fn shown(alloc: Global, lines: &Seq<Line>) -> Result<Text, NoMemory> {
     let mut text = Text::new(alloc);
     for line in lines.items() {
-        match line {
-            Line::Command(command) => show(&mut text, b"C<", command)?,
-            Line::TooLong => text.extend(b"T")?,
-            Line::Data(data) => show(&mut text, b"D<", data)?,
-            Line::DataEnd => text.extend(b"E")?,
-        }
+        show_line(&mut text, line)?;
     }
     Ok(text)
+}
+
+fn show_line(text: &mut Text, line: &Line) -> Result<(), NoMemory> {
+    match line {
+        Line::Command(command) => show(text, b"C<", command),
+        Line::TooLong => text.extend(b"T"),
+        Line::Data(data) => show(text, b"D<", data),
+        Line::DataEnd => text.extend(b"E"),
+    }
 }
 
 fn show(text: &mut Text, tag: &[u8], bytes: &Text) -> Result<(), NoMemory> {
@@ -118,22 +121,36 @@ fn read_cut(alloc: Global, bytes: &[u8], grants: &[bool], cuts: Cuts) -> Result<
     shown(alloc, &read_stream(alloc, &pieces, grants)?)
 }
 
+fn reads_so(alloc: Global, row: &Row, cuts: Cuts) -> Result<bool, NoMemory> {
+    Ok(read_cut(alloc, row.0, row.1, cuts)?.bytes() == row.2)
+}
+
+static CUTS: [Cuts; 4] = [
+    Cuts::Nowhere,
+    Cuts::Everywhere,
+    Cuts::Random(1),
+    Cuts::Random(2),
+];
+
+// Whether the lines are the same however their stream is cut.
+fn reads_cut_so(alloc: Global, row: &Row) -> Result<bool, NoMemory> {
+    for cuts in &CUTS {
+        if !reads_so(alloc, row, *cuts)? {
+            return Ok(false);
+        }
+    }
+    for place in 0..row.0.len() {
+        if !reads_so(alloc, row, Cuts::At(place))? {
+            return Ok(false);
+        }
+    }
+    Ok(true)
+}
+
 #[test]
-fn lines_of_a_stream_however_it_is_cut(rt: HostRuntime) -> Result<(), Fail> {
-    for (bytes, grants, lines) in &ROWS {
-        for cuts in [
-            Cuts::Nowhere,
-            Cuts::Everywhere,
-            Cuts::Random(1),
-            Cuts::Random(2),
-        ] {
-            let read = read_cut(rt.alloc(), bytes, grants, cuts)?;
-            assert_eq!(rt; read.bytes(), *lines, "{cuts:?}");
-        }
-        for place in 0..bytes.len() {
-            let read = read_cut(rt.alloc(), bytes, grants, Cuts::At(place))?;
-            assert_eq!(rt; read.bytes(), *lines, "cut at {place}");
-        }
+fn lines_of_a_stream_however_it_is_cut(rt: HostRuntime) -> Result<(), NoMemory> {
+    for (at, row) in ROWS.iter().enumerate() {
+        assert!(rt; reads_cut_so(rt.alloc(), row)?, "row {at}");
     }
     Ok(())
 }
@@ -149,71 +166,72 @@ fn long_command(alloc: Global, length: usize, end: &[u8]) -> Result<Text, NoMemo
     Ok(text)
 }
 
-/// How many lines a stream has, and how many bytes the first of them, where it is a command.
-fn first_of(alloc: Global, stream: &[u8], cuts: Cuts) -> Result<(usize, Option<usize>), NoMemory> {
-    let pieces = pieces_of(alloc, stream, cuts)?;
-    let lines = read_stream(alloc, &pieces, &[])?;
-    let first = match lines.items() {
-        [Line::Command(text), ..] => Some(text.len()),
-        _ => None,
-    };
-    Ok((lines.len(), first))
+// Whether the lines are two, and the first a command of so many bytes or none.
+fn is_first(lines: &[Line], wanted: Option<usize>) -> bool {
+    match lines {
+        [Line::Command(text), _] => wanted == Some(text.len()),
+        [_, _] => wanted.is_none(),
+        _ => false,
+    }
 }
 
-/// The bytes of a command before its end, its end, and whether it is too long.
-static LONG_COMMANDS: [(usize, &[u8], bool); 7] = [
-    (2_046, b"\r\n", false),
-    (2_047, b"\r\n", true),
-    (2_048, b"\r\n", true),
-    (2_047, b"\n", false),
-    (2_048, b"\n", true),
-    (5_000, b"\n", true),
-    (5_000, b"\r\n", true),
+fn has_first(
+    alloc: Global,
+    stream: &Text,
+    cuts: Cuts,
+    wanted: Option<usize>,
+) -> Result<bool, NoMemory> {
+    let pieces = pieces_of(alloc, stream.bytes(), cuts)?;
+    Ok(is_first(read_stream(alloc, &pieces, &[])?.items(), wanted))
+}
+
+/// The bytes of a command before its end, its end, and how many are read of it, where it isn't too long.
+type Command = (usize, &'static [u8], Option<usize>);
+
+static LONG_COMMANDS: [Command; 7] = [
+    (2_046, b"\r\n", Some(2_046)),
+    (2_047, b"\r\n", None),
+    (2_048, b"\r\n", None),
+    (2_047, b"\n", Some(2_047)),
+    (2_048, b"\n", None),
+    (5_000, b"\n", None),
+    (5_000, b"\r\n", None),
 ];
 
-#[test]
-fn a_command_of_more_than_2048_bytes_is_too_long(rt: HostRuntime) -> Result<(), Fail> {
-    for (length, end, is_too_long) in &LONG_COMMANDS {
-        let stream = long_command(rt.alloc(), *length, end)?;
-        let wanted = if *is_too_long { None } else { Some(*length) };
-        for cuts in [
-            Cuts::Nowhere,
-            Cuts::Everywhere,
-            Cuts::Random(3),
-            Cuts::At(2_048),
-        ] {
-            let (count, first) = first_of(rt.alloc(), stream.bytes(), cuts)?;
-            assert_eq!(rt; count, 2, "{length} {cuts:?}");
-            assert_eq!(rt; first, wanted, "{length} {cuts:?}");
+static LONG_CUTS: [Cuts; 4] = [
+    Cuts::Nowhere,
+    Cuts::Everywhere,
+    Cuts::Random(3),
+    Cuts::At(2_048),
+];
+
+fn is_cut_off(alloc: Global, row: &Command) -> Result<bool, NoMemory> {
+    let stream = long_command(alloc, row.0, row.1)?;
+    for cuts in &LONG_CUTS {
+        if !has_first(alloc, &stream, *cuts, row.2)? {
+            return Ok(false);
         }
+    }
+    Ok(true)
+}
+
+#[test]
+fn a_command_of_more_than_2048_bytes_is_too_long(rt: HostRuntime) -> Result<(), NoMemory> {
+    for row in &LONG_COMMANDS {
+        assert!(rt; is_cut_off(rt.alloc(), row)?, "{}", row.0);
     }
     Ok(())
 }
 
-/// The lengths of the lines of a message, whose first line has 16,777,216 bytes between its front and its back.
-fn long_message(alloc: Global, front: &[u8], back: &[u8]) -> Result<Vec<usize>, NoMemory> {
-    let mut reader = Lines::new(alloc);
-    let _command = reader.feed(b"DATA\n")?;
-    if reader.may_turn() {
-        reader.data();
-    }
-    let piece = vec![in alloc; b'x'; 65_536]?;
-    let _begun = reader.feed(front)?;
-    for _ in 0..256u32 {
-        let _none = reader.feed(&piece)?;
-    }
-    let mut lengths = Vec::new(alloc);
-    for line in reader.feed(back)?.items() {
-        lengths.push(match line {
-            Line::Data(data) => data.len(),
-            _ => 0,
-        })?;
-    }
-    Ok(lengths)
+fn feed(reader: &mut Lines, piece: &[u8]) -> Result<(), NoMemory> {
+    let _lines = reader.feed(piece)?;
+    Ok(())
 }
 
 /// What stands before and behind the 16,777,216 bytes of a line, and how many bytes of it are kept.
-static LONG_LINES: [(&[u8], &[u8], usize); 5] = [
+type Long = (&'static [u8], &'static [u8], usize);
+
+static LONG_LINES: [Long; 5] = [
     (b"", b"\r\n.\r\n", 16_777_216),
     (b"x", b"\r\n.\r\n", 16_777_217),
     (b"x", b"\rx\r\n.\r\n", 16_777_217),
@@ -221,11 +239,36 @@ static LONG_LINES: [(&[u8], &[u8], usize); 5] = [
     (b"..", b"x\r\n.\r\n", 16_777_217),
 ];
 
+fn is_kept(lines: &[Line], wanted: usize) -> bool {
+    match lines {
+        [Line::Data(data), Line::DataEnd] => data.len() == wanted,
+        _ => false,
+    }
+}
+
+// Whether so many bytes are kept of the first line of a message, which the piece makes long.
+fn keeps(reader: &mut Lines, piece: &[u8], row: &Long) -> Result<bool, NoMemory> {
+    feed(reader, b"DATA\n")?;
+    if reader.may_turn() {
+        reader.data();
+    }
+    feed(reader, row.0)?;
+    for _ in 0..256u32 {
+        feed(reader, piece)?;
+    }
+    Ok(is_kept(reader.feed(row.1)?.items(), row.2))
+}
+
+fn keeps_of(alloc: Global, row: &Long) -> Result<bool, NoMemory> {
+    let piece = vec![in alloc; b'x'; 65_536]?;
+    let mut reader = Lines::new(alloc);
+    keeps(&mut reader, &piece, row)
+}
+
 #[test]
-fn of_a_longer_line_the_first_16777217_bytes_stand(rt: HostRuntime) -> Result<(), Fail> {
-    for (front, back, wanted) in &LONG_LINES {
-        let lengths = long_message(rt.alloc(), front, back)?;
-        assert_eq!(rt; lengths.as_slice(), [*wanted, 0].as_slice());
+fn of_a_longer_line_the_first_16777217_bytes_stand(rt: HostRuntime) -> Result<(), NoMemory> {
+    for (at, row) in LONG_LINES.iter().enumerate() {
+        assert!(rt; keeps_of(rt.alloc(), row)?, "row {at}");
     }
     Ok(())
 }
@@ -276,12 +319,23 @@ fn told(alloc: Global, lines: &Seq<Line>, may_turn: bool) -> Result<Text, NoMemo
     Ok(text)
 }
 
-#[test]
-fn bytes_after_data_wait_for_its_answer(rt: HostRuntime) -> Result<(), Fail> {
-    let mut reader = Lines::new(rt.alloc());
-    for (step, wanted) in &STEPS {
-        let told = stepped(rt.alloc(), &mut reader, step)?;
-        assert_eq!(rt; told.bytes(), *wanted);
+// The first place of a step that gives other lines.
+fn wrong_step(alloc: Global, reader: &mut Lines) -> Result<Option<usize>, NoMemory> {
+    for (at, (step, wanted)) in STEPS.iter().enumerate() {
+        if stepped(alloc, reader, step)?.bytes() != *wanted {
+            return Ok(Some(at));
+        }
     }
+    Ok(None)
+}
+
+fn wrong(alloc: Global) -> Result<Option<usize>, NoMemory> {
+    let mut reader = Lines::new(alloc);
+    wrong_step(alloc, &mut reader)
+}
+
+#[test]
+fn bytes_after_data_wait_for_its_answer(rt: HostRuntime) -> Result<(), NoMemory> {
+    assert_eq!(rt; wrong(rt.alloc())?, None);
     Ok(())
 }

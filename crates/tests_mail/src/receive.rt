@@ -1,17 +1,24 @@
-use mail_base::{Id, NoMemory, Seq, Text};
+use mail_base::{Id, Kept, NoMemory, Seq, Text};
 use smtp_lines::{Line, read_stream};
 use smtp_receive::{Did, Received, Session, out_of_memory, too_many_sessions};
 use std::alloc::Global;
-use std::test::Fail;
 
 /// What a session says of a stream's lines after its greeting: its replies, `+` for a line of data, and for
 /// a message its sender, recipient, headers in braces, body in brackets and the three macros.
 fn said_to(alloc: Global, stream: &[u8]) -> Result<Text, NoMemory> {
     let lines = lines_of(alloc, stream)?;
-    let mut session = session_of(alloc)?;
+    heard(alloc, &lines)
+}
+
+fn heard(alloc: Global, lines: &Seq<Line>) -> Result<Text, NoMemory> {
     let mut said = Text::new(alloc);
-    hear(&mut session, &lines, &mut said)?;
+    hear_all(lines, &mut said)?;
     Ok(said)
+}
+
+fn hear_all(lines: &Seq<Line>, said: &mut Text) -> Result<(), NoMemory> {
+    let mut session = session_of(said.allocator())?;
+    hear(&mut session, lines, said)
 }
 
 fn lines_of(alloc: Global, stream: &[u8]) -> Result<Seq<Line>, NoMemory> {
@@ -33,39 +40,43 @@ fn hear(session: &mut Session, lines: &Seq<Line>, said: &mut Text) -> Result<(),
 }
 
 fn answer(session: &mut Session, line: &Line, said: &mut Text) -> Result<(), NoMemory> {
-    match session.line(line)? {
-        Did::Reply(text) => said.extend(text.bytes()),
-        Did::Granted(text) => said.extend(text.bytes()),
-        Did::Bye(text) => said.extend(text.bytes()),
+    let did = session.line(line)?;
+    tell(session, &did, said)
+}
+
+fn tell(session: &mut Session, did: &Did, said: &mut Text) -> Result<(), NoMemory> {
+    match did {
+        Did::Reply(text) | Did::Granted(text) | Did::Bye(text) => said.extend(text.bytes()),
         Did::Taken => said.extend(b"+"),
         Did::Message(message) => {
-            show(said, &message)?;
+            show(said, message)?;
             said.extend(session.stored(&Id::new(1))?.bytes())
         }
     }
 }
 
-fn show(said: &mut Text, message: &Received) -> Result<(), NoMemory> {
-    said.extend(message.sender.bytes())?;
-    said.extend(message.recipient.bytes())?;
-    for header in message.headers.items() {
-        said.extend(b"{")?;
-        said.extend(header.bytes())?;
-        said.extend(b"}")?;
+fn add(said: &mut Text, parts: &[&[u8]]) -> Result<(), NoMemory> {
+    for part in parts {
+        said.extend(part)?;
     }
-    show_rest(said, message)
+    Ok(())
 }
 
-fn show_rest(said: &mut Text, message: &Received) -> Result<(), NoMemory> {
-    said.extend(b"[")?;
-    said.extend(message.body.bytes())?;
-    said.extend(b"] ")?;
-    said.extend(message.kept.protocol.bytes())?;
-    said.extend(b" ")?;
-    said.extend(message.kept.helo.bytes())?;
-    said.extend(b" ")?;
-    said.extend(message.kept.client.bytes())?;
-    said.extend(b"\r\n")
+fn show(said: &mut Text, message: &Received) -> Result<(), NoMemory> {
+    add(said, &[message.sender.bytes(), message.recipient.bytes()])?;
+    for header in message.headers.items() {
+        add(said, &[b"{", header.bytes(), b"}"])?;
+    }
+    add(said, &[b"[", message.body.bytes(), b"] "])?;
+    show_kept(said, &message.kept)
+}
+
+fn show_kept(said: &mut Text, kept: &Kept) -> Result<(), NoMemory> {
+    let (protocol, helo) = (kept.protocol.bytes(), kept.helo.bytes());
+    add(
+        said,
+        &[protocol, b" ", helo, b" ", kept.client.bytes(), b"\r\n"],
+    )
 }
 
 /// What a session is given, and what is shown of what it says.
@@ -116,15 +127,6 @@ static SESSIONS: [Row; 20] = [
     ),
 ];
 
-#[test]
-fn each_line_gets_its_reply(rt: HostRuntime) -> Result<(), Fail> {
-    for (stream, wanted) in &SESSIONS {
-        let said = said_to(rt.alloc(), stream)?;
-        assert_eq!(rt; said.bytes(), *wanted);
-    }
-    Ok(())
-}
-
 /// The lines of a message, and what is said to them before the macros of what was received.
 static MESSAGES: [Row; 5] = [
     (
@@ -140,29 +142,6 @@ static MESSAGES: [Row; 5] = [
     (b": b\r\n\r\n.\r\n", b"++<b><a>[: b\r\n\r\n]"),
 ];
 
-/// What is said behind the replies to MAIL, RCPT and DATA, without so many bytes at the end.
-fn said_inside(alloc: Global, stream: &[u8], end: usize) -> Result<Text, NoMemory> {
-    let said = said_to(alloc, stream)?;
-    let begin = said.len().min(95);
-    let end = said.len().saturating_sub(end).max(begin);
-    Text::of(alloc, &said.bytes()[begin..end])
-}
-
-fn message_of(alloc: Global, data: &[u8]) -> Result<Text, NoMemory> {
-    let mut stream = Text::of(alloc, b"MAIL FROM:<b>\r\nRCPT TO:<a>\r\nDATA\r\n")?;
-    stream.extend(data)?;
-    said_inside(alloc, stream.bytes(), 72)
-}
-
-#[test]
-fn messages_are_split(rt: HostRuntime) -> Result<(), Fail> {
-    for (data, wanted) in &MESSAGES {
-        let said = message_of(rt.alloc(), data)?;
-        assert_eq!(rt; said.bytes(), *wanted);
-    }
-    Ok(())
-}
-
 /// A path as a MAIL line has it, and as it is taken.
 static PATHS: [Row; 10] = [
     (b"<bob@c.example>", b"<bob@c.example>"),
@@ -177,43 +156,98 @@ static PATHS: [Row; 10] = [
     (b"<@a>", b"<@a>"),
 ];
 
-fn sender_of(alloc: Global, path: &[u8]) -> Result<Text, NoMemory> {
-    let mut stream = Text::of(alloc, b"MAIL FROM:")?;
-    stream.extend(path)?;
-    stream.extend(b"\r\nRCPT TO:<r>\r\nDATA\r\n.\r\n")?;
-    said_inside(alloc, stream.bytes(), 77)
+/// What stands in a stream before and behind the row's, and how many bytes of what is said aren't looked
+/// at in front, as the replies to MAIL, RCPT and DATA, and at the end.
+#[derive(Clone, Copy)]
+struct Frame {
+    before: &'static [u8],
+    behind: &'static [u8],
+    front: usize,
+    end: usize,
+}
+
+fn inside<'a>(said: &'a [u8], frame: &Frame) -> &'a [u8] {
+    let front = said.len().min(frame.front);
+    let end = said.len().saturating_sub(frame.end).max(front);
+    &said[front..end]
+}
+
+fn is_said(alloc: Global, frame: &Frame, row: &Row) -> Result<bool, NoMemory> {
+    let mut stream = Text::new(alloc);
+    add(&mut stream, &[frame.before, row.0, frame.behind])?;
+    let said = said_to(alloc, stream.bytes())?;
+    Ok(inside(said.bytes(), frame) == row.1)
+}
+
+// The tables by number. As constants of one another they would stand byte by byte in the proof.
+fn table(number: usize) -> (Frame, &'static [Row]) {
+    match number {
+        0 => (WHOLE, &SESSIONS),
+        1 => (MESSAGE, &MESSAGES),
+        _ => (SENDER, &PATHS),
+    }
+}
+
+const WHOLE: Frame = Frame {
+    before: b"",
+    behind: b"",
+    front: 0,
+    end: 0,
+};
+
+const MESSAGE: Frame = Frame {
+    before: b"MAIL FROM:<b>\r\nRCPT TO:<a>\r\nDATA\r\n",
+    behind: b"",
+    front: 95,
+    end: 72,
+};
+
+const SENDER: Frame = Frame {
+    before: b"MAIL FROM:",
+    behind: b"\r\nRCPT TO:<r>\r\nDATA\r\n.\r\n",
+    front: 95,
+    end: 77,
+};
+
+// The first place of a row to which something else is said.
+fn wrong(alloc: Global, frame: &Frame, rows: &[Row]) -> Result<Option<usize>, NoMemory> {
+    for (at, row) in rows.iter().enumerate() {
+        if !is_said(alloc, frame, row)? {
+            return Ok(Some(at));
+        }
+    }
+    Ok(None)
+}
+
+fn wrong_of(alloc: Global, number: usize) -> Result<Option<usize>, NoMemory> {
+    let (frame, rows) = table(number);
+    wrong(alloc, &frame, rows)
 }
 
 #[test]
-fn paths_are_taken(rt: HostRuntime) -> Result<(), Fail> {
-    for (path, wanted) in &PATHS {
-        let said = sender_of(rt.alloc(), path)?;
-        assert_eq!(rt; said.bytes(), *wanted);
+fn lines_get_their_replies_and_messages_are_split(rt: HostRuntime) -> Result<(), NoMemory> {
+    for number in 0..3 {
+        assert_eq!(rt; wrong_of(rt.alloc(), number)?, None, "table {number}");
     }
     Ok(())
 }
 
-/// The reply's code to a MAIL whose path has a local part and a domain of these lengths.
-fn code_of(alloc: Global, local: usize, domain: usize) -> Result<Text, NoMemory> {
-    let said = said_to(alloc, mail_line(alloc, local, domain)?.bytes())?;
-    let end = said.len().min(9);
-    Text::of(alloc, &said.bytes()[..end])
+fn fill(line: &mut Text, byte: u8, count: usize) -> Result<(), NoMemory> {
+    for _ in 0..count {
+        line.push(byte)?;
+    }
+    Ok(())
 }
 
-fn mail_line(alloc: Global, local: usize, domain: usize) -> Result<Text, NoMemory> {
-    let mut line = Text::of(alloc, b"MAIL FROM:<")?;
-    for _ in 0..local {
-        line.push(b'x')?;
-    }
+fn add_mail(line: &mut Text, local: usize, domain: usize) -> Result<(), NoMemory> {
+    line.extend(b"MAIL FROM:<")?;
+    fill(line, b'x', local)?;
     line.push(b'@')?;
-    for _ in 0..domain {
-        line.push(b'y')?;
-    }
-    line.extend(b">\r\n")?;
-    Ok(line)
+    fill(line, b'y', domain)?;
+    line.extend(b">\r\n")
 }
 
-/// The lengths of a local part and a domain, and the code of the reply.
+/// The lengths of a local part and a domain in the path of a MAIL, and the code of the reply.
 static LENGTHS: [(usize, usize, &[u8]); 5] = [
     (64, 189, b"250 2.1.0"),
     (64, 190, b"501 5.1.3"),
@@ -222,60 +256,73 @@ static LENGTHS: [(usize, usize, &[u8]); 5] = [
     (2_100, 1, b"500 5.5.2"),
 ];
 
+// Whether the reply to such a MAIL begins with this code.
+fn has_code(alloc: Global, row: &(usize, usize, &[u8])) -> Result<bool, NoMemory> {
+    let mut line = Text::new(alloc);
+    add_mail(&mut line, row.0, row.1)?;
+    Ok(said_to(alloc, line.bytes())?.bytes().starts_with(row.2))
+}
+
 #[test]
-fn a_path_has_256_bytes_and_its_local_part_64(rt: HostRuntime) -> Result<(), Fail> {
-    for (local, domain, wanted) in &LENGTHS {
-        let code = code_of(rt.alloc(), *local, *domain)?;
-        assert_eq!(rt; code.bytes(), *wanted);
+fn a_path_has_256_bytes_and_its_local_part_64(rt: HostRuntime) -> Result<(), NoMemory> {
+    for row in &LENGTHS {
+        assert!(rt; has_code(rt.alloc(), row)?, "{} and {}", row.0, row.1);
     }
     Ok(())
 }
 
 /// What is said to the lines behind one for which there was no memory in mid-data.
-fn said_after_reset(alloc: Global) -> Result<Text, NoMemory> {
-    let mut session = session_of(alloc)?;
-    let mut said = Text::new(alloc);
+fn hear_after_reset(session: &mut Session, said: &mut Text) -> Result<(), NoMemory> {
+    let alloc = said.allocator();
     let begun = lines_of(alloc, b"MAIL FROM:<a>\r\nRCPT TO:<b>\r\nDATA\r\na\r\n")?;
-    hear(&mut session, &begun, &mut said)?;
+    hear(session, &begun, said)?;
     session.reset();
     said.clear();
-    hear(&mut session, &rest_after_reset(alloc)?, &mut said)?;
-    Ok(said)
+    hear_rest(session, said)
 }
 
-fn rest_after_reset(alloc: Global) -> Result<Seq<Line>, NoMemory> {
-    let mut lines = Seq::new(alloc);
+fn hear_rest(session: &mut Session, said: &mut Text) -> Result<(), NoMemory> {
+    let mut rest = Seq::new(said.allocator());
+    add_rest(&mut rest)?;
+    hear(session, &rest, said)
+}
+
+fn is_said_after_reset(alloc: Global, wanted: &[u8]) -> Result<bool, NoMemory> {
+    let mut session = session_of(alloc)?;
+    let mut said = Text::new(alloc);
+    hear_after_reset(&mut session, &mut said)?;
+    Ok(said.bytes() == wanted)
+}
+
+fn add_rest(lines: &mut Seq<Line>) -> Result<(), NoMemory> {
+    let alloc = lines.allocator();
     lines.push(Line::Data(Text::of(alloc, b"b")?))?;
     lines.push(Line::DataEnd)?;
     lines.push(Line::Command(Text::of(alloc, b"DATA")?))?;
-    lines.push(Line::Command(Text::of(alloc, b"MAIL FROM:<c>")?))?;
-    Ok(lines)
-}
-
-#[test]
-fn after_want_of_memory_the_rest_of_a_message_gets_no_reply(rt: HostRuntime) -> Result<(), Fail> {
-    let said = said_after_reset(rt.alloc())?;
-    assert_eq!(rt;
-        said.bytes(),
-        b"++503 5.5.1 Need RCPT first\r\n250 2.1.0 Sender ok\r\n".as_slice()
-    );
-    Ok(())
+    lines.push(Line::Command(Text::of(alloc, b"MAIL FROM:<c>")?))
 }
 
 /// The greeting, and the replies where there is no room.
-fn said_unasked(alloc: Global) -> Result<Text, NoMemory> {
-    let mut said = session_of(alloc)?.greeting()?;
+fn say_unasked(said: &mut Text) -> Result<(), NoMemory> {
+    let alloc = said.allocator();
+    said.extend(session_of(alloc)?.greeting()?.bytes())?;
     said.extend(out_of_memory(alloc)?.bytes())?;
-    said.extend(too_many_sessions(alloc)?.bytes())?;
-    Ok(said)
+    said.extend(too_many_sessions(alloc)?.bytes())
 }
 
+fn is_said_unasked(alloc: Global, wanted: &[u8]) -> Result<bool, NoMemory> {
+    let mut said = Text::new(alloc);
+    say_unasked(&mut said)?;
+    Ok(said.bytes() == wanted)
+}
+
+// After want of memory the rest of a message gets no reply; some replies no command gets.
 #[test]
-fn replies_that_no_command_gets(rt: HostRuntime) -> Result<(), Fail> {
-    let said = said_unasked(rt.alloc())?;
-    assert_eq!(rt;
-        said.bytes(),
-        b"220 localhost ESMTP ready\r\n452 4.3.1 Out of memory\r\n421 4.3.2 Too many sessions\r\n".as_slice()
-    );
+fn replies_that_no_command_gets(rt: HostRuntime) -> Result<(), NoMemory> {
+    let wanted = b"++503 5.5.1 Need RCPT first\r\n250 2.1.0 Sender ok\r\n";
+    assert!(rt; is_said_after_reset(rt.alloc(), wanted)?);
+    let wanted =
+        b"220 localhost ESMTP ready\r\n452 4.3.1 Out of memory\r\n421 4.3.2 Too many sessions\r\n";
+    assert!(rt; is_said_unasked(rt.alloc(), wanted)?);
     Ok(())
 }

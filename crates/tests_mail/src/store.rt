@@ -5,9 +5,8 @@ ghost use Rattle.tests_mail.specs.Samples.{sample_dir, sample_dirs};
 use mail_base::{Control, Draft, EdgeFault, NoMemory, Seq, StoreFault, Text};
 use qf_format::parse;
 use spool_disk::{MemSpool, Spool, StopSpool};
-use spool_store::{Change, OpenFault, SpoolFault, Store};
+use spool_store::{Change, OpenFault, Store};
 use std::alloc::Global;
-use std::test::Fail;
 
 // The control text of an entry whose one row is still tried.
 const CONTROL: &[u8] =
@@ -93,26 +92,43 @@ fn bytes_in<S: Spool>(
     spool.read(alloc, &dir, &Text::of(alloc, name)?)
 }
 
-fn is_text(text: &Option<Text>, bytes: &[u8]) -> bool {
-    match text {
-        None => false,
-        Some(text) => text.bytes() == bytes,
+fn is_text(text: &Option<Text>, bytes: Option<&[u8]>) -> bool {
+    match (text, bytes) {
+        (Some(text), Some(bytes)) => text.bytes() == bytes,
+        (None, None) => true,
+        _ => false,
     }
 }
 
-// Whether the first entry stands in the files of its id, whole.
-fn is_stored<S: Spool>(alloc: Global, spool: &mut S) -> Result<bool, EdgeFault> {
-    let control = bytes_in(alloc, spool, b"qfw000000000001")?;
-    let body = bytes_in(alloc, spool, b"dfw000000000001")?;
-    Ok(is_text(&control, CONTROL) && is_text(&body, BODY))
+/// The name of a file, and its bytes where it is there.
+type File = (&'static [u8], Option<&'static [u8]>);
+
+fn are_files<S: Spool>(alloc: Global, spool: &mut S, files: &[File]) -> Result<bool, EdgeFault> {
+    for (name, bytes) in files {
+        if !is_text(&bytes_in(alloc, spool, name)?, *bytes) {
+            return Ok(false);
+        }
+    }
+    Ok(true)
 }
+
+// The first entry in the files of its id, whole.
+const STORED: &[File] = &[
+    (b"qfw000000000001", Some(CONTROL)),
+    (b"dfw000000000001", Some(BODY)),
+];
+
+const NO_CONTROL: &[File] = &[(b"qfw000000000001", None)];
+
+// The second entry's control file, with no draft left of it.
+const SECOND: &[File] = &[
+    (b"qfw000000000002", Some(CONTROL)),
+    (b"tfw000000000002", None),
+];
 
 // Whether the spool has the first entry whole, or no control file of it.
 fn is_either<S: Spool>(alloc: Global, spool: &mut S) -> Result<bool, EdgeFault> {
-    if bytes_in(alloc, spool, b"qfw000000000001")?.is_none() {
-        return Ok(true);
-    }
-    is_stored(alloc, spool)
+    Ok(are_files(alloc, spool, NO_CONTROL)? || are_files(alloc, spool, STORED)?)
 }
 
 fn failing_at(alloc: Global, call: u64) -> Result<MemSpool, NoMemory> {
@@ -121,14 +137,31 @@ fn failing_at(alloc: Global, call: u64) -> Result<MemSpool, NoMemory> {
     Ok(MemSpool::new(alloc, calls))
 }
 
-#[test]
-fn a_commit_writes_both_files(rt: HostRuntime) -> Result<(), Fail> {
-    let alloc = rt.alloc();
+// Whether both entries are committed, and stand in their files.
+fn writes_both(alloc: Global, spool: &mut MemSpool) -> bool {
+    matches!(commit_twice(alloc, spool), Ok((true, true)))
+        && matches!(are_files(alloc, spool, STORED), Ok(true))
+        && matches!(are_files(alloc, spool, SECOND), Ok(true))
+}
+
+// Whether a spool that has entries isn't opened, and keeps them.
+fn is_refused(alloc: Global, spool: &mut MemSpool) -> Result<bool, NoMemory> {
+    let dirs = dirs(alloc)?;
+    let fault = Store::open(alloc, spool, &dirs).err();
+    Ok(fault == Some(OpenFault::NotYet) && matches!(are_files(alloc, spool, STORED), Ok(true)))
+}
+
+fn writes_and_refuses(alloc: Global) -> Result<(bool, bool), NoMemory> {
     let mut spool = MemSpool::new(alloc, Seq::new(alloc));
-    assert_eq!(rt; commit_twice(alloc, &mut spool)?, (true, true));
-    assert!(rt; is_stored(alloc, &mut spool)?);
-    assert!(rt; is_text(&bytes_in(alloc, &mut spool, b"qfw000000000002")?, CONTROL));
-    assert!(rt; bytes_in(alloc, &mut spool, b"tfw000000000002")?.is_none());
+    let is_written = writes_both(alloc, &mut spool);
+    Ok((is_written, is_refused(alloc, &mut spool)?))
+}
+
+#[test]
+fn a_commit_writes_both_files_and_a_spool_with_a_name_is_not_opened(
+    rt: HostRuntime,
+) -> Result<(), NoMemory> {
+    assert_eq!(rt; writes_and_refuses(rt.alloc())?, (true, true));
     Ok(())
 }
 
@@ -149,52 +182,35 @@ fn all_either(alloc: Global, spool: &StopSpool) -> Result<bool, EdgeFault> {
     Ok(true)
 }
 
+fn leaves_either(alloc: Global, passes: u64) -> bool {
+    match stopped_after(alloc, passes) {
+        Ok(spool) => matches!(all_either(alloc, &spool), Ok(true)),
+        Err(_) => false,
+    }
+}
+
 #[test]
-fn a_stop_leaves_before_or_after(rt: HostRuntime) -> Result<(), Fail> {
+fn a_stop_leaves_before_or_after(rt: HostRuntime) {
     for passes in 0..5u64 {
-        let spool = stopped_after(rt.alloc(), passes)?;
-        assert!(rt; all_either(rt.alloc(), &spool)?);
+        assert!(rt; leaves_either(rt.alloc(), passes), "{passes}");
     }
-    Ok(())
 }
 
-// The call that fails is the last one: a store that it left broken touches nothing.
+// Whether a call that fails is told. It is the last one: a store that it left broken touches nothing.
+fn is_told(alloc: Global, call: u64) -> Result<bool, NoMemory> {
+    let mut spool = failing_at(alloc, call)?;
+    let commits = commit_twice(alloc, &mut spool);
+    Ok(
+        matches!(commits, Ok((false, false)))
+            && spool.calls() == call.saturating_add(1)
+            && matches!(is_either(alloc, &mut spool), Ok(true)),
+    )
+}
+
 #[test]
-fn each_call_that_fails_is_told(rt: HostRuntime) -> Result<(), Fail> {
-    let alloc = rt.alloc();
+fn each_call_that_fails_is_told(rt: HostRuntime) -> Result<(), NoMemory> {
     for call in 0..4u64 {
-        let mut spool = failing_at(alloc, call)?;
-        assert_eq!(rt; commit_twice(alloc, &mut spool)?, (false, false));
-        assert_eq!(rt; spool.calls(), call + 1);
-        assert!(rt; is_either(alloc, &mut spool)?);
+        assert!(rt; is_told(rt.alloc(), call)?, "{call}");
     }
-    Ok(())
-}
-
-#[test]
-fn a_spool_with_a_name_is_not_opened(rt: HostRuntime) -> Result<(), Fail> {
-    let alloc = rt.alloc();
-    let mut spool = MemSpool::new(alloc, Seq::new(alloc));
-    assert_eq!(rt; commit_twice(alloc, &mut spool)?, (true, true));
-    let fault = Store::open(alloc, &mut spool, &dirs(alloc)?).err();
-    assert_eq!(rt; fault, Some(OpenFault::NotYet));
-    assert!(rt; is_stored(alloc, &mut spool)?);
-    Ok(())
-}
-
-#[test]
-fn faults_have_their_texts(rt: HostRuntime) -> Result<(), Fail> {
-    let texts = [
-        (OpenFault::SpoolFault, b"the spool failed".as_slice()),
-        (OpenFault::NotYet, b"not yet"),
-        (OpenFault::NoMemory, b"no memory"),
-    ];
-    for (fault, text) in texts {
-        let told = format!(in rt.alloc(); "{fault}")?;
-        assert_eq!(rt; told.as_bytes(), text);
-    }
-    let broken = SpoolFault;
-    let told = format!(in rt.alloc(); "{broken}")?;
-    assert_eq!(rt; told.as_bytes(), b"the spool failed".as_slice());
     Ok(())
 }
