@@ -287,10 +287,14 @@ fn hear_rest(session: &mut Session, said: &mut Text) -> Result<(), NoMemory> {
     hear(session, &rest, said)
 }
 
+fn say_after_reset(said: &mut Text) -> Result<(), NoMemory> {
+    let mut session = session_of(said.allocator())?;
+    hear_after_reset(&mut session, said)
+}
+
 fn is_said_after_reset(alloc: Global, wanted: &[u8]) -> Result<bool, NoMemory> {
-    let mut session = session_of(alloc)?;
     let mut said = Text::new(alloc);
-    hear_after_reset(&mut session, &mut said)?;
+    say_after_reset(&mut said)?;
     Ok(said.bytes() == wanted)
 }
 
@@ -302,12 +306,21 @@ fn add_rest(lines: &mut Seq<Line>) -> Result<(), NoMemory> {
     lines.push(Line::Command(Text::of(alloc, b"MAIL FROM:<c>")?))
 }
 
+fn greeting(alloc: Global) -> Result<Text, NoMemory> {
+    let session = session_of(alloc)?;
+    session.greeting()
+}
+
+fn say(said: &mut Text, text: Text) -> Result<(), NoMemory> {
+    said.extend(text.bytes())
+}
+
 /// The greeting, and the replies where there is no room.
 fn say_unasked(said: &mut Text) -> Result<(), NoMemory> {
     let alloc = said.allocator();
-    said.extend(session_of(alloc)?.greeting()?.bytes())?;
-    said.extend(out_of_memory(alloc)?.bytes())?;
-    said.extend(too_many_sessions(alloc)?.bytes())
+    say(said, greeting(alloc)?)?;
+    say(said, out_of_memory(alloc)?)?;
+    say(said, too_many_sessions(alloc)?)
 }
 
 fn is_said_unasked(alloc: Global, wanted: &[u8]) -> Result<bool, NoMemory> {
