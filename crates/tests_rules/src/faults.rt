@@ -5,7 +5,6 @@ use mail_base::{NoMemory, Text};
 use ruleset_run::RunFault;
 use std::alloc::Global;
 use std::fmt::Display;
-use std::test::Fail;
 
 static SCAN: [(ScanFault, &str); 6] = [
     (ScanFault::Unbalanced(0), "Unbalanced 0"),
@@ -23,10 +22,12 @@ static EXPAND: [(ExpandFault, &str); 4] = [
     (ExpandFault::NoMemory, "no memory"),
 ];
 
+static BAD: [(Bad, &str); 1] = [(Bad { place: 3 }, "bad value at 3")];
+
 /// The texts of the faults of a run, by their places.
 static RUN: [&str; 5] = ["Loop", "Work", "Long", "NoRuleset", "NoMemory"];
 
-fn says(alloc: Global, fault: &impl Display, text: &str) -> Result<bool, Fail> {
+fn says(alloc: Global, fault: &impl Display, text: &str) -> Result<bool, NoMemory> {
     let said = format!(in alloc; "{fault}")?;
     Ok(said.as_str() == text)
 }
@@ -41,27 +42,40 @@ fn run_fault(alloc: Global, place: usize) -> Result<RunFault, NoMemory> {
     }
 }
 
-fn run_says(alloc: Global, place: usize, text: &str) -> Result<bool, Fail> {
+fn all_say<F: Display>(alloc: Global, rows: &[(F, &str)]) -> Result<bool, NoMemory> {
+    for (fault, text) in rows {
+        if !says(alloc, fault, text)? {
+            return Ok(false);
+        }
+    }
+    Ok(true)
+}
+
+fn run_says(alloc: Global, place: usize, text: &str) -> Result<bool, NoMemory> {
     let fault = run_fault(alloc, place)?;
     says(alloc, &fault, text)
 }
 
-#[test]
-fn faults_say_what_they_are(rt: HostRuntime) -> Result<(), Fail> {
-    for (fault, text) in &SCAN {
-        assert!(rt; says(rt.alloc(), fault, text)?, "{text}");
+fn runs_say(alloc: Global) -> Result<bool, NoMemory> {
+    for (place, text) in RUN.iter().enumerate() {
+        if !run_says(alloc, place, text)? {
+            return Ok(false);
+        }
     }
-    for (fault, text) in &EXPAND {
-        assert!(rt; says(rt.alloc(), fault, text)?, "{text}");
-    }
-    assert!(rt; says(rt.alloc(), &Bad { place: 3 }, "bad value at 3")?);
-    Ok(())
+    Ok(true)
+}
+
+fn faults_say(alloc: Global) -> Result<bool, NoMemory> {
+    Ok(
+        all_say(alloc, &SCAN)?
+            && all_say(alloc, &EXPAND)?
+            && all_say(alloc, &BAD)?
+            && runs_say(alloc)?,
+    )
 }
 
 #[test]
-fn faults_of_a_run_say_what_they_are(rt: HostRuntime) -> Result<(), Fail> {
-    for (place, text) in RUN.iter().enumerate() {
-        assert!(rt; run_says(rt.alloc(), place, text)?, "{text}");
-    }
+fn faults_say_what_they_are(rt: HostRuntime) -> Result<(), NoMemory> {
+    assert!(rt; faults_say(rt.alloc())?);
     Ok(())
 }

@@ -13,6 +13,8 @@ mod matches;
 #[cfg(test)]
 mod runs;
 #[cfg(test)]
+mod sets;
+#[cfg(test)]
 mod signs;
 #[cfg(test)]
 mod tokens;

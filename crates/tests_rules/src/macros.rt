@@ -1,11 +1,10 @@
 use cf_macros::{ExpandFault, Form, date, expand, expand_rule};
 use mail_base::{Macros, NoMemory, Text};
 use std::alloc::Global;
-use std::test::Fail;
 
 // Eleven macros a to k, each of which names the next, ten o to y of which each names the next ten times,
 // and others.
-static SETTINGS: [(&str, &str); 33] = [
+const SETTINGS: &[(&str, &str)] = &[
     ("a", "$b"),
     ("b", "$c"),
     ("c", "$d"),
@@ -46,12 +45,15 @@ fn set(alloc: Global, macros: &mut Macros, name: &str, value: &str) -> Result<()
     macros.set(&name, &Text::of(alloc, value.as_bytes())?)
 }
 
-fn settings(alloc: Global) -> Result<Macros, NoMemory> {
-    let mut macros = Macros::new(alloc);
-    for (name, value) in &SETTINGS {
-        set(alloc, &mut macros, name, value)?;
+// Sets them, and a macro z where it has a value.
+fn set_all(alloc: Global, macros: &mut Macros, z: Option<&str>) -> Result<(), NoMemory> {
+    for (name, value) in SETTINGS {
+        set(alloc, macros, name, value)?;
     }
-    Ok(macros)
+    match z {
+        Some(value) => set(alloc, macros, "z", value),
+        None => Ok(()),
+    }
 }
 
 /// The call that expands a text.
@@ -68,241 +70,218 @@ fn expansion(alloc: Global, call: Call, text: &Text, macros: &Macros) -> Result<
     }
 }
 
-// What the text gives, or `!` and the refusal.
-fn outcome(alloc: Global, call: Call, macros: &Macros, text: &str) -> Result<Text, NoMemory> {
-    let text = Text::of(alloc, text.as_bytes())?;
-    match expansion(alloc, call, &text, macros) {
-        Ok(given) => Ok(given),
-        Err(fault) => refusal(alloc, fault),
+/// A text, and what it gives or how it is refused.
+type Case = (&'static str, Result<&'static str, ExpandFault>);
+
+fn is_wanted(given: &Result<Text, ExpandFault>, wanted: &Result<&str, ExpandFault>) -> bool {
+    match (given, wanted) {
+        (Ok(given), Ok(wanted)) => given.bytes() == wanted.as_bytes(),
+        (Err(fault), Err(wanted)) => fault == wanted,
+        _ => false,
     }
 }
 
-fn refusal(alloc: Global, fault: ExpandFault) -> Result<Text, NoMemory> {
-    match fault {
-        ExpandFault::Unclosed(place) => {
-            let mut told = Text::of(alloc, b"!unclosed at ")?;
-            told.push(b'0' + (place % 10) as u8)?;
-            Ok(told)
-        }
-        ExpandFault::Deep => Text::of(alloc, b"!deep"),
-        ExpandFault::Large => Text::of(alloc, b"!large"),
-        ExpandFault::NoMemory => Err(NoMemory),
-    }
+fn gives(alloc: Global, call: Call, macros: &Macros, case: &Case) -> Result<bool, NoMemory> {
+    let text = Text::of(alloc, case.0.as_bytes())?;
+    Ok(is_wanted(&expansion(alloc, call, &text, macros), &case.1))
 }
 
-fn gives(
+fn wrong_of(
     alloc: Global,
     call: Call,
     macros: &Macros,
-    text: &str,
-    wanted: &str,
-) -> Result<bool, NoMemory> {
-    Ok(outcome(alloc, call, macros, text)?.bytes() == wanted.as_bytes())
-}
-
-// The first case of which the text doesn't come to what is wanted.
-fn first_wrong<'a>(
-    alloc: Global,
-    call: Call,
-    cases: &[(&'a str, &str)],
-) -> Result<Option<&'a str>, NoMemory> {
-    let macros = settings(alloc)?;
-    for (text, wanted) in cases {
-        if !gives(alloc, call, &macros, text, wanted)? {
-            return Ok(Some(*text));
+    cases: &[Case],
+) -> Result<Option<&'static str>, NoMemory> {
+    for case in cases {
+        if !gives(alloc, call, macros, case)? {
+            return Ok(Some(case.0));
         }
     }
     Ok(None)
 }
 
-fn repeated(alloc: Global, bytes: &str, count: usize) -> Result<Text, NoMemory> {
-    let mut text = Text::new(alloc);
-    for _ in 0..count {
-        text.extend(bytes.as_bytes())?;
-    }
-    Ok(text)
+/// A call, the value of z, and cases.
+type Table = (Call, Option<&'static str>, &'static [Case]);
+
+// The first case of which the text doesn't come to what is wanted.
+fn wrong(alloc: Global, table: &Table) -> Result<Option<&'static str>, NoMemory> {
+    let mut macros = Macros::new(alloc);
+    set_all(alloc, &mut macros, table.1)?;
+    wrong_of(alloc, table.0, &macros, table.2)
 }
 
-// What the macro y gives where z has this value.
-fn conditional(alloc: Global, z: Option<&str>) -> Result<Text, NoMemory> {
-    let mut macros = settings(alloc)?;
-    if let Some(value) = z {
-        set(alloc, &mut macros, "z", value)?;
-    }
-    outcome(alloc, Call::Expand, &macros, "$y")
-}
+// A conditional macro, without z and with it.
+const WITHOUT: &[Case] = &[("$y", Ok("acd"))];
 
-#[test]
-fn conditional_macro(rt: HostRuntime) -> Result<(), Fail> {
-    assert_eq!(rt; conditional(rt.alloc(), None)?.bytes(), b"acd".as_slice());
-    assert_eq!(rt;
-        conditional(rt.alloc(), Some("1"))?.bytes(),
-        b"abd".as_slice()
-    );
-    Ok(())
-}
+const WITH: &[Case] = &[("$y", Ok("abd"))];
 
-static VALUES: [(&str, &str); 25] = [
-    ("", ""),
-    ("plain", "plain"),
-    ("$S-${S}-$&S-$&{S}", "set-set-set-set"),
-    ("${mail}.$mail", "long.ail"),
-    ("<$U><${unset}><$&U>", "<><><>"),
-    ("$$S $$", "$S $"),
+const VALUES: &[Case] = &[
+    ("", Ok("")),
+    ("plain", Ok("plain")),
+    ("$S-${S}-$&S-$&{S}", Ok("set-set-set-set")),
+    ("${mail}.$mail", Ok("long.ail")),
+    ("<$U><${unset}><$&U>", Ok("<><><>")),
+    ("$$S $$", Ok("$S $")),
     (
         "$1 $* $+ $- $@ $: $# $> $[ $] $( $) $= $~ $0 $9",
-        "$1 $* $+ $- $@ $: $# $> $[ $] $( $) $= $~ $0 $9",
+        Ok("$1 $* $+ $- $@ $: $# $> $[ $] $( $) $= $~ $0 $9"),
     ),
-    ("a$|b$.c", "a$|b$.c"),
-    ("$", "$"),
-    ("a$?", "a$?"),
-    ("$?1x", "$?1x"),
-    ("$&+S", "$&+S"),
-    ("$?Syes$.!", "yes!"),
-    ("$?Uyes$.!", "!"),
-    ("$?Syes$|no$.!", "yes!"),
-    ("$?{unset}yes$|no$.!", "no!"),
-    ("$?Eyes$|no$.", "no"),
-    ("$?Nyes$|no$.", "no"),
-    ("$?S[$?Uu$|v$.]$|w$.", "[v]"),
-    ("$?U[$?Su$|v$.]$|w$?Sx$|y$.$.z", "wxz"),
-    ("$?Sa$|b$|c$.d", "ad"),
-    ("$?Ua$|b$|c$.d", "bd"),
-    ("$L", "aacdb"),
-    ("$D*", "$*"),
-    ("$T", "$1aacdb"),
+    ("a$|b$.c", Ok("a$|b$.c")),
+    ("$", Ok("$")),
+    ("a$?", Ok("a$?")),
+    ("$?1x", Ok("$?1x")),
+    ("$&+S", Ok("$&+S")),
+    ("$?Syes$.!", Ok("yes!")),
+    ("$?Uyes$.!", Ok("!")),
+    ("$?Syes$|no$.!", Ok("yes!")),
+    ("$?{unset}yes$|no$.!", Ok("no!")),
+    ("$?Eyes$|no$.", Ok("no")),
+    ("$?Nyes$|no$.", Ok("no")),
+    ("$?S[$?Uu$|v$.]$|w$.", Ok("[v]")),
+    ("$?U[$?Su$|v$.]$|w$?Sx$|y$.$.z", Ok("wxz")),
+    ("$?Sa$|b$|c$.d", Ok("ad")),
+    ("$?Ua$|b$|c$.d", Ok("bd")),
+    ("$L", Ok("aacdb")),
+    ("$D*", Ok("$*")),
+    ("$T", Ok("$1aacdb")),
 ];
 
-static REFUSALS: [(&str, &str); 14] = [
-    ("${S", "!unclosed at 1"),
-    ("ab$&{S", "!unclosed at 4"),
-    ("a$?Sb", "!unclosed at 1"),
-    ("a$?{Sb", "!unclosed at 1"),
-    ("$?Sa$|b${x", "!unclosed at 0"),
-    ("$?Sa$.$?Ub$?Sc$.", "!unclosed at 6"),
-    ("abc$O", "!unclosed at 1"),
-    ("$B", "!unclosed at 3"),
-    ("$?U$O$.ok", "ok"),
-    ("$b", "end"),
-    ("$a", "!deep"),
-    ("$?ax$.", "!deep"),
-    ("$a${", "!deep"),
-    ("$?U$a$|ok$.", "ok"),
+const REFUSALS: &[Case] = &[
+    ("${S", Err(ExpandFault::Unclosed(1))),
+    ("ab$&{S", Err(ExpandFault::Unclosed(4))),
+    ("a$?Sb", Err(ExpandFault::Unclosed(1))),
+    ("a$?{Sb", Err(ExpandFault::Unclosed(1))),
+    ("$?Sa$|b${x", Err(ExpandFault::Unclosed(0))),
+    ("$?Sa$.$?Ub$?Sc$.", Err(ExpandFault::Unclosed(6))),
+    ("abc$O", Err(ExpandFault::Unclosed(1))),
+    ("$B", Err(ExpandFault::Unclosed(3))),
+    ("$?U$O$.ok", Ok("ok")),
+    ("$b", Ok("end")),
+    ("$a", Err(ExpandFault::Deep)),
+    ("$?ax$.", Err(ExpandFault::Deep)),
+    ("$a${", Err(ExpandFault::Deep)),
+    ("$?U$a$|ok$.", Ok("ok")),
 ];
-
-#[test]
-fn values_by_the_first_construct(rt: HostRuntime) -> Result<(), Fail> {
-    assert_eq!(rt; first_wrong(rt.alloc(), Call::Expand, &VALUES)?, None);
-    Ok(())
-}
-
-#[test]
-fn refusals_in_reading_order(rt: HostRuntime) -> Result<(), Fail> {
-    assert_eq!(rt; first_wrong(rt.alloc(), Call::Expand, &REFUSALS)?, None);
-    Ok(())
-}
 
 // Sides of rules: `$$` and `$&` stay, in the side, in values and in parts of conditionals.
-static SIDES: [(&str, &str); 24] = [
-    ("", ""),
-    ("$*<@$+>$*", "$*<@$+>$*"),
-    ("$S$@$mail", "set$@ail"),
-    ("<${mail}>", "<long>"),
-    ("$$", "$$"),
-    ("$$1", "$$1"),
-    ("$$$S", "$$set"),
-    ("$&m", "$&m"),
-    ("$&{S}", "$&{S}"),
-    ("$&{a$S}", "$&{a$S}"),
-    ("a$&", "a$&"),
-    ("$&+$S", "$&+set"),
-    ("$L", "a$&{y}b"),
-    ("$D", "$$"),
-    ("$T", "$$1a$&{y}b"),
-    ("$C*", "x$*"),
-    ("$?Sa$|b$.", "a"),
-    ("$?Ua$|b$.", "b"),
-    ("$?S$$1$|$2$.$#", "$$1$#"),
-    ("$?U$1$|$&{mail}$.", "$&{mail}"),
-    ("$?Lyes$|no$.", "yes"),
-    ("$?Dyes$|no$.", "yes"),
-    ("$?Eyes$|no$.", "no"),
-    ("a$|b$.c", "a$|b$.c"),
+const SIDES: &[Case] = &[
+    ("", Ok("")),
+    ("$*<@$+>$*", Ok("$*<@$+>$*")),
+    ("$S$@$mail", Ok("set$@ail")),
+    ("<${mail}>", Ok("<long>")),
+    ("$$", Ok("$$")),
+    ("$$1", Ok("$$1")),
+    ("$$$S", Ok("$$set")),
+    ("$&m", Ok("$&m")),
+    ("$&{S}", Ok("$&{S}")),
+    ("$&{a$S}", Ok("$&{a$S}")),
+    ("a$&", Ok("a$&")),
+    ("$&+$S", Ok("$&+set")),
+    ("$L", Ok("a$&{y}b")),
+    ("$D", Ok("$$")),
+    ("$T", Ok("$$1a$&{y}b")),
+    ("$C*", Ok("x$*")),
+    ("$?Sa$|b$.", Ok("a")),
+    ("$?Ua$|b$.", Ok("b")),
+    ("$?S$$1$|$2$.$#", Ok("$$1$#")),
+    ("$?U$1$|$&{mail}$.", Ok("$&{mail}")),
+    ("$?Lyes$|no$.", Ok("yes")),
+    ("$?Dyes$|no$.", Ok("yes")),
+    ("$?Eyes$|no$.", Ok("no")),
+    ("a$|b$.c", Ok("a$|b$.c")),
 ];
 
-static SIDE_REFUSALS: [(&str, &str); 13] = [
-    ("${S", "!unclosed at 1"),
-    ("ab$&{S", "!unclosed at 4"),
-    ("ab$$${S", "!unclosed at 5"),
-    ("a$?Sb", "!unclosed at 1"),
-    ("a$?{Sb", "!unclosed at 1"),
-    ("$&m$?Sb", "!unclosed at 3"),
-    ("$?S$&{a$.", "!unclosed at 0"),
-    ("xyz$G", "!unclosed at 2"),
-    ("$B", "!unclosed at 3"),
-    ("$O", "!unclosed at 1"),
-    ("$a", "!deep"),
-    ("$o", "!large"),
-    ("$?ox$.", "!large"),
+const SIDE_REFUSALS: &[Case] = &[
+    ("${S", Err(ExpandFault::Unclosed(1))),
+    ("ab$&{S", Err(ExpandFault::Unclosed(4))),
+    ("ab$$${S", Err(ExpandFault::Unclosed(5))),
+    ("a$?Sb", Err(ExpandFault::Unclosed(1))),
+    ("a$?{Sb", Err(ExpandFault::Unclosed(1))),
+    ("$&m$?Sb", Err(ExpandFault::Unclosed(3))),
+    ("$?S$&{a$.", Err(ExpandFault::Unclosed(0))),
+    ("xyz$G", Err(ExpandFault::Unclosed(2))),
+    ("$B", Err(ExpandFault::Unclosed(3))),
+    ("$O", Err(ExpandFault::Unclosed(1))),
+    ("$a", Err(ExpandFault::Deep)),
+    ("$o", Err(ExpandFault::Large)),
+    ("$?ox$.", Err(ExpandFault::Large)),
+];
+
+const BOMBS: &[Case] = &[
+    ("$o", Err(ExpandFault::Large)),
+    ("$?ox$.", Err(ExpandFault::Large)),
+];
+
+/// A conditional; values by the first construct, what is refused in reading order, a macro bomb at its
+/// limit; sides, which keep their late macros and dollars, and what is refused of them.
+const TABLES: &[Table] = &[
+    (Call::Expand, None, WITHOUT),
+    (Call::Expand, Some("1"), WITH),
+    (Call::Expand, None, VALUES),
+    (Call::Expand, None, REFUSALS),
+    (Call::Expand, None, BOMBS),
+    (Call::ExpandRule, None, SIDES),
+    (Call::ExpandRule, None, SIDE_REFUSALS),
 ];
 
 #[test]
-fn sides_keep_their_late_macros_and_dollars(rt: HostRuntime) -> Result<(), Fail> {
-    assert_eq!(rt; first_wrong(rt.alloc(), Call::ExpandRule, &SIDES)?, None);
-    Ok(())
-}
-
-#[test]
-fn sides_are_refused_in_reading_order(rt: HostRuntime) -> Result<(), Fail> {
-    assert_eq!(rt;
-        first_wrong(rt.alloc(), Call::ExpandRule, &SIDE_REFUSALS)?,
-        None
-    );
-    Ok(())
-}
-
-// Whether so many references to the empty macro are followed.
-fn follows(alloc: Global, count: usize) -> Result<bool, NoMemory> {
-    let text = repeated(alloc, "$E", count)?;
-    Ok(expand(alloc, &text, &settings(alloc)?) != Err(ExpandFault::Large))
-}
-
-#[test]
-fn ten_thousand_references(rt: HostRuntime) -> Result<(), Fail> {
-    assert!(rt; follows(rt.alloc(), 10_000)?);
-    assert!(rt; !follows(rt.alloc(), 10_001)?);
-    Ok(())
-}
-
-static BOMBS: [(&str, &str); 2] = [("$o", "!large"), ("$?ox$.", "!large")];
-
-#[test]
-fn a_macro_bomb_ends_at_its_limit(rt: HostRuntime) -> Result<(), Fail> {
-    assert_eq!(rt; first_wrong(rt.alloc(), Call::Expand, &BOMBS)?, None);
-    Ok(())
-}
-
-// A test of so many bytes.
-fn long_test(alloc: Global, count: usize) -> Result<Text, NoMemory> {
-    let mut text = Text::of(alloc, b"$?x")?;
-    for _ in 0..count {
-        text.push(b'b')?;
+fn texts_and_sides_by_the_first_construct(rt: HostRuntime) -> Result<(), NoMemory> {
+    for table in TABLES {
+        assert_eq!(rt; wrong(rt.alloc(), table)?, None);
     }
-    text.extend(b"$.")?;
+    Ok(())
+}
+
+/// A text as its front, what stands so many times behind it, and its end, and how long is what it gives.
+type Long = (
+    &'static str,
+    &'static str,
+    usize,
+    &'static str,
+    Result<usize, ExpandFault>,
+);
+
+// Ten thousand references, to the empty macro, and no more; a mebibyte, in a test, and no more.
+const LONG: &[Long] = &[
+    ("", "$E", 10_000, "", Ok(0)),
+    ("", "$E", 10_001, "", Err(ExpandFault::Large)),
+    ("$?x", "b", 1_048_576, "$.", Ok(1_048_576)),
+    ("$?x", "b", 1_048_577, "$.", Err(ExpandFault::Large)),
+];
+
+fn long_text(alloc: Global, row: &Long) -> Result<Text, NoMemory> {
+    let mut text = Text::of(alloc, row.0.as_bytes())?;
+    for _ in 0..row.2 {
+        text.extend(row.1.as_bytes())?;
+    }
+    text.extend(row.3.as_bytes())?;
     Ok(text)
 }
 
-// How many bytes a test of many bytes and then so many bytes give.
-fn size(alloc: Global, count: usize) -> Result<usize, ExpandFault> {
-    let text = long_test(alloc, count)?;
-    let macros = settings(alloc)?;
-    Ok(expand(alloc, &text, &macros)?.len())
+fn is_long(given: &Result<Text, ExpandFault>, wanted: &Result<usize, ExpandFault>) -> bool {
+    match (given, wanted) {
+        (Ok(given), Ok(wanted)) => given.len() == *wanted,
+        (Err(fault), Err(wanted)) => fault == wanted,
+        _ => false,
+    }
+}
+
+fn is_expanded(alloc: Global, macros: &Macros, row: &Long) -> Result<bool, NoMemory> {
+    let text = long_text(alloc, row)?;
+    Ok(is_long(&expand(alloc, &text, macros), &row.4))
+}
+
+fn is_size(alloc: Global, row: &Long) -> Result<bool, NoMemory> {
+    let mut macros = Macros::new(alloc);
+    set_all(alloc, &mut macros, None)?;
+    is_expanded(alloc, &macros, row)
 }
 
 #[test]
-fn a_mebibyte_and_no_more(rt: HostRuntime) -> Result<(), Fail> {
-    assert_eq!(rt; size(rt.alloc(), 1_048_576), Ok(1_048_576));
-    assert_eq!(rt; size(rt.alloc(), 1_048_577), Err(ExpandFault::Large));
+fn ten_thousand_references_and_a_mebibyte(rt: HostRuntime) -> Result<(), NoMemory> {
+    for row in LONG {
+        assert!(rt; is_size(rt.alloc(), row)?, "{}", row.2);
+    }
     Ok(())
 }
 
@@ -311,7 +290,7 @@ type DateRow = (u64, &'static str, &'static str, &'static str);
 
 // Moments and their forms Mail, Unix and Short, as GNU date prints them by `date -u -d @MOMENT` with
 // `+%a, %-d %b %Y %H:%M:%S +0000`, `+%a %b %e %H:%M:%S %Y` and `+%Y%m%d%H%M`.
-static MOMENTS: [DateRow; 5] = [
+const MOMENTS: &[DateRow] = &[
     (
         0,
         "Thu, 1 Jan 1970 00:00:00 +0000",
@@ -342,9 +321,7 @@ static MOMENTS: [DateRow; 5] = [
         "Sat Jul  8 09:10:11 2051",
         "205107080910",
     ),
-];
-
-static LEAP_DAYS: [DateRow; 5] = [
+    // Leap days, but for the century.
     (
         951_782_400,
         "Tue, 29 Feb 2000 00:00:00 +0000",
@@ -375,10 +352,7 @@ static LEAP_DAYS: [DateRow; 5] = [
         "Mon Mar  1 00:00:00 2100",
         "210003010000",
     ),
-];
-
-// The second and the third count as the first.
-static LAST: [DateRow; 3] = [
+    // The last, and what counts as it.
     (
         32_503_680_000,
         "Wed, 1 Jan 3000 00:00:00 +0000",
@@ -403,33 +377,18 @@ fn is_date(alloc: Global, moment: u64, form: Form, wanted: &str) -> Result<bool,
     Ok(date(alloc, moment, form)?.bytes() == wanted.as_bytes())
 }
 
-// The first moment of which a form isn't what is wanted.
-fn first_wrong_date(alloc: Global, cases: &[DateRow]) -> Result<Option<u64>, NoMemory> {
-    for (moment, mail, unix, short) in cases {
-        if !is_date(alloc, *moment, Form::Mail, mail)?
-            || !is_date(alloc, *moment, Form::Unix, unix)?
-            || !is_date(alloc, *moment, Form::Short, short)?
-        {
-            return Ok(Some(*moment));
-        }
+fn are_dates(alloc: Global, row: &DateRow) -> Result<bool, NoMemory> {
+    Ok(
+        is_date(alloc, row.0, Form::Mail, row.1)?
+            && is_date(alloc, row.0, Form::Unix, row.2)?
+            && is_date(alloc, row.0, Form::Short, row.3)?,
+    )
+}
+
+#[test]
+fn dates_in_three_forms(rt: HostRuntime) -> Result<(), NoMemory> {
+    for row in MOMENTS {
+        assert!(rt; are_dates(rt.alloc(), row)?, "{}", row.0);
     }
-    Ok(None)
-}
-
-#[test]
-fn dates_in_three_forms(rt: HostRuntime) -> Result<(), Fail> {
-    assert_eq!(rt; first_wrong_date(rt.alloc(), &MOMENTS)?, None);
-    Ok(())
-}
-
-#[test]
-fn leap_days_but_for_the_century(rt: HostRuntime) -> Result<(), Fail> {
-    assert_eq!(rt; first_wrong_date(rt.alloc(), &LEAP_DAYS)?, None);
-    Ok(())
-}
-
-#[test]
-fn a_later_moment_counts_as_the_year_3000(rt: HostRuntime) -> Result<(), Fail> {
-    assert_eq!(rt; first_wrong_date(rt.alloc(), &LAST)?, None);
     Ok(())
 }

@@ -1,7 +1,6 @@
 use addr_tokens::{Lexeme, ScanFault, join, lexemes, tokens, typed_tokens};
 use mail_base::{Mark, NoMemory, Seq, Text, Token};
 use std::alloc::Global;
-use std::test::Fail;
 
 /// A text, and its answer as `shown` writes it.
 type Row = (&'static [u8], &'static [u8]);
@@ -178,21 +177,23 @@ static SIDES: [Row; 47] = [
     (b") $", b"Unbalanced 0"),
 ];
 
-/// The same text as tokens, typed and in a side, where a dollar sign is an operator.
-static LISTED: [(&[u8], &[u8], &[u8], &[u8]); 3] = [
-    (b"a$b", b"W:a O:$ W:b", b"W:a O:$ W:b", b"BadDollar 1"),
-    (
-        b"a$$b",
-        b"W:a O:$ O:$ W:b",
-        b"W:a O:$ O:$ W:b",
-        b"W:a O:$ W:b",
-    ),
-    (
-        b"$|$$$#",
-        b"O:$ W:| O:$ O:$ O:$ W:#",
-        b"S:| O:$ O:$ S:#",
-        b"D:| O:$ D:#",
-    ),
+/// Texts as tokens, where a dollar sign is an operator, then typed, and then in a side.
+static DOLLARS: [Row; 3] = [
+    (b"a$b", b"W:a O:$ W:b"),
+    (b"a$$b", b"W:a O:$ O:$ W:b"),
+    (b"$|$$$#", b"O:$ W:| O:$ O:$ O:$ W:#"),
+];
+
+static TYPED_DOLLARS: [Row; 3] = [
+    (b"a$b", b"W:a O:$ W:b"),
+    (b"a$$b", b"W:a O:$ O:$ W:b"),
+    (b"$|$$$#", b"S:| O:$ O:$ S:#"),
+];
+
+static SIDE_DOLLARS: [Row; 3] = [
+    (b"a$b", b"BadDollar 1"),
+    (b"a$$b", b"W:a O:$ W:b"),
+    (b"$|$$$#", b"D:| O:$ D:#"),
 ];
 
 fn show(text: &mut Text, tag: &[u8], bytes: &[u8]) -> Result<(), NoMemory> {
@@ -252,88 +253,85 @@ fn show_fault(alloc: Global, fault: ScanFault) -> Result<Text, NoMemory> {
     Text::of(alloc, name.as_bytes())
 }
 
-/// The answer for a text, as the tables write it.
-fn shown(alloc: Global, text: &[u8], operators: &[u8], angles: bool) -> Result<Text, NoMemory> {
-    let text = Text::of(alloc, text)?;
-    let operators = Text::of(alloc, operators)?;
-    match tokens(alloc, &text, &operators, angles) {
-        Ok(tokens) => show_tokens(alloc, &tokens),
-        Err(fault) => show_fault(alloc, fault),
+/// How a text is read: with its angles checked or not, as it is typed, or as the side of a rule.
+#[derive(Clone, Copy)]
+enum Call {
+    Plain,
+    Angles,
+    Typed,
+    Side,
+}
+
+fn shown_tokens(alloc: Global, given: &Result<Seq<Token>, ScanFault>) -> Result<Text, NoMemory> {
+    match given {
+        Ok(tokens) => show_tokens(alloc, tokens),
+        Err(fault) => show_fault(alloc, *fault),
     }
 }
 
-fn shown_typed(alloc: Global, text: &[u8], operators: &[u8]) -> Result<Text, NoMemory> {
-    let text = Text::of(alloc, text)?;
-    let operators = Text::of(alloc, operators)?;
-    match typed_tokens(alloc, &text, &operators, true) {
-        Ok(tokens) => show_tokens(alloc, &tokens),
-        Err(fault) => show_fault(alloc, fault),
+fn shown_side(alloc: Global, given: &Result<Seq<Lexeme>, ScanFault>) -> Result<Text, NoMemory> {
+    match given {
+        Ok(lexemes) => show_lexemes(alloc, lexemes),
+        Err(fault) => show_fault(alloc, *fault),
     }
 }
 
-fn shown_side(alloc: Global, text: &[u8], operators: &[u8]) -> Result<Text, NoMemory> {
-    let text = Text::of(alloc, text)?;
-    let operators = Text::of(alloc, operators)?;
-    match lexemes(alloc, &text, &operators, false) {
-        Ok(lexemes) => show_lexemes(alloc, &lexemes),
-        Err(fault) => show_fault(alloc, fault),
+// The answer for a text, as the tables write it.
+fn shown(alloc: Global, call: Call, operators: &Text, text: &Text) -> Result<Text, NoMemory> {
+    match call {
+        Call::Plain => shown_tokens(alloc, &tokens(alloc, text, operators, false)),
+        Call::Angles => shown_tokens(alloc, &tokens(alloc, text, operators, true)),
+        Call::Typed => shown_tokens(alloc, &typed_tokens(alloc, text, operators, true)),
+        Call::Side => shown_side(alloc, &lexemes(alloc, text, operators, false)),
     }
+}
+
+fn is_shown(alloc: Global, call: Call, operators: &Text, row: &Row) -> Result<bool, NoMemory> {
+    let text = Text::of(alloc, row.0)?;
+    Ok(shown(alloc, call, operators, &text)?.bytes() == row.1)
+}
+
+fn wrong_of(
+    alloc: Global,
+    call: Call,
+    operators: &Text,
+    rows: &[Row],
+) -> Result<Option<usize>, NoMemory> {
+    for (at, row) in rows.iter().enumerate() {
+        if !is_shown(alloc, call, operators, row)? {
+            return Ok(Some(at));
+        }
+    }
+    Ok(None)
+}
+
+/// A call, its operators, and its rows.
+type Table = (Call, &'static [u8], &'static [Row]);
+
+// The tables by number. As constants of one another they would stand byte by byte in the proof.
+fn table(number: usize) -> Table {
+    match number {
+        0 => (Call::Plain, b".:@[]", &PLAIN),
+        1 => (Call::Angles, b".:@[]", &ANGLES),
+        2 => (Call::Plain, b"! \x7f\0\"\\()", &ODD),
+        3 => (Call::Typed, b".:@[]", &TYPED),
+        4 => (Call::Side, b".:@[]", &SIDES),
+        5 => (Call::Plain, b"$", &DOLLARS),
+        6 => (Call::Typed, b"$", &TYPED_DOLLARS),
+        _ => (Call::Side, b"$", &SIDE_DOLLARS),
+    }
+}
+
+// The first place of a row that doesn't hold.
+fn wrong(alloc: Global, table: Table) -> Result<Option<usize>, NoMemory> {
+    let operators = Text::of(alloc, table.1)?;
+    wrong_of(alloc, table.0, &operators, table.2)
 }
 
 #[test]
-fn typed_signs_by_the_rules(rt: HostRuntime) -> Result<(), Fail> {
-    for (text, answer) in &TYPED {
-        let shown = shown_typed(rt.alloc(), text, b".:@[]")?;
-        assert_eq!(rt; shown.bytes(), *answer);
-    }
-    Ok(())
-}
-
-#[test]
-fn sides_by_the_rules(rt: HostRuntime) -> Result<(), Fail> {
-    for (text, answer) in &SIDES {
-        let shown = shown_side(rt.alloc(), text, b".:@[]")?;
-        assert_eq!(rt; shown.bytes(), *answer);
-    }
-    Ok(())
-}
-
-#[test]
-fn a_dollar_sign_may_be_an_operator(rt: HostRuntime) -> Result<(), Fail> {
-    for (text, plain, typed, side) in &LISTED {
-        let answer = shown(rt.alloc(), text, b"$", false)?;
-        assert_eq!(rt; answer.bytes(), *plain);
-        let answer = shown_typed(rt.alloc(), text, b"$")?;
-        assert_eq!(rt; answer.bytes(), *typed);
-        let answer = shown_side(rt.alloc(), text, b"$")?;
-        assert_eq!(rt; answer.bytes(), *side);
-    }
-    Ok(())
-}
-
-#[test]
-fn tokens_and_faults_by_the_rules(rt: HostRuntime) -> Result<(), Fail> {
-    for (text, answer) in &PLAIN {
-        let shown = shown(rt.alloc(), text, b".:@[]", false)?;
-        assert_eq!(rt; shown.bytes(), *answer);
-    }
-    Ok(())
-}
-
-#[test]
-fn angles_where_they_are_checked(rt: HostRuntime) -> Result<(), Fail> {
-    for (text, answer) in &ANGLES {
-        let shown = shown(rt.alloc(), text, b".:@[]", true)?;
-        assert_eq!(rt; shown.bytes(), *answer);
-    }
-    Ok(())
-}
-
-#[test]
-fn white_space_and_quotes_are_no_operators(rt: HostRuntime) -> Result<(), Fail> {
-    for (text, answer) in &ODD {
-        let shown = shown(rt.alloc(), text, b"! \x7f\0\"\\()", false)?;
-        assert_eq!(rt; shown.bytes(), *answer);
+fn tokens_signs_and_faults_by_the_rules(rt: HostRuntime) -> Result<(), NoMemory> {
+    for number in 0..8 {
+        assert_eq!(rt; wrong(rt.alloc(), table(number))?, None, "table {number}");
     }
     Ok(())
 }
@@ -351,58 +349,81 @@ fn repeated(alloc: Global, byte: u8, count: usize, end: &[u8]) -> Result<Text, N
 /// The answer for such a text, or how many tokens it has.
 fn counted(alloc: Global, text: &Text) -> Result<Text, NoMemory> {
     let operators = Text::new(alloc);
-    match tokens(alloc, text, &operators, true) {
-        Ok(tokens) => {
-            let count = tokens.len();
-            let name = format!(in alloc; "{count} tokens")?;
-            Text::of(alloc, name.as_bytes())
-        }
-        Err(fault) => show_fault(alloc, fault),
+    told(alloc, &tokens(alloc, text, &operators, true))
+}
+
+fn told(alloc: Global, given: &Result<Seq<Token>, ScanFault>) -> Result<Text, NoMemory> {
+    match given {
+        Ok(tokens) => show_count(alloc, tokens.len()),
+        Err(fault) => show_fault(alloc, *fault),
     }
 }
 
+fn show_count(alloc: Global, count: usize) -> Result<Text, NoMemory> {
+    let name = format!(in alloc; "{count} tokens")?;
+    Text::of(alloc, name.as_bytes())
+}
+
+/// A byte, how often it stands, the end behind it, and the answer.
+type Long = (u8, usize, &'static [u8], &'static [u8]);
+
+const LONG: &[Long] = &[
+    (b',', 2_000, b"", b"2000 tokens"),
+    (b',', 2_001, b"", b"Long"),
+    (b',', 5_000, b"\"", b"BadQuote 5000"),
+    (b'<', 5_000, b"", b"Unbalanced 4999"),
+    (b'(', 100_000, b"", b"Unbalanced 0"),
+    (b'(', 100_000, b"\\", b"BadQuote 100000"),
+    (b' ', 100_000, b")", b"Unbalanced 100000"),
+];
+
+fn is_counted(alloc: Global, row: &Long) -> Result<bool, NoMemory> {
+    let text = repeated(alloc, row.0, row.1, row.2)?;
+    Ok(counted(alloc, &text)?.bytes() == row.3)
+}
+
 #[test]
-fn at_most_2000_tokens_and_any_depth(rt: HostRuntime) -> Result<(), Fail> {
-    let rows: [(u8, usize, &[u8], &[u8]); 7] = [
-        (b',', 2_000, b"", b"2000 tokens"),
-        (b',', 2_001, b"", b"Long"),
-        (b',', 5_000, b"\"", b"BadQuote 5000"),
-        (b'<', 5_000, b"", b"Unbalanced 4999"),
-        (b'(', 100_000, b"", b"Unbalanced 0"),
-        (b'(', 100_000, b"\\", b"BadQuote 100000"),
-        (b' ', 100_000, b")", b"Unbalanced 100000"),
-    ];
-    for (byte, count, end, answer) in &rows {
-        let text = repeated(rt.alloc(), *byte, *count, end)?;
-        let shown = counted(rt.alloc(), &text)?;
-        assert_eq!(rt; shown.bytes(), *answer);
+fn at_most_2000_tokens_and_any_depth(rt: HostRuntime) -> Result<(), NoMemory> {
+    for row in LONG {
+        assert!(rt; is_counted(rt.alloc(), row)?, "{} times {}", row.1, row.0);
     }
     Ok(())
 }
 
-fn sample(alloc: Global) -> Result<Seq<Token>, NoMemory> {
-    let mut tokens = Seq::new(alloc);
-    tokens.push(Token::Word(Text::of(alloc, b"ann")?))?;
-    tokens.push(Token::Word(Text::of(alloc, b"b")?))?;
-    tokens.push(Token::Quoted(Text::of(alloc, b"\"c d\"")?))?;
+const MARKS: &[Mark] = &[Mark::Alt, Mark::Mailer, Mark::Host, Mark::User, Mark::End];
+
+fn add_word(tokens: &mut Seq<Token>, word: &[u8]) -> Result<(), NoMemory> {
+    let word = Text::of(tokens.allocator(), word)?;
+    tokens.push(Token::Word(word))
+}
+
+fn add_sample(tokens: &mut Seq<Token>) -> Result<(), NoMemory> {
+    add_word(tokens, b"ann")?;
+    add_word(tokens, b"b")?;
+    let quoted = Text::of(tokens.allocator(), b"\"c d\"")?;
+    tokens.push(Token::Quoted(quoted))?;
     tokens.push(Token::Op(b'@'))?;
-    for mark in [Mark::Alt, Mark::Mailer, Mark::Host, Mark::User, Mark::End] {
-        tokens.push(Token::Sign(mark))?;
+    for mark in MARKS {
+        tokens.push(Token::Sign(*mark))?;
     }
-    tokens.push(Token::Word(Text::of(alloc, b"mx")?))?;
-    Ok(tokens)
+    add_word(tokens, b"mx")
+}
+
+const JOINED: &[(Option<u8>, &[u8])] = &[
+    (Some(b' '), b"ann b \"c d\"@$|$#$@$:$.mx"),
+    (None, b"annb\"c d\"@$|$#$@$:$.mx"),
+];
+
+fn is_joined(alloc: Global, blank: Option<u8>, wanted: &[u8]) -> Result<bool, NoMemory> {
+    let mut tokens = Seq::new(alloc);
+    add_sample(&mut tokens)?;
+    Ok(join(alloc, &tokens, blank)?.bytes() == wanted)
 }
 
 #[test]
-fn a_blank_stands_between_words_alone(rt: HostRuntime) -> Result<(), Fail> {
-    let rows: [(Option<u8>, &[u8]); 2] = [
-        (Some(b' '), b"ann b \"c d\"@$|$#$@$:$.mx"),
-        (None, b"annb\"c d\"@$|$#$@$:$.mx"),
-    ];
-    let tokens = sample(rt.alloc())?;
-    for (blank, answer) in &rows {
-        let joined = join(rt.alloc(), &tokens, *blank)?;
-        assert_eq!(rt; joined.bytes(), *answer);
+fn a_blank_stands_between_words_alone(rt: HostRuntime) -> Result<(), NoMemory> {
+    for (blank, wanted) in JOINED {
+        assert!(rt; is_joined(rt.alloc(), *blank, wanted)?, "{blank:?}");
     }
     Ok(())
 }
