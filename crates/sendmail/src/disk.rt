@@ -1,11 +1,12 @@
 // Files of a disk. They tell nothing but how often they failed.
 ghost use Rattle.std.specs.Prelude.{◌≤◌, None, IfOk, vec_len};
 
+use crate::stream::read_some;
 use mail_base::{EdgeFault, Text};
 use mail_edge::{Files, LARGEST_FILE};
 use std::alloc::Global;
 use std::fs::File;
-use std::io::{ErrorKind, Read};
+use std::io::ErrorKind;
 use std::{io, rt};
 
 /// The files of a disk.
@@ -50,7 +51,7 @@ fn read_file<R: rt::Files + Alloc>(rt: &R, alloc: Global, name: &Text) -> io::Re
     let mut bytes = Vec::new(alloc);
     let mut piece = [0u8; 8192];
     'reading: for _ in 0..u64::MAX {
-        let count = file.read(&mut piece)?;
+        let count = read_some(&mut file, &mut piece)?;
         if count == 0 {
             return Ok(bytes);
         }

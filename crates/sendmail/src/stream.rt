@@ -34,8 +34,8 @@ impl<R: Read> Source for InputStream<R> {
     }
 }
 
-// Reads what comes, again where a signal came.
-fn read_some(reader: &mut impl Read, buf: &mut [u8]) -> io::Result<usize>
+/// Reads what comes, again where a signal came.
+pub fn read_some(reader: &mut impl Read, buf: &mut [u8]) -> io::Result<usize>
     ensures { ReadsAtMost result buf.new }
 {
     for _ in 0..u64::MAX {
