@@ -107,7 +107,8 @@ impl Descriptor {
         Err(Failed)
     }
 
-    /// Closes it. A disk may tell only here that it had no room. A close that a signal interrupted has closed.
+    /// Closes it. A disk may tell only here that it had no room. A close that a signal interrupted
+    /// has closed.
     pub fn close(self) -> Result<(), Failed> {
         let Descriptor { fd } = self;
         if libc::close(fd) == 0 || os::errno() == libc::EINTR {
@@ -117,7 +118,8 @@ impl Descriptor {
         }
     }
 
-    /// Puts the next names of a directory at the front of a buffer, each ended by a NUL; 0 where there are no more.
+    /// Puts the next names of a directory at the front of a buffer, each ended by a NUL; 0 where
+    /// there are no more.
     pub fn names(&self, buf: &mut [u8]) -> Result<usize, Failed> {
         for _ in 0..u64::MAX {
             let count = os::read_dir(self.fd, buf);

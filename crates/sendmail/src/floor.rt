@@ -40,7 +40,8 @@ impl<R: Drop, W: Drop> Drop for SystemFloor<R, W> {
 }
 
 impl<R: Read, W: Write> SystemFloor<R, W> {
-    /// A floor that didn't begin. A session on a reader and a writer that have no descriptors is never silent.
+    /// A floor that didn't begin. A session on a reader and a writer that have no descriptors is
+    /// never silent.
     pub fn new(
         rt: HostRuntime,
         reader: R,
@@ -140,7 +141,12 @@ impl<R: Read, W: Write> Site<R, W> {
 }
 
 impl<R: Read, W: Write> Floor for SystemFloor<R, W> {
-    ghost seen = { λ f. record { told = None; begun = f.begun; faults = f.faults; session_faults = λ _. f.send_faults } };
+    ghost seen = { λ f. record {
+      told = None;
+      begun = f.begun;
+      faults = f.faults;
+      session_faults = λ _. f.send_faults;
+    } };
 
     fn begin(&mut self, place: &Place, most: u64) -> Result<(), Failed> {
         self.begun.note(place, most);

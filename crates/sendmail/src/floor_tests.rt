@@ -16,11 +16,202 @@ type PortFloor = SystemFloor<&'static [u8], Vec<u8>>;
 /// The buffer of a turn.
 type Buffer = [u8; 64];
 
+/// What a session that was silent for too long hears.
+const SILENT: &[u8] = b"421 4.4.2 Nothing came for too long, closing connection\r\n";
+
+/// What is done with a floor at a port and its peers, or has to come next. Sessions are counted
+/// from 1, and peers from 0 among those that are there.
+#[derive(Clone, Copy)]
+enum Step {
+    /// One more peer connects.
+    Joins,
+    /// The first peer leaves.
+    Leaves,
+    /// A peer sends bytes.
+    Says(usize, &'static [u8]),
+    /// These bytes are what a peer reads next; none are the end.
+    Hears(usize, &'static [u8]),
+    /// This is the next turn that isn't idle.
+    Brings(Turn),
+    /// This is the next turn.
+    Turns(Turn),
+    /// The next turn is idle, with no descriptors left.
+    Starves,
+    /// A session is sent bytes.
+    Sends(u64, &'static [u8]),
+    /// A session can't be sent a text.
+    Refuses(u64),
+    /// The first session is sent 16 megabytes.
+    SendsMuch,
+    /// The first session, whose peer reads nothing, is sent texts until that fails, and the peer at
+    /// place 1 reads what the second session is sent meanwhile.
+    Floods,
+    /// A session is hung up.
+    HangsUp(u64),
+    /// So many sessions were hung up and aren't over yet.
+    Parts(usize),
+    /// All sessions are ended.
+    Finishes,
+    /// No other floor begins at this port.
+    Holds,
+}
+
+/// How a floor goes, step by step.
+#[derive(Clone, Copy)]
+struct Scene {
+    name: &'static str,
+    address: &'static [u8],
+    limits: Limits,
+    steps: &'static [Step],
+}
+
+const SCENES: &[Scene] = &[
+    Scene {
+        name: "two sessions are served in turn",
+        address: b"",
+        limits: LIMITS,
+        steps: &[
+            Step::Joins,
+            Step::Brings(Turn::Opened(1, 9)),
+            Step::Joins,
+            Step::Brings(Turn::Opened(2, 9)),
+            Step::Says(1, b"NOOP\r\n"),
+            Step::Brings(Turn::Piece(2, 6)),
+            Step::Says(0, b"HE"),
+            Step::Brings(Turn::Piece(1, 2)),
+            Step::Leaves,
+            Step::Brings(Turn::Closed(1)),
+            Step::HangsUp(2),
+            Step::Turns(Turn::Stop),
+        ],
+    },
+    Scene {
+        name: "a silent session is told so and closed",
+        address: b"127.0.0.1",
+        limits: Limits {
+            silence: 40,
+            ..LIMITS
+        },
+        steps: &[
+            Step::Joins,
+            Step::Brings(Turn::Opened(1, 9)),
+            Step::Refuses(2),
+            Step::Brings(Turn::Closed(1)),
+            Step::Hears(0, SILENT),
+            Step::Turns(Turn::Idle),
+            Step::Hears(0, b""),
+        ],
+    },
+    Scene {
+        name: "a deaf peer stops nobody",
+        address: b"127.0.0.1",
+        limits: Limits {
+            backlog: 65_536,
+            ..LIMITS
+        },
+        steps: &[
+            Step::Joins,
+            Step::Brings(Turn::Opened(1, 9)),
+            Step::Joins,
+            Step::Brings(Turn::Opened(2, 9)),
+            Step::Floods,
+        ],
+    },
+    Scene {
+        name: "a session that reads nothing isn't read and ends",
+        address: b"127.0.0.1",
+        limits: Limits {
+            stall: 40,
+            backlog: 16_777_216,
+            ..LIMITS
+        },
+        steps: &[
+            Step::Joins,
+            Step::Brings(Turn::Opened(1, 9)),
+            Step::SendsMuch,
+            Step::Says(0, b"NOOP\r\n"),
+            Step::Brings(Turn::Closed(1)),
+        ],
+    },
+    Scene {
+        name: "a farewell arrives where more was sent",
+        address: b"127.0.0.1",
+        limits: LIMITS,
+        steps: &[
+            Step::Joins,
+            Step::Brings(Turn::Opened(1, 9)),
+            Step::Says(0, b"EHLO c.example\r\n"),
+            Step::Sends(1, b"421 4.3.2 Too many\r\n"),
+            Step::HangsUp(1),
+            Step::Hears(0, b"421 4.3.2 Too many\r\n"),
+            Step::Turns(Turn::Idle),
+            Step::Hears(0, b""),
+            Step::Parts(1),
+            Step::Leaves,
+            Step::Turns(Turn::Idle),
+            Step::Parts(0),
+        ],
+    },
+    Scene {
+        name: "at most so many sessions part",
+        address: b"127.0.0.1",
+        limits: Limits {
+            parting: 1,
+            ..LIMITS
+        },
+        steps: &[
+            Step::Joins,
+            Step::Brings(Turn::Opened(1, 9)),
+            Step::HangsUp(1),
+            Step::Turns(Turn::Idle),
+            Step::Parts(1),
+            Step::Joins,
+            Step::Brings(Turn::Opened(2, 9)),
+            Step::HangsUp(2),
+            Step::Parts(1),
+            Step::Turns(Turn::Stop),
+        ],
+    },
+    Scene {
+        name: "what waits at the end is written",
+        address: b"127.0.0.1",
+        limits: Limits {
+            farewell: 40,
+            ..LIMITS
+        },
+        steps: &[
+            Step::Joins,
+            Step::Brings(Turn::Opened(1, 9)),
+            Step::Sends(1, b"220 ready\r\n"),
+            Step::Finishes,
+            Step::Hears(0, b"220 ready\r\n"),
+            Step::Hears(0, b""),
+        ],
+    },
+    Scene {
+        name: "no descriptors end nothing",
+        address: b"127.0.0.1",
+        limits: Limits { rest: 1, ..LIMITS },
+        steps: &[Step::Joins, Step::Starves, Step::Brings(Turn::Opened(1, 9))],
+    },
+    Scene {
+        name: "a port in use is a fault",
+        address: b"127.0.0.1",
+        limits: LIMITS,
+        steps: &[Step::Holds],
+    },
+];
+
 // A floor that listens at some port of this machine.
-fn listening(rt: &HostRuntime, address: &[u8], limits: Limits) -> Result<PortFloor, Fail> {
-    let mut floor = SystemFloor::new(*rt, b"".as_slice(), Vec::new(rt.alloc()), None, limits);
-    floor.begin(&place(rt, address, 0)?, 2)?;
-    Ok(floor)
+fn listening(rt: &HostRuntime, scene: &Scene) -> Option<PortFloor> {
+    let mut floor = not_begun(rt, scene.limits);
+    let place = place(rt, scene.address, 0).ok()?;
+    floor.begin(&place, 2).ok()?;
+    Some(floor)
+}
+
+fn not_begun(rt: &HostRuntime, limits: Limits) -> PortFloor {
+    SystemFloor::new(*rt, b"".as_slice(), Vec::new(rt.alloc()), None, limits)
 }
 
 fn place(rt: &HostRuntime, address: &[u8], port: u16) -> Result<Place, NoMemory> {
@@ -30,15 +221,102 @@ fn place(rt: &HostRuntime, address: &[u8], port: u16) -> Result<Place, NoMemory>
     })
 }
 
-fn client(rt: &HostRuntime, floor: &PortFloor) -> io::Result<TcpStream> {
-    TcpStream::connect(rt, ("127.0.0.1", floor.port()?))
+// The first step of a scene that doesn't go so, if there is one.
+fn wrong_step(rt: &HostRuntime, scene: &Scene) -> Option<usize> {
+    let Some(mut floor) = listening(rt, scene) else {
+        return Some(0);
+    };
+    let mut peers = Vec::new(rt.alloc());
+    first_wrong(rt, &mut floor, &mut peers, scene.steps)
 }
 
-fn sends(rt: &HostRuntime, floor: &mut PortFloor, session: u64, bytes: &[u8]) -> bool {
-    match Text::of(rt.alloc(), bytes) {
-        Ok(bytes) => floor.send(session, &bytes).is_ok(),
-        Err(NoMemory) => false,
+fn first_wrong(
+    rt: &HostRuntime,
+    floor: &mut PortFloor,
+    peers: &mut Vec<TcpStream>,
+    steps: &[Step],
+) -> Option<usize> {
+    for (place, step) in steps.iter().enumerate() {
+        if !goes(rt, floor, peers, *step) {
+            return Some(place);
+        }
     }
+    None
+}
+
+// Whether a step goes so.
+fn goes(rt: &HostRuntime, floor: &mut PortFloor, peers: &mut Vec<TcpStream>, step: Step) -> bool {
+    match step {
+        Step::Joins => joins(rt, floor, peers).is_ok(),
+        Step::Leaves => leaves(peers),
+        Step::Says(peer, bytes) => says(peers, peer, bytes),
+        Step::Hears(peer, bytes) => hears(peers, peer, bytes),
+        Step::Brings(turn) => brings(floor, turn),
+        Step::Turns(turn) => turns(floor, turn),
+        Step::Starves => starves(rt, floor),
+        Step::Sends(session, bytes) => sends(rt, floor, session, bytes),
+        Step::Refuses(session) => !sends(rt, floor, session, b"220 ready\r\n"),
+        Step::SendsMuch => sends_much(rt, floor),
+        Step::Floods => floods(rt, floor, peers),
+        Step::HangsUp(session) => {
+            floor.hang_up(session);
+            true
+        }
+        Step::Parts(count) => floor.parting() == count,
+        Step::Finishes => {
+            floor.finish();
+            true
+        }
+        Step::Holds => holds(rt, floor),
+    }
+}
+
+fn joins(rt: &HostRuntime, floor: &PortFloor, peers: &mut Vec<TcpStream>) -> io::Result<()> {
+    let peer = TcpStream::connect(rt, ("127.0.0.1", floor.port()?))?;
+    peers.push(peer)?;
+    Ok(())
+}
+
+fn leaves(peers: &mut Vec<TcpStream>) -> bool {
+    if peers.is_empty() {
+        return false;
+    }
+    peers.remove(0);
+    true
+}
+
+fn says(peers: &mut [TcpStream], peer: usize, bytes: &[u8]) -> bool {
+    match peers.get_mut(peer) {
+        Some(peer) => peer.write_all(bytes).is_ok(),
+        None => false,
+    }
+}
+
+fn hears(peers: &mut [TcpStream], peer: usize, bytes: &[u8]) -> bool {
+    match peers.get_mut(peer) {
+        Some(peer) => reads(peer, bytes),
+        None => false,
+    }
+}
+
+// Whether the next bytes that a reader gives are these.
+fn reads(reader: &mut impl Read, wanted: &[u8]) -> bool {
+    let mut buf = [0u8; 64];
+    match reader.read(&mut buf) {
+        Ok(count) => buf.get(..count) == Some(wanted),
+        Err(_) => false,
+    }
+}
+
+// Whether this is the next turn that isn't idle, or `Idle` where many are.
+fn brings<R: Read, W: Write>(floor: &mut SystemFloor<R, W>, wanted: Turn) -> bool {
+    let mut buf = [0u8; 64];
+    let turn = next(floor, &mut buf);
+    turn == wanted && (!is_opening(turn) || buf.starts_with(b"127.0.0.1"))
+}
+
+fn is_opening(turn: Turn) -> bool {
+    matches!(turn, Turn::Opened(_, _))
 }
 
 // The next turn that isn't idle; `Idle` where many were.
@@ -53,235 +331,38 @@ fn next<R: Read, W: Write>(floor: &mut SystemFloor<R, W>, buf: &mut Buffer) -> T
     Turn::Idle
 }
 
-// Whether the next bytes of a peer are these.
-fn reads(reader: &mut impl Read, wanted: &[u8]) -> bool {
+fn turns(floor: &mut PortFloor, wanted: Turn) -> bool {
     let mut buf = [0u8; 64];
-    match reader.read(&mut buf) {
-        Ok(count) => buf.get(..count) == Some(wanted),
+    floor.turn(&mut buf) == Ok(wanted)
+}
+
+fn sends(rt: &HostRuntime, floor: &mut PortFloor, session: u64, bytes: &[u8]) -> bool {
+    match Text::of(rt.alloc(), bytes) {
+        Ok(bytes) => floor.send(session, &bytes).is_ok(),
+        Err(NoMemory) => false,
+    }
+}
+
+fn sends_much(rt: &HostRuntime, floor: &mut PortFloor) -> bool {
+    match Vec::from_elem(rt.alloc(), b'x', 16_777_216) {
+        Ok(bytes) => floor.send(1, &Text::from_vec(bytes)).is_ok(),
         Err(_) => false,
     }
 }
 
-// Whether a peer reads these bytes, while turns are taken, and then the end.
-fn reads_farewell(floor: &mut PortFloor, peer: &mut TcpStream, wanted: &[u8]) -> bool {
-    let mut buf = [0u8; 64];
-    reads(peer, wanted) && floor.turn(&mut buf) == Ok(Turn::Idle) && reads(peer, b"")
-}
-
-// How many texts a session that reads nothing is sent before a send fails, while another session is sent a
-// text each time, which its peer reads.
-fn sends_beside(rt: &HostRuntime, floor: &mut PortFloor, peer: &mut TcpStream) -> Option<usize> {
+// Whether a send to the first session fails at last, while the second is sent a text each time,
+// which its peer reads.
+fn floods(rt: &HostRuntime, floor: &mut PortFloor, peers: &mut [TcpStream]) -> bool {
     let much = [b'x'; 65_536];
-    for count in 0..2000 {
+    for _ in 0..2000u32 {
         if !sends(rt, floor, 1, &much) {
-            return Some(count);
+            return true;
         }
-        if !sends(rt, floor, 2, b"250 ok\r\n") || !reads(peer, b"250 ok\r\n") {
-            return None;
+        if !sends(rt, floor, 2, b"250 ok\r\n") || !hears(peers, 1, b"250 ok\r\n") {
+            return false;
         }
     }
-    None
-}
-
-#[test]
-fn standard_is_one_session_over_pipes(rt: HostRuntime) -> Result<(), Fail> {
-    let (reader, mut far_writer) = io::pipe(&rt)?;
-    let (mut far_reader, writer) = io::pipe(&rt)?;
-    far_writer.write_all(b"QUIT\r\n")?;
-    drop(far_writer);
-    let mut buf = [0u8; 64];
-    let wires = Wires::of(&reader, &writer);
-    let mut floor = SystemFloor::new(rt, reader, writer, Some(wires), LIMITS);
-    assert!(rt; floor.begin(&Place::Standard, 1).is_ok());
-    assert!(rt; next(&mut floor, &mut buf) == Turn::Opened(1, 0));
-    assert!(rt; next(&mut floor, &mut buf) == Turn::Piece(1, 6));
-    assert!(rt; floor.send(1, &Text::of(rt.alloc(), b"221")?).is_ok());
-    assert!(rt; next(&mut floor, &mut buf) == Turn::Closed(1));
-    assert!(rt; next(&mut floor, &mut buf) == Turn::Stop);
-    assert!(rt; reads(&mut far_reader, b"221"));
-    Ok(())
-}
-
-#[test]
-fn standard_ends_a_silent_session(rt: HostRuntime) -> Result<(), Fail> {
-    let (reader, far_writer) = io::pipe(&rt)?;
-    let (mut far_reader, writer) = io::pipe(&rt)?;
-    let mut buf = [0u8; 64];
-    let wires = Wires::of(&reader, &writer);
-    let limits = Limits {
-        silence: 20,
-        ..LIMITS
-    };
-    let mut floor = SystemFloor::new(rt, reader, writer, Some(wires), limits);
-    assert!(rt; next(&mut floor, &mut buf) == Turn::Opened(1, 0));
-    assert!(rt; next(&mut floor, &mut buf) == Turn::Closed(1));
-    assert!(rt; next(&mut floor, &mut buf) == Turn::Stop);
-    assert!(rt;
-        reads(
-            &mut far_reader,
-            b"421 4.4.2 Nothing came for too long, closing connection\r\n"
-        )
-    );
-    drop(far_writer);
-    Ok(())
-}
-
-#[test]
-fn standard_tells_the_peer_of_a_socket(rt: HostRuntime) -> Result<(), Fail> {
-    let listener = TcpListener::bind(&rt, ("127.0.0.1", 0))?;
-    let far = TcpStream::connect(&rt, ("127.0.0.1", listener.local_addr()?.port()))?;
-    let (near, _) = listener.accept()?;
-    let mut buf = [0u8; 64];
-    let wires = Wires::of(&near, &near);
-    let mut floor = SystemFloor::new(rt, &near, &near, Some(wires), LIMITS);
-    assert!(rt; next(&mut floor, &mut buf) == Turn::Opened(1, 9));
-    assert!(rt; buf.starts_with(b"127.0.0.1"));
-    drop(far);
-    Ok(())
-}
-
-#[test]
-fn two_sessions_are_served_in_turn(rt: HostRuntime) -> Result<(), Fail> {
-    let mut buf = [0u8; 64];
-    let mut floor = listening(&rt, b"", LIMITS)?;
-    let mut first = client(&rt, &floor)?;
-    assert!(rt; next(&mut floor, &mut buf) == Turn::Opened(1, 9));
-    assert!(rt; buf.starts_with(b"127.0.0.1"));
-    let mut second = client(&rt, &floor)?;
-    assert!(rt; next(&mut floor, &mut buf) == Turn::Opened(2, 9));
-    second.write_all(b"NOOP\r\n")?;
-    assert!(rt; next(&mut floor, &mut buf) == Turn::Piece(2, 6));
-    first.write_all(b"HE")?;
-    assert!(rt; next(&mut floor, &mut buf) == Turn::Piece(1, 2));
-    drop(first);
-    assert!(rt; next(&mut floor, &mut buf) == Turn::Closed(1));
-    floor.hang_up(2);
-    assert!(rt; floor.turn(&mut buf) == Ok(Turn::Stop));
-    Ok(())
-}
-
-#[test]
-fn a_silent_session_is_told_so_and_closed(rt: HostRuntime) -> Result<(), Fail> {
-    let mut buf = [0u8; 64];
-    let mut floor = listening(
-        &rt,
-        b"127.0.0.1",
-        Limits {
-            silence: 40,
-            ..LIMITS
-        },
-    )?;
-    let mut silent = client(&rt, &floor)?;
-    assert!(rt; next(&mut floor, &mut buf) == Turn::Opened(1, 9));
-    assert!(rt; !sends(&rt, &mut floor, 2, b"220 ready\r\n"));
-    assert!(rt; next(&mut floor, &mut buf) == Turn::Closed(1));
-    assert!(rt;
-        reads_farewell(
-            &mut floor,
-            &mut silent,
-            b"421 4.4.2 Nothing came for too long, closing connection\r\n"
-        )
-    );
-    Ok(())
-}
-
-#[test]
-fn a_deaf_peer_stops_nobody(rt: HostRuntime) -> Result<(), Fail> {
-    let mut buf = [0u8; 64];
-    let mut floor = listening(
-        &rt,
-        b"127.0.0.1",
-        Limits {
-            backlog: 65_536,
-            ..LIMITS
-        },
-    )?;
-    let deaf = client(&rt, &floor)?;
-    assert!(rt; next(&mut floor, &mut buf) == Turn::Opened(1, 9));
-    let mut other = client(&rt, &floor)?;
-    assert!(rt; next(&mut floor, &mut buf) == Turn::Opened(2, 9));
-    assert!(rt; sends_beside(&rt, &mut floor, &mut other).is_some());
-    drop(deaf);
-    Ok(())
-}
-
-#[test]
-fn a_session_that_reads_nothing_isnt_read_and_ends(rt: HostRuntime) -> Result<(), Fail> {
-    let mut buf = [0u8; 64];
-    let limits = Limits {
-        stall: 40,
-        backlog: 16_777_216,
-        ..LIMITS
-    };
-    let mut floor = listening(&rt, b"127.0.0.1", limits)?;
-    let mut deaf = client(&rt, &floor)?;
-    assert!(rt; next(&mut floor, &mut buf) == Turn::Opened(1, 9));
-    assert!(rt;
-        floor
-            .send(1, &Text::from_vec(vec![in rt.alloc(); b'x'; 16_777_216]?))
-            .is_ok()
-    );
-    deaf.write_all(b"NOOP\r\n")?;
-    assert!(rt; next(&mut floor, &mut buf) == Turn::Closed(1));
-    Ok(())
-}
-
-#[test]
-fn a_farewell_arrives_where_more_was_sent(rt: HostRuntime) -> Result<(), Fail> {
-    let mut buf = [0u8; 64];
-    let mut floor = listening(&rt, b"127.0.0.1", LIMITS)?;
-    let mut first = client(&rt, &floor)?;
-    assert!(rt; next(&mut floor, &mut buf) == Turn::Opened(1, 9));
-    first.write_all(b"EHLO c.example\r\n")?;
-    assert!(rt; sends(&rt, &mut floor, 1, b"421 4.3.2 Too many\r\n"));
-    floor.hang_up(1);
-    assert!(rt; reads_farewell(&mut floor, &mut first, b"421 4.3.2 Too many\r\n"));
-    assert_eq!(rt; floor.parting(), 1);
-    drop(first);
-    assert!(rt; floor.turn(&mut buf) == Ok(Turn::Idle) && floor.parting() == 0);
-    Ok(())
-}
-
-#[test]
-fn at_most_so_many_sessions_part(rt: HostRuntime) -> Result<(), Fail> {
-    let mut buf = [0u8; 64];
-    let mut floor = listening(
-        &rt,
-        b"127.0.0.1",
-        Limits {
-            parting: 1,
-            ..LIMITS
-        },
-    )?;
-    let first = client(&rt, &floor)?;
-    assert!(rt; next(&mut floor, &mut buf) == Turn::Opened(1, 9));
-    floor.hang_up(1);
-    assert!(rt; floor.turn(&mut buf) == Ok(Turn::Idle) && floor.parting() == 1);
-    let second = client(&rt, &floor)?;
-    assert!(rt; next(&mut floor, &mut buf) == Turn::Opened(2, 9));
-    floor.hang_up(2);
-    assert!(rt; floor.parting() == 1 && floor.turn(&mut buf) == Ok(Turn::Stop));
-    drop((first, second));
-    Ok(())
-}
-
-#[test]
-fn what_waits_at_the_end_is_written(rt: HostRuntime) -> Result<(), Fail> {
-    let mut buf = [0u8; 64];
-    let mut floor = listening(
-        &rt,
-        b"127.0.0.1",
-        Limits {
-            farewell: 40,
-            ..LIMITS
-        },
-    )?;
-    let mut open = client(&rt, &floor)?;
-    assert!(rt; next(&mut floor, &mut buf) == Turn::Opened(1, 9));
-    assert!(rt; sends(&rt, &mut floor, 1, b"220 ready\r\n"));
-    floor.finish();
-    assert!(rt; reads(&mut open, b"220 ready\r\n") && reads(&mut open, b""));
-    Ok(())
+    false
 }
 
 // Takes descriptors until there are none left.
@@ -299,39 +380,148 @@ fn take_all(taken: &mut Vec<i32>) -> bool {
     false
 }
 
-// Takes a turn while there are no descriptors left.
-fn turn_without_descriptors(rt: &HostRuntime, floor: &mut PortFloor) -> Option<Turn> {
-    let mut buf = [0u8; 64];
+// Whether a turn is idle while there are no descriptors left.
+fn starves(rt: &HostRuntime, floor: &mut PortFloor) -> bool {
     let mut taken = Vec::new(rt.alloc());
     let all = take_all(&mut taken);
-    let turn = floor.turn(&mut buf);
+    let is_idle = turns(floor, Turn::Idle);
     for copy in &taken {
         libc::close(*copy);
     }
-    if all { turn.ok() } else { None }
+    all && is_idle
+}
+
+// Whether another floor fails, once, to begin at the port.
+fn holds(rt: &HostRuntime, floor: &PortFloor) -> bool {
+    let mut other = not_begun(rt, LIMITS);
+    fails_beside(rt, floor, &mut other).is_some_and(|faults| faults == 1)
+}
+
+// The faults of a floor that doesn't begin at the port of another.
+fn fails_beside(rt: &HostRuntime, floor: &PortFloor, other: &mut PortFloor) -> Option<u64> {
+    let place = place(rt, b"127.0.0.1", floor.port().ok()?).ok()?;
+    match other.begin(&place, 0) {
+        Ok(()) => None,
+        Err(_) => Some(other.faults()),
+    }
 }
 
 #[test]
-fn no_descriptors_end_nothing(rt: HostRuntime) -> Result<(), Fail> {
-    let mut buf = [0u8; 64];
-    let mut floor = listening(&rt, b"127.0.0.1", Limits { rest: 1, ..LIMITS })?;
-    let first = client(&rt, &floor)?;
-    assert!(rt; turn_without_descriptors(&rt, &mut floor) == Some(Turn::Idle));
-    assert!(rt; next(&mut floor, &mut buf) == Turn::Opened(1, 9));
-    drop(first);
+fn floors_at_a_port_go_as_their_scenes_say(rt: HostRuntime) {
+    for scene in SCENES {
+        assert_eq!(rt; wrong_step(&rt, scene), None, "{}", scene.name);
+    }
+}
+
+/// A session over pipes, and how it goes.
+#[derive(Clone, Copy)]
+struct Talk {
+    said: &'static [u8],
+    /// Whether the peer stays when it has said all.
+    stays: bool,
+    silence: u64,
+    /// The turns that aren't idle. Each piece is replied to.
+    turns: &'static [Turn],
+    heard: &'static [u8],
+}
+
+const TALKS: &[Talk] = &[
+    // One session is all that there is.
+    Talk {
+        said: b"QUIT\r\n",
+        stays: false,
+        silence: LIMITS.silence,
+        turns: &[
+            Turn::Opened(1, 0),
+            Turn::Piece(1, 6),
+            Turn::Closed(1),
+            Turn::Stop,
+        ],
+        heard: b"221",
+    },
+    // One that is silent is ended.
+    Talk {
+        said: b"",
+        stays: true,
+        silence: 20,
+        turns: &[Turn::Opened(1, 0), Turn::Closed(1), Turn::Stop],
+        heard: SILENT,
+    },
+];
+
+// Whether a session goes so.
+fn is_held(rt: &HostRuntime, talk: &Talk) -> io::Result<bool> {
+    let (reader, mut far_writer) = io::pipe(rt)?;
+    let (mut far_reader, writer) = io::pipe(rt)?;
+    far_writer.write_all(talk.said)?;
+    let far = talk.stays.then_some(far_writer);
+    let wires = Wires::of(&reader, &writer);
+    let limits = Limits {
+        silence: talk.silence,
+        ..LIMITS
+    };
+    let mut floor = SystemFloor::new(*rt, reader, writer, Some(wires), limits);
+    let goes = follows(rt, &mut floor, talk.turns) && reads(&mut far_reader, talk.heard);
+    drop(far);
+    Ok(goes)
+}
+
+// Whether these are the turns of standard input and output that aren't idle.
+fn follows<R: Read, W: Write>(
+    rt: &HostRuntime,
+    floor: &mut SystemFloor<R, W>,
+    turns: &[Turn],
+) -> bool {
+    if floor.begin(&Place::Standard, 1).is_err() {
+        return false;
+    }
+    for wanted in turns {
+        let mut buf = [0u8; 64];
+        if next(floor, &mut buf) != *wanted || !replies(rt, floor, *wanted) {
+            return false;
+        }
+    }
+    true
+}
+
+// Replies to a piece, and says whether that went.
+fn replies<R: Read, W: Write>(rt: &HostRuntime, floor: &mut SystemFloor<R, W>, turn: Turn) -> bool {
+    let Turn::Piece(session, _) = turn else {
+        return true;
+    };
+    match Text::of(rt.alloc(), b"221") {
+        Ok(reply) => floor.send(session, &reply).is_ok(),
+        Err(NoMemory) => false,
+    }
+}
+
+#[test]
+fn sessions_over_pipes_go_as_their_rows_say(rt: HostRuntime) -> Result<(), Fail> {
+    for talk in TALKS {
+        assert!(rt; is_held(&rt, talk)?);
+    }
     Ok(())
 }
 
+// Whether a session on a socket tells its peer.
+fn tells_peer(rt: &HostRuntime) -> io::Result<bool> {
+    let listener = TcpListener::bind(rt, ("127.0.0.1", 0))?;
+    let far = TcpStream::connect(rt, ("127.0.0.1", listener.local_addr()?.port()))?;
+    let (near, _) = listener.accept()?;
+    let tells = opens(rt, &near);
+    drop(far);
+    Ok(tells)
+}
+
+fn opens(rt: &HostRuntime, near: &TcpStream) -> bool {
+    let wires = Wires::of(near, near);
+    let mut floor = SystemFloor::new(*rt, near, near, Some(wires), LIMITS);
+    brings(&mut floor, Turn::Opened(1, 9))
+}
+
 #[test]
-fn a_port_in_use_is_a_fault(rt: HostRuntime) -> Result<(), Fail> {
-    let floor = listening(&rt, b"127.0.0.1", LIMITS)?;
-    let mut other = SystemFloor::new(rt, b"".as_slice(), Vec::new(rt.alloc()), None, LIMITS);
-    assert!(rt;
-        other
-            .begin(&place(&rt, b"127.0.0.1", floor.port()?)?, 0)
-            .is_err()
-    );
-    assert_eq!(rt; other.faults(), 1);
+fn standard_tells_the_peer_of_a_socket(rt: HostRuntime) -> Result<(), Fail> {
+    assert!(rt; tells_peer(&rt)?);
     Ok(())
 }
 

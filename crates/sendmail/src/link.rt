@@ -48,8 +48,8 @@ impl Link {
         now.saturating_sub(self.moved)
     }
 
-    /// Sends bytes behind those that wait, as many as go now. The others wait, or it fails where more than
-    /// so many would.
+    /// Sends bytes behind those that wait, as many as go now. The others wait, or it fails where
+    /// more than so many would.
     pub fn send(&mut self, bytes: &[u8], now: u64, most: usize) -> Result<(), Failed> {
         if self.is_waiting() {
             self.keep(bytes, most)?;
@@ -79,11 +79,12 @@ impl Link {
         Ok(())
     }
 
-    /// Puts what came at the front of a buffer; `None` where nothing is there, and a failure where nothing
-    /// comes any more.
+    /// Puts what came at the front of a buffer; `None` where nothing is there, and a failure where
+    /// nothing comes any more.
     pub fn read(&mut self, buf: &mut [u8], now: u64) -> Result<Option<usize>, Failed>
         ensures room { length buf.new ≡ length buf.old }
-        ensures some { IfOk result (λ count. IfSome count (λ count. (0 < count) × (count ≤ length buf.new))) }
+        ensures some { IfOk result (λ count. IfSome count (λ count.
+            (0 < count) × (count ≤ length buf.new))) }
     {
         match self.stream.read(buf) {
             Ok(count) if count > 0 => {

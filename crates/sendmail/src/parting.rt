@@ -8,8 +8,9 @@ const PIECE: usize = 8192;
 
 const READINGS: u32 = 16;
 
-/// A session that was hung up: what waits is written, then the peer is told that nothing more comes, and what it
-/// still sends is drained for a while, so that it isn't reset before it has read all.
+/// A session that was hung up: what waits is written, then the peer is told that nothing more
+/// comes, and what it still sends is drained for a while, so that it isn't reset before it has read
+/// all.
 #[derive(Drop)]
 pub struct Parting {
     link: Link,

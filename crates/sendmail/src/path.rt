@@ -16,7 +16,8 @@ pub fn dir_path(prefix: &[u8], dir: &Text) -> Result<Path, Failed> {
     Ok(path)
 }
 
-/// The path of a file in a directory. It fails where it is too long or the name is none of a file in it.
+/// The path of a file in a directory. It fails where it is too long or the name is none of a file
+/// in it.
 pub fn path_of(prefix: &[u8], dir: &Text, name: &Text) -> Result<Path, Failed> {
     let name = name.bytes();
     if !is_name(name) {

@@ -12,8 +12,9 @@ use std::os::fd::AsFd;
 /// The most bytes of a peer's address.
 const LONGEST: usize = 64;
 
-/// The address of the peer of a socket, or `None` where it is no socket of the internet. A socket whose
-/// peer can't be told, as where it is gone, is a failure, since no address is taken for one of this machine.
+/// The address of the peer of a socket, or `None` where it is no socket of the internet. A socket
+/// whose peer can't be told, as where it is gone, is a failure, since no address is taken for one
+/// of this machine.
 pub fn peer_of(socket: &impl AsFd) -> Result<Option<IpAddr>, Failed> {
     let copy = match socket.as_fd().try_clone_to_owned() {
         Ok(copy) => copy,
@@ -29,8 +30,9 @@ pub fn peer_of(socket: &impl AsFd) -> Result<Option<IpAddr>, Failed> {
     }
 }
 
-/// Puts the address of a peer, where it has one, at the front of a buffer as the rules of a configuration expect it: one of IPv4 as it is, also where
-/// it came as one of IPv6, and one of IPv6 behind `IPv6:`.
+/// Puts the address of a peer, where it has one, at the front of a buffer as the rules of a
+/// configuration expect it: one of IPv4 as it is, also where it came as one of IPv6, and one of
+/// IPv6 behind `IPv6:`.
 pub fn put_peer(peer: Option<IpAddr>, buf: &mut [u8]) -> usize
     requires { 64 ≤ length buf.old }
     ensures room { length buf.new ≡ length buf.old }

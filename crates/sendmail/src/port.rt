@@ -32,9 +32,9 @@ struct Session {
     link: Link,
 }
 
-/// A listener and its sessions, which are served in turn: each turn begins behind the place that the last one
-/// served, so that none waits for ever. No call waits for a peer, and what fails with one peer ends that
-/// peer's session alone.
+/// A listener and its sessions, which are served in turn: each turn begins behind the place that
+/// the last one served, so that none waits for ever. No call waits for a peer, and what fails with
+/// one peer ends that peer's session alone.
 pub struct Port {
     listener: TcpListener,
     limits: Limits,
@@ -78,8 +78,8 @@ impl Drop for Port {
 }
 
 impl Port {
-    /// Listens at an address and a port; 0 is any port. After `most` sessions were closed nothing comes
-    /// any more, unless it is 0.
+    /// Listens at an address and a port; 0 is any port. After `most` sessions were closed nothing
+    /// comes any more, unless it is 0.
     pub fn bind(
         rt: &HostRuntime,
         address: &str,
@@ -372,7 +372,8 @@ impl Port {
     }
 }
 
-// A listener; where all addresses are meant and there are none of IPv6, it listens at those of IPv4.
+// A listener; where all addresses are meant and there are none of IPv6, it listens at those of
+// IPv4.
 fn listen(rt: &HostRuntime, address: &str, port: u16) -> io::Result<TcpListener> {
     if !address.is_empty() && address != "::" {
         return TcpListener::bind(rt, (address, port));

@@ -14,10 +14,10 @@ use std::alloc::Global;
 
 /// Directories of a disk as a spool. Their files' names may have any bytes but NUL and `/`.
 ///
-/// A directory is opened and locked at its first use, and stays so to the end, so that it has one owner; one that
-/// another opening has locked is a fault, as are a directory that is absent, a file larger than 67,108,864 bytes and
-/// a disk without room. A file that is written belongs to its owner alone and is on the disk before the call
-/// answers, and so is a change of names.
+/// A directory is opened and locked at its first use, and stays so to the end, so that it has one
+/// owner; one that another opening has locked is a fault, as are a directory that is absent, a file
+/// larger than 67,108,864 bytes and a disk without room. A file that is written belongs to its
+/// owner alone and is on the disk before the call answers, and so is a change of names.
 #[derive(Drop)]
 pub struct QueueDirs<'a> {
     /// What stands before the name of each directory.
@@ -160,7 +160,12 @@ impl<'a> QueueDirs<'a> {
 }
 
 impl Spool for QueueDirs<'_> {
-    ghost seen = { λ s. record { told = None; moment = 0; left_since = λ _ _. ⊥; faults = s.faults } };
+    ghost seen = { λ s. record {
+      told = None;
+      moment = 0;
+      left_since = λ _ _. ⊥;
+      faults = s.faults;
+    } };
 
     fn list(&mut self, alloc: Global, dir: &Text) -> Result<Seq<Text>, EdgeFault> {
         let names = self.listed(alloc, dir);

@@ -1,12 +1,290 @@
 use crate::descriptor::Descriptor;
 use crate::queue_dirs::QueueDirs;
-use mail_base::{EdgeFault, NoMemory, Seq, Text};
+use mail_base::{EdgeFault, Seq, Text};
 use mail_edge::LARGEST_FILE;
 use spool_disk::Spool;
+use std::alloc::Global;
 use std::fs::File;
 use std::os::unix::fs::PermissionsExt;
 use std::test::Fail;
 use std::{fs, io};
+
+/// What is asked of a spool, and what it has to answer.
+#[derive(Clone, Copy)]
+enum Step {
+    /// A file is written with these bytes.
+    Writes(&'static [u8], &'static [u8]),
+    /// A file gets another name.
+    Renames(&'static [u8], &'static [u8]),
+    /// A file is taken away.
+    Removes(&'static [u8]),
+    /// A file has these bytes.
+    Holds(&'static [u8], &'static [u8]),
+    /// A file isn't there.
+    Lacks(&'static [u8]),
+    /// These are the names of all files, each with a blank behind it.
+    Lists(&'static [u8]),
+    /// The file at this path is for its owner alone.
+    IsPrivate(&'static str),
+    /// Another spool is at fault in each call.
+    IsAlone,
+}
+
+/// The answer of a spool to a step: whether it is so, or a fault.
+type Answer = Result<bool, EdgeFault>;
+
+const FAULT: Answer = Err(EdgeFault::Failed);
+
+// The place of the first step that isn't answered so, if there is one.
+fn wrong_step(
+    rt: &HostRuntime,
+    spool: &mut QueueDirs<'_>,
+    steps: &[Step],
+    wanted: Answer,
+) -> Option<usize> {
+    for (place, step) in steps.iter().enumerate() {
+        if answer(rt, spool, *step) != wanted {
+            return Some(place);
+        }
+    }
+    None
+}
+
+fn answer(rt: &HostRuntime, spool: &mut QueueDirs<'_>, step: Step) -> Answer {
+    match step {
+        Step::Writes(name, bytes) => writes(spool, name, bytes),
+        Step::Renames(from, to) => renames(spool, from, to),
+        Step::Removes(name) => removes(spool, name),
+        Step::Holds(name, bytes) => holds(spool, name, Some(bytes)),
+        Step::Lacks(name) => holds(spool, name, None),
+        Step::Lists(names) => lists(spool, names),
+        Step::IsPrivate(path) => Ok(matches!(mode_of(rt, path), Ok(0o600))),
+        Step::IsAlone => Ok(faults_of_another(rt.alloc()) == 3),
+    }
+}
+
+fn writes(spool: &mut QueueDirs<'_>, name: &[u8], bytes: &[u8]) -> Answer {
+    let alloc = spool.allocator();
+    let name = Text::of(alloc, name)?;
+    let bytes = Text::of(alloc, bytes)?;
+    spool.write_new(&Text::new(alloc), &name, &bytes)?;
+    Ok(true)
+}
+
+fn renames(spool: &mut QueueDirs<'_>, from: &[u8], to: &[u8]) -> Answer {
+    let alloc = spool.allocator();
+    let from = Text::of(alloc, from)?;
+    let to = Text::of(alloc, to)?;
+    if from.bytes() == to.bytes() {
+        return Ok(false);
+    }
+    spool.rename(&Text::new(alloc), &from, &to)?;
+    Ok(true)
+}
+
+fn removes(spool: &mut QueueDirs<'_>, name: &[u8]) -> Answer {
+    let alloc = spool.allocator();
+    let name = Text::of(alloc, name)?;
+    spool.remove(&Text::new(alloc), &name)?;
+    Ok(true)
+}
+
+fn holds(spool: &mut QueueDirs<'_>, name: &[u8], wanted: Option<&[u8]>) -> Answer {
+    let alloc = spool.allocator();
+    let name = Text::of(alloc, name)?;
+    let there = spool.read(alloc, &Text::new(alloc), &name)?;
+    Ok(is_so(&there, wanted))
+}
+
+/// Whether a file has these bytes, or isn't there.
+pub fn is_so(there: &Option<Text>, wanted: Option<&[u8]>) -> bool {
+    match (there, wanted) {
+        (Some(text), Some(bytes)) => text.bytes() == bytes,
+        (None, None) => true,
+        _ => false,
+    }
+}
+
+fn lists(spool: &mut QueueDirs<'_>, wanted: &[u8]) -> Answer {
+    let alloc = spool.allocator();
+    let names: Seq<Text> = spool.list(alloc, &Text::new(alloc))?;
+    Ok(are_names(names.items(), wanted))
+}
+
+// Whether these are the names, each with a blank behind it.
+fn are_names(names: &[Text], wanted: &[u8]) -> bool {
+    let mut rest = wanted;
+    for name in names {
+        match rest.strip_prefix(name.bytes()) {
+            Some([b' ', behind @ ..]) => rest = behind,
+            _ => return false,
+        }
+    }
+    rest.is_empty()
+}
+
+/// What there is before a spool is made.
+#[derive(Clone, Copy)]
+enum Before {
+    Nothing,
+    Empty,
+    /// What the scene before left.
+    Same,
+    /// A directory with another one in it.
+    Nested,
+    /// A file that everybody may read.
+    Open,
+    /// A file with one byte more than one may have.
+    Large,
+}
+
+/// How a spool over a directory goes: steps that are faults, and then steps that go.
+#[derive(Clone, Copy)]
+struct Scene {
+    name: &'static str,
+    before: Before,
+    fails: &'static [Step],
+    goes: &'static [Step],
+}
+
+/// The directory of the scenes.
+const ROOT: &str = "/tmp/sendmail-queue";
+
+const SCENES: &[Scene] = &[
+    Scene {
+        name: "a file holds what was written last for its owner",
+        before: Before::Open,
+        fails: &[],
+        goes: &[
+            Step::Writes(b"dfw1", b"a body\xff\r\n"),
+            Step::Holds(b"dfw1", b"a body\xff\r\n"),
+            Step::IsPrivate("/tmp/sendmail-queue/dfw1"),
+            Step::Lacks(b"dfw2"),
+        ],
+    },
+    Scene {
+        name: "a file has its new name alone until it is removed",
+        before: Before::Empty,
+        fails: &[],
+        goes: &[
+            Step::Writes(b"tfw1", b"V1\n"),
+            Step::Renames(b"tfw1", b"qfw1"),
+            Step::Lacks(b"tfw1"),
+            Step::Holds(b"qfw1", b"V1\n"),
+            Step::Removes(b"qfw1"),
+            Step::Removes(b"qfw1"),
+            Step::Lacks(b"qfw1"),
+        ],
+    },
+    Scene {
+        name: "names of any bytes are listed in order",
+        before: Before::Nested,
+        fails: &[],
+        goes: &[
+            Step::Writes(b"qf\xfe", b""),
+            Step::Writes(b"a b", b""),
+            Step::Lists(b"a b qf\xfe "),
+            Step::Lists(b"a b qf\xfe "),
+        ],
+    },
+    Scene {
+        name: "a directory has one owner",
+        before: Before::Empty,
+        fails: &[],
+        goes: &[
+            Step::Lists(b""),
+            Step::Writes(b"dfw1", b"mail"),
+            Step::IsAlone,
+            Step::Holds(b"dfw1", b"mail"),
+            Step::Lists(b"dfw1 "),
+        ],
+    },
+    Scene {
+        name: "a directory is free when its owner is gone",
+        before: Before::Same,
+        fails: &[],
+        goes: &[
+            Step::Lists(b"dfw1 "),
+            Step::Writes(b"dfw1", b"other mail"),
+            Step::Removes(b"dfw1"),
+        ],
+    },
+    Scene {
+        name: "an absent directory is a fault",
+        before: Before::Nothing,
+        fails: &[
+            Step::Lists(b""),
+            Step::Lacks(b"qfw1"),
+            Step::Writes(b"qfw1", b"V1\n"),
+            Step::Removes(b"qfw1"),
+            Step::Renames(b"tfw1", b"qfw1"),
+        ],
+        goes: &[],
+    },
+    Scene {
+        name: "a name outside its directory is a fault",
+        before: Before::Empty,
+        fails: &[
+            Step::Writes(b"", b""),
+            Step::Writes(b".", b""),
+            Step::Writes(b"..", b""),
+            Step::Writes(b"a/b", b""),
+            Step::Writes(b"/etc/x", b""),
+            Step::Writes(b"a\0b", b""),
+            Step::Writes(&[b'x'; 4096], b""),
+        ],
+        goes: &[Step::Lists(b"")],
+    },
+    Scene {
+        name: "a large file is a fault",
+        before: Before::Large,
+        fails: &[Step::Lacks(b"dfw1")],
+        goes: &[Step::Lists(b"dfw1 ")],
+    },
+];
+
+// The place of the first step of a scene that doesn't go so, if there is one.
+fn wrong_in_scene(rt: &HostRuntime, scene: &Scene) -> io::Result<Option<usize>> {
+    make(rt, scene.before)?;
+    let mut spool = QueueDirs::new(rt.alloc(), ROOT.as_bytes());
+    Ok(wrong_in_spool(rt, &mut spool, scene))
+}
+
+// The same of a spool. Each fault is counted.
+fn wrong_in_spool(rt: &HostRuntime, spool: &mut QueueDirs<'_>, scene: &Scene) -> Option<usize> {
+    let wrong = wrong_step(rt, spool, scene.fails, FAULT);
+    if wrong.is_some() {
+        return wrong;
+    }
+    if spool.faults() != scene.fails.len() as u64 {
+        return Some(scene.fails.len());
+    }
+    wrong_step(rt, spool, scene.goes, Ok(true))
+}
+
+// How many of three calls fail of another spool over the directory.
+fn faults_of_another(alloc: Global) -> u64 {
+    let mut other = QueueDirs::new(alloc, ROOT.as_bytes());
+    let _ = lists(&mut other, b"");
+    let _ = writes(&mut other, b"dfw1", b"other mail");
+    let _ = removes(&mut other, b"dfw1");
+    other.faults()
+}
+
+// Makes what there is before a scene.
+fn make(rt: &HostRuntime, before: Before) -> io::Result<()> {
+    if matches!(before, Before::Same) {
+        return Ok(());
+    }
+    make_empty(rt, ROOT)?;
+    match before {
+        Before::Nothing => fs::remove_dir(rt, ROOT),
+        Before::Empty | Before::Same => Ok(()),
+        Before::Open => make_open(rt, "/tmp/sendmail-queue/dfw1"),
+        Before::Nested => fs::create_dir(rt, "/tmp/sendmail-queue/bulk"),
+        Before::Large => make_large(rt, "/tmp/sendmail-queue/dfw1"),
+    }
+}
 
 // An empty directory at that path.
 fn make_empty(rt: &HostRuntime, path: &str) -> io::Result<()> {
@@ -14,57 +292,6 @@ fn make_empty(rt: &HostRuntime, path: &str) -> io::Result<()> {
         fs::remove_dir_all(rt, path)?;
     }
     fs::create_dir_all(rt, path)
-}
-
-fn write(spool: &mut QueueDirs<'_>, name: &[u8], bytes: &[u8]) -> Result<bool, NoMemory> {
-    let alloc = spool.allocator();
-    let written = spool.write_new(
-        &Text::new(alloc),
-        &Text::of(alloc, name)?,
-        &Text::of(alloc, bytes)?,
-    );
-    Ok(written.is_ok())
-}
-
-fn rename(spool: &mut QueueDirs<'_>, from: &[u8], to: &[u8]) -> Result<bool, NoMemory> {
-    let alloc = spool.allocator();
-    let from = Text::of(alloc, from)?;
-    let to = Text::of(alloc, to)?;
-    if from.bytes() == to.bytes() {
-        return Ok(false);
-    }
-    Ok(spool.rename(&Text::new(alloc), &from, &to).is_ok())
-}
-
-fn remove(spool: &mut QueueDirs<'_>, name: &[u8]) -> Result<bool, NoMemory> {
-    let alloc = spool.allocator();
-    let name = Text::of(alloc, name)?;
-    Ok(spool.remove(&Text::new(alloc), &name).is_ok())
-}
-
-fn holds(spool: &mut QueueDirs<'_>, name: &[u8], bytes: &[u8]) -> Result<bool, EdgeFault> {
-    let alloc = spool.allocator();
-    let name = Text::of(alloc, name)?;
-    let there = spool.read(alloc, &Text::new(alloc), &name)?;
-    Ok(matches!(&there, Some(text) if text.bytes() == bytes))
-}
-
-fn lacks(spool: &mut QueueDirs<'_>, name: &[u8]) -> Result<bool, EdgeFault> {
-    let alloc = spool.allocator();
-    let name = Text::of(alloc, name)?;
-    Ok(spool.read(alloc, &Text::new(alloc), &name)?.is_none())
-}
-
-// Whether these are the names in the directory, each with a blank behind it.
-fn lists(spool: &mut QueueDirs<'_>, wanted: &[u8]) -> Result<bool, EdgeFault> {
-    let alloc = spool.allocator();
-    let listed: Seq<Text> = spool.list(alloc, &Text::new(alloc))?;
-    let mut names = Text::new(alloc);
-    for name in listed.items() {
-        names.extend(name.bytes())?;
-        names.push(b' ')?;
-    }
-    Ok(names.bytes() == wanted)
 }
 
 // A file with one byte more than one may have.
@@ -83,104 +310,17 @@ fn mode_of(rt: &HostRuntime, path: &str) -> io::Result<u32> {
 }
 
 #[test]
-fn a_file_holds_what_was_written_last_for_its_owner(rt: HostRuntime) -> Result<(), Fail> {
-    make_empty(&rt, "/tmp/sendmail-queue-written")?;
-    make_open(&rt, "/tmp/sendmail-queue-written/dfw1")?;
-    let mut spool = QueueDirs::new(rt.alloc(), b"/tmp/sendmail-queue-written");
-    assert!(rt; write(&mut spool, b"dfw1", b"a body\xff\r\n")?);
-    assert!(rt; holds(&mut spool, b"dfw1", b"a body\xff\r\n")?);
-    assert_eq!(rt; mode_of(&rt, "/tmp/sendmail-queue-written/dfw1")?, 0o600);
-    assert!(rt; lacks(&mut spool, b"dfw2")?);
-    fs::remove_dir_all(&rt, "/tmp/sendmail-queue-written")?;
-    Ok(())
-}
-
-#[test]
-fn a_file_has_its_new_name_alone_until_it_is_removed(rt: HostRuntime) -> Result<(), Fail> {
-    make_empty(&rt, "/tmp/sendmail-queue-renamed")?;
-    let mut spool = QueueDirs::new(rt.alloc(), b"/tmp/sendmail-queue-renamed");
-    assert!(rt; write(&mut spool, b"tfw1", b"V1\n")?);
-    assert!(rt; rename(&mut spool, b"tfw1", b"qfw1")?);
-    assert!(rt; lacks(&mut spool, b"tfw1")?);
-    assert!(rt; holds(&mut spool, b"qfw1", b"V1\n")?);
-    assert!(rt; remove(&mut spool, b"qfw1")? && remove(&mut spool, b"qfw1")?);
-    assert!(rt; lacks(&mut spool, b"qfw1")?);
-    fs::remove_dir_all(&rt, "/tmp/sendmail-queue-renamed")?;
-    Ok(())
-}
-
-#[test]
-fn names_of_any_bytes_are_listed_in_order(rt: HostRuntime) -> Result<(), Fail> {
-    make_empty(&rt, "/tmp/sendmail-queue-listed/bulk")?;
-    let mut spool = QueueDirs::new(rt.alloc(), b"/tmp/sendmail-queue-listed");
-    assert!(rt; write(&mut spool, b"qf\xfe", b"")? && write(&mut spool, b"a b", b"")?);
-    assert!(rt; lists(&mut spool, b"a b qf\xfe ")? && lists(&mut spool, b"a b qf\xfe ")?);
-    fs::remove_dir_all(&rt, "/tmp/sendmail-queue-listed")?;
-    Ok(())
-}
-
-#[test]
-fn a_directory_has_one_owner(rt: HostRuntime) -> Result<(), Fail> {
-    make_empty(&rt, "/tmp/sendmail-queue-owned")?;
-    let mut owner = QueueDirs::new(rt.alloc(), b"/tmp/sendmail-queue-owned");
-    assert!(rt; lists(&mut owner, b"")? && write(&mut owner, b"dfw1", b"mail")?);
-    assert_eq!(rt; faults_of_a_second_owner(&rt)?, 3);
-    assert!(rt; holds(&mut owner, b"dfw1", b"mail")? && lists(&mut owner, b"dfw1 ")?);
-    drop(owner);
-    assert_eq!(rt; faults_of_a_second_owner(&rt)?, 0);
-    fs::remove_dir_all(&rt, "/tmp/sendmail-queue-owned")?;
-    Ok(())
-}
-
-// How many of three calls fail over a directory that another may own.
-fn faults_of_a_second_owner(rt: &HostRuntime) -> Result<u64, NoMemory> {
-    let mut second = QueueDirs::new(rt.alloc(), b"/tmp/sendmail-queue-owned");
-    let _ = lists(&mut second, b"");
-    let _ = write(&mut second, b"dfw1", b"other mail")?;
-    let _ = remove(&mut second, b"dfw1")?;
-    Ok(second.faults())
-}
-
-#[test]
-fn an_absent_directory_is_a_fault(rt: HostRuntime) -> Result<(), Fail> {
-    let mut spool = QueueDirs::new(rt.alloc(), b"/tmp/sendmail-queue-absent");
-    assert!(rt; lists(&mut spool, b"") == Err(EdgeFault::Failed));
-    assert!(rt; lacks(&mut spool, b"qfw1") == Err(EdgeFault::Failed));
-    assert!(rt; !write(&mut spool, b"qfw1", b"V1\n")? && !remove(&mut spool, b"qfw1")?);
-    assert!(rt; !rename(&mut spool, b"tfw1", b"qfw1")?);
-    assert_eq!(rt; spool.faults(), 5);
-    Ok(())
-}
-
-#[test]
-fn a_name_outside_its_directory_is_a_fault(rt: HostRuntime) -> Result<(), Fail> {
-    make_empty(&rt, "/tmp/sendmail-queue-outside")?;
-    let mut spool = QueueDirs::new(rt.alloc(), b"/tmp/sendmail-queue-outside");
-    for name in [
-        b"".as_slice(),
-        b".",
-        b"..",
-        b"a/b",
-        b"/etc/x",
-        b"a\0b",
-        &[b'x'; 4096],
-    ] {
-        assert!(rt; !write(&mut spool, name, b"")?);
+fn spools_on_a_disk_go_as_their_scenes_say(rt: HostRuntime) -> Result<(), Fail> {
+    for scene in SCENES {
+        assert_eq!(rt; wrong_in_scene(&rt, scene)?, None, "{}", scene.name);
     }
-    assert!(rt; lists(&mut spool, b"")?);
-    fs::remove_dir_all(&rt, "/tmp/sendmail-queue-outside")?;
+    fs::remove_dir_all(&rt, ROOT)?;
     Ok(())
 }
 
 #[test]
-fn a_full_disk_and_a_large_file_are_faults(rt: HostRuntime) -> Result<(), Fail> {
+fn a_full_disk_is_a_fault(rt: HostRuntime) {
     assert!(rt;
         Descriptor::to_change(b"/dev/full").is_ok_and(|full| full.write_all(b"V1\n").is_err())
     );
-    make_empty(&rt, "/tmp/sendmail-queue-large")?;
-    make_large(&rt, "/tmp/sendmail-queue-large/dfw1")?;
-    let mut spool = QueueDirs::new(rt.alloc(), b"/tmp/sendmail-queue-large");
-    assert!(rt; lacks(&mut spool, b"dfw1") == Err(EdgeFault::Failed));
-    fs::remove_dir_all(&rt, "/tmp/sendmail-queue-large")?;
-    Ok(())
 }

@@ -32,8 +32,8 @@ impl Wires {
     }
 }
 
-/// One session on a reader and a writer. Where these have descriptors, the session ends when nothing came for so many
-/// milliseconds.
+/// One session on a reader and a writer. Where these have descriptors, the session ends when
+/// nothing came for so many milliseconds.
 pub struct Standard<R, W> {
     one: OneFloor<InputStream<R>, OutputStream<W>>,
     wires: Option<Wires>,

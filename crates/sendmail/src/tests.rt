@@ -1,6 +1,7 @@
 use crate::disk::DiskFiles;
 use crate::notice::tell;
 use crate::peer::put_peer;
+use crate::queue_tests::is_so;
 use crate::stream::{InputStream, OutputStream};
 use mail_base::{EdgeFault, Failed, Text};
 use mail_edge::{Files, Sink, Source};
@@ -10,52 +11,45 @@ use std::net::IpAddr;
 use std::test::Fail;
 use std::{fs, io};
 
-// Fails in every call.
+/// A reader or a writer whose calls fail in turn: the first and then each one so many calls
+/// behind it, or none where that is 0.
 #[derive(Drop)]
-struct Broken;
-
-impl Read for Broken {
-    fn read(&mut self, _buf: &mut [u8]) -> io::Result<usize> {
-        Err(io::Error::from(ErrorKind::Other))
-    }
-}
-
-impl Write for Broken {
-    fn write(&mut self, _bytes: &[u8]) -> io::Result<usize> {
-        Err(io::Error::from(ErrorKind::Other))
-    }
-
-    fn flush(&mut self) -> io::Result<()> {
-        Ok(())
-    }
-}
-
-// A signal comes in each second call, beginning with the first.
-#[derive(Drop)]
-struct Signalled<S> {
+struct Faulty<S> {
     inner: S,
+    every: u32,
+    error: ErrorKind,
     calls: u32,
 }
 
-impl<S> Signalled<S> {
-    // Counts a call, in which a signal came or not.
+impl<S> Faulty<S> {
+    fn new(inner: S, every: u32, error: ErrorKind) -> Faulty<S> {
+        Faulty {
+            inner,
+            every,
+            error,
+            calls: 0,
+        }
+    }
+
+    // Counts a call, which fails or not.
     fn call(&mut self) -> io::Result<()> {
+        let fails = self.calls.checked_rem(self.every) == Some(0);
         self.calls = self.calls.wrapping_add(1);
-        if self.calls % 2 == 1 {
-            return Err(io::Error::from(ErrorKind::Interrupted));
+        if fails {
+            return Err(io::Error::from(self.error));
         }
         Ok(())
     }
 }
 
-impl<S: Read> Read for Signalled<S> {
+impl<S: Read> Read for Faulty<S> {
     fn read(&mut self, buf: &mut [u8]) -> io::Result<usize> {
         self.call()?;
         self.inner.read(buf)
     }
 }
 
-impl<S: Write> Write for Signalled<S> {
+impl<S: Write> Write for Faulty<S> {
     fn write(&mut self, bytes: &[u8]) -> io::Result<usize> {
         self.call()?;
         self.inner.write(bytes)
@@ -66,44 +60,48 @@ impl<S: Write> Write for Signalled<S> {
     }
 }
 
-#[test]
-fn signals_change_nothing(rt: HostRuntime) -> Result<(), Fail> {
-    let mut buf = [0u8; 8];
-    let mut input = InputStream::new(Signalled {
-        inner: b"bytes".as_slice(),
-        calls: 0,
-    });
-    assert_eq!(rt; input.take(&mut buf)?, 5);
-    assert_eq!(rt; input.take(&mut buf)?, 0);
-    let mut written = Vec::new(rt.alloc());
-    OutputStream::new(Signalled {
-        inner: &mut written,
-        calls: 0,
-    })
-    .give(b"bytes")?;
-    assert_eq!(rt; written.as_slice(), b"bytes".as_slice());
-    Ok(())
+/// How often a signal comes: never, or in each second call.
+const SIGNALS: [u32; 2] = [0, 2];
+
+// A source over bytes whose reads fail in turn.
+fn source(every: u32, error: ErrorKind) -> InputStream<Faulty<&'static [u8]>> {
+    InputStream::new(Faulty::new(b"bytes".as_slice(), every, error))
 }
 
-#[test]
-fn a_reader_is_a_source(rt: HostRuntime) -> Result<(), Fail> {
+// Whether these bytes are taken next.
+fn takes(source: &mut impl Source, wanted: &[u8]) -> bool {
     let mut buf = [0u8; 4];
-    let mut input = InputStream::new(b"bytes".as_slice());
-    assert_eq!(rt; input.take(&mut buf)?, 4);
-    assert_eq!(rt; buf.as_slice(), b"byte".as_slice());
-    assert_eq!(rt; input.take(&mut buf)?, 1);
-    assert_eq!(rt; input.take(&mut buf)?, 0);
-    assert_eq!(rt; InputStream::new(Broken).take(&mut buf), Err(Failed));
-    Ok(())
+    match source.take(&mut buf) {
+        Ok(count) => buf.get(..count) == Some(wanted),
+        Err(Failed) => false,
+    }
 }
 
 #[test]
-fn a_writer_is_a_sink(rt: HostRuntime) -> Result<(), Fail> {
+fn a_reader_is_a_source(rt: HostRuntime) {
+    for every in SIGNALS {
+        let mut source = source(every, ErrorKind::Interrupted);
+        assert!(rt; takes(&mut source, b"byte"));
+        assert!(rt; takes(&mut source, b"s"));
+        assert!(rt; takes(&mut source, b""));
+    }
+    let mut broken = source(1, ErrorKind::Other);
+    assert_eq!(rt; broken.take(&mut [0u8; 4]), Err(Failed));
+}
+
+// Whether bytes reach a writer whose writes fail in turn.
+fn gives(rt: &HostRuntime, every: u32, error: ErrorKind) -> Result<bool, Failed> {
     let mut written = Vec::new(rt.alloc());
-    OutputStream::new(&mut written).give(b"bytes")?;
-    assert_eq!(rt; written.as_slice(), b"bytes".as_slice());
-    assert_eq!(rt; OutputStream::new(Broken).give(b"bytes"), Err(Failed));
-    Ok(())
+    OutputStream::new(Faulty::new(&mut written, every, error)).give(b"bytes")?;
+    Ok(written.as_slice() == b"bytes".as_slice())
+}
+
+#[test]
+fn a_writer_is_a_sink(rt: HostRuntime) {
+    for every in SIGNALS {
+        assert_eq!(rt; gives(&rt, every, ErrorKind::Interrupted), Ok(true));
+    }
+    assert_eq!(rt; gives(&rt, 1, ErrorKind::Other), Err(Failed));
 }
 
 #[test]
@@ -125,50 +123,47 @@ fn addresses_are_those_that_rules_expect(rt: HostRuntime) {
     }
 }
 
+// What is read of a file; `None` where it isn't there.
+fn is_read(rt: &HostRuntime, name: &[u8], wanted: Option<&[u8]>) -> Result<bool, EdgeFault> {
+    let name = Text::of(rt.alloc(), name)?;
+    let there = DiskFiles::new(rt).read(rt.alloc(), &name)?;
+    Ok(is_so(&there, wanted))
+}
+
 #[test]
 fn a_disk_has_files(rt: HostRuntime) -> Result<(), Fail> {
-    let alloc = rt.alloc();
-    let name = Text::of(alloc, b"/tmp/sendmail-files-of-a-disk")?;
     fs::write(&rt, "/tmp/sendmail-files-of-a-disk", b"S5\xff\n".as_slice())?;
-    let mut files = DiskFiles::new(&rt);
-    let there = files.read(alloc, &name)?;
-    assert!(rt; matches!(&there, Some(text) if text.bytes() == b"S5\xff\n".as_slice()));
+    let name = b"/tmp/sendmail-files-of-a-disk";
+    assert_eq!(rt; is_read(&rt, name, Some(b"S5\xff\n")), Ok(true));
     fs::remove_file(&rt, "/tmp/sendmail-files-of-a-disk")?;
-    assert!(rt; files.read(alloc, &name)?.is_none());
-    let directory = Text::of(alloc, b"/tmp")?;
-    assert!(rt; matches!(files.read(alloc, &directory), Err(EdgeFault::Failed)));
+    assert_eq!(rt; is_read(&rt, name, None), Ok(true));
+    assert_eq!(rt; is_read(&rt, b"/tmp", None), Err(EdgeFault::Failed));
     Ok(())
+}
+
+// Whether this is the line that tells an outcome.
+fn is_told(rt: &HostRuntime, outcome: Outcome, wanted: &[u8]) -> bool {
+    let mut line = Vec::new(rt.alloc());
+    tell(&mut line, &outcome).is_ok() && line.as_slice() == wanted
 }
 
 #[test]
 fn an_outcome_is_told_in_a_line(rt: HostRuntime) -> Result<(), Fail> {
-    let mut line = Vec::new(rt.alloc());
-    tell(&mut line, &Outcome::Done)?;
-    tell(&mut line, &Outcome::Usage(3))?;
-    tell(
-        &mut line,
-        &Outcome::NoFile(Text::of(rt.alloc(), b"row1.cf")?),
-    )?;
-    tell(&mut line, &Outcome::InputLarge)?;
-    assert_eq!(rt;
-        line.as_slice(),
-        b"sendmail: bad word 3\nsendmail: no file row1.cf\nsendmail: input too large\n".as_slice()
+    assert!(rt; is_told(&rt, Outcome::Done, b""));
+    assert!(rt; is_told(&rt, Outcome::Usage(3), b"sendmail: bad word 3\n"));
+    assert!(rt; is_told(&rt, Outcome::InputLarge, b"sendmail: input too large\n"));
+    assert!(rt; is_told(&rt, Outcome::FloorFault, b"sendmail: floor fault\n"));
+    assert!(rt;
+        is_told(
+            &rt,
+            Outcome::TurnsSpent(1 << 60),
+            b"sendmail: turns spent\n"
+        )
     );
-    Ok(())
-}
-
-#[test]
-fn an_end_of_service_is_told_in_a_line(rt: HostRuntime) -> Result<(), Fail> {
-    for (outcome, wanted) in [
-        (Outcome::FloorFault, b"sendmail: floor fault\n".as_slice()),
-        (Outcome::TurnsSpent(1 << 60), b"sendmail: turns spent\n"),
-        (Outcome::SpoolFault, b"sendmail: spool fault\n"),
-        (Outcome::IdsSpent, b"sendmail: ids spent\n"),
-        (Outcome::NotYet, b"sendmail: not yet\n"),
-    ] {
-        let mut line = Vec::new(rt.alloc());
-        tell(&mut line, &outcome)?;
-        assert_eq!(rt; line.as_slice(), wanted);
-    }
+    assert!(rt; is_told(&rt, Outcome::SpoolFault, b"sendmail: spool fault\n"));
+    assert!(rt; is_told(&rt, Outcome::IdsSpent, b"sendmail: ids spent\n"));
+    assert!(rt; is_told(&rt, Outcome::NotYet, b"sendmail: not yet\n"));
+    let no_file = Outcome::NoFile(Text::of(rt.alloc(), b"row1.cf")?);
+    assert!(rt; is_told(&rt, no_file, b"sendmail: no file row1.cf\n"));
     Ok(())
 }

@@ -20,17 +20,36 @@ const ROOT: &str = "/tmp/sendmail-whole";
 
 const QUEUE: &str = "/tmp/sendmail-whole/var/spool/mqueue";
 
-const ASKED: &[u8] =
-    b"HELO c.example\r\nMAIL FROM:<bob@c.example>\r\nRCPT TO:<ann@mx.example>\r\nDATA\r\nSubject: hi\r\n\r\nhello\r\n.\r\nQUIT\r\n";
+const ASKED: &[u8] = b"HELO c.example\r\n\
+    MAIL FROM:<bob@c.example>\r\n\
+    RCPT TO:<ann@mx.example>\r\n\
+    DATA\r\n\
+    Subject: hi\r\n\
+    \r\n\
+    hello\r\n\
+    .\r\n\
+    QUIT\r\n";
 
-const REPLIES: &[u8] =
-    b"220 localhost ESMTP ready\r\n250 localhost Hello\r\n250 2.1.0 Sender ok\r\n250 2.1.5 Recipient ok\r\n354 Enter mail, end with \".\" on a line by itself\r\n250 2.0.0 w000000000001 Message accepted for delivery\r\n221 2.0.0 localhost closing connection\r\n";
+const REPLIES: &[u8] = b"220 localhost ESMTP ready\r\n\
+    250 localhost Hello\r\n\
+    250 2.1.0 Sender ok\r\n\
+    250 2.1.5 Recipient ok\r\n\
+    354 Enter mail, end with \".\" on a line by itself\r\n\
+    250 2.0.0 w000000000001 Message accepted for delivery\r\n\
+    221 2.0.0 localhost closing connection\r\n";
 
 /// The control text before the moment of the message, and behind it.
 const BEFORE: &[u8] = b"V1\nv1\ngmqueue\nT";
 
-const BEHIND: &[u8] =
-    b"\nK0\nN0\nP30022\nc0\nS<bob@c.example>\n$rSMTP\n$sc.example\n${client_addr}\nRPFD:<ann@mx.example>\neQ\nHSubject: hi\n.\n";
+const BEHIND: &[u8] = b"\nK0\nN0\nP30022\nc0\n\
+    S<bob@c.example>\n\
+    $rSMTP\n\
+    $sc.example\n\
+    ${client_addr}\n\
+    RPFD:<ann@mx.example>\n\
+    eQ\n\
+    HSubject: hi\n\
+    .\n";
 
 // An empty queue, and a configuration beside it.
 fn make_site(rt: &HostRuntime) -> io::Result<()> {
@@ -102,28 +121,24 @@ fn is_control(rt: &HostRuntime, path: &str, since: u64, until: u64) -> io::Resul
     Ok(moment.is_some_and(|moment| since <= moment && moment <= until))
 }
 
+// Whether the queue holds the message alone, which came at such a moment.
+fn is_kept(rt: &HostRuntime, since: u64, until: u64) -> io::Result<bool> {
+    let control = "/tmp/sendmail-whole/var/spool/mqueue/qfw000000000001";
+    let body = "/tmp/sendmail-whole/var/spool/mqueue/dfw000000000001";
+    Ok(
+        is_control(rt, control, since, until)?
+            && is_file(rt, body, b"hello\r\n")?
+            && fs::read_dir(rt, QUEUE)?.count() == 2,
+    )
+}
+
 #[test]
 fn a_message_is_in_the_queue_on_the_disk(rt: HostRuntime) -> Result<(), Fail> {
     make_site(&rt)?;
     let mut clock = SystemClock::new(rt);
     let since = clock.now();
     assert_eq!(rt; converse(&rt, ASKED, REPLIES)?, (0, true));
-    assert!(rt;
-        is_control(
-            &rt,
-            "/tmp/sendmail-whole/var/spool/mqueue/qfw000000000001",
-            since,
-            clock.now()
-        )?
-    );
-    assert!(rt;
-        is_file(
-            &rt,
-            "/tmp/sendmail-whole/var/spool/mqueue/dfw000000000001",
-            b"hello\r\n"
-        )?
-    );
-    assert_eq!(rt; fs::read_dir(&rt, QUEUE)?.count(), 2);
+    assert!(rt; is_kept(&rt, since, clock.now())?);
     fs::remove_dir_all(&rt, ROOT)?;
     Ok(())
 }
