@@ -58,7 +58,7 @@ fn answer(rt: &HostRuntime, spool: &mut QueueDirs<'_>, step: Step) -> Answer {
         Step::Holds(name, bytes) => holds(spool, name, Some(bytes)),
         Step::Lacks(name) => holds(spool, name, None),
         Step::Lists(names) => lists(spool, names),
-        Step::IsPrivate(path) => Ok(matches!(mode_of(rt, path), Ok(0o600))),
+        Step::IsPrivate(path) => Ok(is_private(rt, path)),
         Step::IsAlone => Ok(faults_of_another(rt.alloc()) == 3),
     }
 }
@@ -273,10 +273,9 @@ fn faults_of_another(alloc: Global) -> u64 {
 
 // Makes what there is before a scene.
 fn make(rt: &HostRuntime, before: Before) -> io::Result<()> {
-    if matches!(before, Before::Same) {
-        return Ok(());
+    if !matches!(before, Before::Same) {
+        make_empty(rt, ROOT)?;
     }
-    make_empty(rt, ROOT)?;
     match before {
         Before::Nothing => fs::remove_dir(rt, ROOT),
         Before::Empty | Before::Same => Ok(()),
@@ -286,8 +285,8 @@ fn make(rt: &HostRuntime, before: Before) -> io::Result<()> {
     }
 }
 
-// An empty directory at that path.
-fn make_empty(rt: &HostRuntime, path: &str) -> io::Result<()> {
+/// Makes an empty directory at that path.
+pub fn make_empty(rt: &HostRuntime, path: &str) -> io::Result<()> {
     if fs::exists(rt, path)? {
         fs::remove_dir_all(rt, path)?;
     }
@@ -305,8 +304,11 @@ fn make_open(rt: &HostRuntime, path: &str) -> io::Result<()> {
     fs::set_permissions(rt, path, fs::Permissions::from_mode(0o644))
 }
 
-fn mode_of(rt: &HostRuntime, path: &str) -> io::Result<u32> {
-    Ok(fs::metadata(rt, path)?.permissions().mode() & 0o777)
+fn is_private(rt: &HostRuntime, path: &str) -> bool {
+    match fs::metadata(rt, path) {
+        Ok(file) => file.permissions().mode() & 0o777 == 0o600,
+        Err(_) => false,
+    }
 }
 
 #[test]

@@ -142,28 +142,28 @@ fn a_disk_has_files(rt: HostRuntime) -> Result<(), Fail> {
 }
 
 // Whether this is the line that tells an outcome.
-fn is_told(rt: &HostRuntime, outcome: Outcome, wanted: &[u8]) -> bool {
+fn is_told(rt: &HostRuntime, outcome: &Outcome, wanted: &[u8]) -> bool {
     let mut line = Vec::new(rt.alloc());
-    tell(&mut line, &outcome).is_ok() && line.as_slice() == wanted
+    tell(&mut line, outcome).is_ok() && line.as_slice() == wanted
 }
 
 #[test]
 fn an_outcome_is_told_in_a_line(rt: HostRuntime) -> Result<(), Fail> {
-    assert!(rt; is_told(&rt, Outcome::Done, b""));
-    assert!(rt; is_told(&rt, Outcome::Usage(3), b"sendmail: bad word 3\n"));
-    assert!(rt; is_told(&rt, Outcome::InputLarge, b"sendmail: input too large\n"));
-    assert!(rt; is_told(&rt, Outcome::FloorFault, b"sendmail: floor fault\n"));
+    assert!(rt; is_told(&rt, &Outcome::Done, b""));
+    assert!(rt; is_told(&rt, &Outcome::Usage(3), b"sendmail: bad word 3\n"));
+    assert!(rt; is_told(&rt, &Outcome::InputLarge, b"sendmail: input too large\n"));
+    assert!(rt; is_told(&rt, &Outcome::FloorFault, b"sendmail: floor fault\n"));
     assert!(rt;
         is_told(
             &rt,
-            Outcome::TurnsSpent(1 << 60),
+            &Outcome::TurnsSpent(1 << 60),
             b"sendmail: turns spent\n"
         )
     );
-    assert!(rt; is_told(&rt, Outcome::SpoolFault, b"sendmail: spool fault\n"));
-    assert!(rt; is_told(&rt, Outcome::IdsSpent, b"sendmail: ids spent\n"));
-    assert!(rt; is_told(&rt, Outcome::NotYet, b"sendmail: not yet\n"));
+    assert!(rt; is_told(&rt, &Outcome::SpoolFault, b"sendmail: spool fault\n"));
+    assert!(rt; is_told(&rt, &Outcome::IdsSpent, b"sendmail: ids spent\n"));
+    assert!(rt; is_told(&rt, &Outcome::NotYet, b"sendmail: not yet\n"));
     let no_file = Outcome::NoFile(Text::of(rt.alloc(), b"row1.cf")?);
-    assert!(rt; is_told(&rt, no_file, b"sendmail: no file row1.cf\n"));
+    assert!(rt; is_told(&rt, &no_file, b"sendmail: no file row1.cf\n"));
     Ok(())
 }

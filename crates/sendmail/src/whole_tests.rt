@@ -6,11 +6,12 @@ use crate::disk::DiskFiles;
 use crate::floor::SystemFloor;
 use crate::limits::LIMITS;
 use crate::queue_dirs::QueueDirs;
+use crate::queue_tests::make_empty;
 use crate::standard::Wires;
 use crate::stream::{InputStream, OutputStream};
 use mail_base::{NoMemory, Seq, Text};
 use mail_edge::Clock;
-use sendmail_run::{Outcome, sendmail};
+use sendmail_run::sendmail;
 use std::io::{PipeReader, PipeWriter, Read, Write};
 use std::test::Fail;
 use std::{fs, io};
@@ -53,9 +54,7 @@ const BEHIND: &[u8] = b"\nK0\nN0\nP30022\nc0\n\
 
 // An empty queue, and a configuration beside it.
 fn make_site(rt: &HostRuntime) -> io::Result<()> {
-    if fs::exists(rt, ROOT)? {
-        fs::remove_dir_all(rt, ROOT)?;
-    }
+    make_empty(rt, ROOT)?;
     fs::create_dir_all(rt, QUEUE)?;
     fs::write(rt, "/tmp/sendmail-whole/sendmail.cf", b"S5\n".as_slice())
 }
@@ -70,8 +69,8 @@ fn words(rt: &HostRuntime) -> Result<Seq<Text>, NoMemory>
     Ok(words)
 }
 
-// Serves a session from one pipe to another.
-fn serve(rt: &HostRuntime, reader: PipeReader, writer: PipeWriter) -> Result<Outcome, NoMemory> {
+// Serves a session from one pipe to another, and gives the run's status.
+fn serve(rt: &HostRuntime, reader: PipeReader, writer: PipeWriter) -> Result<u8, NoMemory> {
     let wires = Wires::of(&reader, &writer);
     let mut floor = SystemFloor::new(*rt, reader, writer, Some(wires), LIMITS);
     let outcome = sendmail(
@@ -85,7 +84,7 @@ fn serve(rt: &HostRuntime, reader: PipeReader, writer: PipeWriter) -> Result<Out
         &mut OutputStream::new(Vec::new(rt.alloc())),
     );
     floor.finish();
-    Ok(outcome)
+    Ok(outcome.status())
 }
 
 // How a run ends whose peer says these bytes and hangs up, and whether it is replied so.
@@ -94,7 +93,7 @@ fn converse(rt: &HostRuntime, asked: &[u8], wanted: &[u8]) -> Result<(u8, bool),
     let (mut far_reader, writer) = io::pipe(rt)?;
     far_writer.write_all(asked)?;
     drop(far_writer);
-    let status = serve(rt, reader, writer)?.status();
+    let status = serve(rt, reader, writer)?;
     Ok((status, is_rest(rt, &mut far_reader, wanted)?))
 }
 
