@@ -6,6 +6,7 @@ use Rattle.std.specs.Char.{to_ascii_lowercase}
 use Rattle.std.specs.Str.{str_to_ascii_lowercase, str_eq_ignore_ascii_case}
 use Rattle.std.proofs.lemmas.Slice.Eq.{bytes_eq-Decides}
 use Rattle.std.proofs.lemmas.Bool.{eqb-true, ltb-true, ltb-false}
+use Rattle.std.proofs.Math.Bool.{or-false}
 use Rattle.std.proofs.lemmas.List.Folds.{find_at, list_any-append, list_any_more}
 use Rattle.std.proofs.lemmas.List.Sums.{position_or_len_is}
 use Rattle.std.proofs.lemmas.Option.{slice_get-get_or, slice_get_past, slice_get_within}
@@ -213,10 +214,6 @@ pushed_set sets made one place index now others now_others is last keeps held in
         let here : place ≡ at = last ∙ sym new.0 in
         subst (λ (k : ℕ). is_held_for name k now now_others ≡ true) here (held name (ap (is_named name) (sym new.1) ∙ named))
 
-or_false : (b : Bool) → (b || false) ≡ b
-or_false true = refl
-or_false false = refl
-
 either : (a b : Bool) → (a || b) ≡ true → (a ≡ true) ⊎ (b ≡ true)
 either true b h = inl refl
 either false b h = inr h
@@ -229,7 +226,7 @@ renamed sets place d name index now others now_others lt keeps held indexed =
   where
     old : (other : List ℕ) → (is_named other (get_or sets place d) ≡ true) ⊎ ((str_eq_ignore_ascii_case name other || false) ≡ true) → is_held_for other place now now_others ≡ true
     old other (inl named) = keeps other place (indexed other place (get_or sets place d) (slice_get-get_or sets place d lt) named)
-    old other (inr same) = held_alike name other place now now_others (sym (or_false (str_eq_ignore_ascii_case name other)) ∙ same) held
+    old other (inr same) = held_alike name other place now now_others (sym (or-false (str_eq_ignore_ascii_case name other)) ∙ same) held
 
     by : (other : List ℕ) (at : ℕ) (one : Ruled) → (slice_get sets at ≡ Some one) ⊎ ((at ≡ place) × (one ≡ with_name (get_or sets place d) name) × (place < length sets)) → is_named other one ≡ true → is_held_for other at now now_others ≡ true
     by other at one (inl there) named = keeps other at (indexed other at one there named)

@@ -9,6 +9,7 @@ use Rattle.std.specs.Prelude.{drop, max}
 use Rattle.std.proofs.lemmas.List.{append-nil, take-append-drop, take-take, length-take}
 use Rattle.std.proofs.lemmas.Map.Keys.{IsDistinct-head, IsDistinct-tail}
 use Rattle.std.proofs.lemmas.List.Folds.{list_any-append}
+use Rattle.std.proofs.Math.Bool.{or-false}
 use Rattle.indexmap.specs.IndexSet.{insert_key}
 use Rattle.mail_base.specs.Classes.{is_cut_into, is_phrase, longest_from, longest_phrase, phrase_length, same_member, with_members}
 use Rattle.mail_base.specs.Tokens.{same_token, same_tokens}
@@ -20,10 +21,6 @@ use Rattle.mail_base.specs.declared.token.Token.{Token}
 or_true : (b : Bool) → (b || true) ≡ true
 or_true true = refl
 or_true false = refl
-
-pub or_false : (b : Bool) → (b || false) ≡ b
-or_false true = refl
-or_false false = refl
 
 module _ {K : Type 0} where
   pub keeps_all : (xs : List K) → Keeps xs xs
@@ -55,7 +52,7 @@ module _ {K : Type 0} where
 
       settled : (k : K) (ks : List K) → list_any (eq k) ks ≡ true → (b : Bool) → p k ≡ b → list_any p ks ≡ (list_any p ks || p k)
       settled k ks found true e = let any = any_alike k ks found e in any ∙ sym (ap (λ b. b || p k) any)
-      settled k ks found false e = sym (or_false (list_any p ks)) ∙ ap (λ b. list_any p ks || b) (sym e)
+      settled k ks found false e = sym (or-false (list_any p ks)) ∙ ap (λ b. list_any p ks || b) (sym e)
 
       -- a test that equal keys pass alike is passed by one more key where that passes
       pub any-insert_key : (ks : List K) (k : K) → list_any p (insert_key eq ks k) ≡ (list_any p ks || p k)
@@ -63,7 +60,7 @@ module _ {K : Type 0} where
         where
           by : (b : Bool) → list_any (eq k) ks ≡ b → list_any p (if b then ks else ks ++ k ∷ []) ≡ (list_any p ks || p k)
           by true found = settled k ks found (p k) refl
-          by false new = list_any-append p ks (k ∷ []) ∙ ap (λ b. list_any p ks || b) (or_false (p k))
+          by false new = list_any-append p ks (k ∷ []) ∙ ap (λ b. list_any p ks || b) (or-false (p k))
 
 module _ {K : Type 0} (eq : K → K → Bool) (symm : (x y : K) → eq x y ≡ eq y x) where
   at_key : (x k : K) (done ks : List K) → AllByRecursion (λ y. eq x y ≡ false) (done ++ k ∷ ks) → eq x k ≡ false
@@ -99,7 +96,7 @@ among_insert {A} phrases phrase tokens =
 pub indexed_put : {A : Type 0} (phrases more : List (Vec Token A)) (members : List Member) (member : Member) → ((t : List Token) → is_among more t ≡ (is_among phrases t || is_cut_into t member.tokens)) → HasPhrases phrases members → HasPhrases more (members ++ member ∷ [])
 indexed_put phrases more members member step has t =
     let p : Member → Bool = λ m. is_cut_into t m.tokens in
-    step t ∙ ap (λ b. b || is_cut_into t member.tokens) (has t) ∙ ap (λ b. is_phrase t members || b) (sym (or_false (is_cut_into t member.tokens))) ∙ sym (list_any-append p members (member ∷ []))
+    step t ∙ ap (λ b. b || is_cut_into t member.tokens) (has t) ∙ ap (λ b. is_phrase t members || b) (sym (or-false (is_cut_into t member.tokens))) ∙ sym (list_any-append p members (member ∷ []))
 
 -- a member that isn't there is put last
 pub put_last : (members : List Member) (member : Member) → list_any (same_member member) members ≡ false → insert_key same_member members member ≡ members ++ member ∷ []
