@@ -1,9 +1,9 @@
 -- One byte of a text, as it is read.
-use Rattle.std.proofs.Common.{◌≡◌, ℕ, zero, suc, ◌+◌, ◌-◌, ◌<◌, ◌==◌, true, false, not, ◌&&◌, ◌||◌, List, [], ◌∷◌, length, drop, refl, sym, ◌∙◌, ap, get_or, arith}
-use Rattle.std.proofs.lemmas.Bool.{cond-true, cond-false, eq-eqb, ne_eqb, and_parts, not-true}
+use Rattle.std.proofs.Common.{◌≡◌, ℕ, zero, suc, ◌+◌, ◌-◌, ◌<◌, ◌==◌, Bool, true, false, not, ◌&&◌, ◌||◌, List, [], ◌∷◌, length, drop, refl, sym, ◌∙◌, ap, get_or, arith}
+use Rattle.std.proofs.lemmas.Bool.{cond-true, cond-false, eq-eqb, ne_eqb, and_parts, not-true, false≢true}
 use Rattle.std.proofs.lemmas.List.{drop_more, nil_from_length}
-use Rattle.addr_tokens.specs.Pieces.{Alphabet, is_word_byte, is_special, is_listed, is_doubled, means}
-use Rattle.addr_tokens.specs.Reader.{is_lone, takes_next, begins_dollar, past_word, past_comment}
+use Rattle.addr_tokens.specs.Pieces.{Alphabet, is_word_byte, is_special, is_listed, is_doubled, is_dollar, means}
+use Rattle.addr_tokens.specs.Reader.{is_lone, is_asked, takes_next, begins_dollar, past_word, past_comment}
 use Rattle.mail_base.specs.Whites.{is_white}
 use Rattle.addr_tokens.proofs.WordLemmas.{special_parts}
 
@@ -25,6 +25,17 @@ lone_is : (alphabet : Alphabet) (b : ℕ) (after : List ℕ) → is_lone (is_lis
 lone_is alphabet b after lone =
     let p = lone_parts alphabet b lone in
     λ i. not (p.0 i) && not (p.1 i) && not (p.2 i) && not (p.3 i && means alphabet.dollars after)
+
+-- a byte that is asked and is neither a backslash nor a dollar sign stands in no word
+no_word : (w s l t d : Bool) → (w || (s || (l || t))) ≡ true → t ≡ false → (not w && not s && not l && not d) ≡ false
+no_word true s l t d is other = refl
+no_word false true l t d is other = refl
+no_word false false true t d is other = refl
+no_word false false false true d is other = absurd (false≢true (sym other))
+no_word false false false false d is other = absurd (false≢true is)
+
+asked_is : (alphabet : Alphabet) (b : ℕ) (after : List ℕ) → is_asked (is_listed alphabet b) b ≡ true → (b == 36) ≡ false → is_word_byte alphabet b after ≡ false
+asked_is alphabet b after asked other = no_word (is_white b) (is_special b) (is_listed alphabet b) (b == 36) (is_dollar alphabet.dollars b after) asked other
 
 module _ (text : List ℕ) (i : ℕ) (within : i < length text) where
   abbrev b : ℕ
@@ -80,3 +91,12 @@ module _ (text : List ℕ) (i : ℕ) (within : i < length text) where
   word_end is none alphabet =
       let one : drop i text ≡ 92 ∷ [] = at ∙ (λ j. is j ∷ nil_from_length after none j) in
       one ∙ ap (past_word alphabet false) (sym one)
+
+  -- a byte that ends a word
+  pub ending_byte : (alphabet : Alphabet) → is_asked (is_listed alphabet (get_or text i 0)) (get_or text i 0) ≡ true → (get_or text i 0 ≡ 92 → ⊥) → (get_or text i 0 ≡ 36 → ⊥)
+      → drop i text ≡ past_word alphabet false (drop i text)
+  ending_byte alphabet asked unslashed plain =
+      let slash : (b == 92) ≡ false = ne_eqb b 92 unslashed in
+      let dollar : (b == 36) ≡ false = ne_eqb b 36 plain in
+      let takes : takes_next alphabet b after ≡ false = λ j. slash j || (dollar j && (begins_dollar after && is_doubled alphabet)) in
+      at ∙ sym (ap (past_word alphabet false) at ∙ cond-false _ _ _ takes ∙ cond-false _ _ _ (asked_is alphabet b after asked dollar))

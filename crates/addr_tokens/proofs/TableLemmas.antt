@@ -1,9 +1,11 @@
 -- The table of operators.
 use Rattle.std.proofs.Common.{◌≡◌, ℕ, ◌+◌, ◌<◌, ◌≤◌, ◌==◌, nat_le, Bool, true, false, not, ◌&&◌, ◌||◌, List, [], ◌∷◌, length, drop, refl, sym, ◌∙◌, ap, ⊎_elim, get_or, set, arith}
 use Rattle.std.specs.List.{list_any}
-use Rattle.std.proofs.lemmas.Bool.{cases_eq, eq-eqb, ne_eqb, or_left, or_right, or_parts, false≢true, leb-true}
+use Rattle.std.proofs.lemmas.Bool.{cases_eq, cases_lt, eq-eqb, eqb-true, ne_eqb, or_left, or_right, or_parts, or_cases, false≢true, leb-true, le-leb}
 use Rattle.std.proofs.lemmas.List.{get_or-set_same, get_or-set_other, drop_more}
-use Rattle.addr_tokens.specs.Reader.{is_lone}
+use Rattle.mail_base.specs.Whites.{is_white}
+use Rattle.addr_tokens.specs.Pieces.{is_special}
+use Rattle.addr_tokens.specs.Reader.{is_lone, is_asked}
 
 -- one more byte is listed
 pub listed_more : (listed : List Bool) (bytes : List ℕ) (i b : ℕ) → b < length listed → i < length bytes
@@ -58,3 +60,36 @@ lone_byte_is listed low b kept white none =
     let high = false_by (nat_le b 32) (get_or low b false) (λ le. white (leb-true b 32 le)) p.0 in
     let unlisted = false_by (get_or listed b false) (get_or low b false) kept p.0 in
     λ i. not (high i || turned 127 b delete.0 i) && not (turned 34 b quote.0 i || turned 92 b slash.0 i || turned 40 b opens.0 i || turned 41 b closes.0 i) && not (unlisted i) && not (turned 36 b dollar.0 i)
+
+-- ---- a byte that is asked
+
+asked_white : (l : Bool) (b : ℕ) → is_white b ≡ true → is_asked l b ≡ true
+asked_white l b is = or_left (is_white b) _ is
+
+asked_special : (l : Bool) (b : ℕ) → is_special b ≡ true → is_asked l b ≡ true
+asked_special l b is = or_right (is_white b) _ (or_left (is_special b) _ is)
+
+asked_listed : (l : Bool) (b : ℕ) → l ≡ true → is_asked l b ≡ true
+asked_listed l b is = or_right (is_white b) _ (or_right (is_special b) _ (or_left l (b == 36) is))
+
+asked_dollar : (l : Bool) (b : ℕ) → b ≡ 36 → is_asked l b ≡ true
+asked_dollar l b is = or_right (is_white b) _ (or_right (is_special b) _ (or_right l (b == 36) (eq-eqb b 36 is)))
+
+asked_low : (listed low : List Bool) (b : ℕ) → (32 < b → get_or low b false ≡ get_or listed b false) → get_or low b false ≡ true → is_asked (get_or listed b false) b ≡ true
+asked_low listed low b only is =
+    ⊎_elim (λ (high : 32 < b). asked_listed (get_or listed b false) b (sym (only high) ∙ is))
+    (λ (le : b ≤ 32). asked_white (get_or listed b false) b (or_left (nat_le b 32) _ (le-leb b 32 le))) (cases_lt 32 b)
+
+pub asked_byte_is : (listed low : List Bool) (b : ℕ) → (32 < b → get_or low b false ≡ get_or listed b false)
+    → (get_or low b false || list_any (λ o. o == b) asked_beside) ≡ true → is_asked (get_or listed b false) b ≡ true
+asked_byte_is listed low b only is =
+    let l = get_or listed b false in
+    ⊎_elim (asked_low listed low b only)
+    (λ one. ⊎_elim (λ quote. asked_special l b (ap is_special (sym (eqb-true 34 b quote))))
+    (λ two. ⊎_elim (λ slash. asked_special l b (ap is_special (sym (eqb-true 92 b slash))))
+    (λ three. ⊎_elim (λ opens. asked_special l b (ap is_special (sym (eqb-true 40 b opens))))
+    (λ four. ⊎_elim (λ closes. asked_special l b (ap is_special (sym (eqb-true 41 b closes))))
+    (λ five. ⊎_elim (λ dollar. asked_dollar l b (sym (eqb-true 36 b dollar)))
+    (λ six. ⊎_elim (λ delete. asked_white l b (ap is_white (sym (eqb-true 127 b delete)))) (λ none. absurd (false≢true none))
+    (or_cases (127 == b) false six)) (or_cases (36 == b) _ five)) (or_cases (41 == b) _ four)) (or_cases (40 == b) _ three)) (or_cases (92 == b) _ two)) (or_cases (34 == b) _ one))
+    (or_cases (get_or low b false) (list_any (λ o. o == b) asked_beside) is)

@@ -27,6 +27,9 @@ pub(crate) fn word_length(table: &Table, text: &[u8]) -> usize
             size += 1;
             continue 'bytes;
         }
+        if byte != b'\\' && byte != b'$' {
+            return size;
+        }
         let after = &text[size + 1..];
         if table.takes_next(byte, after) {
             if size + 1 == text.len() {

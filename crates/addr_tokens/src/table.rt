@@ -3,7 +3,7 @@ ghost use Rattle.std.specs.List.{list_any};
 ghost use Rattle.addr_tokens.specs.Pieces as spec;
 ghost use Rattle.addr_tokens.specs.Pieces.{Alphabet, alphabet_of};
 ghost use Rattle.addr_tokens.specs.Reader as reader;
-ghost use Rattle.addr_tokens.specs.Reader.{IsTable, AreLone};
+ghost use Rattle.addr_tokens.specs.Reader.{IsTable, AreLone, AreAsked};
 
 use crate::lexeme::Dollars;
 use mail_base::is_white;
@@ -19,10 +19,12 @@ const ASKED: &[u8] = b"\"\\()$\x7f";
 #[derive(Drop)]
 pub(crate) struct Table {
     listed: [bool; 256],
-    /// Each other byte stands in a word whatever is behind it.
+    /// Each other byte stands in a word whatever is behind it. Of these all but a backslash and a dollar
+    /// sign end one.
     asked: [bool; 256],
     dollars: Dollars,
     ghost lone: { AreLone listed asked },
+    ghost ends: { AreAsked listed asked },
 }
 
 impl Table {
@@ -61,8 +63,10 @@ impl Table {
 
     /// Whether a byte stands in a word whatever is behind it.
     pub(crate) fn is_lone(&self, byte: u8) -> bool
-        ensures { (alphabet : Alphabet) → IsTable alphabet self.now.listed self.now.dollars
+        ensures lone { (alphabet : Alphabet) → IsTable alphabet self.now.listed self.now.dollars
             → result ≡ true → reader.is_lone (spec.is_listed alphabet byte) byte ≡ true }
+        ensures asked { (alphabet : Alphabet) → IsTable alphabet self.now.listed self.now.dollars
+            → result ≡ false → reader.is_asked (spec.is_listed alphabet byte) byte ≡ true }
     {
         !self.asked[usize::from(byte)]
     }
@@ -130,7 +134,8 @@ fn list(listed: &mut [bool; 256], bytes: &[u8])
 /// A table that has all but the bytes that stand in a word whatever is behind them, made of that of
 /// the operators.
 fn asked_bytes(listed: [bool; 256]) -> [bool; 256]
-    ensures { AreLone listed result }
+    ensures lone { AreLone listed result }
+    ensures ends { AreAsked listed result }
 {
     let mut asked = listed;
     list_low(&mut asked);
@@ -143,6 +148,7 @@ fn list_low(listed: &mut [bool; 256])
     ensures kept { (b : ℕ) → slice_index_or listed.old b false ≡ true
         → slice_index_or listed.new b false ≡ true }
     ensures low { (b : ℕ) → b ≤ 32 → slice_index_or listed.new b false ≡ true }
+    ensures only { (b : ℕ) → 32 < b → slice_index_or listed.new b false ≡ slice_index_or listed.old b false }
 {
     'bytes: for byte in 0..33usize {
         listed[byte] = true;

@@ -6,4 +6,5 @@ invariant-bytes l = record {
   size : length l.listed ≡ 256;
   kept : (b : ℕ) → get_or l.fn.listed b false ≡ true → get_or l.listed b false ≡ true;
   low : (b : ℕ) → b < l.byte → get_or l.listed b false ≡ true;
+  only : (b : ℕ) → 32 < b → get_or l.listed b false ≡ get_or l.fn.listed b false;
 }
