@@ -9,9 +9,9 @@ use Rattle.mail_base.specs.Texts.{crlf}
 use Rattle.mail_base.specs.declared.id.Kind.TheVariants.{Qf}
 use Rattle.mail_base.proofs.FileNames.{same_number}
 use Rattle.smtp_receive.specs.declared.reply.Reply.{Reply}
-use Rattle.smtp_receive.specs.declared.reply.Reply.TheVariants.{LineTooLong, BadByte, Unrecognized, ArgumentNeeded, NoArgument, SenderGiven, NeedMail, NeedRcpt, SyntaxError, PathTooLong, ParameterNotKnown, UserRequired, TooManyRecipients, SenderOk, RecipientOk, EnterMail, MessageTooLarge, HeaderTooLarge}
-use Rattle.smtp_receive.specs.Replies.{text_of, greeting_text, hello_text, closing_text, stored_text, out_of_memory_text, too_many_sessions_text}
-use Rattle.smtp_receive.specs.Dialogue.{Answer, Says, Greets, Closes, Gives, Takes, Lacks, said_by, did_of}
+use Rattle.smtp_receive.specs.declared.reply.Reply.TheVariants.{SenderOk, RecipientOk}
+use Rattle.smtp_receive.specs.Replies.{text_of, grant_text, greeting_text, hello_text, closing_text, stored_text, out_of_memory_text, too_many_sessions_text}
+use Rattle.smtp_receive.specs.Dialogue.{Answer, Says, Greets, Grants, Closes, Gives, Takes, did_of}
 use Rattle.smtp_receive.specs.Finals.{text_told, IsFinal}
 
 -- texts that differ at a place differ
@@ -41,56 +41,24 @@ hello_final host final =
     let same = same_from_push (said ++ codes " Hell") (told ++ codes " Message accepted for deliver") 111 121 last in
     false≢true (eq-eqb 111 121 same.1)
 
-reply_final : (reply : Reply) → IsFinal (text_of reply) → ⊥
-reply_final LineTooLong final = differ 0 (text_of LineTooLong) (stored_text final.0) refl final.1
-reply_final BadByte final = differ 0 (text_of BadByte) (stored_text final.0) refl final.1
-reply_final Unrecognized final = differ 0 (text_of Unrecognized) (stored_text final.0) refl final.1
-reply_final ArgumentNeeded final = differ 0 (text_of ArgumentNeeded) (stored_text final.0) refl final.1
-reply_final NoArgument final = differ 0 (text_of NoArgument) (stored_text final.0) refl final.1
-reply_final SenderGiven final = differ 0 (text_of SenderGiven) (stored_text final.0) refl final.1
-reply_final NeedMail final = differ 0 (text_of NeedMail) (stored_text final.0) refl final.1
-reply_final NeedRcpt final = differ 0 (text_of NeedRcpt) (stored_text final.0) refl final.1
-reply_final SyntaxError final = differ 0 (text_of SyntaxError) (stored_text final.0) refl final.1
-reply_final PathTooLong final = differ 0 (text_of PathTooLong) (stored_text final.0) refl final.1
-reply_final ParameterNotKnown final = differ 0 (text_of ParameterNotKnown) (stored_text final.0) refl final.1
-reply_final UserRequired final = differ 0 (text_of UserRequired) (stored_text final.0) refl final.1
-reply_final TooManyRecipients final = differ 0 (text_of TooManyRecipients) (stored_text final.0) refl final.1
+grant_final : IsFinal grant_text → ⊥
+grant_final final = differ 0 grant_text (stored_text final.0) refl final.1
+
+pub reply_final : (reply : Reply) → IsFinal (text_of reply) → ⊥
 reply_final SenderOk final = differ 6 (text_of SenderOk) (stored_text final.0) refl final.1
 reply_final RecipientOk final = differ 6 (text_of RecipientOk) (stored_text final.0) refl final.1
-reply_final EnterMail final = differ 0 (text_of EnterMail) (stored_text final.0) refl final.1
-reply_final MessageTooLarge final = differ 0 (text_of MessageTooLarge) (stored_text final.0) refl final.1
-reply_final HeaderTooLarge final = differ 0 (text_of HeaderTooLarge) (stored_text final.0) refl final.1
+reply_final reply final = differ 0 (text_of reply) (stored_text final.0) refl final.1
 
 abbrev NotFinal : Option (List ℕ) → Type 0
 NotFinal told = IfSome told (λ text. IsFinal text → ⊥)
 
-said_final : (reply : Reply) → NotFinal (text_told (said_by reply))
-said_final LineTooLong = reply_final LineTooLong
-said_final BadByte = reply_final BadByte
-said_final Unrecognized = reply_final Unrecognized
-said_final ArgumentNeeded = reply_final ArgumentNeeded
-said_final NoArgument = reply_final NoArgument
-said_final SenderGiven = reply_final SenderGiven
-said_final NeedMail = reply_final NeedMail
-said_final NeedRcpt = reply_final NeedRcpt
-said_final SyntaxError = reply_final SyntaxError
-said_final PathTooLong = reply_final PathTooLong
-said_final ParameterNotKnown = reply_final ParameterNotKnown
-said_final UserRequired = reply_final UserRequired
-said_final TooManyRecipients = reply_final TooManyRecipients
-said_final SenderOk = reply_final SenderOk
-said_final RecipientOk = reply_final RecipientOk
-said_final EnterMail = reply_final EnterMail
-said_final MessageTooLarge = reply_final MessageTooLarge
-said_final HeaderTooLarge = reply_final HeaderTooLarge
-
 did_final : (host : List ℕ) (answer : Answer) → NotFinal (text_told (did_of host answer))
-did_final host (Says reply) = said_final reply
+did_final host (Says reply) = reply_final reply
 did_final host Greets = hello_final host
+did_final host Grants = grant_final
 did_final host Closes = closing_final host
 did_final host (Gives message) = tt
 did_final host Takes = tt
-did_final host Lacks = tt
 
 pub told_final : (host : List ℕ) (answer : Answer) (text : List ℕ) → text_told (did_of host answer) ≡ Some text → IsFinal text → ⊥
 told_final host answer text is = subst NotFinal is (did_final host answer)

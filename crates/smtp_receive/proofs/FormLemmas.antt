@@ -1,5 +1,5 @@
 -- The messages of a session have their forms.
-use Rattle.std.proofs.Common.{◌≡◌, ℕ, zero, suc, ◌+◌, ◌-◌, ◌≤◌, Bool, true, false, cond, not, ◌&&◌, ◌==◌, List, [], ◌∷◌, ◌++◌, length, take, drop, Option, Some, None, is_some, Result, Ok, Err, IfOk, refl, sym, ap, subst, ◌∙◌, ⊎_elim, inl, inr, unwrap_or, reverse, codes, arith}
+use Rattle.std.proofs.Common.{◌≡◌, ℕ, zero, suc, ◌+◌, ◌-◌, ◌≤◌, Bool, true, false, cond, not, ◌&&◌, ◌==◌, List, [], ◌∷◌, ◌++◌, length, take, drop, Option, Some, None, is_some, Result, Ok, Err, IfOk, refl, sym, ap, subst, ◌∙◌, ⊎_elim, inl, inr, unwrap_or, codes, arith}
 use Rattle.std.specs.Prelude.{All, IfSome, slice_index, nat_lt}
 use Rattle.std.specs.Str.{str_eq_ignore_ascii_case}
 use Rattle.std.specs.List.{list_any, list_all, AllByRecursion, prefix_len, suffix_len, position_or_len}
@@ -22,7 +22,7 @@ use Rattle.smtp_receive.specs.PathEnds.{path_end, parts_at, angle_parts}
 use Rattle.smtp_receive.specs.Paths.{Parts}
 use Rattle.smtp_receive.specs.Commands.{Order, Greet, From, To, Begin, End, order_of, order_by, ordered, lone_order, is_bad_byte, argument_of, without_blanks, path_after, path_parts, word_end, checked, without_route, has_route, is_colon, is_parted, is_too_long, is_nothing, verb_named}
 use Rattle.smtp_receive.specs.Splits.{is_plain, is_name_byte, is_header, is_header_by, is_continuation, belongs, block_of, goes_on, joined, headers_in, headers_of, body_of, size_of, is_too_large, is_large_block}
-use Rattle.smtp_receive.specs.Dialogue.{Answer, Says, Greets, Closes, Gives, Takes, Lacks, Exchange, Heard, bracketed, ends, sender_by, recipient_by, helo_by, sender_told, recipient_told, helo_told, latest, sender_in, recipient_in, lines_in, helo_in, path_from, path_to, argument_in, asked, order_in, or_else, command_answer, message_answer, end_answer, answer_to, exchanges}
+use Rattle.smtp_receive.specs.Dialogue.{Answer, Says, Greets, Grants, Closes, Gives, Takes, Exchange, Heard, bracketed, ends, sender_by, recipient_by, helo_by, sender_told, recipient_told, helo_told, latest, sender_in, recipient_in, lines_in, helo_in, path_from, path_to, argument_in, asked, order_in, or_else, command_answer, message_answer, end_answer, answer_to, exchanges}
 use Rattle.smtp_receive.specs.Sessions.{answer_of}
 use Rattle.smtp_receive.specs.Forms.{IsFormed}
 
@@ -145,16 +145,16 @@ argument_form : (order : Option Order) → IfSome order OrderLine → IfSome (ar
 argument_form (Some (Greet argument)) line = line
 argument_form _ line = tt
 
-sender_form : (answer : Answer) (order : Option Order) → IfSome order OrderLine → IfSome (sender_by answer order) IsBracketed
-sender_form (Says SenderOk) order line = path_form order line
+sender_form : (answer : Option Answer) (order : Option Order) → IfSome order OrderLine → IfSome (sender_by answer order) IsBracketed
+sender_form (Some (Says SenderOk)) order line = path_form order line
 sender_form _ order line = tt
 
-recipient_form : (answer : Answer) (order : Option Order) → IfSome order OrderLine → IfSome (recipient_by answer order) IsBracketed
-recipient_form (Says RecipientOk) order line = to_form order line
+recipient_form : (answer : Option Answer) (order : Option Order) → IfSome order OrderLine → IfSome (recipient_by answer order) IsBracketed
+recipient_form (Some (Says RecipientOk)) order line = to_form order line
 recipient_form _ order line = tt
 
-greeted_form : (answer : Answer) (order : Option Order) → IfSome order OrderLine → IfSome (helo_by answer order) IsLine
-greeted_form Greets order line = argument_form order line
+greeted_form : (answer : Option Answer) (order : Option Order) → IfSome order OrderLine → IfSome (helo_by answer order) IsLine
+greeted_form (Some Greets) order line = argument_form order line
 greeted_form _ order line = tt
 
 either_form : (P : List ℕ → Type 0) (told earlier : Option (List ℕ)) → IfSome told P → IfSome earlier P → IfSome (or_else told earlier) P
@@ -276,17 +276,18 @@ small_size size small = ltb-false most_message size small
 abbrev AnswerFormed : List ℕ → Answer → Type 0
 AnswerFormed peer (Says reply) = Unit {0}
 AnswerFormed peer Greets = Unit {0}
+AnswerFormed peer Grants = Unit {0}
 AnswerFormed peer Closes = Unit {0}
 AnswerFormed peer (Gives message) = IsFormed message peer
 AnswerFormed peer Takes = Unit {0}
-AnswerFormed peer Lacks = Unit {0}
 
 command_formed : (peer : List ℕ) (given full : Bool) (order : Result Order LineFault) → AnswerFormed peer (command_answer given full order)
 command_formed peer given full (Err fault) = tt
 command_formed peer given full (Ok (Greet argument)) = tt
 command_formed peer given full (Ok (From path)) = tt
 command_formed peer given full (Ok (To path)) = tt
-command_formed peer given full (Ok Begin) = tt
+command_formed peer given true (Ok Begin) = tt
+command_formed peer given false (Ok Begin) = tt
 command_formed peer given full (Ok End) = tt
 
 message_formed : (peer helo sender recipient : List ℕ) (lines : List (List ℕ)) → IsLine helo → IsBracketed sender → IsBracketed recipient
@@ -323,4 +324,4 @@ answer_formed peer before DataEnd =
 
 -- a message that is given is formed
 pub given_formed : (peer : List ℕ) (heard : List Heard) (line : Line) (message : Received) → answer_of peer heard line ≡ Gives message → IsFormed message peer
-given_formed peer heard line message gives = subst (AnswerFormed peer) gives (answer_formed peer (exchanges peer (reverse heard)) line)
+given_formed peer heard line message gives = subst (AnswerFormed peer) gives (answer_formed peer (exchanges peer heard) line)

@@ -1,25 +1,29 @@
 -- What a session keeps after one exchange more.
-use Rattle.std.proofs.Common.{◌≡◌, ℕ, Bool, true, false, List, [], ◌∷◌, ◌++◌, Option, Some, None, is_some, Result, Ok, Err, IfOk, OnOk, OnErr, refl, sym, ap, subst, ◌∙◌, ⊎_elim, unwrap_or, reverse, codes}
-use Rattle.std.proofs.lemmas.Bool.{false≢true, cases_Bool, cond-true, cond-false}
+use Rattle.std.proofs.Common.{◌≡◌, ℕ, Bool, true, false, List, [], ◌∷◌, ◌++◌, Option, Some, None, is_some, not, ◌&&◌, cond, Result, Ok, Err, IfOk, OnOk, refl, sym, ap, subst, ◌∙◌, ⊎_elim, unwrap_or, reverse, codes}
+use Rattle.std.proofs.lemmas.Bool.{false≢true, cases_Bool, cond-true, cond-false, cond_both}
 use Rattle.std.proofs.lemmas.List.{reverse-append, reverse-reverse}
+use Rattle.std.proofs.lemmas.List.Sums.{fold-append}
 use Rattle.smtp_lines.specs.declared.line.Line.{Line}
 use Rattle.smtp_lines.specs.declared.line.Line.TheVariants.{Command, TooLong, Data as DataLine, DataEnd}
 use Rattle.mail_base.specs.declared.message.Kept.{Kept}
 use Rattle.smtp_receive.specs.declared.session.Session.{Session}
 use Rattle.smtp_receive.specs.declared.gathered.Gathered.{Gathered}
 use Rattle.smtp_receive.specs.declared.received.Did.{Did}
-use Rattle.smtp_receive.specs.declared.received.Did.TheVariants.{Reply as Replied, Taken, Bye}
+use Rattle.smtp_receive.specs.declared.received.Did.TheVariants.{Reply as Replied, Message, Taken, Bye}
 use Rattle.smtp_receive.specs.declared.reply.Reply.{Reply}
-use Rattle.smtp_receive.specs.declared.reply.Reply.TheVariants.{LineTooLong, BadByte, Unrecognized, ArgumentNeeded, NoArgument, SenderGiven, NeedMail, NeedRcpt, SyntaxError, PathTooLong, ParameterNotKnown, UserRequired, TooManyRecipients, SenderOk, RecipientOk, EnterMail, MessageTooLarge, HeaderTooLarge}
+use Rattle.smtp_receive.specs.declared.reply.Reply.TheVariants.{LineTooLong, SenderGiven, NeedRcpt, SyntaxError, PathTooLong, ParameterNotKnown, SenderOk, RecipientOk, MessageTooLarge, HeaderTooLarge}
 use Rattle.smtp_receive.specs.declared.command.Verb.{Verb}
 use Rattle.smtp_receive.specs.declared.command.Verb.TheVariants.{Helo, Mail, Rcpt, Data, Quit}
 use Rattle.smtp_receive.specs.declared.command.LineFault.{LineFault}
 use Rattle.smtp_receive.specs.declared.command.LineFault.TheVariants.{BadByte as HasBadByte, Unknown, ArgumentNeeded as LacksArgument, NoArgument as HasArgument, Syntax, PathTooLong as HasLongPath, Parameter}
 use Rattle.smtp_receive.specs.Commands.{Order, Greet, From, To, Begin, End, order_of}
 use Rattle.smtp_receive.specs.Replies.{text_of, hello_text, closing_text, shown_host}
-use Rattle.smtp_receive.specs.Splits.{body_of, block_of, size_of, is_too_large, is_large_block}
-use Rattle.smtp_receive.specs.Dialogue.{Answer, Says, Greets, Closes, Gives, Takes, Lacks, Exchange, Heard, bracketed, ends, sender_in, recipient_in, lines_in, helo_in, kept_in, helo_by, with_text, path_from, path_to, argument_in, order_in, or_else, mail_reply, rcpt_reply, to_reply, data_reply, path_reply, fault_reply, command_answer, message_answer, end_answer, answer_to, exchange_of, exchanges, dialogue, said_by, did_of}
-use Rattle.smtp_receive.specs.Sessions.{Gathers, Holds, Knows, Keeps, Goes, BeginsMessage, Stands, Remembers, takes_recipient, answer_of}
+use Rattle.smtp_receive.specs.Splits.{headers_of, body_of, block_of, size_of, is_too_large, is_large_block}
+use Rattle.smtp_receive.specs.Dialogue.{Answer, Says, Greets, Grants, Closes, Gives, Takes, Exchange, Heard, bracketed, ends, sender_by, recipient_by, sender_in, recipient_in, lines_in, helo_in, kept_in, helo_by, with_text, path_from, path_to, argument_in, asked, order_in, or_else, is_dropped, mail_reply, rcpt_reply, to_reply, data_answer, path_reply, fault_reply, command_answer, message_answer, end_answer, answer_to, answer_heard, exchange_of, with_heard, exchanges, dialogue, did_of}
+use Rattle.smtp_receive.specs.declared.gathered.End.{End as Ending}
+use Rattle.smtp_receive.specs.declared.gathered.End.TheVariants.{Nothing, Refused, Whole}
+use Rattle.smtp_receive.specs.Sessions.{Gathers, Holds, Keeps, Goes, BeginsMessage, Stands, takes_recipient, answer_of, unless, IsBounded, is_data, ending_of, end_of, received_of, given_by}
+use Rattle.smtp_receive.proofs.SizeLemmas.{keeps_bounded}
 use Rattle.smtp_receive.proofs.SplitLemmas.{exact_size, same_too_large, same_large_block}
 
 -- nothing that a session keeps is told by what came since
@@ -27,7 +31,9 @@ pub keep_same : (s : Session) (host peer : List ℕ) (before after : List Exchan
     → helo_in after ≡ helo_in before → sender_in after ≡ sender_in before → recipient_in after ≡ recipient_in before → lines_in after ≡ lines_in before
     → Keeps s host peer after
 keep_same s host peer before after k helo sender recipient lines = record {
-  knows = record { host_is = k.knows.host_is; peer_is = k.knows.peer_is; helo_is = k.knows.helo_is ∙ sym helo };
+  host_is = k.host_is;
+  peer_is = k.peer_is;
+  helo_is = k.helo_is ∙ sym helo;
   sender_is = k.sender_is ∙ sym sender;
   recipient_is = k.recipient_is ∙ sym recipient;
   message_is = subst (λ l. Holds s.message l) (sym lines) k.message_is;
@@ -35,73 +41,31 @@ keep_same s host peer before after k helo sender recipient lines = record {
 
 -- the replies that tell something
 abbrev pub tells : Reply → Bool
-tells LineTooLong = false
-tells BadByte = false
-tells Unrecognized = false
-tells ArgumentNeeded = false
-tells NoArgument = false
-tells SenderGiven = false
-tells NeedMail = false
-tells NeedRcpt = false
-tells SyntaxError = false
-tells PathTooLong = false
-tells ParameterNotKnown = false
-tells UserRequired = false
-tells TooManyRecipients = false
 tells SenderOk = true
 tells RecipientOk = true
-tells EnterMail = true
-tells MessageTooLarge = false
-tells HeaderTooLarge = false
+tells _ = false
 
--- after a reply that tells nothing no lines of a message follow
-pub said_quiet : (reply : Reply) → tells reply ≡ false → said_by reply ≡ Replied (text_of reply)
-said_quiet LineTooLong h = refl
-said_quiet BadByte h = refl
-said_quiet Unrecognized h = refl
-said_quiet ArgumentNeeded h = refl
-said_quiet NoArgument h = refl
-said_quiet SenderGiven h = refl
-said_quiet NeedMail h = refl
-said_quiet NeedRcpt h = refl
-said_quiet SyntaxError h = refl
-said_quiet PathTooLong h = refl
-said_quiet ParameterNotKnown h = refl
-said_quiet UserRequired h = refl
-said_quiet TooManyRecipients h = refl
-said_quiet SenderOk h = refl
-said_quiet RecipientOk h = refl
-said_quiet EnterMail h = absurd (false≢true (sym h))
-said_quiet MessageTooLarge h = refl
-said_quiet HeaderTooLarge h = refl
+no_sender : (reply : Reply) (order : Option Order) → tells reply ≡ false → sender_by (Some (Says reply)) order ≡ None
+no_sender SenderOk order h = absurd (false≢true (sym h))
+no_sender _ order h = refl
+
+no_recipient : (reply : Reply) (order : Option Order) → tells reply ≡ false → recipient_by (Some (Says reply)) order ≡ None
+no_recipient RecipientOk order h = absurd (false≢true (sym h))
+no_recipient _ order h = refl
 
 pub quiet : (s : Session) (host peer : List ℕ) (before : List Exchange) (text : List ℕ) (reply : Reply) → tells reply ≡ false → Keeps s host peer before
-    → Keeps s host peer (record { line = Command text; answer = Says reply } ∷ before)
-quiet s host peer before text LineTooLong h k = keep_same s host peer before (record { line = Command text; answer = Says LineTooLong } ∷ before) k refl refl refl refl
-quiet s host peer before text BadByte h k = keep_same s host peer before (record { line = Command text; answer = Says BadByte } ∷ before) k refl refl refl refl
-quiet s host peer before text Unrecognized h k = keep_same s host peer before (record { line = Command text; answer = Says Unrecognized } ∷ before) k refl refl refl refl
-quiet s host peer before text ArgumentNeeded h k = keep_same s host peer before (record { line = Command text; answer = Says ArgumentNeeded } ∷ before) k refl refl refl refl
-quiet s host peer before text NoArgument h k = keep_same s host peer before (record { line = Command text; answer = Says NoArgument } ∷ before) k refl refl refl refl
-quiet s host peer before text SenderGiven h k = keep_same s host peer before (record { line = Command text; answer = Says SenderGiven } ∷ before) k refl refl refl refl
-quiet s host peer before text NeedMail h k = keep_same s host peer before (record { line = Command text; answer = Says NeedMail } ∷ before) k refl refl refl refl
-quiet s host peer before text NeedRcpt h k = keep_same s host peer before (record { line = Command text; answer = Says NeedRcpt } ∷ before) k refl refl refl refl
-quiet s host peer before text SyntaxError h k = keep_same s host peer before (record { line = Command text; answer = Says SyntaxError } ∷ before) k refl refl refl refl
-quiet s host peer before text PathTooLong h k = keep_same s host peer before (record { line = Command text; answer = Says PathTooLong } ∷ before) k refl refl refl refl
-quiet s host peer before text ParameterNotKnown h k = keep_same s host peer before (record { line = Command text; answer = Says ParameterNotKnown } ∷ before) k refl refl refl refl
-quiet s host peer before text UserRequired h k = keep_same s host peer before (record { line = Command text; answer = Says UserRequired } ∷ before) k refl refl refl refl
-quiet s host peer before text TooManyRecipients h k = keep_same s host peer before (record { line = Command text; answer = Says TooManyRecipients } ∷ before) k refl refl refl refl
-quiet s host peer before text SenderOk h k = absurd (false≢true (sym h))
-quiet s host peer before text RecipientOk h k = absurd (false≢true (sym h))
-quiet s host peer before text EnterMail h k = absurd (false≢true (sym h))
-quiet s host peer before text MessageTooLarge h k = keep_same s host peer before (record { line = Command text; answer = Says MessageTooLarge } ∷ before) k refl refl refl refl
-quiet s host peer before text HeaderTooLarge h k = keep_same s host peer before (record { line = Command text; answer = Says HeaderTooLarge } ∷ before) k refl refl refl refl
+    → Keeps s host peer (record { line = Command text; answer = Some (Says reply) } ∷ before)
+quiet s host peer before text reply h k =
+    keep_same s host peer before (record { line = Command text; answer = Some (Says reply) } ∷ before) k refl
+    (ap (λ o. or_else o (sender_in before)) (no_sender reply (asked (Command text)) h))
+    (ap (λ o. or_else o (recipient_in before)) (no_recipient reply (asked (Command text)) h)) refl
 
 -- an answer, once it is known
 pub goes_by : (n : Session) (host peer : List ℕ) (before : List Exchange) (line : Line) (did : Did) (answer : Answer) → answer_to peer before line ≡ answer
-    → did ≡ did_of (shown_host host) answer → Keeps n host peer (record { line = line; answer = answer } ∷ before) → Goes n host peer before line did
+    → did ≡ did_of (shown_host host) answer → Keeps n host peer (record { line = line; answer = Some answer } ∷ before) → Goes n host peer before line did
 goes_by n host peer before line did answer is did_is keeps = record {
   did_is = did_is ∙ sym (ap (did_of (shown_host host)) is);
-  keeps = subst (λ a. Keeps n host peer (record { line = line; answer = a } ∷ before)) (sym is) keeps;
+  keeps = subst (λ a. Keeps n host peer (record { line = line; answer = Some a } ∷ before)) (sym is) keeps;
 }
 
 -- the answer to a command of that order, by what the session keeps
@@ -118,10 +82,12 @@ pub goes_helo : (s n : Session) (host peer : List ℕ) (before : List Exchange) 
     → did ≡ Replied (hello_text s.host) → n ≡ record s { helo = argument; sender = None; recipient = None; message = None } → Goes n host peer before (Command text) did
 goes_helo s n host peer before text argument did k is did_is new =
     goes_by n host peer before (Command text) did Greets (answer_is s host peer before text (Ok (Greet argument)) k is)
-    (did_is ∙ ap (λ h. Replied (hello_text h)) k.knows.host_is)
-    (subst (λ x. Keeps x host peer (record { line = Command text; answer = Greets } ∷ before)) (sym new)
+    (did_is ∙ ap (λ h. Replied (hello_text h)) k.host_is)
+    (subst (λ x. Keeps x host peer (record { line = Command text; answer = Some Greets } ∷ before)) (sym new)
     (record {
-      knows = record { host_is = k.knows.host_is; peer_is = k.knows.peer_is; helo_is = sym (ap (λ o. unwrap_or (argument_in (order_in o)) (helo_in before)) is) };
+      host_is = k.host_is;
+      peer_is = k.peer_is;
+      helo_is = sym (ap (λ o. unwrap_or (argument_in (order_in o)) (helo_in before)) is);
       sender_is = refl;
       recipient_is = refl;
       message_is = tt;
@@ -130,9 +96,11 @@ goes_helo s n host peer before text argument did k is did_is new =
 -- ---- MAIL
 
 keep_mail : (s : Session) (host peer : List ℕ) (before : List Exchange) (text path : List ℕ) → Keeps s host peer before → order_of text ≡ Ok (From path)
-    → Keeps (record s { sender = Some (bracketed path) }) host peer (record { line = Command text; answer = Says SenderOk } ∷ before)
+    → Keeps (record s { sender = Some (bracketed path) }) host peer (record { line = Command text; answer = Some (Says SenderOk) } ∷ before)
 keep_mail s host peer before text path k is = record {
-  knows = record { host_is = k.knows.host_is; peer_is = k.knows.peer_is; helo_is = k.knows.helo_is };
+  host_is = k.host_is;
+  peer_is = k.peer_is;
+  helo_is = k.helo_is;
   sender_is = sym (ap (λ o. or_else (path_from (order_in o)) (sender_in before)) is);
   recipient_is = k.recipient_is;
   message_is = k.message_is;
@@ -147,11 +115,11 @@ goes_mail s n host peer before text path did k is did_is given new =
     (λ met.
     goes_by n host peer before (Command text) did (Says SenderGiven) (answer ∙ ap (λ b. Says (mail_reply b SenderOk)) met)
     (did_is ∙ ap (λ b. Replied (text_of (mail_reply b SenderOk))) met)
-    (subst (λ x. Keeps x host peer (record { line = Command text; answer = Says SenderGiven } ∷ before)) (sym (given met)) (quiet s host peer before text SenderGiven refl k)))
+    (subst (λ x. Keeps x host peer (record { line = Command text; answer = Some (Says SenderGiven) } ∷ before)) (sym (given met)) (quiet s host peer before text SenderGiven refl k)))
     (λ unmet.
     goes_by n host peer before (Command text) did (Says SenderOk) (answer ∙ ap (λ b. Says (mail_reply b SenderOk)) unmet)
     (did_is ∙ ap (λ b. Replied (text_of (mail_reply b SenderOk))) unmet)
-    (subst (λ x. Keeps x host peer (record { line = Command text; answer = Says SenderOk } ∷ before)) (sym (new unmet)) (keep_mail s host peer before text path k is)))
+    (subst (λ x. Keeps x host peer (record { line = Command text; answer = Some (Says SenderOk) } ∷ before)) (sym (new unmet)) (keep_mail s host peer before text path k is)))
     (cases_Bool (is_some s.sender))
 
 -- ---- RCPT
@@ -169,9 +137,11 @@ rcpt_no (Some sender) (Some recipient) (b ∷ path) h = refl
 rcpt_no (Some sender) None (b ∷ path) h = absurd (false≢true (sym h))
 
 keep_rcpt : (s : Session) (host peer : List ℕ) (before : List Exchange) (text path : List ℕ) → Keeps s host peer before → order_of text ≡ Ok (To path)
-    → Keeps (record s { recipient = Some (bracketed path) }) host peer (record { line = Command text; answer = Says RecipientOk } ∷ before)
+    → Keeps (record s { recipient = Some (bracketed path) }) host peer (record { line = Command text; answer = Some (Says RecipientOk) } ∷ before)
 keep_rcpt s host peer before text path k is = record {
-  knows = record { host_is = k.knows.host_is; peer_is = k.knows.peer_is; helo_is = k.knows.helo_is };
+  host_is = k.host_is;
+  peer_is = k.peer_is;
+  helo_is = k.helo_is;
   sender_is = k.sender_is;
   recipient_is = sym (ap (λ o. or_else (path_to (order_in o)) (recipient_in before)) is);
   message_is = k.message_is;
@@ -187,37 +157,39 @@ goes_rcpt s n host peer before text path did k is did_is refused new =
     (λ met.
     let ok = rcpt_yes s.sender s.recipient path met in
     goes_by n host peer before (Command text) did (Says RecipientOk) (answer ∙ ap Says ok) (did_is ∙ ap (λ r. Replied (text_of r)) ok)
-    (subst (λ x. Keeps x host peer (record { line = Command text; answer = Says RecipientOk } ∷ before)) (sym (new met)) (keep_rcpt s host peer before text path k is)))
+    (subst (λ x. Keeps x host peer (record { line = Command text; answer = Some (Says RecipientOk) } ∷ before)) (sym (new met)) (keep_rcpt s host peer before text path k is)))
     (λ unmet.
-    goes_by n host peer before (Command text) did (Says reply) answer (did_is ∙ sym (said_quiet reply (rcpt_no s.sender s.recipient path unmet)))
-    (subst (λ x. Keeps x host peer (record { line = Command text; answer = Says reply } ∷ before)) (sym (refused unmet)) (quiet s host peer before text reply (rcpt_no s.sender s.recipient path unmet) k)))
+    goes_by n host peer before (Command text) did (Says reply) answer did_is
+    (subst (λ x. Keeps x host peer (record { line = Command text; answer = Some (Says reply) } ∷ before)) (sym (refused unmet)) (quiet s host peer before text reply (rcpt_no s.sender s.recipient path unmet) k)))
     (cases_Bool (takes_recipient s.sender s.recipient path))
 
 -- ---- DATA
 
 keep_begin : (s n : Session) (host peer : List ℕ) (before : List Exchange) (text : List ℕ) → Keeps s host peer before → BeginsMessage s n
-    → Keeps n host peer (record { line = Command text; answer = Says EnterMail } ∷ before)
+    → Keeps n host peer (record { line = Command text; answer = Some Grants } ∷ before)
 keep_begin s n host peer before text k b =
-    subst (λ x. Keeps x host peer (record { line = Command text; answer = Says EnterMail } ∷ before)) (sym b.same)
+    subst (λ x. Keeps x host peer (record { line = Command text; answer = Some Grants } ∷ before)) (sym b.same)
     (record {
-      knows = record { host_is = k.knows.host_is; peer_is = k.knows.peer_is; helo_is = k.knows.helo_is };
+      host_is = k.host_is;
+      peer_is = k.peer_is;
+      helo_is = k.helo_is;
       sender_is = k.sender_is;
       recipient_is = k.recipient_is;
       message_is = b.begins;
     })
 
 pub goes_begin : (s n : Session) (host peer : List ℕ) (before : List Exchange) (text : List ℕ) (did : Did) → Keeps s host peer before → order_of text ≡ Ok Begin
-    → did ≡ said_by (data_reply (is_some s.recipient)) → (is_some s.recipient ≡ false → n ≡ s) → (is_some s.recipient ≡ true → BeginsMessage s n)
+    → did ≡ did_of s.host (data_answer (is_some s.recipient)) → (is_some s.recipient ≡ false → n ≡ s) → (is_some s.recipient ≡ true → BeginsMessage s n)
     → Goes n host peer before (Command text) did
 goes_begin s n host peer before text did k is did_is refused new =
     let answer = answer_is s host peer before text (Ok Begin) k is in
     ⊎_elim
     (λ met.
-    goes_by n host peer before (Command text) did (Says EnterMail) (answer ∙ ap (λ b. Says (data_reply b)) met) (did_is ∙ ap (λ b. said_by (data_reply b)) met)
+    goes_by n host peer before (Command text) did Grants (answer ∙ ap data_answer met) (did_is ∙ ap (λ b. did_of s.host (data_answer b)) met)
     (keep_begin s n host peer before text k (new met)))
     (λ unmet.
-    goes_by n host peer before (Command text) did (Says NeedRcpt) (answer ∙ ap (λ b. Says (data_reply b)) unmet) (did_is ∙ ap (λ b. said_by (data_reply b)) unmet)
-    (subst (λ x. Keeps x host peer (record { line = Command text; answer = Says NeedRcpt } ∷ before)) (sym (refused unmet)) (quiet s host peer before text NeedRcpt refl k)))
+    goes_by n host peer before (Command text) did (Says NeedRcpt) (answer ∙ ap data_answer unmet) (did_is ∙ ap (λ b. did_of s.host (data_answer b)) unmet)
+    (subst (λ x. Keeps x host peer (record { line = Command text; answer = Some (Says NeedRcpt) } ∷ before)) (sym (refused unmet)) (quiet s host peer before text NeedRcpt refl k)))
     (cases_Bool (is_some s.recipient))
 
 -- ---- QUIT, and commands that have a fault
@@ -225,8 +197,8 @@ goes_begin s n host peer before text did k is did_is refused new =
 pub goes_quit : (s : Session) (host peer : List ℕ) (before : List Exchange) (text : List ℕ) (did : Did) → Keeps s host peer before → order_of text ≡ Ok End
     → did ≡ Bye (closing_text s.host) → Goes s host peer before (Command text) did
 goes_quit s host peer before text did k is did_is =
-    goes_by s host peer before (Command text) did Closes (answer_is s host peer before text (Ok End) k is) (did_is ∙ ap (λ h. Bye (closing_text h)) k.knows.host_is)
-    (keep_same s host peer before (record { line = Command text; answer = Closes } ∷ before) k refl refl refl refl)
+    goes_by s host peer before (Command text) did Closes (answer_is s host peer before text (Ok End) k is) (did_is ∙ ap (λ h. Bye (closing_text h)) k.host_is)
+    (keep_same s host peer before (record { line = Command text; answer = Some Closes } ∷ before) k refl refl refl refl)
 
 path_quiet : (verb : Verb) (given : Bool) (reply : Reply) → tells reply ≡ false → tells (path_reply verb given reply) ≡ false
 path_quiet Helo given reply h = h
@@ -250,41 +222,42 @@ pub goes_fault : (s : Session) (host peer : List ℕ) (before : List Exchange) (
     → did ≡ Replied (text_of (fault_reply (is_some s.sender) fault)) → Goes s host peer before (Command text) did
 goes_fault s host peer before text fault did k is did_is =
     goes_by s host peer before (Command text) did (Says (fault_reply (is_some s.sender) fault)) (answer_is s host peer before text (Err fault) k is)
-    (did_is ∙ sym (said_quiet (fault_reply (is_some s.sender) fault) (fault_quiet (is_some s.sender) fault)))
+    did_is
     (quiet s host peer before text (fault_reply (is_some s.sender) fault) (fault_quiet (is_some s.sender) fault) k)
 
 -- ---- lines that are no commands
 
 pub goes_long : (s : Session) (host peer : List ℕ) (before : List Exchange) (did : Did) → Keeps s host peer before → did ≡ Replied (text_of LineTooLong) → Goes s host peer before TooLong did
 goes_long s host peer before did k did_is =
-    goes_by s host peer before TooLong did (Says LineTooLong) refl did_is (keep_same s host peer before (record { line = TooLong; answer = Says LineTooLong } ∷ before) k refl refl refl refl)
+    goes_by s host peer before TooLong did (Says LineTooLong) refl did_is (keep_same s host peer before (record { line = TooLong; answer = Some (Says LineTooLong) } ∷ before) k refl refl refl refl)
 
 pub goes_data : (s n : Session) (host peer : List ℕ) (before : List Exchange) (text : List ℕ) (did : Did) → Keeps s host peer before → did ≡ Taken → n ≡ record s { message = n.message }
     → ((lines : Option (List (List ℕ))) → Holds s.message lines → Holds n.message (with_text (DataLine text) lines)) → Goes n host peer before (DataLine text) did
 goes_data s n host peer before text did k did_is new holds =
     goes_by n host peer before (DataLine text) did Takes refl did_is
-    (subst (λ x. Keeps x host peer (record { line = DataLine text; answer = Takes } ∷ before)) (sym new)
+    (subst (λ x. Keeps x host peer (record { line = DataLine text; answer = Some Takes } ∷ before)) (sym new)
     (record {
-      knows = record { host_is = k.knows.host_is; peer_is = k.knows.peer_is; helo_is = k.knows.helo_is };
+      host_is = k.host_is;
+      peer_is = k.peer_is;
+      helo_is = k.helo_is;
       sender_is = k.sender_is;
       recipient_is = k.recipient_is;
       message_is = holds (lines_in before) k.message_is;
     }))
 
-helo_none : (answer : Answer) → helo_by answer None ≡ None
-helo_none (Says reply) = refl
-helo_none Greets = refl
-helo_none Closes = refl
-helo_none (Gives message) = refl
-helo_none Takes = refl
-helo_none Lacks = refl
+helo_none : (answer : Option Answer) → helo_by answer None ≡ None
+helo_none (Some Greets) = refl
+helo_none _ = refl
 
-keep_end : (s n : Session) (host peer : List ℕ) (before : List Exchange) (answer : Answer) → Knows s host peer before → n ≡ record s { sender = None; recipient = None; message = None }
-    → Keeps n host peer (record { line = DataEnd; answer = answer } ∷ before)
-keep_end s n host peer before answer k new =
+-- the end of data after exchanges that told the same HELO
+keep_end : (s n : Session) (host peer : List ℕ) (earlier before : List Exchange) (answer : Option Answer) → Keeps s host peer earlier → helo_in earlier ≡ helo_in before
+    → n ≡ record s { sender = None; recipient = None; message = None } → Keeps n host peer (record { line = DataEnd; answer = answer } ∷ before)
+keep_end s n host peer earlier before answer k helo new =
     subst (λ x. Keeps x host peer (record { line = DataEnd; answer = answer } ∷ before)) (sym new)
     (record {
-      knows = record { host_is = k.host_is; peer_is = k.peer_is; helo_is = k.helo_is ∙ sym (ap (λ o. unwrap_or o (helo_in before)) (helo_none answer)) };
+      host_is = k.host_is;
+      peer_is = k.peer_is;
+      helo_is = k.helo_is ∙ helo ∙ sym (ap (λ o. unwrap_or o (helo_in before)) (helo_none answer));
       sender_is = refl;
       recipient_is = refl;
       message_is = tt;
@@ -296,69 +269,54 @@ goes_end s n host peer before did k new did_is =
     goes_by n host peer before DataEnd did (end_answer (kept_in peer before) s.sender s.recipient (lines_in before))
     (ap (λ o. end_answer (kept_in peer before) o (recipient_in before) (lines_in before)) (sym k.sender_is)
     ∙ ap (λ o. end_answer (kept_in peer before) s.sender o (lines_in before)) (sym k.recipient_is))
-    did_is (keep_end s n host peer before (end_answer (kept_in peer before) s.sender s.recipient (lines_in before)) k.knows new)
+    did_is (keep_end s n host peer before before (Some (end_answer (kept_in peer before) s.sender s.recipient (lines_in before))) k refl new)
 
-pub kept_is : (s : Session) (host peer : List ℕ) (before : List Exchange) (kept : Kept) → Knows s host peer before → kept ≡ record { protocol = codes "SMTP"; helo = s.helo; client = s.peer } → kept ≡ kept_in peer before
+pub kept_is : (s : Session) (host peer : List ℕ) (before : List Exchange) (kept : Kept) → Keeps s host peer before → kept ≡ record { protocol = codes "SMTP"; helo = s.helo; client = s.peer } → kept ≡ kept_in peer before
 kept_is s host peer before kept k is =
     let P : List ℕ → List ℕ → Kept = λ h p. record { protocol = codes "SMTP"; helo = h; client = p } in
     is ∙ ap (λ h. P h s.peer) k.helo_is ∙ ap (P (helo_in before)) k.peer_is
 
--- where no message is under way the end of data gets no reply
-pub end_nothing : (kept : Kept) (sender recipient : Option (List ℕ)) (lines : Option (List (List ℕ))) → Holds None lines → end_answer kept sender recipient lines ≡ Takes
-end_nothing kept None recipient lines h = refl
-end_nothing kept (Some sender) None lines h = refl
-end_nothing kept (Some sender) (Some recipient) None h = refl
-end_nothing kept (Some sender) (Some recipient) (Some lines) h = absurd h
-
-pub end_no_sender : (kept : Kept) (sender recipient : Option (List ℕ)) (lines : Option (List (List ℕ))) → sender ≡ None → end_answer kept sender recipient lines ≡ Takes
-end_no_sender kept sender recipient lines is = ap (λ o. end_answer kept o recipient lines) is
-
-pub end_no_recipient : (kept : Kept) (sender : List ℕ) (recipient : Option (List ℕ)) (lines : Option (List (List ℕ))) → recipient ≡ None → end_answer kept (Some sender) recipient lines ≡ Takes
-end_no_recipient kept sender recipient lines is = ap (λ o. end_answer kept (Some sender) o lines) is
-
--- the end of a message under way
-pub end_message : (kept : Kept) (sender recipient : List ℕ) (g : Gathered) (lines : Option (List (List ℕ))) (host : List ℕ) (did : Did) → Holds (Some g) lines
-    → ((all : List (List ℕ)) → Gathers g all → did ≡ did_of host (message_answer kept sender recipient all)) → did ≡ did_of host (end_answer kept (Some sender) (Some recipient) lines)
-end_message kept sender recipient g None host did h is = absurd h
-end_message kept sender recipient g (Some lines) host did h is = is lines h
-
 -- ---- a session's lines
 
-pub heard_more : (peer : List ℕ) (heard : List Heard) (h : Heard) → exchanges peer (reverse (heard ++ h ∷ [])) ≡ exchange_of peer (exchanges peer (reverse heard)) h ∷ exchanges peer (reverse heard)
-heard_more peer heard h = ap (exchanges peer) (reverse-append heard (h ∷ []))
+pub heard_more : (peer : List ℕ) (heard : List Heard) (h : Heard) → exchanges peer (heard ++ h ∷ []) ≡ exchange_of peer (exchanges peer heard) h ∷ exchanges peer heard
+heard_more peer heard h = fold-append (with_heard peer) [] heard (h ∷ [])
 
-pub stands_more : (n : Session) (host peer : List ℕ) (heard : List Heard) (line : Line) (did : Did) → Goes n host peer (exchanges peer (reverse heard)) line did
+pub stands_more : (n : Session) (host peer : List ℕ) (heard : List Heard) (line : Line) (did : Did) → Goes n host peer (exchanges peer heard) line did
     → Stands n host peer (heard ++ record { line = line; short = false } ∷ [])
 stands_more n host peer heard line did goes =
     subst (λ es. Keeps n host peer es) (sym (heard_more peer heard (record { line = line; short = false }))) goes.keeps
 
-lack_ends : (line : Line) → ends (record { line = line; answer = Lacks }) ≡ true
-lack_ends (Command text) = refl
-lack_ends TooLong = refl
-lack_ends (DataLine text) = refl
+-- want of memory ends the transaction
+lack_ends : (line : Line) → ends (record { line = line; answer = None }) ≡ true
 lack_ends DataEnd = refl
+lack_ends _ = refl
 
-no_lines : (before : List Exchange) (line : Line) → lines_in (record { line = line; answer = Lacks } ∷ before) ≡ None
-no_lines before (Command text) = refl
-no_lines before TooLong = refl
-no_lines before (DataLine text) = refl
-no_lines before DataEnd = refl
+no_lines : (before : List Exchange) (line : Line) → lines_in (record { line = line; answer = None } ∷ before) ≡ None
+no_lines before line = cond-true (ends (record { line = line; answer = None })) None (with_text line (lines_in before)) (lack_ends line)
 
-keep_reset : (s n : Session) (host peer : List ℕ) (before : List Exchange) (line : Line) → Knows s host peer before → n ≡ record s { sender = None; recipient = None; message = None }
-    → Keeps n host peer (record { line = line; answer = Lacks } ∷ before)
+-- it leaves no answer to a line that isn't dropped
+lacking : (peer : List ℕ) (before : List Exchange) (line : Line) → is_dropped before line ≡ false → answer_heard peer before (record { line = line; short = true }) ≡ None
+lacking peer before line kept = ap (λ b. cond (true && not b) None (Some (answer_to peer before line))) kept
+
+keep_reset : (s n : Session) (host peer : List ℕ) (before : List Exchange) (line : Line) → Keeps s host peer before → n ≡ record s { sender = None; recipient = None; message = None }
+    → Keeps n host peer (record { line = line; answer = None } ∷ before)
 keep_reset s n host peer before line k new =
-    subst (λ x. Keeps x host peer (record { line = line; answer = Lacks } ∷ before)) (sym new)
+    subst (λ x. Keeps x host peer (record { line = line; answer = None } ∷ before)) (sym new)
     (record {
-      knows = record { host_is = k.host_is; peer_is = k.peer_is; helo_is = k.helo_is };
-      sender_is = sym (cond-true (ends (record { line = line; answer = Lacks })) None (sender_in before) (lack_ends line));
-      recipient_is = sym (cond-true (ends (record { line = line; answer = Lacks })) None (recipient_in before) (lack_ends line));
+      host_is = k.host_is;
+      peer_is = k.peer_is;
+      helo_is = k.helo_is;
+      sender_is = sym (cond-true (ends (record { line = line; answer = None })) None (sender_in before) (lack_ends line));
+      recipient_is = sym (cond-true (ends (record { line = line; answer = None })) None (recipient_in before) (lack_ends line));
       message_is = subst (λ l. Holds None l) (sym (no_lines before line)) tt;
     })
 
-pub stands_reset : (s n : Session) (host peer : List ℕ) (heard : List Heard) (line : Line) → Knows s host peer (exchanges peer (reverse heard)) → n ≡ record s { sender = None; recipient = None; message = None }
+pub stands_reset : (s n : Session) (host peer : List ℕ) (heard : List Heard) (line : Line) → Stands s host peer heard → is_dropped (exchanges peer heard) line ≡ false → n ≡ record s { sender = None; recipient = None; message = None }
     → Stands n host peer (heard ++ record { line = line; short = true } ∷ [])
-stands_reset s n host peer heard line k new =
-    subst (λ es. Keeps n host peer es) (sym (heard_more peer heard (record { line = line; short = true }))) (keep_reset s n host peer (exchanges peer (reverse heard)) line k new)
+stands_reset s n host peer heard line k kept new =
+    let es : List Exchange = exchanges peer heard in
+    subst (λ all. Keeps n host peer all) (sym (heard_more peer heard (record { line = line; short = true })))
+    (subst (λ a. Keeps n host peer (record { line = line; answer = a } ∷ es)) (sym (lacking peer es line kept)) (keep_reset s n host peer es line k new))
 
 -- ---- the message
 
@@ -378,15 +336,41 @@ message_block kept sender recipient g lines gathers small large =
     ∙ cond-true (is_large_block (size_of (block_of false lines))) _ _ (sym (same_large_block (size_of (block_of false lines))) ∙ sym (ap is_large_block split.block) ∙ large)
 
 pub message_whole : (kept : Kept) (sender recipient : List ℕ) (g : Gathered) (lines : List (List ℕ)) → Gathers g lines → is_too_large g.size ≡ false → is_large_block g.block ≡ false
-    → message_answer kept sender recipient lines ≡ Gives (record { sender = sender; recipient = recipient; headers = g.headers.items; body = g.body; size = g.size; kept = kept })
-message_whole kept sender recipient g lines gathers small large =
+    → message_answer kept sender recipient lines ≡ Gives (received_of g sender recipient kept)
+message_whole kept sender recipient g lines gathers small small_block =
     let split = gathers.split small in
     let exact = exact_size (size_of lines) (sym (ap is_too_large gathers.size) ∙ small) in
     cond-false (is_too_large (size_of lines)) _ _ (within g lines gathers small)
-    ∙ cond-false (is_large_block (size_of (block_of false lines))) _ _ (sym (same_large_block (size_of (block_of false lines))) ∙ sym (ap is_large_block split.block) ∙ large)
-    ∙ ap (λ h. Gives (record { sender = sender; recipient = recipient; headers = h; body = body_of lines; size = size_of lines; kept = kept })) (sym split.headers)
-    ∙ ap (λ b. Gives (record { sender = sender; recipient = recipient; headers = g.headers.items; body = b; size = size_of lines; kept = kept })) (sym split.body)
-    ∙ ap (λ n. Gives (record { sender = sender; recipient = recipient; headers = g.headers.items; body = g.body; size = n; kept = kept })) (sym exact ∙ sym gathers.size)
+    ∙ cond-false (is_large_block (size_of (block_of false lines))) _ _ (sym (same_large_block (size_of (block_of false lines))) ∙ sym (ap is_large_block split.block) ∙ small_block)
+    ∙ ap (λ h. Gives (record { sender = sender; recipient = recipient; headers = h; body = body_of lines; size = size_of lines; kept = kept })) (sym (split.headers ∙ ap (λ b. unless b (headers_of lines)) small_block))
+    ∙ ap (λ b. Gives (record { sender = sender; recipient = recipient; headers = g.headers; body = b; size = size_of lines; kept = kept })) (sym split.body)
+    ∙ ap (λ n. Gives (record { sender = sender; recipient = recipient; headers = g.headers; body = g.body; size = n; kept = kept })) (sym exact ∙ sym gathers.size)
+
+-- what the answer to the end of data is, by what it comes to
+abbrev EndTells : List ℕ → Ending → Answer → Did → Type 0
+EndTells host Nothing answer given = answer ≡ Takes
+EndTells host (Refused reply) answer given = answer ≡ Says reply
+EndTells host Whole answer given = did_of host answer ≡ given
+
+message_tells : (host : List ℕ) (kept : Kept) (sender recipient : List ℕ) (g : Gathered) (lines : List (List ℕ)) → Gathers g lines
+    → EndTells host (ending_of g) (message_answer kept sender recipient lines) (Message (received_of g sender recipient kept))
+message_tells host kept sender recipient g lines gathers =
+    let P : Ending → Type 0 = λ e. EndTells host e (message_answer kept sender recipient lines) (Message (received_of g sender recipient kept)) in
+    let block : Ending = cond (is_large_block g.block) (Refused HeaderTooLarge) Whole in
+    cond_both (is_too_large g.size) (Refused MessageTooLarge) block P
+    (λ large. message_large kept sender recipient g lines gathers large)
+    (λ small. cond_both (is_large_block g.block) (Refused HeaderTooLarge) Whole P
+    (λ large. message_block kept sender recipient g lines gathers small large)
+    (λ within. ap (did_of host) (message_whole kept sender recipient g lines gathers small within)))
+
+pub end_tells : (host : List ℕ) (kept : Kept) (sender recipient : Option (List ℕ)) (m : Option Gathered) (lines : Option (List (List ℕ))) → Holds m lines
+    → EndTells host (end_of sender recipient m) (end_answer kept sender recipient lines) (given_by kept sender recipient m)
+end_tells host kept None recipient m lines h = refl
+end_tells host kept (Some sender) None m lines h = refl
+end_tells host kept (Some sender) (Some recipient) None None h = refl
+end_tells host kept (Some sender) (Some recipient) None (Some lines) h = absurd h
+end_tells host kept (Some sender) (Some recipient) (Some g) None h = absurd h
+end_tells host kept (Some sender) (Some recipient) (Some g) (Some lines) h = message_tells host kept sender recipient g lines h
 
 -- ---- the same of a result
 
@@ -408,7 +392,7 @@ rcpt_goes (Err e) s n host peer before text path k is did refused new = tt
 rcpt_goes (Ok d) s n host peer before text path k is did refused new = goes_rcpt s n host peer before text path d k is did refused new
 
 pub begin_goes : {E : Type 0} (r : Result Did E) (s n : Session) (host peer : List ℕ) (before : List Exchange) (text : List ℕ) → Keeps s host peer before → order_of text ≡ Ok Begin
-    → IfOk r (λ did. did ≡ said_by (data_reply (is_some s.recipient))) → IfOk r (λ _. is_some s.recipient ≡ false → n ≡ s)
+    → IfOk r (λ did. did ≡ did_of s.host (data_answer (is_some s.recipient))) → IfOk r (λ _. is_some s.recipient ≡ false → n ≡ s)
     → IfOk r (λ _. is_some s.recipient ≡ true → BeginsMessage s n) → IfOk r (λ did. Goes n host peer before (Command text) did)
 begin_goes (Err e) s n host peer before text k is did refused new = tt
 begin_goes (Ok d) s n host peer before text k is did refused new = goes_begin s n host peer before text d k is did refused new
@@ -428,25 +412,20 @@ pub long_goes : {E : Type 0} (r : Result Did E) (s : Session) (host peer : List 
 long_goes (Err e) s host peer before line is k did = tt
 long_goes (Ok d) s host peer before line is k did = subst (λ l. Goes s host peer before l d) (sym is) (goes_long s host peer before d k did)
 
-pub line_did : {E : Type 0} (r : Result Did E) (n : Session) (host peer : List ℕ) (heard : List Heard) (line : Line) → IfOk r (λ did. Goes n host peer (exchanges peer (reverse heard)) line did)
+pub line_did : {E : Type 0} (r : Result Did E) (n : Session) (host peer : List ℕ) (heard : List Heard) (line : Line) → IfOk r (λ did. Goes n host peer (exchanges peer heard) line did)
     → IfOk r (λ did. did ≡ did_of (shown_host host) (answer_of peer heard line))
 line_did (Err e) n host peer heard line goes = tt
 line_did (Ok d) n host peer heard line goes = goes.did_is
 
-pub line_stands : {E : Type 0} (r : Result Did E) (n : Session) (host peer : List ℕ) (heard : List Heard) (line : Line) → IfOk r (λ did. Goes n host peer (exchanges peer (reverse heard)) line did)
+pub line_stands : {E : Type 0} (r : Result Did E) (n : Session) (host peer : List ℕ) (heard : List Heard) (line : Line) → IfOk r (λ did. Goes n host peer (exchanges peer heard) line did)
     → IfOk r (λ _. Stands n host peer (heard ++ record { line = line; short = false } ∷ []))
 line_stands (Err e) n host peer heard line goes = tt
 line_stands (Ok d) n host peer heard line goes = stands_more n host peer heard line d goes
 
--- ---- after want of memory
-
-pub still_known : {T E : Type 0} (r : Result T E) (s n : Session) (host peer : List ℕ) (before : List Exchange) → Knows s host peer before → OnErr r (n ≡ s) → OnErr r (Knows n host peer before)
-still_known (Ok d) s n host peer before k same = tt
-still_known (Err e) s n host peer before k same = subst (λ x. Knows x host peer before) (sym same) k
-
-pub known_as : {T E : Type 0} (r : Result T E) (s n : Session) (host peer : List ℕ) (before : List Exchange) → n.host ≡ s.host → n.peer ≡ s.peer → n.helo ≡ s.helo → Knows s host peer before → OnErr r (Knows n host peer before)
-known_as (Ok d) s n host peer before host_same peer_same helo_same k = tt
-known_as (Err e) s n host peer before host_same peer_same helo_same k = record { host_is = host_same ∙ k.host_is; peer_is = peer_same ∙ k.peer_is; helo_is = helo_same ∙ k.helo_is }
+pub line_bounded : {E : Type 0} (r : Result Did E) (n : Session) (host peer : List ℕ) (heard : List Heard) (line : Line) → IfOk r (λ did. Goes n host peer (exchanges peer heard) line did)
+    → IfOk r (λ _. IsBounded n)
+line_bounded (Err e) n host peer heard line goes = tt
+line_bounded (Ok d) n host peer heard line goes = keeps_bounded n host peer (record { line = line; answer = Some (answer_to peer (exchanges peer heard) line) } ∷ exchanges peer heard) goes.keeps
 
 -- ---- lines of a message
 
@@ -466,33 +445,41 @@ nothing_held text (Some all) h = absurd h
 pub holds_none : (m : Option Gathered) (text : List ℕ) → m ≡ None → (lines : Option (List (List ℕ))) → Holds m lines → Holds m (with_text (DataLine text) lines)
 holds_none m text is lines h = subst (λ x. Holds x (with_text (DataLine text) lines)) (sym is) (nothing_held text lines (subst (λ x. Holds x lines) is h))
 
--- ---- the end of data of a result
+-- ---- the end of data
 
-pub end_goes : {E : Type 0} (r : Result Did E) (s n : Session) (host peer : List ℕ) (before : List Exchange) (sender recipient : List ℕ) (g : Gathered) (kept : Kept) (shown : List ℕ) → Keeps s host peer before
-    → n ≡ record s { sender = None; recipient = None; message = None } → s.sender ≡ Some sender → s.recipient ≡ Some recipient → s.message ≡ Some g
-    → kept ≡ record { protocol = codes "SMTP"; helo = s.helo; client = s.peer } → shown ≡ s.host
-    → ((lines : List (List ℕ)) → Gathers g lines → IfOk r (λ did. did ≡ did_of shown (message_answer kept sender recipient lines)))
-    → IfOk r (λ did. Goes n host peer before DataEnd did)
-end_goes (Err e) s n host peer before sender recipient g kept shown k new sender_is recipient_is message_is kept_as shown_is answer = tt
-end_goes (Ok d) s n host peer before sender recipient g kept shown k new sender_is recipient_is message_is kept_as shown_is answer =
-    let holds : Holds (Some g) (lines_in before) = subst (λ m. Holds m (lines_in before)) message_is k.message_is in
-    goes_end s n host peer before d k new
-    (end_message kept sender recipient g (lines_in before) shown d holds answer
-    ∙ ap (λ h. did_of h (end_answer kept (Some sender) (Some recipient) (lines_in before))) (shown_is ∙ k.knows.host_is)
-    ∙ ap (λ x. did_of (shown_host host) (end_answer x (Some sender) (Some recipient) (lines_in before))) (kept_is s host peer before kept k.knows kept_as)
-    ∙ ap (λ o. did_of (shown_host host) (end_answer (kept_in peer before) o (Some recipient) (lines_in before))) (sym sender_is)
-    ∙ ap (λ o. did_of (shown_host host) (end_answer (kept_in peer before) s.sender o (lines_in before))) (sym recipient_is))
+-- no message is under way
+pub end_nothing : (s n : Session) (host peer : List ℕ) (before : List Exchange) → Keeps s host peer before → n ≡ record s { sender = None; recipient = None; message = None }
+    → end_of s.sender s.recipient s.message ≡ Nothing → Goes n host peer before DataEnd Taken
+end_nothing s n host peer before k new is =
+    let given : Did = given_by (kept_in peer before) s.sender s.recipient s.message in
+    let answer : Answer = end_answer (kept_in peer before) s.sender s.recipient (lines_in before) in
+    let takes : answer ≡ Takes = subst (λ e. EndTells [] e answer given) is (end_tells [] (kept_in peer before) s.sender s.recipient s.message (lines_in before) k.message_is) in
+    goes_end s n host peer before Taken k new (sym (ap (did_of (shown_host host)) takes))
 
--- where no message is under way
-pub end_takes : (s n : Session) (host peer : List ℕ) (before : List Exchange) → Keeps s host peer before → n ≡ record s { sender = None; recipient = None; message = None }
-    → end_answer (kept_in peer before) s.sender s.recipient (lines_in before) ≡ Takes → Goes n host peer before DataEnd Taken
-end_takes s n host peer before k new takes = goes_end s n host peer before Taken k new (sym (ap (did_of (shown_host host)) takes))
+-- the message is refused
+pub end_refused : (s n : Session) (host peer : List ℕ) (before : List Exchange) (reply : Reply) (did : Did) → Keeps s host peer before → n ≡ record s { sender = None; recipient = None; message = None }
+    → end_of s.sender s.recipient s.message ≡ Refused reply → did ≡ Replied (text_of reply) → Goes n host peer before DataEnd did
+end_refused s n host peer before reply did k new is did_is =
+    let given : Did = given_by (kept_in peer before) s.sender s.recipient s.message in
+    let answer : Answer = end_answer (kept_in peer before) s.sender s.recipient (lines_in before) in
+    let says : answer ≡ Says reply = subst (λ e. EndTells [] e answer given) is (end_tells [] (kept_in peer before) s.sender s.recipient s.message (lines_in before) k.message_is) in
+    goes_end s n host peer before did k new (did_is ∙ sym (ap (did_of (shown_host host)) says))
 
--- ---- a reply in words
+-- it is given
+pub end_whole : (s n : Session) (host peer : List ℕ) (before : List Exchange) (kept : Kept) (did : Did) → Keeps s host peer before → n ≡ record s { sender = None; recipient = None; message = None }
+    → end_of s.sender s.recipient s.message ≡ Whole → kept ≡ record { protocol = codes "SMTP"; helo = s.helo; client = s.peer } → did ≡ given_by kept s.sender s.recipient s.message → Goes n host peer before DataEnd did
+end_whole s n host peer before kept did k new is kept_as did_is =
+    let given : Did = given_by (kept_in peer before) s.sender s.recipient s.message in
+    let answer : Answer = end_answer (kept_in peer before) s.sender s.recipient (lines_in before) in
+    let gives : did_of (shown_host host) answer ≡ given =
+    subst (λ e. EndTells (shown_host host) e answer given) is (end_tells (shown_host host) (kept_in peer before) s.sender s.recipient s.message (lines_in before) k.message_is) in
+    goes_end s n host peer before did k new (did_is ∙ ap (λ x. given_by x s.sender s.recipient s.message) (kept_is s host peer before kept k kept_as) ∙ sym gives)
 
-pub said_answer : {E : Type 0} (r : Result Did E) (host : List ℕ) (answer : Answer) (reply : Reply) → answer ≡ Says reply → tells reply ≡ false → IfOk r (λ did. did ≡ Replied (text_of reply)) → IfOk r (λ did. did ≡ did_of host answer)
-said_answer (Err e) host answer reply is quiet said = tt
-said_answer (Ok d) host answer reply is quiet said = said ∙ sym (said_quiet reply quiet) ∙ sym (ap (did_of host) is)
+-- where nothing is kept of a message, none is under way
+pub end_none : (sender recipient : Option (List ℕ)) (m : Option Gathered) → m ≡ None → end_of sender recipient m ≡ Nothing
+end_none None recipient m is = refl
+end_none (Some sender) None m is = refl
+end_none (Some sender) (Some recipient) m is = ap (end_of (Some sender) (Some recipient)) is
 
 pub cleared : (s : Session) (sender recipient : Option (List ℕ)) (message : Option Gathered) → sender ≡ None → recipient ≡ None → message ≡ None
     → record s { sender = sender; recipient = recipient; message = message } ≡ record s { sender = None; recipient = None; message = None }
@@ -503,30 +490,32 @@ cleared s sender recipient message no_sender no_recipient no_message =
 
 pub dialogue_more : (peer : List ℕ) (heard : List Heard) (next : Heard) → dialogue peer (heard ++ next ∷ []) ≡ dialogue peer heard ++ exchange_of peer (reverse (dialogue peer heard)) next ∷ []
 dialogue_more peer heard next =
-    let es : List Exchange = exchanges peer (reverse heard) in
+    let es : List Exchange = exchanges peer heard in
     ap reverse (heard_more peer heard next)
     ∙ reverse-append (exchange_of peer es next ∷ []) es
     ∙ ap (λ b. reverse es ++ exchange_of peer b next ∷ []) (sym (reverse-reverse es))
 
--- the end of data says nothing of the peer
-end_known : (s : Session) (host peer : List ℕ) (before : List Exchange) (answer : Answer) → Knows s host peer (record { line = DataEnd; answer = answer } ∷ before) → Knows s host peer before
-end_known s host peer before answer k = record {
-  host_is = k.host_is;
-  peer_is = k.peer_is;
-  helo_is = k.helo_is ∙ ap (λ o. unwrap_or o (helo_in before)) (helo_none answer);
-}
-
 -- the end of data, and whether it was and is answered by want of memory
-pub stands_ended : (s n : Session) (host peer : List ℕ) (heard : List Heard) (was is : Bool) → Knows s host peer (exchanges peer (reverse (heard ++ record { line = DataEnd; short = was } ∷ [])))
+pub stands_ended : (s n : Session) (host peer : List ℕ) (heard : List Heard) (was is : Bool) → Stands s host peer (heard ++ record { line = DataEnd; short = was } ∷ [])
     → n ≡ record s { sender = None; recipient = None; message = None } → Stands n host peer (heard ++ record { line = DataEnd; short = is } ∷ [])
 stands_ended s n host peer heard was is k new =
-    let es : List Exchange = exchanges peer (reverse heard) in
+    let es : List Exchange = exchanges peer heard in
     let earlier : Heard = record { line = DataEnd; short = was } in
     let last : Heard = record { line = DataEnd; short = is } in
     subst (λ all. Keeps n host peer all) (sym (heard_more peer heard last))
-    (keep_end s n host peer es (exchange_of peer es last).answer
-    (end_known s host peer es (exchange_of peer es earlier).answer (subst (λ all. Knows s host peer all) (heard_more peer heard earlier) k)) new)
+    (keep_end s n host peer (exchange_of peer es earlier ∷ es) es (answer_heard peer es last)
+    (subst (λ all. Keeps s host peer all) (heard_more peer heard earlier) k) (ap (λ o. unwrap_or o (helo_in es)) (helo_none (answer_heard peer es earlier))) new)
 
--- a session that stands for its lines knows its peer
-pub stands_remembers : (s : Session) (host peer : List ℕ) (heard : List Heard) → Stands s host peer heard → Remembers s host peer heard
-stands_remembers s host peer heard stands = stands.knows
+-- ---- a line that is dropped
+
+none_held : (m : Option Gathered) (lines : Option (List (List ℕ))) → not (is_some lines) ≡ true → Holds m lines → m ≡ None
+none_held None lines none h = refl
+none_held (Some g) None none h = absurd h
+none_held (Some g) (Some lines) none h = absurd (false≢true none)
+
+-- nothing is kept of the message, and the line is of data
+pub dropped_by : (s : Session) (host peer : List ℕ) (before : List Exchange) (line : Line) → Keeps s host peer before → is_dropped before line ≡ true → (s.message ≡ None) × (is_data line ≡ true)
+dropped_by s host peer before (Command text) k dropped = absurd (false≢true dropped)
+dropped_by s host peer before TooLong k dropped = absurd (false≢true dropped)
+dropped_by s host peer before (DataLine text) k dropped = (none_held s.message (lines_in before) dropped k.message_is, refl)
+dropped_by s host peer before DataEnd k dropped = (none_held s.message (lines_in before) dropped k.message_is, refl)

@@ -6,9 +6,9 @@ use Rattle.std.proofs.lemmas.List.Concat.{flat_map-append}
 use Rattle.std.proofs.lemmas.List.Sums.{sum_by_push}
 use Rattle.mail_base.specs.Limits.{most_message, most_headers}
 use Rattle.mail_base.specs.Texts.{crlf}
-use Rattle.smtp_receive.specs.Splits.{belongs, block_of, rest_of, is_continuation, goes_on, joined, headers_in, without_empty, with_end, body_of, size_of, is_too_large, is_large_block}
+use Rattle.smtp_receive.specs.Splits.{belongs, block_of, rest_of, is_continuation, goes_on, joined, headers_in, headers_of, without_empty, with_end, body_of, size_of, is_too_large, is_large_block}
 use Rattle.smtp_receive.specs.declared.gathered.Gathered.{Gathered}
-use Rattle.smtp_receive.specs.Sessions.{counted, is_some_line, onto_last, header_added, AddsHeader, IsSplit, Gathers}
+use Rattle.smtp_receive.specs.Sessions.{counted, is_some_line, onto_last, header_added, unless, AddsHeader, IsSplit, Gathers}
 
 -- ---- sizes
 
@@ -205,39 +205,65 @@ same_large_block size =
     (λ (within : size ≤ most_headers). le-ltb most_headers (min size (most_message + 1)) (omega arith) ∙ sym (le-ltb most_headers size within))
     (cases_lt most_headers size)
 
+pub earlier_block : (size length : ℕ) → is_large_block (counted (size + length + 2)) ≡ false → is_large_block size ≡ false
+unfolding is_large_block counted most_message most_headers
+earlier_block size length h =
+    let most = ltb-false most_headers (min (size + length + 2) (most_message + 1)) h in
+    let le : size ≤ most_headers = omega arith in
+    le-ltb most_headers size le
+
 -- ---- what is kept, with one line more
 
-moved_split : (g m : Gathered) (lines : List (List ℕ)) → m ≡ record g { size = m.size } → IsSplit g lines → IsSplit m lines
-moved_split g m lines same is = subst (λ x. IsSplit x lines) (sym same) (record { headers = is.headers; has_header = is.has_header; block = is.block; body = is.body; has_body = is.has_body })
+unless_none : (is : Bool) → unless is [] ≡ []
+unless_none true = refl
+unless_none false = refl
 
-pub gathers_none : (g : Gathered) → g.size ≡ 0 → g.block ≡ 0 → g.headers.items ≡ [] → g.has_header ≡ false → g.body ≡ [] → g.has_body ≡ false → Gathers g []
+-- headers that were given up stay so
+unless_more : (was is : Bool) (line : List ℕ) (old headers : List (List ℕ)) → (is ≡ false → was ≡ false) → old ≡ unless was headers → unless is (header_added line old) ≡ unless is (header_added line headers)
+unless_more was true line old headers earlier kept = refl
+unless_more was false line old headers earlier kept = ap (header_added line) (kept ∙ ap (λ b. unless b headers) (earlier refl))
+
+moved_split : (g : Gathered) (size : ℕ) (lines : List (List ℕ)) → IsSplit g lines → IsSplit (record g { size = size }) lines
+moved_split g size lines is = record { headers = is.headers; has_header = is.has_header; block = is.block; body = is.body; has_body = is.has_body }
+
+pub gathers_none : (g : Gathered) → g.size ≡ 0 → g.block ≡ 0 → g.headers ≡ [] → g.has_header ≡ false → g.body ≡ [] → g.has_body ≡ false → Gathers g []
 unfolding counted most_message
-gathers_none g size block headers has_header body has_body = record { size = size; split = λ small. record { headers = headers; has_header = has_header; block = block; body = body; has_body = has_body } }
-
-pub gathers_large : (g n : Gathered) (line : List ℕ) (lines : List (List ℕ)) → n.size ≡ counted (g.size + length line + 2) → is_too_large n.size ≡ true → Gathers g lines → Gathers n (lines ++ line ∷ [])
-gathers_large g n line lines size large is = record { size = size ∙ counted_size lines line g.size is.size; split = λ small. absurd (false≢true (sym small ∙ large)) }
-
-pub gathers_split : {T E : Type 0} (r : Result T E) (g m n : Gathered) (line : List ℕ) → m ≡ record g { size = m.size } → m.size ≡ counted (g.size + length line + 2) → is_too_large m.size ≡ false → n.size ≡ m.size
-    → OnOk r ((lines : List (List ℕ)) → IsSplit m lines → IsSplit n (lines ++ line ∷ [])) → OnOk r ((lines : List (List ℕ)) → Gathers g lines → Gathers n (lines ++ line ∷ []))
-gathers_split (Err e) g m n line same size small now split = tt
-gathers_split (Ok u) g m n line same size small now split = λ lines is. record {
-  size = now ∙ size ∙ counted_size lines line g.size is.size;
-  split = λ within. split lines (moved_split g m lines same (is.split (earlier_size g.size (length line) (sym (ap is_too_large size) ∙ small))));
+gathers_none g size block headers has_header body has_body = record {
+  size = size;
+  split = λ small. record { headers = headers ∙ sym (unless_none (is_large_block g.block)); has_header = has_header; block = block; body = body; has_body = has_body };
+  gone = λ large. record { headers = headers; body = body };
 }
 
-body_added : (g : Gathered) (line : List ℕ) (lines : List (List ℕ)) → g.has_body ≡ true → IsSplit g lines → IsSplit (record g { body = g.body ++ with_end line }) (lines ++ line ∷ [])
+-- the lines are too large
+pub gathers_large : (g n : Gathered) (size : ℕ) (line : List ℕ) (lines : List (List ℕ)) → n ≡ record g { size = size; headers = []; body = [] } → size ≡ counted (g.size + length line + 2) → is_too_large size ≡ true → Gathers g lines
+    → Gathers n (lines ++ line ∷ [])
+gathers_large g n size line lines new counted_is large is =
+    subst (λ x. Gathers x (lines ++ line ∷ [])) (sym new)
+    (record { size = counted_is ∙ counted_size lines line g.size is.size; split = λ small. absurd (false≢true (sym small ∙ large)); gone = λ more. record { headers = refl; body = refl } })
+
+-- they aren't
+pub gathers_split : (g m : Gathered) (size : ℕ) (line : List ℕ) (lines : List (List ℕ)) → size ≡ counted (g.size + length line + 2) → is_too_large size ≡ false
+    → (IsSplit g lines → IsSplit m (lines ++ line ∷ [])) → Gathers g lines → Gathers (record m { size = size }) (lines ++ line ∷ [])
+gathers_split g m size line lines counted_is small split is = record {
+  size = counted_is ∙ counted_size lines line g.size is.size;
+  split = λ within. moved_split m size (lines ++ line ∷ []) (split (is.split (earlier_size g.size (length line) (sym (ap is_too_large counted_is) ∙ small))));
+  gone = λ large. absurd (false≢true (sym small ∙ large));
+}
+
+body_added : (g : Gathered) (line : List ℕ) (lines : List (List ℕ)) → g.has_body ≡ true → IsSplit g lines → IsSplit (record g { body = g.body ++ with_end line; has_body = true }) (lines ++ line ∷ [])
 body_added g line lines has is =
     let some : is_some_line (rest_of false lines) ≡ true = sym is.has_body ∙ has in
     let block : block_of false (lines ++ line ∷ []) ≡ block_of false lines = block_more false lines line some in
     record {
-      headers = is.headers ∙ sym (ap headers_in block);
+      headers = is.headers ∙ sym (ap (λ b. unless (is_large_block g.block) (headers_in b)) block);
       has_header = is.has_header ∙ sym (ap is_some_line block);
       block = is.block ∙ sym (ap (λ b. counted (size_of b)) block);
       body = ap (λ b. b ++ with_end line) is.body ∙ sym (body_more lines line some);
-      has_body = has ∙ sym (ap is_some_line (rest_more false lines line some) ∙ some_push (rest_of false lines) line);
+      has_body = sym (ap is_some_line (rest_more false lines line some) ∙ some_push (rest_of false lines) line);
     }
 
-pub split_body : {T E : Type 0} (r : Result T E) (g n : Gathered) (line : List ℕ) → g.has_body ≡ true → OnOk r (n ≡ record g { body = g.body ++ with_end line }) → OnOk r ((lines : List (List ℕ)) → IsSplit g lines → IsSplit n (lines ++ line ∷ []))
+pub split_body : {T E : Type 0} (r : Result T E) (g n : Gathered) (line : List ℕ) → g.has_body ≡ true → OnOk r (n ≡ record g { body = g.body ++ with_end line; has_body = true })
+    → OnOk r ((lines : List (List ℕ)) → IsSplit g lines → IsSplit n (lines ++ line ∷ []))
 split_body (Err e) g n line has new = tt
 split_body (Ok u) g n line has new = λ lines is. subst (λ x. IsSplit x (lines ++ line ∷ [])) (sym new) (body_added g line lines has is)
 
@@ -247,7 +273,9 @@ header_added_to g n line lines has met adds is =
     let belongs_is : belongs (begun_by false lines) line ≡ true = sym (ap (λ b. belongs b line) (is.has_header ∙ begun_is lines none)) ∙ met in
     let block : block_of false (lines ++ line ∷ []) ≡ block_of false lines ++ line ∷ [] = block_yes false lines line none belongs_is in
     record {
-      headers = adds.headers ∙ ap (header_added line) is.headers ∙ sym (headers_added (block_of false lines) line) ∙ sym (ap headers_in block);
+      headers = adds.headers
+          ∙ unless_more (is_large_block g.block) (is_large_block n.block) line g.headers (headers_of lines) (λ small. earlier_block g.block (length line) (sym (ap is_large_block adds.block) ∙ small)) is.headers
+          ∙ ap (unless (is_large_block n.block)) (sym (headers_added (block_of false lines) line) ∙ sym (ap headers_in block));
       has_header = adds.has_header ∙ sym (ap is_some_line block ∙ some_push (block_of false lines) line);
       block = adds.block ∙ counted_size (block_of false lines) line g.block is.block ∙ sym (ap (λ b. counted (size_of b)) block);
       body = adds.body ∙ is.body ∙ sym (body_yes lines line none belongs_is);
@@ -259,35 +287,35 @@ pub split_header : {T E : Type 0} (r : Result T E) (g n : Gathered) (line : List
 split_header (Err e) g n line has met adds = tt
 split_header (Ok u) g n line has met adds = λ lines is. header_added_to g n line lines has met adds is
 
-body_begun : (g n : Gathered) (line : List ℕ) (lines : List (List ℕ)) → g.has_body ≡ false → belongs g.has_header line ≡ false
-    → n.headers.items ≡ g.headers.items → n.has_header ≡ g.has_header → n.block ≡ g.block → n.has_body ≡ true
-    → (belongs (begun_by false lines) line ≡ false → is_some_line (rest_of false lines) ≡ false → n.body ≡ body_of (lines ++ line ∷ [])) → IsSplit g lines → IsSplit n (lines ++ line ∷ [])
-body_begun g n line lines has unmet headers has_header block_is has_body body is =
+-- the first line after the header block
+body_begun : (g : Gathered) (body line : List ℕ) (lines : List (List ℕ)) → g.has_body ≡ false → belongs g.has_header line ≡ false
+    → (belongs (begun_by false lines) line ≡ false → is_some_line (rest_of false lines) ≡ false → body ≡ body_of (lines ++ line ∷ [])) → IsSplit g lines → IsSplit (record g { body = body; has_body = true }) (lines ++ line ∷ [])
+body_begun g body line lines has unmet body_is is =
     let none : is_some_line (rest_of false lines) ≡ false = sym is.has_body ∙ has in
     let belongs_not : belongs (begun_by false lines) line ≡ false = sym (ap (λ b. belongs b line) (is.has_header ∙ begun_is lines none)) ∙ unmet in
     let block : block_of false (lines ++ line ∷ []) ≡ block_of false lines = block_no false lines line none belongs_not in
     record {
-      headers = headers ∙ is.headers ∙ sym (ap headers_in block);
-      has_header = has_header ∙ is.has_header ∙ sym (ap is_some_line block);
-      block = block_is ∙ is.block ∙ sym (ap (λ b. counted (size_of b)) block);
-      body = body belongs_not none;
-      has_body = has_body ∙ sym (ap is_some_line (rest_no false lines line none belongs_not));
+      headers = is.headers ∙ sym (ap (λ b. unless (is_large_block g.block) (headers_in b)) block);
+      has_header = is.has_header ∙ sym (ap is_some_line block);
+      block = is.block ∙ sym (ap (λ b. counted (size_of b)) block);
+      body = body_is belongs_not none;
+      has_body = sym (ap is_some_line (rest_no false lines line none belongs_not));
     }
 
--- the first line after the header block is empty
+-- it is empty
 pub split_empty : (g n : Gathered) (line : List ℕ) → g.has_body ≡ false → belongs g.has_header line ≡ false → (length line == 0) ≡ true → n ≡ record g { has_body = true }
     → (lines : List (List ℕ)) → IsSplit g lines → IsSplit n (lines ++ line ∷ [])
 split_empty g n [] has unmet empty new lines is =
     subst (λ x. IsSplit x (lines ++ [] ∷ [])) (sym new)
-    (body_begun g (record g { has_body = true }) [] lines has unmet refl refl refl refl (λ not_in none. is.body ∙ sym (body_empty lines none not_in)) is)
+    (body_begun g g.body [] lines has unmet (λ not_in none. is.body ∙ sym (body_empty lines none not_in)) is)
 split_empty g n (b ∷ line) has unmet empty new lines is = let e = eqb-true (length (b ∷ line)) 0 empty in absurd (omega arith)
 
 -- it is not
 pub split_first : {T E : Type 0} (r : Result T E) (g n : Gathered) (line : List ℕ) → g.has_body ≡ false → belongs g.has_header line ≡ false → (length line == 0) ≡ false
-    → OnOk r (n ≡ record g { has_body = true; body = g.body ++ with_end line }) → OnOk r ((lines : List (List ℕ)) → IsSplit g lines → IsSplit n (lines ++ line ∷ []))
+    → OnOk r (n ≡ record g { body = g.body ++ with_end line; has_body = true }) → OnOk r ((lines : List (List ℕ)) → IsSplit g lines → IsSplit n (lines ++ line ∷ []))
 split_first (Err e) g n line has unmet some new = tt
 split_first (Ok u) g n [] has unmet some new = absurd (false≢true (sym some))
 split_first (Ok u) g n (b ∷ line) has unmet some new = λ lines is.
     subst (λ x. IsSplit x (lines ++ (b ∷ line) ∷ [])) (sym new)
-    (body_begun g (record g { has_body = true; body = g.body ++ with_end (b ∷ line) }) (b ∷ line) lines has unmet refl refl refl refl
+    (body_begun g (g.body ++ with_end (b ∷ line)) (b ∷ line) lines has unmet
     (λ not_in none. ap (λ t. t ++ with_end (b ∷ line)) is.body ∙ sym (body_first lines b line none not_in)) is)

@@ -1,5 +1,5 @@
 -- The replies and the messages of a session, as a function of all its lines (RFC 5321 sections 3.3 and 4.1.4).
-use Rattle.std.specs.Prelude.{ℕ, Bool, true, false, ◌||◌, List, [], ◌∷◌, ◌++◌, Option, Some, None, is_some, unwrap_or, option_map, Result, Ok, Err, reverse, if◌then◌else◌, codes}
+use Rattle.std.specs.Prelude.{ℕ, Bool, true, false, not, ◌||◌, ◌&&◌, List, [], ◌∷◌, ◌++◌, Option, Some, None, is_some, unwrap_or, option_map, Result, Ok, Err, fold, reverse, if◌then◌else◌, codes}
 use Rattle.smtp_lines.specs.declared.line.Line.{Line}
 use Rattle.smtp_lines.specs.declared.line.Line.TheVariants.{Command, TooLong, Data as DataLine, DataEnd}
 use Rattle.mail_base.specs.declared.message.Kept.{Kept}
@@ -7,30 +7,30 @@ use Rattle.smtp_receive.specs.declared.received.Received.{Received}
 use Rattle.smtp_receive.specs.declared.received.Did.{Did}
 use Rattle.smtp_receive.specs.declared.received.Did.TheVariants.{Reply as Replied, Granted, Message, Taken, Bye}
 use Rattle.smtp_receive.specs.declared.reply.Reply.{Reply}
-use Rattle.smtp_receive.specs.declared.reply.Reply.TheVariants.{LineTooLong, BadByte, Unrecognized, ArgumentNeeded, NoArgument, SenderGiven, NeedMail, NeedRcpt, SyntaxError, PathTooLong, ParameterNotKnown, UserRequired, TooManyRecipients, SenderOk, RecipientOk, EnterMail, MessageTooLarge, HeaderTooLarge}
+use Rattle.smtp_receive.specs.declared.reply.Reply.TheVariants.{LineTooLong, BadByte, Unrecognized, ArgumentNeeded, NoArgument, SenderGiven, NeedMail, NeedRcpt, SyntaxError, PathTooLong, ParameterNotKnown, UserRequired, TooManyRecipients, SenderOk, RecipientOk, MessageTooLarge, HeaderTooLarge}
 use Rattle.smtp_receive.specs.declared.command.Verb.{Verb}
 use Rattle.smtp_receive.specs.declared.command.Verb.TheVariants.{Helo, Mail, Rcpt, Data, Quit}
 use Rattle.smtp_receive.specs.declared.command.LineFault.{LineFault}
 use Rattle.smtp_receive.specs.declared.command.LineFault.TheVariants.{BadByte as HasBadByte, Unknown, ArgumentNeeded as LacksArgument, NoArgument as HasArgument, Syntax, PathTooLong as HasLongPath, Parameter}
 use Rattle.smtp_receive.specs.Commands.{Order, Greet, From, To, Begin, End, order_of, is_nothing}
-use Rattle.smtp_receive.specs.Replies.{text_of, hello_text, closing_text}
+use Rattle.smtp_receive.specs.Replies.{text_of, grant_text, hello_text, closing_text}
 use Rattle.smtp_receive.specs.Splits.{headers_of, body_of, block_of, size_of, is_too_large, is_large_block}
 
--- how a line is answered: with words, 250 to HELO, 221 to QUIT, a message, no reply, or 452 4.3.1 Out of memory
+-- how a line is answered: with words, 250 to HELO, 354, 221 to QUIT, a message, or no reply
 pub data Answer : Type 0 where
   Says : Reply → Answer
   Greets : Answer
+  Grants : Answer
   Closes : Answer
   Gives : Received → Answer
   Takes : Answer
-  Lacks : Answer
 
--- a line and its answer
+-- a line and its answer; none where 452 4.3.1 Out of memory came in its place
 pub record Exchange : Type 0 where
   pub line : Line
-  pub answer : Answer
+  pub answer : Option Answer
 
--- a line, and whether it was answered by 452 4.3.1 for want of memory
+-- a line, and whether 452 4.3.1 was replied to it for want of memory
 pub record Heard : Type 0 where
   pub line : Line
   pub short : Bool
@@ -58,13 +58,10 @@ is_data_end (DataLine text) = false
 is_data_end DataEnd = true
 
 -- a HELO that is accepted and want of memory end a transaction
-abbrev pub ends_by : Answer → Bool
-ends_by (Says reply) = false
-ends_by Greets = true
-ends_by Closes = false
-ends_by (Gives message) = false
-ends_by Takes = false
-ends_by Lacks = true
+abbrev pub ends_by : Option Answer → Bool
+ends_by None = true
+ends_by (Some Greets) = true
+ends_by _ = false
 
 -- whether an exchange ends the transaction: as the end of data, or as said
 abbrev pub ends : Exchange → Bool
@@ -82,16 +79,16 @@ abbrev pub argument_in : Option Order → Option (List ℕ)
 argument_in (Some (Greet argument)) = Some argument
 argument_in _ = None
 
-abbrev pub sender_by : Answer → Option Order → Option (List ℕ)
-sender_by (Says SenderOk) order = path_from order
+abbrev pub sender_by : Option Answer → Option Order → Option (List ℕ)
+sender_by (Some (Says SenderOk)) order = path_from order
 sender_by _ order = None
 
-abbrev pub recipient_by : Answer → Option Order → Option (List ℕ)
-recipient_by (Says RecipientOk) order = path_to order
+abbrev pub recipient_by : Option Answer → Option Order → Option (List ℕ)
+recipient_by (Some (Says RecipientOk)) order = path_to order
 recipient_by _ order = None
 
-abbrev pub helo_by : Answer → Option Order → Option (List ℕ)
-helo_by Greets order = argument_in order
+abbrev pub helo_by : Option Answer → Option Order → Option (List ℕ)
+helo_by (Some Greets) order = argument_in order
 helo_by _ order = None
 
 -- the sender of a MAIL that is accepted
@@ -107,8 +104,8 @@ abbrev pub helo_told : Exchange → Option (List ℕ)
 helo_told e = helo_by e.answer (asked e.line)
 
 -- whether the answer is 354
-abbrev pub is_grant : Answer → Bool
-is_grant (Says EnterMail) = true
+abbrev pub is_grant : Option Answer → Bool
+is_grant (Some Grants) = true
 is_grant _ = false
 
 abbrev pub or_else : Option (List ℕ) → Option (List ℕ) → Option (List ℕ)
@@ -139,6 +136,13 @@ abbrev pub lines_in : List Exchange → Option (List (List ℕ))
 lines_in [] = None
 lines_in (e ∷ before) = if ends e then None else if is_grant e.answer then Some [] else with_text e.line (lines_in before)
 
+-- whether a line is of data of which nothing is kept, since 452 4.3.1 ended the transaction: it gets no reply
+abbrev pub is_dropped : List Exchange → Line → Bool
+is_dropped before (Command text) = false
+is_dropped before TooLong = false
+is_dropped before (DataLine text) = not (is_some (lines_in before))
+is_dropped before DataEnd = not (is_some (lines_in before))
+
 -- the argument of the latest HELO that was accepted, or nothing
 abbrev pub helo_in : List Exchange → List ℕ
 helo_in [] = []
@@ -162,10 +166,10 @@ rcpt_reply false reply = NeedMail
 abbrev pub to_reply : List ℕ → Bool → Reply
 to_reply path full = if is_nothing path then UserRequired else if full then TooManyRecipients else RecipientOk
 
--- the reply to DATA, by whether there is a recipient
-abbrev pub data_reply : Bool → Reply
-data_reply true = EnterMail
-data_reply false = NeedRcpt
+-- the answer to DATA, by whether there is a recipient
+abbrev pub data_answer : Bool → Answer
+data_answer true = Grants
+data_answer false = Says NeedRcpt
 
 -- the reply to a path out of the grammar or the limits, by whether there is a sender
 abbrev pub path_reply : Verb → Bool → Reply → Reply
@@ -191,7 +195,7 @@ command_answer given full (Err fault) = Says (fault_reply given fault)
 command_answer given full (Ok (Greet argument)) = Greets
 command_answer given full (Ok (From path)) = Says (mail_reply given SenderOk)
 command_answer given full (Ok (To path)) = Says (rcpt_reply given (to_reply path full))
-command_answer given full (Ok Begin) = Says (data_reply full)
+command_answer given full (Ok Begin) = data_answer full
 command_answer given full (Ok End) = Closes
 
 -- the answer to the end of a message of these lines
@@ -213,28 +217,29 @@ answer_to peer before TooLong = Says LineTooLong
 answer_to peer before (DataLine text) = Takes
 answer_to peer before DataEnd = end_answer (kept_in peer before) (sender_in before) (recipient_in before) (lines_in before)
 
-abbrev pub exchange_of : List ℕ → List Exchange → Heard → Exchange
-exchange_of peer before heard = record { line = heard.line; answer = if heard.short then Lacks else answer_to peer before heard.line }
+-- want of memory leaves no answer, but where there is no reply in any case
+abbrev pub answer_heard : List ℕ → List Exchange → Heard → Option Answer
+answer_heard peer before heard = if heard.short && not (is_dropped before heard.line) then None else Some (answer_to peer before heard.line)
 
--- the exchanges of a session, of which the latest is first
+abbrev pub exchange_of : List ℕ → List Exchange → Heard → Exchange
+exchange_of peer before heard = record { line = heard.line; answer = answer_heard peer before heard }
+
+abbrev pub with_heard : List ℕ → List Exchange → Heard → List Exchange
+with_heard peer before heard = exchange_of peer before heard ∷ before
+
+-- the exchanges of a session's lines, of which the latest is first
 abbrev pub exchanges : List ℕ → List Heard → List Exchange
-exchanges peer [] = []
-exchanges peer (heard ∷ earlier) = exchange_of peer (exchanges peer earlier) heard ∷ exchanges peer earlier
+exchanges peer heard = fold (with_heard peer) [] heard
 
 -- the dialogue of a session with a peer: each line with its answer
 abbrev pub dialogue : List ℕ → List Heard → List Exchange
-dialogue peer heard = reverse (exchanges peer (reverse heard))
+dialogue peer heard = reverse (exchanges peer heard)
 
--- what is done where a reply in words is the answer; lines of a message follow 354 alone
-abbrev pub said_by : Reply → Did
-said_by EnterMail = Granted (text_of EnterMail)
-said_by reply = Replied (text_of reply)
-
--- what is done at an answer, where there was memory
+-- what is done at an answer, where there was memory; lines of a message follow 354 alone
 abbrev pub did_of : List ℕ → Answer → Did
-did_of host (Says reply) = said_by reply
+did_of host (Says reply) = Replied (text_of reply)
 did_of host Greets = Replied (hello_text host)
+did_of host Grants = Granted grant_text
 did_of host Closes = Bye (closing_text host)
 did_of host (Gives message) = Message message
 did_of host Takes = Taken
-did_of host Lacks = Taken

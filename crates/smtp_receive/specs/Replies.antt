@@ -4,7 +4,7 @@ use Rattle.mail_base.specs.Limits.{most_domain}
 use Rattle.mail_base.specs.Names.{id_text}
 use Rattle.mail_base.specs.Texts.{crlf}
 use Rattle.smtp_receive.specs.declared.reply.Reply.{Reply}
-use Rattle.smtp_receive.specs.declared.reply.Reply.TheVariants.{LineTooLong, BadByte, Unrecognized, ArgumentNeeded, NoArgument, SenderGiven, NeedMail, NeedRcpt, SyntaxError, PathTooLong, ParameterNotKnown, UserRequired, TooManyRecipients, SenderOk, RecipientOk, EnterMail, MessageTooLarge, HeaderTooLarge}
+use Rattle.smtp_receive.specs.declared.reply.Reply.TheVariants.{LineTooLong, BadByte, Unrecognized, ArgumentNeeded, NoArgument, SenderGiven, NeedMail, NeedRcpt, SyntaxError, PathTooLong, ParameterNotKnown, UserRequired, TooManyRecipients, SenderOk, RecipientOk, MessageTooLarge, HeaderTooLarge}
 
 -- the words of a reply that is always the same
 abbrev pub words_of : Reply → List ℕ
@@ -23,7 +23,6 @@ words_of UserRequired = codes "553 5.1.3 User address required"
 words_of TooManyRecipients = codes "452 4.5.3 Too many recipients"
 words_of SenderOk = codes "250 2.1.0 Sender ok"
 words_of RecipientOk = codes "250 2.1.5 Recipient ok"
-words_of EnterMail = codes "354 Enter mail, end with " ++ 34 ∷ 46 ∷ 34 ∷ codes " on a line by itself"
 words_of MessageTooLarge = codes "552 5.3.4 Message too large"
 words_of HeaderTooLarge = codes "552 5.6.0 Header too large"
 
@@ -40,6 +39,10 @@ greeting_text host = codes "220 " ++ host ++ codes " ESMTP ready" ++ crlf
 
 abbrev pub hello_text : List ℕ → List ℕ
 hello_text host = codes "250 " ++ host ++ codes " Hello" ++ crlf
+
+-- the reply to DATA that lines of a message follow
+abbrev pub grant_text : List ℕ
+grant_text = codes "354 Enter mail, end with " ++ 34 ∷ 46 ∷ 34 ∷ codes " on a line by itself" ++ crlf
 
 abbrev pub closing_text : List ℕ → List ℕ
 closing_text host = codes "221 2.0.0 " ++ host ++ codes " closing connection" ++ crlf

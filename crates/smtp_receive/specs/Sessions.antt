@@ -1,14 +1,21 @@
 -- What a session keeps of its lines, and what it stands for.
-use Rattle.std.specs.Prelude.{◌≡◌, ℕ, ◌+◌, length, Bool, true, false, not, ◌&&◌, is_some, List, [], ◌∷◌, ◌++◌, Option, Some, None, min, reverse, if◌then◌else◌}
-use Rattle.mail_base.specs.Limits.{most_message}
+use Rattle.std.specs.Prelude.{◌≡◌, ◌≤◌, ℕ, ◌+◌, length, Bool, true, false, not, ◌&&◌, is_some, List, [], ◌∷◌, ◌++◌, Option, Some, None, IfSome, min, if◌then◌else◌}
+use Rattle.mail_base.specs.Limits.{most_message, most_headers}
 use Rattle.mail_base.specs.Texts.{crlf}
+use Rattle.mail_base.specs.declared.message.Kept.{Kept}
 use Rattle.smtp_lines.specs.declared.line.Line.{Line}
+use Rattle.smtp_lines.specs.declared.line.Line.TheVariants.{Command, TooLong, Data as DataLine, DataEnd}
+use Rattle.smtp_receive.specs.declared.received.Received.{Received}
 use Rattle.smtp_receive.specs.declared.received.Did.{Did}
+use Rattle.smtp_receive.specs.declared.received.Did.TheVariants.{Message, Taken}
+use Rattle.smtp_receive.specs.declared.reply.Reply.TheVariants.{MessageTooLarge, HeaderTooLarge}
+use Rattle.smtp_receive.specs.declared.gathered.End.{End}
+use Rattle.smtp_receive.specs.declared.gathered.End.TheVariants.{Nothing, Refused, Whole}
 use Rattle.smtp_receive.specs.declared.gathered.Gathered.{Gathered}
 use Rattle.smtp_receive.specs.declared.session.Session.{Session}
 use Rattle.smtp_receive.specs.Commands.{is_nothing}
 use Rattle.smtp_receive.specs.Replies.{shown_host}
-use Rattle.smtp_receive.specs.Splits.{headers_of, body_of, block_of, rest_of, size_of, is_too_large, is_continuation}
+use Rattle.smtp_receive.specs.Splits.{headers_of, body_of, block_of, rest_of, size_of, is_too_large, is_large_block, is_continuation}
 use Rattle.smtp_receive.specs.Dialogue.{Heard, Exchange, Answer, exchanges, answer_to, did_of, sender_in, recipient_in, lines_in, helo_in}
 
 -- a size that counts no further once it is too large
@@ -29,27 +36,38 @@ onto_last line (header ∷ next ∷ headers) = header ∷ onto_last line (next �
 abbrev pub header_added : List ℕ → List (List ℕ) → List (List ℕ)
 header_added line headers = if is_continuation line then onto_last line headers else headers ++ line ∷ []
 
+-- headers, unless they are above their limit
+abbrev pub unless : Bool → List (List ℕ) → List (List ℕ)
+unless true headers = []
+unless false headers = headers
+
 -- a line of the header block was added, and the rest stays
 pub record AddsHeader (old new : Gathered) (line : List ℕ) : Type 0 where
   pub size : new.size ≡ old.size
   pub block : new.block ≡ counted (old.block + length line + 2)
-  pub headers : new.headers.items ≡ header_added line old.headers.items
+  pub headers : new.headers ≡ unless (is_large_block new.block) (header_added line old.headers)
   pub has_header : new.has_header ≡ true
   pub body : new.body ≡ old.body
   pub has_body : new.has_body ≡ old.has_body
 
--- what is kept is the split of the lines
+-- what is kept is the split of the lines, without headers above their limit
 pub record IsSplit (g : Gathered) (lines : List (List ℕ)) : Type 0 where
-  pub headers : g.headers.items ≡ headers_of lines
+  pub headers : g.headers ≡ unless (is_large_block g.block) (headers_of lines)
   pub has_header : g.has_header ≡ is_some_line (block_of false lines)
   pub block : g.block ≡ counted (size_of (block_of false lines))
   pub body : g.body ≡ body_of lines
   pub has_body : g.has_body ≡ is_some_line (rest_of false lines)
 
--- what is kept of the lines of a message: their split, unless they are too large
+-- no byte of the lines is kept
+pub record IsGone (g : Gathered) : Type 0 where
+  pub headers : g.headers ≡ []
+  pub body : g.body ≡ []
+
+-- what is kept of the lines of a message: their split, or nothing where they are too large
 pub record Gathers (g : Gathered) (lines : List (List ℕ)) : Type 0 where
   pub size : g.size ≡ counted (size_of lines)
   pub split : is_too_large g.size ≡ false → IsSplit g lines
+  pub gone : is_too_large g.size ≡ true → IsGone g
 
 -- the same where a message may be under way
 abbrev pub Holds : Option Gathered → Option (List (List ℕ)) → Type 0
@@ -58,15 +76,11 @@ Holds None (Some lines) = ⊥
 Holds (Some g) None = ⊥
 Holds (Some g) (Some lines) = Gathers g lines
 
--- what a session knows of its peer after some exchanges
-pub record Knows (s : Session) (host peer : List ℕ) (before : List Exchange) : Type 0 where
+-- what a session keeps after some exchanges
+pub record Keeps (s : Session) (host peer : List ℕ) (before : List Exchange) : Type 0 where
   pub host_is : s.host ≡ shown_host host
   pub peer_is : s.peer ≡ peer
   pub helo_is : s.helo ≡ helo_in before
-
--- what a session keeps after some exchanges
-pub record Keeps (s : Session) (host peer : List ℕ) (before : List Exchange) : Type 0 where
-  pub knows : Knows s host peer before
   pub sender_is : s.sender ≡ sender_in before
   pub recipient_is : s.recipient ≡ recipient_in before
   pub message_is : Holds s.message (lines_in before)
@@ -74,7 +88,7 @@ pub record Keeps (s : Session) (host peer : List ℕ) (before : List Exchange) :
 -- a line is answered after some exchanges, and the session keeps what it has then
 pub record Goes (s : Session) (host peer : List ℕ) (before : List Exchange) (line : Line) (did : Did) : Type 0 where
   pub did_is : did ≡ did_of (shown_host host) (answer_to peer before line)
-  pub keeps : Keeps s host peer (record { line = line; answer = answer_to peer before line } ∷ before)
+  pub keeps : Keeps s host peer (record { line = line; answer = Some (answer_to peer before line) } ∷ before)
 
 -- a message of no lines is under way, and the rest stays
 pub record BeginsMessage (old new : Session) : Type 0 where
@@ -85,14 +99,47 @@ pub record BeginsMessage (old new : Session) : Type 0 where
 abbrev pub takes_recipient : Option (List ℕ) → Option (List ℕ) → List ℕ → Bool
 takes_recipient sender recipient path = is_some sender && not (is_nothing path) && not (is_some recipient)
 
+-- whether a line is of data
+abbrev pub is_data : Line → Bool
+is_data (Command text) = false
+is_data TooLong = false
+is_data (DataLine text) = true
+is_data DataEnd = true
+
+-- what the end of data comes to after the lines of a message
+abbrev pub ending_of : Gathered → End
+ending_of g =
+    if is_too_large g.size then Refused MessageTooLarge
+    else if is_large_block g.block then Refused HeaderTooLarge
+    else Whole
+
+-- the same where a message may be under way
+abbrev pub end_of : Option (List ℕ) → Option (List ℕ) → Option Gathered → End
+end_of (Some sender) (Some recipient) (Some g) = ending_of g
+end_of _ _ _ = Nothing
+
+-- the message of the lines that are kept
+abbrev pub received_of : Gathered → List ℕ → List ℕ → Kept → Received
+received_of g sender recipient kept = record { sender = sender; recipient = recipient; headers = g.headers; body = g.body; size = g.size; kept = kept }
+
+-- what is done where a message is given
+abbrev pub given_by : Kept → Option (List ℕ) → Option (List ℕ) → Option Gathered → Did
+given_by kept (Some sender) (Some recipient) (Some g) = Message (received_of g sender recipient kept)
+given_by kept _ _ _ = Taken
+
 -- the answer to a line after those that were heard
 abbrev pub answer_of : List ℕ → List Heard → Line → Answer
-answer_of peer heard line = answer_to peer (exchanges peer (reverse heard)) line
+answer_of peer heard line = answer_to peer (exchanges peer heard) line
 
 -- a session stands for the lines that it has heard
 abbrev pub Stands : Session → List ℕ → List ℕ → List Heard → Type 0
-Stands s host peer heard = Keeps s host peer (exchanges peer (reverse heard))
+Stands s host peer heard = Keeps s host peer (exchanges peer heard)
 
--- a session that had no memory for a line knows its peer still
-abbrev pub Remembers : Session → List ℕ → List ℕ → List Heard → Type 0
-Remembers s host peer heard = Knows s host peer (exchanges peer (reverse heard))
+-- the bytes that are kept of a message are within its limits: those of its headers, each with two bytes for its end, and these with those of its body
+pub record IsSmall (g : Gathered) : Type 0 where
+  pub headers : size_of g.headers ≤ most_headers
+  pub all : size_of g.headers + length g.body ≤ most_message
+
+-- the same of a session, which may have a message under way
+abbrev pub IsBounded : Session → Type 0
+IsBounded s = IfSome s.message IsSmall

@@ -1,6 +1,6 @@
 ghost use Rattle.std.specs.Prelude.{◌≡◌, ◌++◌, IfOk};
 ghost use Rattle.mail_base.specs.Texts.{crlf};
-ghost use Rattle.smtp_receive.specs.Replies.{words_of, text_of, out_of_memory_text, too_many_sessions_text};
+ghost use Rattle.smtp_receive.specs.Replies.{words_of, text_of, grant_text, out_of_memory_text, too_many_sessions_text};
 
 use mail_base::{NoMemory, Text};
 use std::alloc::Global;
@@ -23,7 +23,6 @@ pub(crate) enum Reply {
     TooManyRecipients,
     SenderOk,
     RecipientOk,
-    EnterMail,
     MessageTooLarge,
     HeaderTooLarge,
 }
@@ -48,7 +47,6 @@ impl Reply {
             Reply::TooManyRecipients => b"452 4.5.3 Too many recipients",
             Reply::SenderOk => b"250 2.1.0 Sender ok",
             Reply::RecipientOk => b"250 2.1.5 Recipient ok",
-            Reply::EnterMail => b"354 Enter mail, end with \".\" on a line by itself",
             Reply::MessageTooLarge => b"552 5.3.4 Message too large",
             Reply::HeaderTooLarge => b"552 5.6.0 Header too large",
         }
@@ -60,6 +58,13 @@ impl Reply {
     {
         line_text(alloc, self.words())
     }
+}
+
+/// The reply to DATA that lines of a message follow, 354.
+pub(crate) fn grant(alloc: Global) -> Result<Text, NoMemory>
+    ensures { IfOk result (λ text. text ≡ grant_text) }
+{
+    line_text(alloc, b"354 Enter mail, end with \".\" on a line by itself")
 }
 
 /// The reply to a line for which there is no memory, 452. Asked for early, it can be kept until then.

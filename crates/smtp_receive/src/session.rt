@@ -1,20 +1,21 @@
-ghost use Rattle.std.specs.Prelude.{◌≡◌, ◌∷◌, ◌++◌, [], List, ℕ, Bool, Option, Some, None, true, false, is_some, take, IfOk, OnOk, OnErr, codes};
+ghost use Rattle.std.specs.Prelude.{◌≡◌, ◌∷◌, ◌++◌, [], List, ℕ, Bool, Option, Some, None, Ok, true, false, is_some, take, IfOk, IsOk, OnOk, OnErr, codes};
 ghost use Rattle.mail_base.specs.Texts.{crlf};
-ghost use Rattle.smtp_receive.specs.Dialogue.{Heard, Exchange, did_of, said_by, answer_to, bracketed, with_text, mail_reply, rcpt_reply, to_reply, data_reply, path_reply, fault_reply, message_answer};
+ghost use Rattle.smtp_receive.specs.Dialogue.{Heard, Exchange, did_of, answer_to, bracketed, with_text, is_dropped, exchanges, mail_reply, rcpt_reply, to_reply, data_answer, path_reply, fault_reply};
 ghost use Rattle.smtp_receive.specs.Replies.{text_of, hello_text, closing_text, greeting_text, stored_text, shown_host};
-ghost use Rattle.smtp_receive.specs.Sessions.{Stands, Remembers, Knows, Keeps, Goes, Gathers, Holds, BeginsMessage, answer_of, takes_recipient};
+ghost use Rattle.smtp_receive.specs.Sessions.{Stands, Keeps, Goes, Holds, BeginsMessage, IsBounded, answer_of, takes_recipient, is_data, end_of, given_by};
 
 use crate::command::{Command, LineFault, Verb, read_command};
-use crate::gathered::{Gathered, is_large_block, is_too_large};
-use crate::received::{Did, Received};
-use crate::reply::{Reply, host_text};
-use mail_base::{Id, Kept, Kind, MOST_DOMAIN, NoMemory, Seq, Text, TryCopy};
+use crate::gathered::{End, Gathered};
+use crate::received::Did;
+use crate::reply::{Reply, grant, host_text};
+use mail_base::{Id, Kept, Kind, MOST_DOMAIN, NoMemory, Text, TryCopy};
 use smtp_lines::Line;
 use std::alloc::Global;
 
 /// A session with a peer, which is given the lines of its stream in turn.
 ///
-/// It holds at most 16,777,216 bytes of a message under way. It keeps its allocator.
+/// Of a message under way it keeps at most 16,777,216 bytes, of which at most 65,536 are of headers, with the
+/// ends of their lines. It keeps its allocator.
 #[derive(Drop)]
 pub struct Session {
     /// As replies show it.
@@ -44,21 +45,24 @@ impl Session {
 
     /// The greeting, 220.
     pub fn greeting(&self) -> Result<Text, NoMemory>
-        ensures { (host peer : List ℕ) (heard : List Heard) → Remembers self.now host peer heard
+        ensures { (host peer : List ℕ) (heard : List Heard) → Stands self.now host peer heard
             → IfOk result (λ text. text ≡ greeting_text (shown_host host)) }
     {
         self.with_host(b"220 ", b" ESMTP ready")
     }
 
-    /// Answers a line of the session's stream. After `NoMemory` the caller replies 452 4.3.1 and
-    /// calls [`Session::reset`].
+    /// Answers a line of the session's stream. After `NoMemory` the session is as before; the caller replies
+    /// 452 4.3.1 and calls [`Session::reset`]. A line that gets no reply in any case takes no memory.
     pub fn line(&mut self, line: &Line) -> Result<Did, NoMemory>
         ensures did { (host peer : List ℕ) (heard : List Heard) → Stands self.old host peer heard
             → IfOk result (λ did. did ≡ did_of (shown_host host) (answer_of peer heard line.now)) }
         ensures stands { (host peer : List ℕ) (heard : List Heard) → Stands self.old host peer heard
             → IfOk result (λ _. Stands self.new host peer (heard ++ record { line = line.now; short = false } ∷ [])) }
-        ensures err { (host peer : List ℕ) (heard : List Heard) → Remembers self.old host peer heard
-            → OnErr result (Remembers self.new host peer heard) }
+        ensures silent { (host peer : List ℕ) (heard : List Heard) → Stands self.old host peer heard
+            → is_dropped (exchanges peer heard) line.now ≡ true → result ≡ Ok Did.Taken }
+        ensures bounded { (host peer : List ℕ) (heard : List Heard) → Stands self.old host peer heard
+            → IfOk result (λ _. IsBounded self.new) }
+        ensures err { OnErr result (self.new ≡ self.old) }
     {
         self.answer(line)
     }
@@ -77,11 +81,12 @@ impl Session {
     /// Ends the transaction, after 452 4.3.1 was replied to a line. It takes no memory. Of a message
     /// under way the rest gets no reply.
     pub fn reset(&mut self)
-        ensures stands { (host peer : List ℕ) (heard : List Heard) (line : Line) → Remembers self.old host peer heard
+        ensures stands { (host peer : List ℕ) (heard : List Heard) (line : Line) → Stands self.old host peer heard
+            → is_dropped (exchanges peer heard) line ≡ false
             → Stands self.new host peer (heard ++ record { line = line; short = true } ∷ []) }
         // The same after the end of data whose message was given, also where 452 4.3.1 was replied in place of its 250.
         ensures ended { (host peer : List ℕ) (heard : List Heard) (was is : Bool)
-            → Remembers self.old host peer (heard ++ record { line = Line.DataEnd; short = was } ∷ [])
+            → Stands self.old host peer (heard ++ record { line = Line.DataEnd; short = was } ∷ [])
             → Stands self.new host peer (heard ++ record { line = Line.DataEnd; short = is } ∷ []) }
         ensures reset { self.new ≡ record self.old { sender = None; recipient = None; message = None } }
     {
@@ -105,8 +110,8 @@ impl Session {
     fn answer(&mut self, line: &Line) -> Result<Did, NoMemory>
         ensures goes { (host peer : List ℕ) (before : List Exchange) → Keeps self.old host peer before
             → IfOk result (λ did. Goes self.new host peer before line.now did) }
-        ensures err { (host peer : List ℕ) (before : List Exchange) → Knows self.old host peer before
-            → OnErr result (Knows self.new host peer before) }
+        ensures silent { self.old.message ≡ None → is_data line.now ≡ true → result ≡ Ok Did.Taken }
+        ensures err { OnErr result (self.new ≡ self.old) }
     {
         match line {
             Line::Command(text) => self.command(text.bytes()),
@@ -119,8 +124,7 @@ impl Session {
     fn command(&mut self, line: &[u8]) -> Result<Did, NoMemory>
         ensures goes { (host peer : List ℕ) (before : List Exchange) → Keeps self.old host peer before
             → IfOk result (λ did. Goes self.new host peer before (Line.Command line.now) did) }
-        ensures err { (host peer : List ℕ) (before : List Exchange) → Knows self.old host peer before
-            → OnErr result (Knows self.new host peer before) }
+        ensures err { OnErr result (self.new ≡ self.old) }
     {
         match read_command(line) {
             Ok(Command::Helo(argument)) => self.helo(argument),
@@ -182,7 +186,7 @@ impl Session {
     }
 
     fn begin_data(&mut self) -> Result<Did, NoMemory>
-        ensures did { IfOk result (λ did. did ≡ said_by (data_reply (is_some self.old.recipient))) }
+        ensures did { IfOk result (λ did. did ≡ did_of self.old.host (data_answer (is_some self.old.recipient))) }
         ensures refused { IfOk result (λ _. is_some self.old.recipient ≡ false → self.new ≡ self.old) }
         ensures ok { IfOk result (λ _. is_some self.old.recipient ≡ true
             → BeginsMessage self.old self.new) }
@@ -191,7 +195,7 @@ impl Session {
         if self.recipient.is_none() {
             return self.say(Reply::NeedRcpt);
         }
-        let reply = Reply::EnterMail.text(self.host.allocator())?;
+        let reply = grant(self.host.allocator())?;
         self.message = Some(Gathered::new(self.host.allocator()));
         Ok(Did::Granted(reply))
     }
@@ -205,8 +209,8 @@ impl Session {
     fn data(&mut self, line: &[u8]) -> Result<Did, NoMemory>
         ensures goes { (host peer : List ℕ) (before : List Exchange) → Keeps self.old host peer before
             → IfOk result (λ did. Goes self.new host peer before (Line.Data line.now) did) }
-        ensures err { (host peer : List ℕ) (before : List Exchange) → Knows self.old host peer before
-            → OnErr result (Knows self.new host peer before) }
+        ensures silent { self.old.message ≡ None → result ≡ Ok Did.Taken }
+        ensures err { OnErr result (self.new ≡ self.old) }
     {
         add_line(&mut self.message, line)?;
         Ok(Did::Taken)
@@ -215,49 +219,49 @@ impl Session {
     fn data_end(&mut self) -> Result<Did, NoMemory>
         ensures goes { (host peer : List ℕ) (before : List Exchange) → Keeps self.old host peer before
             → IfOk result (λ did. Goes self.new host peer before (Line.DataEnd) did) }
-        ensures err { (host peer : List ℕ) (before : List Exchange) → Knows self.old host peer before
-            → OnErr result (Knows self.new host peer before) }
+        ensures silent { self.old.message ≡ None → result ≡ Ok Did.Taken }
+        ensures err { OnErr result (self.new ≡ self.old) }
     {
-        let kept = self.kept()?;
+        match self.ending() {
+            End::Nothing => {
+                self.reset();
+                Ok(Did::Taken)
+            }
+            End::Refused(reply) => {
+                let did = self.say(reply)?;
+                self.reset();
+                Ok(did)
+            }
+            End::Whole => {
+                let kept = self.kept()?;
+                Ok(self.give(kept))
+            }
+        }
+    }
+
+    fn ending(&self) -> End
+        ensures { result ≡ end_of self.now.sender self.now.recipient self.now.message }
+    {
+        match (&self.sender, &self.recipient, &self.message) {
+            (Some(_), Some(_), Some(message)) => message.ending(),
+            _ => End::Nothing,
+        }
+    }
+
+    // Gives the message under way, which ends the transaction.
+    fn give(&mut self, kept: Kept) -> Did
+        ensures did { result ≡ given_by kept self.old.sender self.old.recipient self.old.message }
+        ensures reset { self.new ≡ record self.old { sender = None; recipient = None; message = None } }
+    {
         let sender = self.sender.take();
         let recipient = self.recipient.take();
         let message = self.message.take();
-        let Some(sender) = sender else {
-            return Ok(Did::Taken);
-        };
-        let Some(recipient) = recipient else {
-            return Ok(Did::Taken);
-        };
-        let Some(message) = message else {
-            return Ok(Did::Taken);
-        };
-        self.received(sender, recipient, message, kept)
-    }
-
-    fn received(
-        &self,
-        sender: Text,
-        recipient: Text,
-        message: Gathered,
-        kept: Kept,
-    ) -> Result<Did, NoMemory>
-        ensures { (lines : List (List ℕ)) → Gathers message lines
-            → IfOk result (λ did. did ≡ did_of self.now.host (message_answer kept sender recipient lines)) }
-    {
-        if is_too_large(message.size) {
-            return self.say(Reply::MessageTooLarge);
+        match (sender, recipient, message) {
+            (Some(sender), Some(recipient), Some(message)) => {
+                Did::Message(message.received(sender, recipient, kept))
+            }
+            _ => Did::Taken,
         }
-        if is_large_block(message.block) {
-            return self.say(Reply::HeaderTooLarge);
-        }
-        Ok(Did::Message(Received {
-            sender,
-            recipient,
-            headers: Seq::from_vec(message.headers),
-            body: message.body,
-            size: message.size,
-            kept,
-        }))
     }
 
     fn kept(&self) -> Result<Kept, NoMemory>
@@ -326,8 +330,10 @@ fn path_reply(verb: Verb, given: bool, reply: Reply) -> Reply
 }
 
 fn add_line(message: &mut Option<Gathered>, line: &[u8]) -> Result<(), NoMemory>
-    ensures { OnOk result ((lines : Option (List (List ℕ))) → Holds message.old lines
+    ensures ok { OnOk result ((lines : Option (List (List ℕ))) → Holds message.old lines
         → Holds message.new (with_text (Line.Data line.now) lines)) }
+    ensures silent { message.old ≡ None → IsOk result }
+    ensures err { OnErr result (message.new ≡ message.old) }
 {
     match message {
         Some(gathered) => gathered.add(line),

@@ -4,4 +4,4 @@ use Rattle.smtp_receive.proofs.gathered.Gathered.new.Goals as goal
 
 pub returns : goal.returns
 returns c =
-    gathers_none _ refl refl c.new.ensures.items refl c.new-2.ensures refl
+    gathers_none _ refl refl c.new.ensures refl c.new-2.ensures refl

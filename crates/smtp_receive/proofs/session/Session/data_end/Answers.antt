@@ -1,17 +1,20 @@
-use Rattle.std.proofs.Common.{refl, sym, ◌∙◌}
-use Rattle.smtp_receive.specs.declared.session.Session.{Session}
-use Rattle.smtp_receive.proofs.KeepLemmas.{end_goes, cleared}
+use Rattle.std.proofs.Common.{refl, sym}
+use Rattle.smtp_receive.proofs.KeepLemmas.{end_nothing, end_refused, end_whole}
 use Rattle.smtp_receive.proofs.session.Session.data_end.Goals as goal
 
-pub returns-clause-goes : goal.returns-clause-goes
-returns-clause-goes c =
+pub returns-in-Nothing-clause-goes : goal.returns-in-Nothing-clause-goes
+returns-in-Nothing-clause-goes c =
+    λ host peer before k. end_nothing c.args.self.now c.reset.new.self host peer before k c.reset.ensures.reset (sym c.in-Nothing.ensures)
+
+pub returns-in-Nothing-clause-silent : goal.returns-in-Nothing-clause-silent
+returns-in-Nothing-clause-silent c = λ none. refl
+
+pub returns-in_ok-did-in-Refused-clause-goes : goal.returns-in_ok-did-in-Refused-clause-goes
+returns-in_ok-did-in-Refused-clause-goes c =
     λ host peer before k.
-    let s : Session = c.args.self.now in
-    let sender = c.take-sender.new.self in
-    let recipient = c.take-recipient.new.self in
-    let message = c.take-message.new.self in
-    end_goes c.received.result s (record s { sender = sender; recipient = recipient; message = message }) host peer before
-    c.in-Some.sender c.in-Some-recipient.recipient c.in-Some-message.message c.in_ok-kept.kept s.host k
-    (cleared s sender recipient message c.take-sender.ensures.after c.take-recipient.ensures.after c.take-message.ensures.after)
-    (sym c.take-sender.ensures.value ∙ c.in-Some.is) (sym c.take-recipient.ensures.value ∙ c.in-Some-recipient.is) (sym c.take-message.ensures.value ∙ c.in-Some-message.is)
-    c.in_ok-kept.ensures refl c.received.ensures
+    end_refused c.args.self.now c.reset-in-Refused.new.self host peer before c.in-Refused.reply c.in_ok-did-in-Refused.did k c.reset-in-Refused.ensures.reset (sym c.in-Refused.ensures) c.in_ok-did-in-Refused.ensures
+
+pub returns-in_ok-kept-in-Whole-clause-goes : goal.returns-in_ok-kept-in-Whole-clause-goes
+returns-in_ok-kept-in-Whole-clause-goes c =
+    λ host peer before k.
+    end_whole c.args.self.now c.give.new.self host peer before c.in_ok-kept-in-Whole.kept c.give.result k c.give.ensures.reset (sym c.in-Whole.ensures) c.in_ok-kept-in-Whole.ensures c.give.ensures.did
