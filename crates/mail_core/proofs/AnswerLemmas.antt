@@ -1,17 +1,15 @@
 -- What a session says to a line, as the dialogue has it.
-use Rattle.std.proofs.Common.{◌≡◌, ℕ, List, [], ◌∷◌, ◌++◌, Bool, true, false, refl, sym, ◌∙◌, ap}
+use Rattle.std.proofs.Common.{◌≡◌, ℕ, List, [], ◌∷◌, ◌++◌, Bool, true, false, Option, Some, refl, sym, ◌∙◌, ap}
 use Rattle.std.specs.List.{flat_map}
-use Rattle.std.specs.Prelude.{if◌then◌else◌, reverse}
+use Rattle.std.specs.Prelude.{reverse}
 use Rattle.std.proofs.lemmas.List.{append-nil, map-append, reverse-reverse}
 use Rattle.std.proofs.lemmas.Grind.{flat_map-append}
 use Rattle.smtp_lines.specs.declared.line.Line.{Line}
 use Rattle.smtp_receive.specs.declared.received.Received.{Received}
 use Rattle.smtp_receive.specs.declared.received.Did.TheVariants.{Reply as Replied, Granted, Message, Taken, Bye}
-use Rattle.smtp_receive.specs.Dialogue.{Heard, Exchange, Answer, Says, Greets, Closes, Gives, Takes, Lacks, is_grant, did_of, exchanges, exchange_of, dialogue}
-use Rattle.smtp_receive.specs.Replies.{text_of, shown_host}
-use Rattle.smtp_receive.specs.Sessions.{answer_of}
+use Rattle.smtp_receive.specs.Dialogue.{Heard, Exchange, Answer, Says, Greets, Grants, Closes, Gives, Takes, is_grant, did_of, answer_heard, exchanges, exchange_of, dialogue}
+use Rattle.smtp_receive.specs.Replies.{text_of, grant_text, shown_host}
 use Rattle.smtp_receive.proofs.KeepLemmas.{dialogue_more}
-use Rattle.smtp_receive.proofs.ToldLemmas.{said_text, said_grant, no_bye, no_taken, no_message}
 use Rattle.mail_core.specs.declared.serving.Site.{Site}
 use Rattle.mail_core.specs.Guests.{Guest, grant_in, grants_of, with_line}
 use Rattle.mail_core.specs.Machine.{Did, says, closes, replies}
@@ -22,62 +20,62 @@ use Rattle.mail_core.specs.Standing.{line_in, lines_heard}
 -- what a reply in words comes to
 pub record IsReply (site : Site) (moment : ℕ) (answer : Answer) (text : List ℕ) (grant : Bool) : Type 0 where
   pub says_it : (d : Did) (whole : Bool) → replies site moment d answer whole ≡ says d text whole
-  pub grant_is : is_grant answer ≡ grant
+  pub grant_is : is_grant (Some answer) ≡ grant
 
 -- the same words
 abbrev same_words : (d : Did) (one other : List ℕ) (whole : Bool) → one ≡ other → says d other whole ≡ says d one whole
 same_words d one other whole e = ap (λ t. says d t whole) (sym e)
 
 pub reply_is : (site : Site) (moment : ℕ) (answer : Answer) (text : List ℕ) → Replied text ≡ did_of (shown_host site.host) answer → IsReply site moment answer text false
-reply_is site moment (Says reply) text e = let t = said_text reply text e in record { says_it = λ d whole. same_words d text (text_of reply) whole t.0; grant_is = t.1 }
+reply_is site moment (Says reply) text e = record { says_it = λ d whole. same_words d text (text_of reply) whole (cc e); grant_is = refl }
 reply_is site moment Greets text e = record { says_it = λ d whole. same_words d text _ whole (cc e); grant_is = refl }
+reply_is site moment Grants text e = absurd (cc e)
 reply_is site moment Closes text e = absurd (cc e)
 reply_is site moment (Gives message) text e = absurd (cc e)
 reply_is site moment Takes text e = absurd (cc e)
-reply_is site moment Lacks text e = absurd (cc e)
 
 pub grant_is : (site : Site) (moment : ℕ) (answer : Answer) (text : List ℕ) → Granted text ≡ did_of (shown_host site.host) answer → IsReply site moment answer text true
-grant_is site moment (Says reply) text e = let t = said_grant reply text e in record { says_it = λ d whole. same_words d text (text_of reply) whole t.0; grant_is = t.1 }
+grant_is site moment (Says reply) text e = absurd (cc e)
 grant_is site moment Greets text e = absurd (cc e)
+grant_is site moment Grants text e = record { says_it = λ d whole. same_words d text grant_text whole (cc e); grant_is = refl }
 grant_is site moment Closes text e = absurd (cc e)
 grant_is site moment (Gives message) text e = absurd (cc e)
 grant_is site moment Takes text e = absurd (cc e)
-grant_is site moment Lacks text e = absurd (cc e)
 
 pub bye_is : (site : Site) (moment : ℕ) (answer : Answer) (text : List ℕ) → Bye text ≡ did_of (shown_host site.host) answer → (d : Did) (whole : Bool) → replies site moment d answer whole ≡ closes d text whole
-bye_is site moment (Says reply) text e = absurd (no_bye reply text e)
+bye_is site moment (Says reply) text e = absurd (cc e)
 bye_is site moment Greets text e = absurd (cc e)
+bye_is site moment Grants text e = absurd (cc e)
 bye_is site moment Closes text e = λ d whole. let same : text ≡ _ = cc e in ap (λ t. closes d t whole) (sym same)
 bye_is site moment (Gives message) text e = absurd (cc e)
 bye_is site moment Takes text e = absurd (cc e)
-bye_is site moment Lacks text e = absurd (cc e)
 
 -- nothing is said
 pub record IsSilent (site : Site) (moment : ℕ) (answer : Answer) : Type 0 where
   pub says_none : (d : Did) (whole : Bool) → replies site moment d answer whole ≡ d
-  pub grant_is : is_grant answer ≡ false
+  pub grant_is : is_grant (Some answer) ≡ false
 
 pub taken_is : (site : Site) (moment : ℕ) (answer : Answer) → Taken ≡ did_of (shown_host site.host) answer → IsSilent site moment answer
-taken_is site moment (Says reply) e = absurd (no_taken reply e)
+taken_is site moment (Says reply) e = absurd (cc e)
 taken_is site moment Greets e = absurd (cc e)
+taken_is site moment Grants e = absurd (cc e)
 taken_is site moment Closes e = absurd (cc e)
 taken_is site moment (Gives message) e = absurd (cc e)
 taken_is site moment Takes e = record { says_none = λ d whole. refl; grant_is = refl }
-taken_is site moment Lacks e = record { says_none = λ d whole. refl; grant_is = refl }
 
 pub message_is : (host : List ℕ) (answer : Answer) (message : Received) → Message message ≡ did_of host answer → answer ≡ Gives message
-message_is host (Says reply) message e = absurd (no_message reply message e)
+message_is host (Says reply) message e = absurd (cc e)
 message_is host Greets message e = absurd (cc e)
+message_is host Grants message e = absurd (cc e)
 message_is host Closes message e = absurd (cc e)
 message_is host (Gives other) message e = cc e
 message_is host Takes message e = absurd (cc e)
-message_is host Lacks message e = absurd (cc e)
 
 -- ---- one line more
 
--- the answer that stands in the dialogue
-abbrev pub answer_kept : Guest → Line → Bool → Answer
-answer_kept g line short = if short then Lacks else answer_of g.peer g.heard line
+-- the answer that stands in the dialogue, if one does
+abbrev pub answer_kept : Guest → Line → Bool → Option Answer
+answer_kept g line short = answer_heard g.peer (exchanges g.peer g.heard) (record { line = line; short = short })
 
 pub lines_more : (g : Guest) (line : Line) (short : Bool) → lines_heard (with_line g line short) ≡ lines_heard g ++ line ∷ []
 lines_more g line short = map-append line_in g.heard (record { line = line; short = short } ∷ [])
@@ -86,7 +84,7 @@ pub grants_more : (g : Guest) (line : Line) (short : Bool) → grants_of (with_l
 grants_more g line short =
     let h : Heard = record { line = line; short = short } in
     let e : Exchange = record { line = line; answer = answer_kept g line short } in
-    let es : List Exchange = exchanges g.peer (reverse g.heard) in
+    let es : List Exchange = exchanges g.peer g.heard in
     ap (λ q. flat_map grant_in q) (dialogue_more g.peer g.heard h)
     ∙ flat_map-append grant_in (dialogue g.peer g.heard) (exchange_of g.peer (reverse (dialogue g.peer g.heard)) h ∷ [])
     ∙ ap (λ b. grants_of g ++ (grant_in (exchange_of g.peer b h) ++ [])) (reverse-reverse es)

@@ -1,6 +1,7 @@
 -- A line is answered.
-use Rattle.std.proofs.Common.{◌≡◌, ℕ, List, [], ◌∷◌, ◌++◌, Bool, true, false, Some, None, refl, sym, ◌∙◌, ap, subst}
+use Rattle.std.proofs.Common.{◌≡◌, ℕ, List, [], ◌∷◌, ◌++◌, Bool, true, false, Some, None, Ok, Err, refl, sym, ◌∙◌, ap, subst}
 use Rattle.std.specs.Prelude.{◌≢◌, if◌then◌else◌}
+use Rattle.std.proofs.lemmas.Bool.{cond-false}
 use Rattle.mail_base.specs.Histories.{Gains}
 use Rattle.mail_edge.specs.Seen.{ClockSeen}
 use Rattle.link_edge.specs.Heard.{Heard as FloorHeard}
@@ -8,10 +9,11 @@ use Rattle.smtp_lines.specs.declared.line.Line.{Line}
 use Rattle.smtp_lines.specs.declared.line.Line.TheVariants.{DataEnd}
 use Rattle.smtp_lines.specs.Stream.{asks}
 use Rattle.smtp_receive.specs.declared.received.Received.{Received}
-use Rattle.smtp_receive.specs.Dialogue.{Answer, Says, Greets, Closes, Gives, Takes, Lacks, is_grant}
+use Rattle.smtp_receive.specs.Dialogue.{Answer, Says, Greets, Grants, Closes, Gives, Takes, exchanges, is_grant}
 use Rattle.smtp_receive.specs.Replies.{out_of_memory_text}
 use Rattle.smtp_receive.specs.Sessions.{answer_of, Stands as Speaks}
-use Rattle.smtp_receive.proofs.KeepLemmas.{stands_remembers}
+use Rattle.smtp_receive.proofs.KeepLemmas.{lacking}
+use Rattle.smtp_receive.proofs.ToldLemmas.{gift_kept}
 use Rattle.spool_disk.specs.Spooled.{Spooled}
 use Rattle.mail_core.specs.declared.caller.Caller.{Caller}
 use Rattle.mail_core.specs.declared.fed.Fed.{Fed}
@@ -20,8 +22,8 @@ use Rattle.mail_core.specs.declared.intake.Intake.{Intake}
 use Rattle.mail_core.specs.declared.serving.Site.{Site}
 use Rattle.mail_core.specs.Acts.{Sends, HangsUp, heard_of, speech}
 use Rattle.mail_core.specs.Going.{Does, Hears, AnswersLine, AnswersMessage, IsAnswered, message_by, is_onward, is_alive, is_granted, is_short}
-use Rattle.mail_core.specs.Guests.{grants_of, with_line}
-use Rattle.mail_core.specs.Machine.{Choice, Plain, Short, Drops, Fails, GoesOn, Did, says, closes, lacks, fails, replies, by_choice, heard_line, fresh_start}
+use Rattle.mail_core.specs.Guests.{grants_of, is_passed, with_line}
+use Rattle.mail_core.specs.Machine.{Choice, Plain, Short, Drops, Fails, GoesOn, Cut, Did, is_over, says, closes, lacks, fails, replies, by_choice, heard_line, fresh_start}
 use Rattle.mail_core.specs.Seen.{Seen, seen}
 use Rattle.mail_core.specs.Standing.{Serves, Talks, IsReady, lines_heard}
 use Rattle.mail_core.proofs.AnswerLemmas.{IsReply, IsSilent, answer_kept, lines_more, grants_more}
@@ -39,10 +41,20 @@ onward_alive Spent on = on
 lacks_says : (site : Site) (moment : ℕ) (d : Did) (answer : Answer) (whole : Bool) → lacks site moment d answer false whole ≡ says d out_of_memory_text whole
 lacks_says site moment d (Says reply) whole = refl
 lacks_says site moment d Greets whole = refl
+lacks_says site moment d Grants whole = refl
 lacks_says site moment d Closes whole = refl
 lacks_says site moment d (Gives message) whole = refl
 lacks_says site moment d Takes whole = refl
-lacks_says site moment d Lacks whole = refl
+
+-- 452 4.3.1 to a line that isn't dropped
+short_is : (site : Site) (moment : ℕ) (d : Did) (line : Line) (accepted whole : Bool) → is_passed d.guest line ≡ false
+    → by_choice site moment d (Short accepted whole) (Some line) ≡ heard_line (lacks site moment d (answer_of d.guest.peer d.guest.heard line) accepted whole) line true
+short_is site moment d line accepted whole kept = cond-false (is_passed d.guest line) (is_over d Cut) _ kept
+
+-- a line for which memory was wanting isn't dropped
+pub not_passed : {T E : Type 0} (passed : Bool) (told : T) (fault : E) → (passed ≡ true → Err fault ≡ Ok told) → passed ≡ false
+not_passed true told fault silent = absurd (cc (silent refl))
+not_passed false told fault silent = refl
 
 module _ (site : Site) (moment : ℕ) (d : Did) (line : Line) (intake : Intake) (caller : Caller) where
   -- the answer to the line
@@ -85,16 +97,17 @@ module _ (site : Site) (moment : ℕ) (d : Did) (line : Line) (intake : Intake) 
     }
 
     -- 452 4.3.1 was said
-    pub line_lacked : (fed : Fed) → IsSpoken fed → (is_onward fed ≡ true → is_granted fed ≡ false)
+    pub line_lacked : (fed : Fed) → is_passed d.guest line ≡ false → IsSpoken fed → (is_onward fed ≡ true → is_granted fed ≡ false)
         → Gains f.told g.told (heard_of (speech d.guest.number out_of_memory_text (is_onward fed))) → g.faults ≡ f.faults → Serves site intake d.table → Talks site caller (with_line d.guest line true)
         → AnswersLine site moment d line (seen f s k) (seen g s k) intake caller fed
-    line_lacked fed spoken grants told own serves talks =
+    line_lacked fed kept spoken grants told own serves talks =
         let whole = is_onward fed in
-        let is = lacks_says site moment d answer whole in record {
+        let is = short_is site moment d line false whole kept ∙ ap (λ x. heard_line x line true) (lacks_says site moment d answer whole) in record {
           choice = Short false whole;
-          does = subst (λ x. Does site d (heard_line x line true) (seen f s k) (seen g s k) fed) (sym is) (does_heard site d (says d out_of_memory_text whole) (seen f s k) (seen g s k) fed line true (does_says site d f g s k out_of_memory_text fed spoken told own));
-          alive = λ live. subst (λ x. Serves site intake (heard_line x line true).table) (sym is) serves;
-          hears = λ on. subst (λ x. Hears site d (heard_line x line true) (line ∷ []) intake caller fed) (sym is) (hears_line true (says d out_of_memory_text whole) fed refl (sym (grants on)) serves talks);
+          does = subst (λ x. Does site d x (seen f s k) (seen g s k) fed) (sym is) (does_heard site d (says d out_of_memory_text whole) (seen f s k) (seen g s k) fed line true (does_says site d f g s k out_of_memory_text fed spoken told own));
+          alive = λ live. subst (λ x. Serves site intake x.table) (sym is) serves;
+          hears = λ on. subst (λ x. Hears site d x (line ∷ []) intake caller fed) (sym is)
+              (hears_line true (says d out_of_memory_text whole) fed refl (ap is_grant (lacking d.guest.peer (exchanges d.guest.peer d.guest.heard) line kept) ∙ sym (grants on)) serves talks);
         }
 
   -- nothing is said to a line of data
@@ -111,21 +124,22 @@ module _ (site : Site) (moment : ℕ) (d : Did) (line : Line) (intake : Intake) 
 -- ---- a line that ends a message
 
 module _ (site : Site) (moment : ℕ) (d : Did) (line : Line) (message : Received) where
-  chosen_by : (given : Answer) → given ≡ Gives message → (choice : Choice) → choice ≢ Drops → answer_of d.guest.peer d.guest.heard line ≡ given
+  chosen_by : (given : Answer) → given ≡ Gives message → (choice : Choice) → choice ≢ Drops → is_passed d.guest line ≡ false → answer_of d.guest.peer d.guest.heard line ≡ given
       → by_choice site moment d choice (Some line) ≡ heard_line (message_by site moment d message choice) line (is_short choice)
-  chosen_by given gives (Plain whole) apart is = ap (λ a. heard_line (replies site moment d a whole) line false) (is ∙ gives)
-  chosen_by given gives (Short accepted whole) apart is = ap (λ a. heard_line (lacks site moment d a accepted whole) line true) (is ∙ gives)
-  chosen_by given gives Drops apart is = absurd (apart refl)
-  chosen_by given gives Fails apart is = ap (λ a. heard_line (fails site moment d a) line false) (is ∙ gives)
+  chosen_by given gives (Plain whole) apart kept is = ap (λ a. heard_line (replies site moment d a whole) line false) (is ∙ gives)
+  chosen_by given gives (Short accepted whole) apart kept is = short_is site moment d line accepted whole kept ∙ ap (λ a. heard_line (lacks site moment d a accepted whole) line true) (is ∙ gives)
+  chosen_by given gives Drops apart kept is = absurd (apart refl)
+  chosen_by given gives Fails apart kept is = ap (λ a. heard_line (fails site moment d a) line false) (is ∙ gives)
 
   chosen : answer_of d.guest.peer d.guest.heard line ≡ Gives message → (choice : Choice) → choice ≢ Drops
       → by_choice site moment d choice (Some line) ≡ heard_line (message_by site moment d message choice) line (is_short choice)
-  chosen gives choice apart = chosen_by (Gives message) refl choice apart gives
+  chosen gives choice apart = chosen_by (Gives message) refl choice apart (gift_kept d.guest.peer (exchanges d.guest.peer d.guest.heard) line message gives) gives
 
   -- what was done with the message is no grant
   no_grant : (short : Bool) → answer_of d.guest.peer d.guest.heard line ≡ Gives message → is_grant (answer_kept d.guest line short) ≡ false
-  no_grant true gives = refl
-  no_grant false gives = ap is_grant gives
+  no_grant true gives =
+      let es = exchanges d.guest.peer d.guest.heard in ap is_grant (lacking d.guest.peer es line (gift_kept d.guest.peer es line message gives))
+  no_grant false gives = ap (λ a. is_grant (Some a)) gives
 
   -- the caller goes on with its session as it is, or reset
   talks_on : (short : Bool) (old new : Caller) → line ≡ DataEnd → Talks site old (with_line d.guest line false) → new.number ≡ old.number → IsAnswered short old new → Talks site new (with_line d.guest line short)
@@ -134,8 +148,7 @@ module _ (site : Site) (moment : ℕ) (d : Did) (line : Line) (message : Receive
     number = number ∙ talks.number;
     session = subst (λ l. Speaks new.session site.host d.guest.peer (d.guest.heard ++ record { line = l; short = true } ∷ [])) (sym ends)
         (reset site.host d.guest.peer d.guest.heard false true
-        (stands_remembers old.session site.host d.guest.peer (d.guest.heard ++ record { line = DataEnd; short = false } ∷ [])
-        (subst (λ l. Speaks old.session site.host d.guest.peer (d.guest.heard ++ record { line = l; short = false } ∷ [])) ends talks.session)));
+        (subst (λ l. Speaks old.session site.host d.guest.peer (d.guest.heard ++ record { line = l; short = false } ∷ [])) ends talks.session));
     peer = talks.peer;
   }
 

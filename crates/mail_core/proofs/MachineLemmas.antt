@@ -9,20 +9,17 @@ use Rattle.link_edge.specs.declared.event.Event.{Event}
 use Rattle.link_edge.specs.declared.event.Event.TheVariants.{Opens, Brings, Closes, Rests, Stops}
 use Rattle.smtp_lines.specs.declared.line.Line.{Line}
 use Rattle.smtp_receive.specs.declared.received.Received.{Received}
-use Rattle.smtp_receive.specs.declared.received.Did.{Did as Replied}
-use Rattle.smtp_receive.specs.declared.received.Did.TheVariants.{Reply, Granted, Message, Taken, Bye}
-use Rattle.smtp_receive.specs.Dialogue.{Answer, Says, Greets, Closes as Ends, Gives, Takes as Passes, Lacks, did_of}
-use Rattle.smtp_receive.specs.Finals.{IsFinal, text_told}
-use Rattle.smtp_receive.specs.Replies.{text_of, hello_text, closing_text, greeting_text, stored_text, shown_host, out_of_memory_text, too_many_sessions_text}
+use Rattle.smtp_receive.specs.Dialogue.{Answer, Says, Greets, Grants, Closes as Ends, Gives, Takes as Passes}
+use Rattle.smtp_receive.specs.Finals.{IsFinal}
+use Rattle.smtp_receive.specs.Replies.{text_of, grant_text, hello_text, closing_text, greeting_text, stored_text, shown_host, out_of_memory_text, too_many_sessions_text}
 use Rattle.smtp_receive.specs.Sessions.{answer_of}
-use Rattle.smtp_receive.proofs.ToldLemmas.{said_text, said_grant, no_bye, no_taken, no_message}
-use Rattle.smtp_receive.proofs.FinalLemmas.{told_final, hello_final, closing_final, greeting_final, memory_final, sessions_final, same_id}
+use Rattle.smtp_receive.proofs.FinalLemmas.{reply_final, grant_final, hello_final, closing_final, greeting_final, memory_final, sessions_final, same_id}
 use Rattle.spool_store.specs.Tables.{Stored, Table, Command, stored, after, applied}
 use Rattle.spool_store.specs.Tables.Command.{Accept}
 use Rattle.mail_core.specs.declared.serving.Ending.TheVariants.{SpoolFault, IdsSpent}
 use Rattle.mail_core.specs.declared.serving.Site.{Site}
 use Rattle.mail_core.specs.Acts.{Act, Takes, Commits, Sends, HangsUp, speech}
-use Rattle.mail_core.specs.Guests.{Guest, guest_of, is_here, next_line, with_bytes}
+use Rattle.mail_core.specs.Guests.{Guest, is_passed, guest_of, is_here, next_line, with_bytes}
 use Rattle.mail_core.specs.Machine.{Choice, Plain, Short, Drops, Fails, Way, GoesOn, Leaves, Over, Finish, By, Cut, Did, way_of, does, says, closes, is_over, commits, accepts, replies, lacks, fails, heard_line, by_choice, goes_on, answered, settled_by, settled, fresh_start, all_answered, State, Step, still, most_guests, turned_away, welcomed, opened, brought, pieced, handled, Turn, at_moment, taken, stepped, followed, run}
 use Rattle.mail_core.specs.Messages.{accept_of, draft_of, is_spent, last_id}
 use Rattle.mail_core.specs.Runs.{HasEntry, IsAcked, AreAcked}
@@ -106,27 +103,6 @@ entry_stays id table (Accept draft body ∷ commands) h = entry_stays id (after 
 -- a text that isn't final asks for no entry
 unlike_final : (table : Table) (session : ℕ) (text : List ℕ) (whole : Bool) → (IsFinal text → ⊥) → IsAcked table (Sends session text whole)
 unlike_final table session text whole not_final = λ id within is. absurd (not_final (id, is))
-
--- the words of a reply aren't final
-abbrev AreWords : Answer → Type 0
-AreWords (Says reply) = IsFinal (text_of reply) → ⊥
-AreWords Greets = Unit {0}
-AreWords Ends = Unit {0}
-AreWords (Gives message) = Unit {0}
-AreWords Passes = Unit {0}
-AreWords Lacks = Unit {0}
-
-words : (did : Replied) (answer : Answer) → did ≡ did_of [] answer → AreWords answer
-words (Reply text) (Says reply) e = let t = said_text reply text e in told_final [] (Says reply) (text_of reply) (ap text_told (sym e) ∙ ap (λ q. Some q) t.0)
-words (Granted text) (Says reply) e = let t = said_grant reply text e in told_final [] (Says reply) (text_of reply) (ap text_told (sym e) ∙ ap (λ q. Some q) t.0)
-words (Message message) (Says reply) e = absurd (no_message reply message e)
-words Taken (Says reply) e = absurd (no_taken reply e)
-words (Bye text) (Says reply) e = absurd (no_bye reply text e)
-words did Greets e = tt
-words did Ends e = tt
-words did (Gives message) e = tt
-words did Passes e = tt
-words did Lacks e = tt
 
 unspent : (table : Table) → is_spent table ≡ false → IsId table.next
 unfolding last_id
@@ -212,12 +188,12 @@ lacking_grows site moment d message whole = accepts_by site moment d message out
     (λ left w. unlike_final (after d.table (accept_of site moment message)) d.guest.number out_of_memory_text w memory_final)
 
 replies_grows : (site : Site) (moment : ℕ) (d : Did) (answer : Answer) (whole : Bool) → Grows site d (replies site moment d answer whole)
-replies_grows site moment d (Says reply) whole = tells_grows site d (text_of reply) whole (words (did_of [] (Says reply)) (Says reply) refl)
+replies_grows site moment d (Says reply) whole = tells_grows site d (text_of reply) whole (reply_final reply)
 replies_grows site moment d Greets whole = tells_grows site d (hello_text (shown_host site.host)) whole (hello_final (shown_host site.host))
+replies_grows site moment d Grants whole = tells_grows site d grant_text whole grant_final
 replies_grows site moment d Ends whole = closes_grows site d (closing_text (shown_host site.host)) whole (closing_final (shown_host site.host))
 replies_grows site moment d (Gives message) whole = stores_grows site moment d message whole
 replies_grows site moment d Passes whole = grows_none site d
-replies_grows site moment d Lacks whole = grows_none site d
 
 lack_grows : (site : Site) (d : Did) (whole : Bool) → Grows site d (says d out_of_memory_text whole)
 lack_grows site d whole = tells_grows site d out_of_memory_text whole memory_final
@@ -227,9 +203,9 @@ lacks_grows site moment d (Gives message) true whole = lacking_grows site moment
 lacks_grows site moment d (Gives message) false whole = lack_grows site d whole
 lacks_grows site moment d (Says reply) accepted whole = lack_grows site d whole
 lacks_grows site moment d Greets accepted whole = lack_grows site d whole
+lacks_grows site moment d Grants accepted whole = lack_grows site d whole
 lacks_grows site moment d Ends accepted whole = lack_grows site d whole
 lacks_grows site moment d Passes accepted whole = lack_grows site d whole
-lacks_grows site moment d Lacks accepted whole = lack_grows site d whole
 
 failing_grows : (site : Site) (moment : ℕ) (d : Did) (message : Received) (spent : Bool) → Grows site d (if spent then is_over d (By IdsSpent) else is_over (commits site moment d message) (By SpoolFault))
 failing_grows site moment d message true = over_grows site d (By IdsSpent)
@@ -241,9 +217,9 @@ fails_grows : (site : Site) (moment : ℕ) (d : Did) (answer : Answer) → Grows
 fails_grows site moment d (Gives message) = failing_grows site moment d message (is_spent d.table)
 fails_grows site moment d (Says reply) = over_grows site d Cut
 fails_grows site moment d Greets = over_grows site d Cut
+fails_grows site moment d Grants = over_grows site d Cut
 fails_grows site moment d Ends = over_grows site d Cut
 fails_grows site moment d Passes = over_grows site d Cut
-fails_grows site moment d Lacks = over_grows site d Cut
 
 line_grows : (site : Site) (d e : Did) (line : Line) (short : Bool) → Grows site d e → Grows site d (heard_line e line short)
 line_grows site d e line short h = record { more = h.more; acts = h.acts; leads = h.leads; number = h.number }
@@ -252,13 +228,19 @@ drop_grows : (site : Site) (d : Did) (fresh : Bool) → Grows site d (if fresh t
 drop_grows site d true = drops_grows site d
 drop_grows site d false = over_grows site d Cut
 
+-- 452 4.3.1 to a line, but where it is dropped
+short_grows : (site : Site) (d e : Did) (passed : Bool) → Grows site d e → Grows site d (if passed then is_over d Cut else e)
+short_grows site d e true h = over_grows site d Cut
+short_grows site d e false h = h
+
 choice_grows : (site : Site) (moment : ℕ) (d : Did) (choice : Choice) (line : Option Line) → Grows site d (by_choice site moment d choice line)
 choice_grows site moment d (Plain whole) (Some line) =
     let answer = answer_of d.guest.peer d.guest.heard line in
     line_grows site d (replies site moment d answer whole) line false (replies_grows site moment d answer whole)
 choice_grows site moment d (Short accepted whole) (Some line) =
     let answer = answer_of d.guest.peer d.guest.heard line in
-    line_grows site d (lacks site moment d answer accepted whole) line true (lacks_grows site moment d answer accepted whole)
+    short_grows site d (heard_line (lacks site moment d answer accepted whole) line true) (is_passed d.guest line)
+    (line_grows site d (lacks site moment d answer accepted whole) line true (lacks_grows site moment d answer accepted whole))
 choice_grows site moment d Fails (Some line) =
     let answer = answer_of d.guest.peer d.guest.heard line in
     line_grows site d (fails site moment d answer) line false (fails_grows site moment d answer)
@@ -314,9 +296,9 @@ still_steps site m = leads_none site m.table
 away_steps : (site : Site) (m : State) (session : ℕ) (choices : List Choice) → Steps site m.table (turned_away m session choices)
 away_steps site m session [] = leads_none site m.table
 away_steps site m session (Plain whole ∷ choices) = last_leads site m.table session too_many_sessions_text whole (unlike_final m.table session too_many_sessions_text whole sessions_final)
-away_steps site m session (Short accepted whole ∷ choices) = hang_leads site m.table session
-away_steps site m session (Drops ∷ choices) = hang_leads site m.table session
-away_steps site m session (Fails ∷ choices) = hang_leads site m.table session
+away_steps site m session (Short accepted whole ∷ choices) = leads_none site m.table
+away_steps site m session (Drops ∷ choices) = leads_none site m.table
+away_steps site m session (Fails ∷ choices) = leads_none site m.table
 
 greeted : (site : Site) (table : Table) (session : ℕ) (whole : Bool) → IsAcked table (Sends session (greeting_text (shown_host site.host)) whole)
 greeted site table session whole = unlike_final table session (greeting_text (shown_host site.host)) whole (greeting_final (shown_host site.host))

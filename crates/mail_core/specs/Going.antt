@@ -6,7 +6,7 @@ use Rattle.smtp_lines.specs.declared.line.Line.TheVariants.{DataEnd}
 use Rattle.smtp_receive.specs.declared.received.Received.{Received}
 use Rattle.smtp_receive.specs.Dialogue.{Heard, Gives}
 use Rattle.smtp_receive.specs.Replies.{stored_text}
-use Rattle.smtp_receive.specs.Sessions.{Remembers, Stands as Speaks}
+use Rattle.smtp_receive.specs.Sessions.{Stands as Speaks}
 use Rattle.smtp_lines.specs.Reader.{asked_after}
 use Rattle.spool_store.specs.Tables.{Table}
 use Rattle.mail_core.specs.declared.fed.Fed.{Fed}
@@ -113,7 +113,7 @@ is_short Fails = false
 
 -- the session of a caller was reset after the end of data
 abbrev pub IsReset : Caller → Caller → Type 0
-IsReset old new = (host peer : List ℕ) (heard : List Heard) (a b : Bool) → Remembers old.session host peer (heard ++ record { line = DataEnd; short = a } ∷ [])
+IsReset old new = (host peer : List ℕ) (heard : List Heard) (a b : Bool) → Speaks old.session host peer (heard ++ record { line = DataEnd; short = a } ∷ [])
     → Speaks new.session host peer (heard ++ record { line = DataEnd; short = b } ∷ [])
 
 -- the session is as before, or was reset after 452 4.3.1

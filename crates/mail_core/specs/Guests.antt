@@ -3,7 +3,7 @@ use Rattle.std.specs.Prelude.{ℕ, nat_eq, List, [], ◌∷◌, ◌++◌, length
 use Rattle.std.specs.List.{flat_map, find, list_any}
 use Rattle.smtp_lines.specs.declared.line.Line.{Line}
 use Rattle.smtp_lines.specs.Stream.{asks, reading_of}
-use Rattle.smtp_receive.specs.Dialogue.{Heard, Exchange, dialogue, is_grant}
+use Rattle.smtp_receive.specs.Dialogue.{Heard, Exchange, dialogue, exchanges, is_dropped, is_grant}
 
 -- an open session: its number, the peer's address, all bytes that were received, and the lines that were answered, each with whether 452 4.3.1 came to it
 pub record Guest : Type 0 where
@@ -31,6 +31,10 @@ lines_of g = (reading_of g.received (grants_of g)).lines
 -- the first of them that was not answered yet
 abbrev pub next_line : Guest → Option Line
 next_line g = slice_get (lines_of g) (length g.heard)
+
+-- whether a line is of data that is dropped, which gets no reply
+abbrev pub is_passed : Guest → Line → Bool
+is_passed g line = is_dropped (exchanges g.peer g.heard) line
 
 -- more bytes were received
 abbrev pub with_bytes : Guest → List ℕ → Guest

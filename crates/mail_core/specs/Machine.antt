@@ -5,12 +5,12 @@ use Rattle.link_edge.specs.declared.event.Event.TheVariants.{Opens, Brings, Clos
 use Rattle.smtp_lines.specs.declared.line.Line.{Line}
 use Rattle.smtp_lines.specs.Stream.{asks}
 use Rattle.smtp_receive.specs.declared.received.Received.{Received}
-use Rattle.smtp_receive.specs.Dialogue.{Answer, Says, Greets, Closes as Ends, Gives, Takes as Passes, Lacks}
-use Rattle.smtp_receive.specs.Replies.{text_of, hello_text, closing_text, greeting_text, stored_text, shown_host, out_of_memory_text, too_many_sessions_text}
+use Rattle.smtp_receive.specs.Dialogue.{Answer, Says, Greets, Grants, Closes as Ends, Gives, Takes as Passes}
+use Rattle.smtp_receive.specs.Replies.{text_of, grant_text, hello_text, closing_text, greeting_text, stored_text, shown_host, out_of_memory_text, too_many_sessions_text}
 use Rattle.smtp_receive.specs.Sessions.{answer_of}
 use Rattle.spool_store.specs.Tables.{Table, after}
 use Rattle.mail_core.specs.Acts.{Act, Takes, Commits, Sends, HangsUp, speech}
-use Rattle.mail_core.specs.Guests.{Guest, newcomer, next_line, with_bytes, with_line, guest_of, is_here, without, with_guest}
+use Rattle.mail_core.specs.Guests.{Guest, newcomer, next_line, is_passed, with_bytes, with_line, guest_of, is_here, without, with_guest}
 use Rattle.mail_core.specs.declared.serving.Ending.{Ending}
 use Rattle.mail_core.specs.declared.serving.Ending.TheVariants.{Stopped, SpoolFault, IdsSpent}
 use Rattle.mail_core.specs.declared.serving.Site.{Site}
@@ -75,10 +75,10 @@ accepts site moment d message text whole = if is_spent d.table then is_over d (B
 abbrev pub replies : Site → ℕ → Did → Answer → Bool → Did
 replies site moment d (Says reply) whole = says d (text_of reply) whole
 replies site moment d Greets whole = says d (hello_text (shown_host site.host)) whole
+replies site moment d Grants whole = says d grant_text whole
 replies site moment d Ends whole = closes d (closing_text (shown_host site.host)) whole
 replies site moment d (Gives message) whole = accepts site moment d message (stored_text d.table.next) whole
 replies site moment d Passes whole = d
-replies site moment d Lacks whole = d
 
 -- 452 4.3.1 to a line, whose message was accepted or not
 abbrev pub lacks : Site → ℕ → Did → Answer → Bool → Bool → Did
@@ -94,10 +94,10 @@ fails site moment d answer = is_over d Cut
 abbrev pub heard_line : Did → Line → Bool → Did
 heard_line d line short = record d { guest = with_line d.guest line short; fresh = asks line }
 
--- a line is answered by a choice. Want of memory for a piece, or for what follows a line that asks, drops it whole and ends the session
+-- a line is answered by a choice; 452 4.3.1 comes to no line of data that is dropped. Want of memory for a piece, or for what follows a line that asks, drops it whole and ends the session
 abbrev pub by_choice : Site → ℕ → Did → Choice → Option Line → Did
 by_choice site moment d (Plain whole) (Some line) = heard_line (replies site moment d (answer_of d.guest.peer d.guest.heard line) whole) line false
-by_choice site moment d (Short accepted whole) (Some line) = heard_line (lacks site moment d (answer_of d.guest.peer d.guest.heard line) accepted whole) line true
+by_choice site moment d (Short accepted whole) (Some line) = if is_passed d.guest line then is_over d Cut else heard_line (lacks site moment d (answer_of d.guest.peer d.guest.heard line) accepted whole) line true
 by_choice site moment d Fails (Some line) = heard_line (fails site moment d (answer_of d.guest.peer d.guest.heard line)) line false
 by_choice site moment d Drops line = if d.fresh then does d (HangsUp d.guest.number ∷ []) Leaves else is_over d Cut
 by_choice site moment d (Plain whole) None = is_over d Cut
@@ -154,13 +154,13 @@ cut m = record { state = record m { over = Some Cut }; acts = [] }
 unfoldable pub most_guests : ℕ
 most_guests = 1
 
--- a session more than may be open gets 421 and is hung up
+-- a session more than may be open gets 421 and is hung up; its text is kept, so want of memory doesn't come between
 abbrev pub turned_away : State → ℕ → List Choice → Step
 turned_away m session [] = cut m
 turned_away m session (Plain whole ∷ choices) = record { state = m; acts = Sends session too_many_sessions_text whole ∷ HangsUp session ∷ [] }
-turned_away m session (Short accepted whole ∷ choices) = record { state = m; acts = HangsUp session ∷ [] }
-turned_away m session (Drops ∷ choices) = record { state = m; acts = HangsUp session ∷ [] }
-turned_away m session (Fails ∷ choices) = record { state = m; acts = HangsUp session ∷ [] }
+turned_away m session (Short accepted whole ∷ choices) = cut m
+turned_away m session (Drops ∷ choices) = cut m
+turned_away m session (Fails ∷ choices) = cut m
 
 -- a new session gets the greeting, and is kept where it was sent; want of memory ends it
 abbrev pub welcomed : Site → State → ℕ → List ℕ → List Choice → Step

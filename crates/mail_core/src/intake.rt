@@ -8,9 +8,9 @@ ghost use Rattle.qf_format.specs.Valid.{IsValid};
 ghost use Rattle.smtp_lines.specs.declared.line.Line.{Line as AnyLine};
 ghost use Rattle.smtp_lines.specs.declared.line.Line.TheVariants.{DataEnd};
 ghost use Rattle.smtp_lines.specs.Reader.{OnlyLastAsks, StandsFirst};
-ghost use Rattle.smtp_receive.specs.Dialogue.{Heard};
+ghost use Rattle.smtp_receive.specs.Dialogue.{Heard, exchanges, is_dropped};
 ghost use Rattle.smtp_receive.specs.Replies.{out_of_memory_text};
-ghost use Rattle.smtp_receive.specs.Sessions.{Remembers, Stands as Speaks};
+ghost use Rattle.smtp_receive.specs.Sessions.{Stands as Speaks};
 ghost use Rattle.spool_store.specs.Tables.{Table};
 ghost use Rattle.mail_core.specs.declared.serving.Site.{Site};
 ghost use Rattle.mail_core.specs.Acts.{heard_of, speech, Sends, HangsUp};
@@ -110,9 +110,10 @@ impl Intake {
         ensures fed { (result ≡ Fed.GoesOn) ⊎ (result ≡ Fed.HungUp) }
         ensures number { caller.new.number ≡ caller.old.number }
         ensures lines { caller.new.lines ≡ caller.old.lines }
-        ensures line { (host peer : List ℕ) (heard : List Heard) (line : AnyLine) → Remembers caller.old.session host peer heard
+        ensures line { (host peer : List ℕ) (heard : List Heard) (line : AnyLine) → Speaks caller.old.session host peer heard
+            → is_dropped (exchanges peer heard) line ≡ false
             → Speaks caller.new.session host peer (heard ++ record { line = line; short = true } ∷ []) }
-        ensures ended { (host peer : List ℕ) (heard : List Heard) (a b : Bool) → Remembers caller.old.session host peer (heard ++ record { line = DataEnd; short = a } ∷ [])
+        ensures ended { (host peer : List ℕ) (heard : List Heard) (a b : Bool) → Speaks caller.old.session host peer (heard ++ record { line = DataEnd; short = a } ∷ [])
             → Speaks caller.new.session host peer (heard ++ record { line = DataEnd; short = b } ∷ []) }
     {
         caller.session.reset();

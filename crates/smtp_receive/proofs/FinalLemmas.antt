@@ -41,7 +41,7 @@ hello_final host final =
     let same = same_from_push (said ++ codes " Hell") (told ++ codes " Message accepted for deliver") 111 121 last in
     false≢true (eq-eqb 111 121 same.1)
 
-grant_final : IsFinal grant_text → ⊥
+pub grant_final : IsFinal grant_text → ⊥
 grant_final final = differ 0 grant_text (stored_text final.0) refl final.1
 
 pub reply_final : (reply : Reply) → IsFinal (text_of reply) → ⊥

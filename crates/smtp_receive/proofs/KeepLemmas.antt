@@ -295,7 +295,7 @@ no_lines : (before : List Exchange) (line : Line) → lines_in (record { line = 
 no_lines before line = cond-true (ends (record { line = line; answer = None })) None (with_text line (lines_in before)) (lack_ends line)
 
 -- it leaves no answer to a line that isn't dropped
-lacking : (peer : List ℕ) (before : List Exchange) (line : Line) → is_dropped before line ≡ false → answer_heard peer before (record { line = line; short = true }) ≡ None
+pub lacking : (peer : List ℕ) (before : List Exchange) (line : Line) → is_dropped before line ≡ false → answer_heard peer before (record { line = line; short = true }) ≡ None
 lacking peer before line kept = ap (λ b. cond (true && not b) None (Some (answer_to peer before line))) kept
 
 keep_reset : (s n : Session) (host peer : List ℕ) (before : List Exchange) (line : Line) → Keeps s host peer before → n ≡ record s { sender = None; recipient = None; message = None }

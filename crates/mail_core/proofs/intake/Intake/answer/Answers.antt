@@ -1,19 +1,19 @@
 use Rattle.std.proofs.Common.{refl, sym, ◌∙◌, subst, true, false, [], ◌∷◌}
-use Rattle.std.specs.Prelude.{reverse}
 use Rattle.smtp_receive.specs.Dialogue.{exchanges}
-use Rattle.smtp_receive.specs.Sessions.{answer_of}
+use Rattle.smtp_receive.specs.Sessions.{answer_of, Stands as Speaks}
 use Rattle.smtp_receive.proofs.FormLemmas.{given_formed}
 use Rattle.smtp_receive.proofs.ToldLemmas.{gift_at_end}
 use Rattle.mail_core.specs.declared.fed.Fed.TheVariants.{GoesOn as Onward, Granted}
 use Rattle.mail_core.specs.Acts.{Sends, HangsUp, heard_of}
 use Rattle.mail_core.specs.Going.{AnswersLine}
+use Rattle.mail_core.specs.Guests.{is_passed}
 use Rattle.mail_core.specs.Seen.{seen}
 use Rattle.mail_base.specs.Histories.{Gains}
 use Rattle.mail_core.proofs.AnswerLemmas.{reply_is, grant_is, bye_is, taken_is, message_is}
 use Rattle.mail_core.proofs.FormLemmas.{valid_message}
 use Rattle.mail_core.proofs.SpeechLemmas.{told_as}
 use Rattle.mail_core.proofs.GoingLemmas.{spoken_of, ungranted, granted_on}
-use Rattle.mail_core.proofs.LineLemmas.{line_said, line_closed, line_lacked, line_taken, line_given, ready_by}
+use Rattle.mail_core.proofs.LineLemmas.{line_said, line_closed, line_lacked, line_taken, line_given, not_passed, ready_by}
 use Rattle.mail_core.proofs.intake.Intake.answer.Goals as goal
 
 pub accept-requires-clause-valid : goal.accept-requires-clause-valid
@@ -65,7 +65,7 @@ pub returns-in-Ok-Message-clause-answers : goal.returns-in-Ok-Message-clause-ans
 returns-in-Ok-Message-clause-answers g c = λ site d clock way serves talks.
     let gives = message_is _ (answer_of d.guest.peer d.guest.heard c.args.line.now) c.in-Ok-Message.message (sym c.in-Ok-Message.field-0-is ∙ c.in-Ok-Message.ensures.did site.host d.guest.peer d.guest.heard talks.session) in
     line_given site c.args.self.now.moment d c.args.line.now c.in-Ok-Message.message _ _ _ (record c.args.caller.now { session = c.line.new.self }) _ _ gives
-    (gift_at_end d.guest.peer (exchanges d.guest.peer (reverse d.guest.heard)) c.args.line.now c.in-Ok-Message.message gives)
+    (gift_at_end d.guest.peer (exchanges d.guest.peer d.guest.heard) c.args.line.now c.in-Ok-Message.message gives)
     (record { number = talks.number; session = c.in-Ok-Message.ensures.stands site.host d.guest.peer d.guest.heard talks.session; peer = talks.peer })
     c.accept.ensures.number (c.accept.ensures.accepts site d clock way serves talks.number)
 
@@ -74,12 +74,13 @@ returns-in-Ok-Message-clause-ready g c = ready_by _ _ _ _ _ _ _ _ c.requires.rea
 
 pub returns-in-Err-clause-answers : goal.returns-in-Err-clause-answers
 returns-in-Err-clause-answers g c = λ site d clock way serves talks.
-    line_lacked site c.args.self.now.moment d c.args.line.now c.args.self.now _ _ _ _ clock c.lack.result
+    let kept = not_passed (is_passed d.guest c.args.line.now) _ _ (c.in-Err.ensures.silent site.host d.guest.peer d.guest.heard talks.session) in
+    line_lacked site c.args.self.now.moment d c.args.line.now c.args.self.now _ _ _ _ clock c.lack.result kept
     (spoken_of c.lack.result Onward refl c.lack.ensures.fed) (λ on. ungranted c.lack.result c.lack.ensures.fed)
     (told_as _ _ _ _ _ _ _ talks.number serves.short c.lack.ensures.told) c.lack.ensures.own serves
     (record {
       number = c.lack.ensures.number ∙ talks.number;
-      session = c.lack.ensures.line site.host d.guest.peer d.guest.heard c.args.line.now (c.in-Err.ensures.err site.host d.guest.peer d.guest.heard talks.session.knows);
+      session = c.lack.ensures.line site.host d.guest.peer d.guest.heard c.args.line.now (subst (λ s. Speaks s site.host d.guest.peer d.guest.heard) (sym c.in-Err.ensures.err) talks.session) kept;
       peer = talks.peer;
     })
 
