@@ -1,5 +1,5 @@
 -- What a session keeps after one exchange more.
-use Rattle.std.proofs.Common.{◌≡◌, ℕ, Bool, true, false, List, [], ◌∷◌, ◌++◌, Option, Some, None, is_some, not, ◌&&◌, cond, Result, Ok, Err, IfOk, OnOk, refl, sym, ap, subst, ◌∙◌, ⊎_elim, unwrap_or, reverse, codes}
+use Rattle.std.proofs.Common.{◌≡◌, ℕ, Bool, true, false, List, [], ◌∷◌, ◌++◌, Option, Some, None, is_some, not, ◌&&◌, cond, Result, Ok, Err, IfOk, OnOk, OnErr, refl, sym, ap, subst, ◌∙◌, ⊎_elim, unwrap_or, reverse, codes}
 use Rattle.std.proofs.lemmas.Bool.{false≢true, cases_Bool, cond-true, cond-false, cond_both}
 use Rattle.std.proofs.lemmas.List.{reverse-append, reverse-reverse}
 use Rattle.std.proofs.lemmas.List.Sums.{fold-append}
@@ -426,6 +426,11 @@ pub line_bounded : {E : Type 0} (r : Result Did E) (n : Session) (host peer : Li
     → IfOk r (λ _. IsBounded n)
 line_bounded (Err e) n host peer heard line goes = tt
 line_bounded (Ok d) n host peer heard line goes = keeps_bounded n host peer (record { line = line; answer = Some (answer_to peer (exchanges peer heard) line) } ∷ exchanges peer heard) goes.keeps
+
+-- a session that is as before
+pub still : {T E : Type 0} (r : Result T E) (s : Session) → OnErr r (s ≡ s)
+still (Ok d) s = tt
+still (Err e) s = refl
 
 -- ---- lines of a message
 

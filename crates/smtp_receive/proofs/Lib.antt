@@ -8,3 +8,4 @@ pub mod FormLemmas
 pub mod FinalLemmas
 pub mod ToldLemmas
 pub mod FoundLemmas
+pub mod Examples

@@ -1,5 +1,5 @@
 use Rattle.std.proofs.Common.{refl, sym}
-use Rattle.smtp_receive.proofs.KeepLemmas.{end_nothing, end_refused, end_whole}
+use Rattle.smtp_receive.proofs.KeepLemmas.{end_nothing, end_refused, end_whole, still}
 use Rattle.smtp_receive.proofs.session.Session.data_end.Goals as goal
 
 pub returns-in-Nothing-clause-goes : goal.returns-in-Nothing-clause-goes
@@ -8,6 +8,12 @@ returns-in-Nothing-clause-goes c =
 
 pub returns-in-Nothing-clause-silent : goal.returns-in-Nothing-clause-silent
 returns-in-Nothing-clause-silent c = λ none. refl
+
+pub returns-in-Nothing-clause-err : goal.returns-in-Nothing-clause-err
+returns-in-Nothing-clause-err c = tt
+
+pub returns-in_err-did-in-Refused-clause-err : goal.returns-in_err-did-in-Refused-clause-err
+returns-in_err-did-in-Refused-clause-err c = still c.from_residual.result c.args.self.now
 
 pub returns-in_ok-did-in-Refused-clause-goes : goal.returns-in_ok-did-in-Refused-clause-goes
 returns-in_ok-did-in-Refused-clause-goes c =
