@@ -36,6 +36,8 @@ impl Front {
 }
 
 /// The first piece of a text before which so many bytes stand.
+// Two scans call it, and a call costs them a third of their time.
+#[inline(always)]
 pub(crate) fn first_of(table: &Table, text: &[u8], place: u64) -> Result<Front, ScanFault>
     requires some { 0 < length text.now }
     requires place { place + length text.now < 2 ^ 64 }
