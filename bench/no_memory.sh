@@ -1,21 +1,26 @@
 #!/bin/bash
-# Runs the built program on its example with each allocation failing in turn, until none is left to fail: each such
-# run must end with status 71 and no answer, and the first that lacks nothing with the answer. It fails otherwise.
-# Build the program first, by `make run`. This is no part of the gate.
+# Runs the built program with each allocation failing in turn, until none is left to fail. In address test mode, on its
+# example, each such run must end with status 71 and no answer, and the first that lacks nothing with the answer. In
+# session mode, on one message, each must end so with nothing in the queue, or with status 0, replies that are in place
+# and, where the message got its 250, the message whole in the queue. It fails otherwise. Build the program first, by
+# `make run`. This is no part of the gate.
 set -euo pipefail
-cd "$(dirname "$0")/../crates/sendmail/data"
-work=$(mktemp -d)
-trap 'rm -rf "$work"' EXIT
+. "$(dirname "$0")/session.sh"
+cd data
 
 cat > "$work/fail.c" <<'C'
 #define _GNU_SOURCE
 #include <dlfcn.h>
+#include <fcntl.h>
 #include <stdlib.h>
+#include <unistd.h>
 
 static int is_due(void) {
     static long calls, due;
     if (due == 0) due = atol(getenv("FAIL_AT"));
-    return ++calls == due;
+    if (++calls != due) return 0;
+    close(open(getenv("FAIL_MARK"), O_CREAT | O_WRONLY, 0600));
+    return 1;
 }
 
 void *malloc(size_t size) {
@@ -32,16 +37,51 @@ void *realloc(void *old, size_t size) {
 C
 cc -shared -fPIC -O1 -o "$work/fail.so" "$work/fail.c" -ldl
 
-for at in $(seq 10000); do
+# Runs the program in a mode with its allocation of that number failing. It ends with status 1 where there is none.
+run() {
+    rm -f "$work/failed" /var/spool/mqueue/*
     status=0
-    FAIL_AT=$at LD_PRELOAD="$work/fail.so" ../out/sendmail -bt -Crow1.cf \
-        < ../stdin > "$work/answers" 2> "$work/errors" || status=$?
-    if [ "$status" = 0 ]; then
-        cmp "$work/answers" ../stdout
-        echo "$((at - 1)) allocations: each failed in turn, with status 71 and no answer"
-        exit 0
-    fi
-    [ "$status" = 71 ] && [ ! -s "$work/answers" ] && [ "$(cat "$work/errors")" = "sendmail: no memory" ] ||
-        { echo "allocation $at: status $status"; exit 1; }
+    FAIL_AT=$1 FAIL_MARK=$work/failed LD_PRELOAD="$work/fail.so" "$program" "$2" "$3" \
+        < "$work/asked" > "$work/answers" 2> "$work/errors" || status=$?
+    [ -e "$work/failed" ]
+}
+
+# Whether the run ended for want of memory, and without a word.
+is_silent() {
+    [ "$status" = 71 ] && [ ! -s "$work/answers" ] && [ "$(cat "$work/errors")" = 'sendmail: no memory' ]
+}
+
+cp ../stdin "$work/asked"
+at=1
+while run "$at" -bt -Crow1.cf; do
+    is_silent || { echo "-bt, allocation $at: status $status"; exit 1; }
+    at=$((at + 1))
 done
-exit 1
+cmp "$work/answers" ../stdout
+echo "-bt: $((at - 1)) allocations, each failed in turn, with status 71 and no answer"
+
+# The replies are those of the whole run, 452 4.3.1, or those to lines out of turn behind one, and behind a 354 at most
+# one comes to the message and one to QUIT.
+answered() {
+    [ "$status" = 0 ] && [ "$(sed '1,/^354/d' "$work/answers" | wc -l)" -le 2 ] || return 1
+    ! grep -v '^452 4.3.1\|^50[03] ' "$work/answers" | grep -vxFf "$work/whole" | grep -q . || return 1
+    ! grep -q '^250 2.0.0 w' "$work/answers" || queued
+}
+
+queued() {
+    [ "$(cat /var/spool/mqueue/dfw000000000001)" = $'hello\r' ] && [ -s /var/spool/mqueue/qfw000000000001 ]
+}
+
+printf '%s\r\n' 'HELO c.example' 'MAIL FROM:<bob@c.example>' 'RCPT TO:<ann@mx.example>' DATA 'Subject: hi' '' hello . \
+    QUIT > "$work/asked"
+! run 1000000 -bs "-C$work/empty.cf"
+cp "$work/answers" "$work/whole"
+queued
+at=1
+while run "$at" -bs "-C$work/empty.cf"; do
+    is_silent && [ -z "$(ls /var/spool/mqueue)" ] || answered ||
+        { echo "-bs, allocation $at: status $status"; cat "$work/answers"; exit 1; }
+    at=$((at + 1))
+done
+cmp "$work/answers" "$work/whole"
+echo "-bs: $((at - 1)) allocations, each failed in turn, with status 71 and no word, or status 0 and replies in place"
