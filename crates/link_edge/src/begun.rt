@@ -12,9 +12,9 @@ pub struct Begun {
     calls: Calls,
 }
 
-/// The calls of `begin` so far.
+// The calls of `begin` so far.
 #[derive(Drop)]
-pub enum Calls {
+pub(crate) enum Calls {
     Zero,
     One(Snapshot<Place>, u64),
     Many,

@@ -14,7 +14,7 @@ mod step;
 mod telling;
 mod turn;
 
-pub use begun::{Begun, Calls};
+pub use begun::Begun;
 pub use event::{Event, FloorEvent};
 pub use floor::Floor;
 pub use law::{numbers_are_used_once, sessions_follow_events};
