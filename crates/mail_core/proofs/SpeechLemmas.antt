@@ -6,7 +6,7 @@ use Rattle.mail_base.proofs.Gaining.{gains_join}
 use Rattle.link_edge.specs.declared.event.FloorEvent.{FloorEvent}
 use Rattle.link_edge.specs.declared.event.FloorEvent.TheVariants.{Sent, Unsent, HungUp}
 use Rattle.link_edge.specs.Sessions.{is_among, is_open, is_sound, send_event}
-use Rattle.link_edge.proofs.Sessioning.{open_push, sound_push}
+use Rattle.link_edge.proofs.Sessioning.{open_push}
 use Rattle.link_edge.proofs.Sounding.{sound_is_open}
 use Rattle.mail_core.specs.Acts.{Sends, HangsUp, heard_of, speech}
 
@@ -20,13 +20,6 @@ Open told session = IfSome told (λ history. is_open session history ≡ true)
 pub open_of : (a : Option (List FloorEvent)) (s : ℕ) → Sound a s → Open a s
 open_of None s h = tt
 open_of (Some history) s h = sound_is_open history s h
-
--- no send has failed still after what was sent whole
-pub sound_sent : (a b : Option (List FloorEvent)) (s : ℕ) (text : List ℕ) → Sound a s → Gains a b (Sent s text ∷ []) → Sound b s
-sound_sent None None s text h g = tt
-sound_sent None (Some k) s text h g = absurd g
-sound_sent (Some history) None s text h g = absurd g
-sound_sent (Some history) (Some k) s text h g = ap (is_sound s) g ∙ ap (is_among s) (sound_push history (Sent s text)) ∙ h
 
 -- a session is open still after a send
 pub open_sent : (a b : Option (List FloorEvent)) (s : ℕ) (text : List ℕ) (whole : Bool) → Open a s → Gains a b (send_event s text whole ∷ []) → Open b s

@@ -112,8 +112,3 @@ calm_listed NoMemory r why before now is broke calm = inr (calm refl)
 pub calm_given : {T : Type 0} (given : T) (before now : ℕ) → IsErrOf (Ok given) SpoolFault ⊎ (now ≡ before) → now ≡ before
 calm_given given before now (inl e) = absurd (cc e)
 calm_given given before now (inr same) = same
-
--- what stayed before too
-pub calm_since : {T : Type 0} (r : Result T OpenFault) (first before now : ℕ) → before ≡ first → IsErrOf r SpoolFault ⊎ (now ≡ before) → IsErrOf r SpoolFault ⊎ (now ≡ first)
-calm_since r first before now same (inl e) = inl e
-calm_since r first before now same (inr still) = inr (still ∙ same)

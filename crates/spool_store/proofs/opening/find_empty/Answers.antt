@@ -1,7 +1,7 @@
 -- Each directory's listing is told of the files that were there at the start.
 use Rattle.std.proofs.Common.{arith, sym, refl, inr, ◌∙◌}
 use Rattle.std.proofs.Math.Nat.{le_refl}
-use Rattle.spool_store.proofs.OpenLemmas.{calm_given, calm_since, empty_none, reads_none, reads_join, reads_told, step_empty, step_used}
+use Rattle.spool_store.proofs.OpenLemmas.{calm_given, empty_none, reads_none, reads_join, reads_told, step_empty, step_used}
 use Rattle.spool_store.proofs.opening.find_empty.Goals as goal
 
 pub loop-dir-init : goal.loop-dir-init
