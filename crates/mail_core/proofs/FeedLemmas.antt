@@ -11,12 +11,12 @@ use Rattle.mail_edge.specs.Seen.{ClockSeen}
 use Rattle.link_edge.specs.Heard.{Heard as FloorHeard}
 use Rattle.smtp_lines.specs.declared.line.Line.{Line}
 use Rattle.smtp_lines.specs.Stream.{asks, reading_of}
-use Rattle.smtp_lines.specs.Reader.{Reader, Stream, Stands as Reads, StandsFirst, OnlyLastAsks, HasGrants, Gives, asked_after, received, given, granted}
+use Rattle.smtp_lines.specs.Reader.{Reader, Stream, Stands as Reads, StandsFirst, OnlyLastAsks, HasGrants, Gives, asked_after, received, given, granted, refused}
 use Rattle.smtp_lines.specs.Runs.{granted_by as turned_by}
 use Rattle.smtp_lines.proofs.GivenLemmas.{after_given, after_grant, after_refusal, only_last, told_first_now, told_all_now, waiting_first}
 use Rattle.smtp_lines.proofs.ReadLemmas.{asked_after-push}
 use Rattle.smtp_lines.proofs.RunLemmas.{asked_after-turns}
-use Rattle.smtp_lines.proofs.StandLemmas.{stands_granted, stands_received}
+use Rattle.smtp_lines.proofs.StandLemmas.{stands_granted, stands_received, stands_refused}
 use Rattle.smtp_receive.specs.Dialogue.{Heard}
 use Rattle.smtp_receive.specs.Sessions.{Stands as Speaks}
 use Rattle.spool_disk.specs.Spooled.{Spooled}
@@ -236,11 +236,11 @@ follows_by true r s g told stands has turns bytes lines grants = record {
   granted = after_grant (turned_by true r) s told has refl ∙ sym grants;
 }
 follows_by false r s g told stands has turns bytes lines grants = record {
-  stream = s;
-  stands = stands;
+  stream = refused s;
+  stands = stands_refused r s turns stands;
   received = bytes;
   lines = lines;
-  granted = after_refusal r s told has turns ∙ sym grants;
+  granted = after_refusal (turned_by false r) s told has refl ∙ sym grants;
 }
 
 module _ (site : Site) (d e : Did) (r : Reader) (lines : List Line) (intake : Intake) (caller : Caller) (fed : Fed) where

@@ -15,13 +15,15 @@ pub struct Caller {
 }
 
 impl Caller {
-    /// Turns to the lines of a message, if one was granted to the last line.
+    /// Turns to the lines of a message, if one was granted to the last line, or goes on with commands.
     pub(crate) fn turn(&mut self, fed: Fed)
         requires { IsTrue self.old.lines.under.may_turn }
         ensures { self.new ≡ record self.old { lines = granted_by (is_granted fed) self.old.lines } }
     {
         if fed == Fed::Granted {
             self.lines.data();
+        } else {
+            self.lines.refuse();
         }
     }
 }

@@ -7,7 +7,7 @@ use Rattle.smtp_lines.specs.declared.line.Line.{Line}
 use Rattle.smtp_lines.specs.declared.line.Mode.{Mode}
 use Rattle.smtp_lines.specs.declared.line.Mode.TheVariants.{Commands}
 use Rattle.smtp_lines.specs.Stream.{Reads, nothing, plain, asked, asks, line_of, end_of, mode_after, granted_mode, Reading, with_line, parts_by, reading_by, reading_of}
-use Rattle.smtp_lines.specs.Reader.{asked_after, awaited, Reader, Stream, Stands, given, granted, StandsFirst, HasGrants, Gives, OnlyLastAsks}
+use Rattle.smtp_lines.specs.Reader.{asked_after, awaited, Reader, Stream, Stands, given, granted, refused, StandsFirst, HasGrants, Gives, OnlyLastAsks}
 use Rattle.smtp_lines.specs.Runs.{Follows}
 use Rattle.smtp_lines.proofs.ReadLemmas.{asked_after-push, not_nil}
 use Rattle.smtp_lines.proofs.ReadingLemmas.{cut-at, reads-length, follows_refused, stands-reading}
@@ -107,8 +107,12 @@ after_given old new s told (line ∷ lines) has stands turns = record {
 }
 
 -- the last line that asked is refused, unless it is granted
-pub after_refusal : (r : Reader) (s : Stream) (told : List Bool) → s.granted ≡ told → r.under.may_turn ≡ true → HasGrants r s (told ++ false ∷ [])
-after_refusal r s told has turns = ap (λ b. s.granted ++ awaited b false) turns ∙ ap (λ g. g ++ false ∷ []) has
+pub after_none : (r : Reader) (s : Stream) (told : List Bool) → s.granted ≡ told → r.under.may_turn ≡ true → HasGrants r s (told ++ false ∷ [])
+after_none r s told has turns = ap (λ b. s.granted ++ awaited b false) turns ∙ ap (λ g. g ++ false ∷ []) has
+
+pub after_refusal : (r : Reader) (s : Stream) (told : List Bool) → s.granted ≡ told → r.under.may_turn ≡ false → HasGrants r (refused s) (told ++ false ∷ [])
+after_refusal r s told has turned =
+    ap (λ b. (s.granted ++ false ∷ []) ++ awaited b false) turned ∙ append-nil (s.granted ++ false ∷ []) ∙ ap (λ g. g ++ false ∷ []) has
 
 pub after_grant : (r : Reader) (s : Stream) (told : List Bool) → s.granted ≡ told → r.under.may_turn ≡ false → HasGrants r (granted s) (told ++ true ∷ [])
 after_grant r s told has turned =

@@ -5,11 +5,11 @@ use Rattle.std.proofs.lemmas.Bool.{cond-true, cond-false, false≢true}
 use Rattle.std.proofs.lemmas.List.{append-nil, take_more, take_all}
 use Rattle.smtp_lines.specs.declared.line.Line.{Line}
 use Rattle.smtp_lines.specs.Stream.{asks, first_grant}
-use Rattle.smtp_lines.specs.Reader.{asked_after, awaited, Reader, Stream, Stands, given, granted}
+use Rattle.smtp_lines.specs.Reader.{asked_after, awaited, Reader, Stream, Stands, given, granted, refused}
 use Rattle.smtp_lines.specs.Runs.{Follows, granted_by, ReadSoFar}
 use Rattle.smtp_lines.proofs.ReadLemmas.{asked_after-push}
 use Rattle.smtp_lines.proofs.ReadingLemmas.{follows_more}
-use Rattle.smtp_lines.proofs.StandLemmas.{stands_granted}
+use Rattle.smtp_lines.proofs.StandLemmas.{stands_granted, stands_refused}
 
 pub last_at : (lines : List Line) (last : Line) → 0 < length lines → last ≡ get_or lines (length lines - 1) last → asks last ≡ asked_after false lines
 last_at lines last some is =
@@ -79,9 +79,9 @@ answered_by grants rest r s true is stands turns follows = record {
   bytes_are = refl;
 }
 answered_by grants rest r s false is stands turns follows = record {
-  stream = s;
-  stands = stands;
-  follows = subst (λ b. Follows grants (s.granted ++ awaited b false) (drop 1 rest)) (sym turns) (follows_more grants s.granted rest false follows is);
+  stream = refused s;
+  stands = stands_refused r s turns stands;
+  follows = subst (λ g. Follows grants g (drop 1 rest)) (sym (append-nil (s.granted ++ false ∷ []))) (follows_more grants s.granted rest false follows is);
   lines_are = refl;
   bytes_are = refl;
 }

@@ -1,13 +1,13 @@
 -- What a reader stands for, after each call.
-use Rattle.std.proofs.Common.{◌≡◌, ℕ, Bool, true, false, List, [], ◌∷◌, ◌++◌, take, drop, refl, sym, ap, subst, ◌∙◌}
+use Rattle.std.proofs.Common.{◌≡◌, ℕ, Bool, true, false, List, [], ◌∷◌, ◌++◌, take, drop, arith, refl, sym, ap, subst, ◌∙◌}
 use Rattle.std.proofs.lemmas.Bool.{false≢true}
-use Rattle.std.proofs.lemmas.List.{append-nil, append_assoc}
-use Rattle.mail_base.specs.Limits.{most_command}
+use Rattle.std.proofs.lemmas.List.{append-nil, append_assoc, take-take}
+use Rattle.mail_base.specs.Limits.{most_command, most_message}
 use Rattle.smtp_lines.specs.declared.line.Line.{Line}
 use Rattle.smtp_lines.specs.declared.line.Mode.{Mode}
 use Rattle.smtp_lines.specs.declared.line.Mode.TheVariants.{Commands, Message}
 use Rattle.smtp_lines.specs.Stream.{has_end, Reads, nothing}
-use Rattle.smtp_lines.specs.Reader.{most_kept, awaited, mode_by, Under, Takes, Reader, Stream, Stands, fresh, empty_stream, received, given, granted}
+use Rattle.smtp_lines.specs.Reader.{most_kept, awaited, mode_by, Under, Takes, Reader, Stream, Stands, fresh, empty_stream, received, given, granted, refused, refused_by}
 use Rattle.smtp_lines.proofs.EndLemmas.{crlf_from_lf}
 use Rattle.smtp_lines.proofs.ReadLemmas.{reads_more, reads_join}
 
@@ -80,6 +80,33 @@ stands_granted r s is st =
       reads = λ grant.
           subst (λ g. Reads Commands s.received g s.lines Message (st.begun ++ r.left)) (sym (append-nil (s.granted ++ true ∷ [])))
           (subst (λ b. Reads Commands s.received (s.granted ++ awaited b true) s.lines (mode_by b true r.under.mode) (st.begun ++ r.left)) is (st.reads true));
+    }
+
+take_command : (begun : List ℕ) → take most_command (take (most_kept Commands true) begun) ≡ take (most_kept Commands false) begun
+unfolding most_kept most_message most_command
+take_command begun = take-take 2_048 16_777_219 begun (omega arith)
+
+pub stands_refused : (r : Reader) (s : Stream) → r.under.may_turn ≡ true → Stands r s → Stands (refused_by r) (refused s)
+stands_refused r s is st =
+    let commands = st.holds.commands is in
+    record {
+      begun = st.begun;
+      holds = record {
+        none = st.holds.none;
+        kept =
+            ap (take most_command)
+            (st.holds.kept
+            ∙ ap (λ m. take (most_kept m r.under.may_turn) st.begun) commands
+            ∙ ap (λ b. take (most_kept Commands b) st.begun) is)
+            ∙ take_command st.begun
+            ∙ sym (ap (λ m. take (most_kept m false) st.begun) commands);
+        cr = st.holds.cr;
+        commands = λ no. absurd (false≢true no);
+      };
+      reads = λ grant.
+          subst (λ g. Reads Commands s.received g s.lines r.under.mode (st.begun ++ r.left)) (sym (append-nil (s.granted ++ false ∷ [])))
+          (subst (λ m. Reads Commands s.received (s.granted ++ false ∷ []) s.lines m (st.begun ++ r.left)) (sym commands)
+          (subst (λ b. Reads Commands s.received (s.granted ++ awaited b false) s.lines (mode_by b false r.under.mode) (st.begun ++ r.left)) is (st.reads false)));
     }
 
 pub stands_at : (u u' : Under) (x x' : List ℕ) (s : Stream) → u ≡ u' → x ≡ x' → Stands (record { under = u'; left = x' }) s → Stands (record { under = u; left = x }) s

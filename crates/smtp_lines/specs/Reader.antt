@@ -122,6 +122,14 @@ given may_turn s (line ∷ lines) = record s { granted = s.granted ++ awaited ma
 abbrev pub granted : Stream → Stream
 granted s = record s { granted = s.granted ++ true ∷ [] }
 
+-- the last line that asked was refused
+abbrev pub refused : Stream → Stream
+refused s = record s { granted = s.granted ++ false ∷ [] }
+
+-- a reader after a refusal: of the line under way no more is kept than of a command
+abbrev pub refused_by : Reader → Reader
+refused_by r = record r { under = record r.under { may_turn = false; kept = take most_command r.under.kept } }
+
 -- these lines stand first among all
 pub record StandsFirst (first all : List Line) : Type 0 where
   pub later : List Line

@@ -3,7 +3,7 @@ use Rattle.std.specs.Prelude.{◌≡◌, ℕ, Bool, true, false, List, [], ◌�
 use Rattle.smtp_lines.specs.declared.line.Line.{Line}
 use Rattle.smtp_lines.specs.declared.line.Mode.TheVariants.{Message}
 use Rattle.smtp_lines.specs.Stream.{first_grant}
-use Rattle.smtp_lines.specs.Reader.{Reader, Stream, Stands, awaited}
+use Rattle.smtp_lines.specs.Reader.{Reader, Stream, Stands, awaited, refused_by}
 
 -- these were answered by the grants, and the rest of the grants is left
 abbrev pub Follows : List Bool → List Bool → List Bool → Type 0
@@ -13,7 +13,7 @@ Follows grants (grant ∷ answered) rest = (grant ≡ first_grant grants) × Fol
 -- the reader after an answer
 abbrev pub granted_by : Bool → Reader → Reader
 granted_by true r = record r { under = record r.under { mode = Message; may_turn = false } }
-granted_by false r = r
+granted_by false r = refused_by r
 
 -- the reader has given these lines of these bytes, and nothing is left unread
 pub record ReadSoFar (grants rest : List Bool) (r : Reader) (lines : List Line) (bytes : List ℕ) : Type 0 where

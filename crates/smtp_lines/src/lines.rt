@@ -1,6 +1,6 @@
 ghost use Rattle.std.specs.Prelude.{◌≡◌, ◌≤◌, ◌<◌, ◌-◌, ◌++◌, [], ◌∷◌, length, take, drop, vec_len, IfOk, OnOk, OnErr, IsTrue, false, true};
 ghost use Rattle.smtp_lines.specs.Views.{under};
-ghost use Rattle.smtp_lines.specs.Reader.{Reader, fresh, Stream, empty_stream, Stands, received, given, granted, asked_after};
+ghost use Rattle.smtp_lines.specs.Reader.{Reader, fresh, Stream, empty_stream, Stands, received, given, granted, refused, refused_by, asked_after};
 
 use crate::under_way::Begun;
 use crate::{Line, Mode};
@@ -11,7 +11,7 @@ use std::marker::Model;
 /// A reader of a stream that comes in pieces. It keeps its allocator.
 ///
 /// It holds at most 16,777,219 bytes of a line under way, and of a command at most 2,048, but for a command
-/// right after one with the verb DATA, which may become a line of a message. Beside these it holds the bytes
+/// right after one with the verb DATA, until that is refused: it may become a line of a message. Beside these it holds the bytes
 /// of the pieces that [`Lines::more`] wasn't asked for yet.
 #[derive(Drop)]
 pub struct Lines {
@@ -99,7 +99,17 @@ impl Lines {
         self.begun.turn();
     }
 
-    /// The same where nothing is left unread. The piece is read where it is, and room for what may be left of
+    /// Refuses the message that the command with the verb DATA asks for which was given last: commands go on.
+    /// Of one that is under way no more is kept than of any other.
+    pub fn refuse(&mut self)
+        requires { IsTrue self.old.under.may_turn }
+        ensures refused { self.new ≡ refused_by self.old }
+        ensures stands { (s : Stream) → Stands self.old s → Stands self.new (refused s) }
+    {
+        self.begun.refuse();
+    }
+
+    /// Takes a piece where nothing is left unread. The piece is read where it is, and room for what may be left of
     /// it is made before.
     fn feed_alone(&mut self, piece: &[u8]) -> Result<Seq<Line>, NoMemory>
         requires { self.old.left ≡ [] }

@@ -1,7 +1,7 @@
 ghost use Rattle.std.specs.Prelude.{◌≡◌, ◌<◌, ◌++◌, [], ◌∷◌, List, Bool, ℕ, length, take, drop, IfOk, OnOk, OnErr, IsTrue, false, true};
 ghost use Rattle.std.specs.List.{concat};
 ghost use Rattle.smtp_lines.specs.Stream.{Reads, has_end, reading_of, first_grant};
-ghost use Rattle.smtp_lines.specs.Reader.{Reader, Stream, Stands, given, granted, asked_after, awaited, StandsFirst, HasGrants, Gives, OnlyLastAsks};
+ghost use Rattle.smtp_lines.specs.Reader.{Reader, Stream, Stands, given, granted, refused, asked_after, awaited, StandsFirst, HasGrants, Gives, OnlyLastAsks};
 ghost use Rattle.smtp_lines.specs.Runs.{ReadSoFar, granted_by};
 
 use crate::{Line, Lines, Mode};
@@ -44,20 +44,32 @@ fn read_piece<'g>(
     Ok(rest)
 }
 
-/// Turns to a message, if the first of the grants says so, and gives the others.
+/// Turns to a message, if the first of the grants says so, or refuses it, and gives the other grants.
 fn answer<'g>(reader: &mut Lines, grants: &'g [bool]) -> &'g [bool]
     requires { IsTrue reader.old.under.may_turn }
     ensures rest { result.now ≡ drop 1 grants.now }
     ensures reader { reader.new ≡ granted_by (first_grant grants.now) reader.old }
 {
     match grants {
-        [] => grants,
+        [] => {
+            reader.refuse();
+            grants
+        }
         [grant, rest @ ..] => {
-            if *grant {
-                reader.data();
-            }
+            turn(reader, *grant);
             rest
         }
+    }
+}
+
+fn turn(reader: &mut Lines, grant: bool)
+    requires { IsTrue reader.old.under.may_turn }
+    ensures { reader.new ≡ granted_by grant reader.old }
+{
+    if grant {
+        reader.data();
+    } else {
+        reader.refuse();
     }
 }
 
@@ -99,10 +111,13 @@ pub fn grants_are_told()
     ensures gives { (old new : Reader) (s : Stream) (told : List Bool) (lines : List Line) → HasGrants old s told
         → Stands new (given old.under.may_turn s lines) → new.under.may_turn ≡ asked_after old.under.may_turn lines
         → Gives s told lines new (given old.under.may_turn s lines) }
-    ensures refused { (r : Reader) (s : Stream) (told : List Bool) → s.granted ≡ told → r.under.may_turn ≡ true
-        → HasGrants r s (told ++ false ∷ []) }
+    ensures refused { (r : Reader) (s : Stream) (told : List Bool) → s.granted ≡ told → r.under.may_turn ≡ false
+        → HasGrants r (refused s) (told ++ false ∷ []) }
     ensures granted { (r : Reader) (s : Stream) (told : List Bool) → s.granted ≡ told → r.under.may_turn ≡ false
         → HasGrants r (granted s) (told ++ true ∷ []) }
+    // Where it is neither, the next line refuses it.
+    ensures unanswered { (r : Reader) (s : Stream) (told : List Bool) → s.granted ≡ told → r.under.may_turn ≡ true
+        → HasGrants r s (told ++ false ∷ []) }
 {}
 
 /// Of the lines that one call gives only the last may ask.

@@ -1,4 +1,5 @@
 ghost use Rattle.std.specs.Prelude.{◌≡◌, ◌≤◌, ◌<◌, ◌+◌, ◌-◌, ℕ, List, [], ◌∷◌, ◌++◌, length, take, IfOk, OnOk, OnErr, IsTrue, false, true};
+ghost use Rattle.mail_base.specs.Limits.{most_command};
 ghost use Rattle.smtp_lines.specs.Stream.{ends_in_cr};
 ghost use Rattle.smtp_lines.specs.Reader.{asked_after, most_kept, cr_after, Under, Holds, Takes};
 ghost use Rattle.smtp_lines.specs.Views.{under};
@@ -43,6 +44,15 @@ impl Begun {
         ensures { under self.new ≡ record (under self.old) { mode = Mode.Message; may_turn = false } }
     {
         self.mode = Mode::Message;
+        self.may_turn = false;
+    }
+
+    /// Goes on with commands, and keeps no more of one under way than of any other. It takes no memory.
+    #[tactic(auto, unfolding(mail_base::specs::Limits::most_command))]
+    pub(crate) fn refuse(&mut self)
+        ensures { under self.new ≡ record (under self.old) { may_turn = false; kept = take most_command (under self.old).kept } }
+    {
+        self.kept.truncate(MOST_COMMAND);
         self.may_turn = false;
     }
 
