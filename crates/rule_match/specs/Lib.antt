@@ -1,4 +1,5 @@
 pub mod Choices
-pub mod Items
 pub mod Kept
+pub mod Rows
 pub mod Steps
+pub mod Wants

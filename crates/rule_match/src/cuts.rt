@@ -1,12 +1,15 @@
-ghost use Rattle.std.specs.Prelude.{◌≡◌, [], List, ℕ, IsTrue};
+ghost use Rattle.std.specs.Prelude.{◌≡◌, List, ℕ, length};
+ghost use Rattle.mail_base.specs.declared.classes.Classes.{Classes};
+ghost use Rattle.mail_base.specs.declared.rule.Item.{Item};
 ghost use Rattle.mail_base.specs.declared.token.Token.{Token};
 ghost use Rattle.rule_match.specs.declared.cuts.Cut.{Cut};
 ghost use Rattle.rule_match.specs.Choices.{Fits};
 ghost use Rattle.rule_match.specs.Kept.{kept_cuts, bound_piece};
+ghost use Rattle.rule_match.specs.Steps.{piece_behind, AreWithin};
+ghost use Rattle.rule_match.specs.Wants.{wants};
 
-use crate::item::is_binding;
 use arrayvec::ArrayVec;
-use mail_base::{Pattern, Seq, Token};
+use mail_base::{Seq, Token};
 use std::marker::Model;
 
 /// What an item takes of the tokens: where it begins, counted from 0, and how many it takes.
@@ -14,6 +17,8 @@ use std::marker::Model;
 pub struct Cut {
     pub start: usize,
     pub length: usize,
+    /// Whether `$1` to `$9` count the item.
+    pub binds: bool,
 }
 
 /// The cuts of a match, one per item that is written with `$`, in order. Every other item takes one
@@ -44,29 +49,35 @@ impl Cuts {
 
     /// What the n-th binding item takes, which `$n` stands for; n counts from 1. It is empty where
     /// fewer items bind.
-    pub fn piece<'a>(&self, pattern: &Pattern, tokens: &'a Seq<Token>, number: u8) -> &'a [Token]
-        requires { (lengths : List ℕ) × Fits pattern.now tokens.now lengths × (self.now ≡ kept_cuts pattern.now 0 lengths) }
-        ensures { (lengths : List ℕ) → Fits pattern.now tokens.now lengths → self.now ≡ kept_cuts pattern.now 0 lengths
-            → result.now ≡ bound_piece pattern.now tokens.now lengths number }
+    pub fn piece<'a>(&self, tokens: &'a Seq<Token>, number: u8) -> &'a [Token]
+        requires { (classes : Classes) × (late : List (List Token)) × (items : List Item) × (lengths : List ℕ)
+            × Fits (wants classes late items) tokens.now lengths × (self.now ≡ kept_cuts items 0 lengths) }
+        ensures { (classes : Classes) (late : List (List Token)) (items : List Item) (lengths : List ℕ)
+            → Fits (wants classes late items) tokens.now lengths → self.now ≡ kept_cuts items 0 lengths
+            → result.now ≡ bound_piece items tokens.now lengths number }
     {
-        let tokens = tokens.items();
-        let mut cuts = self.cuts();
-        let mut bound = 0;
-        for item in pattern.items() {
-            if !item.is_meta() {
-                continue;
-            }
-            let Some((cut, later)) = cuts.split_first() else {
-                return &[];
-            };
-            if is_binding(item) {
-                bound += 1;
-                if bound == number as usize {
-                    return &tokens[cut.start..cut.start + cut.length];
-                }
-            }
-            cuts = later;
+        if number == 0 {
+            return &[];
         }
-        &[]
+        piece_behind(self.cuts(), tokens.items(), number - 1)
     }
+}
+
+/// What the binding cut behind so many others takes.
+fn piece_behind<'a>(cuts: &[Cut], tokens: &'a [Token], number: u8) -> &'a [Token]
+    requires { AreWithin (length tokens.now) cuts.now }
+    ensures { result.now ≡ piece_behind tokens.now cuts.now number }
+{
+    let mut left = cuts;
+    let mut others = number;
+    while let Some((cut, later)) = left.split_first() {
+        if cut.binds {
+            if others == 0 {
+                return &tokens[cut.start..cut.start + cut.length];
+            }
+            others -= 1;
+        }
+        left = later;
+    }
+    &[]
 }

@@ -2,13 +2,14 @@
 #![tactic(auto)]
 
 mod cuts;
-mod item;
 mod law;
 mod matcher;
+mod meeting;
+mod row;
+mod rows;
 mod trial;
 
 pub use cuts::{Cut, Cuts};
-pub use item::is_plain;
-pub use law::{one_choice, put_in};
+pub use law::{each_choice, one_choice, put_in};
 pub use matcher::find;
 pub use trial::find_by_trial;

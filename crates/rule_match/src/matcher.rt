@@ -1,36 +1,76 @@
-ghost use Rattle.std.specs.Prelude.{◌≡◌, ◌+◌, ◌≤◌, ◌<◌, List, ℕ, ◌∷◌, IfSome, IfNone, IsTrue, length, drop, slice_get};
-ghost use Rattle.std.specs.List.{list_all};
+ghost use Rattle.std.specs.Prelude.{◌≡◌, ◌+◌, ◌≤◌, ◌<◌, List, ℕ, ◌∷◌, ◌*◌, IfSome, IfNone, length, drop, count_by, false};
+ghost use Rattle.std.specs.List.{list_any};
+ghost use Rattle.mail_base.specs.Candidates.{is_late};
+ghost use Rattle.mail_base.specs.Metas.{is_meta};
 ghost use Rattle.rule_match.specs.Choices.{Fits};
-ghost use Rattle.rule_match.specs.Items.{is_plain};
 ghost use Rattle.rule_match.specs.Kept.{IsChoice};
-ghost use Rattle.rule_match.specs.Steps.{front_stands, is_fixed, IsFirst, IsNext};
+ghost use Rattle.rule_match.specs.Steps.{front_stands, front_width, is_class, is_free, IsFirst, IsNext};
+ghost use Rattle.rule_match.specs.Wants.{want, wants, lists_after};
 
 use crate::cuts::{Cut, Cuts};
-use crate::item::{is_met, parted};
+use crate::meeting::{any_class, is_binding, is_free, is_met, lists_after, parted, width};
+use crate::rows::{fixed_length, next_length, rows_of};
+use crate::trial::least;
 use arrayvec::ArrayVec;
-use mail_base::{Item, Pattern, Seq, Token};
+use mail_base::{Classes, Item, Pattern, Seq, Token};
 
 /// The match that a rule takes, or `None` exactly where nothing matches. It takes no memory.
 ///
+/// The lists are the tokens of the `$&x` in order. For up to 2,047 tokens, and a run has no more, the
+/// time grows with the items and with the tokens, and with the square of the longest phrase.
+pub fn find(
+    pattern: &Pattern,
+    tokens: &Seq<Token>,
+    classes: &Classes,
+    late: &Seq<Seq<Token>>,
+) -> Option<Cuts>
+    requires { length late.now ≡ count_by is_late pattern.now }
+    ensures some { IfSome result (λ cuts. IsChoice classes.now late.now pattern.now tokens.now cuts) }
+    ensures none { IfNone result ((lengths : List ℕ) → Fits (wants classes.now late.now pattern.now) tokens.now lengths → ⊥) }
+{
+    let items = pattern.items();
+    if any_class(items) {
+        find_phrases(classes, late.items(), items, tokens.items())
+    } else {
+        find_plain(classes, late.items(), items, tokens.items())
+    }
+}
+
+/// The same where none of the items is a phrase of a class.
+///
 /// Each `$*` and `$+` is tried at growing lengths until the items up to the next of them meet the
-/// tokens there, and is then done with: what follows can match from a later place only if it can from
-/// this one. So no more tokens are compared than twice the product of the items and the tokens.
-pub fn find(pattern: &Pattern, tokens: &Seq<Token>) -> Option<Cuts>
-    requires { IsTrue (list_all is_plain pattern.now) }
-    ensures some { IfSome result (λ cuts. IsChoice pattern.now tokens.now cuts) }
-    ensures none { IfNone result ((lengths : List ℕ) → Fits pattern.now tokens.now lengths → ⊥) }
+/// tokens there, and is then done with: what follows can match from a later place only if it can
+/// from this one.
+fn find_plain(
+    classes: &Classes,
+    late: &[Seq<Token>],
+    pattern: &[Item],
+    tokens: &[Token],
+) -> Option<Cuts>
+    requires few { count_by is_meta pattern.now ≤ 20 }
+    requires plain { list_any is_class pattern.now ≡ false }
+    ensures some { IfSome result (λ cuts. IsChoice classes.now late.now pattern.now tokens.now cuts) }
+    ensures none { IfNone result ((lengths : List ℕ) → Fits (wants classes.now late.now pattern.now) tokens.now lengths → ⊥) }
 {
     let mut kept: ArrayVec<Cut, 20> = ArrayVec::new();
-    let mut items = pattern.items();
-    let mut left = tokens.items();
+    let mut lists = late;
+    let mut items = pattern;
+    let mut left = tokens;
     let mut start = 0;
     while let Some((item, after)) = items.split_first() {
-        let length = length_of(item, after, left)?;
+        let others = lists_after(item, lists);
+        let length = length_of(classes, lists, item, others, after, left)?;
         if item.is_meta() {
-            kept.push(Cut { start, length });
+            let binds = is_binding(item);
+            kept.push(Cut {
+                start,
+                length,
+                binds,
+            });
         }
         start += length;
         left = parted(left, length).1;
+        lists = others;
         items = after;
     }
     if left.is_empty() {
@@ -40,72 +80,165 @@ pub fn find(pattern: &Pattern, tokens: &Seq<Token>) -> Option<Cuts>
     }
 }
 
-/// What the first item takes of the tokens that are left, in the match that is taken, if there is any.
-fn length_of(item: &Item, after: &[Item], left: &[Token]) -> Option<usize>
-    ensures some { IfSome result (λ n. IsNext item.now after.now left.now n) }
-    ensures none { IfNone result ((n : ℕ) (later : List ℕ) → Fits (item.now ∷ after.now) left.now (n ∷ later) → ⊥) }
+/// The same for any items: by rows of bits, or by trial where these are too short for the tokens.
+fn find_phrases(
+    classes: &Classes,
+    late: &[Seq<Token>],
+    pattern: &[Item],
+    tokens: &[Token],
+) -> Option<Cuts>
+    requires few { count_by is_meta pattern.now ≤ 20 }
+    requires lists { length late.now ≡ count_by is_late pattern.now }
+    ensures some { IfSome result (λ cuts. IsChoice classes.now late.now pattern.now tokens.now cuts) }
+    ensures none { IfNone result ((lengths : List ℕ) → Fits (wants classes.now late.now pattern.now) tokens.now lengths → ⊥) }
+{
+    if !front_stands(classes, late, pattern, tokens) {
+        return None;
+    }
+    if tokens.len() < 64 {
+        return find_by_rows::<1>(classes, late, pattern, tokens);
+    }
+    if tokens.len() < 2048 {
+        return find_by_rows::<32>(classes, late, pattern, tokens);
+    }
+    let kept = least(classes, late, pattern, tokens, 0)?;
+    Some(Cuts::of(kept))
+}
+
+/// The same by the rows: whether what follows an item fits the tokens from a place on is looked up.
+fn find_by_rows<const W: usize>(
+    classes: &Classes,
+    late: &[Seq<Token>],
+    pattern: &[Item],
+    tokens: &[Token],
+) -> Option<Cuts>
+    requires few { count_by is_meta pattern.now ≤ 20 }
+    requires lists { length late.now ≡ count_by is_late pattern.now }
+    requires small { W ≤ 32 }
+    requires short { length tokens.now < 64 * W }
+    ensures some { IfSome result (λ cuts. IsChoice classes.now late.now pattern.now tokens.now cuts) }
+    ensures none { IfNone result ((lengths : List ℕ) → Fits (wants classes.now late.now pattern.now) tokens.now lengths → ⊥) }
+{
+    let mut kept: ArrayVec<Cut, 20> = ArrayVec::new();
+    let mut rows = rows_of::<W>(classes, late, pattern, tokens);
+    let mut lists = late;
+    let mut items = pattern;
+    let mut left = tokens;
+    let mut start = 0;
+    while let Some((item, after)) = items.split_first() {
+        let length = next_length(classes, lists, item, left, start, &mut rows)?;
+        if item.is_meta() {
+            let binds = is_binding(item);
+            kept.push(Cut {
+                start,
+                length,
+                binds,
+            });
+        }
+        start += length;
+        left = parted(left, length).1;
+        lists = lists_after(item, lists);
+        items = after;
+    }
+    if left.is_empty() {
+        Some(Cuts::of(kept))
+    } else {
+        None
+    }
+}
+
+/// What the first item takes of the tokens that are left, in the match that is taken, if there is
+/// any. Each part of the pattern comes behind its lists.
+fn length_of(
+    classes: &Classes,
+    late: &[Seq<Token>],
+    item: &Item,
+    others: &[Seq<Token>],
+    after: &[Item],
+    left: &[Token],
+) -> Option<usize>
+    requires { list_any is_class (item.now ∷ after.now) ≡ false }
+    ensures some { IfSome result (λ n. IsNext (want classes.now late.now item.now) (wants classes.now others.now after.now) left.now n) }
+    ensures none { IfNone result ((n : ℕ) (later : List ℕ) → Fits (want classes.now late.now item.now ∷ wants classes.now others.now after.now) left.now (n ∷ later) → ⊥) }
 {
     match item {
-        Item::Any => place_of(after, left, 0),
-        Item::More => place_of(after, left, 1),
-        _ => {
-            if !left.is_empty() && is_met(item, &left[..1]) {
-                Some(1)
-            } else {
-                None
-            }
-        }
+        Item::Any => place_of(classes, others, after, left, 0),
+        Item::More => place_of(classes, others, after, left, 1),
+        _ => fixed_length(classes, late, item, left),
     }
 }
 
 /// The first place, from the least on, from which what follows a `$*` or `$+` matches, if it does
 /// from any.
-fn place_of(after: &[Item], left: &[Token], least: usize) -> Option<usize>
-    requires { least ≤ 1 }
-    ensures some { IfSome result (λ place. IsFirst after.now left.now least place) }
-    ensures none { IfNone result ((other : ℕ) (lengths : List ℕ) → least ≤ other → other ≤ length left.now → Fits after.now (drop other left.now) lengths → ⊥) }
+fn place_of(
+    classes: &Classes,
+    late: &[Seq<Token>],
+    after: &[Item],
+    left: &[Token],
+    least: usize,
+) -> Option<usize>
+    requires { list_any is_class after.now ≡ false }
+    ensures some { IfSome result (λ place. IsFirst (wants classes.now late.now after.now) left.now least place) }
+    ensures none { IfNone result ((other : ℕ) (lengths : List ℕ) → least ≤ other → other ≤ length left.now → Fits (wants classes.now late.now after.now) (drop other left.now) lengths → ⊥) }
 {
-    if is_all_fixed(after) {
-        if after.len() + least > left.len() {
-            return None;
-        }
-        return Some(left.len() - after.len());
+    if least > left.len() {
+        return None;
     }
-    for place in least..left.len() + 1 {
-        if front_stands(after, &left[place..]) {
+    let (width, chooses) = front_width(late, after, left.len() - least)?;
+    let last = left.len() - width;
+    if !chooses {
+        return Some(last);
+    }
+    for place in least..last + 1 {
+        if front_stands(classes, late, after, &left[place..]) {
             return Some(place);
         }
     }
     None
 }
 
-/// Whether the items before the first `$*` or `$+` meet the first tokens, one each.
-fn front_stands(items: &[Item], tokens: &[Token]) -> bool
-    ensures { result ≡ front_stands items.now tokens.now }
+/// How many tokens the items before the first of several possible lengths take together, and
+/// whether there is one of these, or `None` where they take more than so many.
+fn front_width(late: &[Seq<Token>], items: &[Item], most: usize) -> Option<(usize, bool)>
+    ensures some { IfSome result (λ front. (front.0 ≡ front_width late.now items.now) × (front.1 ≡ list_any is_free items.now) × (front.0 ≤ most)) }
+    ensures none { IfNone result (most < front_width late.now items.now) }
 {
+    let mut room = most;
+    let mut lists = late;
+    for item in items {
+        if is_free(item) {
+            return Some((most - room, true));
+        }
+        let width = width(lists, item);
+        if width > room {
+            return None;
+        }
+        room -= width;
+        lists = lists_after(item, lists);
+    }
+    Some((most - room, false))
+}
+
+/// Whether the items before the first of several possible lengths meet the first tokens.
+fn front_stands(classes: &Classes, late: &[Seq<Token>], items: &[Item], tokens: &[Token]) -> bool
+    ensures { result ≡ front_stands (wants classes.now late.now items.now) tokens.now }
+{
+    let mut lists = late;
     let mut left = tokens;
     for item in items {
-        if !is_fixed(item) {
+        if is_free(item) {
             return true;
         }
-        if left.is_empty() || !is_met(item, &left[..1]) {
+        let width = width(lists, item);
+        if width > left.len() {
             return false;
         }
-        left = &left[1..];
+        let (piece, rest) = parted(left, width);
+        if !is_met(classes, lists, item, piece) {
+            return false;
+        }
+        left = rest;
+        lists = lists_after(item, lists);
     }
     true
-}
-
-/// Whether none of the items is a `$*` or a `$+`.
-fn is_all_fixed(items: &[Item]) -> bool
-    ensures { result ≡ list_all is_fixed items.now }
-{
-    items.iter().all(|item| is_fixed(item))
-}
-
-/// Whether the item takes one token in every match.
-fn is_fixed(item: &Item) -> bool
-    ensures { result ≡ is_fixed item.now }
-{
-    !matches!(item, Item::Any | Item::More)
 }

@@ -1,19 +1,33 @@
-use Rattle.std.proofs.Common.{arith, ◌∙◌, sym}
+use Rattle.std.proofs.Common.{◌≡◌, ◌+◌, ◌-◌, length, arith, ◌∙◌, sym, subst}
 use Rattle.std.proofs.lemmas.Grind.{common_steps}
-use Rattle.rule_match.proofs.Choosing.{no_place_fixed, place_fixed, no_place, place_free}
+use Rattle.rule_match.specs.Wants.{wants}
+use Rattle.rule_match.specs.Steps.{front_width, IsFirst}
+use Rattle.rule_match.proofs.Fitting.{choosing_any, class_any, fits_front, fits_whole}
+use Rattle.rule_match.proofs.Choosing.{place_fixed, no_place_wide, no_place, place_free}
 use Rattle.rule_match.proofs.matcher.place_of.Goals as goal
 
-pub returns-then-after-least-clause-none : goal.returns-then-after-least-clause-none
-returns-then-after-least-clause-none c = no_place_fixed c.args.after.now c.args.left.now c.args.least (sym c.is_all_fixed.ensures ∙ c.if-is_all_fixed.true) (omega arith)
+pub returns-in_err-width-clause-none : goal.returns-in_err-width-clause-none
+returns-in_err-width-clause-none c =
+    rw c.from_residual.ensures (no_place_wide (wants c.args.classes.now c.args.late.now c.args.after.now) c.args.left.now c.args.least (front_width c.args.late.now c.args.after.now)
+    (fits_front c.args.classes.now c.args.late.now c.args.after.now) (omega (arith, c.in_err-width.ensures.none)))
 
-pub returns-then-is_all_fixed-clause-some : goal.returns-then-is_all_fixed-clause-some
-returns-then-is_all_fixed-clause-some c = place_fixed c.args.after.now c.args.left.now c.args.least (sym c.is_all_fixed.ensures ∙ c.if-is_all_fixed.true) (omega arith)
+pub returns-then-not-chooses-clause-some : goal.returns-then-not-chooses-clause-some
+returns-then-not-chooses-clause-some c =
+    let f = c.in_ok-width.ensures.some in
+    let ws = wants c.args.classes.now c.args.late.now c.args.after.now in
+    subst (λ w. IsFirst ws c.args.left.now c.args.least (length c.args.left.now - w)) (sym f.0)
+    (place_fixed ws c.args.left.now c.args.least (front_width c.args.late.now c.args.after.now) (λ more lengths. fits_whole c.args.classes.now c.args.late.now c.args.after.now more lengths (sym f.1 ∙ c.if-not-chooses.true)) (omega (arith, f.0, f.2)))
 
 pub returns-then-front_stands-clause-some : goal.returns-then-front_stands-clause-some
 returns-then-front_stands-clause-some c =
-    place_free c.args.after.now c.args.left.now c.args.least c.loop-place.place c.loop-place.invariant (sym c.is_all_fixed.ensures ∙ c.if-is_all_fixed.false)
-    (omega arith) (omega arith) (grind (arith, common_steps))
+    let f = c.in_ok-width.ensures.some in
+    let ws = wants c.args.classes.now c.args.late.now c.args.after.now in
+    let free = choosing_any c.args.classes.now c.args.late.now c.args.after.now ∙ sym f.1 ∙ c.if-not-chooses.false in
+    let plain = class_any c.args.classes.now c.args.late.now c.args.after.now ∙ c.requires in
+    place_free ws c.args.left.now c.args.least c.loop-place.place c.loop-place.invariant plain free (omega arith) (omega arith) (grind (arith, common_steps))
 
 pub returns-clause-none : goal.returns-clause-none
 returns-clause-none c =
-    no_place c.args.after.now c.args.left.now c.args.least (λ k from below. c.loop-place.invariant k from (omega arith))
+    let f = c.in_ok-width.ensures.some in
+    no_place (wants c.args.classes.now c.args.late.now c.args.after.now) c.args.left.now c.args.least (front_width c.args.late.now c.args.after.now) (fits_front c.args.classes.now c.args.late.now c.args.after.now)
+    (length c.args.left.now - c.in_ok-width.width) (omega (arith, f.0, f.2)) (λ k from below. c.loop-place.invariant k from (omega (arith, f.2, below)))

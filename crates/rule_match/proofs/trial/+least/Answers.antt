@@ -1,6 +1,7 @@
 use Rattle.std.proofs.Common.{arith, rules, sym, ◌∙◌, subst, ap, List, ℕ, ◌≡◌}
 use Rattle.rule_match.specs.Choices.{Chosen}
 use Rattle.rule_match.specs.Kept.{kept_cuts}
+use Rattle.rule_match.specs.Wants.{wants}
 use Rattle.std.specs.Prelude.{count_by}
 use Rattle.mail_base.specs.Metas.{is_meta}
 use Rattle.rule_match.proofs.Going.{tried_meta, tried_other, count_meta}
@@ -13,8 +14,8 @@ insert-requires t c = omega (arith, c.in-Some-least.ensures.room, count_meta c.i
 pub returns-in-Some-least-clause-some : goal.returns-in-Some-least-clause-some
 returns-in-Some-least-clause-some t c =
     elim c.if-is_meta.branch [
-      | then-is_meta w ↦ subst (λ x. (lengths : List ℕ) × Chosen c.args.items.now c.args.left.now lengths × (x ≡ kept_cuts c.args.items.now c.args.start lengths)) (search rules)
-          (tried_meta c.args.items.now c.in-Some.item.now c.in-Some.after.now c.in-Some.ensures.cases.0 c.args.left.now _ _ c.args.start c.loop-length.length c.parted.ensures.front c.parted.ensures.back (omega arith) (sym c.is_met.ensures ∙ c.if-is_met.true) c.loop-length.invariant c.in-Some-least.kept.items c.in-Some-least.ensures.some (search rules))
-      | else-is_meta w ↦ subst (λ x. (lengths : List ℕ) × Chosen c.args.items.now c.args.left.now lengths × (x ≡ kept_cuts c.args.items.now c.args.start lengths)) (search rules)
-          (tried_other c.args.items.now c.in-Some.item.now c.in-Some.after.now c.in-Some.ensures.cases.0 c.args.left.now _ _ c.args.start c.loop-length.length c.parted.ensures.front c.parted.ensures.back (omega arith) (sym c.is_met.ensures ∙ c.if-is_met.true) c.loop-length.invariant c.in-Some-least.kept.items c.in-Some-least.ensures.some (search rules))
+      | then-is_meta w ↦ subst (λ x. (lengths : List ℕ) × Chosen (wants c.args.classes.now c.args.late.now c.args.items.now) c.args.left.now lengths × (x ≡ kept_cuts c.args.items.now c.args.start lengths)) (search rules)
+          (tried_meta c.args.classes.now c.args.late.now c.args.items.now c.in-Some.item.now c.in-Some.after.now c.in-Some.ensures.cases.0 _ c.lists_after-others.ensures c.args.left.now _ _ c.args.start c.loop-length.length c.parted.ensures.front c.parted.ensures.back (omega arith) (sym c.is_met.ensures ∙ c.if-is_met.true) c.loop-length.invariant c.in-Some-least.kept.items c.in-Some-least.ensures.some (search rules))
+      | else-is_meta w ↦ subst (λ x. (lengths : List ℕ) × Chosen (wants c.args.classes.now c.args.late.now c.args.items.now) c.args.left.now lengths × (x ≡ kept_cuts c.args.items.now c.args.start lengths)) (search rules)
+          (tried_other c.args.classes.now c.args.late.now c.args.items.now c.in-Some.item.now c.in-Some.after.now c.in-Some.ensures.cases.0 _ c.lists_after-others.ensures c.args.left.now _ _ c.args.start c.loop-length.length c.parted.ensures.front c.parted.ensures.back (omega arith) (sym c.is_met.ensures ∙ c.if-is_met.true) c.loop-length.invariant c.in-Some-least.kept.items c.in-Some-least.ensures.some (search rules))
     ]
