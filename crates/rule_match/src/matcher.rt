@@ -16,8 +16,8 @@ use mail_base::{Classes, Item, Pattern, Seq, Token};
 
 /// The match that a rule takes, or `None` exactly where nothing matches. It takes no memory.
 ///
-/// The lists are the tokens of the `$&x` in order. For up to 2,047 tokens, and a run has no more, the
-/// time grows with the items and with the tokens, and with the square of the longest phrase.
+/// The lists are the tokens of the `$&x` in order. For up to 2,047 tokens, and a run has no more,
+/// the time grows with the items and with the tokens, and with the square of the longest phrase.
 pub fn find(
     pattern: &Pattern,
     tokens: &Seq<Token>,

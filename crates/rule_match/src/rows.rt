@@ -81,8 +81,8 @@ fn row_before<const W: usize>(
     row
 }
 
-/// Whether the item is met by tokens from a place on up to one whose bit is set. It is known whether
-/// a bit behind the place is.
+/// Whether the item is met by tokens from a place on up to one whose bit is set. It is known
+/// whether a bit behind the place is.
 fn is_start<const W: usize>(
     classes: &Classes,
     late: &[Seq<Token>],

@@ -10,6 +10,7 @@ use Rattle.ruleset_run.specs.declared.fault.RunFault.TheVariants as faults
 use Rattle.ruleset_run.specs.declared.runner.Ran.{Ran}
 use Rattle.ruleset_run.specs.Books.{rules_named}
 use Rattle.ruleset_run.specs.Filling.{filled, is_resolved}
+use Rattle.ruleset_run.specs.Plain.{left_wants}
 use Rattle.ruleset_run.specs.Fills.{RefusesAbove}
 use Rattle.ruleset_run.specs.Runs.{Macros, Done, Outcome, Gives, GivesFault, Applies, loops, works, long, applied, Runs, no_rule, unmatched, refused, resolves, returns, goes_next, goes_again, RunsSet, known}
 
@@ -26,7 +27,7 @@ gives_weaker (Ok ran) P Q w h = (h.0, w _ h.1)
 gives_weaker (Err f) P Q w h = fault_weaker f P Q (λ g. w (Err g)) h
 
 -- a refused filling
-pub too_long : (book : List RuleSet) (rule : Rule) (times : ℕ) (tokens : List Token) (depth work : ℕ) (macros : Macros) (lengths : List ℕ) → Chosen rule.left tokens lengths → times < 100 → work < 10000
+pub too_long : (book : List RuleSet) (rule : Rule) (times : ℕ) (tokens : List Token) (depth work : ℕ) (macros : Macros) (lengths : List ℕ) → Chosen (left_wants rule) tokens lengths → times < 100 → work < 10000
     → (f : RunFault) → RefusesAbove f (length (filled rule tokens lengths)) → GivesFault f (Applies book rule times tokens depth work macros)
 too_long book rule times tokens depth work macros lengths c lt few faults.Long h = long rule times tokens depth work macros lengths c lt few h
 too_long book rule times tokens depth work macros lengths c lt few faults.NoMemory h = tt
@@ -35,7 +36,7 @@ too_long book rule times tokens depth work macros lengths c lt few faults.Work h
 too_long book rule times tokens depth work macros lengths c lt few (faults.NoRuleset name) h = absurd h
 
 -- a filled list
-pub applies_done : (book : List RuleSet) (rule : Rule) (times : ℕ) (tokens : List Token) (depth work : ℕ) (macros : Macros) (lengths : List ℕ) → Chosen rule.left tokens lengths → times < 100 → work < 10000
+pub applies_done : (book : List RuleSet) (rule : Rule) (times : ℕ) (tokens : List Token) (depth work : ℕ) (macros : Macros) (lengths : List ℕ) → Chosen (left_wants rule) tokens lengths → times < 100 → work < 10000
     → (given : List Token) → given ≡ filled rule tokens lengths → length (filled rule tokens lengths) ≤ 2000 → Applies book rule times tokens depth work macros (Ok (record { tokens = given; work = work + 1; macros = macros }))
 applies_done book rule times tokens depth work macros lengths c lt few given is small =
     subst (λ xs. Applies book rule times tokens depth work macros (Ok (record { tokens = xs; work = work + 1; macros = macros }))) (sym is) (applied rule times tokens depth work macros lengths c lt few small)
@@ -52,7 +53,7 @@ module _ (book : List RuleSet) (rules : List Rule) (rule : Rule) (after : List R
   back : (o : Outcome) → Runs book (rule ∷ after) times tokens depth work macros o → Runs book rules times tokens depth work macros o
   back o run = subst (λ rs. Runs book rs times tokens depth work macros o) (sym is) run
 
-  pub step_unmatched : ((lengths : List ℕ) → Fits rule.left tokens lengths → ⊥) → (o : Outcome) → Runs book after 0 tokens depth work macros o → Runs book rules times tokens depth work macros o
+  pub step_unmatched : ((lengths : List ℕ) → Fits (left_wants rule) tokens lengths → ⊥) → (o : Outcome) → Runs book after 0 tokens depth work macros o → Runs book rules times tokens depth work macros o
   step_unmatched none o run = back o (unmatched rule after times tokens depth work macros o none run)
 
   pub step_refused : (f : RunFault) → GivesFault f (Applies book rule times tokens depth work macros) → (whole : Outcome → Type 0) → ((o : Outcome) → Runs book rules times tokens depth work macros o → whole o) → GivesFault f whole

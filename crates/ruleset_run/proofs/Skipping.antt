@@ -55,7 +55,7 @@ module _ (book : List RuleSet) (rules : List Rule) (tokens : List Token) (depth 
   passed (suc count) from times outcome within none run start =
       let found = get_below rules from (omega (arith, within)) in
       subst (λ (rs : List Rule). Runs book rs times tokens depth work macros outcome) (sym (drop_at rules from found.0 found.1))
-      (unmatched found.0 (drop (from + 1) rules) times tokens depth work macros outcome (no_candidate found.0 tokens (none from found.0 (omega arith) (omega arith) found.1)).1
+      (unmatched found.0 (drop (from + 1) rules) times tokens depth work macros outcome ((no_candidate found.0 tokens (none from found.0 (omega arith) (omega arith) found.1)).1 [] [])
       (passed count (from + 1) 0 outcome (omega (arith, within)) (λ k rule le lt is. none k rule (omega (arith, le)) (omega (arith, lt)) is)
       (subst (λ (n : ℕ). Runs book (drop n rules) 0 tokens depth work macros outcome) {x = from + suc count} {y = from + 1 + count} (omega arith) run) (λ e. refl)))
 

@@ -7,18 +7,19 @@ use Rattle.rule_match.specs.Choices.{Fits, Chosen}
 use Rattle.rule_match.proofs.Choosing.{choice_once}
 use Rattle.ruleset_run.specs.declared.fault.RunFault.{RunFault}
 use Rattle.ruleset_run.specs.Filling.{filled, is_resolved}
+use Rattle.ruleset_run.specs.Plain.{left_wants}
 use Rattle.ruleset_run.specs.Runs.{Macros, Done, Outcome, Applies, loops, works, long, applied, Runs, no_rule, unmatched, refused, resolves, returns, goes_next, goes_again, RunsSet, known, unknown}
 
 -- a rule that is applied matches
-applies_fits : {book : List RuleSet} {rule : Rule} {times depth work : ℕ} {tokens : List Token} {macros : Macros} {o : Outcome} → Applies book rule times tokens depth work macros o → (lengths : List ℕ) × Fits rule.left tokens lengths
+applies_fits : {book : List RuleSet} {rule : Rule} {times depth work : ℕ} {tokens : List Token} {macros : Macros} {o : Outcome} → Applies book rule times tokens depth work macros o → (lengths : List ℕ) × Fits (left_wants rule) tokens lengths
 applies_fits (loops rule times tokens depth work macros lengths c e) = (lengths, c.fits)
 applies_fits (works rule times tokens depth work macros lengths c e f) = (lengths, c.fits)
 applies_fits (long rule times tokens depth work macros lengths c e f g) = (lengths, c.fits)
 applies_fits (applied rule times tokens depth work macros lengths c e f g) = (lengths, c.fits)
 
 -- one match alone is taken, so one list is filled
-one_filled : (rule : Rule) (tokens : List Token) (ns ms : List ℕ) → Chosen rule.left tokens ns → Chosen rule.left tokens ms → filled rule tokens ns ≡ filled rule tokens ms
-one_filled rule tokens ns ms c d = ap (filled rule tokens) (choice_once rule.left tokens ns ms c d)
+one_filled : (rule : Rule) (tokens : List Token) (ns ms : List ℕ) → Chosen (left_wants rule) tokens ns → Chosen (left_wants rule) tokens ms → filled rule tokens ns ≡ filled rule tokens ms
+one_filled rule tokens ns ms c d = ap (filled rule tokens) (choice_once (left_wants rule) tokens ns ms c d)
 
 one_application : {book : List RuleSet} {rule : Rule} {times depth work : ℕ} {tokens : List Token} {macros : Macros} {a b : Outcome} → Applies book rule times tokens depth work macros a → Applies book rule times tokens depth work macros b → a ≡ b
 one_application (loops rule times tokens depth work macros ns c e) (loops _ _ _ _ _ _ ms d e') = refl

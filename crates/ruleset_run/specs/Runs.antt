@@ -10,6 +10,7 @@ use Rattle.ruleset_run.specs.declared.fault.RunFault.TheVariants as faults
 use Rattle.ruleset_run.specs.declared.runner.Ran.{Ran}
 use Rattle.ruleset_run.specs.Books.{rules_named}
 use Rattle.ruleset_run.specs.Filling.{filled, is_resolved}
+use Rattle.ruleset_run.specs.Plain.{left_wants}
 
 -- names and values
 abbrev pub Macros : Type 0
@@ -26,13 +27,13 @@ Outcome = Result Done RunFault
 
 -- one application of a rule to tokens that it matches, where it was applied so many times in succession before: the filled list, or the first error
 pub data Applies (book : List RuleSet) : Rule → ℕ → List Token → ℕ → ℕ → Macros → Outcome → Type 0 where
-  loops : (rule : Rule) (times : ℕ) (tokens : List Token) (depth work : ℕ) (macros : Macros) (lengths : List ℕ) → Chosen rule.left tokens lengths
+  loops : (rule : Rule) (times : ℕ) (tokens : List Token) (depth work : ℕ) (macros : Macros) (lengths : List ℕ) → Chosen (left_wants rule) tokens lengths
       → 100 ≤ times → Applies book rule times tokens depth work macros (Err faults.Loop)
-  works : (rule : Rule) (times : ℕ) (tokens : List Token) (depth work : ℕ) (macros : Macros) (lengths : List ℕ) → Chosen rule.left tokens lengths
+  works : (rule : Rule) (times : ℕ) (tokens : List Token) (depth work : ℕ) (macros : Macros) (lengths : List ℕ) → Chosen (left_wants rule) tokens lengths
       → times < 100 → 10000 ≤ work → Applies book rule times tokens depth work macros (Err faults.Work)
-  long : (rule : Rule) (times : ℕ) (tokens : List Token) (depth work : ℕ) (macros : Macros) (lengths : List ℕ) → Chosen rule.left tokens lengths
+  long : (rule : Rule) (times : ℕ) (tokens : List Token) (depth work : ℕ) (macros : Macros) (lengths : List ℕ) → Chosen (left_wants rule) tokens lengths
       → times < 100 → work < 10000 → 2000 < length (filled rule tokens lengths) → Applies book rule times tokens depth work macros (Err faults.Long)
-  applied : (rule : Rule) (times : ℕ) (tokens : List Token) (depth work : ℕ) (macros : Macros) (lengths : List ℕ) → Chosen rule.left tokens lengths
+  applied : (rule : Rule) (times : ℕ) (tokens : List Token) (depth work : ℕ) (macros : Macros) (lengths : List ℕ) → Chosen (left_wants rule) tokens lengths
       → times < 100 → work < 10000 → length (filled rule tokens lengths) ≤ 2000
       → Applies book rule times tokens depth work macros (Ok (record { tokens = filled rule tokens lengths; work = work + 1; macros = macros }))
 
@@ -41,7 +42,7 @@ pub data Runs (book : List RuleSet) : List Rule → ℕ → List Token → ℕ �
   -- no rule is left
   no_rule : (times : ℕ) (tokens : List Token) (depth work : ℕ) (macros : Macros) → Runs book [] times tokens depth work macros (Ok (record { tokens = tokens; work = work; macros = macros }))
   -- the first rule doesn't match: what the next ones give
-  unmatched : (rule : Rule) (rules : List Rule) (times : ℕ) (tokens : List Token) (depth work : ℕ) (macros : Macros) (outcome : Outcome) → ((lengths : List ℕ) → Fits rule.left tokens lengths → ⊥)
+  unmatched : (rule : Rule) (rules : List Rule) (times : ℕ) (tokens : List Token) (depth work : ℕ) (macros : Macros) (outcome : Outcome) → ((lengths : List ℕ) → Fits (left_wants rule) tokens lengths → ⊥)
       → Runs book rules 0 tokens depth work macros outcome → Runs book (rule ∷ rules) times tokens depth work macros outcome
   -- its application is refused
   refused : (rule : Rule) (rules : List Rule) (times : ℕ) (tokens : List Token) (depth work : ℕ) (macros : Macros) (fault : RunFault) → Applies book rule times tokens depth work macros (Err fault)

@@ -4,11 +4,11 @@ ghost use Rattle.rule_match.specs.Choices.{Fits};
 ghost use Rattle.rule_match.specs.Kept.{kept_cuts};
 ghost use Rattle.ruleset_run.specs.Filling.{filled, step_filled};
 ghost use Rattle.ruleset_run.specs.Filling as spec;
-ghost use Rattle.ruleset_run.specs.Plain.{is_plain_book, is_plain_rule, is_plain_step, is_plain_there};
+ghost use Rattle.ruleset_run.specs.Plain.{is_plain, is_plain_book, is_plain_rule, is_plain_step, is_plain_there, left_wants};
 ghost use Rattle.ruleset_run.specs.Fills.{Fills, Pushes};
 
 use crate::RunFault;
-use mail_base::{Config, Mark, Piece, Rule, RuleSet, Seq, Step, Token, TryCopy};
+use mail_base::{Config, Item, Mark, Pattern, Piece, Rule, RuleSet, Seq, Step, Token, TryCopy};
 use rule_match::Cuts;
 use std::alloc::Global;
 use std::slice;
@@ -24,8 +24,8 @@ pub fn fill(
     cuts: &Cuts,
     tokens: &Seq<Token>,
 ) -> Result<Seq<Token>, RunFault>
-    requires { (lengths : List ℕ) × Fits rule.now.left tokens.now lengths × (cuts.now ≡ kept_cuts rule.now.left 0 lengths) }
-    ensures { (lengths : List ℕ) → Fits rule.now.left tokens.now lengths → cuts.now ≡ kept_cuts rule.now.left 0 lengths
+    requires { (lengths : List ℕ) × Fits (left_wants rule.now) tokens.now lengths × (cuts.now ≡ kept_cuts rule.now.left 0 lengths) }
+    ensures { (lengths : List ℕ) → Fits (left_wants rule.now) tokens.now lengths → cuts.now ≡ kept_cuts rule.now.left 0 lengths
         → Fills result (filled rule.now tokens.now lengths) }
 {
     let mut given = Seq::new(alloc);
@@ -36,13 +36,13 @@ pub fn fill(
 }
 
 fn piece_of<'a>(step: &'a Step, rule: &Rule, cuts: &Cuts, tokens: &'a Seq<Token>) -> &'a [Token]
-    requires { (lengths : List ℕ) × Fits rule.now.left tokens.now lengths × (cuts.now ≡ kept_cuts rule.now.left 0 lengths) }
-    ensures { (lengths : List ℕ) → Fits rule.now.left tokens.now lengths → cuts.now ≡ kept_cuts rule.now.left 0 lengths
+    requires { (lengths : List ℕ) × Fits (left_wants rule.now) tokens.now lengths × (cuts.now ≡ kept_cuts rule.now.left 0 lengths) }
+    ensures { (lengths : List ℕ) → Fits (left_wants rule.now) tokens.now lengths → cuts.now ≡ kept_cuts rule.now.left 0 lengths
         → result.now ≡ step_filled rule.now.left tokens.now lengths step.now }
 {
     match step {
         Step::Plain(Piece::Give(token)) => slice::from_ref(token),
-        Step::Plain(Piece::Cut(number)) => cuts.piece(&rule.left, tokens, *number),
+        Step::Plain(Piece::Cut(number)) => cuts.piece(tokens, *number),
         _ => &[],
     }
 }
@@ -101,7 +101,19 @@ fn is_plain_at(set: &RuleSet, number: u32) -> bool
 fn is_plain_rule(rule: &Rule) -> bool
     ensures { result ≡ is_plain_rule rule.now }
 {
-    rule_match::is_plain(&rule.left) && is_plain_right(rule)
+    is_plain_left(&rule.left) && is_plain_right(rule)
+}
+
+fn is_plain_left(left: &Pattern) -> bool
+    ensures { result ≡ list_all is_plain left.now }
+{
+    left.items().iter().all(|item| is_plain_item(item))
+}
+
+fn is_plain_item(item: &Item) -> bool
+    ensures { result ≡ is_plain item.now }
+{
+    matches!(item, Item::Any | Item::More | Item::One | Item::Exact(_))
 }
 
 fn is_plain_right(rule: &Rule) -> bool

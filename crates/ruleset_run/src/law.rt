@@ -1,10 +1,12 @@
 ghost use Rattle.std.specs.Prelude.{◌≡◌, List, ℕ, false};
 ghost use Rattle.std.specs.List.{list_any};
+ghost use Rattle.mail_base.specs.declared.classes.Classes.{Classes};
 ghost use Rattle.mail_base.specs.declared.token.Token.{Token};
 ghost use Rattle.mail_base.specs.declared.rule.RuleSet.{RuleSet};
 ghost use Rattle.mail_base.specs.declared.rule.Rule.{Rule};
 ghost use Rattle.mail_base.specs.Candidates.{is_candidate, is_late};
 ghost use Rattle.rule_match.specs.Choices.{Fits};
+ghost use Rattle.rule_match.specs.Wants.{wants};
 ghost use Rattle.ruleset_run.specs.Runs.{Macros, Outcome, RunsSet};
 
 /// A run has one outcome.
@@ -13,8 +15,10 @@ pub fn one_outcome()
         → RunsSet book name tokens depth work macros one → RunsSet book name tokens depth work macros another → one ≡ another }
 {}
 
-/// A rule that is no candidate for tokens has no `$&x` on its left side, and no match with them.
+/// A rule that is no candidate for tokens has no `$&x` on its left side, and no match with them,
+/// whatever the classes are.
 pub fn candidates_lose_no_match()
     ensures { (rule : Rule) (tokens : List Token) → is_candidate tokens rule ≡ false
-        → (list_any is_late rule.left ≡ false) × ((lengths : List ℕ) → Fits rule.left tokens lengths → ⊥) }
+        → (list_any is_late rule.left ≡ false)
+        × ((classes : Classes) (late : List (List Token)) (lengths : List ℕ) → Fits (wants classes late rule.left) tokens lengths → ⊥) }
 {}

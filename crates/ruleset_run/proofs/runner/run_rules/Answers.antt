@@ -1,22 +1,18 @@
 use Rattle.std.proofs.Common.{◌+◌, arith, sym, ◌∙◌, drop}
-use Rattle.std.specs.List.{list_all}
-use Rattle.std.proofs.lemmas.Bool.{and_parts}
 use Rattle.std.proofs.lemmas.Result.{err_from_is_err_and}
-use Rattle.rule_match.specs.Items.{is_plain}
-use Rattle.ruleset_run.specs.Plain.{is_plain_step}
 use Rattle.ruleset_run.specs.Runs.{Runs}
 use Rattle.ruleset_run.proofs.Moves.{step_unmatched, step_refused, step_resolved, step_returned, step_next, step_again}
 use Rattle.ruleset_run.proofs.Skipping.{drop_at, plain_at, below_length, skipped, all_passed, few_times}
 use Rattle.ruleset_run.proofs.runner.run_rules.Goals as goal
 
-pub find-requires : goal.find-requires
-find-requires c = (and_parts (list_all is_plain c.in-Some.rule.now.left) (list_all is_plain_step c.in-Some.rule.now.right.steps) (plain_at c.args.set.now.rules c.in-Some.number c.in-Some.rule.now c.in-Some.ensures.some.is c.requires.plain)).0
+pub find_plain-requires-clause-plain : goal.find_plain-requires-clause-plain
+find_plain-requires-clause-plain c = plain_at c.args.set.now.rules c.in-Some.number c.in-Some.rule.now c.in-Some.ensures.some.is c.requires.plain
 
-pub loop-number-preserved-in_default-find : goal.loop-number-preserved-in_default-find
-loop-number-preserved-in_default-find c =
+pub loop-number-preserved-in_default-find_plain : goal.loop-number-preserved-in_default-find_plain
+loop-number-preserved-in_default-find_plain c =
     let i = c.loop-number.invariant in record {
       completes = λ book depth macros o run. i.completes book depth macros o (skipped book c.args.set.now.rules c.loop-number.now.tokens depth c.loop-number.now.work macros c.loop-number.from c.in-Some.number c.loop-number.times c.times_at-times.result c.in-Some.rule.now o c.in-Some.ensures.some c.times_at-times.ensures
-          (step_unmatched book (drop c.in-Some.number c.args.set.now.rules) c.in-Some.rule.now (drop (c.in-Some.number + 1) c.args.set.now.rules) (drop_at c.args.set.now.rules c.in-Some.number c.in-Some.rule.now c.in-Some.ensures.some.is) _ _ _ _ _ c.in_default-find.ensures.none o run));
+          (step_unmatched book (drop c.in-Some.number c.args.set.now.rules) c.in-Some.rule.now (drop (c.in-Some.number + 1) c.args.set.now.rules) (drop_at c.args.set.now.rules c.in-Some.number c.in-Some.rule.now c.in-Some.ensures.some.is) _ _ _ _ _ c.in_default-find_plain.ensures.none o run));
       within = omega (arith, below_length c.args.set.now.rules c.in-Some.number c.in-Some.rule.now c.in-Some.ensures.some.is);
       times = omega arith;
       work = i.work;
