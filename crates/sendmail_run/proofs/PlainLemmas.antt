@@ -12,8 +12,7 @@ use Rattle.mail_base.specs.declared.rule.Step.TheVariants.{Plain}
 use Rattle.mail_base.specs.declared.rule.RuleSet.{RuleSet}
 use Rattle.mail_base.specs.declared.rule.Rule.{Rule}
 use Rattle.mail_base.specs.declared.config.Config.{Config}
-use Rattle.rule_match.specs.Items.{is_plain}
-use Rattle.ruleset_run.specs.Plain.{is_plain_step, is_plain_rule, is_plain_book}
+use Rattle.ruleset_run.specs.Plain.{is_plain, is_plain_step, is_plain_rule, is_plain_book}
 use Rattle.sendmail_run.specs.declared.logical.Logical.{Logical}
 use Rattle.sendmail_run.specs.declared.fault.Fault.{Fault}
 use Rattle.sendmail_run.specs.declared.fault.Refusal.{Refusal}
