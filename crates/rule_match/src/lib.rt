@@ -11,5 +11,5 @@ mod trial;
 
 pub use cuts::{Cut, Cuts};
 pub use law::{each_choice, one_choice, put_in};
-pub use matcher::find;
+pub use matcher::{find, lists_wanted};
 pub use trial::find_by_trial;

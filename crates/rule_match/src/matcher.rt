@@ -36,6 +36,17 @@ pub fn find(
     }
 }
 
+/// How many lists [`find`] wants with the pattern: one for each `$&x`.
+pub fn lists_wanted(pattern: &Pattern) -> usize
+    ensures { result ≡ count_by is_late pattern.now }
+{
+    pattern
+        .items()
+        .iter()
+        .filter(|item| matches!(item, Item::Late(_)))
+        .count()
+}
+
 /// The same where none of the items is a phrase of a class.
 ///
 /// Each `$*` and `$+` is tried at growing lengths until the items up to the next of them meet the
