@@ -1,7 +1,9 @@
-ghost use Rattle.std.specs.Prelude.{◌≡◌, ◌+◌, ◌≤◌, ◌<◌, List, ℕ, ◌∷◌, ◌*◌, IfSome, IfNone, length, drop, count_by, false};
+ghost use Rattle.std.specs.Prelude.{◌≡◌, ◌+◌, ◌≤◌, ◌<◌, List, ℕ, ◌∷◌, ◌*◌, IfSome, IfNone, length, drop, count_by, true, false};
 ghost use Rattle.std.specs.List.{list_any};
 ghost use Rattle.mail_base.specs.Candidates.{is_late};
 ghost use Rattle.mail_base.specs.Metas.{is_meta};
+ghost use Rattle.mail_base.specs.declared.classes.Classes.{Classes};
+ghost use Rattle.mail_base.specs.declared.token.Token.{Token};
 ghost use Rattle.rule_match.specs.Choices.{Fits};
 ghost use Rattle.rule_match.specs.Kept.{IsChoice};
 ghost use Rattle.rule_match.specs.Steps.{front_stands, front_width, is_class, is_free, IsFirst, IsNext};
@@ -29,6 +31,9 @@ pub fn find(
     ensures none { IfNone result ((lengths : List ℕ) → Fits (wants classes.now late.now pattern.now) tokens.now lengths → ⊥) }
 {
     let items = pattern.items();
+    if ends_otherwise(items, tokens.items()) {
+        return None;
+    }
     if any_class(items) {
         find_phrases(classes, late.items(), items, tokens.items())
     } else {
@@ -45,6 +50,22 @@ pub fn lists_wanted(pattern: &Pattern) -> usize
         .iter()
         .filter(|item| matches!(item, Item::Late(_)))
         .count()
+}
+
+/// Whether the last item is a token, and the tokens end with none or with another.
+fn ends_otherwise(items: &[Item], tokens: &[Token]) -> bool
+    ensures { result ≡ true → (classes : Classes) (late : List (List Token)) (lengths : List ℕ) → Fits (wants classes late items.now) tokens.now lengths → ⊥ }
+{
+    let Some((item, _before)) = items.split_last() else {
+        return false;
+    };
+    let Item::Exact(token) = item else {
+        return false;
+    };
+    let Some((last, _front)) = tokens.split_last() else {
+        return true;
+    };
+    token != last
 }
 
 /// The same where none of the items is a phrase of a class.
@@ -232,6 +253,33 @@ fn front_width(late: &[Seq<Token>], items: &[Item], most: usize) -> Option<(usiz
 
 /// Whether the items before the first of several possible lengths meet the first tokens.
 fn front_stands(classes: &Classes, late: &[Seq<Token>], items: &[Item], tokens: &[Token]) -> bool
+    ensures { result ≡ front_stands (wants classes.now late.now items.now) tokens.now }
+{
+    if begins_otherwise(items, tokens) {
+        return false;
+    }
+    front_meets(classes, late, items, tokens)
+}
+
+/// Whether the first item is a token, and the tokens begin with another. Most fronts that don't stand
+/// are seen by this alone.
+fn begins_otherwise(items: &[Item], tokens: &[Token]) -> bool
+    ensures { result ≡ true → (classes : Classes) (late : List (List Token)) → front_stands (wants classes late items.now) tokens.now ≡ false }
+{
+    let Some((item, _after)) = items.split_first() else {
+        return false;
+    };
+    let Item::Exact(token) = item else {
+        return false;
+    };
+    let Some((first, _rest)) = tokens.split_first() else {
+        return false;
+    };
+    token != first
+}
+
+/// The same as whether the front stands, item by item.
+fn front_meets(classes: &Classes, late: &[Seq<Token>], items: &[Item], tokens: &[Token]) -> bool
     ensures { result ≡ front_stands (wants classes.now late.now items.now) tokens.now }
 {
     let mut lists = late;
