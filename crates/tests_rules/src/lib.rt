@@ -11,6 +11,8 @@ mod macros;
 #[cfg(test)]
 mod matches;
 #[cfg(test)]
+mod phrases;
+#[cfg(test)]
 mod runs;
 #[cfg(test)]
 mod sets;

@@ -1,11 +1,11 @@
 // Which match a left side takes, and what its items take in it.
 use crate::signs::{Broken, are_signs, pattern_of, repeated, tokens_of};
-use mail_base::{Pattern, Seq, Token};
-use rule_match::{Cuts, find, find_by_trial, is_plain};
+use mail_base::{Classes, Pattern, Seq, Token};
+use rule_match::{Cuts, find, find_by_trial, lists_wanted};
 use std::alloc::Global;
 
 // Where the part of each item begins, and how long it is.
-type Pairs = &'static [(usize, usize)];
+pub type Pairs = &'static [(usize, usize)];
 
 fn are_pairs(cuts: &Cuts, pairs: Pairs) -> bool {
     for (cut, pair) in cuts.cuts().iter().zip(pairs) {
@@ -25,10 +25,28 @@ fn is_wanted(found: &Option<Cuts>, wanted: Option<Pairs>) -> bool {
 }
 
 // Whether the search and the trial of all lengths both take these cuts, or both none.
+pub fn is_taken(
+    pattern: &Pattern,
+    tokens: &Seq<Token>,
+    classes: &Classes,
+    late: &Seq<Seq<Token>>,
+    wanted: Option<Pairs>,
+) -> bool {
+    lists_wanted(pattern) == late.len()
+        && is_wanted(&find(pattern, tokens, classes, late), wanted)
+        && is_wanted(&find_by_trial(pattern, tokens, classes, late), wanted)
+}
+
+// The same where no class and no macro counts.
 fn takes(pattern: &Pattern, tokens: &Seq<Token>, wanted: Option<Pairs>) -> bool {
-    is_plain(pattern)
-        && is_wanted(&find(pattern, tokens), wanted)
-        && is_wanted(&find_by_trial(pattern, tokens), wanted)
+    let alloc = tokens.allocator();
+    is_taken(
+        pattern,
+        tokens,
+        &Classes::new(alloc),
+        &Seq::new(alloc),
+        wanted,
+    )
 }
 
 // A left side, tokens, and their match.
@@ -75,7 +93,11 @@ fn takes_the_least_match(rt: HostRuntime) -> Result<(), Broken> {
 fn is_refused(alloc: Global, left: &str) -> Result<bool, Broken> {
     let pattern = pattern_of(alloc, left)?;
     let tokens = repeated(alloc, b'a', 200)?;
-    Ok(is_plain(&pattern) && find(&pattern, &tokens).is_none())
+    let late = Seq::new(alloc);
+    Ok(
+        lists_wanted(&pattern) == late.len()
+            && find(&pattern, &tokens, &Classes::new(alloc), &late).is_none(),
+    )
 }
 
 #[test]
@@ -88,12 +110,14 @@ fn answers_at_once(rt: HostRuntime) -> Result<(), Broken> {
 const PIECES: &[(u8, &str)] = &[(1, "a"), (2, "bc"), (3, ""), (0, "")];
 
 fn wrong_piece(pattern: &Pattern, tokens: &Seq<Token>) -> Result<Option<u8>, Broken> {
-    if !is_plain(pattern) {
+    let late = Seq::new(tokens.allocator());
+    if lists_wanted(pattern) != late.len() {
         return Err(Broken::NotPlain);
     }
-    let cuts = find(pattern, tokens).ok_or(Broken::NoMatch)?;
+    let classes = Classes::new(tokens.allocator());
+    let cuts = find(pattern, tokens, &classes, &late).ok_or(Broken::NoMatch)?;
     for (number, wanted) in PIECES {
-        if !are_signs(cuts.piece(pattern, tokens, *number), wanted) {
+        if !are_signs(cuts.piece(tokens, *number), wanted) {
             return Ok(Some(*number));
         }
     }
