@@ -271,6 +271,60 @@ fn a_path_has_256_bytes_and_its_local_part_64(rt: HostRuntime) -> Result<(), NoM
     Ok(())
 }
 
+/// How each of a message's 1,024 lines begins, how many bytes more it has, how many the last one, and how what is
+/// said at the message's end begins.
+type Limit = (&'static [u8], usize, usize, &'static [u8]);
+
+static LIMITS: [Limit; 4] = [
+    (b"a:", 60, 60, b"<b><a>{a:"),
+    (b"a:", 60, 61, b"552 5.6.0"),
+    (b"", 16_382, 16_382, b"<b><a>[x"),
+    (b"", 16_382, 16_383, b"552 5.3.4"),
+];
+
+const LIMITED: Frame = Frame {
+    before: b"MAIL FROM:<b>\r\nRCPT TO:<a>\r\nDATA\r\n",
+    behind: b".\r\n",
+    front: 1_119,
+    end: 0,
+};
+
+fn line_of(alloc: Global, front: &[u8], more: usize) -> Result<Text, NoMemory> {
+    let mut line = Text::of(alloc, front)?;
+    fill(&mut line, b'x', more)?;
+    line.extend(b"\r\n")?;
+    Ok(line)
+}
+
+fn extend_often(stream: &mut Text, line: &Text, count: usize) -> Result<(), NoMemory> {
+    for _ in 0..count {
+        stream.extend(line.bytes())?;
+    }
+    Ok(())
+}
+
+fn add_lines(stream: &mut Text, row: &Limit) -> Result<(), NoMemory> {
+    let alloc = stream.allocator();
+    extend_often(stream, &line_of(alloc, row.0, row.1)?, 1_023)?;
+    extend_often(stream, &line_of(alloc, row.0, row.2)?, 1)
+}
+
+fn is_limit(alloc: Global, row: &Limit) -> Result<bool, NoMemory> {
+    let mut stream = Text::of(alloc, LIMITED.before)?;
+    add_lines(&mut stream, row)?;
+    stream.extend(LIMITED.behind)?;
+    let said = said_to(alloc, stream.bytes())?;
+    Ok(inside(said.bytes(), &LIMITED).starts_with(row.3))
+}
+
+#[test]
+fn headers_have_65536_bytes_and_a_message_16777216(rt: HostRuntime) -> Result<(), NoMemory> {
+    for row in &LIMITS {
+        assert!(rt; is_limit(rt.alloc(), row)?, "{} and {}", row.1, row.2);
+    }
+    Ok(())
+}
+
 /// What is said to the lines behind one for which there was no memory in mid-data.
 fn hear_after_reset(session: &mut Session, said: &mut Text) -> Result<(), NoMemory> {
     let alloc = said.allocator();
