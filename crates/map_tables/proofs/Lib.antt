@@ -1,0 +1,5 @@
+mod AnswerLemmas
+mod ArithmeticLemmas
+mod LineLemmas
+mod ScanLemmas
+mod TableLemmas

@@ -1,0 +1,8 @@
+use Rattle.std.proofs.Common.{sym}
+use Rattle.map_tables.specs.Answers.{answers}
+use Rattle.map_tables.proofs.AnswerLemmas.{unless_sequence}
+use Rattle.map_tables.proofs.answering.before.Goals as goal
+
+pub returns : goal.returns
+returns c =
+    unless_sequence c.args.map.now.line.class c.args.hosts.now c.args.key.now c.args.args.now c.new.result (answers c.args.hosts.now c.args.key.now c.args.args.now c.args.maps.now) c.args.map.now (sym c.if-is_sequence.ensures)

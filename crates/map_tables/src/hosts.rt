@@ -1,0 +1,107 @@
+ghost use Rattle.std.specs.Prelude.{◌≡◌, ◌++◌, IfOk, OnOk, map};
+ghost use Rattle.std.specs.List.{list_any};
+ghost use Rattle.std.specs.Option.{option_copied, option_to_list};
+ghost use Rattle.std.specs.Str.{str_eq_ignore_ascii_case};
+ghost use Rattle.map_tables.specs.Hosts.{before_comment, has_name, host_line, host_lines, host_of, line_of};
+
+use crate::lines::{split_line, words};
+use bstr::ByteSlice;
+use mail_base::{NoMemory, Seq, Text};
+use std::alloc::Global;
+
+/// A line of the host table.
+#[derive(Drop)]
+pub struct HostLine {
+    pub address: Text,
+    /// The name that a look-up of any of its names gives.
+    pub name: Text,
+    pub aliases: Seq<Text>,
+}
+
+// The first line that has a name, without ASCII case.
+pub(crate) fn line_of<'a>(hosts: &'a Seq<HostLine>, name: &Text) -> Option<&'a HostLine>
+    ensures { option_copied result ≡ line_of name.now hosts.now }
+{
+    for line in hosts.items() {
+        if line.has_name(name) {
+            return Some(line);
+        }
+    }
+    None
+}
+
+impl HostLine {
+    fn has_name(&self, name: &Text) -> bool
+        ensures { result ≡ has_name name.now self.now }
+    {
+        name.is_folded(&self.name) || is_among(name, self.aliases.items())
+    }
+}
+
+fn is_among(name: &Text, names: &[Text]) -> bool
+    ensures { result ≡ list_any (str_eq_ignore_ascii_case name.now) names.now }
+{
+    names.iter().any(|other| name.is_folded(other))
+}
+
+pub(crate) fn host_lines(alloc: Global, text: &[u8]) -> Result<Seq<HostLine>, NoMemory>
+    ensures { IfOk result (λ hosts. hosts ≡ host_lines text.now) }
+{
+    let mut hosts = Seq::new(alloc);
+    let mut rest = text;
+    'lines: while !rest.is_empty() {
+        let (line, after) = split_line(rest);
+        put(&mut hosts, host_line(alloc, line)?)?;
+        rest = after;
+    }
+    Ok(hosts)
+}
+
+// Puts what a line says at the end.
+fn put(hosts: &mut Seq<HostLine>, host: Option<HostLine>) -> Result<(), NoMemory>
+    ensures { OnOk result (hosts.new ≡ hosts.old ++ option_to_list host) }
+{
+    match host {
+        Some(host) => hosts.push(host),
+        None => Ok(()),
+    }
+}
+
+fn host_line(alloc: Global, line: &[u8]) -> Result<Option<HostLine>, NoMemory>
+    ensures { IfOk result (λ host. host ≡ host_line line.now) }
+{
+    let words = words(alloc, before_comment(line))?;
+    host_of(alloc, words.as_slice())
+}
+
+fn before_comment(line: &[u8]) -> &[u8]
+    ensures { result.now ≡ before_comment line.now }
+{
+    match line.find_byte(b'#') {
+        Some(end) => &line[..end],
+        None => line,
+    }
+}
+
+fn host_of(alloc: Global, words: &[&[u8]]) -> Result<Option<HostLine>, NoMemory>
+    ensures { IfOk result (λ host. host ≡ host_of (map (λ word. word.now) words.now)) }
+{
+    match words {
+        [address, name, aliases @ ..] => Ok(Some(HostLine {
+            address: Text::of(alloc, address)?,
+            name: Text::of(alloc, name)?,
+            aliases: texts(alloc, aliases)?,
+        })),
+        _ => Ok(None),
+    }
+}
+
+fn texts(alloc: Global, words: &[&[u8]]) -> Result<Seq<Text>, NoMemory>
+    ensures { IfOk result (λ texts. texts ≡ map (λ word. word.now) words.now) }
+{
+    let mut texts = Seq::new(alloc);
+    for word in words {
+        texts.push(Text::of(alloc, word)?)?;
+    }
+    Ok(texts)
+}

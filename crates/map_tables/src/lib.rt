@@ -1,0 +1,23 @@
+//! Maps: the tables of the K lines of a configuration, the host table, and what a look-up answers. What
+//! each class answers is said in `specs/`.
+#![tactic(auto)]
+
+mod answer;
+mod answering;
+mod arith;
+mod files;
+mod found;
+mod hosts;
+mod lines;
+mod maps;
+mod named;
+mod percent;
+mod quotes;
+mod table;
+
+pub use files::wanted;
+pub use found::{Found, MapFault};
+pub use hosts::HostLine;
+pub use maps::Maps;
+pub use named::Named;
+pub use table::{Table, first_line_counts};
