@@ -35,7 +35,7 @@ module _ (hosts : List HostLine) (key : List ℕ) (args : List (List ℕ)) where
   longer given map = length-append given (answer hosts key args given map ∷ [])
 
   -- answers stand where they were given
-  stays : (given : List Answer) (maps : List Table) (k : ℕ) → k < length given → slice_get (fold (with_answer hosts key args) given maps) k ≡ slice_get given k
+  pub stays : (given : List Answer) (maps : List Table) (k : ℕ) → k < length given → slice_get (fold (with_answer hosts key args) given maps) k ≡ slice_get given k
   stays given [] k lt = refl
   stays given (map ∷ maps) k lt =
       stays (with_answer hosts key args given map) maps k (omega (arith, lt, longer given map)) ∙ at_front given (answer hosts key args given map ∷ []) k lt
@@ -53,7 +53,7 @@ module _ (hosts : List HostLine) (key : List ℕ) (args : List (List ℕ)) where
       let next : length given + suc k ≡ length (with_answer hosts key args given first) + k = omega (arith, longer given first) in
       ap (slice_get (fold (with_answer hosts key args) (with_answer hosts key args given first) maps)) next ∙ gives (with_answer hosts key args given first) maps k map is
 
-  long : (given : List Answer) (maps : List Table) → length (fold (with_answer hosts key args) given maps) ≡ length given + length maps
+  pub long : (given : List Answer) (maps : List Table) → length (fold (with_answer hosts key args) given maps) ≡ length given + length maps
   long given [] = omega arith
   long given (map ∷ maps) = omega (arith, long (with_answer hosts key args given map) maps, longer given map)
 
@@ -71,6 +71,12 @@ module _ (hosts : List HostLine) (key : List ℕ) (args : List (List ℕ)) where
       at_least [] i e = omega arith
       at_least (m ∷ ms) zero e = absurd (none_some m e)
       at_least (m ∷ ms) (suc i) e = omega (arith, at_least ms i e)
+
+-- what stands at a place is within
+pub stands_within : (maps : List Table) (k : ℕ) (map : Table) → Some map ≡ slice_get maps k → k < length maps
+stands_within [] k map e = absurd (none_some map (sym e))
+stands_within (m ∷ maps) zero map e = omega arith
+stands_within (m ∷ maps) (suc k) map e = omega (arith, stands_within maps k map e)
 
 -- a map that is no sequence answers the same whatever stands before it
 pub unless_sequence : (class : MapClass) (hosts : List HostLine) (key : List ℕ) (args : List (List ℕ)) (one other : List Answer) (map : Table) → is_sequence class ≡ false

@@ -1,5 +1,6 @@
 mod AnswerLemmas
 mod ArithmeticLemmas
+mod LawLemmas
 mod LineLemmas
 mod ScanLemmas
 mod TableLemmas

@@ -178,8 +178,8 @@ fn map_at(maps: &[Table], place: usize) -> Option<&Table>
     maps.get(place)
 }
 
-// Answers from which that of a map follows: a sequence's from those of all maps before it, and another
-// map's from none.
+// Answers from which that of a map follows: a sequence's from those of all maps before it, and
+// another map's from none.
 fn before(
     maps: &[Table],
     map: &Table,

@@ -1,5 +1,5 @@
-//! Maps: the tables of the K lines of a configuration, the host table, and what a look-up answers. What
-//! each class answers is said in `specs/`.
+//! Maps: the tables of the K lines of a configuration, the host table, and what a look-up answers.
+//! What each class answers is said in `specs/`.
 #![tactic(auto)]
 
 mod answer;
@@ -8,6 +8,7 @@ mod arith;
 mod files;
 mod found;
 mod hosts;
+mod law;
 mod lines;
 mod maps;
 mod named;
@@ -18,6 +19,7 @@ mod table;
 pub use files::wanted;
 pub use found::{Found, MapFault};
 pub use hosts::HostLine;
+pub use law::{each_lookup_is_told, sequence_hands_on};
 pub use maps::Maps;
 pub use named::Named;
 pub use table::{Table, first_line_counts};

@@ -42,8 +42,8 @@ impl Model for Maps {
 }
 
 impl Maps {
-    /// The maps of a configuration, with these files, and the host table of a text. A file that isn't
-    /// among these is an empty table; of two of one name the first counts.
+    /// The maps of a configuration, with these files, and the host table of a text. A file that
+    /// isn't among these is an empty table; of two of one name the first counts.
     pub fn load(
         alloc: Global,
         config: &Config,
@@ -62,8 +62,8 @@ impl Maps {
         })
     }
 
-    /// What the map of a name says of a key, with these arguments. A map of the class macro changes a
-    /// macro; after an error the macros are as before.
+    /// What the map of a name says of a key, with these arguments. A map of the class macro changes
+    /// a macro; after an error the macros are as before.
     pub fn lookup(
         &self,
         name: &Text,

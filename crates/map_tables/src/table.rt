@@ -20,7 +20,8 @@ pub struct Table {
     pub pairs: Catalog<Text>,
 }
 
-/// The first line of a key counts: the table has at each key what the first of the file's pairs with it has.
+/// The first line of a key counts: the table has at each key what the first of the file's pairs with
+/// it has.
 pub fn first_line_counts()
     ensures { (map : MapLine) (text key : List ℕ) → value_at key (first_pairs (file_pairs map text)) ≡ value_at key (file_pairs map text) }
 {}
