@@ -5,7 +5,7 @@ use crate::queue_tests::is_so;
 use crate::stream::{InputStream, OutputStream};
 use mail_base::{EdgeFault, Failed, Text};
 use mail_edge::{Files, Sink, Source};
-use sendmail_run::Outcome;
+use sendmail_run::{Fault, Outcome};
 use std::io::{ErrorKind, Read, Write};
 use std::net::IpAddr;
 use std::test::Fail;
@@ -141,29 +141,48 @@ fn a_disk_has_files(rt: HostRuntime) -> Result<(), Fail> {
     Ok(())
 }
 
-// Whether this is the line that tells an outcome.
-fn is_told(rt: &HostRuntime, outcome: &Outcome, wanted: &[u8]) -> bool {
+// Whether an outcome has this status and this line on standard error.
+fn is_told(rt: &HostRuntime, outcome: &Outcome, status: u8, wanted: &[u8]) -> bool {
     let mut line = Vec::new(rt.alloc());
-    tell(&mut line, outcome).is_ok() && line.as_slice() == wanted
+    outcome.status() == status && tell(&mut line, outcome).is_ok() && line.as_slice() == wanted
 }
 
 #[test]
-fn an_outcome_is_told_in_a_line(rt: HostRuntime) -> Result<(), Fail> {
-    assert!(rt; is_told(&rt, &Outcome::Done, b""));
-    assert!(rt; is_told(&rt, &Outcome::Usage(3), b"sendmail: bad word 3\n"));
-    assert!(rt; is_told(&rt, &Outcome::InputLarge, b"sendmail: input too large\n"));
-    assert!(rt; is_told(&rt, &Outcome::FloorFault, b"sendmail: floor fault\n"));
+fn an_outcome_of_any_mode_has_a_status_and_a_line(rt: HostRuntime) -> Result<(), Fail> {
+    let refused = Outcome::ConfigLine(4, Fault::NoTab);
+    assert!(rt; is_told(&rt, &Outcome::Done, 0, b""));
+    assert!(rt; is_told(&rt, &Outcome::Usage(3), 64, b"sendmail: bad word 3\n"));
+    assert!(rt; is_told(&rt, &Outcome::NoMemory, 71, b"sendmail: no memory\n"));
+    assert!(rt; is_told(&rt, &Outcome::FilesFault, 72, b"sendmail: files fault\n"));
     assert!(rt;
         is_told(
             &rt,
-            &Outcome::TurnsSpent(1 << 60),
-            b"sendmail: turns spent\n"
+            &refused,
+            78,
+            b"sendmail: configuration line 4: NoTab\n"
         )
     );
-    assert!(rt; is_told(&rt, &Outcome::SpoolFault, b"sendmail: spool fault\n"));
-    assert!(rt; is_told(&rt, &Outcome::IdsSpent, b"sendmail: ids spent\n"));
-    assert!(rt; is_told(&rt, &Outcome::NotYet, b"sendmail: not yet\n"));
     let no_file = Outcome::NoFile(Text::of(rt.alloc(), b"row1.cf")?);
-    assert!(rt; is_told(&rt, &no_file, b"sendmail: no file row1.cf\n"));
+    assert!(rt; is_told(&rt, &no_file, 66, b"sendmail: no file row1.cf\n"));
     Ok(())
+}
+
+#[test]
+fn an_outcome_of_one_mode_has_a_status_and_a_line(rt: HostRuntime) {
+    let turns = Outcome::TurnsSpent(1 << 60);
+    assert!(rt; is_told(&rt, &Outcome::WriteFault, 73, b"sendmail: write fault\n"));
+    assert!(rt; is_told(&rt, &Outcome::ReadFault, 74, b"sendmail: read fault\n"));
+    assert!(rt;
+        is_told(
+            &rt,
+            &Outcome::InputLarge,
+            76,
+            b"sendmail: input too large\n"
+        )
+    );
+    assert!(rt; is_told(&rt, &Outcome::FloorFault, 69, b"sendmail: floor fault\n"));
+    assert!(rt; is_told(&rt, &turns, 70, b"sendmail: turns spent\n"));
+    assert!(rt; is_told(&rt, &Outcome::SpoolFault, 75, b"sendmail: spool fault\n"));
+    assert!(rt; is_told(&rt, &Outcome::IdsSpent, 77, b"sendmail: ids spent\n"));
+    assert!(rt; is_told(&rt, &Outcome::NotYet, 81, b"sendmail: not yet\n"));
 }

@@ -9,6 +9,7 @@ pub mod CommandLines
 pub mod Words
 pub mod Printing
 pub mod Serving
+pub mod Outcomes
 pub mod Runs
 pub mod Taking
 pub mod Beginning

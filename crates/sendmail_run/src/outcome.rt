@@ -1,3 +1,6 @@
+ghost use Rattle.std.specs.Prelude.{◌≡◌};
+ghost use Rattle.sendmail_run.specs.Outcomes.{status_of};
+
 use crate::fault::Fault;
 use mail_base::Text;
 
@@ -35,7 +38,9 @@ pub enum Outcome {
 
 impl Outcome {
     /// The status that the program ends with, as sysexits has it.
-    pub fn status(&self) -> u8 {
+    pub fn status(&self) -> u8
+        ensures { result ≡ status_of self.now }
+    {
         match self {
             Outcome::Done => 0,
             Outcome::Usage(_) => 64,
