@@ -14,7 +14,7 @@ use Rattle.mail_base.specs.declared.config.Config.{Config}
 use Rattle.sendmail_run.specs.declared.input.Partial.{Partial}
 use Rattle.sendmail_run.specs.LogicalLines.{physical_lines}
 use Rattle.sendmail_run.specs.Printing.{Printed, Answers, is_quit}
-use Rattle.sendmail_run.specs.Runs.{ended, ended_lines, holds_quit}
+use Rattle.sendmail_run.specs.Testing.{ended, ended_lines, holds_quit}
 use Rattle.sendmail_run.specs.Taking.{has_end, with_end, lines_of, Keeps, Cut, Stands, Quits, AnswersLast}
 
 -- ---- tests
@@ -179,10 +179,15 @@ stands_quit config taken text old more s quit =
     ap physical_lines flat ∙ lines_cut raws more cut.each ∙ ap (λ (x : List (List ℕ)). x ++ physical_lines more) ls ∙ append_assoc (lines_of s.raws) (q ∷ []) (physical_lines more) in
     let printed : Printed config (lines_of s.raws ++ (q ∷ physical_lines more)) (text ++ []) =
     printed_more config (lines_of s.raws) (q ∷ physical_lines more) text [] s.printed s.on (yes_match (is_quit q) _ _ yes refl) in
+    let before : ended_lines ((taken ++ 10 ∷ []) ++ more) ≡ lines_of s.raws ++ (q ∷ ended_lines more) =
+    ap ended_lines flat ∙ ended_lines_cut raws more cut.each ∙ ap (λ (x : List (List ℕ)). x ++ ended_lines more) ls ∙ append_assoc (lines_of s.raws) (q ∷ []) (ended_lines more) in
+    let printed_ended : Printed config (lines_of s.raws ++ (q ∷ ended_lines more)) (text ++ []) =
+    printed_more config (lines_of s.raws) (q ∷ ended_lines more) text [] s.printed s.on (yes_match (is_quit q) _ _ yes refl) in
     let here : list_any is_quit (lines_of raws) ≡ true =
     ap (list_any is_quit) ls ∙ list_any-append is_quit (lines_of s.raws) (q ∷ []) ∙ or_right (list_any is_quit (lines_of s.raws)) (is_quit q || false) (or_left (is_quit q) false yes) in
     record {
       printed = subst (λ (t : List ℕ). Printed config (physical_lines ((taken ++ 10 ∷ []) ++ more)) t) (append-nil text) (subst (λ (x : List (List ℕ)). Printed config x (text ++ [])) (sym lines) printed);
+      among = subst (λ (t : List ℕ). Printed config (ended_lines ((taken ++ 10 ∷ []) ++ more)) t) (append-nil text) (subst (λ (x : List (List ℕ)). Printed config x (text ++ [])) (sym before) printed_ended);
       quit = ap (list_any is_quit) (ap ended_lines flat ∙ ended_lines_cut raws more cut.each) ∙ list_any-append is_quit (lines_of raws) (ended_lines more) ∙ or_left (list_any is_quit (lines_of raws)) (list_any is_quit (ended_lines more)) here;
     }
 
@@ -198,9 +203,9 @@ pub stands_on : (config : Config) (taken text : List ℕ) (partial : Partial) �
 stands_on config taken text partial s = ap (list_any is_quit) (stands_lines config taken text partial s) ∙ s.on
 
 -- the lines that are answered stand in front, whatever comes behind
-pub stands_front : (config : Config) (taken text : List ℕ) (partial : Partial) (more : List ℕ) → (s : Stands config taken partial text) → physical_lines (taken ++ more) ≡ lines_of s.raws ++ physical_lines (s.rest ++ more)
+pub stands_front : (config : Config) (taken text : List ℕ) (partial : Partial) (more : List ℕ) → (s : Stands config taken partial text) → ended_lines (taken ++ more) ≡ lines_of s.raws ++ ended_lines (s.rest ++ more)
 stands_front config taken text partial more s =
-    ap (λ (q : List ℕ). physical_lines (q ++ more)) s.cut.whole ∙ ap physical_lines (append_assoc (flat_map with_end s.raws) s.rest more) ∙ lines_cut s.raws (s.rest ++ more) s.cut.each
+    ap (λ (q : List ℕ). ended_lines (q ++ more)) s.cut.whole ∙ ap ended_lines (append_assoc (flat_map with_end s.raws) s.rest more) ∙ ended_lines_cut s.raws (s.rest ++ more) s.cut.each
 
 -- the last line
 last_printed : (config : Config) (rest a : List ℕ) → has_end rest ≡ false → AnswersLast config rest a → Printed config (physical_lines rest) a

@@ -1,212 +1,219 @@
 -- How a whole run ends.
-use Rattle.std.proofs.Common.{◌≡◌, ℕ, ◌<◌, ◌≤◌, ◌^◌, List, length, Option, Some, None, Ok, Err, refl, sym, ◌∙◌, ap, subst, arith, length-append, inl, inr, ⊎_elim}
+use Rattle.std.proofs.Common.{◌≡◌, ℕ, ◌<◌, ◌≤◌, ◌^◌, List, length, Option, Some, None, Result, Ok, Err, refl, sym, ◌∙◌, ap, subst, arith, length-append, inl, inr, ⊎_elim}
 use Rattle.std.proofs.Math.Nat.{le_refl}
 use Rattle.std.specs.Prelude.{IfSome}
+use Rattle.link_edge.specs.Heard.{Heard}
 use Rattle.mail_base.specs.declared.config.Config.{Config}
-use Rattle.mail_edge.specs.Seen.{SourceSeen, SinkSeen, FilesSeen, FileMap, text_of}
+use Rattle.mail_base.specs.Histories.{Rose}
+use Rattle.mail_core.specs.declared.serving.Ending.{Ending}
+use Rattle.mail_core.specs.declared.serving.Ending.TheVariants as endings
+use Rattle.mail_core.specs.declared.serving.Went.TheVariants.{Ends as WentOut}
+use Rattle.mail_core.specs.Seen.{seen as core_seen}
 use Rattle.mail_edge.specs.Moves.{Loses}
+use Rattle.mail_edge.specs.Seen.{SourceSeen, SinkSeen, FilesSeen, FileMap, ClockSeen, text_of}
+use Rattle.spool_disk.specs.Spooled.{Spooled}
+use Rattle.spool_store.specs.declared.fault.OpenFault.{OpenFault}
+use Rattle.spool_store.specs.declared.fault.OpenFault.TheVariants as open_faults
+use Rattle.sendmail_run.specs.declared.address_test.TestEnd.{TestEnd}
+use Rattle.sendmail_run.specs.declared.address_test.TestEnd.TheVariants as test_ends
 use Rattle.sendmail_run.specs.declared.command_line.Job.{Job}
 use Rattle.sendmail_run.specs.declared.command_line.Job.TheVariants.{Test, Session}
 use Rattle.sendmail_run.specs.declared.command_line.Mode.{Mode}
+use Rattle.sendmail_run.specs.declared.command_line.WordFault.{WordFault}
+use Rattle.sendmail_run.specs.declared.command_line.WordFault.TheVariants as word_faults
+use Rattle.sendmail_run.specs.declared.fault.ConfigFault.{ConfigFault}
+use Rattle.sendmail_run.specs.declared.fault.ConfigFault.TheVariants as config_faults
 use Rattle.sendmail_run.specs.declared.fault.Refusal.{Refusal}
 use Rattle.sendmail_run.specs.declared.outcome.Outcome.{Outcome}
-use Rattle.sendmail_run.specs.declared.outcome.Outcome.TheVariants.{Done, Usage, NoFile, NoMemory, FilesFault, WriteFault, ReadFault, InputLarge, ConfigLine, FloorFault, TurnsSpent, SpoolFault, IdsSpent, NotYet}
+use Rattle.sendmail_run.specs.declared.outcome.Outcome.TheVariants as outcomes
+use Rattle.sendmail_run.specs.declared.session_mode.SessionEnd.{SessionEnd}
+use Rattle.sendmail_run.specs.declared.session_mode.SessionEnd.TheVariants as session_ends
+use Rattle.sendmail_run.specs.Beginning.{Begins, HasText}
 use Rattle.sendmail_run.specs.Configuration.{configuration}
-use Rattle.sendmail_run.specs.CommandLines.{IsCommandLine, IsRefusedAt}
-use Rattle.mail_core.specs.Seen.{Seen as CoreSeen}
-use Rattle.sendmail_run.specs.Serving.{Serves}
-use Rattle.sendmail_run.specs.Runs.{Seen, seen, IsIdle, IsUntouched, Tests, Works, Answered, Ends, HasText, HasConfig, IsCutOff, IsBroken, IsReady, IsReadyToServe, IsLater, Completes, CompletesService}
-use Rattle.sendmail_run.specs.Beginning.{Begins}
+use Rattle.sendmail_run.specs.CommandLines.{Fails, IsCommandLine}
+use Rattle.sendmail_run.specs.Devices.{World, streams, streams_of, core_of, world}
+use Rattle.sendmail_run.specs.Outcomes.{of_config, of_opening, of_session, of_test, of_words}
+use Rattle.sendmail_run.specs.Rises.{Counts, RisesOnlyAt}
+use Rattle.sendmail_run.specs.Runs.{Completes, Ends, EndsAtFile, EndsAtWords, EndsAtWork, HasServed, HasTested, IsReady, IsShort, IsQueueEmpty, IsSound, IsUntouched, IsWhole, NoneFailed, Stays, Works}
+use Rattle.sendmail_run.specs.Serving.{IsServedOut, Serves}
+use Rattle.sendmail_run.specs.Testing.{IsLarge, Tests}
 use Rattle.sendmail_run.proofs.CommandLemmas.{one_mode, not_both}
 use Rattle.sendmail_run.proofs.ServingLemmas.{left_alone, not_used, serves_later}
 
-cut_files : (config : Config) (f g h k : FilesSeen) (i0 i1 : SourceSeen) (o0 o1 : SinkSeen) (taken : List ℕ) → IsCutOff config (seen f i0 o0) (seen g i1 o1) taken → IsCutOff config (seen h i0 o0) (seen k i1 o1) taken
-cut_files config f g h k i0 i1 o0 o1 taken is = record { text = is.text; takes = is.takes; writes = is.writes; printed = is.printed; on = is.on }
+-- ---- each end of a run
 
-broken_files : (config : Config) (f g h k : FilesSeen) (i0 i1 : SourceSeen) (o0 o1 : SinkSeen) → IsBroken config (seen f i0 o0) (seen g i1 o1) → IsBroken config (seen h i0 o0) (seen k i1 o1)
-broken_files config f g h k i0 i1 o0 o1 is = record {
-  taken = is.taken;
-  takes = is.takes;
-  writes = record { first = is.writes.first; later = is.writes.later; lines = is.writes.lines; text = is.writes.text; printed = is.writes.printed; written = is.writes.written };
+untouched : (f0 f1 : FilesSeen) (i : SourceSeen) (o : SinkSeen) (l : Heard) (s : Spooled) (k : ClockSeen) → IsUntouched (world f0 i o l s k) (world f1 i o l s k)
+untouched f0 f1 i o l s k = record { idle = record { input = refl; output = refl }; alone = left_alone (core_seen l s k) }
+
+pub ends_at_words : (words : List (List ℕ)) (f : FilesSeen) (i : SourceSeen) (o : SinkSeen) (l : Heard) (s : Spooled) (k : ClockSeen) (fault : WordFault) (outcome : Outcome) → outcome ≡ of_words fault → Fails fault words
+    → Ends words (world f i o l s k) (world f i o l s k) outcome
+ends_at_words words f i o l s k fault outcome told fails = inl (record { fault = fault; told = told; fails = fails; untouched = untouched f f i o l s k; files = refl })
+
+pub ends_at_file : (words : List (List ℕ)) (f0 f1 : FilesSeen) (i : SourceSeen) (o : SinkSeen) (l : Heard) (s : Spooled) (k : ClockSeen) (mode : Mode) (fault : ConfigFault) (outcome : Outcome) → outcome ≡ of_config fault
+    → IsCommandLine words mode → Begins mode.file f0 f1 (Err fault) → Ends words (world f0 i o l s k) (world f1 i o l s k) outcome
+ends_at_file words f0 f1 i o l s k mode fault outcome told said begins =
+    inr (inl (record { mode = mode; said = said; fault = fault; told = told; begins = begins; untouched = untouched f0 f1 i o l s k }))
+
+-- the work of a mode was done
+ends_at_work : (words : List (List ℕ)) (before after : World) (mode : Mode) (job : Job) (config : Config) (outcome : Outcome) → IsCommandLine words mode → mode.job ≡ job → Begins mode.file before.files after.files (Ok config)
+    → Works job config before after outcome → Ends words before after outcome
+ends_at_work words before after mode job config outcome said does begins works =
+    inr (inr (record { mode = mode; said = said; config = config; begins = begins; works = subst (λ (j : Job). Works j config before after outcome) (sym does) works }))
+
+pub ends_tested : (words : List (List ℕ)) (f0 f1 : FilesSeen) (i0 i1 : SourceSeen) (o0 o1 : SinkSeen) (l : Heard) (s : Spooled) (k : ClockSeen) (mode : Mode) (config : Config) (how : TestEnd) (outcome : Outcome) → outcome ≡ of_test how
+    → IsCommandLine words mode → mode.job ≡ Test → Begins mode.file f0 f1 (Ok config) → Tests config (streams i0 o0) (streams i1 o1) how → Ends words (world f0 i0 o0 l s k) (world f1 i1 o1 l s k) outcome
+ends_tested words f0 f1 i0 i1 o0 o1 l s k mode config how outcome told said does begins tests =
+    ends_at_work words (world f0 i0 o0 l s k) (world f1 i1 o1 l s k) mode Test config outcome said does begins
+    (record { how = how; told = told; tests = tests; alone = left_alone (core_seen l s k) })
+
+pub ends_served : (words : List (List ℕ)) (f0 f1 : FilesSeen) (i : SourceSeen) (o : SinkSeen) (l0 l1 : Heard) (s0 s1 : Spooled) (k0 k1 : ClockSeen) (mode : Mode) (config : Config) (how : SessionEnd) (outcome : Outcome) → outcome ≡ of_session how
+    → IsCommandLine words mode → mode.job ≡ Session → Begins mode.file f0 f1 (Ok config) → Serves (core_seen l0 s0 k0) (core_seen l1 s1 k1) how → Ends words (world f0 i o l0 s0 k0) (world f1 i o l1 s1 k1) outcome
+ends_served words f0 f1 i o l0 l1 s0 s1 k0 k1 mode config how outcome told said does begins serves =
+    ends_at_work words (world f0 i o l0 s0 k0) (world f1 i o l1 s1 k1) mode Session config outcome said does begins
+    (record { how = how; told = told; serves = serves; idle = record { input = refl; output = refl } })
+
+-- ---- what stays
+
+same_count : (fault outcome : Outcome) (n : ℕ) → Counts fault outcome n n
+same_count fault outcome n = record { later = le_refl n; rises = inr refl }
+
+pub counts : (fault outcome how : Outcome) (before after : ℕ) → outcome ≡ how → before ≤ after → RisesOnlyAt fault how before after → Counts fault outcome before after
+counts fault outcome how before after told later rises = record { later = later; rises = subst (λ (o : Outcome). RisesOnlyAt fault o before after) (sym told) rises }
+
+pub stays_at_words : (f : FilesSeen) (i : SourceSeen) (o : SinkSeen) (l : Heard) (s : Spooled) (k : ClockSeen) (outcome : Outcome) → Stays (world f i o l s k) (world f i o l s k) outcome
+stays_at_words f i o l s k outcome = record {
+  map = refl;
+  files = same_count outcomes.FilesFault outcome f.faults;
+  input = same_count outcomes.ReadFault outcome i.faults;
+  output = same_count outcomes.WriteFault outcome o.faults;
+  floor = same_count outcomes.FloorFault outcome l.faults;
+  spool = same_count outcomes.SpoolFault outcome s.faults;
 }
 
--- the answers to the lines know nothing of the files
-tests_files : (config : Config) (f g h k : FilesSeen) (i0 i1 : SourceSeen) (o0 o1 : SinkSeen) (outcome : Outcome) → Tests config (seen f i0 o0) (seen g i1 o1) outcome → Tests config (seen h i0 o0) (seen k i1 o1) outcome
-tests_files config f g h k i0 i1 o0 o1 Done is = record { taken = is.taken; text = is.text; takes = is.takes; writes = is.writes; printed = is.printed; over = is.over }
-tests_files config f g h k i0 i1 o0 o1 (Usage place) is = is
-tests_files config f g h k i0 i1 o0 o1 (NoFile name) is = is
-tests_files config f g h k i0 i1 o0 o1 NoMemory is = broken_files config f g h k i0 i1 o0 o1 is
-tests_files config f g h k i0 i1 o0 o1 FilesFault is = is
-tests_files config f g h k i0 i1 o0 o1 WriteFault is = (broken_files config f g h k i0 i1 o0 o1 is.0, is.1)
-tests_files config f g h k i0 i1 o0 o1 ReadFault is = ((is.0.0, cut_files config f g h k i0 i1 o0 o1 is.0.0 is.0.1), is.1)
-tests_files config f g h k i0 i1 o0 o1 InputLarge is = (is.0, cut_files config f g h k i0 i1 o0 o1 is.0 is.1, is.2)
-tests_files config f g h k i0 i1 o0 o1 (ConfigLine line fault) is = is
-tests_files config f g h k i0 i1 o0 o1 FloorFault is = is
-tests_files config f g h k i0 i1 o0 o1 (TurnsSpent count) is = is
-tests_files config f g h k i0 i1 o0 o1 SpoolFault is = is
-tests_files config f g h k i0 i1 o0 o1 IdsSpent is = is
-tests_files config f g h k i0 i1 o0 o1 NotYet is = is
+pub stays_at_file : (f0 f1 : FilesSeen) (i : SourceSeen) (o : SinkSeen) (l : Heard) (s : Spooled) (k : ClockSeen) (outcome : Outcome) → f1.map ≡ f0.map → Counts outcomes.FilesFault outcome f0.faults f1.faults → Stays (world f0 i o l s k) (world f1 i o l s k) outcome
+stays_at_file f0 f1 i o l s k outcome map files = record {
+  map = map;
+  files = files;
+  input = same_count outcomes.ReadFault outcome i.faults;
+  output = same_count outcomes.WriteFault outcome o.faults;
+  floor = same_count outcomes.FloorFault outcome l.faults;
+  spool = same_count outcomes.SpoolFault outcome s.faults;
+}
 
-ends_tested : (words : List (List ℕ)) (before after : Seen) (a : CoreSeen) (config : Config) (outcome : Outcome) → HasConfig words before.files config Test → Tests config before after outcome → Ends words before after a a outcome
-ends_tested words before after a config Done has is = (Test, config, has, (is, left_alone a))
-ends_tested words before after a config (Usage place) has is = absurd is
-ends_tested words before after a config (NoFile name) has is = absurd is
-ends_tested words before after a config NoMemory has is = inr (Test, config, has, (is, left_alone a))
-ends_tested words before after a config FilesFault has is = absurd is
-ends_tested words before after a config WriteFault has is = (Test, config, has, (is, left_alone a))
-ends_tested words before after a config ReadFault has is = (Test, config, has, (is, left_alone a))
-ends_tested words before after a config InputLarge has is = (Test, config, has, (is, left_alone a))
-ends_tested words before after a config (ConfigLine line fault) has is = absurd is
-ends_tested words before after a config FloorFault has is = absurd is
-ends_tested words before after a config (TurnsSpent count) has is = absurd is
-ends_tested words before after a config SpoolFault has is = absurd is
-ends_tested words before after a config IdsSpent has is = absurd is
-ends_tested words before after a config NotYet has is = absurd is
+pub stays_tested : (f0 f1 : FilesSeen) (i0 i1 : SourceSeen) (o0 o1 : SinkSeen) (l : Heard) (s : Spooled) (k : ClockSeen) (outcome : Outcome) → f1.map ≡ f0.map → f1.faults ≡ f0.faults
+    → f0.faults ≤ f1.faults → Counts outcomes.ReadFault outcome i0.faults i1.faults → Counts outcomes.WriteFault outcome o0.faults o1.faults → Stays (world f0 i0 o0 l s k) (world f1 i1 o1 l s k) outcome
+stays_tested f0 f1 i0 i1 o0 o1 l s k outcome map kept later input output = record {
+  map = map;
+  files = record { later = later; rises = inr kept };
+  input = input;
+  output = output;
+  floor = same_count outcomes.FloorFault outcome l.faults;
+  spool = same_count outcomes.SpoolFault outcome s.faults;
+}
 
-pub ends_answered : (words : List (List ℕ)) (f0 f1 : FilesSeen) (i0 i1 : SourceSeen) (o0 o1 : SinkSeen) (a : CoreSeen) (mode : Mode) (config : Config) (outcome : Outcome) → IsCommandLine words mode → mode.job ≡ Test → Begins mode.file f0 f1 (Ok config)
-    → ((files : FilesSeen) → Tests config (seen files i0 o0) (seen files i1 o1) outcome) → Ends words (seen f0 i0 o0) (seen f1 i1 o1) a a outcome
-ends_answered words f0 f1 i0 i1 o0 o1 a mode config outcome said test begins tests =
-    ends_tested words (seen f0 i0 o0) (seen f1 i1 o1) a config outcome
-    (record { bytes = begins.0; file = record { mode = mode; said = said; text = begins.1 }; does = test; read = begins.2 })
-    (tests_files config f0 f0 f0 f1 i0 i1 o0 o1 outcome (tests f0))
+pub stays_served : (f0 f1 : FilesSeen) (i : SourceSeen) (o : SinkSeen) (l0 l1 : Heard) (s0 s1 : Spooled) (k0 k1 : ClockSeen) (how : SessionEnd) (outcome : Outcome) → outcome ≡ of_session how → f1.map ≡ f0.map → f1.faults ≡ f0.faults
+    → f0.faults ≤ f1.faults → Serves (core_seen l0 s0 k0) (core_seen l1 s1 k1) how → RisesOnlyAt outcomes.FloorFault (of_session how) l0.faults l1.faults → RisesOnlyAt outcomes.SpoolFault (of_session how) s0.faults s1.faults
+    → Stays (world f0 i o l0 s0 k0) (world f1 i o l1 s1 k1) outcome
+stays_served f0 f1 i o l0 l1 s0 s1 k0 k1 how outcome told map kept later serves floor spool =
+    let no_less = serves_later (core_seen l0 s0 k0) (core_seen l1 s1 k1) how serves in record {
+      map = map;
+      files = record { later = later; rises = inr kept };
+      input = same_count outcomes.ReadFault outcome i.faults;
+      output = same_count outcomes.WriteFault outcome o.faults;
+      floor = counts outcomes.FloorFault outcome (of_session how) l0.faults l1.faults told no_less.floor floor;
+      spool = counts outcomes.SpoolFault outcome (of_session how) s0.faults s1.faults told no_less.spool spool;
+    }
 
--- the work of session mode is an end of the run
-ends_session : (words : List (List ℕ)) (before after : Seen) (a b : CoreSeen) (config : Config) (outcome : Outcome) → HasConfig words before.files config Session → IsIdle before after → Serves a b outcome → Ends words before after a b outcome
-ends_session words before after a b config Done has idle is = (Session, config, has, (idle, is))
-ends_session words before after a b config (Usage place) has idle is = absurd is
-ends_session words before after a b config (NoFile name) has idle is = absurd is
-ends_session words before after a b config NoMemory has idle is = inr (Session, config, has, (idle, is))
-ends_session words before after a b config FilesFault has idle is = absurd is
-ends_session words before after a b config WriteFault has idle is = absurd is
-ends_session words before after a b config ReadFault has idle is = absurd is
-ends_session words before after a b config InputLarge has idle is = absurd is
-ends_session words before after a b config (ConfigLine line fault) has idle is = absurd is
-ends_session words before after a b config FloorFault has idle is = (Session, config, has, (idle, is))
-ends_session words before after a b config (TurnsSpent count) has idle is = (Session, config, has, (idle, is))
-ends_session words before after a b config SpoolFault has idle is = (Session, config, has, (idle, is))
-ends_session words before after a b config IdsSpent has idle is = (Session, config, has, (idle, is))
-ends_session words before after a b config NotYet has idle is = (Session, config, has, (idle, is))
+-- ---- a run that is ready, and in which no device fails, does the mode's whole work
 
-pub ends_served : (words : List (List ℕ)) (f0 f1 : FilesSeen) (i : SourceSeen) (o : SinkSeen) (a b : CoreSeen) (mode : Mode) (config : Config) (outcome : Outcome) → IsCommandLine words mode → mode.job ≡ Session → Begins mode.file f0 f1 (Ok config)
-    → Serves a b outcome → Ends words (seen f0 i o) (seen f1 i o) a b outcome
-ends_served words f0 f1 i o a b mode config outcome said session begins serves =
-    ends_session words (seen f0 i o) (seen f1 i o) a b config outcome
-    (record { bytes = begins.0; file = record { mode = mode; said = said; text = begins.1 }; does = session; read = begins.2 })
-    (record { input = refl; output = refl })
-    serves
+-- memory may run out in each mode
+whole_memory : (job : Job) → IsWhole job outcomes.NoMemory
+whole_memory Test = inr refl
+whole_memory Session = inr (inl refl)
+
+words_whole : (words : List (List ℕ)) (job : Job) (mode : Mode) (fault : WordFault) → IsCommandLine words mode → Fails fault words → IsWhole job (of_words fault)
+words_whole words job mode (word_faults.At place) said refused = absurd (not_both words mode place said refused)
+words_whole words job mode word_faults.NoMemory said fails = whole_memory job
 
 told_text : (files : FilesSeen) (name : List ℕ) (text : Option (List ℕ)) (map : FileMap) → files.map ≡ Some map → HasText files name text → text_of map name ≡ text
 told_text files name text map told has = let at : IfSome (Some map) (λ m. text_of m name ≡ text) = subst (λ (o : Option FileMap). IfSome o (λ m. text_of m name ≡ text)) told has in at
 
--- a run that is ready tests addresses
-tests_ready : (words : List (List ℕ)) (before after : Seen) (a b : CoreSeen) (outcome : Outcome) → Answered words before after a b outcome → IsReady words before → (config : Config) × Tests config before after outcome
-tests_ready words before after a b outcome is ready =
-    let same = one_mode words is.2.file.mode ready.mode is.2.file.said ready.said in
-    let job : is.0 ≡ Test = sym is.2.does ∙ ap (λ (m : Mode). m.job) same ∙ ready.test in
-    let works : Works Test is.1 before after a b outcome = subst (λ (j : Job). Works j is.1 before after a b outcome) job is.3 in
-    (is.1, works.0)
+-- a file that is there isn't missing
+not_missing : (files : FilesSeen) (map : FileMap) (file bytes : List ℕ) → files.map ≡ Some map → text_of map file ≡ Some bytes → HasText files file None → ⊥
+not_missing files map file bytes told there has =
+    let none : text_of map file ≡ None = told_text files file None map told has in
+    cc (none, there)
 
--- a run that is ready to serve serves
-serves_ready : (words : List (List ℕ)) (before after : Seen) (a b : CoreSeen) (outcome : Outcome) → Answered words before after a b outcome → IsReadyToServe words before a → Serves a b outcome
-serves_ready words before after a b outcome is ready =
-    let same = one_mode words is.2.file.mode ready.mode is.2.file.said ready.said in
-    let job : is.0 ≡ Session = sym is.2.does ∙ ap (λ (m : Mode). m.job) same ∙ ready.session in
-    let works : Works Session is.1 before after a b outcome = subst (λ (j : Job). Works j is.1 before after a b outcome) job is.3 in
-    works.1
+-- lines that are taken are not refused
+not_refused : (files : FilesSeen) (map : FileMap) (file bytes more : List ℕ) (config : Config) (refusal : Refusal) → files.map ≡ Some map → text_of map file ≡ Some bytes → configuration bytes ≡ Ok config → HasText files file (Some more) → configuration more ≡ Err refusal → ⊥
+not_refused files map file bytes more config refusal told there read has refused =
+    let text : text_of map file ≡ Some more = told_text files file (Some more) map told has in
+    let both : Some more ≡ Some bytes = sym text ∙ there in
+    let one : more ≡ bytes = cc (both) in
+    let taken = ap configuration one ∙ read in
+    cc (taken, refused)
+
+file_whole : (words : List (List ℕ)) (before after : World) (job : Job) (ready : IsReady words before job) (fault : ConfigFault) → ¬ (Rose before.files.faults after.files.faults) → Begins ready.mode.file before.files after.files (Err fault) → IsWhole job (of_config fault)
+file_whole words before after job ready (config_faults.NoFile name) sound is = absurd (not_missing before.files ready.map ready.mode.file ready.bytes ready.told ready.there is.1)
+file_whole words before after job ready config_faults.FilesFault sound is = absurd (sound is)
+file_whole words before after job ready (config_faults.Refused refusal) sound is =
+    absurd (not_refused before.files ready.map ready.mode.file ready.bytes is.0 ready.config refusal ready.told ready.there ready.read is.1 is.2)
+file_whole words before after job ready config_faults.NoMemory sound is = whole_memory job
 
 few_lost : (left : List ℕ) (after : Option (List ℕ)) (taken : List ℕ) → Loses (Some left) after taken → length taken ≡ 2 ^ 32 → length left < 2 ^ 32 → ⊥
 few_lost left None taken h large few = h
 few_lost left (Some new) taken h large few = omega (arith, ap length h, length-append taken new, large, few)
 
--- words that are taken are not refused, and a file that is there is not missing
-not_missing : (words : List (List ℕ)) (files : FilesSeen) (mode other : Mode) (map : FileMap) (name bytes : List ℕ) → IsCommandLine words mode → IsCommandLine words other → name ≡ other.file → files.map ≡ Some map → text_of map mode.file ≡ Some bytes → HasText files name None → ⊥
-not_missing words files mode other map name bytes said also named told there has =
-    let same = one_mode words other mode also said in
-    let none : text_of map name ≡ None = told_text files name None map told has in
-    let here : text_of map name ≡ Some bytes = ap (text_of map) (named ∙ ap (λ (m : Mode). m.file) same) ∙ there in
-    cc (none, here)
+not_large : (config : Config) (before after : World) → IsShort before.input.left → IsLarge config (streams_of before) (streams_of after) → ⊥
+not_large config before after short is =
+    few_lost short.bytes after.input.left is.taken (subst (λ (o : Option (List ℕ)). Loses o after.input.left is.taken) short.told is.cut.takes) is.all short.few
 
--- lines that are taken are not refused
-not_refused : (words : List (List ℕ)) (files : FilesSeen) (mode other : Mode) (map : FileMap) (bytes more : List ℕ) (config : Config) (refusal : Refusal) → IsCommandLine words mode → IsCommandLine words other → files.map ≡ Some map → text_of map mode.file ≡ Some bytes
-    → configuration bytes ≡ Ok config → HasText files other.file (Some more) → configuration more ≡ Err refusal → ⊥
-not_refused words files mode other map bytes more config refusal said also told there read has refused =
-    let same = one_mode words other mode also said in
-    let text : text_of map other.file ≡ Some more = told_text files other.file (Some more) map told has in
-    let here : text_of map other.file ≡ Some bytes = ap (λ (m : Mode). text_of map m.file) same ∙ there in
-    let both : Some more ≡ Some bytes = sym text ∙ here in
-    let one : more ≡ bytes = cc (both) in
-    let taken = ap configuration one ∙ read in
-    cc (taken, refused)
+test_whole : (config : Config) (before after : World) (how : TestEnd) → IsShort before.input.left → NoneFailed Test before after → Tests config (streams_of before) (streams_of after) how → IsWhole Test (of_test how)
+test_whole config before after test_ends.Done short sound is = inl refl
+test_whole config before after test_ends.ReadFault short sound is = absurd (sound.0 is.rose)
+test_whole config before after test_ends.WriteFault short sound is = absurd (sound.1 is.1)
+test_whole config before after test_ends.InputLarge short sound is = absurd (not_large config before after short is)
+test_whole config before after test_ends.NoMemory short sound is = inr refl
 
-pub completes : (words : List (List ℕ)) (before after : Seen) (a b : CoreSeen) (outcome : Outcome) → Ends words before after a b outcome → Completes words before after outcome
-completes words before after a b Done is ready sound = inl refl
-completes words before after a b NoMemory is ready sound = inr refl
-completes words before after a b (Usage place) is ready sound = absurd (not_both words ready.mode place ready.said is.0)
-completes words before after a b (NoFile name) is ready sound = absurd (not_missing words before.files ready.mode is.0.0 ready.map name ready.bytes ready.said is.0.1 is.0.2 ready.told ready.there is.1)
-completes words before after a b FilesFault is ready sound = absurd (sound.files is.1)
-completes words before after a b WriteFault is ready sound = absurd (sound.output (tests_ready words before after a b WriteFault is ready).1.1)
-completes words before after a b ReadFault is ready sound = absurd (sound.input (tests_ready words before after a b ReadFault is ready).1.1)
-completes words before after a b InputLarge is ready sound =
-    let tests = (tests_ready words before after a b InputLarge is ready).1 in
-    absurd (few_lost ready.left after.input.left tests.0 (subst (λ (o : Option (List ℕ)). Loses o after.input.left tests.0) ready.coming tests.1.takes) tests.2 ready.few)
-completes words before after a b (ConfigLine line fault) is ready sound =
-    absurd (not_refused words before.files ready.mode is.0.1.mode ready.map ready.bytes is.0.0 ready.config _ ready.said is.0.1.said ready.told ready.there ready.read is.0.1.text is.0.2)
-completes words before after a b FloorFault is ready sound = absurd (tests_ready words before after a b FloorFault is ready).1
-completes words before after a b (TurnsSpent count) is ready sound = absurd (tests_ready words before after a b (TurnsSpent count) is ready).1
-completes words before after a b SpoolFault is ready sound = absurd (tests_ready words before after a b SpoolFault is ready).1
-completes words before after a b IdsSpent is ready sound = absurd (tests_ready words before after a b IdsSpent is ready).1
-completes words before after a b NotYet is ready sound = absurd (tests_ready words before after a b NotYet is ready).1
+not_opened_whole : (before after : World) (fault : OpenFault) → IsQueueEmpty before.spool.told → NoneFailed Session before after → Serves (core_of before) (core_of after) (session_ends.NotOpened fault) → IsWhole Session (of_opening fault)
+not_opened_whole before after open_faults.SpoolFault empty sound is = absurd (sound.1 is.1)
+not_opened_whole before after open_faults.NotYet empty sound is = absurd (not_used before.spool.told empty.map empty.told empty.empty is.1)
+not_opened_whole before after open_faults.NoMemory empty sound is = inr (inl refl)
 
-pub serves_whole : (words : List (List ℕ)) (before after : Seen) (a b : CoreSeen) (outcome : Outcome) → Ends words before after a b outcome → CompletesService words before after a b outcome
-serves_whole words before after a b Done is ready sound = inl refl
-serves_whole words before after a b NoMemory is ready sound = inr (inl refl)
-serves_whole words before after a b IdsSpent is ready sound = inr (inr (inl refl))
-serves_whole words before after a b (TurnsSpent count) is ready sound =
-    let serves = serves_ready words before after a b (TurnsSpent count) is ready in
-    inr (inr (inr (ap (λ (n : ℕ). TurnsSpent n) serves.0)))
-serves_whole words before after a b (Usage place) is ready sound = absurd (not_both words ready.mode place ready.said is.0)
-serves_whole words before after a b (NoFile name) is ready sound = absurd (not_missing words before.files ready.mode is.0.0 ready.map name ready.bytes ready.said is.0.1 is.0.2 ready.told ready.there is.1)
-serves_whole words before after a b FilesFault is ready sound = absurd (sound.files is.1)
-serves_whole words before after a b WriteFault is ready sound = absurd (serves_ready words before after a b WriteFault is ready)
-serves_whole words before after a b ReadFault is ready sound = absurd (serves_ready words before after a b ReadFault is ready)
-serves_whole words before after a b InputLarge is ready sound = absurd (serves_ready words before after a b InputLarge is ready)
-serves_whole words before after a b (ConfigLine line fault) is ready sound =
-    absurd (not_refused words before.files ready.mode is.0.1.mode ready.map ready.bytes is.0.0 ready.config _ ready.said is.0.1.said ready.told ready.there ready.read is.0.1.text is.0.2)
-serves_whole words before after a b FloorFault is ready sound = absurd (sound.floor (serves_ready words before after a b FloorFault is ready).rose)
-serves_whole words before after a b SpoolFault is ready sound =
-    ⊎_elim (λ not. absurd (sound.spool not.rose)) (λ out. absurd (sound.spool (out.ended.cause refl))) (serves_ready words before after a b SpoolFault is ready)
-serves_whole words before after a b NotYet is ready sound =
-    let serves = serves_ready words before after a b NotYet is ready in
-    absurd (not_used a.spool.told ready.kept ready.kept_told ready.empty serves.1)
+over_whole : (before after : World) (ending : Ending) → NoneFailed Session before after → IsServedOut (core_of before) (core_of after) (WentOut ending) → IsWhole Session (of_session (session_ends.Over ending))
+over_whole before after endings.Stopped sound is = inl refl
+over_whole before after endings.SpoolFault sound is = absurd (sound.1 (is.ended.cause refl))
+over_whole before after endings.IdsSpent sound is = inr (inr (inl refl))
 
--- the configuration was not read, and so nothing was taken, written or served
-untouched : (f0 f1 : FilesSeen) (i : SourceSeen) (o : SinkSeen) (a : CoreSeen) → IsUntouched (seen f0 i o) (seen f1 i o) a a
-untouched f0 f1 i o a = record { idle = record { input = refl; output = refl }; alone = left_alone a }
+session_whole : (before after : World) (how : SessionEnd) → IsQueueEmpty before.spool.told → NoneFailed Session before after → Serves (core_of before) (core_of after) how → IsWhole Session (of_session how)
+session_whole before after (session_ends.NotOpened fault) empty sound is = not_opened_whole before after fault empty sound is
+session_whole before after session_ends.FloorFault empty sound is = absurd (sound.0 is.rose)
+session_whole before after (session_ends.Over ending) empty sound is = over_whole before after ending sound is
+session_whole before after (session_ends.TurnsSpent count) empty sound is = inr (inr (inr (ap (λ (n : ℕ). outcomes.TurnsSpent n) is.0)))
 
-pub ends_refused : (words : List (List ℕ)) (f0 f1 : FilesSeen) (i : SourceSeen) (o : SinkSeen) (a : CoreSeen) (mode : Mode) (outcome : Outcome) → IsCommandLine words mode → Begins mode.file f0 f1 (Err outcome) → Ends words (seen f0 i o) (seen f1 i o) a a outcome
-ends_refused words f0 f1 i o a mode Done said is = absurd is
-ends_refused words f0 f1 i o a mode (Usage place) said is = absurd is
-ends_refused words f0 f1 i o a mode (NoFile name) said is = ((mode, said, is.0), subst (λ (n : List ℕ). HasText f0 n None) (sym is.0) is.1, untouched f0 f1 i o a)
-ends_refused words f0 f1 i o a mode NoMemory said is = inl (untouched f0 f1 i o a)
-ends_refused words f0 f1 i o a mode FilesFault said is = ((mode, said), is, untouched f0 f1 i o a)
-ends_refused words f0 f1 i o a mode WriteFault said is = absurd is
-ends_refused words f0 f1 i o a mode ReadFault said is = absurd is
-ends_refused words f0 f1 i o a mode InputLarge said is = absurd is
-ends_refused words f0 f1 i o a mode (ConfigLine line fault) said is = ((is.0, record { mode = mode; said = said; text = is.1 }, is.2), untouched f0 f1 i o a)
-ends_refused words f0 f1 i o a mode FloorFault said is = absurd is
-ends_refused words f0 f1 i o a mode (TurnsSpent count) said is = absurd is
-ends_refused words f0 f1 i o a mode SpoolFault said is = absurd is
-ends_refused words f0 f1 i o a mode IdsSpent said is = absurd is
-ends_refused words f0 f1 i o a mode NotYet said is = absurd is
+work_whole : (words : List (List ℕ)) (config : Config) (before after : World) (job : Job) (outcome : Outcome) → IsReady words before job → NoneFailed job before after → Works job config before after outcome → IsWhole job outcome
+work_whole words config before after Test outcome ready sound is = subst (λ (o : Outcome). IsWhole Test o) (sym is.told) (test_whole config before after is.how ready.finds sound is.tests)
+work_whole words config before after Session outcome ready sound is = subst (λ (o : Outcome). IsWhole Session o) (sym is.told) (session_whole before after is.how ready.finds sound is.serves)
 
--- the words were refused, or there was no memory for them
-pub ends_usage : (words : List (List ℕ)) (f : FilesSeen) (i : SourceSeen) (o : SinkSeen) (a : CoreSeen) (place : ℕ) → IsRefusedAt words place → Ends words (seen f i o) (seen f i o) a a (Usage place)
-ends_usage words f i o a place refused = (refused, untouched f f i o a, refl)
+-- what a run's end says of a run that is ready
+complete_at_words : (words : List (List ℕ)) (before after : World) (outcome : Outcome) → EndsAtWords words before after outcome → Completes words before after outcome
+complete_at_words words before after outcome is = λ job ready sound. subst (IsWhole job) (sym is.told) (words_whole words job ready.mode is.fault ready.said is.fails)
 
-pub ends_no_memory : (words : List (List ℕ)) (f : FilesSeen) (i : SourceSeen) (o : SinkSeen) (a : CoreSeen) → Ends words (seen f i o) (seen f i o) a a NoMemory
-ends_no_memory words f i o a = inl (untouched f f i o a)
+complete_at_file : (words : List (List ℕ)) (before after : World) (outcome : Outcome) → EndsAtFile words before after outcome → Completes words before after outcome
+complete_at_file words before after outcome is = λ job ready sound.
+    let same = one_mode words is.mode ready.mode is.said ready.said in
+    let begins : Begins ready.mode.file before.files after.files (Err is.fault) = subst (λ (m : Mode). Begins m.file before.files after.files (Err is.fault)) same is.begins in
+    subst (IsWhole job) (sym is.told) (file_whole words before after job ready is.fault sound.files begins)
 
-pub later_served : (f0 f1 : FilesSeen) (i : SourceSeen) (o : SinkSeen) (a b : CoreSeen) (outcome : Outcome) → f1.map ≡ f0.map → f0.faults ≤ f1.faults → Serves a b outcome → IsLater (seen f0 i o) (seen f1 i o) a b
-later_served f0 f1 i o a b outcome same later serves =
-    let counts = serves_later a b outcome serves in
-    record { map = same; files = later; input = le_refl i.faults; output = le_refl o.faults; floor = counts.floor; spool = counts.spool }
+complete_at_work : (words : List (List ℕ)) (before after : World) (outcome : Outcome) → EndsAtWork words before after outcome → Completes words before after outcome
+complete_at_work words before after outcome is = λ job ready sound.
+    let same = one_mode words is.mode ready.mode is.said ready.said in
+    let does : is.mode.job ≡ job = ap (λ (m : Mode). m.job) same ∙ ready.does in
+    let works : Works job is.config before after outcome = subst (λ (j : Job). Works j is.config before after outcome) does is.works in
+    work_whole words is.config before after job outcome ready sound.own works
+
+-- however a run ends, it does the whole work of its mode where it is ready and no device fails
+pub completes : (words : List (List ℕ)) (before after : World) (outcome : Outcome) → Ends words before after outcome → Completes words before after outcome
+completes words before after outcome (inl is) = complete_at_words words before after outcome is
+completes words before after outcome (inr (inl is)) = complete_at_file words before after outcome is
+completes words before after outcome (inr (inr is)) = complete_at_work words before after outcome is

@@ -1,7 +1,7 @@
 -- How session mode goes on and ends.
 use Rattle.std.proofs.Common.{◌≡◌, ℕ, ◌+◌, ◌<◌, ◌≤◌, ◌^◌, List, [], ◌∷◌, Option, Some, None, Result, Ok, Err, true, refl, sym, ◌∙◌, ap, subst, arith, inl, inr}
 use Rattle.std.proofs.Math.Nat.{le_refl}
-use Rattle.std.specs.Prelude.{IfSome, IfOk}
+use Rattle.std.specs.Prelude.{IfSome, IfOk, IsErrOf, ◌⊎◌}
 use Rattle.mail_base.specs.Histories.{Gains, Rose}
 use Rattle.mail_base.specs.declared.fault.NoMemory.{NoMemory}
 use Rattle.mail_edge.specs.Seen.{ClockSeen}
@@ -18,24 +18,29 @@ use Rattle.link_edge.proofs.Sessioning.{sound_push}
 use Rattle.link_edge.proofs.Sounding.{opened_is_sound}
 use Rattle.spool_disk.specs.Disk.{FileMap}
 use Rattle.spool_disk.specs.Spooled.{Spooled, Reads, Rests, Leads}
+use Rattle.spool_store.specs.declared.fault.OpenFault.{OpenFault}
+use Rattle.spool_store.specs.declared.fault.OpenFault.TheVariants as faults
 use Rattle.spool_store.specs.Standing.{AreEmpty, IsUsed}
 use Rattle.spool_store.specs.Tables.{Table, start}
 use Rattle.spool_store.specs.declared.store.Store.{Store}
 use Rattle.spool_store.proofs.TableLemmas.{start_sound}
 use Rattle.mail_core.specs.declared.serving.Core.{Core}
-use Rattle.mail_core.specs.declared.serving.Ending.TheVariants as ending
+use Rattle.mail_core.specs.declared.serving.Ending.{Ending}
+use Rattle.mail_core.specs.declared.serving.Ending.TheVariants as endings
 use Rattle.mail_core.specs.declared.serving.Site.{Site}
 use Rattle.mail_core.specs.declared.serving.Went.{Went}
 use Rattle.mail_core.specs.declared.serving.Went.TheVariants.{Ends}
-use Rattle.mail_core.specs.Events.{IsTaken, IsHeardAt, Turns, event_of}
+use Rattle.mail_core.specs.Events.{IsTaken, IsHeardAt, Turns, event_of, is_well}
 use Rattle.mail_core.specs.Machine.{beginning}
 use Rattle.mail_core.specs.Runs.{IsUnderWay, run_over}
 use Rattle.mail_core.specs.Seen.{Seen, seen}
 use Rattle.mail_core.specs.Standing.{Stands, Stores, IsStanding, dirs_of}
-use Rattle.sendmail_run.specs.declared.outcome.Outcome.{Outcome}
-use Rattle.sendmail_run.specs.declared.outcome.Outcome.TheVariants as ends
-use Rattle.sendmail_run.specs.Opening.{HasRefused}
-use Rattle.sendmail_run.specs.Serving.{site, IsBegun, IsLeftAlone, IsUnserved, BeganEmpty, IsServed, IsServedOut, Serves}
+use Rattle.sendmail_run.specs.declared.session_mode.SessionEnd.{SessionEnd}
+use Rattle.sendmail_run.specs.declared.session_mode.SessionEnd.TheVariants as ends
+use Rattle.sendmail_run.specs.declared.outcome.Outcome.TheVariants as outcomes
+use Rattle.sendmail_run.specs.Outcomes.{of_opening, of_session}
+use Rattle.sendmail_run.specs.Rises.{RisesOnlyAt}
+use Rattle.sendmail_run.specs.Serving.{site, HasRefused, IsBegun, IsLeftAlone, IsUnserved, BeganEmpty, IsServed, IsServedOut, Serves}
 use Rattle.mail_core.proofs.RunLemmas.{ended_by, cut_off}
 
 -- ---- what is read or left alone
@@ -54,25 +59,22 @@ unserved : (f : Heard) (s t : Spooled) (k : ClockSeen) → Reads s t → s.fault
 unserved f s t k reads later = record { floor = refl; clock = refl; spool = reads; spool_faults = later }
 
 -- there was no memory for the buffer
-pub serves_none : (f : Heard) (s : Spooled) (k : ClockSeen) → Serves (seen f s k) (seen f s k) ends.NoMemory
-serves_none f s k = unserved f s s k (reads_none s) (le_refl s.faults)
+pub serves_none : (f : Heard) (s : Spooled) (k : ClockSeen) → Serves (seen f s k) (seen f s k) (ends.NotOpened faults.NoMemory)
+serves_none f s k = (unserved f s s k (reads_none s) (le_refl s.faults), tt)
 
 -- the queue wasn't opened
-pub serves_refused : (f : Heard) (s t : Spooled) (k : ClockSeen) (outcome : Outcome) → Reads s t → s.faults ≤ t.faults → HasRefused s t outcome → Serves (seen f s k) (seen f t k) outcome
-serves_refused f s t k ends.NoMemory reads later is = unserved f s t k reads later
-serves_refused f s t k ends.NotYet reads later is = (unserved f s t k reads later, is)
-serves_refused f s t k ends.SpoolFault reads later is = inl (record { unserved = unserved f s t k reads later; rose = is })
-serves_refused f s t k ends.Done reads later is = absurd is
-serves_refused f s t k (ends.Usage place) reads later is = absurd is
-serves_refused f s t k (ends.NoFile name) reads later is = absurd is
-serves_refused f s t k ends.FilesFault reads later is = absurd is
-serves_refused f s t k ends.WriteFault reads later is = absurd is
-serves_refused f s t k ends.ReadFault reads later is = absurd is
-serves_refused f s t k ends.InputLarge reads later is = absurd is
-serves_refused f s t k (ends.ConfigLine line fault) reads later is = absurd is
-serves_refused f s t k ends.FloorFault reads later is = absurd is
-serves_refused f s t k (ends.TurnsSpent count) reads later is = absurd is
-serves_refused f s t k ends.IdsSpent reads later is = absurd is
+pub serves_refused : (f : Heard) (s t : Spooled) (k : ClockSeen) (fault : OpenFault) → Reads s t → s.faults ≤ t.faults → HasRefused s t fault → Serves (seen f s k) (seen f t k) (ends.NotOpened fault)
+serves_refused f s t k fault reads later is = (unserved f s t k reads later, is)
+
+-- the store wasn't opened
+pub refused_by : (s t : Spooled) (dirs : List (List ℕ)) (fault : OpenFault) → dirs ≡ dirs_of site → (IsErrOf {T = Store} (Err fault) faults.NotYet → IfSome s.told (IsUsed dirs)) → (IsErrOf {T = Store} (Err fault) faults.SpoolFault → Rose s.faults t.faults) → HasRefused s t fault
+refused_by s t dirs faults.SpoolFault is used rose = rose refl
+refused_by s t dirs faults.NotYet is used rose = subst (λ (d : List (List ℕ)). IfSome s.told (IsUsed d)) is (used refl)
+refused_by s t dirs faults.NoMemory is used rose = tt
+
+pub rises_by : (before after : ℕ) (fault : OpenFault) → IsErrOf {T = Store} (Err fault) faults.SpoolFault ⊎ (after ≡ before) → RisesOnlyAt outcomes.SpoolFault (of_opening fault) before after
+rises_by before after fault (inl is) = let same : fault ≡ faults.SpoolFault = cc (is) in inl (ap (λ (f : OpenFault). of_opening f) same)
+rises_by before after fault (inr same) = inr same
 
 -- a core over the store of an unused queue
 pub made_over : (with : Site) (store : Store) (r : Result Core NoMemory) → with ≡ site → Stores site store start → IfOk r (λ core. (table : Table) → Stores with store table → Stands with core (beginning table)) → IfOk r (λ core. Stands site core (beginning start))
@@ -162,22 +164,11 @@ out_later a b went is = record { floor = is.ended.headline.floor_faults; spool =
 served_later : (n : ℕ) (a b : Seen) → IsServed n a b → IsNoLess a b
 served_later n a b is = record { floor = is.headline.floor_faults; spool = is.headline.spool_faults }
 
-pub serves_later : (a b : Seen) (outcome : Outcome) → Serves a b outcome → IsNoLess a b
-serves_later a b ends.Done is = out_later a b (Ends ending.Stopped) is
-serves_later a b ends.IdsSpent is = out_later a b (Ends ending.IdsSpent) is
-serves_later a b ends.SpoolFault (inl is) = unserved_later a b is.unserved
-serves_later a b ends.SpoolFault (inr is) = out_later a b (Ends ending.SpoolFault) is
+pub serves_later : (a b : Seen) (how : SessionEnd) → Serves a b how → IsNoLess a b
+serves_later a b (ends.NotOpened fault) is = unserved_later a b is.0
 serves_later a b ends.FloorFault is = served_later is.count a b is.served
+serves_later a b (ends.Over ending) is = out_later a b (Ends ending) is
 serves_later a b (ends.TurnsSpent count) is = served_later count a b is.1
-serves_later a b ends.NotYet is = unserved_later a b is.0
-serves_later a b ends.NoMemory is = unserved_later a b is
-serves_later a b (ends.Usage place) is = absurd is
-serves_later a b (ends.NoFile name) is = absurd is
-serves_later a b ends.FilesFault is = absurd is
-serves_later a b ends.WriteFault is = absurd is
-serves_later a b ends.ReadFault is = absurd is
-serves_later a b ends.InputLarge is = absurd is
-serves_later a b (ends.ConfigLine line fault) is = absurd is
 
 -- the files of a used directory aren't those of an empty one
 pub not_used : (told : Option FileMap) (files : FileMap) → told ≡ Some files → AreEmpty (dirs_of site) files → IfSome told (IsUsed (dirs_of site)) → ⊥
@@ -188,3 +179,9 @@ not_used (Some other) files e empty used =
     let none = empty is.place is.among in
     let there = is.there in
     cc (none, there)
+
+-- the count of the spool rises in a turn only where the spool's fault ends the run
+pub spool_ended : (ending : Ending) (first before now : ℕ) → before ≡ first → (is_well (Ends ending) ≡ true → now ≡ before) → RisesOnlyAt outcomes.SpoolFault (of_session (ends.Over ending)) first now
+spool_ended endings.Stopped first before now same calm = inr (calm refl ∙ same)
+spool_ended endings.SpoolFault first before now same calm = inl refl
+spool_ended endings.IdsSpent first before now same calm = inr (calm refl ∙ same)

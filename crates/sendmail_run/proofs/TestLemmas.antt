@@ -1,23 +1,24 @@
 -- How the answers to the lines of input go on and end.
-use Rattle.std.proofs.Common.{◌≡◌, ℕ, ◌+◌, ◌≤◌, List, [], ◌++◌, length, take, Bool, true, false, Option, Some, None, refl, sym, ◌∙◌, ap, subst, arith, append-nil, length-append, inl, inr}
+use Rattle.std.proofs.Common.{◌≡◌, ℕ, ◌+◌, ◌<◌, ◌≤◌, ◌^◌, List, [], ◌++◌, length, take, Bool, true, false, Option, Some, None, refl, sym, ◌∙◌, ap, subst, arith, append-nil, length-append, inl, inr}
 use Rattle.std.proofs.lemmas.List.{length-take-le}
 use Rattle.std.specs.Prelude.{IfSome, ◌↔◌}
 use Rattle.mail_base.specs.declared.config.Config.{Config}
 use Rattle.mail_base.specs.Histories.{Gains, Rose}
 use Rattle.mail_base.proofs.Gaining.{gains_none, gains_join}
-use Rattle.mail_edge.specs.Seen.{SourceSeen, SinkSeen, FilesSeen}
+use Rattle.mail_edge.specs.Seen.{SourceSeen, SinkSeen}
 use Rattle.mail_edge.specs.Moves.{Loses, GainsPart}
 use Rattle.mail_edge.proofs.Giving.{part_whole, part_none, part_join}
 use Rattle.mail_edge.proofs.Taking.{loses_none, loses_join}
 use Rattle.mail_edge.proofs.Causing.{rose_since}
+use Rattle.sendmail_run.specs.declared.address_test.TestEnd.TheVariants as ends
 use Rattle.sendmail_run.specs.declared.input.Partial.{Partial}
 use Rattle.sendmail_run.specs.declared.outcome.Outcome.{Outcome}
-use Rattle.sendmail_run.specs.declared.outcome.Outcome.TheVariants as ends
+use Rattle.sendmail_run.specs.Devices.{Streams, streams}
 use Rattle.sendmail_run.specs.LogicalLines.{physical_lines}
 use Rattle.sendmail_run.specs.Printing.{Printed, Prints, warnings_text}
 use Rattle.sendmail_run.specs.Rises.{RisesOnlyAt}
-use Rattle.sendmail_run.specs.Runs.{Seen, seen, Tests, IsDone, IsCutOff, IsBroken, WritesFront, ended_lines}
 use Rattle.sendmail_run.specs.Taking.{Keeps, Stands, Quits, At, Answered, AnswersLast, lines_of}
+use Rattle.sendmail_run.specs.Testing.{Tests, IsDone, IsCutOff, IsBroken, WritesFront, ended_lines}
 use Rattle.sendmail_run.proofs.EndedLemmas.{stands_none, stands_printed, stands_on, stands_front, stands_last}
 
 -- without warnings the answers alone are printed
@@ -25,21 +26,23 @@ prints : (config : Config) (lines : List (List ℕ)) (text : List ℕ) → confi
 prints config lines text quiet printed = (text, printed, ap (λ (numbers : List ℕ). warnings_text numbers ++ text) (sym quiet))
 
 -- before anything is taken
-pub at_start : (config : Config) → config.warnings ≡ [] → (files : FilesSeen) (i : SourceSeen) (o : SinkSeen) (partial : Partial) → Keeps partial [] → At config (seen files i o) (seen files i o) [] [] partial
-at_start config quiet files i o partial keeps = record { quiet = quiet; text = []; takes = loses_none i.left; writes = gains_none o.written; stands = stands_none config partial keeps; input = omega arith; output = omega arith }
+pub at_start : (config : Config) → config.warnings ≡ [] → (i : SourceSeen) (o : SinkSeen) (partial : Partial) → Keeps partial [] → At config (streams i o) (streams i o) [] [] partial
+at_start config quiet i o partial keeps = record { few = omega arith; quiet = quiet; text = []; takes = loses_none i.left; writes = gains_none o.written; stands = stands_none config partial keeps; input = omega arith; output = omega arith }
 
 -- no memory before anything is taken
-pub none_taken : (config : Config) → config.warnings ≡ [] → (files : FilesSeen) (i : SourceSeen) (o : SinkSeen) → IsBroken config (seen files i o) (seen files i o)
-none_taken config quiet files i o = record {
+pub none_taken : (config : Config) → config.warnings ≡ [] → (i : SourceSeen) (o : SinkSeen) → IsBroken config (streams i o) (streams i o)
+none_taken config quiet i o = record {
   taken = [];
+  few = omega arith;
   takes = loses_none i.left;
-  writes = record { first = []; later = []; lines = refl; text = []; printed = prints config [] [] quiet refl; written = part_none o.written [] };
+  writes = record { first = []; later = []; lines = inl refl; text = []; printed = prints config [] [] quiet refl; written = part_none o.written [] };
 }
 
 -- more is taken
-pub at_taken : (config : Config) (before : Seen) (files : FilesSeen) (i0 i1 : SourceSeen) (o : SinkSeen) (all taken bytes : List ℕ) (partial : Partial)
-    → At config before (seen files i0 o) all taken partial → Loses i0.left i1.left bytes → i0.faults ≤ i1.faults → At config before (seen files i1 o) (all ++ bytes) taken partial
-at_taken config before files i0 i1 o all taken bytes partial at loses later = record {
+pub at_taken : (config : Config) (before : Streams) (i0 i1 : SourceSeen) (o : SinkSeen) (all taken bytes : List ℕ) (partial : Partial)
+    → At config before (streams i0 o) all taken partial → Loses i0.left i1.left bytes → i0.faults ≤ i1.faults → length (all ++ bytes) ≤ 2 ^ 32 → At config before (streams i1 o) (all ++ bytes) taken partial
+at_taken config before i0 i1 o all taken bytes partial at loses later few = record {
+  few = few;
   text = at.text;
   takes = loses_join before.input.left i0.left i1.left all bytes at.takes loses;
   writes = at.writes;
@@ -50,9 +53,9 @@ at_taken config before files i0 i1 o all taken bytes partial at loses later = re
 }
 
 -- the ended lines are answered
-pub at_cut_off : (config : Config) (before : Seen) (files : FilesSeen) (i0 i1 : SourceSeen) (o : SinkSeen) (taken : List ℕ) (partial : Partial)
-    → At config before (seen files i0 o) taken taken partial → i1.left ≡ i0.left → IsCutOff config before (seen files i1 o) taken
-at_cut_off config before files i0 i1 o taken partial at same = record {
+pub at_cut_off : (config : Config) (before : Streams) (i0 i1 : SourceSeen) (o : SinkSeen) (taken : List ℕ) (partial : Partial)
+    → At config before (streams i0 o) taken taken partial → i1.left ≡ i0.left → IsCutOff config before (streams i1 o) taken
+at_cut_off config before i0 i1 o taken partial at same = record {
   text = at.text;
   takes = subst (λ (left : Option (List ℕ)). Loses before.input.left left taken) (sym same) at.takes;
   writes = at.writes;
@@ -61,67 +64,76 @@ at_cut_off config before files i0 i1 o taken partial at same = record {
 }
 
 -- no memory for the answers to a piece
-pub at_broken : (config : Config) (before : Seen) (files : FilesSeen) (i : SourceSeen) (o : SinkSeen) (taken more : List ℕ) (partial : Partial)
-    → At config before (seen files i o) (taken ++ more) taken partial → IsBroken config before (seen files i o)
-at_broken config before files i o taken more partial at = record {
+pub at_broken : (config : Config) (before : Streams) (i : SourceSeen) (o : SinkSeen) (taken more : List ℕ) (partial : Partial)
+    → At config before (streams i o) (taken ++ more) taken partial → IsBroken config before (streams i o)
+at_broken config before i o taken more partial at = record {
   taken = taken ++ more;
+  few = at.few;
   takes = at.takes;
   writes = record {
     first = lines_of at.stands.raws;
-    later = physical_lines (at.stands.rest ++ more);
-    lines = stands_front config taken at.text partial more at.stands;
+    later = ended_lines (at.stands.rest ++ more);
+    lines = inl (stands_front config taken at.text partial more at.stands);
     text = at.text;
     printed = prints config (lines_of at.stands.raws) at.text at.quiet at.stands.printed;
     written = part_whole before.output.written o.written at.text at.writes;
   };
 }
 
-pub at_broken_last : (config : Config) (before : Seen) (files : FilesSeen) (i : SourceSeen) (o : SinkSeen) (taken : List ℕ) (partial : Partial)
-    → At config before (seen files i o) taken taken partial → IsBroken config before (seen files i o)
-at_broken_last config before files i o taken partial at =
-    at_broken config before files i o taken [] partial (subst (λ (all : List ℕ). At config before (seen files i o) all taken partial) (sym (append-nil taken)) at)
+pub at_broken_last : (config : Config) (before : Streams) (i : SourceSeen) (o : SinkSeen) (taken : List ℕ) (partial : Partial)
+    → At config before (streams i o) taken taken partial → IsBroken config before (streams i o)
+at_broken_last config before i o taken partial at =
+    at_broken config before i o taken [] partial (subst (λ (all : List ℕ). At config before (streams i o) all taken partial) (sym (append-nil taken)) at)
 
-front_of : (config : Config) → config.warnings ≡ [] → (all : List ℕ) (before : Seen) (now : Seen) (partial : Partial) (whole : List ℕ) (quit : Bool) → Answered config all partial whole quit → GainsPart before.output.written now.output.written whole → WritesFront config all before now
-front_of config quiet all before now partial whole true quits part = record { first = physical_lines all; later = []; lines = sym (append-nil (physical_lines all)); text = whole; printed = prints config (physical_lines all) whole quiet quits.printed; written = part }
-front_of config quiet all before now partial whole false stands part = record {
-  first = lines_of stands.raws;
-  later = physical_lines (stands.rest ++ []);
-  lines = ap physical_lines (sym (append-nil all)) ∙ stands_front config all whole partial [] stands;
+front_of : (config : Config) → config.warnings ≡ [] → (all : List ℕ) (before now : Streams) (partial : Partial) (whole : List ℕ) (quit : Bool) → Answered config all partial whole quit → GainsPart before.output.written now.output.written whole → WritesFront config all before now
+front_of config quiet all before now partial whole true quits part = record {
+  first = ended_lines all;
+  later = [];
+  lines = inl (sym (append-nil (ended_lines all)));
   text = whole;
-  printed = prints config (lines_of stands.raws) whole quiet stands.printed;
+  printed = prints config (ended_lines all) whole quiet quits.among;
+  written = part;
+}
+front_of config quiet all before now partial whole false stands part = record {
+  first = ended_lines all;
+  later = [];
+  lines = inl (sym (append-nil (ended_lines all)));
+  text = whole;
+  printed = prints config (ended_lines all) whole quiet (stands_printed config all whole partial stands);
   written = part;
 }
 
 -- the answers to a piece broke off
-pub at_write_fault : (config : Config) (before : Seen) (files : FilesSeen) (i : SourceSeen) (o0 o1 : SinkSeen) (all taken : List ℕ) (old new : Partial) (answers : List ℕ) (quit : Bool)
-    → At config before (seen files i o0) all taken old → ((text : List ℕ) → Stands config taken old text → Answered config all new (text ++ answers) quit) → GainsPart o0.written o1.written answers → Rose o0.faults o1.faults → Tests config before (seen files i o1) ends.WriteFault
-at_write_fault config before files i o0 o1 all taken old new answers quit at answered part rose = (
+pub at_write_fault : (config : Config) (before : Streams) (i : SourceSeen) (o0 o1 : SinkSeen) (all taken : List ℕ) (old new : Partial) (answers : List ℕ) (quit : Bool)
+    → At config before (streams i o0) all taken old → ((text : List ℕ) → Stands config taken old text → Answered config all new (text ++ answers) quit) → GainsPart o0.written o1.written answers → Rose o0.faults o1.faults → Tests config before (streams i o1) ends.WriteFault
+at_write_fault config before i o0 o1 all taken old new answers quit at answered part rose = (
   record {
     taken = all;
+    few = at.few;
     takes = at.takes;
-    writes = front_of config at.quiet all before (seen files i o1) new (at.text ++ answers) quit (answered at.text at.stands) (part_join before.output.written o0.written o1.written at.text answers at.writes part);
+    writes = front_of config at.quiet all before (streams i o1) new (at.text ++ answers) quit (answered at.text at.stands) (part_join before.output.written o0.written o1.written at.text answers at.writes part);
   },
   rose_since before.output.faults o0.faults o1.faults at.output rose,
 )
 
 -- the line `/quit` came
-pub at_quit : (config : Config) (before : Seen) (files : FilesSeen) (i : SourceSeen) (o0 o1 : SinkSeen) (all taken : List ℕ) (old new : Partial) (answers : List ℕ) (quit : Bool)
-    → At config before (seen files i o0) all taken old → ((text : List ℕ) → Stands config taken old text → Answered config all new (text ++ answers) quit) → quit ≡ true → Gains o0.written o1.written answers → IsDone config before (seen files i o1)
-at_quit config before files i o0 o1 all taken old new answers quit at answered is gains =
+pub at_quit : (config : Config) (before : Streams) (i : SourceSeen) (o0 o1 : SinkSeen) (all taken : List ℕ) (old new : Partial) (answers : List ℕ) (quit : Bool)
+    → At config before (streams i o0) all taken old → ((text : List ℕ) → Stands config taken old text → Answered config all new (text ++ answers) quit) → quit ≡ true → Gains o0.written o1.written answers → IsDone config before (streams i o1)
+at_quit config before i o0 o1 all taken old new answers quit at answered is gains =
     let quits : Quits config all (at.text ++ answers) = subst (λ (q : Bool). Answered config all new (at.text ++ answers) q) is (answered at.text at.stands) in
-    record { taken = all; text = at.text ++ answers; takes = at.takes; writes = gains_join before.output.written o0.written o1.written at.text answers at.writes gains; printed = prints config (physical_lines all) (at.text ++ answers) at.quiet quits.printed; over = inr quits.quit }
+    record { taken = all; text = at.text ++ answers; takes = at.takes; writes = gains_join before.output.written o0.written o1.written at.text answers at.writes gains; printed = prints config (physical_lines all) (at.text ++ answers) at.quiet quits.printed; over = inr (quits.quit, at.few) }
 
 -- the piece was answered
-pub at_on : (config : Config) (before : Seen) (files : FilesSeen) (i : SourceSeen) (o0 o1 : SinkSeen) (all taken : List ℕ) (old new : Partial) (answers : List ℕ) (quit : Bool)
-    → At config before (seen files i o0) all taken old → ((text : List ℕ) → Stands config taken old text → Answered config all new (text ++ answers) quit) → quit ≡ false → Gains o0.written o1.written answers → o0.faults ≤ o1.faults → At config before (seen files i o1) all all new
-at_on config before files i o0 o1 all taken old new answers quit at answered is gains later =
+pub at_on : (config : Config) (before : Streams) (i : SourceSeen) (o0 o1 : SinkSeen) (all taken : List ℕ) (old new : Partial) (answers : List ℕ) (quit : Bool)
+    → At config before (streams i o0) all taken old → ((text : List ℕ) → Stands config taken old text → Answered config all new (text ++ answers) quit) → quit ≡ false → Gains o0.written o1.written answers → o0.faults ≤ o1.faults → At config before (streams i o1) all all new
+at_on config before i o0 o1 all taken old new answers quit at answered is gains later =
     let stands : Stands config all new (at.text ++ answers) = subst (λ (q : Bool). Answered config all new (at.text ++ answers) q) is (answered at.text at.stands) in
-    record { text = at.text ++ answers; takes = at.takes; writes = gains_join before.output.written o0.written o1.written at.text answers at.writes gains; stands = stands; quiet = at.quiet; input = at.input; output = omega (arith, at.output) }
+    record { few = at.few; text = at.text ++ answers; takes = at.takes; writes = gains_join before.output.written o0.written o1.written at.text answers at.writes gains; stands = stands; quiet = at.quiet; input = at.input; output = omega (arith, at.output) }
 
 -- the input came to its end
-pub at_end : (config : Config) (before : Seen) (files : FilesSeen) (i : SourceSeen) (o0 o1 : SinkSeen) (taken : List ℕ) (partial : Partial) (out : List ℕ) → IfSome i.left (λ left. left ≡ [])
-    → At config before (seen files i o0) taken taken partial → ((rest : List ℕ) → Keeps partial rest → (a : List ℕ) × AnswersLast config rest a × (out ≡ a)) → Gains o0.written o1.written out → IsDone config before (seen files i o1)
-at_end config before files i o0 o1 taken partial out over at answer gains =
+pub at_end : (config : Config) (before : Streams) (i : SourceSeen) (o0 o1 : SinkSeen) (taken : List ℕ) (partial : Partial) (out : List ℕ) → IfSome i.left (λ left. left ≡ []) → length taken < 2 ^ 32
+    → At config before (streams i o0) taken taken partial → ((rest : List ℕ) → Keeps partial rest → (a : List ℕ) × AnswersLast config rest a × (out ≡ a)) → Gains o0.written o1.written out → IsDone config before (streams i o1)
+at_end config before i o0 o1 taken partial out over few at answer gains =
     let a = answer at.stands.rest at.stands.keeps in
     let last : AnswersLast config at.stands.rest out = subst (λ (t : List ℕ). AnswersLast config at.stands.rest t) (sym a.2) a.1 in
     record {
@@ -130,21 +142,22 @@ at_end config before files i o0 o1 taken partial out over at answer gains =
       takes = at.takes;
       writes = gains_join before.output.written o0.written o1.written at.text out at.writes gains;
       printed = prints config (physical_lines taken) (at.text ++ out) at.quiet (stands_last config taken at.text out partial at.stands last);
-      over = inl over;
+      over = inl (over, few);
     }
 
-pub at_end_fault : (config : Config) (before : Seen) (files : FilesSeen) (i : SourceSeen) (o0 o1 : SinkSeen) (taken : List ℕ) (partial : Partial) (out : List ℕ)
-    → At config before (seen files i o0) taken taken partial → ((rest : List ℕ) → Keeps partial rest → (a : List ℕ) × AnswersLast config rest a × (out ≡ a)) → GainsPart o0.written o1.written out → Rose o0.faults o1.faults → Tests config before (seen files i o1) ends.WriteFault
-at_end_fault config before files i o0 o1 taken partial out at answer part rose =
+pub at_end_fault : (config : Config) (before : Streams) (i : SourceSeen) (o0 o1 : SinkSeen) (taken : List ℕ) (partial : Partial) (out : List ℕ) → IfSome i.left (λ left. left ≡ [])
+    → At config before (streams i o0) taken taken partial → ((rest : List ℕ) → Keeps partial rest → (a : List ℕ) × AnswersLast config rest a × (out ≡ a)) → GainsPart o0.written o1.written out → Rose o0.faults o1.faults → Tests config before (streams i o1) ends.WriteFault
+at_end_fault config before i o0 o1 taken partial out over at answer part rose =
     let a = answer at.stands.rest at.stands.keeps in
     let last : AnswersLast config at.stands.rest out = subst (λ (t : List ℕ). AnswersLast config at.stands.rest t) (sym a.2) a.1 in (
       record {
         taken = taken;
+        few = at.few;
         takes = at.takes;
         writes = record {
           first = physical_lines taken;
           later = [];
-          lines = sym (append-nil (physical_lines taken));
+          lines = inr (over, sym (append-nil (physical_lines taken)));
           text = at.text ++ out;
           printed = prints config (physical_lines taken) (at.text ++ out) at.quiet (stands_last config taken at.text out partial at.stands last);
           written = part_join before.output.written o0.written o1.written at.text out at.writes part;
@@ -153,20 +166,25 @@ at_end_fault config before files i o0 o1 taken partial out at answer part rose =
       rose_since before.output.faults o0.faults o1.faults at.output rose,
     )
 
-pub at_read_fault : (config : Config) (before : Seen) (files : FilesSeen) (i0 i1 : SourceSeen) (o : SinkSeen) (taken : List ℕ) (partial : Partial)
-    → At config before (seen files i0 o) taken taken partial → i1.left ≡ i0.left → Rose i0.faults i1.faults → Tests config before (seen files i1 o) ends.ReadFault
-at_read_fault config before files i0 i1 o taken partial at same rose =
-    ((taken, at_cut_off config before files i0 i1 o taken partial at same), rose_since before.input.faults i0.faults i1.faults at.input rose)
+pub at_read_fault : (config : Config) (before : Streams) (i0 i1 : SourceSeen) (o : SinkSeen) (taken : List ℕ) (partial : Partial)
+    → At config before (streams i0 o) taken taken partial → length taken < 2 ^ 32 → i1.left ≡ i0.left → Rose i0.faults i1.faults → Tests config before (streams i1 o) ends.ReadFault
+at_read_fault config before i0 i1 o taken partial at few same rose = record {
+  taken = taken;
+  few = few;
+  cut = at_cut_off config before i0 i1 o taken partial at same;
+  rose = rose_since before.input.faults i0.faults i1.faults at.input rose;
+}
 
-pub at_large : (config : Config) (before : Seen) (files : FilesSeen) (i : SourceSeen) (o : SinkSeen) (taken : List ℕ) (partial : Partial)
-    → At config before (seen files i o) taken taken partial → length taken ≡ 4294967296 → Tests config before (seen files i o) ends.InputLarge
-at_large config before files i o taken partial at large = (taken, at_cut_off config before files i i o taken partial at refl, large)
+pub at_large : (config : Config) (before : Streams) (i : SourceSeen) (o : SinkSeen) (taken : List ℕ) (partial : Partial)
+    → At config before (streams i o) taken taken partial → length taken ≡ 4294967296 → Tests config before (streams i o) ends.InputLarge
+at_large config before i o taken partial at large = record { taken = taken; all = large; cut = at_cut_off config before i i o taken partial at refl }
 
 -- nothing comes at the end
-pub at_same : (config : Config) (before : Seen) (files : FilesSeen) (i0 i1 : SourceSeen) (o : SinkSeen) (taken bytes : List ℕ) (count : ℕ) (partial : Partial)
-    → At config before (seen files i0 o) taken taken partial → Loses i0.left i1.left (take count bytes) → count ≡ 0 → i0.faults ≤ i1.faults → At config before (seen files i1 o) taken taken partial
-at_same config before files i0 i1 o taken bytes count partial at loses none later =
-    subst (λ (all : List ℕ). At config before (seen files i1 o) all taken partial) (append-nil taken) (at_taken config before files i0 i1 o taken taken [] partial at (subst (λ (n : ℕ). Loses i0.left i1.left (take n bytes)) none loses) later)
+pub at_same : (config : Config) (before : Streams) (i0 i1 : SourceSeen) (o : SinkSeen) (taken bytes : List ℕ) (count : ℕ) (partial : Partial)
+    → At config before (streams i0 o) taken taken partial → Loses i0.left i1.left (take count bytes) → count ≡ 0 → i0.faults ≤ i1.faults → At config before (streams i1 o) taken taken partial
+at_same config before i0 i1 o taken bytes count partial at loses none later =
+    let few : length (taken ++ []) ≤ 2 ^ 32 = subst (λ (all : List ℕ). length all ≤ 2 ^ 32) (sym (append-nil taken)) at.few in
+    subst (λ (all : List ℕ). At config before (streams i1 o) all taken partial) (append-nil taken) (at_taken config before i0 i1 o taken taken [] partial at (subst (λ (n : ℕ). Loses i0.left i1.left (take n bytes)) none loses) later few)
 
 -- and nothing is left there
 pub left_none : (a b : Option (List ℕ)) (bytes : List ℕ) (count : ℕ) → Loses a b (take count bytes) → IfSome a (λ left. (count ≡ 0) ↔ (left ≡ [])) → count ≡ 0 → IfSome b (λ left. left ≡ [])
@@ -187,3 +205,9 @@ same_count n = omega arith
 
 pub taken_length : (taken bytes : List ℕ) (total count : ℕ) → length taken ≡ total → count ≤ length bytes → length (taken ++ take count bytes) ≡ total + count
 taken_length taken bytes total count is le = omega (arith, is, length-append taken (take count bytes), length-take-le count bytes le)
+
+pub taken_few : (taken bytes : List ℕ) (total count : ℕ) → length taken ≡ total → count ≤ length bytes → total + count ≤ 4294967296 → length (taken ++ take count bytes) ≤ 4294967296
+taken_few taken bytes total count is le room = omega (arith, taken_length taken bytes total count is le, room)
+
+pub below : (taken : List ℕ) (total : ℕ) → length taken ≡ total → total < 4294967296 → length taken < 4294967296
+below taken total is lt = omega (arith, is, lt)

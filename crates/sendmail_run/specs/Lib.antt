@@ -8,10 +8,11 @@ pub mod Readings
 pub mod CommandLines
 pub mod Words
 pub mod Printing
-pub mod Serving
+pub mod Devices
 pub mod Outcomes
-pub mod Runs
-pub mod Taking
-pub mod Beginning
-pub mod Opening
 pub mod Rises
+pub mod Testing
+pub mod Taking
+pub mod Serving
+pub mod Beginning
+pub mod Runs

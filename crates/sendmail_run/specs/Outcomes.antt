@@ -1,7 +1,58 @@
--- The outcomes of a run and their statuses (sysexits; 76 and up where it has none; the outcomes are own).
+-- The outcomes of a run: what each step's own result is told as, and the status of each (sysexits; 76 and up where it has none; the outcomes are own).
 use Rattle.std.specs.Prelude.{ℕ}
+use Rattle.spool_store.specs.declared.fault.OpenFault.{OpenFault}
+use Rattle.spool_store.specs.declared.fault.OpenFault.TheVariants as open_faults
+use Rattle.mail_core.specs.declared.serving.Ending.{Ending}
+use Rattle.mail_core.specs.declared.serving.Ending.TheVariants as endings
+use Rattle.sendmail_run.specs.declared.command_line.WordFault.{WordFault}
+use Rattle.sendmail_run.specs.declared.command_line.WordFault.TheVariants as word_faults
+use Rattle.sendmail_run.specs.declared.fault.ConfigFault.{ConfigFault}
+use Rattle.sendmail_run.specs.declared.fault.ConfigFault.TheVariants as config_faults
+use Rattle.sendmail_run.specs.declared.address_test.TestEnd.{TestEnd}
+use Rattle.sendmail_run.specs.declared.address_test.TestEnd.TheVariants as test_ends
+use Rattle.sendmail_run.specs.declared.session_mode.SessionEnd.{SessionEnd}
+use Rattle.sendmail_run.specs.declared.session_mode.SessionEnd.TheVariants as session_ends
 use Rattle.sendmail_run.specs.declared.outcome.Outcome.{Outcome}
 use Rattle.sendmail_run.specs.declared.outcome.Outcome.TheVariants.{Done, Usage, NoFile, NoMemory, FilesFault, WriteFault, ReadFault, InputLarge, ConfigLine, FloorFault, TurnsSpent, SpoolFault, IdsSpent, NotYet}
+
+-- words that are refused
+abbrev pub of_words : WordFault → Outcome
+of_words (word_faults.At place) = Usage place
+of_words word_faults.NoMemory = NoMemory
+
+-- a configuration that isn't read
+abbrev pub of_config : ConfigFault → Outcome
+of_config (config_faults.NoFile name) = NoFile name
+of_config config_faults.FilesFault = FilesFault
+of_config (config_faults.Refused refusal) = ConfigLine refusal.line refusal.fault
+of_config config_faults.NoMemory = NoMemory
+
+-- the end of address test mode
+abbrev pub of_test : TestEnd → Outcome
+of_test test_ends.Done = Done
+of_test test_ends.ReadFault = ReadFault
+of_test test_ends.WriteFault = WriteFault
+of_test test_ends.InputLarge = InputLarge
+of_test test_ends.NoMemory = NoMemory
+
+-- a queue that isn't opened
+abbrev pub of_opening : OpenFault → Outcome
+of_opening open_faults.SpoolFault = SpoolFault
+of_opening open_faults.NotYet = NotYet
+of_opening open_faults.NoMemory = NoMemory
+
+-- the ending that a turn brought
+abbrev pub of_ending : Ending → Outcome
+of_ending endings.Stopped = Done
+of_ending endings.SpoolFault = SpoolFault
+of_ending endings.IdsSpent = IdsSpent
+
+-- the end of session mode
+abbrev pub of_session : SessionEnd → Outcome
+of_session (session_ends.NotOpened fault) = of_opening fault
+of_session session_ends.FloorFault = FloorFault
+of_session (session_ends.Over ending) = of_ending ending
+of_session (session_ends.TurnsSpent count) = TurnsSpent count
 
 -- the status that a program ends with
 abbrev pub status_of : Outcome → ℕ

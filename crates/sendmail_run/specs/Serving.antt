@@ -1,12 +1,13 @@
--- How session mode ends, and what was served by then (Sendmail Installation and Operation Guide, "Command Line Flags": -bs; the replies are those of RFC 5321; the outcomes are own).
-use Rattle.std.specs.Prelude.{◌≡◌, ℕ, ◌+◌, ◌^◌, ◌≤◌, List, length, None, IfSome, codes, true, ◌⊎◌}
+-- How session mode ends, and what was served by then (Sendmail Installation and Operation Guide, "Command Line Flags": -bs; the replies are those of RFC 5321; the ends are own).
+use Rattle.std.specs.Prelude.{◌≡◌, ℕ, ◌+◌, ◌^◌, ◌≤◌, List, length, None, IfSome, codes, true}
 use Rattle.mail_base.specs.Histories.{Rose}
 use Rattle.link_edge.specs.Begins.{begun_after}
 use Rattle.link_edge.specs.declared.place.Place.TheVariants.{Standard}
-use Rattle.spool_disk.specs.Spooled.{Reads}
+use Rattle.spool_disk.specs.Spooled.{Reads, Spooled}
+use Rattle.spool_store.specs.declared.fault.OpenFault.{OpenFault}
+use Rattle.spool_store.specs.declared.fault.OpenFault.TheVariants as faults
 use Rattle.spool_store.specs.Standing.{IsClean, IsUsed}
 use Rattle.spool_store.specs.Tables.{start}
-use Rattle.mail_core.specs.declared.serving.Ending.TheVariants as ending
 use Rattle.mail_core.specs.declared.serving.Site.{Site}
 use Rattle.mail_core.specs.declared.serving.Went.{Went}
 use Rattle.mail_core.specs.declared.serving.Went.TheVariants.{Ends}
@@ -14,8 +15,8 @@ use Rattle.mail_core.specs.Machine.{Turn}
 use Rattle.mail_core.specs.Runs.{Headline, IsEnded, run_over}
 use Rattle.mail_core.specs.Seen.{Seen}
 use Rattle.mail_core.specs.Standing.{dirs_of}
-use Rattle.sendmail_run.specs.declared.outcome.Outcome.{Outcome}
-use Rattle.sendmail_run.specs.declared.outcome.Outcome.TheVariants as ends
+use Rattle.sendmail_run.specs.declared.session_mode.SessionEnd.{SessionEnd}
+use Rattle.sendmail_run.specs.declared.session_mode.SessionEnd.TheVariants as ends
 
 -- what replies name as the host, and where the queue is: no line of a configuration says it yet
 abbrev pub site : Site
@@ -61,10 +62,11 @@ pub record IsServedOut (a b : Seen) (went : Went) : Type 0 where
   pub begun : IsBegun a b
   pub ended : IsEnded site start count a b went
 
--- the spool failed as it was opened
-pub record HasNotOpened (a b : Seen) : Type 0 where
-  pub unserved : IsUnserved a b
-  pub rose : Rose a.spool.faults b.spool.faults
+-- why the queue isn't opened
+abbrev pub HasRefused : Spooled → Spooled → OpenFault → Type 0
+HasRefused old new faults.SpoolFault = Rose old.faults new.faults
+HasRefused old new faults.NotYet = IfSome old.told (IsUsed (dirs_of site))
+HasRefused old new faults.NoMemory = Unit {0}
 
 -- the floor failed as it began, or at the turn after so many
 pub record HasLostFloor (a b : Seen) : Type 0 where
@@ -73,19 +75,9 @@ pub record HasLostFloor (a b : Seen) : Type 0 where
   pub served : IsServed count a b
   pub rose : Rose a.floor.faults b.floor.faults
 
--- how session mode ends: no other outcome is its own
-abbrev pub Serves : Seen → Seen → Outcome → Type 0
-Serves a b ends.Done = IsServedOut a b (Ends ending.Stopped)
-Serves a b ends.IdsSpent = IsServedOut a b (Ends ending.IdsSpent)
-Serves a b ends.SpoolFault = HasNotOpened a b ⊎ IsServedOut a b (Ends ending.SpoolFault)
+-- how session mode ends
+abbrev pub Serves : Seen → Seen → SessionEnd → Type 0
+Serves a b (ends.NotOpened fault) = IsUnserved a b × HasRefused a.spool b.spool fault
 Serves a b ends.FloorFault = HasLostFloor a b
+Serves a b (ends.Over ending) = IsServedOut a b (Ends ending)
 Serves a b (ends.TurnsSpent count) = (count ≡ 2 ^ 60) × IsServed count a b
-Serves a b ends.NotYet = IsUnserved a b × IfSome a.spool.told (IsUsed (dirs_of site))
-Serves a b ends.NoMemory = IsUnserved a b
-Serves a b (ends.Usage place) = ⊥
-Serves a b (ends.NoFile name) = ⊥
-Serves a b ends.FilesFault = ⊥
-Serves a b ends.WriteFault = ⊥
-Serves a b ends.ReadFault = ⊥
-Serves a b ends.InputLarge = ⊥
-Serves a b (ends.ConfigLine line fault) = ⊥

@@ -1,5 +1,5 @@
 -- Where the answers to the lines of input stand, as code has them.
-use Rattle.std.specs.Prelude.{◌≡◌, ℕ, ◌+◌, ◌≤◌, List, [], ◌∷◌, ◌++◌, length, map, take, Bool, true, false, nat_lt, ◌==◌, if◌then◌else◌, codes, MatchBool}
+use Rattle.std.specs.Prelude.{◌≡◌, ℕ, ◌+◌, ◌≤◌, ◌^◌, List, [], ◌∷◌, ◌++◌, length, map, take, Bool, true, false, nat_lt, ◌==◌, if◌then◌else◌, codes, MatchBool}
 use Rattle.std.specs.List.{list_any, flat_map}
 use Rattle.std.specs.Str.Lines.{strip_carriage_return}
 use Rattle.mail_base.specs.Limits.{most_line}
@@ -7,9 +7,13 @@ use Rattle.mail_base.specs.declared.config.Config.{Config}
 use Rattle.sendmail_run.specs.declared.input.Partial.{Partial}
 use Rattle.sendmail_run.specs.declared.address_test.Step.{Step}
 use Rattle.sendmail_run.specs.declared.address_test.Step.TheVariants.{On, Ended}
+use Rattle.sendmail_run.specs.declared.outcome.Outcome.TheVariants.{WriteFault}
 use Rattle.sendmail_run.specs.Printing.{Printed, Answers, is_quit, line_of}
 use Rattle.sendmail_run.specs.LogicalLines.{physical_lines}
-use Rattle.sendmail_run.specs.Runs.{Seen, Tests, Takes, Writes, holds_quit}
+use Rattle.sendmail_run.specs.Devices.{Streams}
+use Rattle.sendmail_run.specs.Outcomes.{of_test}
+use Rattle.sendmail_run.specs.Rises.{RisesOnlyAt}
+use Rattle.sendmail_run.specs.Testing.{Tests, Takes, Writes, ended_lines, holds_quit}
 
 abbrev pub has_end : List ℕ → Bool
 has_end text = list_any (λ c. c == 10) text
@@ -47,6 +51,7 @@ pub record Stands (config : Config) (taken : List ℕ) (partial : Partial) (text
 -- the line `/quit` came, and the lines before it are answered with the text
 pub record Quits (config : Config) (taken : List ℕ) (text : List ℕ) : Type 0 where
   pub printed : Printed config (physical_lines taken) text
+  pub among : Printed config (ended_lines taken) text
   pub quit : holds_quit taken ≡ true
 
 -- the answer to the last line, which no LF ends: `/quit` prints nothing
@@ -64,7 +69,8 @@ Answered config taken partial text true = Quits config taken text
 Answered config taken partial text false = Stands config taken partial text
 
 -- all these bytes were taken since the start, and the answers to the ended lines of a front of them were written
-pub record At (config : Config) (before now : Seen) (all taken : List ℕ) (partial : Partial) : Type 0 where
+pub record At (config : Config) (before now : Streams) (all taken : List ℕ) (partial : Partial) : Type 0 where
+  pub few : length all ≤ 2 ^ 32
   pub text : List ℕ
   pub takes : Takes before now all
   pub writes : Writes before now text
@@ -74,6 +80,11 @@ pub record At (config : Config) (before now : Seen) (all taken : List ℕ) (part
   pub output : before.output.faults ≤ now.output.faults
 
 -- a piece of the input was answered, or it ended the run
-abbrev pub Went : Config → Seen → Seen → List ℕ → Partial → Step → Type 0
+abbrev pub Went : Config → Streams → Streams → List ℕ → Partial → Step → Type 0
 Went config before now all partial On = At config before now all all partial
-Went config before now all partial (Ended outcome) = Tests config before now outcome
+Went config before now all partial (Ended how) = Tests config before now how
+
+-- the output's count has risen only where its fault ended the run
+abbrev pub RisesOnlyIn : Step → ℕ → ℕ → Type 0
+RisesOnlyIn On before after = after ≡ before
+RisesOnlyIn (Ended how) before after = RisesOnlyAt WriteFault (of_test how) before after

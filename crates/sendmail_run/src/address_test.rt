@@ -1,16 +1,17 @@
 ghost use Rattle.std.specs.Prelude.{◌≡◌, ◌<◌, ◌≤◌, ◌^◌, ◌++◌, ◌∷◌, List, [], ℕ, false, MatchOption, length, take, IfOk, OnOk, OnErr, IfSome, IsTrue, ◌↔◌};
 ghost use Rattle.mail_base.specs.Histories.{Gains, HasCause};
 ghost use Rattle.mail_edge.specs.Moves.{Loses, GainsPart};
-ghost use Rattle.mail_edge.specs.Seen.{FilesSeen, SourceSeen};
+ghost use Rattle.mail_edge.specs.Seen.{SourceSeen};
 ghost use Rattle.ruleset_run.specs.Plain.{is_plain_book};
-ghost use Rattle.sendmail_run.specs.Runs.{Seen, Tests, seen};
-ghost use Rattle.sendmail_run.specs.Rises.{RisesOnlyAt, RisesOnlyIn};
-ghost use Rattle.sendmail_run.specs.Taking.{Answered, At, Stands, Went, has_end};
+ghost use Rattle.sendmail_run.specs.Devices.{Streams, streams};
+ghost use Rattle.sendmail_run.specs.Outcomes.{of_test};
+ghost use Rattle.sendmail_run.specs.Rises.{RisesOnlyAt};
+ghost use Rattle.sendmail_run.specs.Taking.{Answered, At, RisesOnlyIn, Stands, Went, has_end};
+ghost use Rattle.sendmail_run.specs.Testing.{Tests};
 ghost use Rattle.sendmail_run.specs.declared.outcome.Outcome.TheVariants.{ReadFault, WriteFault};
 
 use crate::buffer::zeros;
 use crate::input::Partial;
-use crate::outcome::Outcome;
 use mail_base::{Config, Failed, MOST_PIECE, NoMemory, Text};
 use mail_edge::{Sink, Source};
 use memchr::memchr;
@@ -19,23 +20,37 @@ use std::alloc::Global;
 /// The most bytes that are taken of the input.
 pub const MOST_INPUT: u64 = 1 << 32;
 
+/// How address test mode ends.
+#[derive(Clone, Copy)]
+pub enum TestEnd {
+    /// The input came to its end, or to the line `/quit`.
+    Done,
+    /// The input could not be read.
+    ReadFault,
+    /// The output could not be written.
+    WriteFault,
+    /// The input has 2^32 bytes or more.
+    InputLarge,
+    NoMemory,
+}
+
 /// Answers each line of input on the output, up to the end of the input or the line `/quit`.
 pub fn address_test<I: Source, O: Sink>(
     alloc: Global,
     config: &Config,
     input: &mut I,
     output: &mut O,
-) -> Outcome
+) -> TestEnd
     requires plain { IsTrue (is_plain_book config.now.book) }
     requires quiet { config.now.warnings ≡ [] }
-    ensures tests { (files : FilesSeen) → Tests config.now (seen files (I.seen input.old) (O.seen output.old)) (seen files (I.seen input.new) (O.seen output.new)) result }
+    ensures tests { Tests config.now (streams (I.seen input.old) (O.seen output.old)) (streams (I.seen input.new) (O.seen output.new)) result }
     ensures input { (I.seen input.old).faults ≤ (I.seen input.new).faults }
     ensures output { (O.seen output.old).faults ≤ (O.seen output.new).faults }
-    ensures read { RisesOnlyAt ReadFault result (I.seen input.old).faults (I.seen input.new).faults }
-    ensures written { RisesOnlyAt WriteFault result (O.seen output.old).faults (O.seen output.new).faults }
+    ensures read { RisesOnlyAt ReadFault (of_test result) (I.seen input.old).faults (I.seen input.new).faults }
+    ensures written { RisesOnlyAt WriteFault (of_test result) (O.seen output.old).faults (O.seen output.new).faults }
 {
     let Ok(mut buffer) = zeros(alloc, MOST_PIECE) else {
-        return Outcome::NoMemory;
+        return TestEnd::NoMemory;
     };
     answer_all(alloc, config, input, output, &mut buffer)
 }
@@ -47,22 +62,22 @@ fn answer_all<I: Source, O: Sink>(
     input: &mut I,
     output: &mut O,
     buffer: &mut [u8],
-) -> Outcome
+) -> TestEnd
     requires plain { IsTrue (is_plain_book config.now.book) }
     requires quiet { config.now.warnings ≡ [] }
     requires buffer { 0 < length buffer.old }
-    ensures tests { (files : FilesSeen) → Tests config.now (seen files (I.seen input.old) (O.seen output.old)) (seen files (I.seen input.new) (O.seen output.new)) result }
+    ensures tests { Tests config.now (streams (I.seen input.old) (O.seen output.old)) (streams (I.seen input.new) (O.seen output.new)) result }
     ensures input { (I.seen input.old).faults ≤ (I.seen input.new).faults }
     ensures output { (O.seen output.old).faults ≤ (O.seen output.new).faults }
-    ensures read { RisesOnlyAt ReadFault result (I.seen input.old).faults (I.seen input.new).faults }
-    ensures written { RisesOnlyAt WriteFault result (O.seen output.old).faults (O.seen output.new).faults }
+    ensures read { RisesOnlyAt ReadFault (of_test result) (I.seen input.old).faults (I.seen input.new).faults }
+    ensures written { RisesOnlyAt WriteFault (of_test result) (O.seen output.old).faults (O.seen output.new).faults }
 {
     let mut partial = Partial::new(alloc);
     let mut total: u64 = 0;
     while total < MOST_INPUT {
         let count = match take_most(input, buffer, MOST_INPUT - total) {
             Ok(count) => count,
-            Err(_) => return Outcome::ReadFault,
+            Err(_) => return TestEnd::ReadFault,
         };
         if count == 0 {
             return end(alloc, config, &partial, output);
@@ -70,10 +85,10 @@ fn answer_all<I: Source, O: Sink>(
         total += count as u64;
         match answer_piece(alloc, config, &mut partial, &buffer[..count], output) {
             Step::On => {}
-            Step::Ended(outcome) => return outcome,
+            Step::Ended(how) => return how,
         }
     }
-    Outcome::InputLarge
+    TestEnd::InputLarge
 }
 
 // Takes bytes of the input, as many as the buffer holds and at most so many.
@@ -95,7 +110,7 @@ fn take_most<I: Source>(input: &mut I, buffer: &mut [u8], most: u64) -> Result<u
 // How a piece of the input leaves the run.
 enum Step {
     On,
-    Ended(Outcome),
+    Ended(TestEnd),
 }
 
 // Answers the lines that a piece of the input ends.
@@ -107,22 +122,22 @@ fn answer_piece<O: Sink>(
     output: &mut O,
 ) -> Step
     requires { IsTrue (is_plain_book config.now.book) }
-    ensures went { (before : Seen) (input : SourceSeen) (taken : List ℕ) → At config.now before (seen before.files input (O.seen output.old)) (taken ++ bytes.now) taken partial.old → Went config.now before (seen before.files input (O.seen output.new)) (taken ++ bytes.now) partial.new result }
+    ensures went { (before : Streams) (input : SourceSeen) (taken : List ℕ) → At config.now before (streams input (O.seen output.old)) (taken ++ bytes.now) taken partial.old → Went config.now before (streams input (O.seen output.new)) (taken ++ bytes.now) partial.new result }
     ensures later { (O.seen output.old).faults ≤ (O.seen output.new).faults }
     ensures rises { RisesOnlyIn result (O.seen output.old).faults (O.seen output.new).faults }
 {
     let Ok(answers) = answer_lines(alloc, config, partial, bytes) else {
-        return Step::Ended(Outcome::NoMemory);
+        return Step::Ended(TestEnd::NoMemory);
     };
     match give(output, &answers.text) {
         Ok(()) => {
             if answers.is_quit {
-                Step::Ended(Outcome::Done)
+                Step::Ended(TestEnd::Done)
             } else {
                 Step::On
             }
         }
-        Err(_) => Step::Ended(Outcome::WriteFault),
+        Err(_) => Step::Ended(TestEnd::WriteFault),
     }
 }
 
@@ -187,18 +202,18 @@ fn split_end(text: &[u8]) -> Option<(&[u8], &[u8])>
 }
 
 // Answers the last line, which the input's end ends.
-fn end<O: Sink>(alloc: Global, config: &Config, partial: &Partial, output: &mut O) -> Outcome
+fn end<O: Sink>(alloc: Global, config: &Config, partial: &Partial, output: &mut O) -> TestEnd
     requires { IsTrue (is_plain_book config.now.book) }
-    ensures tests { (before : Seen) (input : SourceSeen) (taken : List ℕ) → IfSome input.left (λ left. left ≡ []) → At config.now before (seen before.files input (O.seen output.old)) taken taken partial.now → Tests config.now before (seen before.files input (O.seen output.new)) result }
+    ensures tests { (before : Streams) (input : SourceSeen) (taken : List ℕ) → IfSome input.left (λ left. left ≡ []) → length taken < 2 ^ 32 → At config.now before (streams input (O.seen output.old)) taken taken partial.now → Tests config.now before (streams input (O.seen output.new)) result }
     ensures later { (O.seen output.old).faults ≤ (O.seen output.new).faults }
-    ensures rises { RisesOnlyAt WriteFault result (O.seen output.old).faults (O.seen output.new).faults }
+    ensures rises { RisesOnlyAt WriteFault (of_test result) (O.seen output.old).faults (O.seen output.new).faults }
 {
     let mut text = Text::new(alloc);
     let Ok(()) = partial.answer_last(alloc, config, &mut text) else {
-        return Outcome::NoMemory;
+        return TestEnd::NoMemory;
     };
     match give(output, &text) {
-        Ok(()) => Outcome::Done,
-        Err(_) => Outcome::WriteFault,
+        Ok(()) => TestEnd::Done,
+        Err(_) => TestEnd::WriteFault,
     }
 }

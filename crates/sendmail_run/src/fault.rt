@@ -1,7 +1,7 @@
 ghost use Rattle.std.specs.Prelude.{◌≡◌};
 ghost use Rattle.sendmail_run.specs.declared.fault.ReadFault.TheVariants.{NoMemory as Memory};
 
-use mail_base::NoMemory;
+use mail_base::{NoMemory, Text};
 use thiserror::Error;
 
 /// What is wrong with a line of a configuration file, in the order in which a line is tried.
@@ -41,4 +41,15 @@ impl From<NoMemory> for ReadFault {
     fn from(_error: NoMemory) -> ReadFault {
         ReadFault::NoMemory
     }
+}
+
+/// Why the file that the words name gives no configuration.
+#[derive(Drop)]
+pub enum ConfigFault {
+    /// There is no file of this name.
+    NoFile(Text),
+    /// It could not be read.
+    FilesFault,
+    Refused(Refusal),
+    NoMemory,
 }

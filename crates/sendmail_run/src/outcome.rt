@@ -1,8 +1,13 @@
 ghost use Rattle.std.specs.Prelude.{◌≡◌};
-ghost use Rattle.sendmail_run.specs.Outcomes.{status_of};
+ghost use Rattle.sendmail_run.specs.Outcomes as spec;
 
-use crate::fault::Fault;
+use crate::address_test::TestEnd;
+use crate::command_line::WordFault;
+use crate::fault::{ConfigFault, Fault};
+use crate::session_mode::SessionEnd;
 use mail_base::Text;
+use mail_core::Ending;
+use spool_store::OpenFault;
 
 /// How a run ends.
 #[derive(Drop)]
@@ -39,7 +44,7 @@ pub enum Outcome {
 impl Outcome {
     /// The status that the program ends with, as sysexits has it.
     pub fn status(&self) -> u8
-        ensures { result ≡ status_of self.now }
+        ensures { result ≡ spec.status_of self.now }
     {
         match self {
             Outcome::Done => 0,
@@ -56,6 +61,57 @@ impl Outcome {
             Outcome::SpoolFault => 75,
             Outcome::IdsSpent => 77,
             Outcome::NotYet => 81,
+        }
+    }
+
+    /// That of a run whose words are refused.
+    pub fn of_words(fault: WordFault) -> Outcome
+        ensures { result ≡ spec.of_words fault }
+    {
+        match fault {
+            WordFault::At(place) => Outcome::Usage(place),
+            WordFault::NoMemory => Outcome::NoMemory,
+        }
+    }
+
+    /// That of a run that has no configuration.
+    pub fn of_config(fault: ConfigFault) -> Outcome
+        ensures { result ≡ spec.of_config fault }
+    {
+        match fault {
+            ConfigFault::NoFile(name) => Outcome::NoFile(name),
+            ConfigFault::FilesFault => Outcome::FilesFault,
+            ConfigFault::Refused(refusal) => Outcome::ConfigLine(refusal.line, refusal.fault),
+            ConfigFault::NoMemory => Outcome::NoMemory,
+        }
+    }
+
+    /// That of a run of address test mode.
+    pub fn of_test(how: TestEnd) -> Outcome
+        ensures { result ≡ spec.of_test how }
+    {
+        match how {
+            TestEnd::Done => Outcome::Done,
+            TestEnd::ReadFault => Outcome::ReadFault,
+            TestEnd::WriteFault => Outcome::WriteFault,
+            TestEnd::InputLarge => Outcome::InputLarge,
+            TestEnd::NoMemory => Outcome::NoMemory,
+        }
+    }
+
+    /// That of a run of session mode.
+    pub fn of_session(how: SessionEnd) -> Outcome
+        ensures { result ≡ spec.of_session how }
+    {
+        match how {
+            SessionEnd::NotOpened(OpenFault::SpoolFault) => Outcome::SpoolFault,
+            SessionEnd::NotOpened(OpenFault::NotYet) => Outcome::NotYet,
+            SessionEnd::NotOpened(OpenFault::NoMemory) => Outcome::NoMemory,
+            SessionEnd::FloorFault => Outcome::FloorFault,
+            SessionEnd::Over(Ending::Stopped) => Outcome::Done,
+            SessionEnd::Over(Ending::SpoolFault) => Outcome::SpoolFault,
+            SessionEnd::Over(Ending::IdsSpent) => Outcome::IdsSpent,
+            SessionEnd::TurnsSpent(count) => Outcome::TurnsSpent(count),
         }
     }
 }

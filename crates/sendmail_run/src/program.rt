@@ -1,13 +1,14 @@
 ghost use Rattle.std.specs.Prelude.{◌≡◌, ◌<◌, ◌≤◌, ◌^◌, length, IfErr, List, OnOk, ℕ};
-ghost use Rattle.mail_core.specs.Seen.{seen as core_seen};
-ghost use Rattle.sendmail_run.specs.Runs.{Completes, CompletesService, Ends, IsLater, RisesEnd, seen};
 ghost use Rattle.sendmail_run.specs.Beginning.{Begins};
+ghost use Rattle.sendmail_run.specs.Devices.{world};
+ghost use Rattle.sendmail_run.specs.Outcomes.{of_config};
 ghost use Rattle.sendmail_run.specs.Rises.{RisesOnlyAt};
+ghost use Rattle.sendmail_run.specs.Runs.{Completes, Ends, Stays};
 ghost use Rattle.sendmail_run.specs.declared.outcome.Outcome.TheVariants.{FilesFault};
 
 use crate::address_test::address_test;
-use crate::command_line::{Job, Mode, WordFault, words};
-use crate::fault::ReadFault;
+use crate::command_line::{Job, words};
+use crate::fault::{ConfigFault, ReadFault};
 use crate::outcome::Outcome;
 use crate::reader::read;
 use crate::session_mode::session_mode;
@@ -35,64 +36,84 @@ pub fn sendmail<F: Files, D: Spool, L: Floor, C: Clock, I: Source, O: Sink>(
     requires words { length arguments.now < 2 ^ 32 }
     requires clock { (C.seen clock.old).readings ≤ 2 ^ 63 }
     ensures ends { Ends arguments.now
-        (seen (F.seen files.old) (I.seen input.old) (O.seen output.old))
-        (seen (F.seen files.new) (I.seen input.new) (O.seen output.new))
-        (core_seen (L.seen floor.old) (D.seen spool.old) (C.seen clock.old))
-        (core_seen (L.seen floor.new) (D.seen spool.new) (C.seen clock.new))
+        (world (F.seen files.old) (I.seen input.old) (O.seen output.old)
+        (L.seen floor.old) (D.seen spool.old) (C.seen clock.old))
+        (world (F.seen files.new) (I.seen input.new) (O.seen output.new)
+        (L.seen floor.new) (D.seen spool.new) (C.seen clock.new))
         result }
-    ensures later { IsLater
-        (seen (F.seen files.old) (I.seen input.old) (O.seen output.old))
-        (seen (F.seen files.new) (I.seen input.new) (O.seen output.new))
-        (core_seen (L.seen floor.old) (D.seen spool.old) (C.seen clock.old))
-        (core_seen (L.seen floor.new) (D.seen spool.new) (C.seen clock.new)) }
-    ensures rises { RisesEnd
-        (seen (F.seen files.old) (I.seen input.old) (O.seen output.old))
-        (seen (F.seen files.new) (I.seen input.new) (O.seen output.new))
-        (core_seen (L.seen floor.old) (D.seen spool.old) (C.seen clock.old))
-        (core_seen (L.seen floor.new) (D.seen spool.new) (C.seen clock.new))
+    ensures stays { Stays
+        (world (F.seen files.old) (I.seen input.old) (O.seen output.old)
+        (L.seen floor.old) (D.seen spool.old) (C.seen clock.old))
+        (world (F.seen files.new) (I.seen input.new) (O.seen output.new)
+        (L.seen floor.new) (D.seen spool.new) (C.seen clock.new))
         result }
     ensures complete { Completes arguments.now
-        (seen (F.seen files.old) (I.seen input.old) (O.seen output.old))
-        (seen (F.seen files.new) (I.seen input.new) (O.seen output.new))
+        (world (F.seen files.old) (I.seen input.old) (O.seen output.old)
+        (L.seen floor.old) (D.seen spool.old) (C.seen clock.old))
+        (world (F.seen files.new) (I.seen input.new) (O.seen output.new)
+        (L.seen floor.new) (D.seen spool.new) (C.seen clock.new))
         result }
-    ensures serves { CompletesService arguments.now
-        (seen (F.seen files.old) (I.seen input.old) (O.seen output.old))
-        (seen (F.seen files.new) (I.seen input.new) (O.seen output.new))
-        (core_seen (L.seen floor.old) (D.seen spool.old) (C.seen clock.old))
-        (core_seen (L.seen floor.new) (D.seen spool.new) (C.seen clock.new))
+{
+    run(alloc, arguments, files, spool, floor, clock, input, output)
+}
+
+// The same, without the clause that follows from the other two.
+fn run<F: Files, D: Spool, L: Floor, C: Clock, I: Source, O: Sink>(
+    alloc: Global,
+    arguments: &Seq<Text>,
+    files: &mut F,
+    spool: &mut D,
+    floor: &mut L,
+    clock: &mut C,
+    input: &mut I,
+    output: &mut O,
+) -> Outcome
+    requires words { length arguments.now < 2 ^ 32 }
+    requires clock { (C.seen clock.old).readings ≤ 2 ^ 63 }
+    ensures ends { Ends arguments.now
+        (world (F.seen files.old) (I.seen input.old) (O.seen output.old)
+        (L.seen floor.old) (D.seen spool.old) (C.seen clock.old))
+        (world (F.seen files.new) (I.seen input.new) (O.seen output.new)
+        (L.seen floor.new) (D.seen spool.new) (C.seen clock.new))
+        result }
+    ensures stays { Stays
+        (world (F.seen files.old) (I.seen input.old) (O.seen output.old)
+        (L.seen floor.old) (D.seen spool.old) (C.seen clock.old))
+        (world (F.seen files.new) (I.seen input.new) (O.seen output.new)
+        (L.seen floor.new) (D.seen spool.new) (C.seen clock.new))
         result }
 {
     let mode = match words(alloc, arguments) {
         Ok(mode) => mode,
-        Err(WordFault::At(place)) => return Outcome::Usage(place),
-        Err(WordFault::NoMemory) => return Outcome::NoMemory,
+        Err(fault) => return Outcome::of_words(fault),
     };
-    match configuration(alloc, mode.file, files) {
-        Ok(config) => match mode.job {
-            Job::Test => address_test(alloc, &config, input, output),
-            Job::Session => session_mode(alloc, spool, floor, clock),
-        },
-        Err(outcome) => outcome,
+    let config = match configuration(alloc, mode.file, files) {
+        Ok(config) => config,
+        Err(fault) => return Outcome::of_config(fault),
+    };
+    match mode.job {
+        Job::Test => Outcome::of_test(address_test(alloc, &config, input, output)),
+        Job::Session => Outcome::of_session(session_mode(alloc, spool, floor, clock)),
     }
 }
 
 // The configuration that the file of that name gives.
-fn configuration<F: Files>(alloc: Global, name: Text, files: &mut F) -> Result<Config, Outcome>
+fn configuration<F: Files>(alloc: Global, name: Text, files: &mut F) -> Result<Config, ConfigFault>
     ensures begins { Begins name (F.seen files.old) (F.seen files.new) result }
     ensures map { (F.seen files.new).map ≡ (F.seen files.old).map }
     ensures later { (F.seen files.old).faults ≤ (F.seen files.new).faults }
     ensures kept { OnOk result ((F.seen files.new).faults ≡ (F.seen files.old).faults) }
-    ensures rises { IfErr result (λ outcome. RisesOnlyAt FilesFault outcome (F.seen files.old).faults (F.seen files.new).faults) }
+    ensures rises { IfErr result (λ fault. RisesOnlyAt FilesFault (of_config fault) (F.seen files.old).faults (F.seen files.new).faults) }
 {
     let text = match files.read(alloc, &name) {
         Ok(Some(text)) => text,
-        Ok(None) => return Err(Outcome::NoFile(name)),
-        Err(EdgeFault::Failed) => return Err(Outcome::FilesFault),
-        Err(EdgeFault::NoMemory) => return Err(Outcome::NoMemory),
+        Ok(None) => return Err(ConfigFault::NoFile(name)),
+        Err(EdgeFault::Failed) => return Err(ConfigFault::FilesFault),
+        Err(EdgeFault::NoMemory) => return Err(ConfigFault::NoMemory),
     };
     match read(alloc, text.bytes()) {
         Ok(config) => Ok(config),
-        Err(ReadFault::Refused(refusal)) => Err(Outcome::ConfigLine(refusal.line, refusal.fault)),
-        Err(ReadFault::NoMemory) => Err(Outcome::NoMemory),
+        Err(ReadFault::Refused(refusal)) => Err(ConfigFault::Refused(refusal)),
+        Err(ReadFault::NoMemory) => Err(ConfigFault::NoMemory),
     }
 }

@@ -5,14 +5,13 @@ ghost use Rattle.spool_store.specs.Tables.{start};
 ghost use Rattle.mail_core.specs.Machine.{beginning};
 ghost use Rattle.mail_core.specs.Seen.{seen};
 ghost use Rattle.mail_core.specs.Standing.{Stands, Stores, dirs_of};
-ghost use Rattle.sendmail_run.specs.Opening.{HasRefused};
+ghost use Rattle.sendmail_run.specs.Outcomes.{of_opening, of_session};
 ghost use Rattle.sendmail_run.specs.Rises.{RisesOnlyAt};
 ghost use Rattle.sendmail_run.specs.Serving as spec;
-ghost use Rattle.sendmail_run.specs.Serving.{Serves};
+ghost use Rattle.sendmail_run.specs.Serving.{HasRefused, Serves};
 ghost use Rattle.sendmail_run.specs.declared.outcome.Outcome.TheVariants.{FloorFault, SpoolFault};
 
 use crate::buffer::zeros;
-use crate::outcome::Outcome;
 use link_edge::{Floor, Place};
 use mail_base::{MOST_PIECE, NoMemory, Seq, Text};
 use mail_core::{Core, Ending, Site, Went};
@@ -30,6 +29,19 @@ const HOST: &[u8] = b"localhost";
 /// The directory of the queue: no line of a configuration says it yet.
 const QUEUE: &[u8] = b"/var/spool/mqueue";
 
+/// How session mode ends.
+#[derive(Clone, Copy)]
+pub enum SessionEnd {
+    /// The queue could not be opened, or there was no memory before that.
+    NotOpened(OpenFault),
+    /// The floor could not begin, or a turn of it failed; one that fails to send only ends that session.
+    FloorFault,
+    /// A turn ended the run.
+    Over(Ending),
+    /// So many turns were served, which are all that a run takes, and none of them ended it.
+    TurnsSpent(u64),
+}
+
 /// Serves one session at the standard place of the floor, and takes its messages into the queue. It ends
 /// when the floor tells `Stop`.
 ///
@@ -40,14 +52,14 @@ pub fn session_mode<D: Spool, L: Floor, C: Clock>(
     spool: &mut D,
     floor: &mut L,
     clock: &mut C,
-) -> Outcome
+) -> SessionEnd
     requires { (C.seen clock.old).readings ≤ 2 ^ 63 }
-    ensures rises_floor { RisesOnlyAt FloorFault result (L.seen floor.old).faults (L.seen floor.new).faults }
-    ensures rises_spool { RisesOnlyAt SpoolFault result (D.seen spool.old).faults (D.seen spool.new).faults }
+    ensures rises_floor { RisesOnlyAt FloorFault (of_session result) (L.seen floor.old).faults (L.seen floor.new).faults }
+    ensures rises_spool { RisesOnlyAt SpoolFault (of_session result) (D.seen spool.old).faults (D.seen spool.new).faults }
     ensures serves { Serves (seen (L.seen floor.old) (D.seen spool.old) (C.seen clock.old)) (seen (L.seen floor.new) (D.seen spool.new) (C.seen clock.new)) result }
 {
     let Ok(mut buffer) = zeros(alloc, MOST_PIECE) else {
-        return Outcome::NoMemory;
+        return SessionEnd::NotOpened(OpenFault::NoMemory);
     };
     serve(alloc, spool, floor, clock, &mut buffer)
 }
@@ -59,56 +71,53 @@ fn serve<D: Spool, L: Floor, C: Clock>(
     floor: &mut L,
     clock: &mut C,
     buffer: &mut [u8],
-) -> Outcome
+) -> SessionEnd
     requires readings { (C.seen clock.old).readings ≤ 2 ^ 63 }
     requires room { 64 ≤ length buffer.old }
-    ensures rises_floor { RisesOnlyAt FloorFault result (L.seen floor.old).faults (L.seen floor.new).faults }
-    ensures rises_spool { RisesOnlyAt SpoolFault result (D.seen spool.old).faults (D.seen spool.new).faults }
+    ensures rises_floor { RisesOnlyAt FloorFault (of_session result) (L.seen floor.old).faults (L.seen floor.new).faults }
+    ensures rises_spool { RisesOnlyAt SpoolFault (of_session result) (D.seen spool.old).faults (D.seen spool.new).faults }
     ensures serves { Serves (seen (L.seen floor.old) (D.seen spool.old) (C.seen clock.old)) (seen (L.seen floor.new) (D.seen spool.new) (C.seen clock.new)) result }
 {
     let mut core = match opened(alloc, spool) {
         Ok(core) => core,
-        Err(outcome) => return outcome,
+        Err(fault) => return SessionEnd::NotOpened(fault),
     };
     let Ok(()) = floor.begin(&Place::Standard, 1) else {
-        return Outcome::FloorFault;
+        return SessionEnd::FloorFault;
     };
     for _ in 0..MOST_TURNS {
         let Ok(turn) = floor.turn(buffer) else {
-            return Outcome::FloorFault;
+            return SessionEnd::FloorFault;
         };
         let reading = clock.now();
         match core.turn(floor, spool, reading, turn, buffer) {
             Went::GoesOn => {}
-            Went::Ends(Ending::Stopped) => return Outcome::Done,
-            Went::Ends(Ending::SpoolFault) => return Outcome::SpoolFault,
-            Went::Ends(Ending::IdsSpent) => return Outcome::IdsSpent,
+            Went::Ends(ending) => return SessionEnd::Over(ending),
         }
     }
-    Outcome::TurnsSpent(MOST_TURNS)
+    SessionEnd::TurnsSpent(MOST_TURNS)
 }
 
 // Opens the queue, and makes a core over it.
-fn opened<D: Spool>(alloc: Global, spool: &mut D) -> Result<Core, Outcome>
+fn opened<D: Spool>(alloc: Global, spool: &mut D) -> Result<Core, OpenFault>
     ensures reads { Reads (D.seen spool.old) (D.seen spool.new) }
     ensures later { (D.seen spool.old).faults ≤ (D.seen spool.new).faults }
     ensures core { IfOk result (λ core. Stands spec.site core (beginning start)) }
     ensures empty { IfOk result (λ _. IfSome (D.seen spool.old).told (IsClean (dirs_of spec.site) start)) }
     ensures refused { IfErr result (HasRefused (D.seen spool.old) (D.seen spool.new)) }
     ensures kept { OnOk result ((D.seen spool.new).faults ≡ (D.seen spool.old).faults) }
-    ensures rises { IfErr result (λ outcome. RisesOnlyAt SpoolFault outcome (D.seen spool.old).faults (D.seen spool.new).faults) }
+    ensures rises { IfErr result (λ fault. RisesOnlyAt SpoolFault (of_opening fault) (D.seen spool.old).faults (D.seen spool.new).faults) }
 {
     let Ok(dirs) = queue_dirs(alloc) else {
-        return Err(Outcome::NoMemory);
+        return Err(OpenFault::NoMemory);
     };
-    match Store::open(alloc, spool, &dirs) {
-        Ok(store) => match core_over(alloc, store) {
-            Ok(core) => Ok(core),
-            Err(NoMemory) => Err(Outcome::NoMemory),
-        },
-        Err(OpenFault::SpoolFault) => Err(Outcome::SpoolFault),
-        Err(OpenFault::NotYet) => Err(Outcome::NotYet),
-        Err(OpenFault::NoMemory) => Err(Outcome::NoMemory),
+    let store = match Store::open(alloc, spool, &dirs) {
+        Ok(store) => store,
+        Err(fault) => return Err(fault),
+    };
+    match core_over(alloc, store) {
+        Ok(core) => Ok(core),
+        Err(NoMemory) => Err(OpenFault::NoMemory),
     }
 }
 

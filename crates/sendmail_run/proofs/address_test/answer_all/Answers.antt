@@ -1,11 +1,11 @@
 use Rattle.std.proofs.Common.{◌≡◌, ◌++◌, ℕ, List, [], length, take, refl, ◌∙◌, inr, arith}
-use Rattle.sendmail_run.specs.Runs.{seen}
-use Rattle.sendmail_run.proofs.TestLemmas.{at_start, at_taken, at_read_fault, at_large, at_same, left_none, same_count, taken_length, rises_since}
+use Rattle.sendmail_run.specs.Devices.{streams}
+use Rattle.sendmail_run.proofs.TestLemmas.{at_start, at_taken, at_read_fault, at_large, at_same, below, left_none, same_count, taken_few, taken_length, rises_since}
 use Rattle.sendmail_run.proofs.address_test.answer_all.Goals as goal
 
 pub loop-total-init : goal.loop-total-init
 loop-total-init g c = record {
-  at = λ files. ([], refl, at_start c.args.config.now c.requires.quiet files (g.I.Source.seen c.args.input.now) (g.O.Sink.seen c.args.output.now) c.new-partial.result c.new-partial.ensures);
+  at = ([], refl, at_start c.args.config.now c.requires.quiet (g.I.Source.seen c.args.input.now) (g.O.Sink.seen c.args.output.now) c.new-partial.result c.new-partial.ensures);
   most = omega arith;
   input = same_count (g.I.Source.seen c.args.input.now).faults;
   output = same_count (g.O.Sink.seen c.args.output.now).faults;
@@ -14,50 +14,53 @@ loop-total-init g c = record {
 }
 
 pub loop-total-preserved : goal.loop-total-preserved
-loop-total-preserved g c = record {
-  at = λ files.
-      let so = c.loop-total.invariant.at files in
-      let bytes : List ℕ = take c.in-Ok.count c.take_most.new.buffer in
-      let taken = at_taken c.args.config.now (seen files (g.I.Source.seen c.args.input.now) (g.O.Sink.seen c.args.output.now)) files (g.I.Source.seen c.loop-total.input) (g.I.Source.seen c.take_most.new.input) (g.O.Sink.seen c.loop-total.output)
-      so.0 so.0 bytes c.loop-total.partial so.2 c.in-Ok.ensures.taken c.in-Ok.ensures.cause.later in (
+loop-total-preserved g c =
+    let so = c.loop-total.invariant.at in
+    let bytes : List ℕ = take c.in-Ok.count c.take_most.new.buffer in
+    let taken = at_taken c.args.config.now (streams (g.I.Source.seen c.args.input.now) (g.O.Sink.seen c.args.output.now)) (g.I.Source.seen c.loop-total.input) (g.I.Source.seen c.take_most.new.input) (g.O.Sink.seen c.loop-total.output)
+    so.0 so.0 bytes c.loop-total.partial so.2 c.in-Ok.ensures.taken c.in-Ok.ensures.cause.later
+    (taken_few so.0 c.take_most.new.buffer c.loop-total.total c.in-Ok.count so.1 c.in-Ok.ensures.bound (omega (arith, c.in-Ok.ensures.most, c.loop-total-test.true))) in record {
+      at = (
         so.0 ++ bytes,
         taken_length so.0 c.take_most.new.buffer c.loop-total.total c.in-Ok.count so.1 c.in-Ok.ensures.bound,
-        c.in-On.ensures.went (seen files (g.I.Source.seen c.args.input.now) (g.O.Sink.seen c.args.output.now)) (g.I.Source.seen c.take_most.new.input) so.0 taken,
+        c.in-On.ensures.went (streams (g.I.Source.seen c.args.input.now) (g.O.Sink.seen c.args.output.now)) (g.I.Source.seen c.take_most.new.input) so.0 taken,
       );
-  most = omega (arith, c.in-Ok.ensures.most, c.loop-total-test.true);
-  input = omega (arith, c.in-Ok.ensures.cause.later, c.loop-total.invariant.input);
-  output = omega (arith, c.answer_piece.ensures.later, c.loop-total.invariant.output);
-  read = c.in-Ok.ensures.calm ∙ c.loop-total.invariant.read;
-  written = c.in-On.ensures.rises ∙ c.loop-total.invariant.written;
-}
+      most = omega (arith, c.in-Ok.ensures.most, c.loop-total-test.true);
+      input = omega (arith, c.in-Ok.ensures.cause.later, c.loop-total.invariant.input);
+      output = omega (arith, c.answer_piece.ensures.later, c.loop-total.invariant.output);
+      read = c.in-Ok.ensures.calm ∙ c.loop-total.invariant.read;
+      written = c.in-On.ensures.rises ∙ c.loop-total.invariant.written;
+    }
 
 pub returns-in-Err-clause-tests : goal.returns-in-Err-clause-tests
-returns-in-Err-clause-tests g c = λ files.
-    let so = c.loop-total.invariant.at files in
-    at_read_fault c.args.config.now (seen files (g.I.Source.seen c.args.input.now) (g.O.Sink.seen c.args.output.now)) files (g.I.Source.seen c.loop-total.input) (g.I.Source.seen c.take_most.new.input) (g.O.Sink.seen c.loop-total.output)
-    so.0 c.loop-total.partial so.2 c.in-Err.ensures.kept c.in-Err.ensures.cause.failed
+returns-in-Err-clause-tests g c =
+    let so = c.loop-total.invariant.at in
+    at_read_fault c.args.config.now (streams (g.I.Source.seen c.args.input.now) (g.O.Sink.seen c.args.output.now)) (g.I.Source.seen c.loop-total.input) (g.I.Source.seen c.take_most.new.input) (g.O.Sink.seen c.loop-total.output)
+    so.0 c.loop-total.partial so.2 (below so.0 c.loop-total.total so.1 (omega (arith, c.loop-total-test.true))) c.in-Err.ensures.kept c.in-Err.ensures.cause.failed
 
 pub returns-then-count-eq0-clause-tests : goal.returns-then-count-eq0-clause-tests
-returns-then-count-eq0-clause-tests g c = λ files.
-    let so = c.loop-total.invariant.at files in
-    c.end.ensures.tests (seen files (g.I.Source.seen c.args.input.now) (g.O.Sink.seen c.args.output.now)) (g.I.Source.seen c.take_most.new.input) so.0
+returns-then-count-eq0-clause-tests g c =
+    let so = c.loop-total.invariant.at in
+    c.end.ensures.tests (streams (g.I.Source.seen c.args.input.now) (g.O.Sink.seen c.args.output.now)) (g.I.Source.seen c.take_most.new.input) so.0
     (left_none (g.I.Source.seen c.loop-total.input).left (g.I.Source.seen c.take_most.new.input).left c.take_most.new.buffer c.in-Ok.count c.in-Ok.ensures.taken c.in-Ok.ensures.end c.if-count-eq0.true)
-    (at_same c.args.config.now (seen files (g.I.Source.seen c.args.input.now) (g.O.Sink.seen c.args.output.now)) files (g.I.Source.seen c.loop-total.input) (g.I.Source.seen c.take_most.new.input) (g.O.Sink.seen c.loop-total.output)
+    (below so.0 c.loop-total.total so.1 (omega (arith, c.loop-total-test.true)))
+    (at_same c.args.config.now (streams (g.I.Source.seen c.args.input.now) (g.O.Sink.seen c.args.output.now)) (g.I.Source.seen c.loop-total.input) (g.I.Source.seen c.take_most.new.input) (g.O.Sink.seen c.loop-total.output)
     so.0 c.take_most.new.buffer c.in-Ok.count c.loop-total.partial so.2 c.in-Ok.ensures.taken c.if-count-eq0.true c.in-Ok.ensures.cause.later)
 
 pub returns-in-Ended-clause-tests : goal.returns-in-Ended-clause-tests
-returns-in-Ended-clause-tests g c = λ files.
-    let so = c.loop-total.invariant.at files in
+returns-in-Ended-clause-tests g c =
+    let so = c.loop-total.invariant.at in
     let bytes : List ℕ = take c.in-Ok.count c.take_most.new.buffer in
-    let taken = at_taken c.args.config.now (seen files (g.I.Source.seen c.args.input.now) (g.O.Sink.seen c.args.output.now)) files (g.I.Source.seen c.loop-total.input) (g.I.Source.seen c.take_most.new.input) (g.O.Sink.seen c.loop-total.output)
-    so.0 so.0 bytes c.loop-total.partial so.2 c.in-Ok.ensures.taken c.in-Ok.ensures.cause.later in
-    c.in-Ended.ensures.went (seen files (g.I.Source.seen c.args.input.now) (g.O.Sink.seen c.args.output.now)) (g.I.Source.seen c.take_most.new.input) so.0 taken
+    let taken = at_taken c.args.config.now (streams (g.I.Source.seen c.args.input.now) (g.O.Sink.seen c.args.output.now)) (g.I.Source.seen c.loop-total.input) (g.I.Source.seen c.take_most.new.input) (g.O.Sink.seen c.loop-total.output)
+    so.0 so.0 bytes c.loop-total.partial so.2 c.in-Ok.ensures.taken c.in-Ok.ensures.cause.later
+    (taken_few so.0 c.take_most.new.buffer c.loop-total.total c.in-Ok.count so.1 c.in-Ok.ensures.bound (omega (arith, c.in-Ok.ensures.most, c.loop-total-test.true))) in
+    c.in-Ended.ensures.went (streams (g.I.Source.seen c.args.input.now) (g.O.Sink.seen c.args.output.now)) (g.I.Source.seen c.take_most.new.input) so.0 taken
 
 pub returns-clause-tests : goal.returns-clause-tests
-returns-clause-tests g c = λ files.
-    let so = c.loop-total.invariant.at files in
+returns-clause-tests g c =
+    let so = c.loop-total.invariant.at in
     let large : length so.0 ≡ 4294967296 = omega (arith, so.1, c.loop-total.invariant.most, c.loop-total-test.false) in
-    at_large c.args.config.now (seen files (g.I.Source.seen c.args.input.now) (g.O.Sink.seen c.args.output.now)) files (g.I.Source.seen c.loop-total.input) (g.O.Sink.seen c.loop-total.output) so.0 c.loop-total.partial so.2 large
+    at_large c.args.config.now (streams (g.I.Source.seen c.args.input.now) (g.O.Sink.seen c.args.output.now)) (g.I.Source.seen c.loop-total.input) (g.O.Sink.seen c.loop-total.output) so.0 c.loop-total.partial so.2 large
 
 pub returns-in-Err-clause-written : goal.returns-in-Err-clause-written
 returns-in-Err-clause-written g c = inr c.loop-total.invariant.written

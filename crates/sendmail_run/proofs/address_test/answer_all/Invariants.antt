@@ -1,13 +1,12 @@
 use Rattle.std.proofs.Common.{◌≡◌, ℕ, ◌≤◌, ◌-◌, List, length}
-use Rattle.mail_edge.specs.Seen.{FilesSeen}
-use Rattle.sendmail_run.specs.Runs.{seen}
+use Rattle.sendmail_run.specs.Devices.{streams}
 use Rattle.sendmail_run.specs.Taking.{At}
 use Rattle.sendmail_run.proofs.address_test.answer_all.Given as goal
 
 -- the ended lines of all that was taken are answered
 abbrev pub invariant-loop-total : goal.invariant-loop-total
 invariant-loop-total g l = record {
-  at : (files : FilesSeen) → (taken : List ℕ) × (length taken ≡ l.total) × At l.fn.config (seen files (g.I.Source.seen l.fn.input) (g.O.Sink.seen l.fn.output)) (seen files (g.I.Source.seen l.input) (g.O.Sink.seen l.output)) taken taken l.partial;
+  at : (taken : List ℕ) × (length taken ≡ l.total) × At l.fn.config (streams (g.I.Source.seen l.fn.input) (g.O.Sink.seen l.fn.output)) (streams (g.I.Source.seen l.input) (g.O.Sink.seen l.output)) taken taken l.partial;
   most : l.total ≤ 4294967296;
   input : (g.I.Source.seen l.fn.input).faults ≤ (g.I.Source.seen l.input).faults;
   output : (g.O.Sink.seen l.fn.output).faults ≤ (g.O.Sink.seen l.output).faults;

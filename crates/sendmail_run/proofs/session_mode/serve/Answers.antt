@@ -1,6 +1,5 @@
 use Rattle.std.proofs.Common.{refl, arith, inr, ap, ◌∙◌}
 use Rattle.spool_store.specs.Tables.{start}
-use Rattle.mail_core.specs.declared.serving.Ending.TheVariants as ending
 use Rattle.mail_core.specs.declared.serving.Went.TheVariants.{Ends}
 use Rattle.mail_core.specs.Events.{event_of, is_well}
 use Rattle.mail_core.specs.Runs.{run_over}
@@ -8,7 +7,7 @@ use Rattle.mail_core.specs.Seen.{seen}
 use Rattle.mail_edge.proofs.Causing.{rose_since}
 use Rattle.sendmail_run.specs.Serving.{site}
 use Rattle.mail_core.proofs.RunLemmas.{under_way_begin, under_way_floor, under_way_more}
-use Rattle.sendmail_run.proofs.ServingLemmas.{heard_at, taken, standing, serves_lost, serves_spent, served_out}
+use Rattle.sendmail_run.proofs.ServingLemmas.{heard_at, taken, standing, serves_lost, serves_spent, served_out, spool_ended}
 use Rattle.sendmail_run.proofs.session_mode.serve.Goals as goal
 
 pub returns-in_default-clause-serves : goal.returns-in_default-clause-serves
@@ -49,41 +48,15 @@ turn-requires-in-loop g c = record {
   standing = standing c.loop.core c.loop.counter (seen (g.L.Floor.seen c.args.floor.now) (g.D.Spool.seen c.args.spool.now) (g.C.Clock.seen c.args.clock.now)) (seen (g.L.Floor.seen c.loop.floor) (g.D.Spool.seen c.loop.spool) (g.C.Clock.seen c.loop.clock)) c.loop.invariant.run;
 }
 
-pub returns-in-Ends-Stopped-clause-serves : goal.returns-in-Ends-Stopped-clause-serves
-returns-in-Ends-Stopped-clause-serves g c =
+pub returns-in-Ends-clause-serves : goal.returns-in-Ends-clause-serves
+returns-in-Ends-clause-serves g c =
     let u = c.loop.invariant.run in
     served_out c.loop.core c.turn-in-loop.new.self c.loop.counter
     (seen (g.L.Floor.seen c.args.floor.now) (g.D.Spool.seen c.args.spool.now) (g.C.Clock.seen c.args.clock.now))
     (seen (g.L.Floor.seen c.loop.floor) (g.D.Spool.seen c.loop.spool) (g.C.Clock.seen c.loop.clock))
     (seen (g.L.Floor.seen c.turn-in-loop.new.floor) (g.D.Spool.seen c.turn-in-loop.new.spool) (g.C.Clock.seen c.now-reading.new.self))
-    (event_of c.in-Ok-turn.turn c.turn.new.buf) c.now-reading.result (Ends ending.Stopped) c.loop.invariant.empty (c.turn-in-loop.ensures.begun ∙ c.in-Ok-turn.ensures.begun ∙ c.loop.invariant.begun) (g.met.D.Spool.only_now c.args.spool.now) (omega (arith, c.loop-test.true)) u
-    (rw c.in-Ends-Stopped.field-0-is at c.in-Ends-Stopped.ensures.turns site (run_over site start u.turns).state (g.L.Floor.seen c.loop.floor) (g.C.Clock.seen c.loop.clock) (g.C.Clock.seen c.now-reading.new.self) u.stands
-    (taken (g.L.Floor.seen c.loop.floor) (g.L.Floor.seen c.turn.new.self) (g.C.Clock.seen c.loop.clock) (g.C.Clock.seen c.now-reading.new.self) c.in-Ok-turn.turn c.turn.new.buf c.now-reading.result
-    c.in-Ok-turn.ensures.told c.in-Ok-turn.ensures.follows c.in-Ok-turn.ensures.cause.later c.now-reading.ensures.told c.now-reading.ensures.counted))
-    c.now-reading.ensures.counted
-
-pub returns-in-Ends-SpoolFault-clause-serves : goal.returns-in-Ends-SpoolFault-clause-serves
-returns-in-Ends-SpoolFault-clause-serves g c =
-    let u = c.loop.invariant.run in
-    inr (served_out c.loop.core c.turn-in-loop.new.self c.loop.counter
-    (seen (g.L.Floor.seen c.args.floor.now) (g.D.Spool.seen c.args.spool.now) (g.C.Clock.seen c.args.clock.now))
-    (seen (g.L.Floor.seen c.loop.floor) (g.D.Spool.seen c.loop.spool) (g.C.Clock.seen c.loop.clock))
-    (seen (g.L.Floor.seen c.turn-in-loop.new.floor) (g.D.Spool.seen c.turn-in-loop.new.spool) (g.C.Clock.seen c.now-reading.new.self))
-    (event_of c.in-Ok-turn.turn c.turn.new.buf) c.now-reading.result (Ends ending.SpoolFault) c.loop.invariant.empty (c.turn-in-loop.ensures.begun ∙ c.in-Ok-turn.ensures.begun ∙ c.loop.invariant.begun) (g.met.D.Spool.only_now c.args.spool.now) (omega (arith, c.loop-test.true)) u
-    (rw c.in-Ends-SpoolFault.field-0-is at c.in-Ends-SpoolFault.ensures.turns site (run_over site start u.turns).state (g.L.Floor.seen c.loop.floor) (g.C.Clock.seen c.loop.clock) (g.C.Clock.seen c.now-reading.new.self) u.stands
-    (taken (g.L.Floor.seen c.loop.floor) (g.L.Floor.seen c.turn.new.self) (g.C.Clock.seen c.loop.clock) (g.C.Clock.seen c.now-reading.new.self) c.in-Ok-turn.turn c.turn.new.buf c.now-reading.result
-    c.in-Ok-turn.ensures.told c.in-Ok-turn.ensures.follows c.in-Ok-turn.ensures.cause.later c.now-reading.ensures.told c.now-reading.ensures.counted))
-    c.now-reading.ensures.counted)
-
-pub returns-in-Ends-IdsSpent-clause-serves : goal.returns-in-Ends-IdsSpent-clause-serves
-returns-in-Ends-IdsSpent-clause-serves g c =
-    let u = c.loop.invariant.run in
-    served_out c.loop.core c.turn-in-loop.new.self c.loop.counter
-    (seen (g.L.Floor.seen c.args.floor.now) (g.D.Spool.seen c.args.spool.now) (g.C.Clock.seen c.args.clock.now))
-    (seen (g.L.Floor.seen c.loop.floor) (g.D.Spool.seen c.loop.spool) (g.C.Clock.seen c.loop.clock))
-    (seen (g.L.Floor.seen c.turn-in-loop.new.floor) (g.D.Spool.seen c.turn-in-loop.new.spool) (g.C.Clock.seen c.now-reading.new.self))
-    (event_of c.in-Ok-turn.turn c.turn.new.buf) c.now-reading.result (Ends ending.IdsSpent) c.loop.invariant.empty (c.turn-in-loop.ensures.begun ∙ c.in-Ok-turn.ensures.begun ∙ c.loop.invariant.begun) (g.met.D.Spool.only_now c.args.spool.now) (omega (arith, c.loop-test.true)) u
-    (rw c.in-Ends-IdsSpent.field-0-is at c.in-Ends-IdsSpent.ensures.turns site (run_over site start u.turns).state (g.L.Floor.seen c.loop.floor) (g.C.Clock.seen c.loop.clock) (g.C.Clock.seen c.now-reading.new.self) u.stands
+    (event_of c.in-Ok-turn.turn c.turn.new.buf) c.now-reading.result (Ends c.in-Ends.ending) c.loop.invariant.empty (c.turn-in-loop.ensures.begun ∙ c.in-Ok-turn.ensures.begun ∙ c.loop.invariant.begun) (g.met.D.Spool.only_now c.args.spool.now) (omega (arith, c.loop-test.true)) u
+    (c.in-Ends.ensures.turns site (run_over site start u.turns).state (g.L.Floor.seen c.loop.floor) (g.C.Clock.seen c.loop.clock) (g.C.Clock.seen c.now-reading.new.self) u.stands
     (taken (g.L.Floor.seen c.loop.floor) (g.L.Floor.seen c.turn.new.self) (g.C.Clock.seen c.loop.clock) (g.C.Clock.seen c.now-reading.new.self) c.in-Ok-turn.turn c.turn.new.buf c.now-reading.result
     c.in-Ok-turn.ensures.told c.in-Ok-turn.ensures.follows c.in-Ok-turn.ensures.cause.later c.now-reading.ensures.told c.now-reading.ensures.counted))
     c.now-reading.ensures.counted
@@ -120,20 +93,12 @@ returns-in_default-clause-rises_spool g c = inr c.in-Ok.ensures.kept
 pub returns-in_default-turn-clause-rises_spool : goal.returns-in_default-turn-clause-rises_spool
 returns-in_default-turn-clause-rises_spool g c = inr c.loop.invariant.spool
 
-pub returns-in-Ends-Stopped-clause-rises_floor : goal.returns-in-Ends-Stopped-clause-rises_floor
-returns-in-Ends-Stopped-clause-rises_floor g c = inr (c.turn-in-loop.ensures.own ∙ c.in-Ok-turn.ensures.calm ∙ c.loop.invariant.floor)
+pub returns-in-Ends-clause-rises_floor : goal.returns-in-Ends-clause-rises_floor
+returns-in-Ends-clause-rises_floor g c = inr (c.turn-in-loop.ensures.own ∙ c.in-Ok-turn.ensures.calm ∙ c.loop.invariant.floor)
 
-pub returns-in-Ends-Stopped-clause-rises_spool : goal.returns-in-Ends-Stopped-clause-rises_spool
-returns-in-Ends-Stopped-clause-rises_spool g c = inr (c.turn-in-loop.ensures.calm (ap is_well (c.in-Ends-Stopped.is ∙ ap (λ e. Ends e) c.in-Ends-Stopped.field-0-is)) ∙ c.loop.invariant.spool)
-
-pub returns-in-Ends-SpoolFault-clause-rises_floor : goal.returns-in-Ends-SpoolFault-clause-rises_floor
-returns-in-Ends-SpoolFault-clause-rises_floor g c = inr (c.turn-in-loop.ensures.own ∙ c.in-Ok-turn.ensures.calm ∙ c.loop.invariant.floor)
-
-pub returns-in-Ends-IdsSpent-clause-rises_floor : goal.returns-in-Ends-IdsSpent-clause-rises_floor
-returns-in-Ends-IdsSpent-clause-rises_floor g c = inr (c.turn-in-loop.ensures.own ∙ c.in-Ok-turn.ensures.calm ∙ c.loop.invariant.floor)
-
-pub returns-in-Ends-IdsSpent-clause-rises_spool : goal.returns-in-Ends-IdsSpent-clause-rises_spool
-returns-in-Ends-IdsSpent-clause-rises_spool g c = inr (c.turn-in-loop.ensures.calm (ap is_well (c.in-Ends-IdsSpent.is ∙ ap (λ e. Ends e) c.in-Ends-IdsSpent.field-0-is)) ∙ c.loop.invariant.spool)
+pub returns-in-Ends-clause-rises_spool : goal.returns-in-Ends-clause-rises_spool
+returns-in-Ends-clause-rises_spool g c =
+    spool_ended c.in-Ends.ending (g.D.Spool.seen c.args.spool.now).faults (g.D.Spool.seen c.loop.spool).faults (g.D.Spool.seen c.turn-in-loop.new.spool).faults c.loop.invariant.spool c.in-Ends.ensures.calm
 
 pub returns-clause-rises_floor : goal.returns-clause-rises_floor
 returns-clause-rises_floor g c = inr c.loop.invariant.floor

@@ -1,0 +1,54 @@
+use Rattle.sendmail_run.specs.declared.outcome.Outcome.TheVariants.{FilesFault, ReadFault, WriteFault}
+use Rattle.sendmail_run.specs.Outcomes.{of_config, of_test}
+use Rattle.sendmail_run.proofs.PlainLemmas.{plain_configuration, quiet_configuration}
+use Rattle.sendmail_run.proofs.ProgramLemmas.{counts, ends_at_words, ends_at_file, ends_tested, ends_served, stays_at_words, stays_at_file, stays_tested, stays_served}
+use Rattle.sendmail_run.proofs.program.run.Goals as goal
+
+pub address_test-requires : goal.address_test-requires
+address_test-requires g c = record {
+  plain = plain_configuration c.in-Ok-configuration.ensures.begins.0 c.in-Ok-configuration.config c.in-Ok-configuration.ensures.begins.2;
+  quiet = quiet_configuration c.in-Ok-configuration.ensures.begins.0 c.in-Ok-configuration.config c.in-Ok-configuration.ensures.begins.2;
+}
+
+pub returns-in-Err-clause-ends : goal.returns-in-Err-clause-ends
+returns-in-Err-clause-ends g c =
+    ends_at_words c.args.arguments.now (g.F.Files.seen c.args.files.now) (g.I.Source.seen c.args.input.now) (g.O.Sink.seen c.args.output.now) (g.L.Floor.seen c.args.floor.now) (g.D.Spool.seen c.args.spool.now) (g.C.Clock.seen c.args.clock.now)
+    c.in-Err.fault c.of_words.result c.of_words.ensures c.in-Err.ensures
+
+pub returns-in-Err-clause-stays : goal.returns-in-Err-clause-stays
+returns-in-Err-clause-stays g c =
+    stays_at_words (g.F.Files.seen c.args.files.now) (g.I.Source.seen c.args.input.now) (g.O.Sink.seen c.args.output.now) (g.L.Floor.seen c.args.floor.now) (g.D.Spool.seen c.args.spool.now) (g.C.Clock.seen c.args.clock.now) c.of_words.result
+
+pub returns-in-Err-configuration-clause-ends : goal.returns-in-Err-configuration-clause-ends
+returns-in-Err-configuration-clause-ends g c =
+    ends_at_file c.args.arguments.now (g.F.Files.seen c.args.files.now) (g.F.Files.seen c.configuration.new.files) (g.I.Source.seen c.args.input.now) (g.O.Sink.seen c.args.output.now) (g.L.Floor.seen c.args.floor.now) (g.D.Spool.seen c.args.spool.now) (g.C.Clock.seen c.args.clock.now)
+    c.in-Ok.mode c.in-Err-configuration.fault c.of_config.result c.of_config.ensures c.in-Ok.ensures c.in-Err-configuration.ensures.begins
+
+pub returns-in-Err-configuration-clause-stays : goal.returns-in-Err-configuration-clause-stays
+returns-in-Err-configuration-clause-stays g c =
+    stays_at_file (g.F.Files.seen c.args.files.now) (g.F.Files.seen c.configuration.new.files) (g.I.Source.seen c.args.input.now) (g.O.Sink.seen c.args.output.now) (g.L.Floor.seen c.args.floor.now) (g.D.Spool.seen c.args.spool.now) (g.C.Clock.seen c.args.clock.now)
+    c.of_config.result c.in-Err-configuration.ensures.map
+    (counts FilesFault c.of_config.result (of_config c.in-Err-configuration.fault) (g.F.Files.seen c.args.files.now).faults (g.F.Files.seen c.configuration.new.files).faults c.of_config.ensures c.in-Err-configuration.ensures.later c.in-Err-configuration.ensures.rises)
+
+pub returns-in-Test-clause-ends : goal.returns-in-Test-clause-ends
+returns-in-Test-clause-ends g c =
+    ends_tested c.args.arguments.now (g.F.Files.seen c.args.files.now) (g.F.Files.seen c.configuration.new.files) (g.I.Source.seen c.args.input.now) (g.I.Source.seen c.address_test.new.input) (g.O.Sink.seen c.args.output.now) (g.O.Sink.seen c.address_test.new.output) (g.L.Floor.seen c.args.floor.now) (g.D.Spool.seen c.args.spool.now) (g.C.Clock.seen c.args.clock.now)
+    c.in-Ok.mode c.in-Ok-configuration.config c.address_test.result c.of_test.result c.of_test.ensures c.in-Ok.ensures c.in-Test.is c.in-Ok-configuration.ensures.begins c.address_test.ensures.tests
+
+pub returns-in-Test-clause-stays : goal.returns-in-Test-clause-stays
+returns-in-Test-clause-stays g c =
+    stays_tested (g.F.Files.seen c.args.files.now) (g.F.Files.seen c.configuration.new.files) (g.I.Source.seen c.args.input.now) (g.I.Source.seen c.address_test.new.input) (g.O.Sink.seen c.args.output.now) (g.O.Sink.seen c.address_test.new.output) (g.L.Floor.seen c.args.floor.now) (g.D.Spool.seen c.args.spool.now) (g.C.Clock.seen c.args.clock.now)
+    c.of_test.result c.in-Ok-configuration.ensures.map c.in-Ok-configuration.ensures.kept c.in-Ok-configuration.ensures.later
+    (counts ReadFault c.of_test.result (of_test c.address_test.result) (g.I.Source.seen c.args.input.now).faults (g.I.Source.seen c.address_test.new.input).faults c.of_test.ensures c.address_test.ensures.input c.address_test.ensures.read)
+    (counts WriteFault c.of_test.result (of_test c.address_test.result) (g.O.Sink.seen c.args.output.now).faults (g.O.Sink.seen c.address_test.new.output).faults c.of_test.ensures c.address_test.ensures.output c.address_test.ensures.written)
+
+pub returns-clause-ends : goal.returns-clause-ends
+returns-clause-ends g c =
+    ends_served c.args.arguments.now (g.F.Files.seen c.args.files.now) (g.F.Files.seen c.configuration.new.files) (g.I.Source.seen c.args.input.now) (g.O.Sink.seen c.args.output.now) (g.L.Floor.seen c.args.floor.now) (g.L.Floor.seen c.session_mode.new.floor) (g.D.Spool.seen c.args.spool.now) (g.D.Spool.seen c.session_mode.new.spool) (g.C.Clock.seen c.args.clock.now) (g.C.Clock.seen c.session_mode.new.clock)
+    c.in-Ok.mode c.in-Ok-configuration.config c.session_mode.result c.of_session.result c.of_session.ensures c.in-Ok.ensures c.in-Session.is c.in-Ok-configuration.ensures.begins c.session_mode.ensures.serves
+
+pub returns-clause-stays : goal.returns-clause-stays
+returns-clause-stays g c =
+    stays_served (g.F.Files.seen c.args.files.now) (g.F.Files.seen c.configuration.new.files) (g.I.Source.seen c.args.input.now) (g.O.Sink.seen c.args.output.now) (g.L.Floor.seen c.args.floor.now) (g.L.Floor.seen c.session_mode.new.floor) (g.D.Spool.seen c.args.spool.now) (g.D.Spool.seen c.session_mode.new.spool) (g.C.Clock.seen c.args.clock.now) (g.C.Clock.seen c.session_mode.new.clock)
+    c.session_mode.result c.of_session.result c.of_session.ensures c.in-Ok-configuration.ensures.map c.in-Ok-configuration.ensures.kept c.in-Ok-configuration.ensures.later
+    c.session_mode.ensures.serves c.session_mode.ensures.rises_floor c.session_mode.ensures.rises_spool
