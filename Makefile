@@ -1,6 +1,6 @@
 # What the README names: `make run` and `make test`.
 
-.PHONY: run test
+.PHONY: run statement test
 
 # Builds the proved program and answers one line of address test mode.
 run:
@@ -9,3 +9,7 @@ run:
 # The gate.
 test:
 	bash .ci/run
+
+# Writes the statement of the top call, with the definitions that it cites, from the specs.
+statement:
+	python3 tools/statement.py > docs/STATEMENT.md
