@@ -11,7 +11,7 @@ use Rattle.sendmail_run.specs.declared.command_line.Mode.{Mode}
 use Rattle.sendmail_run.specs.declared.command_line.Saying.{Saying}
 use Rattle.sendmail_run.specs.declared.command_line.WordFault.{WordFault}
 use Rattle.sendmail_run.specs.declared.command_line.WordFault.TheVariants.{At, NoMemory}
-use Rattle.sendmail_run.specs.Words.{command_line, job_said, read_words, Gives, Fails}
+use Rattle.sendmail_run.specs.inner.Words.{command_line, job_said, read_words, Gives, Fails}
 use Rattle.sendmail_run.specs.CommandLines.{Flag, Does, Joined, Apart, word_of, spelling, jobs_in, files_in, IsFile, IsCommandLine, BeginsOne, IsRefusedAt, Fails as Refuses, Gives as Says}
 
 abbrev said : Option Job → Option (List ℕ) → Bool → Saying

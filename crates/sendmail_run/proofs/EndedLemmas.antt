@@ -15,7 +15,7 @@ use Rattle.sendmail_run.specs.declared.input.Partial.{Partial}
 use Rattle.sendmail_run.specs.LogicalLines.{physical_lines}
 use Rattle.sendmail_run.specs.Printing.{Printed, Answers, is_quit}
 use Rattle.sendmail_run.specs.Testing.{ended, ended_lines, holds_quit}
-use Rattle.sendmail_run.specs.Taking.{has_end, with_end, lines_of, Keeps, Cut, Stands, Quits, AnswersLast}
+use Rattle.sendmail_run.specs.inner.Taking.{has_end, with_end, lines_of, Keeps, Cut, Stands, Quits, AnswersLast}
 
 -- ---- tests
 

@@ -11,7 +11,7 @@ use Rattle.std.proofs.lemmas.List.{take_all, take-append-le, length-take-le}
 use Rattle.std.proofs.Math.Seq.{take-append-add}
 use Rattle.mail_base.specs.declared.config.Config.{Config}
 use Rattle.sendmail_run.specs.Printing.{Answers, AnswersForm, Form, Quiet, TooLong, is_quit, line_of}
-use Rattle.sendmail_run.specs.Taking.{most_kept, cut_text, AnswersLast, Keeps}
+use Rattle.sendmail_run.specs.inner.Taking.{most_kept, cut_text, AnswersLast, Keeps}
 use Rattle.sendmail_run.proofs.EndedLemmas.{no_match}
 
 not_below : (m n : ℕ) → n ≤ m → ltb m n ≡ false

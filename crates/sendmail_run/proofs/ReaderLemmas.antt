@@ -21,7 +21,7 @@ use Rattle.sendmail_run.specs.Sides.{Part, Text, Dollar, parts_of, items_of, ite
 use Rattle.mail_base.specs.Rulesets.{is_named}
 use Rattle.mail_base.specs.Rulesets as base
 use Rattle.sendmail_run.specs.Configuration.{with_set, with_rule}
-use Rattle.sendmail_run.specs.Readings.{IsPlace}
+use Rattle.sendmail_run.specs.inner.Readings.{IsPlace}
 
 -- ---- items that are written with a dollar sign
 

@@ -17,7 +17,7 @@ use Rattle.sendmail_run.specs.Devices.{Streams, streams}
 use Rattle.sendmail_run.specs.LogicalLines.{physical_lines}
 use Rattle.sendmail_run.specs.Printing.{Printed, Prints, warnings_text}
 use Rattle.sendmail_run.specs.Rises.{RisesOnlyAt}
-use Rattle.sendmail_run.specs.Taking.{Keeps, Stands, Quits, At, Answered, AnswersLast, lines_of}
+use Rattle.sendmail_run.specs.inner.Taking.{Keeps, Stands, Quits, At, Answered, AnswersLast, lines_of}
 use Rattle.sendmail_run.specs.Testing.{Tests, IsDone, IsCutOff, IsBroken, WritesFront, ended_lines}
 use Rattle.sendmail_run.proofs.EndedLemmas.{stands_none, stands_printed, stands_on, stands_front, stands_last}
 

@@ -6,7 +6,7 @@ ghost use Rattle.ruleset_run.specs.Plain.{is_plain_book};
 ghost use Rattle.sendmail_run.specs.Devices.{Streams, streams};
 ghost use Rattle.sendmail_run.specs.Outcomes.{of_test};
 ghost use Rattle.sendmail_run.specs.Rises.{RisesOnlyAt};
-ghost use Rattle.sendmail_run.specs.Taking.{Answered, At, RisesOnlyIn, Stands, Went, has_end};
+ghost use Rattle.sendmail_run.specs.inner.Taking.{Answered, At, RisesOnlyIn, Stands, Went, has_end};
 ghost use Rattle.sendmail_run.specs.Testing.{Tests};
 ghost use Rattle.sendmail_run.specs.declared.outcome.Outcome.TheVariants.{ReadFault, WriteFault};
 

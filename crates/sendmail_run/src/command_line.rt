@@ -1,7 +1,7 @@
 ghost use Rattle.std.specs.Prelude.{◌≡◌, ◌<◌, ◌^◌, ◌+◌, [], ◌∷◌, ℕ, List, length};
 ghost use Rattle.sendmail_run.specs.declared.command_line.WordFault.TheVariants.{NoMemory as Memory};
 ghost use Rattle.sendmail_run.specs.CommandLines.{Gives as Says};
-ghost use Rattle.sendmail_run.specs.Words.{Gives, Takes, command_line, job_said, read_words};
+ghost use Rattle.sendmail_run.specs.inner.Words.{Gives, Takes, command_line, job_said, read_words};
 
 use mail_base::{NoMemory, Seq, Text, TryCopy};
 use std::alloc::Global;

@@ -3,7 +3,7 @@ ghost use Rattle.std.specs.Str.Lines.{strip_carriage_return};
 ghost use Rattle.ruleset_run.specs.Plain.{is_plain_book};
 ghost use Rattle.sendmail_run.specs.Printing.{Answers};
 ghost use Rattle.sendmail_run.specs.Printing as spec;
-ghost use Rattle.sendmail_run.specs.Taking.{Keeps, AnswersLast, cut_text, most_kept};
+ghost use Rattle.sendmail_run.specs.inner.Taking.{Keeps, AnswersLast, cut_text, most_kept};
 
 use crate::answers::answer;
 use crate::logical::without_return;

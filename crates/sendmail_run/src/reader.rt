@@ -2,7 +2,7 @@ ghost use Rattle.std.specs.Prelude.{◌≡◌, ◌<◌, ◌≤◌, ◌^◌, ℕ,
 ghost use Rattle.std.specs.List.{prefix_len};
 ghost use Rattle.mail_base.specs.Texts.{is_blank};
 ghost use Rattle.sendmail_run.specs.Refusals.{Gives};
-ghost use Rattle.sendmail_run.specs.Readings.{reading_of, IsPlace, IsPlaced};
+ghost use Rattle.sendmail_run.specs.inner.Readings.{reading_of, IsPlace, IsPlaced};
 ghost use Rattle.sendmail_run.specs.Configuration.{after_set, after_rule};
 ghost use Rattle.sendmail_run.specs.Configuration as spec;
 

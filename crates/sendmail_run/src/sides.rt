@@ -3,7 +3,7 @@ ghost use Rattle.std.specs.List.{list_any, flat_map, prefix_len};
 ghost use Rattle.std.specs.Iterator.{YieldsFirstBy, item_count};
 ghost use Rattle.mail_base.specs.Notes.{is_digit};
 ghost use Rattle.mail_base.specs.Whites.{is_white};
-ghost use Rattle.sendmail_run.specs.Parts.{shown, rest_of};
+ghost use Rattle.sendmail_run.specs.inner.Parts.{shown, rest_of};
 ghost use Rattle.sendmail_run.specs.Sides.{parts_of};
 ghost use Rattle.sendmail_run.specs.Sides as spec;
 

@@ -1,6 +1,6 @@
 use Rattle.std.proofs.Common.{◌≡◌, ℕ, ◌≤◌, ◌-◌, List, length}
 use Rattle.sendmail_run.specs.Devices.{streams}
-use Rattle.sendmail_run.specs.Taking.{At}
+use Rattle.sendmail_run.specs.inner.Taking.{At}
 use Rattle.sendmail_run.proofs.address_test.answer_all.Given as goal
 
 -- the ended lines of all that was taken are answered

@@ -1,5 +1,5 @@
 use Rattle.std.proofs.Common.{◌≡◌, ℕ, List, ◌++◌, length}
-use Rattle.sendmail_run.specs.Taking.{Stands}
+use Rattle.sendmail_run.specs.inner.Taking.{Stands}
 use Rattle.sendmail_run.proofs.address_test.answer_lines.Given as goal
 
 -- the lines of a front of the piece are answered

@@ -1,5 +1,5 @@
 use Rattle.std.proofs.Common.{◌≡◌, drop}
-use Rattle.sendmail_run.specs.Words.{command_line, read_words}
+use Rattle.sendmail_run.specs.inner.Words.{command_line, read_words}
 use Rattle.sendmail_run.proofs.command_line.mode_of.Given as goal
 
 -- what the rest of the words says is what all say

@@ -1,5 +1,5 @@
 use Rattle.std.proofs.Common.{◌≡◌, drop}
-use Rattle.sendmail_run.specs.Readings.{reading_of, IsPlaced}
+use Rattle.sendmail_run.specs.inner.Readings.{reading_of, IsPlaced}
 use Rattle.sendmail_run.specs.Configuration as spec
 use Rattle.sendmail_run.proofs.reader.read.Given as goal
 

@@ -1,6 +1,6 @@
 use Rattle.std.proofs.Common.{◌≡◌}
 use Rattle.std.specs.List.{list_any}
-use Rattle.sendmail_run.specs.Parts.{rest_of}
+use Rattle.sendmail_run.specs.inner.Parts.{rest_of}
 use Rattle.sendmail_run.specs.Sides.{parts_of}
 use Rattle.sendmail_run.specs.Sides as spec
 use Rattle.sendmail_run.proofs.sides.has_bad_reference.Given as goal

@@ -1,6 +1,6 @@
 use Rattle.std.proofs.Common.{◌≡◌, ◌++◌}
 use Rattle.std.specs.List.{flat_map}
-use Rattle.sendmail_run.specs.Parts.{rest_of}
+use Rattle.sendmail_run.specs.inner.Parts.{rest_of}
 use Rattle.sendmail_run.specs.Sides as spec
 use Rattle.sendmail_run.proofs.sides.items_of.Given as goal
 

@@ -1,6 +1,6 @@
 use Rattle.std.proofs.Common.{◌∙◌, ◌-◌, ℕ, ap, arith}
 use Rattle.mail_base.specs.Limits.{most_line}
-use Rattle.sendmail_run.specs.Taking.{most_kept}
+use Rattle.sendmail_run.specs.inner.Taking.{most_kept}
 use Rattle.sendmail_run.proofs.KeepLemmas.{took_all, took_front}
 use Rattle.sendmail_run.proofs.input.Partial.take.Goals as goal
 

@@ -1,6 +1,6 @@
 use Rattle.std.proofs.Common.{◌∙◌}
 use Rattle.sendmail_run.proofs.KeepLemmas.{kept_whole, kept_cut}
-use Rattle.sendmail_run.specs.Taking.{most_kept}
+use Rattle.sendmail_run.specs.inner.Taking.{most_kept}
 use Rattle.sendmail_run.proofs.input.Partial.whole.Goals as goal
 
 pub returns-then-self : goal.returns-then-self

@@ -1,0 +1,4 @@
+pub mod Parts
+pub mod Readings
+pub mod Taking
+pub mod Words
