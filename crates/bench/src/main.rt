@@ -1,11 +1,12 @@
 //! Does one thing over much input, so that its time can be measured. The first word says what: `lines`, `tokens`,
-//! `control`, `matches`, `rules`, `classes` or `spool`. The second says over what, as each module tells, and the third
-//! how many times it is done, once where it is left out. The scripts in `bench/` measure it.
+//! `control`, `maps`, `matches`, `rules`, `classes` or `spool`. The second says over what, as each module tells, and the
+//! third how many times it is done, once where it is left out. The scripts in `bench/` measure it.
 #![tactic(auto)]
 
 mod classes;
 mod control;
 mod lines;
+mod maps;
 mod matches;
 mod rules;
 mod spool;
@@ -32,6 +33,7 @@ fn main(rt: HostRuntime) -> Result<()> {
         "tokens" => tokens::answer(alloc, over.as_deref(), rounds)?,
         "control" => control::answer(alloc, over.as_deref(), rounds)?,
         "classes" => classes::answer(alloc, over.as_deref(), rounds)?,
+        "maps" => maps::answer(alloc, over.as_deref(), rounds)?,
         "matches" => matches::answer(alloc, over.as_deref(), rounds)?,
         "rules" => rules::answer(alloc, over.as_deref(), rounds)?,
         "spool" => spool::answer(alloc, over.as_deref(), rounds)?,
