@@ -2,12 +2,10 @@
 # Instructions of one search for a match, as callgrind counts them: of 300 rules of three items over six tokens, of the
 # same with a class in each, and of twenty classes over 100 to 1,900 tokens, of which they take 60 at most. The program
 # is crates/bench. This is no part of the gate.
-set -euo pipefail
-cd "$(dirname "$0")/.."
-(cd crates/bench && rt run > /dev/null)
+. "$(dirname "$0")/bench.sh"
 
 counted() {
-    valgrind --tool=callgrind --callgrind-out-file=/dev/null crates/bench/out/bench matches "$1" "$2" 2>&1 > /dev/null |
+    valgrind --tool=callgrind --callgrind-out-file=/dev/null "$bench" matches "$1" "$2" 2>&1 > /dev/null |
         sed -n 's/.*Collected : //p'
 }
 
