@@ -10,7 +10,8 @@ use Rattle.mail_base.specs.declared.lines.MapClass.TheVariants.{Text as TextClas
 use Rattle.map_tables.specs.declared.answer.Answer.{Answer}
 use Rattle.map_tables.specs.declared.hosts.HostLine.{HostLine}
 use Rattle.map_tables.specs.declared.table.Table.{Table}
-use Rattle.map_tables.specs.Answers.{answer, answer_by, answer_of_place, answers, is_sequence, last_place, later, map_answer, with_answer, IsPlaced}
+use Rattle.map_tables.specs.Answers.{answer, answer_by, answer_of_place, answers, last_place, later, map_answer, with_answer}
+use Rattle.map_tables.specs.inner.MapPlaces.{is_sequence, IsPlaced}
 
 module _ {X : Type 0} where
   none_some : (x : X) → None ≡ Some x → ⊥

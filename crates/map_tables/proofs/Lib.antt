@@ -1,5 +1,8 @@
 mod AnswerLemmas
 mod ArithmeticLemmas
+mod DepthLemmas
+mod FileLemmas
+mod HostLemmas
 mod LawLemmas
 mod LineLemmas
 mod ScanLemmas

@@ -3,7 +3,8 @@ use Rattle.std.proofs.Common.{◌≡◌, ◌≢◌, ℕ, ◌+◌, ◌-◌, ◌<�
 use Rattle.std.proofs.lemmas.Bool.{cond-true, cond-false, eq-eqb, ne_eqb}
 use Rattle.std.proofs.lemmas.List.{append_assoc, append-nil, length-drop, drop_more, drop_all, at_drop_more}
 use Rattle.map_tables.specs.Percents.{filled, sign_text}
-use Rattle.map_tables.specs.Quotes.{is_balanced, unquoted}
+use Rattle.map_tables.specs.Quotes.{unquoted}
+use Rattle.map_tables.specs.inner.Depths.{is_closed_from}
 
 -- what was gathered and what is left are the whole, after more was gathered
 pub gathers : (text more rest before whole now : List ℕ) → now ≡ text ++ more → before ≡ more ++ rest → text ++ before ≡ whole → now ++ rest ≡ whole
@@ -74,41 +75,41 @@ unfolding unquoted
 keeps_none text place le = ap unquoted (drop_all place text le)
 
 module _ (opens closes : ℕ) where
-  at_opening : (depth byte : ℕ) (rest : List ℕ) → byte ≡ opens → is_balanced opens closes depth (byte ∷ rest) ≡ is_balanced opens closes (depth + 1) rest
-  unfolding is_balanced
+  at_opening : (depth byte : ℕ) (rest : List ℕ) → byte ≡ opens → is_closed_from opens closes depth (byte ∷ rest) ≡ is_closed_from opens closes (depth + 1) rest
+  unfolding is_closed_from
   at_opening depth byte rest is = grind (arith, is)
 
-  at_closing : (depth byte : ℕ) (rest : List ℕ) → byte ≢ opens → byte ≡ closes → depth ≢ 0 → is_balanced opens closes depth (byte ∷ rest) ≡ is_balanced opens closes (depth - 1) rest
-  unfolding is_balanced
+  at_closing : (depth byte : ℕ) (rest : List ℕ) → byte ≢ opens → byte ≡ closes → depth ≢ 0 → is_closed_from opens closes depth (byte ∷ rest) ≡ is_closed_from opens closes (depth - 1) rest
+  unfolding is_closed_from
   at_closing depth byte rest differs is some = grind (arith, differs, is, some)
 
-  at_lone : (depth byte : ℕ) (rest : List ℕ) → byte ≢ opens → byte ≡ closes → depth ≡ 0 → is_balanced opens closes depth (byte ∷ rest) ≡ false
-  unfolding is_balanced
+  at_lone : (depth byte : ℕ) (rest : List ℕ) → byte ≢ opens → byte ≡ closes → depth ≡ 0 → is_closed_from opens closes depth (byte ∷ rest) ≡ false
+  unfolding is_closed_from
   at_lone depth byte rest differs is none = grind (arith, differs, is, none)
 
-  at_other : (depth byte : ℕ) (rest : List ℕ) → byte ≢ opens → byte ≢ closes → is_balanced opens closes depth (byte ∷ rest) ≡ is_balanced opens closes depth rest
-  unfolding is_balanced
+  at_other : (depth byte : ℕ) (rest : List ℕ) → byte ≢ opens → byte ≢ closes → is_closed_from opens closes depth (byte ∷ rest) ≡ is_closed_from opens closes depth rest
+  unfolding is_closed_from
   at_other depth byte rest differs other = grind (arith, differs, other)
 
   module _ (text : List ℕ) (i : ℕ) (within : i < length text) (depth now : ℕ) where
-    first : is_balanced opens closes depth (drop i text) ≡ is_balanced opens closes depth (get_or text i 0 ∷ drop (i + 1) text)
-    first = at_drop_more (is_balanced opens closes depth) text i 0 within
+    first : is_closed_from opens closes depth (drop i text) ≡ is_closed_from opens closes depth (get_or text i 0 ∷ drop (i + 1) text)
+    first = at_drop_more (is_closed_from opens closes depth) text i 0 within
 
-    behind : (other : ℕ) → now ≡ other → is_balanced opens closes now (drop (i + 1) text) ≡ is_balanced opens closes other (drop (i + 1) text)
-    behind other same = ap (λ d. is_balanced opens closes d (drop (i + 1) text)) same
+    behind : (other : ℕ) → now ≡ other → is_closed_from opens closes now (drop (i + 1) text) ≡ is_closed_from opens closes other (drop (i + 1) text)
+    behind other same = ap (λ d. is_closed_from opens closes d (drop (i + 1) text)) same
 
-    pub opened : get_or text i 0 ≡ opens → now ≡ depth + 1 → is_balanced opens closes now (drop (i + 1) text) ≡ is_balanced opens closes depth (drop i text)
+    pub opened : get_or text i 0 ≡ opens → now ≡ depth + 1 → is_closed_from opens closes now (drop (i + 1) text) ≡ is_closed_from opens closes depth (drop i text)
     opened is same = behind _ same ∙ sym (first ∙ at_opening depth _ _ is)
 
-    pub closed : get_or text i 0 ≢ opens → get_or text i 0 ≡ closes → depth ≢ 0 → now ≡ depth - 1 → is_balanced opens closes now (drop (i + 1) text) ≡ is_balanced opens closes depth (drop i text)
+    pub closed : get_or text i 0 ≢ opens → get_or text i 0 ≡ closes → depth ≢ 0 → now ≡ depth - 1 → is_closed_from opens closes now (drop (i + 1) text) ≡ is_closed_from opens closes depth (drop i text)
     closed differs is some same = behind _ same ∙ sym (first ∙ at_closing depth _ _ differs is some)
 
-    pub passed : get_or text i 0 ≢ opens → get_or text i 0 ≢ closes → now ≡ depth → is_balanced opens closes now (drop (i + 1) text) ≡ is_balanced opens closes depth (drop i text)
+    pub passed : get_or text i 0 ≢ opens → get_or text i 0 ≢ closes → now ≡ depth → is_closed_from opens closes now (drop (i + 1) text) ≡ is_closed_from opens closes depth (drop i text)
     passed differs other same = behind _ same ∙ sym (first ∙ at_other depth _ _ differs other)
 
-    pub lone : get_or text i 0 ≢ opens → get_or text i 0 ≡ closes → depth ≡ 0 → is_balanced opens closes depth (drop i text) ≡ false
+    pub lone : get_or text i 0 ≢ opens → get_or text i 0 ≡ closes → depth ≡ 0 → is_closed_from opens closes depth (drop i text) ≡ false
     lone differs is none = first ∙ at_lone depth _ _ differs is none
 
-  pub at_end : (text : List ℕ) (i depth : ℕ) → length text ≤ i → is_balanced opens closes depth (drop i text) ≡ (depth == 0)
-  unfolding is_balanced
-  at_end text i depth le = ap (is_balanced opens closes depth) (drop_all i text le)
+  pub at_end : (text : List ℕ) (i depth : ℕ) → length text ≤ i → is_closed_from opens closes depth (drop i text) ≡ (depth == 0)
+  unfolding is_closed_from
+  at_end text i depth le = ap (is_closed_from opens closes depth) (drop_all i text le)

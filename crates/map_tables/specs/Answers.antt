@@ -105,15 +105,6 @@ map_answer loaded name key args = answer_of_place (answers loaded.hosts key args
 abbrev pub loaded : List MapLine → List Named → List ℕ → Loaded
 loaded maps texts hosts = record { maps = map (table texts) maps; hosts = host_lines hosts }
 
--- an index has the place of the last K line of each name; only private contracts cite it
-abbrev pub IsPlaced : List Table → List (List ℕ × ℕ) → Type 0
-IsPlaced maps places = (name : List ℕ) → value_at name places ≡ last_place name maps
-
--- a map has the class sequence; only private contracts cite it
-abbrev pub is_sequence : MapClass → Bool
-is_sequence (Sequence places) = true
-is_sequence _ = false
-
 -- how an answer is told
 abbrev pub told : Option Answer → Result Found MapFault
 told None = Err NoSuchMap

@@ -6,3 +6,4 @@ pub mod Percents
 pub mod Quotes
 pub mod Tables
 pub mod Words
+pub mod inner

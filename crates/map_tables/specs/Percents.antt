@@ -1,8 +1,6 @@
 -- What a percent sign stands for in the value of a map (Sendmail Installation and Operation Guide, K and the right-hand side).
-use Rattle.std.specs.Prelude.{◌≡◌, ◌==◌, ◌&&◌, ◌-◌, ℕ, Bool, nat_le, List, [], ◌∷◌, ◌++◌, unwrap_or, slice_get, if◌then◌else◌, codes, refl}
-
-abbrev pub is_digit : ℕ → Bool
-is_digit byte = nat_le 48 byte && nat_le byte 57
+use Rattle.std.specs.Prelude.{◌≡◌, ◌==◌, ◌-◌, ℕ, List, [], ◌∷◌, ◌++◌, unwrap_or, slice_get, if◌then◌else◌, codes, refl}
+use Rattle.mail_base.specs.Notes.{is_digit}
 
 -- the key, or the argument of that number, counted from 1; one that is absent is empty
 abbrev pub argument : List ℕ → List (List ℕ) → ℕ → List ℕ

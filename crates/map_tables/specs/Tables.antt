@@ -44,13 +44,14 @@ line_pair map line = option_map (λ pair. (folded_key map pair.0, pair.1)) (pair
 abbrev pub file_pairs : MapLine → List ℕ → List (List ℕ × List ℕ)
 file_pairs map text = filter_map (line_pair map) (lines text)
 
--- one pair more; a key that is there keeps its value
-abbrev pub with_first : List (List ℕ × List ℕ) → List ℕ × List ℕ → List (List ℕ × List ℕ)
-with_first pairs pair = if is_some (value_at pair.0 pairs) then pairs else pairs ++ pair ∷ []
+module _ {V : Type 0} where
+  -- one pair more; a key that is there keeps its value
+  abbrev pub with_first : List (List ℕ × V) → List ℕ × V → List (List ℕ × V)
+  with_first pairs pair = if is_some (value_at pair.0 pairs) then pairs else pairs ++ pair ∷ []
 
--- the table of a file: each key with the value of its first line, in the order of the lines
-abbrev pub first_pairs : List (List ℕ × List ℕ) → List (List ℕ × List ℕ)
-first_pairs pairs = fold with_first [] pairs
+  -- each key with the value that it first has, in order
+  abbrev pub first_pairs : List (List ℕ × V) → List (List ℕ × V)
+  first_pairs pairs = fold with_first [] pairs
 
 abbrev pub is_named : List ℕ → Named → Bool
 is_named name text = bytes_eq name text.name
@@ -60,7 +61,7 @@ abbrev pub text_of : List Named → Option (List ℕ) → List ℕ
 text_of texts None = []
 text_of texts (Some file) = unwrap_or (option_map (λ text. text.bytes) (find (is_named file) texts)) []
 
--- a K line with its table
+-- a K line with its table: each key with the value of its first line, in the order of the lines
 abbrev pub table : List Named → MapLine → Table
 table texts map = record { line = map; pairs = first_pairs (file_pairs map (text_of texts map.file)) }
 

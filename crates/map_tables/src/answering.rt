@@ -1,11 +1,12 @@
 ghost use Rattle.std.specs.Prelude.{◌≡◌, ◌++◌, IfOk, map, slice_get, unwrap_or};
 ghost use Rattle.std.specs.Option.{option_copied};
-ghost use Rattle.map_tables.specs.Answers.{answer, answer_at, answers, dressed, first_answer, found, handed, is_sequence, says_more, table_value};
+ghost use Rattle.map_tables.specs.Answers.{answer, answer_at, answers, dressed, first_answer, found, handed, says_more, table_value};
 ghost use Rattle.map_tables.specs.Hosts.{host_name};
+ghost use Rattle.map_tables.specs.inner.MapPlaces.{is_sequence};
 
 use crate::answer::Answer;
 use crate::arith::calculated;
-use crate::hosts::{HostLine, line_of};
+use crate::host_table::HostTable;
 use crate::percent::filled;
 use crate::quotes::dequoted;
 use crate::table::Table;
@@ -14,7 +15,7 @@ use mail_base::{MapClass, MapLine, NoMemory, Seq, Text, TryCopy};
 // The answers of maps, place by place.
 fn answers(
     maps: &[Table],
-    hosts: &Seq<HostLine>,
+    hosts: &HostTable,
     key: &Text,
     args: &Seq<Text>,
 ) -> Result<Seq<Answer>, NoMemory>
@@ -30,7 +31,7 @@ fn answers(
 // What a map answers, where those before it answer these.
 fn answer(
     map: &Table,
-    hosts: &Seq<HostLine>,
+    hosts: &HostTable,
     key: &Text,
     args: &Seq<Text>,
     before: &[Answer],
@@ -60,10 +61,10 @@ fn table_value(map: &Table, key: &Text, args: &Seq<Text>) -> Result<Option<Text>
     }
 }
 
-fn host_name(hosts: &Seq<HostLine>, key: &Text) -> Result<Option<Text>, NoMemory>
+fn host_name(hosts: &HostTable, key: &Text) -> Result<Option<Text>, NoMemory>
     ensures { IfOk result (λ name. name ≡ host_name key.now hosts.now) }
 {
-    match line_of(hosts, key) {
+    match hosts.line_of(key) {
         Some(line) => Ok(Some(line.name.copy()?)),
         None => Ok(None),
     }
@@ -156,7 +157,7 @@ fn handed(line: &MapLine, key: &Text, answer: Option<&Answer>) -> Result<Answer,
 /// The answer at a place, where a map stands there.
 pub(crate) fn place_answer(
     maps: &[Table],
-    hosts: &Seq<HostLine>,
+    hosts: &HostTable,
     place: usize,
     key: &Text,
     args: &Seq<Text>,
@@ -183,7 +184,7 @@ fn map_at(maps: &[Table], place: usize) -> Option<&Table>
 fn before(
     maps: &[Table],
     map: &Table,
-    hosts: &Seq<HostLine>,
+    hosts: &HostTable,
     key: &Text,
     args: &Seq<Text>,
 ) -> Result<Seq<Answer>, NoMemory>

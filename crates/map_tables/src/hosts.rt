@@ -1,8 +1,8 @@
 ghost use Rattle.std.specs.Prelude.{◌≡◌, ◌++◌, IfOk, OnOk, map};
 ghost use Rattle.std.specs.List.{list_any};
-ghost use Rattle.std.specs.Option.{option_copied, option_to_list};
+ghost use Rattle.std.specs.Option.{option_to_list};
 ghost use Rattle.std.specs.Str.{str_eq_ignore_ascii_case};
-ghost use Rattle.map_tables.specs.Hosts.{before_comment, has_name, host_line, host_lines, host_of, line_of};
+ghost use Rattle.map_tables.specs.Hosts.{before_comment, has_name, host_line, host_lines, host_of};
 
 use crate::lines::{split_line, words};
 use bstr::ByteSlice;
@@ -18,20 +18,8 @@ pub struct HostLine {
     pub aliases: Seq<Text>,
 }
 
-// The first line that has a name, without ASCII case.
-pub(crate) fn line_of<'a>(hosts: &'a Seq<HostLine>, name: &Text) -> Option<&'a HostLine>
-    ensures { option_copied result ≡ line_of name.now hosts.now }
-{
-    for line in hosts.items() {
-        if line.has_name(name) {
-            return Some(line);
-        }
-    }
-    None
-}
-
 impl HostLine {
-    fn has_name(&self, name: &Text) -> bool
+    pub(crate) fn has_name(&self, name: &Text) -> bool
         ensures { result ≡ has_name name.now self.now }
     {
         name.is_folded(&self.name) || is_among(name, self.aliases.items())

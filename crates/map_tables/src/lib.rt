@@ -7,6 +7,7 @@ mod answering;
 mod arith;
 mod files;
 mod found;
+mod host_table;
 mod hosts;
 mod law;
 mod lines;
@@ -15,6 +16,7 @@ mod named;
 mod percent;
 mod quotes;
 mod table;
+mod texts;
 
 pub use files::wanted;
 pub use found::{Found, MapFault};

@@ -1,12 +1,14 @@
 ghost use Rattle.std.specs.Prelude.{◌≡◌, ◌<◌, IfOk, IsTrue, OnOk, OnErr, length, map};
 ghost use Rattle.std.specs.Option.{option_copied};
-ghost use Rattle.map_tables.specs.Answers.{IsPlaced, TellsOr, ends_in_brace, loaded, macro_name, macros_after, map_answer, told, with_macro};
+ghost use Rattle.map_tables.specs.Answers.{TellsOr, ends_in_brace, loaded, macro_name, macros_after, map_answer, told, with_macro};
 ghost use Rattle.map_tables.specs.Hosts.{host_address};
 ghost use Rattle.map_tables.specs.Tables.{table};
+ghost use Rattle.map_tables.specs.inner.MapPlaces.{IsPlaced};
 
 use crate::answer::Answer;
 use crate::answering::place_answer;
-use crate::hosts::{HostLine, host_lines, line_of};
+use crate::host_table::HostTable;
+use crate::texts::first_places;
 use crate::{Found, MapFault, Named, Table};
 use mail_base::{Catalog, Config, Macros, MapLine, NoMemory, Seq, Text, TryCopy};
 use std::alloc::Global;
@@ -17,7 +19,7 @@ pub struct Maps {
     maps: Seq<Table>,
     /// The place of the last K line of each name.
     places: Catalog<usize>,
-    hosts: Seq<HostLine>,
+    hosts: HostTable,
 }
 
 // Written out, since a caller's proof goes through the parts of a derived drop at each way out.
@@ -32,7 +34,8 @@ impl Drop for Maps {
 }
 
 impl Model for Maps {
-    ghost use Rattle.map_tables.specs.Answers.{IsPlaced, Loaded};
+    ghost use Rattle.map_tables.specs.Answers.{Loaded};
+    ghost use Rattle.map_tables.specs.inner.MapPlaces.{IsPlaced};
 
     ghost Value = { Loaded };
 
@@ -54,7 +57,7 @@ impl Maps {
     {
         let maps = tables(alloc, config.maps.items(), texts)?;
         let places = places(alloc, maps.items())?;
-        let hosts = host_lines(alloc, hosts.bytes())?;
+        let hosts = HostTable::load(alloc, hosts.bytes())?;
         Ok(Maps {
             maps,
             places,
@@ -97,11 +100,12 @@ impl Maps {
         }
     }
 
-    /// The address of a host, by any of its names without ASCII case. It takes no memory.
+    /// The address of a host, by any of its names without ASCII case. It takes no memory, and its time
+    /// is that of the name, however many hosts there are.
     pub fn host(&self, name: &Text) -> Option<&Text>
         ensures { option_copied result ≡ host_address name.now self.now.hosts }
     {
-        match line_of(&self.hosts, name) {
+        match self.hosts.line_of(name) {
             Some(line) => Some(&line.address),
             None => None,
         }
@@ -112,9 +116,10 @@ impl Maps {
 fn tables(alloc: Global, lines: &[MapLine], texts: &Seq<Named>) -> Result<Seq<Table>, NoMemory>
     ensures { IfOk result (λ maps. maps ≡ map (table texts.now) lines.now) }
 {
+    let places = first_places(alloc, texts.items())?;
     let mut tables = Seq::new(alloc);
     for line in lines {
-        tables.push(Table::load(alloc, line, texts)?)?;
+        tables.push(Table::load(alloc, line, texts, &places)?)?;
     }
     Ok(tables)
 }

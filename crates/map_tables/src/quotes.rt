@@ -1,4 +1,4 @@
-ghost use Rattle.std.specs.Prelude.{◌≡◌, ◌==◌, IfOk};
+ghost use Rattle.std.specs.Prelude.{◌≡◌, ◌≢◌, ◌==◌, IfOk};
 ghost use Rattle.std.specs.List.{list_any};
 ghost use Rattle.mail_base.specs.Whites.{is_white};
 ghost use Rattle.map_tables.specs.Quotes.{dequoted, is_balanced, is_closed, is_scannable, unquoted, without_quotes};
@@ -85,7 +85,8 @@ fn has_backslash(plain: &[u8]) -> bool
 
 // Whether each closing byte closes one that is open, and none is left open.
 fn is_balanced(plain: &[u8], opens: u8, closes: u8) -> bool
-    ensures { result ≡ is_balanced opens closes 0 plain.now }
+    requires { opens ≢ closes }
+    ensures { result ≡ is_balanced opens closes plain.now }
 {
     let mut depth: usize = 0;
     for byte in plain {

@@ -1,14 +1,16 @@
-ghost use Rattle.std.specs.Prelude.{◌≡◌, List, ℕ, Some, IfOk, OnOk, fold};
+ghost use Rattle.std.specs.Prelude.{◌≡◌, List, ℕ, IfOk, OnOk, fold};
 ghost use Rattle.std.specs.List.{list_all};
 ghost use Rattle.std.specs.Option.{option_copied, option_to_list};
 ghost use Rattle.mail_base.specs.Catalogs.{value_at};
 ghost use Rattle.mail_base.specs.Whites.{is_white};
 ghost use Rattle.map_tables.specs.Marks.{is_silent};
-ghost use Rattle.map_tables.specs.Tables.{column_pair, file_pairs, first_pairs, folded_key, line_pair, pair_by, text_of, with_first, word_pair};
+ghost use Rattle.map_tables.specs.Tables.{column_pair, file_pairs, first_pairs, folded_key, line_pair, pair_by, with_first, word_pair};
 ghost use Rattle.map_tables.specs.Tables as spec;
+ghost use Rattle.map_tables.specs.inner.FilePlaces.{first_places};
 
 use crate::Named;
 use crate::lines::{begins_with, column, split_line, without_margin, word_len};
+use crate::texts::text_of;
 use mail_base::{Catalog, MapClass, MapLine, NoMemory, Seq, Text, TryCopy, is_white};
 use std::alloc::Global;
 
@@ -27,10 +29,17 @@ pub fn first_line_counts()
 {}
 
 impl Table {
-    pub(crate) fn load(alloc: Global, line: &MapLine, texts: &Seq<Named>) -> Result<Table, NoMemory>
+    /// The table of a K line, with the first places of the files' names.
+    pub(crate) fn load(
+        alloc: Global,
+        line: &MapLine,
+        texts: &Seq<Named>,
+        places: &Catalog<usize>,
+    ) -> Result<Table, NoMemory>
+        requires { places.now ≡ first_places texts.now }
         ensures { IfOk result (λ table. table ≡ spec.table texts.now line.now) }
     {
-        let pairs = pairs_of(alloc, line, text_of(texts, line))?;
+        let pairs = pairs_of(alloc, line, text_of(texts, places, line))?;
         let line = line.copy()?;
         Ok(Table { line, pairs })
     }
@@ -42,26 +51,6 @@ impl Table {
         let key = folded_key(&self.line, key)?;
         Ok(self.pairs.get(&key))
     }
-}
-
-fn text_of<'a>(texts: &'a Seq<Named>, line: &MapLine) -> &'a [u8]
-    ensures { result.now ≡ text_of texts.now line.now.file }
-{
-    match &line.file {
-        Some(file) => bytes_of(texts, file),
-        None => &[],
-    }
-}
-
-fn bytes_of<'a>(texts: &'a Seq<Named>, file: &Text) -> &'a [u8]
-    ensures { result.now ≡ text_of texts.now (Some file.now) }
-{
-    for text in texts.items() {
-        if *file == text.name {
-            return text.bytes.bytes();
-        }
-    }
-    &[]
 }
 
 // The table of the lines of a text.
@@ -143,10 +132,10 @@ fn word_pair(alloc: Global, line: &[u8]) -> Result<Option<(Text, Text)>, NoMemor
 fn is_silent(line: &[u8]) -> bool
     ensures { result ≡ is_silent line.now }
 {
-    begins_with(line, b'#') || is_blank(line)
+    begins_with(line, b'#') || is_all_white(line)
 }
 
-fn is_blank(line: &[u8]) -> bool
+fn is_all_white(line: &[u8]) -> bool
     ensures { result ≡ list_all is_white line.now }
 {
     line.iter().all(|byte| is_white(*byte))

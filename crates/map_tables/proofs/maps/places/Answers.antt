@@ -1,6 +1,6 @@
 use Rattle.std.proofs.Common.{List, subst, take_all}
 use Rattle.map_tables.specs.declared.table.Table.{Table}
-use Rattle.map_tables.specs.Answers.{IsPlaced}
+use Rattle.map_tables.specs.inner.MapPlaces.{IsPlaced}
 use Rattle.map_tables.proofs.AnswerLemmas.{placed_next}
 use Rattle.map_tables.proofs.maps.places.Goals as goal
 

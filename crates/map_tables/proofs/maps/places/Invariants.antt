@@ -1,5 +1,5 @@
 use Rattle.std.proofs.Common.{take}
-use Rattle.map_tables.specs.Answers.{IsPlaced}
+use Rattle.map_tables.specs.inner.MapPlaces.{IsPlaced}
 use Rattle.map_tables.proofs.maps.places.Given as goal
 
 abbrev pub invariant-loop-place : goal.invariant-loop-place

@@ -1,7 +1,14 @@
 use Rattle.std.proofs.Common.{◌∙◌, sym, arith}
+use Rattle.map_tables.proofs.DepthLemmas.{by_depth}
 use Rattle.map_tables.proofs.ScanLemmas.{opened, closed, passed, lone, at_end}
 use Rattle.map_tables.proofs.quotes.is_balanced.Goals as goal
 use Rattle.map_tables.proofs.quotes.is_balanced.Goals.{then-byte-opens, else-byte-opens+then-byte-closes+else-depth-eq0, else-byte-opens+else-byte-closes}
+
+pub loop-byte-init : goal.loop-byte-init
+loop-byte-init c = record {
+  rest = by_depth c.args.opens c.args.closes c.requires c.args.plain.now;
+  few = omega arith;
+}
 
 pub returns-then-depth-eq0 : goal.returns-then-depth-eq0
 returns-then-depth-eq0 c =
