@@ -4,3 +4,20 @@ pub mod PlaceLemmas
 pub mod TableLemmas
 pub mod StageLemmas
 mod OpenLemmas
+mod Adding
+mod Carrying
+mod Committing
+mod Lists
+mod Numbering
+mod Tidying
+mod Places
+mod Raising
+mod Reading
+mod Replacing
+mod Stages
+mod Standing
+mod Sweeping
+mod Waiting
+mod Verdicts
+mod Samples
+mod Needed

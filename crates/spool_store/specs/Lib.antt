@@ -2,3 +2,11 @@ pub mod Tables
 pub mod Standing
 pub mod Moves
 pub mod Stages
+pub mod Queue
+pub mod Alike
+pub mod Entries
+pub mod Settled
+pub mod Changes
+pub mod Tidying
+pub mod Writes
+pub mod Verdicts
