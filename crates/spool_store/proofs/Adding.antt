@@ -1,4 +1,4 @@
--- New entries whose parents are there: the map stands for the table with them, and is tidy (C3, C5).
+-- New entries whose parents are there: the map stands for the table with them, and is tidy.
 use Rattle.std.proofs.Common.{◌≡◌, inl, ⊎_elim, ℕ, zero, suc, ◌<◌, ◌≤◌, List, [], ◌∷◌, ◌++◌, Some, None, refl, sym, ◌∙◌, ap, subst, arith, Contains, Less}
 use Rattle.std.specs.Prelude.{All}
 use Rattle.std.specs.List.{AllByRecursion}
@@ -258,7 +258,7 @@ added_tidy dirs next after added f g h tidy le below = record {
   drafts = λ dir id among within. drafts_added added f g dir id (h.at (at dir Tf id)) (tidy.drafts dir id among within);
 }
 
--- C3, C5
+-- both: the map after is settled
 pub added_settled : (dirs : List (List ℕ)) (table : Table) (after : ℕ) (added : List Stored) (f g : FileMap) → IsAdded dirs table.next added f g → table.next ≤ after → All (λ s. s.id < after) added → IsSettled dirs table f → IsSettled dirs (record { entries = table.entries ++ added; next = after }) g
 added_settled dirs table after added f g h le below settled = record {
   stands = record {

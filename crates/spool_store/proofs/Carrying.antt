@@ -104,11 +104,11 @@ alike_carries dirs Kept f g h = record {
   above = λ s t c p a r read u k. (a, record { same = refl; kept = subst Kept (sym u.id) (h.up s c p r.kept read u.parent u.less) });
 }
 
--- B2
+-- in maps that are alike the same kept control files are strange
 pub strange_alike : (dirs : List (List ℕ)) (Kept : ℕ → Type 0) (f g : FileMap) → AreAlike dirs Kept f g → (s : Spot) → Kept s.id → IsStrange dirs f s → IsStrange dirs g s
 strange_alike dirs Kept f g h s kept k = strange_carries dirs f g (IsKept Kept) (alike_carries dirs Kept f g h) k s (record { same = refl; kept = kept })
 
--- B3
+-- and the same are live
 pub live_alike : (dirs : List (List ℕ)) (Kept : ℕ → Type 0) (f g : FileMap) → AreAlike dirs Kept f g → (s : Spot) (c : Control) → Kept s.id → IsLive dirs f s c → IsLive dirs g s c
 live_alike dirs Kept f g h s c kept k =
     let carries = alike_carries dirs Kept f g h in

@@ -1,4 +1,4 @@
--- A commit, from drafts to settled maps (C5), and its images before the renaming that decides (C2).
+-- A commit, from drafts to settled maps and its images before the renaming that decides.
 use Rattle.std.proofs.Common.{◌≡◌, ◌≢◌, ⊎_elim, ℕ, ◌+◌, ◌<◌, List, [], ◌∷◌, ◌++◌, map, length, Some, None, refl, sym, ◌∙◌, ap, subst, arith, Contains}
 use Rattle.std.specs.Prelude.{All}
 use Rattle.std.proofs.lemmas.List.Elements.{All-cons, All-weaker, All-contains, All-contains_itself, Contains-append_cases, Contains-append_left, Contains-push}

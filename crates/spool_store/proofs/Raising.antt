@@ -1,4 +1,4 @@
--- A live control of a greater revision in the place of one: strange and live control files stay so (C4).
+-- A live control of a greater revision in the place of one: strange and live control files stay so.
 use Rattle.std.proofs.Common.{◌≡◌, ◌≢◌, ◌⊎◌, inl, inr, ⊎_elim, ℕ, ◌<◌, List, Some, refl, sym, ◌∙◌, ap, subst, arith}
 use Rattle.std.proofs.lemmas.Bool.{cases_eq}
 use Rattle.mail_base.specs.declared.id.Kind.TheVariants.{Df, Qf, Sf}
@@ -113,7 +113,7 @@ raised_not dirs s old new f g h (reopened t c read sf rows) e =
 pub raised_plain : (dirs : List (List ℕ)) (s : Spot) (old new : Control) (f g : FileMap) → IsRaised dirs s old new f g → IsStrange dirs g s → ⊥
 raised_plain dirs s old new f g h k = raised_not dirs s old new f g h k refl
 
--- C4: the same control files are strange
+-- the same control files are strange
 pub raised_strange : (dirs : List (List ℕ)) (s : Spot) (old new : Control) (f g : FileMap) → IsRaised dirs s old new f g → (t : Spot) → IsStrange dirs f t → IsStrange dirs g t
 raised_strange dirs s old new f g h t k = strange_but dirs s f g (but_to dirs s old new f g h) (live_plain h.live) t (λ e. live_plain h.live (subst (λ (w : Spot). IsStrange dirs f w) e k)) k
 
@@ -131,7 +131,7 @@ at_live dirs s old new f g h (child t c p above d read plain u live le) q one =
 pub raised_live : (dirs : List (List ℕ)) (s : Spot) (old new : Control) (f g : FileMap) → IsRaised dirs s old new f g → IsLive dirs g s new
 raised_live dirs s old new f g h = at_live dirs s old new f g h h.live refl refl
 
--- C4: the other live control files are live, and no others
+-- the other live control files are live, and no others
 pub others_live : (dirs : List (List ℕ)) (s : Spot) (old new : Control) (f g : FileMap) → IsRaised dirs s old new f g → (t : Spot) (c : Control) → t ≢ s → IsLive dirs f t c → IsLive dirs g t c
 others_live dirs s old new f g h t c ne live =
     let carries = others_carry dirs s f g (but_to dirs s old new f g h) (live_plain h.live) in

@@ -1,4 +1,4 @@
--- After a replace the map stands for the table with the new control, and is tidy (C5 without new entries).
+-- After a replace the map stands for the table with the new control, and is tidy.
 use Rattle.std.proofs.Common.{◌≡◌, ◌≢◌, ◌⊎◌, inl, inr, ⊎_elim, ℕ, List, [], ◌∷◌, map, None, Bool, refl, sym, ◌∙◌, ap, subst, arith, Contains, if◌then◌else◌, eq-eqb, ne_eqb}
 use Rattle.std.specs.List.Sorted.{IsStrictlySortedBy}
 use Rattle.std.specs.Ordering.{nat_cmp}

@@ -67,7 +67,7 @@ one_live dirs f s t c d live other e =
     let q : t ≡ s = one_spot dirs f s t c (live_read other).bytes live (live_read other).there e in
     (q, one_control dirs f s c d (live_read live) (subst (λ (r : Spot). IsRead dirs f r d) q (live_read other)))
 
--- B4
+-- what is the same at control files and at the bodies of their ids stands for the same tables
 pub stands_alike : (dirs : List (List ℕ)) (table : Table) (f g : FileMap) → AreAlike dirs (λ id. Unit {0}) f g → StandsFor dirs table f → StandsFor dirs table g
 stands_alike dirs table f g h s = record {
   ascending = s.ascending;

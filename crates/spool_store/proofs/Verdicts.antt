@@ -1,4 +1,4 @@
--- Each verdict of an opening, from the verdict above (E2), and the table that a map stands for.
+-- Each verdict of an opening, from the verdict above, and the table that a map stands for.
 use Rattle.std.proofs.Common.{◌≡◌, ◌≢◌, ⊎_elim, ℕ, ◌<◌, ◌≤◌, List, [], ◌∷◌, map, Option, Some, None, refl, sym, ◌∙◌, ap, subst, arith, unwrap_or}
 use Rattle.std.specs.List.Sorted.{IsStrictlySortedBy}
 use Rattle.std.specs.Ordering.{nat_cmp}

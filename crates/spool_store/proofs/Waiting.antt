@@ -1,4 +1,4 @@
--- Before the renaming that decides: children wait for their parent, and the map stands for the table before (C1, C2).
+-- Before the renaming that decides: children wait for their parent, and the map stands for the table before.
 use Rattle.std.proofs.Common.{◌≡◌, ◌≢◌, ⊎_elim, ℕ, ◌<◌, ◌≤◌, List, Some, None, sym, ◌∙◌, ap, arith, Contains}
 use Rattle.std.proofs.lemmas.Bool.{cases_lt}
 use Rattle.std.proofs.lemmas.List.Elements.{All-contains, All-weaker}
@@ -69,7 +69,7 @@ none_above dirs next drafted children f g h tidy p (lower q c lt j old less) abo
     let one = one_live dirs f q above c d old was (i ∙ sym j) in
     omega (arith, le, less, ap (λ (w : Control). w.revision) one.1)
 
--- C1
+-- a child whose parent is away is not live
 dead_by : (dirs : List (List ℕ)) (next : ℕ) (drafted : Place → Type 0) (children : List Stored) (f g : FileMap) → IsBefore dirs next drafted children f g → IsTidy dirs next f → (p : Parent) → IsAway dirs next f children p → {t : Spot} {c : Control} → IsLive dirs g t c → c.parent ≡ Some p → ⊥
 dead_by dirs next drafted children f g h tidy p away (alone t c read plain none) e = let z : Some p ≡ None = sym e ∙ none in cc z
 dead_by dirs next drafted children f g h tidy p away (child t c q above d read plain u live le) e =
@@ -85,7 +85,7 @@ child_dead dirs next drafted children f g h tidy t c le live =
     let waits = All-contains (IsWaiting dirs next f children) children of.stored h.waiting of.among in
     dead_by dirs next drafted children f g h tidy waits.parent waits.away live (ap (λ (w : Control). w.parent) one ∙ waits.is)
 
--- C2
+-- the map stands for what it stood for
 pub before_stands : (dirs : List (List ℕ)) (table : Table) (drafted : Place → Type 0) (children : List Stored) (f g : FileMap) → IsBefore dirs table.next drafted children f g → IsTidy dirs table.next f → StandsFor dirs table f → StandsFor dirs table g
 before_stands dirs table drafted children f g h tidy stands =
     let alike = before_alike dirs table.next drafted children f g h in

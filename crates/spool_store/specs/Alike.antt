@@ -1,4 +1,4 @@
--- Maps that are alike at the control files of some ids.
+-- Maps that are alike at the control files of some ids (own).
 use Rattle.std.specs.Prelude.{◌≡◌, ℕ, ◌<◌, List, Some}
 use Rattle.spool_disk.specs.Disk.{FileMap, bytes_at}
 use Rattle.mail_base.specs.declared.control.Control.{Control}

@@ -1,4 +1,4 @@
--- What a commit and a replace make of a map, over the map before: pointwise, so that no stage of their calls is named.
+-- What a commit and a replaced control make of a map, over the map before: place by place, so that no stage of their calls is named (own).
 use Rattle.std.specs.Prelude.{◌≡◌, ◌≢◌, ℕ, ◌<◌, ◌≤◌, List, Some, None, Contains, All}
 use Rattle.std.specs.List.Sorted.{IsStrictlySortedBy}
 use Rattle.std.specs.Ordering.{nat_cmp}

@@ -1,4 +1,4 @@
--- The table, and what is written to it.
+-- The message table with entries of several parts, in order of id (own; an entry is that of the Sendmail Installation and Operation Guide, "The queue").
 use Rattle.std.specs.Prelude.{◌≡◌, ℕ, List, map, eqb, if◌then◌else◌}
 use Rattle.std.specs.List.{AllZip}
 use Rattle.mail_base.specs.declared.control.Control.{Control}

@@ -1,4 +1,4 @@
--- The files that a table stands in.
+-- The files that a table of parts stands in (own; qf, df and tf are those of the Sendmail Installation and Operation Guide, "The queue").
 use Rattle.std.specs.Prelude.{◌≡◌, ℕ, ◌<◌, List, Some, None, Contains, All}
 use Rattle.std.specs.List.Sorted.{IsStrictlySortedBy}
 use Rattle.std.specs.Ordering.{nat_cmp}
@@ -31,7 +31,7 @@ pub record HasRead (entries : List Stored) (s : Spot) (c : Control) : Type 0 whe
   pub dir : stored.dir ≡ s.dir
   pub control : stored.control ≡ c
 
--- [Stands for]
+-- the files stand for the table: each entry is held by them, and no other control file is live
 pub record StandsFor (dirs : List (List ℕ)) (table : Table) (files : FileMap) : Type 0 where
   pub ascending : IsStrictlySortedBy nat_cmp (ids table.entries)
   pub each : All (HasFiles dirs files) table.entries

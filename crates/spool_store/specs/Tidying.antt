@@ -1,4 +1,4 @@
--- What an opening may leave of a map, at any moment: one relation for all its phases.
+-- What an opening may leave of a map, at any moment: one relation for all its phases (own; sf is a finished entry's control file).
 use Rattle.std.specs.Prelude.{◌≡◌, ◌≢◌, ◌⊎◌, ℕ, List, Some, None, Contains}
 use Rattle.mail_base.specs.declared.id.Kind.{Kind}
 use Rattle.mail_base.specs.declared.id.Kind.TheVariants.{Df, Qf, Tf, Sf}

@@ -1,4 +1,4 @@
--- What an opening finds of a control file.
+-- What an opening finds of a control file (own).
 use Rattle.std.specs.Prelude.{◌≡◌, ◌≢◌, ℕ, List, None, All}
 use Rattle.std.specs.List.Sorted.{IsStrictlySortedBy}
 use Rattle.std.specs.Ordering.{nat_cmp}

@@ -13,5 +13,10 @@ mod store;
 pub use change::Change;
 pub use fault::{OpenFault, SpoolFault};
 pub use law::{a_clean_map_stands, commands_follow, new_entries_keep_soundness};
-pub use queue_law::{one_control, files_alike, one_table, raised_alike, replace_settles, adding_settles, before_stands, tidied_stands, steps_tidy, tidied_settles, commit_settles, stages_follow, verdicts_follow, a_read_map_has_a_table, opening_settles, finish_settles, adding_leaves_strange, samples_settle, a_dead_child_may_come_alive};
+pub use queue_law::{
+    a_dead_child_may_come_alive, a_read_map_has_a_table, adding_leaves_strange, adding_settles,
+    before_stands, commit_settles, files_alike, finish_settles, one_control, one_table,
+    opening_settles, raised_alike, replace_settles, samples_settle, stages_follow, steps_tidy,
+    tidied_settles, tidied_stands, verdicts_follow,
+};
 pub use store::Store;
