@@ -1,8 +1,13 @@
--- What reading one line, or a part of it, gives (our own).
-use Rattle.std.specs.Prelude.{◌≡◌, Option, Some, None, Result, Ok, Err, IsSome}
+-- What reading one line, or a part of it, gives, and the first fault of a table (our own).
+use Rattle.std.specs.Prelude.{◌≡◌, Bool, List, [], ◌∷◌, Option, Some, None, Result, Ok, Err, if◌then◌else◌}
 use Rattle.cf_reader.specs.declared.fault.Fault.{Fault}
 use Rattle.cf_reader.specs.declared.fault.LineStop.{LineStop}
 use Rattle.cf_reader.specs.declared.fault.LineStop.TheVariants as stops
+
+-- a table of faults, each with whether its condition holds: the first whose condition holds
+abbrev pub first_fault : List (Fault × Bool) → Option Fault
+first_fault [] = None
+first_fault ((fault, holds) ∷ rows) = if holds then Some fault else first_fault rows
 
 module _ {V : Type 0} where
 

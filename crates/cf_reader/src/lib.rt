@@ -3,5 +3,7 @@
 #![tactic(auto)]
 
 mod fault;
+mod name;
+mod words;
 
 pub use fault::{CfFault, Fault};
