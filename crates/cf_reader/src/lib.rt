@@ -2,8 +2,14 @@
 //! refused, is said in `specs/`.
 #![tactic(auto)]
 
+mod class_line;
+mod cutting;
+mod define_line;
 mod fault;
+mod file_line;
+mod logical;
 mod name;
+mod set_line;
 mod words;
 
 pub use fault::{CfFault, Fault};

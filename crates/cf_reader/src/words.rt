@@ -1,4 +1,4 @@
-ghost use Rattle.std.specs.Prelude.{◌≡◌, ◌≤◌, length, IfOk};
+ghost use Rattle.std.specs.Prelude.{◌≡◌, ◌≤◌, ◌++◌, length, IfOk, OnOk};
 ghost use Rattle.std.specs.List.{prefix_len};
 ghost use Rattle.mail_base.specs.Whites.{is_white};
 ghost use Rattle.cf_reader.specs.Words as spec;
@@ -35,10 +35,22 @@ pub(crate) fn words(alloc: Global, text: &[u8]) -> Result<Seq<Text>, NoMemory>
     ensures { IfOk result (λ words. words ≡ spec.words_of text.now) }
 {
     let mut words = Seq::new(alloc);
+    push_words(alloc, text, &mut words)?;
+    Ok(words)
+}
+
+/// Adds the words of a text at the end.
+pub(crate) fn push_words(
+    alloc: Global,
+    text: &[u8],
+    words: &mut Seq<Text>,
+) -> Result<(), NoMemory>
+    ensures { OnOk result (words.new ≡ words.old ++ spec.words_of text.now) }
+{
     for word in text.split(|byte| is_white(*byte)) {
         if !word.is_empty() {
             words.push(Text::of(alloc, word)?)?;
         }
     }
-    Ok(words)
+    Ok(())
 }

@@ -1,0 +1,54 @@
+-- S lines, which begin a ruleset or go on with it, and where rules go (Sendmail Installation and Operation Guide, "R and S: Rewriting Rules"; what a line means whose two names stood for two rulesets is our own).
+use Rattle.std.specs.Prelude.{◌≡◌, ℕ, Bool, not, ◌==◌, List, [], ◌∷◌, ◌++◌, fold, filter, if◌then◌else◌, codes, refl}
+use Rattle.std.specs.List.{list_any, before_first, after_first}
+use Rattle.mail_base.specs.declared.rule.Rule.{Rule}
+use Rattle.mail_base.specs.Rulesets.{Ruled, is_named, with_name, with_rule}
+use Rattle.cf_reader.specs.Words.{stripped}
+
+-- a name on an S line: without white space at its ends, and without double quotes (34)
+abbrev pub set_name : List ℕ → List ℕ
+set_name text = filter (λ b. not (b == 34)) (stripped text)
+
+abbrev pub is_equals : ℕ → Bool
+is_equals b = b == 61
+
+-- the names on an S line, by what follows the letter: one, or with `=` (61) two of the same ruleset
+abbrev pub set_names : List ℕ → List (List ℕ)
+set_names text = if list_any is_equals text then set_name (before_first is_equals text) ∷ set_name (after_first is_equals text) ∷ [] else set_name text ∷ []
+
+-- the ruleset has one of the names
+abbrev pub has_one : List (List ℕ) → Ruled → Bool
+has_one names set = list_any (λ name. is_named name set) names
+
+-- the ruleset with a name, which it gets where it lacks it
+abbrev pub named : Ruled → List ℕ → Ruled
+named set name = if is_named name set then set else with_name set name
+
+abbrev pub with_names : List (List ℕ) → Ruled → Ruled
+with_names names set = fold named set names
+
+-- the first ruleset of this kind is changed so
+abbrev pub with_first : (Ruled → Bool) → (Ruled → Ruled) → List Ruled → List Ruled
+with_first passes change [] = []
+with_first passes change (set ∷ sets) = if passes set then change set ∷ sets else set ∷ with_first passes change sets
+
+abbrev pub empty_set : Ruled
+empty_set = record { names = []; rules = [] }
+
+-- the first ruleset that has one of the names gets the others; where none has one, a new ruleset has them all
+abbrev pub begun : List (List ℕ) → List Ruled → List Ruled
+begun names book = if list_any (has_one names) book then with_first (has_one names) (with_names names) book else book ++ with_names names empty_set ∷ []
+
+-- a rule is the last of the ruleset of these names, which it begins where no line did
+abbrev pub with_rule_of : List (List ℕ) → Rule → List Ruled → List Ruled
+with_rule_of names rule book = with_first (has_one names) (λ set. with_rule set rule) (begun names book)
+
+three : Ruled
+three = record { names = codes "3" ∷ []; rules = [] }
+
+canonify : Ruled
+canonify = record { names = codes "3" ∷ codes "Canon" ∷ []; rules = [] }
+
+example : (begun (set_names (codes " Canon = 3")) (three ∷ []) ≡ canonify ∷ []) × (begun (set_names (codes "\"3\"")) [] ≡ three ∷ [])
+unfolding three canonify
+example = (refl, refl)

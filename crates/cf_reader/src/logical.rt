@@ -1,0 +1,171 @@
+ghost use Rattle.std.specs.Prelude.{◌≡◌, ◌<◌, ◌^◌, ◌∷◌, length, IfOk};
+ghost use Rattle.std.specs.List.{take_while};
+ghost use Rattle.std.specs.Str.Lines.{strip_carriage_return};
+ghost use Rattle.cf_reader.specs.LogicalLines.{physical_lines};
+ghost use Rattle.cf_reader.specs.LogicalLines as spec;
+
+use bstr::ByteSlice;
+use mail_base::{NoMemory, Seq, Text};
+use std::alloc::Global;
+
+/// A logical line of a configuration file, and the number of its first physical line, from 1.
+#[derive(Drop)]
+pub struct Logical {
+    pub number: u32,
+    pub text: Text,
+}
+
+/// The logical lines of a text, without those that say nothing and without comments.
+pub fn logical_lines(alloc: Global, text: &[u8]) -> Result<Seq<Logical>, NoMemory>
+    requires { length text.now < 2 ^ 32 }
+    ensures { IfOk result (λ lines. lines ≡ spec.logical_lines text.now) }
+{
+    let mut lines = Seq::new(alloc);
+    let mut rest = text;
+    let mut number: u32 = 0;
+    while !rest.is_empty() {
+        let (line, after) = split_line(rest);
+        number += 1;
+        if !is_indented(line) && !is_silent(line) {
+            let text = whole_line(alloc, line, after)?;
+            lines.push(Logical { number, text })?;
+        }
+        rest = after;
+    }
+    Ok(lines)
+}
+
+/// The first physical line, and what stands after it.
+pub fn split_line(text: &[u8]) -> (&[u8], &[u8])
+    requires { 0 < length text.now }
+    ensures lines { physical_lines text.now ≡ result.0.now ∷ physical_lines result.1.now }
+    ensures shorter { length result.1.now < length text.now }
+{
+    match text.find_byte(b'\n') {
+        Some(end) => (without_return(&text[..end]), &text[end + 1..]),
+        None => (text, &[]),
+    }
+}
+
+/// A line before an LF, without the one CR that may stand at its end.
+pub fn without_return(line: &[u8]) -> &[u8]
+    ensures { result.now ≡ strip_carriage_return line.now }
+{
+    if !line.is_empty() && line[line.len() - 1] == b'\r' {
+        &line[..line.len() - 1]
+    } else {
+        line
+    }
+}
+
+fn is_indented(line: &[u8]) -> bool
+    ensures { result ≡ spec.is_indented line.now }
+{
+    match line.first() {
+        Some(byte) => *byte == b' ' || *byte == b'\t',
+        None => false,
+    }
+}
+
+fn is_silent(line: &[u8]) -> bool
+    ensures { result ≡ spec.is_silent line.now }
+{
+    match line.first() {
+        Some(byte) => *byte == b'#',
+        None => true,
+    }
+}
+
+fn joint_of(line: &[u8]) -> u8
+    ensures { result ≡ spec.joint_of line.now }
+{
+    match line.first() {
+        Some(byte) if *byte == b'H' => b'\n',
+        _ => b' ',
+    }
+}
+
+// The logical line that a physical line begins, with what stands after it.
+fn whole_line(alloc: Global, line: &[u8], after: &[u8]) -> Result<Text, NoMemory>
+    ensures { IfOk result (λ whole. whole ≡ spec.uncommented (spec.joined line.now (take_while spec.is_indented (physical_lines after.now)))) }
+{
+    let joined = joined(alloc, line, after)?;
+    uncommented(alloc, joined.bytes())
+}
+
+fn joined(alloc: Global, line: &[u8], after: &[u8]) -> Result<Text, NoMemory>
+    ensures { IfOk result (λ text. text ≡ spec.joined line.now (take_while spec.is_indented (physical_lines after.now))) }
+{
+    let joint = joint_of(line);
+    let mut text = Text::of(alloc, line)?;
+    let mut rest = after;
+    while !rest.is_empty() {
+        let (more, next) = split_line(rest);
+        if !is_indented(more) {
+            return Ok(text);
+        }
+        text.push(joint)?;
+        text.extend(more)?;
+        rest = next;
+    }
+    Ok(text)
+}
+
+fn uncommented(alloc: Global, text: &[u8]) -> Result<Text, NoMemory>
+    ensures { IfOk result (λ kept. kept ≡ spec.uncommented text.now) }
+{
+    let kept = before_comment(text);
+    if kept.len() < text.len() {
+        unshielded(alloc, trimmed(kept))
+    } else {
+        unshielded(alloc, kept)
+    }
+}
+
+fn is_shield(byte: u8) -> bool
+    ensures { result ≡ spec.is_shield byte }
+{
+    byte == b'\\' || byte == b'$'
+}
+
+fn before_comment(text: &[u8]) -> &[u8]
+    ensures { result.now ≡ spec.before_comment 0 text.now }
+{
+    let mut last = 0;
+    for (index, byte) in text.iter().enumerate() {
+        if *byte == b'#' && !is_shield(last) {
+            return &text[..index];
+        }
+        last = *byte;
+    }
+    text
+}
+
+fn is_margin(byte: u8) -> bool
+    ensures { result ≡ spec.is_margin byte }
+{
+    byte == b' ' || byte == b'\t' || byte == b'\n'
+}
+
+fn trimmed(text: &[u8]) -> &[u8]
+    ensures { result.now ≡ spec.trimmed text.now }
+{
+    let mut end = text.len();
+    while end > 0 && is_margin(text[end - 1]) {
+        end -= 1;
+    }
+    &text[..end]
+}
+
+fn unshielded(alloc: Global, text: &[u8]) -> Result<Text, NoMemory>
+    ensures { IfOk result (λ plain. plain ≡ spec.unshielded text.now) }
+{
+    let mut plain = Text::new(alloc);
+    for index in 0..text.len() {
+        let is_shield = text[index] == b'\\' && text.get(index + 1) == Some(&b'#');
+        if !is_shield {
+            plain.push(text[index])?;
+        }
+    }
+    Ok(plain)
+}
