@@ -14,6 +14,7 @@ use Rattle.cf_macros.specs.declared.fault.ExpandFault.{ExpandFault}
 use Rattle.cf_macros.specs.Expansion.{value}
 use Rattle.mail_edge.specs.Seen.{FileMap, text_of}
 use Rattle.cf_reader.specs.declared.class_line.ClassLine.{ClassLine}
+use Rattle.cf_reader.specs.declared.file_line.Wanted.{Wanted}
 use Rattle.cf_reader.specs.declared.fault.Fault.{Fault}
 use Rattle.cf_reader.specs.declared.fault.Fault.TheVariants.{BadPattern, NoSuchFile}
 use Rattle.cf_reader.specs.Names.{split_name}
@@ -75,11 +76,6 @@ abbrev pub with_words : List ℕ → List (List ℕ × List Member) → ClassLin
 with_words operators classes line = with_value line.class (with_members (members_of (value_at line.class classes)) (map (member_of operators) line.words)) classes
 
 -- ---- F lines, by what follows the letter
-
--- a file, and whether it may be absent
-pub record Wanted : Type 0 where
-  pub file : List ℕ
-  pub optional : Bool
 
 -- the first word; an F line without one names the file of the empty name
 abbrev pub first_word : List (List ℕ) → List ℕ

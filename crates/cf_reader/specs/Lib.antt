@@ -1,6 +1,7 @@
 pub mod Reads
 pub mod Names
 pub mod Words
+pub mod Cuts
 pub mod LogicalLines
 pub mod DefineLines
 pub mod ClassLines

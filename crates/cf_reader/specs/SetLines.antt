@@ -1,20 +1,22 @@
 -- S lines, which begin a ruleset or go on with it, and where rules go (Sendmail Installation and Operation Guide, "R and S: Rewriting Rules"; what a line means whose two names stood for two rulesets is our own).
-use Rattle.std.specs.Prelude.{◌≡◌, ℕ, Bool, not, ◌==◌, List, [], ◌∷◌, ◌++◌, fold, filter, if◌then◌else◌, codes, refl}
-use Rattle.std.specs.List.{list_any, before_first, after_first}
+use Rattle.std.specs.Prelude.{◌≡◌, ℕ, Bool, not, ◌==◌, List, [], ◌∷◌, ◌++◌, fold, filter, Option, Some, None, if◌then◌else◌, codes, refl}
+use Rattle.std.specs.List.{list_any}
 use Rattle.mail_base.specs.declared.rule.Rule.{Rule}
 use Rattle.mail_base.specs.Rulesets.{Ruled, is_named, with_name, with_rule}
+use Rattle.cf_reader.specs.Cuts.{cut_at}
 use Rattle.cf_reader.specs.Words.{stripped}
 
 -- a name on an S line: without white space at its ends, and without double quotes (34)
 abbrev pub set_name : List ℕ → List ℕ
 set_name text = filter (λ b. not (b == 34)) (stripped text)
 
-abbrev pub is_equals : ℕ → Bool
-is_equals b = b == 61
+abbrev pub names_in : List ℕ → Option (List ℕ × List ℕ) → List (List ℕ)
+names_in text None = set_name text ∷ []
+names_in text (Some parts) = set_name parts.0 ∷ set_name parts.1 ∷ []
 
 -- the names on an S line, by what follows the letter: one, or with `=` (61) two of the same ruleset
 abbrev pub set_names : List ℕ → List (List ℕ)
-set_names text = if list_any is_equals text then set_name (before_first is_equals text) ∷ set_name (after_first is_equals text) ∷ [] else set_name text ∷ []
+set_names text = names_in text (cut_at 61 text)
 
 -- the ruleset has one of the names
 abbrev pub has_one : List (List ℕ) → Ruled → Bool

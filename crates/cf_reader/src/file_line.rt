@@ -1,4 +1,4 @@
-ghost use Rattle.std.specs.Prelude.{◌≡◌, ◌++◌, Option, List, ℕ, IfOk, IfSome, OnOk};
+ghost use Rattle.std.specs.Prelude.{◌≡◌, ◌==◌, IfOk, IfSome};
 ghost use Rattle.std.specs.List.{before_first};
 ghost use Rattle.mail_edge.specs.Seen.{text_of};
 ghost use Rattle.cf_reader.specs.declared.fault.Fault.TheVariants.{NoSuchFile};
@@ -34,7 +34,7 @@ pub(crate) fn file_class<F: Files>(
     ensures asks { Asks (F.seen files.old) (F.seen files.new) (is_files_fault result) }
 {
     let (name, rest) = split_name(text);
-    let wanted = wanted(alloc, rest)?;
+    let wanted = wanted_in(alloc, rest)?;
     let found = read_file(alloc, &wanted.file, files)?;
     file_words(alloc, name, found, wanted.optional)
 }
@@ -80,7 +80,7 @@ fn words_in(alloc: Global, name: &[u8], text: &[u8]) -> Result<ClassLine, NoMemo
 }
 
 // The file that the text behind the name of a class asks for.
-fn wanted(alloc: Global, text: &[u8]) -> Result<Wanted, NoMemory>
+fn wanted_in(alloc: Global, text: &[u8]) -> Result<Wanted, NoMemory>
     ensures { IfOk result (λ wanted. wanted ≡ spec.wanted_by (words_of text.now)) }
 {
     let words = words(alloc, text)?;

@@ -3,6 +3,7 @@
 #![tactic(auto)]
 
 mod class_line;
+mod cuts;
 mod cutting;
 mod define_line;
 mod fault;

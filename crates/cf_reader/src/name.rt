@@ -1,8 +1,11 @@
 ghost use Rattle.std.specs.Prelude.{◌≡◌, ℕ, position, None, Some, Option, option_map};
 ghost use Rattle.cf_reader.specs.Names.{split_name};
 
+use bstr::ByteSlice;
+
 /// The name of a macro or a class that a text begins with, one byte or a word in braces, and what is behind it. The name of an empty text is
 /// empty, and an open brace that nothing closes is a name itself.
+#[tactic(auto, using(crate::proofs::PositionLemmas::position_found, crate::proofs::PositionLemmas::position_none, crate::proofs::PositionLemmas::behind_place))]
 pub(crate) fn split_name(text: &[u8]) -> (&[u8], &[u8])
     ensures { (result.0.now, result.1.now) ≡ split_name text.now }
 {
@@ -12,7 +15,7 @@ pub(crate) fn split_name(text: &[u8]) -> (&[u8], &[u8])
     if *first != b'{' {
         return (&text[..1], rest);
     }
-    match rest.iter().position(|byte| *byte == b'}') {
+    match rest.find_byte(b'}') {
         Some(size) => (&rest[..size], &rest[size + 1..]),
         None => (&text[..1], rest),
     }

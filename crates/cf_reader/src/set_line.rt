@@ -1,11 +1,11 @@
-ghost use Rattle.std.specs.Prelude.{◌≡◌, ◌<◌, ◌∷◌, ℕ, length, position, set, get_or, IfOk, OnOk};
-ghost use Rattle.mail_base.specs.Rulesets.{Ruled, is_named};
+ghost use Rattle.std.specs.Prelude.{◌≡◌, ◌<◌, ◌∷◌, [], length, position, set, get_or, IfOk, OnOk};
+ghost use Rattle.mail_base.specs.Rulesets.{Ruled};
 ghost use Rattle.cf_reader.specs.SetLines as spec;
-ghost use Rattle.cf_reader.specs.SetLines.{has_one, with_names, begun, with_rule_of};
+ghost use Rattle.cf_reader.specs.SetLines.{has_one, named, with_names, begun, with_rule_of};
 ghost use Rattle.cf_reader.specs.inner.Places.{earlier};
 
+use crate::cuts::cut_at;
 use crate::words::stripped;
-use bstr::ByteSlice;
 use mail_base::{Book, Buckets, NoMemory, Rule, RuleSet, Seq, Text, TryCopy};
 use std::alloc::Global;
 
@@ -13,14 +13,25 @@ use std::alloc::Global;
 pub(crate) fn set_names(alloc: Global, text: &[u8]) -> Result<Seq<Text>, NoMemory>
     ensures { IfOk result (λ names. names ≡ spec.set_names text.now) }
 {
-    let mut names = Seq::new(alloc);
-    match text.find_byte(b'=') {
-        Some(place) => {
-            names.push(set_name(alloc, &text[..place])?)?;
-            names.push(set_name(alloc, &text[place + 1..])?)?;
-        }
-        None => names.push(set_name(alloc, text)?)?,
+    match cut_at(text, b'=') {
+        Some((name, number)) => two_names(alloc, name, number),
+        None => one_name(alloc, text),
     }
+}
+
+fn one_name(alloc: Global, text: &[u8]) -> Result<Seq<Text>, NoMemory>
+    ensures { IfOk result (λ names. names ≡ spec.set_name text.now ∷ []) }
+{
+    let mut names = Seq::new(alloc);
+    names.push(set_name(alloc, text)?)?;
+    Ok(names)
+}
+
+fn two_names(alloc: Global, name: &[u8], number: &[u8]) -> Result<Seq<Text>, NoMemory>
+    ensures { IfOk result (λ names. names ≡ spec.set_name name.now ∷ spec.set_name number.now ∷ []) }
+{
+    let mut names = one_name(alloc, name)?;
+    names.push(set_name(alloc, number)?)?;
     Ok(names)
 }
 
@@ -92,9 +103,17 @@ fn name_set(names: &[Text], place: usize, book: &mut Book) -> Result<(), NoMemor
     ensures { OnOk result ((d : Ruled) → book.new ≡ set book.old place (with_names names.now (get_or book.old place d))) }
 {
     for name in names {
-        if !book.sets()[place].is_named(name) {
-            book.push_name(place, name.copy()?)?;
-        }
+        name_once(name, place, book)?;
     }
     Ok(())
+}
+
+fn name_once(name: &Text, place: usize, book: &mut Book) -> Result<(), NoMemory>
+    requires { place < length book.old }
+    ensures { OnOk result ((d : Ruled) → book.new ≡ set book.old place (named (get_or book.old place d) name.now)) }
+{
+    if book.sets()[place].is_named(name) {
+        return Ok(());
+    }
+    book.push_name(place, name.copy()?)
 }

@@ -1,4 +1,4 @@
-ghost use Rattle.std.specs.Prelude.{◌≡◌, ◌≤◌, ◌++◌, length, IfOk, OnOk};
+ghost use Rattle.std.specs.Prelude.{◌≡◌, ◌≤◌, ◌++◌, length, map, IfOk, OnOk};
 ghost use Rattle.std.specs.List.{prefix_len};
 ghost use Rattle.mail_base.specs.Whites.{is_white};
 ghost use Rattle.cf_reader.specs.Words as spec;
@@ -47,10 +47,18 @@ pub(crate) fn push_words(
 ) -> Result<(), NoMemory>
     ensures { OnOk result (words.new ≡ words.old ++ spec.words_of text.now) }
 {
-    for word in text.split(|byte| is_white(*byte)) {
-        if !word.is_empty() {
-            words.push(Text::of(alloc, word)?)?;
-        }
+    for word in slices(alloc, text)?.as_slice() {
+        words.push(Text::of(alloc, word)?)?;
     }
     Ok(())
+}
+
+fn slices(alloc: Global, text: &[u8]) -> Result<Vec<&[u8]>, NoMemory>
+    ensures { IfOk result (λ words. map (λ word. word.now) words.items ≡ spec.words_of text.now) }
+{
+    let words = text
+        .split(|byte| is_white(*byte))
+        .filter(|word| !word.is_empty())
+        .collect(alloc)?;
+    Ok(words)
 }
