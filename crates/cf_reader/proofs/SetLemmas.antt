@@ -61,16 +61,19 @@ earlier_assoc (Some a) None c = refl
 earlier_assoc (Some a) (Some b) None = refl
 earlier_assoc (Some a) (Some b) (Some c) = let is : min (min a b) c ≡ min a (min b c) = omega arith in ap Some is
 
+-- what is left begins with the next name
+next_name : (names : List (List ℕ)) (k : ℕ) (name : List ℕ) → k < length names → name ≡ get_or names k name → drop k names ≡ name ∷ drop (k + 1) names
+next_name names k name lt here = drop_more names k name lt ∙ ap (λ (n : List ℕ). n ∷ drop (k + 1) names) (sym here)
+
 -- one name more was looked for
-pub place_more : (names : List (List ℕ)) (book : List Ruled) (k : ℕ) (d : List ℕ) (first found next : Option ℕ) → k < length names → found ≡ position (is_named (get_or names k d)) book → next ≡ earlier first found
+pub place_more : (names : List (List ℕ)) (book : List Ruled) (k : ℕ) (name : List ℕ) (first found next : Option ℕ) → k < length names → name ≡ get_or names k name → found ≡ position (is_named name) book → next ≡ earlier first found
     → earlier next (position (has_one (drop (k + 1) names)) book) ≡ earlier first (position (has_one (drop k names)) book)
-place_more names book k d first found next lt was is =
-    let name = get_or names k d in
+place_more names book k name first found next lt here was is =
     let rest = position (has_one (drop (k + 1) names)) book in
     ap (λ (o : Option ℕ). earlier o rest) (is ∙ ap (earlier first) was)
     ∙ earlier_assoc first (position (is_named name) book) rest
     ∙ ap (earlier first) (sym (place_of_one name (drop (k + 1) names) book))
-    ∙ ap (λ (ns : List (List ℕ)). earlier first (position (has_one ns) book)) (sym (drop_more names k d lt))
+    ∙ ap (λ (ns : List (List ℕ)). earlier first (position (has_one ns) book)) (sym (next_name names k name lt here))
 
 none_passes : (book : List Ruled) → position_or_len (λ (s : Ruled). false) book ≡ length book
 none_passes [] = refl
@@ -87,9 +90,9 @@ earlier_none None = refl
 earlier_none (Some k) = refl
 
 -- all names were looked for
-pub place_done : (names : List (List ℕ)) (book : List Ruled) (k : ℕ) (first whole : Option ℕ) → k ≡ length names → earlier first (position (has_one (drop k names)) book) ≡ whole → first ≡ whole
+pub place_done : (names : List (List ℕ)) (book : List Ruled) (k : ℕ) (first whole : Option ℕ) → length names ≤ k → earlier first (position (has_one (drop k names)) book) ≡ whole → first ≡ whole
 place_done names book k first whole end is =
-    let gone : drop k names ≡ [] = ap (λ (n : ℕ). drop n names) end ∙ drop_all (length names) names (omega arith) in
+    let gone : drop k names ≡ [] = drop_all k names end in
     sym (ap (λ (ns : List (List ℕ)). earlier first (position (has_one ns) book)) gone ∙ ap (earlier first) (place_of_none book) ∙ earlier_none first) ∙ is
 
 -- ---- the first ruleset of a kind
@@ -147,11 +150,11 @@ changed_at passes change (s ∷ ss) (suc place) d at =
 -- and where none passes nothing is changed
 pub changed_none : (passes : Ruled → Bool) (change : Ruled → Ruled) (book : List Ruled) → list_any passes book ≡ false → with_first passes change book ≡ book
 changed_none passes change [] none = refl
-changed_none passes change (s ∷ ss) none = by (passes s) refl none
+changed_none passes change (s ∷ ss) none = by (passes s) refl none (λ n. changed_none passes change ss n)
   where
-    by : (b : Bool) → passes s ≡ b → b || list_any passes ss ≡ false → with_first passes change (s ∷ ss) ≡ s ∷ ss
-    by true e n = absurd (cc n)
-    by false e n = cond-false (passes s) (change s ∷ ss) (s ∷ with_first passes change ss) e ∙ ap (λ (q : List Ruled). s ∷ q) (changed_none passes change ss n)
+    by : (b : Bool) → passes s ≡ b → b || list_any passes ss ≡ false → (list_any passes ss ≡ false → with_first passes change ss ≡ ss) → with_first passes change (s ∷ ss) ≡ s ∷ ss
+    by true e n go = absurd (cc n)
+    by false e n go = cond-false (passes s) (change s ∷ ss) (s ∷ with_first passes change ss) e ∙ ap (λ (q : List Ruled). s ∷ q) (go n)
 
 -- ---- lines
 
@@ -197,20 +200,20 @@ named_anew name book new place d lacks made =
     made ∙ sym (ap (λ (s : Ruled). set book place s) (cond-false _ (get_or book place d) (with_name (get_or book place d) name) lacks))
 
 -- one name more was given
-pub name_more : (names : List (List ℕ)) (book new : List Ruled) (place k : ℕ) (e : List ℕ) (d : Ruled) → k < length names → place < length book → ((d : Ruled) → new ≡ set book place (named (get_or book place d) (get_or names k e)))
-    → set new place (with_names (drop (k + 1) names) (get_or new place d)) ≡ set book place (with_names (drop k names) (get_or book place d))
-name_more names book new place k e d lt within made =
-    let s = named (get_or book place d) (get_or names k e) in
+pub name_more : (names : List (List ℕ)) (book new : List Ruled) (place k : ℕ) (name : List ℕ) (d : Ruled) → k < length names → name ≡ get_or names k name → place < length book
+    → ((d : Ruled) → new ≡ set book place (named (get_or book place d) name)) → set new place (with_names (drop (k + 1) names) (get_or new place d)) ≡ set book place (with_names (drop k names) (get_or book place d))
+name_more names book new place k name d lt here within made =
+    let s = named (get_or book place d) name in
     (λ i. set (made d i) place (with_names (drop (k + 1) names) (get_or (made d i) place d)))
     ∙ ap (λ (t : Ruled). set (set book place s) place (with_names (drop (k + 1) names) t)) (get_or-set_same book place s d within)
     ∙ set_twice book place s (with_names (drop (k + 1) names) s)
-    ∙ ap (λ (ns : List (List ℕ)). set book place (with_names ns (get_or book place d))) (sym (drop_more names k e lt))
+    ∙ ap (λ (ns : List (List ℕ)). set book place (with_names ns (get_or book place d))) (sym (next_name names k name lt here))
 
 pub name_within : (book new : List Ruled) (place : ℕ) (s : Ruled) → place < length book → new ≡ set book place s → place < length new
 name_within book new place s within made = let long : length new ≡ length book = ap length made ∙ length-set book place s in omega (arith, long, within)
 
 -- all names were given
-pub name_done : (names : List (List ℕ)) (book whole : List Ruled) (place k : ℕ) (d : Ruled) → k ≡ length names → set book place (with_names (drop k names) (get_or book place d)) ≡ whole → book ≡ whole
+pub name_done : (names : List (List ℕ)) (book whole : List Ruled) (place k : ℕ) (d : Ruled) → length names ≤ k → set book place (with_names (drop k names) (get_or book place d)) ≡ whole → book ≡ whole
 name_done names book whole place k d end is =
-    let gone : drop k names ≡ [] = ap (λ (n : ℕ). drop n names) end ∙ drop_all (length names) names (omega arith) in
+    let gone : drop k names ≡ [] = drop_all k names end in
     sym (ap (λ (ns : List (List ℕ)). set book place (with_names ns (get_or book place d))) gone ∙ set-get_or book place d) ∙ is
