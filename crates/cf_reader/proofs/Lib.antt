@@ -2,3 +2,5 @@ mod LineLemmas
 mod PositionLemmas
 mod SetLemmas
 mod FileLemmas
+mod PlaceLemmas
+mod ColumnLemmas

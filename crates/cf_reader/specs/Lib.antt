@@ -7,3 +7,6 @@ pub mod DefineLines
 pub mod ClassLines
 pub mod SetLines
 pub mod inner
+pub mod HeaderLines
+pub mod Places
+pub mod MapLines

@@ -19,7 +19,6 @@ pub record Asks (before after : FilesSeen) (failed : Bool) : Type 0 where
   pub calm : failed ≡ false → after.faults ≡ before.faults
 
 module _ {V : Type 0} where
-
   -- the files failed
   abbrev pub is_files_fault : Result V LineStop → Bool
   is_files_fault (Ok value) = false
