@@ -4,3 +4,7 @@ mod SetLemmas
 mod FileLemmas
 mod PlaceLemmas
 mod ColumnLemmas
+mod RuleLemmas
+mod LookupLemmas
+mod ReadLemmas
+mod SideExamples

@@ -10,3 +10,7 @@ pub mod inner
 pub mod HeaderLines
 pub mod Places
 pub mod MapLines
+pub mod Sides
+pub mod NotYet
+pub mod Rules
+pub mod inner

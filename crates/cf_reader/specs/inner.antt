@@ -1,3 +1,4 @@
 -- What private contracts alone cite.
 pub mod Places
 pub mod Steps
+pub mod Making

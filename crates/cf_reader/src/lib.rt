@@ -14,6 +14,14 @@ mod map_line;
 mod map_lines;
 mod name;
 mod set_line;
+mod left_sides;
+mod lookups;
+mod name;
+mod not_yet;
+mod pieces;
+mod right_sides;
+mod rules;
+mod signs;
 mod words;
 
 pub use fault::{CfFault, Fault};

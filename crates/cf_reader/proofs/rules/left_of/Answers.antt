@@ -1,0 +1,8 @@
+use Rattle.cf_reader.proofs.RuleLemmas.{before_found, before_none}
+use Rattle.cf_reader.proofs.rules.left_of.Goals as goal
+
+pub returns-in-Some : goal.returns-in-Some
+returns-in-Some c = before_found 9 c.args.line.now c.in-Some.end c.in-Some.ensures
+
+pub returns-in-None : goal.returns-in-None
+returns-in-None c = before_none 9 c.args.line.now c.in-None.ensures
