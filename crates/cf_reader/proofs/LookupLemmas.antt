@@ -1,9 +1,8 @@
 -- The fields of a lookup from their front.
-use Rattle.std.proofs.Common.{◌≡◌, ℕ, suc, ◌+◌, ◌<◌, ◌≤◌, List, [], ◌∷◌, ◌++◌, length, take, drop, length-drop, Bool, true, false, cond, not, ◌||◌, Option, Some, None, option_map, refl, sym, ◌∙◌, ap, subst, arith}
-use Rattle.std.specs.List.{list_any, prefix_len, before_first, after_first, slice_split, onto_first}
+use Rattle.std.proofs.Common.{◌≡◌, ℕ, suc, ◌+◌, ◌<◌, ◌≤◌, List, [], ◌∷◌, ◌++◌, length, take, drop, length-drop, Bool, true, false, cond, not, ◌||◌, Option, Some, None, option_map, refl, sym, ◌∙◌, ap, arith}
+use Rattle.std.specs.List.{list_any, prefix_len, slice_split, onto_first}
 use Rattle.std.proofs.lemmas.List.{drop_more, drop-drop}
 use Rattle.mail_base.specs.declared.rule.Piece.{Piece}
-use Rattle.mail_base.specs.declared.rule.Step.{Step}
 use Rattle.mail_base.specs.declared.rule.Step.TheVariants.{Lookup}
 use Rattle.addr_tokens.specs.declared.lexeme.Lexeme.{Lexeme}
 use Rattle.addr_tokens.specs.declared.lexeme.Lexeme.TheVariants.{Dollar}

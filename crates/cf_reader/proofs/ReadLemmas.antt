@@ -1,5 +1,5 @@
 -- A rule from its two sides.
-use Rattle.std.proofs.Common.{◌≡◌, ℕ, List, Bool, false, Option, Some, Result, sym, ◌∙◌, subst}
+use Rattle.std.proofs.Common.{◌≡◌, ℕ, List, false, Option, Some, Result, sym, ◌∙◌, subst}
 use Rattle.std.proofs.lemmas.Bool.{cond-false}
 use Rattle.mail_base.specs.declared.rule.Rule.{Rule}
 use Rattle.addr_tokens.specs.declared.lexeme.Lexeme.{Lexeme}

@@ -1,5 +1,5 @@
 -- Items, pieces and steps from the front of a side.
-use Rattle.std.proofs.Common.{◌≡◌, ℕ, zero, suc, ◌+◌, ◌<◌, ◌≤◌, List, [], ◌∷◌, ◌++◌, length, take, drop, length-drop, get_or, Bool, true, false, cond, not, ◌&&◌, ◌||◌, eqb, Option, Some, None, option_map, Result, Ok, Err, slice_get, refl, sym, ◌∙◌, ap, subst, arith, add-one}
+use Rattle.std.proofs.Common.{◌≡◌, ℕ, zero, suc, ◌+◌, ◌<◌, ◌≤◌, List, [], ◌∷◌, ◌++◌, length, take, drop, length-drop, get_or, Bool, true, false, cond, not, ◌&&◌, ◌||◌, eqb, Option, Some, None, Ok, Err, slice_get, refl, sym, ◌∙◌, ap, subst, arith}
 use Rattle.std.specs.List.{prefix_len, position_or_len, before_first}
 use Rattle.std.proofs.lemmas.List.{append_assoc, drop_more, drop-drop, take_all}
 use Rattle.std.proofs.lemmas.List.Sums.{position_or_len_is}
@@ -9,14 +9,12 @@ use Rattle.bstr.specs.Find.{IsFirstByte, is_byte}
 use Rattle.mail_base.specs.declared.rule.Step.{Step}
 use Rattle.addr_tokens.specs.declared.lexeme.Lexeme.{Lexeme}
 use Rattle.addr_tokens.specs.declared.lexeme.Lexeme.TheVariants.{Token, Dollar, Named}
-use Rattle.cf_reader.specs.declared.fault.Fault.TheVariants.{BadPattern}
 use Rattle.cf_reader.specs.declared.fault.LineStop.{LineStop}
 use Rattle.cf_reader.specs.declared.fault.LineStop.TheVariants as stops
 use Rattle.cf_reader.specs.Sides.{put, each, is_dollar, is_opening, is_closing, bracketed, step_of, Rest, Steps, Closes, Nothing, with_step, before, rest_of, whole}
 use Rattle.cf_reader.specs.inner.Making.{Makes, added, is_bracket, steps_in, IsFirst}
 
 module _ {Y : Type 0} where
-
   -- one more so far is one less in front of the rest
   pub added_one : (ys : List Y) (y : Y) (more : Option (List Y)) → added ys (put (Some y) more) ≡ added (ys ++ y ∷ []) more
   added_one ys y None = refl
@@ -31,7 +29,6 @@ module _ {Y : Type 0} where
   put_none (Some y) = refl
 
 module _ {X Y : Type 0} (f : X → Option Y) where
-
   pub each_goes_on : (xs : List X) (k : ℕ) (x : X) (y : Y) (ys : List Y) (all : Option (List Y)) → k < length xs → x ≡ get_or xs k x → f x ≡ Some y
       → added ys (each f (drop k xs)) ≡ all → added (ys ++ y ∷ []) (each f (drop (k + 1) xs)) ≡ all
   each_goes_on xs k x y ys all low is gives so_far =
@@ -181,7 +178,7 @@ bracket : (opening : Lexeme) (inside : List Lexeme) (b : Lexeme) (after : List L
 bracket opening inside b after e plain is =
     ⊎_elim
     (λ opens. open_none opening (rest_of (inside ++ b ∷ after)) e (plain_on inside (b ∷ after) plain (opening_before b (rest_of after) opens))
-      ∙ ap (λ (o : Option Step). put o (steps_in after)) (sym (opening_closes_nothing opening inside b opens)))
+    ∙ ap (λ (o : Option Step). put o (steps_in after)) (sym (opening_closes_nothing opening inside b opens)))
     (λ ends. ap (λ (r : Rest). whole (before opening r)) (plain_closes inside b after plain ends) ∙ open_closes opening inside b (rest_of after) e)
     (or_cases (is_opening b) (is_closing b) is)
 

@@ -1,7 +1,6 @@
 -- Worked examples of sides, under the operators that are there at first, with a macro `y` whose value is `a`.
 use Rattle.std.specs.Prelude.{◌≡◌, ℕ, List, [], ◌∷◌, codes, Option, Some, None, option_map, refl}
 use Rattle.std.specs.Option.{option_flatten}
-use Rattle.mail_base.specs.declared.token.Token.{Token}
 use Rattle.mail_base.specs.declared.token.Token.TheVariants.{Word, Quoted, Op, Sign}
 use Rattle.mail_base.specs.declared.token.Mark.TheVariants.{Alt, Mailer, Host, User, End}
 use Rattle.mail_base.specs.declared.rule.Item.{Item}

@@ -1,5 +1,5 @@
 -- The sides of a rule (Sendmail Installation and Operation Guide, "R and S: Rewriting Rules"; what the guide leaves open is our own).
-use Rattle.std.specs.Prelude.{◌≡◌, ℕ, ◌-◌, List, [], ◌∷◌, length, map, drop, Bool, true, false, not, ◌&&◌, ◌||◌, ◌==◌, nat_lt, if◌then◌else◌, codes, Option, Some, None, option_map, Result, Ok, Err, slice_get}
+use Rattle.std.specs.Prelude.{ℕ, ◌-◌, List, [], ◌∷◌, length, drop, Bool, true, false, ◌&&◌, ◌||◌, ◌==◌, nat_lt, if◌then◌else◌, codes, Option, Some, None, option_map, Result, Ok, Err, slice_get}
 use Rattle.std.specs.List.{list_any, prefix_len, before_first, after_first, slice_split}
 use Rattle.std.specs.Result.{result_ok}
 use Rattle.mail_base.specs.Notes.{is_digit}

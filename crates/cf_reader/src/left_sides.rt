@@ -59,10 +59,7 @@ fn named_item(byte: u8, name: Text) -> Item
 pub(crate) fn binding_count(lexemes: &[Lexeme]) -> usize
     ensures { result ≡ count_by spec.is_binding lexemes.now }
 {
-    lexemes
-        .iter()
-        .filter(|lexeme| is_binding(lexeme))
-        .count()
+    lexemes.iter().filter(|lexeme| is_binding(lexeme)).count()
 }
 
 fn is_binding(lexeme: &Lexeme) -> bool

@@ -14,7 +14,6 @@ use Rattle.cf_reader.specs.declared.fault.LineStop.TheVariants as stops
 use Rattle.cf_reader.specs.Sides.{is_dollar, is_opening, is_closing, pieces_of, put, rest_of, whole}
 
 module _ {V : Type 0} where
-
   -- it is made where it has a meaning, and is BadPattern where it has none, unless memory runs out
   abbrev pub Makes : Result V LineStop → Option V → Type 0
   Makes (Ok value) meant = meant ≡ Some value

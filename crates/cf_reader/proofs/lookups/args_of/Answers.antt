@@ -19,7 +19,8 @@ pub arguments-preserved : goal.arguments-preserved
 arguments-preserved c =
     let fields = c.args.fields.now in
     let place = c.arguments.place in
-    let size = c.length_before-size.result in
-    (args_within fields _ place size c.arguments-test.true (take_rest fields (place + 1)) c.length_before-size.ensures.length c.length_before-size.ensures.within,
-    ap (λ (args : List (List Piece)). added args (each pieces_of (parts_behind (drop (place + (size + 1)) fields)))) c.in_ok-push.ensures.ok
-    ∙ args_go_on fields _ place size c.arguments-test.true (take_rest fields (place + 1)) c.length_before-size.ensures.length _ c.arguments.args _ c.in_ok-pieces_of.ensures c.arguments.invariant.1)
+    let size = c.length_before-size.result in (
+      args_within fields _ place size c.arguments-test.true (take_rest fields (place + 1)) c.length_before-size.ensures.length c.length_before-size.ensures.within,
+      ap (λ (args : List (List Piece)). added args (each pieces_of (parts_behind (drop (place + (size + 1)) fields)))) c.in_ok-push.ensures.ok
+          ∙ args_go_on fields _ place size c.arguments-test.true (take_rest fields (place + 1)) c.length_before-size.ensures.length _ c.arguments.args _ c.in_ok-pieces_of.ensures c.arguments.invariant.1,
+    )

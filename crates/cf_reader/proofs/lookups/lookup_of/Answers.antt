@@ -1,4 +1,4 @@
-use Rattle.std.proofs.Common.{◌≡◌, List, Some, None, take, drop, refl, sym, ◌∙◌, ap}
+use Rattle.std.proofs.Common.{List, Some, take, refl, sym, ◌∙◌, ap}
 use Rattle.std.proofs.lemmas.List.{take_rest}
 use Rattle.std.proofs.lemmas.Result.{err_from_is_err_and}
 use Rattle.mail_base.specs.declared.rule.Step.TheVariants.{Lookup}
