@@ -8,3 +8,4 @@ mod RuleLemmas
 mod LookupLemmas
 mod ReadLemmas
 mod SideExamples
+mod ValueLemmas

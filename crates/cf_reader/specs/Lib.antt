@@ -13,4 +13,11 @@ pub mod MapLines
 pub mod Sides
 pub mod NotYet
 pub mod Rules
+pub mod Fields
+pub mod Values
+pub mod PrecedenceLines
+pub mod GroupLines
+pub mod MailerLines
+pub mod Settings
+pub mod OptionLines
 pub mod inner

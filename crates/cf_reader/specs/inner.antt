@@ -2,3 +2,6 @@
 pub mod Places
 pub mod Steps
 pub mod Making
+pub mod Additions
+pub mod Cuttings
+pub mod Settled
