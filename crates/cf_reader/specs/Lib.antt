@@ -20,4 +20,6 @@ pub mod GroupLines
 pub mod MailerLines
 pub mod Settings
 pub mod OptionLines
-pub mod inner
+pub mod Letters
+pub mod Faults
+pub mod Configuration

@@ -1,5 +1,5 @@
 -- P lines, by what follows the letter (Sendmail Installation and Operation Guide, "P: Precedence Definitions"; the least and the greatest number are our own).
-use Rattle.std.specs.Prelude.{◌≡◌, ℕ, ◌==◌, if◌then◌else◌, is_none, List, [], ◌∷◌, Option, None, Some, option_map, unwrap_or, ℤ, pos, neg_ℤ, codes, refl}
+use Rattle.std.specs.Prelude.{◌≡◌, ℕ, Bool, ◌==◌, if◌then◌else◌, is_none, List, [], ◌∷◌, Option, None, Some, option_map, unwrap_or, ℤ, pos, neg_ℤ, codes, refl}
 use Rattle.mail_base.specs.declared.lines.Precedence.{Precedence}
 use Rattle.cf_reader.specs.declared.fault.Fault.{Fault}
 use Rattle.cf_reader.specs.declared.fault.Fault.TheVariants.{BadOption}
@@ -17,9 +17,12 @@ class_value (b ∷ text) =
     if b == 45 then option_map below_zero (number_in 1_000_000 text)
     else option_map pos (number_in 1_000_000 (b ∷ text))
 
--- the fault of a P line: what stands behind the first `=` (61) is no such number
+-- what stands behind the first `=` (61) is no such number
+abbrev pub is_bad_precedence : List ℕ → Bool
+is_bad_precedence text = is_none (class_value (split_at 61 text).1)
+
 abbrev pub fault_of_precedence : List ℕ → Option Fault
-fault_of_precedence text = first_fault ((BadOption, is_none (class_value (split_at 61 text).1)) ∷ [])
+fault_of_precedence text = first_fault ((BadOption, is_bad_precedence text) ∷ [])
 
 -- what a P line without a fault says
 abbrev pub precedence_of : List ℕ → Precedence

@@ -2,6 +2,9 @@
 use Rattle.std.specs.Prelude.{◌≡◌, ◌≤◌, Bool, true, false, List, [], ◌∷◌, Option, Some, None, Result, Ok, Err, if◌then◌else◌}
 use Rattle.mail_base.specs.Histories.{Rose}
 use Rattle.mail_edge.specs.Seen.{FilesSeen}
+use Rattle.mail_base.specs.declared.config.Config.{Config}
+use Rattle.cf_reader.specs.declared.fault.CfFault.{CfFault}
+use Rattle.cf_reader.specs.declared.fault.CfFault.TheVariants as whole
 use Rattle.cf_reader.specs.declared.fault.Fault.{Fault}
 use Rattle.cf_reader.specs.declared.fault.LineStop.{LineStop}
 use Rattle.cf_reader.specs.declared.fault.LineStop.TheVariants as stops
@@ -46,3 +49,17 @@ module _ {V : Type 0} where
   Finds (Err (stops.Refused found)) fault meant = fault ≡ Some found
   Finds (Err stops.FilesFault) fault meant = Unit {0}
   Finds (Err stops.NoMemory) fault meant = Unit {0}
+
+-- the files failed
+abbrev pub is_failed : Result Config CfFault → Bool
+is_failed (Ok config) = false
+is_failed (Err (whole.Refused number fault)) = false
+is_failed (Err whole.FilesFault) = true
+is_failed (Err whole.NoMemory) = false
+
+-- what was returned is what the definition gives, unless the files failed or memory ran out
+abbrev pub Gives : Result Config CfFault → Result Config CfFault → Type 0
+Gives (Ok config) meant = meant ≡ Ok config
+Gives (Err (whole.Refused number fault)) meant = meant ≡ Err (whole.Refused number fault)
+Gives (Err whole.FilesFault) meant = Unit {0}
+Gives (Err whole.NoMemory) meant = Unit {0}
