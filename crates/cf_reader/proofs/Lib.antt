@@ -9,3 +9,5 @@ mod LookupLemmas
 mod ReadLemmas
 mod SideExamples
 mod ValueLemmas
+mod FinishLemmas
+mod ReadingLemmas

@@ -51,8 +51,8 @@ module _ {V : Type 0} where
   Finds (Err stops.NoMemory) fault meant = Unit {0}
 
 -- the files failed
-abbrev pub is_failed : Result Config CfFault → Bool
-is_failed (Ok config) = false
+abbrev pub is_failed : {V : Type 0} → Result V CfFault → Bool
+is_failed (Ok value) = false
 is_failed (Err (whole.Refused number fault)) = false
 is_failed (Err whole.FilesFault) = true
 is_failed (Err whole.NoMemory) = false

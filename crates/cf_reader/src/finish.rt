@@ -1,6 +1,7 @@
-ghost use Rattle.std.specs.Prelude.{◌≡◌, map, IfOk, OnOk};
+ghost use Rattle.std.specs.Prelude.{◌≡◌, map, slice_get, IfOk, OnOk};
 ghost use Rattle.cf_reader.specs.ClassLines.{member_of};
 ghost use Rattle.cf_reader.specs.Configuration as spec;
+ghost use Rattle.cf_reader.specs.inner.Steps.{with_group_at};
 
 use crate::class_line::ClassLine;
 use crate::cutting::member;
@@ -53,11 +54,23 @@ fn placed_groups(
 {
     let mut placed = Catalog::new(alloc);
     for index in 0..groups.len() {
-        if let Some((name, group)) = groups.at(index) {
-            place_group(directory, name, group, &mut placed)?;
-        }
+        place_at(directory, groups, index, &mut placed)?;
     }
     Ok(placed)
+}
+
+fn place_at(
+    directory: &Text,
+    groups: &Catalog<Group>,
+    index: usize,
+    placed: &mut Catalog<Group>,
+) -> Result<(), NoMemory>
+    ensures { OnOk result (placed.new ≡ with_group_at directory.now placed.old (slice_get groups.now index)) }
+{
+    match groups.at(index) {
+        Some((name, group)) => place_group(directory, name, group, placed),
+        None => Ok(()),
+    }
 }
 
 fn place_group(

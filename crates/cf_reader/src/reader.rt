@@ -4,7 +4,7 @@ ghost use Rattle.cf_reader.specs.Faults.{fault};
 ghost use Rattle.cf_reader.specs.Letters.{after_line, ignored};
 ghost use Rattle.cf_reader.specs.Reads.{Asks, Gives, is_files_fault, is_failed};
 ghost use Rattle.cf_reader.specs.inner.Steps as spec;
-ghost use Rattle.cf_reader.specs.inner.Steps.{Seeks, Steps, fault_at, fault_of_other};
+ghost use Rattle.cf_reader.specs.inner.Steps.{Goes, Seeks, Steps, fault_at, fault_of_other};
 
 use crate::fault::{CfFault, Fault, LineStop};
 use crate::logical::{Logical, logical_lines};
@@ -24,11 +24,25 @@ pub fn read<F: Files>(alloc: Global, text: &Text, files: &mut F) -> Result<Confi
     let lines = logical_lines(alloc, text.bytes())?;
     let mut state = State::new(alloc)?;
     for line in lines.items() {
-        if let Err(stop) = state.take(alloc, files, line) {
-            return Err(stopped(line.number, stop));
-        }
+        step(alloc, files, line, &mut state)?;
     }
     Ok(state.finish(alloc)?)
+}
+
+// Takes a line, or says at which one reading stops.
+fn step<F: Files>(
+    alloc: Global,
+    files: &mut F,
+    line: &Logical,
+    state: &mut State,
+) -> Result<(), CfFault>
+    ensures told { IfSome (F.seen files.old).map (λ map. Goes result line.now.number (fault map state.old line.now.text) (after_line map line.now state.old) state.new) }
+    ensures asks { Asks (F.seen files.old) (F.seen files.new) (is_failed result) }
+{
+    match state.take(alloc, files, line) {
+        Ok(()) => Ok(()),
+        Err(stop) => Err(stopped(line.number, stop)),
+    }
 }
 
 fn stopped(line: u32, stop: LineStop) -> CfFault

@@ -9,7 +9,9 @@ use Rattle.cf_reader.specs.declared.fault.Fault.TheVariants.{UnknownLine}
 use Rattle.cf_reader.specs.declared.fault.LineStop.{LineStop}
 use Rattle.cf_reader.specs.declared.fault.LineStop.TheVariants as stops
 use Rattle.cf_reader.specs.declared.state.State.{State}
+use Rattle.mail_base.specs.declared.mailer.Group.{Group}
 use Rattle.cf_reader.specs.ClassLines.{words_of_file}
+use Rattle.cf_reader.specs.Configuration.{with_group}
 
 -- the files have this text, unless they failed or memory ran out
 abbrev pub IsRead : Result (Option (List ℕ)) LineStop → Option (List ℕ) → Type 0
@@ -49,3 +51,15 @@ abbrev pub fault_at : ℕ → LineStop → CfFault
 fault_at number (stops.Refused fault) = whole.Refused number fault
 fault_at number stops.FilesFault = whole.FilesFault
 fault_at number stops.NoMemory = whole.NoMemory
+
+-- the same, with the line's number
+abbrev pub Goes : Result (Unit {0}) CfFault → ℕ → Option Fault → State → State → Type 0
+Goes (Ok _) number fault after new = (fault ≡ None) × (new ≡ after)
+Goes (Err (whole.Refused line found)) number fault after new = (line ≡ number) × (fault ≡ Some found)
+Goes (Err whole.FilesFault) number fault after new = Unit {0}
+Goes (Err whole.NoMemory) number fault after new = Unit {0}
+
+-- the groups with one more, if there is one
+abbrev pub with_group_at : List ℕ → List (List ℕ × Group) → Option (List ℕ × Group) → List (List ℕ × Group)
+with_group_at directory groups None = groups
+with_group_at directory groups (Some named) = with_group directory groups named

@@ -1,0 +1,79 @@
+-- Reading line by line.
+use Rattle.std.proofs.Common.{◌≡◌, ◌∙◌, ℕ, ◌+◌, ◌<◌, ◌≤◌, false, Bool, List, ◌∷◌, length, drop, get_or, Some, None, Ok, Err, refl, sym, ap, subst, arith}
+use Rattle.std.specs.Prelude.{Option, Result, IfSome}
+use Rattle.std.proofs.lemmas.List.{drop_more}
+use Rattle.mail_base.specs.Histories.{Rose}
+use Rattle.mail_base.specs.declared.config.Config.{Config}
+use Rattle.mail_edge.specs.Seen.{FileMap, FilesSeen}
+use Rattle.cf_reader.specs.declared.fault.CfFault.{CfFault}
+use Rattle.cf_reader.specs.declared.fault.CfFault.TheVariants as whole
+use Rattle.cf_reader.specs.declared.logical.Logical.{Logical}
+use Rattle.cf_reader.specs.declared.state.State.{State}
+use Rattle.cf_reader.specs.Configuration.{read_lines, refused_or}
+use Rattle.cf_reader.specs.Faults.{fault}
+use Rattle.cf_reader.specs.Letters.{after_line}
+use Rattle.cf_reader.specs.Reads.{Asks, Gives}
+use Rattle.cf_reader.specs.inner.Steps.{Goes}
+
+-- ---- told files
+
+pub if_all : {P : FileMap → Type 0} (files : Option FileMap) → ((map : FileMap) → P map) → IfSome files P
+if_all None h = tt
+if_all (Some map) h = h map
+
+if_both : {P Q R : FileMap → Type 0} (files : Option FileMap) → ((map : FileMap) → P map → Q map → R map) → IfSome files P → IfSome files Q → IfSome files R
+if_both None f h k = tt
+if_both (Some map) f h k = f map h k
+
+-- ---- asking files twice
+
+pub asks_none : (files : FilesSeen) → Asks files files false
+asks_none files = record { fixed = refl; later = omega arith; rose = λ f. absurd (cc f); calm = λ f. refl }
+
+pub asks_join : (a b c : FilesSeen) (failed : Bool) → Asks a b false → Asks b c failed → Asks a c failed
+asks_join a b c failed ab bc =
+    let same : b.faults ≡ a.faults = ab.calm refl in record {
+      fixed = bc.fixed ∙ ab.fixed;
+      later = omega (arith, ab.later, bc.later);
+      rose = λ f. subst (λ (n : ℕ). Rose n c.faults) same (bc.rose f);
+      calm = λ f. bc.calm f ∙ same;
+    }
+
+-- ---- one line
+
+next_line : (lines : List Logical) (k : ℕ) (line : Logical) → k < length lines → line ≡ get_or lines k line → drop k lines ≡ line ∷ drop (k + 1) lines
+next_line lines k line lt here = drop_more lines k line lt ∙ ap (λ (l : Logical). l ∷ drop (k + 1) lines) (sym here)
+
+line_stops : (map : FileMap) (state new : State) (line : Logical) (lines : List Logical) (e : CfFault) (meant : Result Config CfFault) → Goes (Err e) line.number (fault map state line.text) (after_line map line state) new
+    → read_lines map state (line ∷ lines) ≡ meant → Gives (Err e) meant
+line_stops map state new line lines (whole.Refused number found) meant goes rest =
+    sym rest ∙ ap (λ o. refused_or o line.number (read_lines map (after_line map line state) lines)) goes.1 ∙ ap (λ (n : ℕ). Err (whole.Refused n found)) (sym goes.0)
+line_stops map state new line lines whole.FilesFault meant goes rest = tt
+line_stops map state new line lines whole.NoMemory meant goes rest = tt
+
+line_goes_on : (map : FileMap) (state new : State) (line : Logical) (lines : List Logical) (meant : Result Config CfFault) → Goes (Ok tt) line.number (fault map state line.text) (after_line map line state) new
+    → read_lines map state (line ∷ lines) ≡ meant → read_lines map new lines ≡ meant
+line_goes_on map state new line lines meant goes rest =
+    ap (λ (s : State). read_lines map s lines) goes.1
+    ∙ sym (ap (λ o. refused_or o line.number (read_lines map (after_line map line state) lines)) goes.0)
+    ∙ rest
+
+-- ---- the lines that are left
+
+pub read_stops : (first now : FilesSeen) (state new : State) (lines : List Logical) (k : ℕ) (line : Logical) (e : CfFault) (meant : FileMap → Result Config CfFault) → k < length lines → line ≡ get_or lines k line → Asks first now false
+    → IfSome first.map (λ map. read_lines map state (drop k lines) ≡ meant map) → IfSome now.map (λ map. Goes (Err e) line.number (fault map state line.text) (after_line map line state) new)
+    → IfSome first.map (λ map. Gives (Err e) (meant map))
+read_stops first now state new lines k line e meant lt here asks rest goes =
+    if_both first.map
+    (λ map r g. line_stops map state new line (drop (k + 1) lines) e (meant map) g (ap (read_lines map state) (sym (next_line lines k line lt here)) ∙ r))
+    rest
+    (subst (λ (m : Option FileMap). IfSome m (λ map. Goes (Err e) line.number (fault map state line.text) (after_line map line state) new)) asks.fixed goes)
+
+pub read_on : (first now : FilesSeen) (state new : State) (lines : List Logical) (k : ℕ) (line : Logical) (meant : FileMap → Result Config CfFault) → k < length lines → line ≡ get_or lines k line → Asks first now false
+    → IfSome first.map (λ map. read_lines map state (drop k lines) ≡ meant map) → IfSome now.map (λ map. Goes (Ok tt) line.number (fault map state line.text) (after_line map line state) new)
+    → IfSome first.map (λ map. read_lines map new (drop (k + 1) lines) ≡ meant map)
+read_on first now state new lines k line meant lt here asks rest goes =
+    if_both first.map
+    (λ map r g. line_goes_on map state new line (drop (k + 1) lines) (meant map) g (ap (read_lines map state) (sym (next_line lines k line lt here)) ∙ r))
+    rest
+    (subst (λ (m : Option FileMap). IfSome m (λ map. Goes (Ok tt) line.number (fault map state line.text) (after_line map line state) new)) asks.fixed goes)
