@@ -1,12 +1,12 @@
 -- Constructs that begin with a dollar sign: what is read of one is one, and one is read.
 use Rattle.std.proofs.Common.{◌≡◌, ℕ, ◌==◌, Bool, true, false, not, ◌&&◌, ◌||◌, cond, List, [], ◌∷◌, ◌++◌, Option, Some, None, Ok, Err, refl, sym, ◌∙◌, ap, subst}
 use Rattle.std.specs.List.{list_any}
-use Rattle.std.proofs.lemmas.Bool.{cond-true, cond-false, and_parts, and_from, and_left, and_right, or_parts, not-true, not_from_false, eqb-true, both_ways, false≢true}
+use Rattle.std.proofs.lemmas.Bool.{cond_both, cond-true, cond-false, and_parts, and_from, and_left, and_right, or_parts, not-true, not_from_false, eqb-true, both_ways, false≢true}
 use Rattle.std.proofs.lemmas.List.{append_assoc}
 use Rattle.addr_tokens.specs.declared.lexeme.Dollars.{Dollars}
 use Rattle.addr_tokens.specs.declared.lexeme.Dollars.TheVariants.{Bytes, Typed, Side}
 use Rattle.addr_tokens.specs.declared.fault.ScanFault.TheVariants.{BadDollar}
-use Rattle.addr_tokens.specs.Pieces.{Alphabet, Construct, Single, Letter, Braced, Dollar, after_dollar, is_construct, is_construct_in, is_naming, is_name, is_in_braces, is_side, means, is_dollar, is_doubled, is_listed}
+use Rattle.addr_tokens.specs.Pieces.{Alphabet, Construct, Single, Letter, Braced, Dollar, after_dollar, is_construct, is_construct_in, is_naming, is_name, is_class_name, is_letter, is_in_braces, is_side, means, is_dollar, is_doubled, is_listed}
 use Rattle.addr_tokens.specs.Reader.{First, first_dollar, first_named, first_braced, in_braces, with_byte, begins_dollar, is_pair}
 
 -- what holds of each byte that has a name holds of this one
@@ -94,15 +94,15 @@ module _ (alphabet : Alphabet) where
     is = side_construct alphabet.dollars operator (Braced b parts.0) side ∙ and_from _ _ naming is.1;
   })
 
-  letter_reads : (place b c : ℕ) (cs : List ℕ) (named : Bool) → is_name c ≡ named → is_side alphabet.dollars ≡ true → is_naming b ≡ true → DollarReads place (b ∷ c ∷ cs) (cond named (Ok (Dollar (Letter b c), cs)) (Err (BadDollar place)))
+  letter_reads : (place b c : ℕ) (cs : List ℕ) (named : Bool) → is_letter b c ≡ named → is_side alphabet.dollars ≡ true → is_naming b ≡ true → DollarReads place (b ∷ c ∷ cs) (cond named (Ok (Dollar (Letter b c), cs)) (Err (BadDollar place)))
   letter_reads place b c cs true name side naming = reads (Letter b c) cs (record { whole = refl; is = side_construct alphabet.dollars operator (Letter b c) side ∙ and_from _ _ naming name })
   letter_reads place b c cs false name side naming = refuses
 
   named_at : (place b c : ℕ) (cs : List ℕ) (brace : Bool) → (c == 123) ≡ brace → is_side alphabet.dollars ≡ true → is_naming b ≡ true
-      → DollarReads place (b ∷ c ∷ cs) (cond brace (first_braced place b (in_braces cs)) (cond (is_name c) (Ok (Dollar (Letter b c), cs)) (Err (BadDollar place))))
+      → DollarReads place (b ∷ c ∷ cs) (cond brace (first_braced place b (in_braces cs)) (cond (is_letter b c) (Ok (Dollar (Letter b c), cs)) (Err (BadDollar place))))
   named_at place b c cs true e side naming =
       subst (λ x. DollarReads place (b ∷ x ∷ cs) (first_braced place b (in_braces cs))) (sym (eqb-true c 123 e)) (braced_reads place b cs (in_braces cs) side naming (braces_read cs))
-  named_at place b c cs false e side naming = letter_reads place b c cs (is_name c) refl side naming
+  named_at place b c cs false e side naming = letter_reads place b c cs (is_letter b c) refl side naming
 
   named_reads : (place b : ℕ) (bs : List ℕ) → is_side alphabet.dollars ≡ true → is_naming b ≡ true → DollarReads place (b ∷ bs) (first_named place b bs)
   named_reads place b [] side naming = refuses
@@ -163,16 +163,18 @@ module _ (alphabet : Alphabet) where
   naming_first : (place b : ℕ) (rest : List ℕ) → is_side alphabet.dollars ≡ true → is_naming b ≡ true → first_dollar alphabet place (b ∷ rest) ≡ first_named place b rest
   naming_first place b rest side naming = cond-false _ _ _ (side_construct alphabet.dollars operator (Single b) side ∙ naming_single operator b naming) ∙ cond-true _ _ _ naming
 
-  letter_brace : (c : ℕ) (brace : Bool) → (c == 123) ≡ brace → is_name c ≡ true → brace ≡ false
-  letter_brace c true e is = absurd (false≢true (subst (λ x. is_name x ≡ true) (eqb-true c 123 e) is))
-  letter_brace c false e is = refl
+  letter_brace : (b c : ℕ) (brace : Bool) → (c == 123) ≡ brace → is_letter b c ≡ true → brace ≡ false
+  letter_brace b c true e is =
+      let none : is_letter b 123 ≡ false = cond_both (b == 38) (is_name 123) (is_class_name 123) (λ x. x ≡ false) (λ k. refl) (λ k. refl) in
+      absurd (false≢true (sym none ∙ subst (λ x. is_letter b x ≡ true) (eqb-true c 123 e) is))
+  letter_brace b c false e is = refl
 
   pub construct_first : (place : ℕ) (construct : Construct) (rest : List ℕ) → is_construct alphabet construct ≡ true → first_dollar alphabet place (after_dollar construct ++ rest) ≡ Ok (Dollar construct, rest)
   construct_first place (Single b) rest is = cond-true _ _ _ is
   construct_first place (Letter b letter) rest is =
       let side = named_side alphabet.dollars operator (Letter b letter) (λ x e. cc e) is in
-      let p = and_parts (is_naming b) (is_name letter) (sym (side_construct alphabet.dollars operator (Letter b letter) side) ∙ is) in
-      naming_first place b (letter ∷ rest) side p.0 ∙ cond-false _ _ _ (letter_brace letter (letter == 123) refl p.1) ∙ cond-true _ _ _ p.1
+      let p = and_parts (is_naming b) (is_letter b letter) (sym (side_construct alphabet.dollars operator (Letter b letter) side) ∙ is) in
+      naming_first place b (letter ∷ rest) side p.0 ∙ cond-false _ _ _ (letter_brace b letter (letter == 123) refl p.1) ∙ cond-true _ _ _ p.1
   construct_first place (Braced b name) rest is =
       let side = named_side alphabet.dollars operator (Braced b name) (λ x e. cc e) is in
       let p = and_parts (is_naming b) (is_in_braces name) (sym (side_construct alphabet.dollars operator (Braced b name) side) ∙ is) in

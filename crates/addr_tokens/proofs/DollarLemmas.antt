@@ -8,7 +8,7 @@ use Rattle.addr_tokens.specs.declared.fault.ScanFault.TheVariants.{BadDollar}
 use Rattle.addr_tokens.specs.declared.construct.Construct as form
 use Rattle.addr_tokens.specs.declared.construct.Construct.TheVariants as construct
 use Rattle.addr_tokens.specs.declared.front.Front.TheVariants as front
-use Rattle.addr_tokens.specs.Pieces.{Alphabet, Single, Letter, Braced, Dollar, Operator, is_construct, is_naming, is_name, is_listed, is_doubled, means, undoubled}
+use Rattle.addr_tokens.specs.Pieces.{Alphabet, Single, Letter, Braced, Dollar, Operator, is_construct, is_naming, is_letter, is_listed, is_doubled, means, undoubled}
 use Rattle.addr_tokens.specs.Reader.{first_of, first_word, past_word, begins_dollar, first_at_dollar, first_dollar, first_named, first_braced, in_braces, with_byte}
 use Rattle.addr_tokens.specs.Views.{construct_read, braces_read, construct_in, size_behind, front_read}
 
@@ -41,10 +41,10 @@ module _ (place : ℕ) (text : List ℕ) (two : 1 < length text) (b : ℕ) where
   pub brace_is : get_or text 1 0 ≡ 123 → first_named place b (drop 1 text) ≡ first_braced place b (in_braces (drop 2 text))
   brace_is is = ap (first_named place b) next ∙ cond-true _ _ _ (eq-eqb _ _ is)
 
-  pub letter_is : (get_or text 1 0 ≡ 123 → ⊥) → is_name (get_or text 1 0) ≡ true → first_named place b (drop 1 text) ≡ Ok (Dollar (Letter b (get_or text 1 0)), drop 2 text)
+  pub letter_is : (get_or text 1 0 ≡ 123 → ⊥) → is_letter b (get_or text 1 0) ≡ true → first_named place b (drop 1 text) ≡ Ok (Dollar (Letter b (get_or text 1 0)), drop 2 text)
   letter_is other is = ap (first_named place b) next ∙ cond-false _ _ _ (ne_eqb _ _ other) ∙ cond-true _ _ _ is
 
-  pub nameless_is : (get_or text 1 0 ≡ 123 → ⊥) → is_name (get_or text 1 0) ≡ false → first_named place b (drop 1 text) ≡ Err (BadDollar place)
+  pub nameless_is : (get_or text 1 0 ≡ 123 → ⊥) → is_letter b (get_or text 1 0) ≡ false → first_named place b (drop 1 text) ≡ Err (BadDollar place)
   nameless_is other none = ap (first_named place b) next ∙ cond-false _ _ _ (ne_eqb _ _ other) ∙ cond-false _ _ _ none
 
 -- a name in braces that stand behind two bytes

@@ -58,9 +58,17 @@ is_naming b = list_any (λ s. s == b) (codes "=~&")
 abbrev pub is_sign : ℕ → Bool
 is_sign b = list_any (λ s. s == b) (codes "0123456789*+-@:#>[]()=~$&?|.{")
 
--- a name of one byte is neither white space nor such a sign
+-- a macro's name of one byte is neither white space nor such a sign
 abbrev pub is_name : ℕ → Bool
 is_name b = not (is_white b) && not (is_sign b)
+
+-- a class's name of one byte may be such a sign, but a dollar sign begins a construct, and an open brace a name in braces
+abbrev pub is_class_name : ℕ → Bool
+is_class_name b = not (is_white b) && not (b == 36 || b == 123)
+
+-- `$&` stands before a macro's name, `$=` and `$~` before a class's
+abbrev pub is_letter : ℕ → ℕ → Bool
+is_letter byte letter = if byte == 38 then is_name letter else is_class_name letter
 
 -- a name in braces is up to the first closing one
 abbrev pub is_in_braces : List ℕ → Bool
@@ -85,7 +93,7 @@ is_construct_in Typed operator (Single byte) = is_mark byte
 is_construct_in Typed operator (Letter byte letter) = false
 is_construct_in Typed operator (Braced byte name) = false
 is_construct_in Side operator (Single byte) = is_bare byte || byte == 36 && operator
-is_construct_in Side operator (Letter byte letter) = is_naming byte && is_name letter
+is_construct_in Side operator (Letter byte letter) = is_naming byte && is_letter byte letter
 is_construct_in Side operator (Braced byte name) = is_naming byte && is_in_braces name
 
 -- a doubled dollar sign is a construct where it is an operator, and else it stands in a word

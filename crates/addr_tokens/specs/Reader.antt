@@ -8,7 +8,7 @@ use Rattle.std.specs.List.{flat_map}
 use Rattle.addr_tokens.specs.declared.fault.ScanFault.{ScanFault}
 use Rattle.addr_tokens.specs.declared.fault.ScanFault.TheVariants.{Unbalanced, BadQuote, BadDollar, Long}
 use Rattle.mail_base.specs.Whites.{is_white}
-use Rattle.addr_tokens.specs.Pieces.{Alphabet, Single, Letter, Braced, Piece, White, Comment, Quotation, Operator, Dollar, Run, bytes_of, given_by, is_control, is_special, is_listed, is_word_byte, means, is_dollar, is_doubled, is_construct, is_naming, is_name}
+use Rattle.addr_tokens.specs.Pieces.{Alphabet, Single, Letter, Braced, Piece, White, Comment, Quotation, Operator, Dollar, Run, bytes_of, given_by, is_control, is_special, is_listed, is_word_byte, means, is_dollar, is_doubled, is_construct, is_naming, is_letter}
 use Rattle.addr_tokens.specs.Scans.{most_tokens}
 use Rattle.addr_tokens.specs.Joins.{token_bytes, is_string, blank_bytes}
 
@@ -90,7 +90,7 @@ first_braced place b (Some parts) = Ok (Dollar (Braced b parts.0), parts.1)
 -- the name behind a dollar sign with this byte
 abbrev pub first_named : ℕ → ℕ → List ℕ → First
 first_named place b [] = Err (BadDollar place)
-first_named place b (c ∷ cs) = if c == 123 then first_braced place b (in_braces cs) else if is_name c then Ok (Dollar (Letter b c), cs) else Err (BadDollar place)
+first_named place b (c ∷ cs) = if c == 123 then first_braced place b (in_braces cs) else if is_letter b c then Ok (Dollar (Letter b c), cs) else Err (BadDollar place)
 
 -- what is behind a dollar sign that begins a construct, if any does
 abbrev pub first_dollar : Alphabet → ℕ → List ℕ → First

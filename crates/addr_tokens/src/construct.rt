@@ -66,7 +66,7 @@ fn named_of(text: &[u8], place: u64) -> Result<Construct, ScanFault>
     if letter == b'{' {
         return braced_of(text, place);
     }
-    if is_name(letter) {
+    if is_letter(text[0], letter) {
         return Ok(Construct::Letter(text[0], letter));
     }
     Err(ScanFault::BadDollar(place))
@@ -105,7 +105,25 @@ fn is_naming(byte: u8) -> bool
     b"=~&".contains(&byte)
 }
 
-/// A name of one byte.
+/// A name of one byte behind this one: that of a macro or of a class.
+fn is_letter(byte: u8, letter: u8) -> bool
+    ensures { result ≡ spec.is_letter byte letter }
+{
+    if byte == b'&' {
+        is_name(letter)
+    } else {
+        is_class_name(letter)
+    }
+}
+
+/// A class's name of one byte.
+fn is_class_name(byte: u8) -> bool
+    ensures { result ≡ spec.is_class_name byte }
+{
+    !is_white(byte) && byte != b'$' && byte != b'{'
+}
+
+/// A macro's name of one byte.
 fn is_name(byte: u8) -> bool
     ensures { result ≡ spec.is_name byte }
 {

@@ -121,7 +121,7 @@ static TYPED: [Row; 20] = [
 ];
 
 /// Sides of rules, by the operators `.:@[]`.
-static SIDES: [Row; 47] = [
+static SIDES: [Row; 51] = [
     (b"$-:$+", b"D:- O:: D:+"),
     (
         b"$* < @ $=w . $~{x} > $&m",
@@ -157,6 +157,8 @@ static SIDES: [Row; 47] = [
     (b"$~wx", b"N:~w W:x"),
     (b"$=w$&m", b"N:=w N:&m"),
     (b"$={a}}", b"N:=a W:}"),
+    (b"< $~[ : $+ >", b"O:< N:~[ O:: D:+ O:>"),
+    (b"$=1$~=a", b"N:=1 N:~= W:a"),
     (b"<a", b"O:< W:a"),
     (b"$", b"BadDollar 0"),
     (b"a b$", b"BadDollar 3"),
@@ -168,6 +170,8 @@ static SIDES: [Row; 47] = [
     (b"$~ w", b"BadDollar 0"),
     (b"a$={w", b"BadDollar 1"),
     (b"$&$1", b"BadDollar 0"),
+    (b"$&[", b"BadDollar 0"),
+    (b"$=$*", b"BadDollar 0"),
     (b"\\$$", b"BadDollar 2"),
     (b"$1)", b"Unbalanced 2"),
     (b"$1 ($(", b"Unbalanced 3"),
