@@ -76,10 +76,8 @@ abbrev pub is_valid : Setting → List ℕ → Bool
 is_valid (Number option) value = is_some (number_in most_option value)
 is_valid (Time option) value = is_some (time_in (unit_of option) value)
 is_valid (Word QueueDirectory) value = not (list_any (λ b. b == 42) value)
-is_valid (Word HostsFile) value = true
-is_valid (Word HomesFile) value = true
-is_valid (Word OperatorChars) value = true
 is_valid (Word DoubleBounceAddress) value = not (length value == 0)
+is_valid (Word option) value = true
 is_valid AliasFile value = true
 is_valid DaemonPort value = is_some (daemon_port value)
 
@@ -115,42 +113,42 @@ with_setting DaemonPort value options = record options { daemon_port = unwrap_or
 
 -- ---- lines
 
--- DaemonPortOptions counts once
-abbrev pub once : Bool → Option Setting → Option Setting
-once listens None = None
-once listens (Some (Number option)) = Some (Number option)
-once listens (Some (Time option)) = Some (Time option)
-once listens (Some (Word option)) = Some (Word option)
-once listens (Some AliasFile) = Some AliasFile
-once listens (Some DaemonPort) = if listens then None else Some DaemonPort
-
--- the option that a line sets, or none where the line is ignored with a warning: a space (32) stands first, then a name, and behind `=` (61)
--- a value; it is told whether DaemonPortOptions was set before
-abbrev pub setting_of : Bool → List ℕ → Option Setting
-setting_of listens [] = None
-setting_of listens (b ∷ text) = if b == 32 then once listens (setting_named (stripped (split_at 61 text).0)) else None
+-- the option that a line names: a space (32) stands first, then a name, and behind `=` (61) a value, which may be absent
+abbrev pub option_named : List ℕ → Option Setting
+option_named [] = None
+option_named (b ∷ text) = if b == 32 then setting_named (stripped (split_at 61 text).0) else None
 
 abbrev pub value_of : List ℕ → List ℕ
 value_of text = stripped (split_at 61 text).1
 
-abbrev pub is_operators : Setting → Bool
-is_operators (Number option) = false
-is_operators (Time option) = false
-is_operators (Word QueueDirectory) = false
-is_operators (Word HostsFile) = false
-is_operators (Word HomesFile) = false
-is_operators (Word OperatorChars) = true
-is_operators (Word DoubleBounceAddress) = false
-is_operators AliasFile = false
-is_operators DaemonPort = false
+-- DaemonPortOptions is set once
+abbrev pub once : Bool → Option Setting → Option Setting
+once listens (Some DaemonPort) = if listens then None else Some DaemonPort
+once listens setting = setting
 
-abbrev pub fault_of_setting : Bool → List ℕ → Option Setting → Option Fault
-fault_of_setting late value None = None
-fault_of_setting late value (Some setting) = first_fault ((BadOption, not (is_valid setting value)) ∷ (OperatorsLate, late && is_operators setting) ∷ [])
+-- the option that a line sets, or none where the line is ignored with a warning; it is told whether DaemonPortOptions was set before
+abbrev pub setting_of : Bool → List ℕ → Option Setting
+setting_of listens text = once listens (option_named text)
 
--- the first fault of an O line, where it is told whether an S or R line came before and whether DaemonPortOptions was set
-abbrev pub fault_of_option : Bool → Bool → List ℕ → Option Fault
-fault_of_option late listens text = fault_of_setting late (value_of text) (setting_of listens text)
+abbrev pub takes_badly : Option Setting → List ℕ → Bool
+takes_badly None value = false
+takes_badly (Some setting) value = not (is_valid setting value)
+
+-- the value isn't in the grammar of the option that is named
+abbrev pub is_bad_option : List ℕ → Bool
+is_bad_option text = takes_badly (option_named text) (value_of text)
+
+abbrev pub is_operators : Option Setting → Bool
+is_operators (Some (Word OperatorChars)) = true
+is_operators setting = false
+
+-- OperatorChars is named, and an S or R line came before
+abbrev pub is_late : Bool → List ℕ → Bool
+is_late late text = late && is_operators (option_named text)
+
+-- the first fault of an O line, where it is told whether an S or R line came before
+abbrev pub fault_of_option : Bool → List ℕ → Option Fault
+fault_of_option late text = first_fault ((BadOption, is_bad_option text) ∷ (OperatorsLate, is_late late text) ∷ [])
 
 abbrev pub options_with : Option Setting → List ℕ → Options → Options
 options_with None value options = options
@@ -164,9 +162,10 @@ example :
     (options_after false (codes " Timeout.QueueReturn = 1d") default_options ≡ record default_options { queue_return = 86400 })
     × (options_after false (codes " AliasFile=dbm:/etc/a, /etc/b:c") default_options ≡ record default_options { alias_files = codes "/etc/a" ∷ codes "/etc/b:c" ∷ [] })
     × (options_after false (codes " DaemonPortOptions=Name=MTA, Port=submission, Addr=127.0.0.1") default_options ≡ record default_options { daemon_port = record { port = 587; address = Some (codes "127.0.0.1") } })
-    × (fault_of_option false false (codes " MaxHopCount=x") ≡ Some BadOption)
-    × (fault_of_option true false (codes " OperatorChars=.") ≡ Some OperatorsLate)
+    × (fault_of_option false (codes " MaxHopCount=x") ≡ Some BadOption)
+    × (fault_of_option true (codes " OperatorChars=.") ≡ Some OperatorsLate)
+    × (fault_of_option false (codes " DaemonPortOptions=Port=x") ≡ Some BadOption)
     × (setting_of false (codes "QueueDirectory=/q") ≡ None)
-    × (setting_of true (codes " DaemonPortOptions=Port=x") ≡ None)
+    × (setting_of true (codes " DaemonPortOptions=Port=26") ≡ None)
 unfolding most_option rest_value
-example = (refl, refl, refl, refl, refl, refl, refl)
+example = (refl, refl, refl, refl, refl, refl, refl, refl)
