@@ -1,9 +1,10 @@
 //! Does one thing over much input, so that its time can be measured. The first word says what: `lines`, `tokens`,
-//! `control`, `maps`, `matches`, `rules`, `classes` or `spool`. The second says over what, as each module tells, and the
+//! `control`, `conf`, `maps`, `matches`, `rules`, `classes` or `spool`. The second says over what, as each module tells, and the
 //! third how many times it is done, once where it is left out. The scripts in `bench/` measure it.
 #![tactic(auto)]
 
 mod classes;
+mod conf;
 mod control;
 mod lines;
 mod maps;
@@ -31,6 +32,7 @@ fn main(rt: HostRuntime) -> Result<()> {
     let answer = match what.as_str() {
         "lines" => lines::answer(alloc, over.as_deref(), rounds)?,
         "tokens" => tokens::answer(alloc, over.as_deref(), rounds)?,
+        "conf" => conf::answer(&rt, over.as_deref(), rounds)?,
         "control" => control::answer(alloc, over.as_deref(), rounds)?,
         "classes" => classes::answer(alloc, over.as_deref(), rounds)?,
         "maps" => maps::answer(alloc, over.as_deref(), rounds)?,

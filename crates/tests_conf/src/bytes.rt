@@ -1,0 +1,41 @@
+// Lines of a megabyte.
+use crate::asking::answer;
+use mail_base::{NoMemory, Text};
+use std::alloc::Global;
+use std::test::Fail;
+
+/// How a line begins, the byte that goes on, what is asked, and the answer.
+static LONG: [(&[u8], u8, &str, &[u8]); 7] = [
+    (b"Ca ", b'x', "~a", b" 1048576"),
+    (b"# ", b'x', "W", b""),
+    (b"V", b'x', "W", b" 1"),
+    (b"Kt text -k1 -z", b'x', "K", b" host host - . 0 1 - -; t text -  1 1 120 -;"),
+    (b"HA", b'x', "H", b"line 1: BadHeader"),
+    (b"Ca ${", b'x', "=a", b"line 1: BadPattern"),
+    (b"R", b'.', "R0", b"line 1: NoTab"),
+];
+
+fn long_line(alloc: Global, front: &[u8], byte: u8) -> Result<Text, NoMemory> {
+    let mut line = Text::of(alloc, front)?;
+    for _ in 0..1_048_576u32 {
+        line.push(byte)?;
+    }
+    Ok(line)
+}
+
+fn wrong_line(alloc: Global) -> Result<Option<usize>, Fail> {
+    for (place, row) in LONG.iter().enumerate() {
+        let line = long_line(alloc, row.0, row.1)?;
+        let text = answer(alloc, line.bytes(), &[], row.2)?;
+        if text.bytes() != row.3 {
+            return Ok(Some(place));
+        }
+    }
+    Ok(None)
+}
+
+#[test]
+fn a_line_may_have_a_megabyte(rt: HostRuntime) -> Result<(), Fail> {
+    assert_eq!(rt; wrong_line(rt.alloc())?, None);
+    Ok(())
+}
