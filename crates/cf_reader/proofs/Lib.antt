@@ -11,3 +11,4 @@ mod SideExamples
 mod ValueLemmas
 mod FinishLemmas
 mod ReadingLemmas
+mod TakeLemmas

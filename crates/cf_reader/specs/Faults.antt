@@ -1,11 +1,10 @@
 -- The faults of a line, in the order in which they are tried (Sendmail Installation and Operation Guide, "The Whole Scoop on the Configuration File"; the names of the faults,
 -- their order and the limits are our own). Each row says exactly when its fault holds; the first that holds is the line's fault.
-use Rattle.std.specs.Prelude.{ℕ, Bool, true, false, not, ◌&&◌, ◌==◌, is_none, List, [], ◌∷◌, Option, Some, None, codes, if◌then◌else◌}
+use Rattle.std.specs.Prelude.{ℕ, Bool, true, false, not, ◌==◌, List, [], ◌∷◌, Option, codes, if◌then◌else◌}
 use Rattle.std.specs.List.{list_any}
 use Rattle.mail_edge.specs.Seen.{FileMap}
 use Rattle.cf_reader.specs.declared.fault.Fault.{Fault}
 use Rattle.cf_reader.specs.declared.fault.Fault.TheVariants.{UnknownLine, NoTab, BadPattern, TooManyMetas, BadReference, UnknownMailerField, NoPath, DuplicateGroup, BadOption, BadMap, BadHeader, OperatorsLate, NoSuchFile, NotYet}
-use Rattle.cf_reader.specs.declared.setting.Setting.{Setting}
 use Rattle.cf_reader.specs.declared.state.State.{State}
 use Rattle.cf_reader.specs.ClassLines.{is_bad_class, lacks_file}
 use Rattle.cf_reader.specs.Fields.{line_name, line_fields}
@@ -14,7 +13,7 @@ use Rattle.cf_reader.specs.HeaderLines.{is_bad_header}
 use Rattle.cf_reader.specs.Letters.{had_group}
 use Rattle.cf_reader.specs.MailerLines as mailer
 use Rattle.cf_reader.specs.MapLines.{is_bad_map}
-use Rattle.cf_reader.specs.OptionLines.{setting_of, value_of, is_valid, is_operators}
+use Rattle.cf_reader.specs.OptionLines.{is_bad_option, is_late}
 use Rattle.cf_reader.specs.PrecedenceLines.{is_bad_precedence}
 use Rattle.cf_reader.specs.Reads.{first_fault}
 use Rattle.cf_reader.specs.Rules.{Halves, halves_of, lacks_tab, is_bad_pattern, has_many_metas, refers_badly, is_not_yet}
@@ -44,22 +43,6 @@ sides state text = halves_of text state.config.macros state.config.options.opera
 abbrev pub had_name : State → List ℕ → Bool
 had_name state text = had_group (line_name text) state
 
--- an option is set whose value isn't in its grammar
-abbrev pub sets_badly : List ℕ → Option Setting → Bool
-sets_badly value None = false
-sets_badly value (Some setting) = not (is_valid setting value)
-
-abbrev pub is_bad_option : State → List ℕ → Bool
-is_bad_option state text = sets_badly (value_of text) (setting_of state.has_daemon text)
-
--- OperatorChars is set behind an S or R line
-abbrev pub sets_late : Bool → Option Setting → Bool
-sets_late late None = false
-sets_late late (Some setting) = late && is_operators setting
-
-abbrev pub is_late : State → List ℕ → Bool
-is_late state text = sets_late state.has_rules (setting_of state.has_daemon text)
-
 -- ---- the table
 
 -- each fault, and the letters (C 67, F 70, H 72, K 75, M 77, O 79, P 80, Q 81, R 82) with the condition under which a line of the letter has it
@@ -73,10 +56,10 @@ fault_table files state line =
     ∷ (UnknownMailerField, on ((77, λ text. list_any mailer.is_unknown (line_fields text)) ∷ []) line)
     ∷ (NoPath, on ((77, λ text. mailer.lacks_path (mailer.mailer_of text)) ∷ []) line)
     ∷ (DuplicateGroup, on ((81, had_name state) ∷ []) line)
-    ∷ (BadOption, on ((79, is_bad_option state) ∷ (77, λ text. list_any mailer.is_bad_field (line_fields text)) ∷ (81, λ text. list_any group.is_bad_field (line_fields text)) ∷ (80, is_bad_precedence) ∷ []) line)
+    ∷ (BadOption, on ((79, is_bad_option) ∷ (77, λ text. list_any mailer.is_bad_field (line_fields text)) ∷ (81, λ text. list_any group.is_bad_field (line_fields text)) ∷ (80, is_bad_precedence) ∷ []) line)
     ∷ (BadMap, on ((75, λ text. is_bad_map text state.maps) ∷ []) line)
     ∷ (BadHeader, on ((72, is_bad_header) ∷ []) line)
-    ∷ (OperatorsLate, on ((79, is_late state) ∷ []) line)
+    ∷ (OperatorsLate, on ((79, is_late state.has_rules) ∷ []) line)
     ∷ (NoSuchFile, on ((70, lacks_file files) ∷ []) line)
     ∷ (NotYet, on ((82, λ text. is_not_yet (sides state text)) ∷ []) line)
     ∷ []

@@ -132,7 +132,7 @@ impl State {
         number: u32,
         text: &[u8],
     ) -> Result<(), LineStop>
-        ensures { Steps result (fault_of_option self.old.has_rules self.old.has_daemon text.now) (spec.after_option number text.now self.old) self.new }
+        ensures { Steps result (fault_of_option self.old.has_rules text.now) (spec.after_option number text.now self.old) self.new }
     {
         let options = &mut self.config.options;
         match option_line(alloc, options, text, self.has_rules, self.has_daemon)? {
