@@ -12,3 +12,4 @@ mod ValueLemmas
 mod FinishLemmas
 mod ReadingLemmas
 mod TakeLemmas
+mod RunLemmas

@@ -1,5 +1,5 @@
 -- The rules that hold what isn't run yet: `$*`, `$+`, `$-`, `$1` to `$9` and the two prefixes are run (our own, and to be taken away once all is run).
-use Rattle.std.specs.Prelude.{Bool, true, false, ◌||◌}
+use Rattle.std.specs.Prelude.{Bool, true, false, ◌||◌, List}
 use Rattle.std.specs.List.{list_any}
 use Rattle.mail_base.specs.Metas.{is_sign}
 use Rattle.mail_base.specs.declared.rule.Item.{Item}
@@ -8,6 +8,7 @@ use Rattle.mail_base.specs.declared.rule.Piece.TheVariants.{Give, Cut}
 use Rattle.mail_base.specs.declared.rule.Step.{Step}
 use Rattle.mail_base.specs.declared.rule.Step.TheVariants.{Plain}
 use Rattle.mail_base.specs.declared.rule.Rule.{Rule}
+use Rattle.mail_base.specs.Rulesets.{Ruled}
 
 abbrev pub is_later_item : Item → Bool
 is_later_item Any = false
@@ -23,3 +24,7 @@ is_later_step _ = true
 
 abbrev pub is_later_rule : Rule → Bool
 is_later_rule rule = list_any is_later_item rule.left || list_any is_later_step rule.right.steps
+
+-- a ruleset of the book has such a rule
+abbrev pub holds_later : List Ruled → Bool
+holds_later book = list_any (λ set. list_any is_later_rule set.rules) book

@@ -56,6 +56,7 @@ impl State {
     ) -> Result<(), LineStop>
         ensures told { IfSome (F.seen files.old).map (λ map. Seeks result (fault_of_file map text.now) (spec.after_file map text.now self.old) self.new) }
         ensures asks { Asks (F.seen files.old) (F.seen files.new) (is_files_fault result) }
+        ensures config { self.new.config ≡ self.old.config }
     {
         let line = file_class(alloc, text, files)?;
         self.class_lines.push(line)?;
