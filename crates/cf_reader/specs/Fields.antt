@@ -11,7 +11,8 @@ use Rattle.cf_reader.specs.declared.fields.Stand.{Stand}
 abbrev pub outside : Stand
 outside = record { quoted = false; escaped = false }
 
--- where the byte behind this one stands: a backslash (92) escapes one byte, and a double quote (34) opens and closes
+-- where the byte behind this one stands: a backslash (92) escapes one byte, and a double quote
+-- (34) opens and closes
 abbrev pub behind : Stand → ℕ → Stand
 behind stand b =
     if stand.escaped then record { quoted = stand.quoted; escaped = false }
@@ -37,7 +38,8 @@ pieces_of text = kept (cut_from outside [] text)
 
 -- ---- what a value says
 
--- the byte that stands for this one behind a backslash: LF for n, CR for r, FF for f, BS for b, and each other for itself
+-- the byte that this one says behind a backslash: LF for n, CR for r, FF for f, BS for b, and
+-- itself for each other
 abbrev pub escape : ℕ → ℕ
 escape b = if b == 110 then 10 else if b == 114 then 13 else if b == 102 then 12 else if b == 98 then 8 else b
 

@@ -12,7 +12,7 @@ use Rattle.cf_reader.specs.Reads.{first_fault}
 use Rattle.cf_reader.specs.Cuts.{cut_at}
 use Rattle.cf_reader.specs.Words.{stripped, words_of}
 use Rattle.cf_reader.specs.Fields.{letter_of, line_name, line_fields}
-use Rattle.cf_reader.specs.Values.{number_in, most_number, number_of}
+use Rattle.cf_reader.specs.Values.{number_in, most_number, number_of, if_some}
 
 -- ---- fields
 
@@ -20,7 +20,8 @@ use Rattle.cf_reader.specs.Values.{number_in, most_number, number_of}
 abbrev pub ignored : ℕ → Option MailerField
 ignored letter = if list_any (λ other. letter == other) (codes "LCDNTUWm/") then Some Ignored else None
 
--- the field with this letter: P (80), F (70), S (83), R (82), A (65), E (69), M (77), Q (81) or r (114), or one that is ignored
+-- the field with this letter: P (80), F (70), S (83), R (82), A (65), E (69), M (77), Q (81) or
+-- r (114), or one that is ignored
 abbrev pub mailer_field : ℕ → Option MailerField
 mailer_field letter =
     if letter == 80 then Some Path
@@ -65,16 +66,12 @@ first_mailer name = record {
   batch = 100;
 }
 
--- the text, if it isn't empty
-abbrev pub if_some : List ℕ → Option (List ℕ)
-if_some [] = None
-if_some (b ∷ text) = Some (b ∷ text)
-
 abbrev pub sets_by : List ℕ → Option (List ℕ × List ℕ) → Option (List ℕ) × Option (List ℕ)
 sets_by value None = (if_some (stripped value), if_some (stripped value))
 sets_by value (Some parts) = (if_some (stripped parts.0), if_some (stripped parts.1))
 
--- the rulesets before and behind a slash (47), for the envelope and for headers; one without a slash is both
+-- the rulesets before and behind a slash (47), for the envelope and for headers; one without a
+-- slash is both
 abbrev pub sets_of : List ℕ → Option (List ℕ) × Option (List ℕ)
 sets_of value = sets_by value (cut_at 47 value)
 

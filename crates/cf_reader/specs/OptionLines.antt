@@ -20,7 +20,7 @@ use Rattle.cf_reader.specs.Reads.{first_fault}
 use Rattle.cf_reader.specs.Cuts.{cut_at}
 use Rattle.cf_reader.specs.Words.{stripped}
 use Rattle.cf_reader.specs.Fields.{split_at, pieces_of, plain, fields_of, letter_of}
-use Rattle.cf_reader.specs.Values.{number_in, time_in, most_option}
+use Rattle.cf_reader.specs.Values.{number_in, time_in, most_option, if_some}
 use Rattle.cf_reader.specs.Settings.{setting_named, unit_of}
 
 -- ---- DaemonPortOptions
@@ -33,16 +33,11 @@ port_in value = if bytes_eq value (codes "smtp") then Some 25 else if bytes_eq v
 abbrev pub is_good_field : Field → Bool
 is_good_field field = not (letter_of field == 80) || is_some (port_in field.value)
 
--- the address, or none where it is empty
-abbrev pub address_of : List ℕ → Option (List ℕ)
-address_of [] = None
-address_of (b ∷ value) = Some (b ∷ value)
-
 -- a place with a field more, which is Port (80), Addr (65), or ignored
 abbrev pub with_field : Port → Field → Port
 with_field port field =
     if letter_of field == 80 then record { port = unwrap_or (port_in field.value) 25; address = port.address }
-    else if letter_of field == 65 then record { port = port.port; address = address_of field.value }
+    else if letter_of field == 65 then record { port = port.port; address = if_some field.value }
     else port
 
 abbrev pub first_port : Port
@@ -103,7 +98,8 @@ with_word HomesFile value options = record options { homes_file = Some value }
 with_word OperatorChars value options = record options { operator_chars = value }
 with_word DoubleBounceAddress value options = record options { double_bounce_address = value }
 
--- the options with an option set to a value in its grammar; alias files are added behind those that are there
+-- the options with an option set to a value in its grammar; alias files are added behind those
+-- that are there
 abbrev pub with_setting : Setting → List ℕ → Options → Options
 with_setting (Number option) value options = with_number option (unwrap_or (number_in most_option value) 0) options
 with_setting (Time option) value options = with_time option (unwrap_or (time_in (unit_of option) value) 0) options
@@ -113,7 +109,8 @@ with_setting DaemonPort value options = record options { daemon_port = unwrap_or
 
 -- ---- lines
 
--- the option that a line names: a space (32) stands first, then a name, and behind `=` (61) a value, which may be absent
+-- the option that a line names: a space (32) stands first, then a name, and behind `=` (61) a
+-- value, which may be absent
 abbrev pub option_named : List ℕ → Option Setting
 option_named [] = None
 option_named (b ∷ text) = if b == 32 then setting_named (stripped (split_at 61 text).0) else None
@@ -126,7 +123,8 @@ abbrev pub once : Bool → Option Setting → Option Setting
 once listens (Some DaemonPort) = if listens then None else Some DaemonPort
 once listens setting = setting
 
--- the option that a line sets, or none where the line is ignored with a warning; it is told whether DaemonPortOptions was set before
+-- the option that a line sets, or none where the line is ignored with a warning; it is told
+-- whether DaemonPortOptions was set before
 abbrev pub setting_of : Bool → List ℕ → Option Setting
 setting_of listens text = once listens (option_named text)
 

@@ -1,5 +1,5 @@
 -- Numbers and times in lines (Sendmail Installation and Operation Guide, "O: Set Option"; the greatest ones are our own).
-use Rattle.std.specs.Prelude.{◌≡◌, ℕ, ◌-◌, ◌^◌, nat_le, if◌then◌else◌, List, Option, None, Some, unwrap_or, codes, refl}
+use Rattle.std.specs.Prelude.{◌≡◌, ℕ, ◌-◌, ◌^◌, nat_le, if◌then◌else◌, List, [], ◌∷◌, Option, None, Some, unwrap_or, codes, refl}
 use Rattle.cf_values.specs.Numbers.{number_value}
 use Rattle.cf_values.specs.Times.{time_value}
 
@@ -11,7 +11,8 @@ at_most most (Some n) = if nat_le n most then Some n else None
 abbrev pub number_in : ℕ → List ℕ → Option ℕ
 number_in most text = at_most most (number_value text)
 
--- the seconds that a text is, where a last number without a letter has this unit, if they are at most 2^60
+-- the seconds that a text is, where a last number without a letter has this unit, if they are at
+-- most 2^60
 abbrev pub time_in : ℕ → List ℕ → Option ℕ
 time_in unit text = at_most (2 ^ 60) (time_value unit text)
 
@@ -22,6 +23,11 @@ most_option = 999_999_999
 -- the greatest number of an M or a Q line: what 64 bits hold
 unfoldable pub most_number : ℕ
 most_number = 2 ^ 64 - 1
+
+-- a value, if it isn't empty
+abbrev pub if_some : List ℕ → Option (List ℕ)
+if_some [] = None
+if_some (b ∷ value) = Some (b ∷ value)
 
 -- the number of a field's value, or 0
 abbrev pub number_of : List ℕ → ℕ

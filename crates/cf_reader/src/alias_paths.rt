@@ -1,4 +1,4 @@
-ghost use Rattle.std.specs.Prelude.{◌≡◌, ◌++◌, ℕ, List, IfOk, OnOk, OnErr, map};
+ghost use Rattle.std.specs.Prelude.{◌≡◌, ◌++◌, IfOk, OnOk, OnErr, map};
 ghost use Rattle.cf_reader.specs.OptionLines as spec;
 ghost use Rattle.cf_reader.specs.inner.Additions.{HasFront};
 

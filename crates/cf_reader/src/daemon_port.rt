@@ -1,11 +1,11 @@
-ghost use Rattle.std.specs.Prelude.{◌≡◌, IfOk, OnOk, OnErr, fold};
+ghost use Rattle.std.specs.Prelude.{◌≡◌, IfOk, OnOk, fold};
 ghost use Rattle.std.specs.List.{list_all};
 ghost use Rattle.cf_reader.specs.Values.{number_in};
 ghost use Rattle.cf_reader.specs.OptionLines as spec;
 
 use crate::fields::{Field, fields};
-use crate::values::number_in;
-use mail_base::{DaemonPort, NoMemory, Text, TryCopy};
+use crate::values::{if_some, number_in};
+use mail_base::{DaemonPort, NoMemory, Text};
 use std::alloc::Global;
 
 /// Where the daemon listens by the fields of a value, or `None` where a Port has no port.
@@ -16,7 +16,7 @@ pub(crate) fn daemon_port(alloc: Global, value: &Text) -> Result<Option<DaemonPo
     if !are_good(fields.items()) {
         return Ok(None);
     }
-    let port = port_of(fields.items())?;
+    let port = port_of(alloc, fields.items())?;
     Ok(Some(port))
 }
 
@@ -54,7 +54,7 @@ fn numbered_port(value: &Text) -> Option<u16>
     }
 }
 
-fn port_of(fields: &[Field]) -> Result<DaemonPort, NoMemory>
+fn port_of(alloc: Global, fields: &[Field]) -> Result<DaemonPort, NoMemory>
     ensures { IfOk result (λ port. port ≡ fold spec.with_field spec.first_port fields.now) }
 {
     let mut port = DaemonPort {
@@ -62,28 +62,18 @@ fn port_of(fields: &[Field]) -> Result<DaemonPort, NoMemory>
         address: None,
     };
     for field in fields {
-        set_field(&mut port, field)?;
+        set_field(alloc, &mut port, field)?;
     }
     Ok(port)
 }
 
-fn set_field(port: &mut DaemonPort, field: &Field) -> Result<(), NoMemory>
+fn set_field(alloc: Global, port: &mut DaemonPort, field: &Field) -> Result<(), NoMemory>
     ensures { OnOk result (port.new ≡ spec.with_field port.old field.now) }
 {
     match field.letter() {
         b'P' => port.port = port_in(&field.value).unwrap_or(25),
-        b'A' => port.address = address_of(&field.value)?,
+        b'A' => port.address = if_some(alloc, field.value.bytes())?,
         _ => {}
     }
     Ok(())
-}
-
-// The address, or `None` where it is empty.
-fn address_of(value: &Text) -> Result<Option<Text>, NoMemory>
-    ensures { IfOk result (λ address. address ≡ spec.address_of value.now) }
-{
-    if value.is_empty() {
-        return Ok(None);
-    }
-    Ok(Some(value.copy()?))
 }

@@ -1,4 +1,4 @@
-ghost use Rattle.std.specs.Prelude.{◌≡◌, ◌++◌, ◌∷◌, [], ℕ, List, IfOk, OnOk, option_copied};
+ghost use Rattle.std.specs.Prelude.{◌≡◌, ◌++◌, ◌∷◌, [], ℕ, List, IfOk, OnOk};
 ghost use Rattle.cf_reader.specs.Fields as spec;
 ghost use Rattle.cf_reader.specs.inner.Cuttings.{all_pieces};
 
@@ -174,7 +174,8 @@ fn say(plain: &mut Text, stand: Stand, byte: u8) -> Result<(), NoMemory>
     plain.push(byte)
 }
 
-/// What stands before the first of a byte, and what behind it, which is nothing where there is none.
+/// What stands before the first of a byte, and what behind it, which is nothing where there is
+/// none.
 pub(crate) fn split_at(text: &[u8], byte: u8) -> (&[u8], &[u8])
     ensures { (result.0.now, result.1.now) ≡ spec.split_at byte text.now }
 {

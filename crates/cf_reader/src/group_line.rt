@@ -1,4 +1,4 @@
-ghost use Rattle.std.specs.Prelude.{◌≡◌, IfOk, OnOk, IfSome, ℕ, fold, nat_le};
+ghost use Rattle.std.specs.Prelude.{◌≡◌, IfOk, OnOk, fold};
 ghost use Rattle.std.specs.List.{list_any};
 ghost use Rattle.cf_reader.specs.Reads.{Reads};
 ghost use Rattle.cf_reader.specs.GroupLines as spec;
@@ -34,8 +34,8 @@ impl GroupField {
     }
 }
 
-/// The queue group of a Q line, by what follows the letter. `again` tells whether a Q line had its name before. The
-/// path is empty where none is set.
+/// The queue group of a Q line, by what follows the letter. `again` tells whether a Q line had its
+/// name before. The path is empty where none is set.
 pub(crate) fn group_line(alloc: Global, text: &[u8], again: bool) -> Result<Group, LineStop>
     ensures { Reads result (spec.fault_of_group again text.now) (spec.group_of text.now) }
 {

@@ -1,6 +1,7 @@
-ghost use Rattle.std.specs.Prelude.{◌≡◌, ◌++◌, ◌∷◌, [], IfOk, OnOk, Some, fold};
+ghost use Rattle.std.specs.Prelude.{◌≡◌, IfOk, OnOk, Some, fold};
 ghost use Rattle.cf_reader.specs.Reads.{Reads};
 ghost use Rattle.cf_reader.specs.Words.{stripped};
+ghost use Rattle.cf_reader.specs.Values.{if_some};
 ghost use Rattle.cf_reader.specs.MailerLines as spec;
 ghost use Rattle.cf_reader.specs.declared.mailer_field.MailerField.TheVariants.{Sender, Recipient};
 
@@ -8,7 +9,7 @@ use crate::cuts::cut_at;
 use crate::fault::{Fault, LineStop};
 use crate::fields::{Field, line_fields, line_name};
 use crate::mailer_field::{MailerField, has_bad_field, has_unknown};
-use crate::values::number_of;
+use crate::values::{if_some, number_of};
 use crate::words::{stripped, words};
 use cf_values::flags;
 use mail_base::{Mailer, NoMemory, Seq, Text, TryCopy};
@@ -119,21 +120,11 @@ fn sets(
     envelope: &[u8],
     header: &[u8],
 ) -> Result<(Option<Text>, Option<Text>), NoMemory>
-    ensures { IfOk result (λ sets. sets ≡ (spec.if_some (stripped envelope.now), spec.if_some (stripped header.now))) }
+    ensures { IfOk result (λ sets. sets ≡ (if_some (stripped envelope.now), if_some (stripped header.now))) }
 {
     let envelope = if_some(alloc, stripped(envelope))?;
     let header = if_some(alloc, stripped(header))?;
     Ok((envelope, header))
-}
-
-// The text, if it isn't empty.
-fn if_some(alloc: Global, text: &[u8]) -> Result<Option<Text>, NoMemory>
-    ensures { IfOk result (λ some. some ≡ spec.if_some text.now) }
-{
-    if text.is_empty() {
-        return Ok(None);
-    }
-    Ok(Some(Text::of(alloc, text)?))
 }
 
 // What ends a line, which is LF where the value is empty.

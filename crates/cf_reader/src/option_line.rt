@@ -13,9 +13,10 @@ use crate::words::stripped;
 use mail_base::{Options, Text};
 use std::alloc::Global;
 
-/// Sets the option of an O line, by what follows the letter, and tells which it is, or `None` where the line is ignored with
-/// a warning. `late` tells whether an S or R line came before, and `listens` whether DaemonPortOptions was set: a second one is
-/// judged and ignored. After an error the options are as before.
+/// Sets the option of an O line, by what follows the letter, and tells which it is, or `None` where
+/// the line is ignored with a warning. `late` tells whether an S or R line came before, and
+/// `listens` whether DaemonPortOptions was set: a second one is judged and ignored. After an error
+/// the options are as before.
 pub(crate) fn option_line(
     alloc: Global,
     options: &mut Options,

@@ -1,5 +1,5 @@
-ghost use Rattle.std.specs.Prelude.{◌≡◌, IfOk, OnOk, OnErr, IsTrue, IsFalse, Some};
-ghost use Rattle.cf_reader.specs.declared.setting.Setting.TheVariants.{Number, Time, Word, AliasFile, DaemonPort};
+ghost use Rattle.std.specs.Prelude.{◌≡◌, IfOk, OnOk, OnErr};
+ghost use Rattle.cf_reader.specs.declared.setting.Setting.TheVariants.{Number, Time, Word, DaemonPort};
 ghost use Rattle.cf_reader.specs.OptionLines as spec;
 ghost use Rattle.cf_reader.specs.inner.Settled.{settled};
 
@@ -10,8 +10,8 @@ use crate::values::{option_number, time_in};
 use mail_base::{NoMemory, Options, Text};
 use std::alloc::Global;
 
-/// Sets an option where the value is in its grammar, and tells whether it is. Else, and after `NoMemory`, the options are
-/// as before.
+/// Sets an option where the value is in its grammar, and tells whether it is. Else, and after
+/// `NoMemory`, the options are as before.
 pub(crate) fn set(
     alloc: Global,
     options: &mut Options,

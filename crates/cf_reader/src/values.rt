@@ -1,9 +1,10 @@
-ghost use Rattle.std.specs.Prelude.{◌≡◌, ◌≤◌, IfSome};
+ghost use Rattle.std.specs.Prelude.{◌≡◌, ◌≤◌, IfOk, IfSome};
 ghost use Rattle.cf_values.specs.Times.{IsLetter};
 ghost use Rattle.cf_reader.specs.Values as spec;
 
 use cf_values::{number, time};
-use mail_base::Text;
+use mail_base::{NoMemory, Text};
+use std::alloc::Global;
 
 // The greatest number of an option.
 const MOST_OPTION: u64 = 999_999_999;
@@ -24,6 +25,16 @@ pub(crate) fn field_number(value: &Text) -> Option<u64>
     number_in(value, u64::MAX)
 }
 
+/// A value, if it isn't empty.
+pub(crate) fn if_some(alloc: Global, value: &[u8]) -> Result<Option<Text>, NoMemory>
+    ensures { IfOk result (λ some. some ≡ spec.if_some value.now) }
+{
+    if value.is_empty() {
+        return Ok(None);
+    }
+    Ok(Some(Text::of(alloc, value)?))
+}
+
 /// The number of a field's value, or 0.
 pub(crate) fn number_of(value: &Text) -> u64
     ensures { result ≡ spec.number_of value.now }
@@ -42,7 +53,8 @@ pub(crate) fn number_in(text: &Text, most: u64) -> Option<u64>
     }
 }
 
-/// The seconds that a text is, where a last number without a letter has this unit, if they are at most 2^60.
+/// The seconds that a text is, where a last number without a letter has this unit, if they are at
+/// most 2^60.
 pub(crate) fn time_in(text: &Text, unit: u8) -> Option<u64>
     requires { IsLetter unit }
     ensures { result ≡ spec.time_in unit text.now }
