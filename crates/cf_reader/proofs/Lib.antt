@@ -8,6 +8,7 @@ mod RuleLemmas
 mod LookupLemmas
 mod ReadLemmas
 mod SideExamples
+mod RuleExamples
 mod ValueLemmas
 mod FinishLemmas
 mod ReadingLemmas

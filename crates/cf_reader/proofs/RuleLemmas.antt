@@ -1,11 +1,9 @@
 -- Items, pieces and steps from the front of a side.
 use Rattle.std.proofs.Common.{◌≡◌, ℕ, zero, suc, ◌+◌, ◌<◌, ◌≤◌, List, [], ◌∷◌, ◌++◌, length, take, drop, length-drop, get_or, Bool, true, false, cond, not, ◌&&◌, ◌||◌, eqb, Option, Some, None, Ok, Err, slice_get, refl, sym, ◌∙◌, ap, subst, arith}
-use Rattle.std.specs.List.{prefix_len, position_or_len, before_first}
-use Rattle.std.proofs.lemmas.List.{append_assoc, drop_more, drop-drop, take_all}
-use Rattle.std.proofs.lemmas.List.Sums.{position_or_len_is}
-use Rattle.std.proofs.lemmas.Bool.{cond_both, cond-true, cond-false, eqb-true, or_cases, or_parts, false_from_ne_true}
+use Rattle.std.specs.List.{prefix_len}
+use Rattle.std.proofs.lemmas.List.{append_assoc, drop_more, drop-drop}
+use Rattle.std.proofs.lemmas.Bool.{cond_both, cond-true, cond-false, eqb-true, or_cases, or_parts}
 use Rattle.std.proofs.Common.{⊎_elim}
-use Rattle.bstr.specs.Find.{IsFirstByte, is_byte}
 use Rattle.mail_base.specs.declared.rule.Step.{Step}
 use Rattle.addr_tokens.specs.declared.lexeme.Lexeme.{Lexeme}
 use Rattle.addr_tokens.specs.declared.lexeme.Lexeme.TheVariants.{Token, Dollar, Named}
@@ -294,19 +292,3 @@ pub steps_fail : (stop : LineStop) (lexemes : List Lexeme) (all : Option (List S
 steps_fail (stops.Refused fault) lexemes all so fails = (fails.0, so fails.1)
 steps_fail stops.FilesFault lexemes all so fails = fails
 steps_fail stops.NoMemory lexemes all so fails = tt
-
--- ---- the first tab
-
-first_place : (byte : ℕ) (text : List ℕ) (k : ℕ) → IsFirstByte (is_byte byte) text (Some k) → position_or_len (is_byte byte) text ≡ k
-first_place byte text k found =
-    let low : k < length text = found.0.high in
-    position_or_len_is (is_byte byte) text k 0 (omega arith) (λ j lt. false_from_ne_true _ (found.0.before j (omega arith) lt)) (λ lt. found.1)
-
-no_place : (byte : ℕ) (text : List ℕ) → IsFirstByte (is_byte byte) text None → position_or_len (is_byte byte) text ≡ length text
-no_place byte text none = position_or_len_is (is_byte byte) text (length text) 0 (omega arith) (λ j lt. false_from_ne_true _ (none j (omega arith) lt)) (λ lt. absurd (omega arith))
-
-pub before_found : (byte : ℕ) (text : List ℕ) (k : ℕ) → IsFirstByte (is_byte byte) text (Some k) → take k text ≡ before_first (is_byte byte) text
-before_found byte text k found = ap (λ (n : ℕ). take n text) (sym (first_place byte text k found))
-
-pub before_none : (byte : ℕ) (text : List ℕ) → IsFirstByte (is_byte byte) text None → text ≡ before_first (is_byte byte) text
-before_none byte text none = sym (ap (λ (n : ℕ). take n text) (no_place byte text none) ∙ take_all (length text) text (omega arith))

@@ -16,3 +16,5 @@ mod files;
 mod lines;
 #[cfg(test)]
 mod shown;
+#[cfg(test)]
+mod sides;
