@@ -1,12 +1,13 @@
-// Lines of a megabyte.
+// Lines of a megabyte. A text that is expanded may have no byte more.
 use crate::asking::answer;
 use mail_base::{NoMemory, Text};
 use std::alloc::Global;
 use std::test::Fail;
 
 /// How a line begins, the byte that goes on, what is asked, and the answer.
-static LONG: [(&[u8], u8, &str, &[u8]); 7] = [
-    (b"Ca ", b'x', "~a", b" 1048576"),
+static LONG: [(&[u8], u8, &str, &[u8]); 8] = [
+    (b"Ca", b'x', "~a", b" 1048576"),
+    (b"Ca ", b'x', "~a", b"line 1: BadPattern"),
     (b"# ", b'x', "W", b""),
     (b"V", b'x', "W", b" 1"),
     (b"Kt text -k1 -z", b'x', "K", b" host host - . 0 1 - -; t text -  1 1 120 -;"),
