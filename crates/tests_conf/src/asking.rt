@@ -1,7 +1,7 @@
 // Configurations that are read, and what is asked of them.
 use crate::shown::{
-    put_class, put_first_length, put_group, put_header, put_mailer, put_map, put_numbers, put_paths,
-    put_places, put_precedence, put_rule, put_set, put_times,
+    put_class, put_first_length, put_group, put_header, put_mailer, put_map, put_numbers,
+    put_paths, put_places, put_precedence, put_rule, put_set, put_times,
 };
 use cf_reader::{CfFault, read};
 use mail_base::{Config, NoMemory, Seq, Text};
@@ -16,7 +16,10 @@ pub(crate) type Row = (&'static [u8], &'static str, &'static [u8]);
 
 /// The files that each configuration finds.
 static FILES: [(&str, &[u8]); 4] = [
-    ("/words", b"far.example x # no y\n#z\n\n  mx.Example\tx\r\nlast"),
+    (
+        "/words",
+        b"far.example x # no y\n#z\n\n  mx.Example\tx\r\nlast",
+    ),
     ("/empty", b""),
     ("/bytes", b"caf\xe9 \xff\n"),
     ("/bad", b"fine ba\"d"),
@@ -143,12 +146,7 @@ fn put_named_by(out: &mut Text, config: &Config, question: &[u8]) -> Result<(), 
 }
 
 // Puts what is answered of the configuration that is read of a text.
-fn put_read(
-    out: &mut Text,
-    text: &Text,
-    files: &mut MemFiles,
-    question: &str,
-) -> Result<(), Fail> {
+fn put_read(out: &mut Text, text: &Text, files: &mut MemFiles, question: &str) -> Result<(), Fail> {
     if text.len() >= 1 << 32 {
         return Err(Fail::from("a large configuration"));
     }

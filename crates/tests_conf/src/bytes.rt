@@ -10,7 +10,12 @@ static LONG: [(&[u8], u8, &str, &[u8]); 8] = [
     (b"Ca ", b'x', "~a", b"line 1: BadPattern"),
     (b"# ", b'x', "W", b""),
     (b"V", b'x', "W", b" 1"),
-    (b"Kt text -k1 -z", b'x', "K", b" host host - . 0 1 - -; t text -  1 1 120 -;"),
+    (
+        b"Kt text -k1 -z",
+        b'x',
+        "K",
+        b" host host - . 0 1 - -; t text -  1 1 120 -;",
+    ),
     (b"HA", b'x', "H", b"line 1: BadHeader"),
     (b"Ca ${", b'x', "=a", b"line 1: BadPattern"),
     (b"R", b'.', "R0", b"line 1: NoTab"),

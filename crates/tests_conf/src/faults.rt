@@ -35,7 +35,11 @@ static ONE_LINE: [Row; 77] = [
     (b"Ca ${x", "", b"line 1: BadPattern"),
     (b"Ca b \"c", "", b"line 1: BadPattern"),
     (b"R$*$*$*$*$*$*$*$*$*$*$*$*$*$*$*$*$*$*$*$*\t$1", "", b""),
-    (b"R$*$*$*$*$*$*$*$*$*$*$*$*$*$*$*$*$*$*$*$*$*\t$1", "", b"line 1: TooManyMetas"),
+    (
+        b"R$*$*$*$*$*$*$*$*$*$*$*$*$*$*$*$*$*$*$*$*$*\t$1",
+        "",
+        b"line 1: TooManyMetas",
+    ),
     (b"R$-\t$2", "", b"line 1: BadReference"),
     (b"R$-\t$0", "", b"line 1: BadReference"),
     (b"Rx\t$1", "", b"line 1: BadReference"),
@@ -85,14 +89,26 @@ static ONE_LINE: [Row; 77] = [
 // Of two faults of one line the first in their order comes, and of two lines the first.
 static TWO: [Row; 21] = [
     (b"R\"x", "", b"line 1: NoTab"),
-    (b"R$*$*$*$*$*$*$*$*$*$*$*$*$*$*$*$*$*$*$*$*$*\"x\t$1", "", b"line 1: BadPattern"),
-    (b"R$*$*$*$*$*$*$*$*$*$*$*$*$*$*$*$*$*$*$*$*$*\t$0", "", b"line 1: TooManyMetas"),
+    (
+        b"R$*$*$*$*$*$*$*$*$*$*$*$*$*$*$*$*$*$*$*$*$*\"x\t$1",
+        "",
+        b"line 1: BadPattern",
+    ),
+    (
+        b"R$*$*$*$*$*$*$*$*$*$*$*$*$*$*$*$*$*$*$*$*$*\t$0",
+        "",
+        b"line 1: TooManyMetas",
+    ),
     (b"R$-\t$2 \"x", "", b"line 1: BadPattern"),
     (b"R$=w\t$2", "", b"line 1: BadReference"),
     (b"R$-\t$2 $>x", "", b"line 1: BadReference"),
     (b"R$~w\t$(a $0 $)", "", b"line 1: BadReference"),
     (b"Mx, Z=1", "", b"line 1: UnknownMailerField"),
-    (b"Mx, P=/x, A=x, M=1x, Z=1", "", b"line 1: UnknownMailerField"),
+    (
+        b"Mx, P=/x, A=x, M=1x, Z=1",
+        "",
+        b"line 1: UnknownMailerField",
+    ),
     (b"Mx, P=/x, M=1x", "", b"line 1: NoPath"),
     (b"Qa\nQa, r=x", "", b"line 2: DuplicateGroup"),
     (b"Kt text -k100 -v100", "", b"line 1: BadMap"),

@@ -4,10 +4,26 @@ use std::alloc::Global;
 use std::test::Fail;
 
 static FILES: [Row; 12] = [
-    (b"Fa /words", "=a", b" far.example[ far . example] x[ x] mx.Example[ mx . Example] last[ last]"),
-    (b"Fa/words", "=a", b" far.example[ far . example] x[ x] mx.Example[ mx . Example] last[ last]"),
-    (b"Fa-o /words %s", "=a", b" far.example[ far . example] x[ x] mx.Example[ mx . Example] last[ last]"),
-    (b"Fa /words %[^#]", "=a", b" far.example[ far . example] x[ x] mx.Example[ mx . Example] last[ last]"),
+    (
+        b"Fa /words",
+        "=a",
+        b" far.example[ far . example] x[ x] mx.Example[ mx . Example] last[ last]",
+    ),
+    (
+        b"Fa/words",
+        "=a",
+        b" far.example[ far . example] x[ x] mx.Example[ mx . Example] last[ last]",
+    ),
+    (
+        b"Fa-o /words %s",
+        "=a",
+        b" far.example[ far . example] x[ x] mx.Example[ mx . Example] last[ last]",
+    ),
+    (
+        b"Fa /words %[^#]",
+        "=a",
+        b" far.example[ far . example] x[ x] mx.Example[ mx . Example] last[ last]",
+    ),
     (b"F{hosts}-o /none", "=hosts", b""),
     (b"Fa-o /none\nCa x", "=a", b" x[ x]"),
     (b"Fa /empty", "=a", b""),
@@ -15,11 +31,19 @@ static FILES: [Row; 12] = [
     (b"Fa /bad", "=a", b" fine[ fine] ba\"d[-]"),
     (b"Ca x\nFa /words\nFa /words", "~a", b" 1"),
     (b"Fa /none", "=a", b"line 1: NoSuchFile"),
-    (b"Fa /words\nFa /none\nFa-o /none", "=a", b"line 2: NoSuchFile"),
+    (
+        b"Fa /words\nFa /none\nFa-o /none",
+        "=a",
+        b"line 2: NoSuchFile",
+    ),
 ];
 
 // The calls that fail, and the answer.
-static FAILING: [(&[u64], &[u8]); 3] = [(&[], b" 11"), (&[0], b"files fault"), (&[1], b"files fault")];
+static FAILING: [(&[u64], &[u8]); 3] = [
+    (&[], b" 11"),
+    (&[0], b"files fault"),
+    (&[1], b"files fault"),
+];
 
 fn wrong_call(alloc: Global) -> Result<Option<usize>, Fail> {
     for (place, (failing, said)) in FAILING.iter().enumerate() {
