@@ -1,9 +1,19 @@
+mod CommandLemmas
 pub mod EndLemmas
-pub mod LineLemmas
-pub mod ReadLemmas
-pub mod TakeLemmas
-pub mod StandLemmas
-pub mod ReadingLemmas
-pub mod RunLemmas
+mod FoundLemmas
 pub mod GivenLemmas
+mod GrammarLemmas
+pub mod LineLemmas
+mod NumberLemmas
+mod ParameterLemmas
+mod PathLemmas
+mod PathStepLemmas
+pub mod ReadLemmas
+pub mod ReadingLemmas
+mod ReplyLemmas
+pub mod RunLemmas
 pub mod SearchLemmas
+pub mod StandLemmas
+mod TailLemmas
+pub mod TakeLemmas
+mod WordLemmas

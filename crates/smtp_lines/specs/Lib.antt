@@ -1,4 +1,9 @@
-pub mod Stream
+pub mod Commands
+pub mod Parameters
+pub mod Paths
 pub mod Reader
-pub mod Views
+pub mod Replies
 pub mod Runs
+pub mod Stream
+pub mod Views
+pub mod inner

@@ -1,0 +1,3 @@
+pub mod PathEnds
+pub mod Reading
+pub mod Tails
