@@ -1,0 +1,22 @@
+-- What a gathering gives, by the grammar of headers.
+use Rattle.std.proofs.Common.{◌≡◌, ℕ, false, List, sym, ap, subst, ◌∙◌}
+use Rattle.mail_base.specs.Limits.{most_headers}
+use Rattle.mail_header.specs.Headers.{text_of, IsSplit, AreLines}
+use Rattle.mail_header.specs.declared.gathered.Gathered.{Gathered}
+use Rattle.mail_header.specs.Gatherings.{Gathers, is_above, unless}
+use Rattle.mail_header.specs.inner.Lines.{headers_of, block_of, size_of}
+use Rattle.mail_header.proofs.SplitLemmas.{exact_size, same_above}
+use Rattle.mail_header.proofs.GrammarLemmas.{split_of_lines}
+
+pub split_is : (g : Gathered) (limit : ℕ) (lines : List (List ℕ)) → Gathers g limit lines → AreLines lines → is_above limit g.size ≡ false → is_above most_headers g.block ≡ false
+    → IsSplit (text_of lines) (record { headers = g.headers; body = g.body; block = g.block })
+split_is g limit lines gathers are small block =
+    let keeps = gathers.split small in
+    let headers : g.headers ≡ headers_of lines = keeps.headers ∙ ap (λ b. unless b (headers_of lines)) block in
+    let size : g.block ≡ size_of (block_of false lines) = keeps.block ∙ exact_size most_headers (size_of (block_of false lines)) (ap (is_above most_headers) (sym keeps.block) ∙ block) in
+    subst (IsSplit (text_of lines)) (λ i. record { headers = sym headers i; body = sym keeps.body i; block = sym size i }) (split_of_lines lines are)
+
+pub block_large : (g : Gathered) (limit : ℕ) (lines : List (List ℕ)) → Gathers g limit lines → is_above limit g.size ≡ false → is_above most_headers g.block ≡ is_above most_headers (size_of (block_of false lines))
+block_large g limit lines gathers small =
+    let keeps = gathers.split small in
+    ap (is_above most_headers) keeps.block ∙ same_above most_headers (size_of (block_of false lines))

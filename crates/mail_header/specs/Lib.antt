@@ -1,0 +1,5 @@
+pub mod Fields
+pub mod Gatherings
+pub mod Headers
+pub mod Made
+pub mod inner
