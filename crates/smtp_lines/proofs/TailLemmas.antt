@@ -41,7 +41,7 @@ within_lf : (one other xs ys : List ℕ) → has_lf one ≡ false → one ++ xs 
 within_lf [] other xs ys a e = omega arith
 within_lf (c ∷ one) [] xs ys a e = absurd (clash c 10 (one ++ xs) ys (or_parts _ _ a).0 e)
 within_lf (c ∷ one) (d ∷ other) xs ys a e =
-    let less : length one ≤ length other = within_lf one other xs ys (or_parts _ _ a).1 (tails c d (one ++ xs) (other ++ 10 ∷ ys) e) in omega arith
+    let less : length one ≤ length other = within_lf one other xs ys (or_parts (c == 10) (has_lf one) a).1 (tails c d (one ++ xs) (other ++ 10 ∷ ys) e) in omega arith
 
 abbrev is_lf : ℕ → Bool
 is_lf b = b == 10

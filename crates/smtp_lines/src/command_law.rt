@@ -4,8 +4,8 @@ ghost use Rattle.smtp_lines.specs.Commands.{Order, IsRead};
 ghost use Rattle.smtp_lines.specs.Paths.{EndsPath, Parts};
 ghost use Rattle.smtp_lines.specs.inner.Reading.{path_parts, order_of};
 
-/// Behind a `<` one path ends at most. `path_parts` gives that path and what is after it, and nothing
-/// exactly where none ends.
+/// Behind a `<` one path ends at most. `path_parts` gives that path and what is after it, and
+/// nothing exactly where none ends.
 pub fn one_path()
     ensures some { (text : List ℕ) (parts : Parts)
         → (path_parts (60 ∷ text) ≡ Some parts) ↔ EndsPath text parts }

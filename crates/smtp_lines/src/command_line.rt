@@ -10,9 +10,11 @@ use crate::path::{Parts, is_long, path_parts, without_route, word_end};
 use bstr::ByteSlice;
 use mail_base::{Command, LineFault, Verb, is_blank};
 
-/// The command that a line without its end is, or the first fault that it has (RFC 5321, section 4.1.1).
+/// The command that a line without its end is, or the first fault that it has (RFC 5321, section
+/// 4.1.1).
 ///
-/// Verbs, keywords and parameters have any case, and blanks are dropped at both ends of an argument. It takes no memory.
+/// Verbs, keywords and parameters have any case, and blanks are dropped at both ends of an
+/// argument. It takes no memory.
 pub fn command(line: &[u8]) -> Result<Command<'_>, LineFault>
     ensures { IsRead line.now (as_read result) }
 {

@@ -1,7 +1,7 @@
-//! The lines of an SMTP stream, however it is cut into pieces; the commands that such lines are; and the
-//! replies of a peer. [`Lines`] is fed the pieces in turn. What it gives are the lines that
-//! `specs/Stream.antt` reads off the whole stream. [`command`] reads a line by the grammar of
-//! `specs/Commands.antt`, and [`reply`] a peer's reply by that of `specs/Replies.antt`.
+//! The lines of an SMTP stream, however it is cut into pieces; the commands that such lines are;
+//! and the replies of a peer. [`Lines`] is fed the pieces in turn. What it gives are the lines
+//! that `specs/Stream.antt` reads off the whole stream. [`command`] reads a line by the grammar
+//! of `specs/Commands.antt`, and [`reply`] a peer's reply by that of `specs/Replies.antt`.
 #![tactic(auto)]
 
 mod command_law;

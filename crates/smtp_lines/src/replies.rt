@@ -67,9 +67,10 @@ pub(crate) enum Rest<'a> {
     Bad,
 }
 
-/// Reads a peer's reply at the front of bytes, whatever the class of its code (RFC 5321, section 4.2). A line ends at LF,
-/// and a CR before it is no part of its text. A reply has at most [`MOST_REPLY_LINES`] lines, each of at most
-/// [`MOST_REPLY_LINE`] bytes with its end. It takes no memory.
+/// Reads a peer's reply at the front of bytes, whatever the class of its code (RFC 5321, section
+/// 4.2). A line ends at LF, and a CR before it is no part of its text. A reply has at most
+/// [`MOST_REPLY_LINES`] lines, each of at most [`MOST_REPLY_LINE`] bytes with its end. It takes
+/// no memory.
 pub fn reply(bytes: &[u8]) -> Seen<'_>
     ensures { IsSeen bytes.now result }
 {
@@ -120,7 +121,7 @@ fn lines_seen<'a>(code: &[u8], bytes: &'a [u8], left: usize) -> Rest<'a>
         LineSeen::Last(text, length) => Rest::Whole(text, is_eight(text), length),
         LineSeen::More(text, length) => {
             match lines_seen(code, &bytes[length..], left - 1) {
-                Rest::Whole(_, eight, more) => {
+                Rest::Whole(_text, eight, more) => {
                     Rest::Whole(text, is_eight(text) || eight, length + more)
                 }
                 Rest::Part => Rest::Part,

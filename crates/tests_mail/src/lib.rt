@@ -3,12 +3,20 @@
 #![tactic(auto)]
 
 #[cfg(test)]
+mod commands;
+#[cfg(test)]
 mod control;
 #[cfg(test)]
 mod faults;
 #[cfg(test)]
+mod headers;
+#[cfg(test)]
 mod lines;
 #[cfg(test)]
 mod receive;
+#[cfg(test)]
+mod received;
+#[cfg(test)]
+mod replies;
 #[cfg(test)]
 mod store;
