@@ -1,11 +1,12 @@
-//! Does one thing over much input, so that its time can be measured. The first word says what: `lines`, `tokens`,
-//! `control`, `conf`, `maps`, `matches`, `rules`, `classes` or `spool`. The second says over what, as each module tells, and the
+//! Does one thing over much input, so that its time can be measured. The first word says what: `lines`, `headers`,
+//! `body`, `tokens`, `control`, `conf`, `maps`, `matches`, `rules`, `classes` or `spool`. The second says over what, as each module tells, and the
 //! third how many times it is done, once where it is left out. The scripts in `bench/` measure it.
 #![tactic(auto)]
 
 mod classes;
 mod conf;
 mod control;
+mod gather;
 mod lines;
 mod maps;
 mod matches;
@@ -13,6 +14,7 @@ mod rules;
 mod spool;
 mod tokens;
 
+use crate::gather::Part;
 use anyhow::{Result, bail};
 use std::env;
 
@@ -31,6 +33,8 @@ fn main(rt: HostRuntime) -> Result<()> {
     }
     let answer = match what.as_str() {
         "lines" => lines::answer(alloc, over.as_deref(), rounds)?,
+        "headers" => gather::answer(alloc, Part::Headers, over.as_deref(), rounds)?,
+        "body" => gather::answer(alloc, Part::Body, over.as_deref(), rounds)?,
         "tokens" => tokens::answer(alloc, over.as_deref(), rounds)?,
         "conf" => conf::answer(&rt, over.as_deref(), rounds)?,
         "control" => control::answer(alloc, over.as_deref(), rounds)?,

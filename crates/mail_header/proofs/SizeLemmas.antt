@@ -6,7 +6,7 @@ use Rattle.std.proofs.lemmas.List.{length-append}
 use Rattle.std.proofs.lemmas.List.Sums.{sum_by-cons}
 use Rattle.mail_base.specs.Limits.{most_headers}
 use Rattle.mail_base.specs.Texts.{crlf}
-use Rattle.mail_header.specs.Headers.{with_end}
+use Rattle.mail_header.specs.Headers.{with_end, text_of}
 use Rattle.mail_header.specs.inner.Lines.{belongs, block_of, rest_of, goes_on, joined, headers_in, headers_of, without_empty, body_of, size_of}
 use Rattle.mail_header.specs.declared.gathered.Gathered.{Gathered}
 use Rattle.mail_header.specs.Gatherings.{is_above, unless, Gathers, IsSmall}
@@ -70,7 +70,7 @@ split_size lines =
 
 -- no headers are kept
 bodied : (g : Gathered) (limit : ℕ) → g.headers ≡ [] → length g.body ≤ limit → IsSmall g limit
-bodied g limit none within = record { headers = subst (λ h. size_of h ≤ most_headers) (sym none) (omega arith); all = subst (λ h. size_of h + length g.body ≤ limit) (sym none) (omega arith) }
+bodied g limit none within = record { headers = subst (λ h. length (text_of h) ≤ most_headers) (sym none) (omega arith); all = subst (λ h. length (text_of h) + length g.body ≤ limit) (sym none) (omega arith) }
 
 pub gathers_small : (g : Gathered) (limit : ℕ) (lines : List (List ℕ)) → Gathers g limit lines → IsSmall g limit
 gathers_small g limit lines gathers =
@@ -85,7 +85,7 @@ gathers_small g limit lines gathers =
     (λ large. bodied g limit (split.headers ∙ ap (λ b. unless b (headers_of lines)) large) (omega arith))
     (λ within.
     let headers : g.headers ≡ headers_of lines = split.headers ∙ ap (λ b. unless b (headers_of lines)) within in
-    let size : size_of g.headers ≡ size_of (headers_of lines) = ap size_of headers in
+    let size : length (text_of g.headers) ≡ size_of (headers_of lines) = ended_size g.headers ∙ ap size_of headers in
     let block : size_of (headers_of lines) ≡ size_of (block_of false lines) = headers_size (block_of false lines) in
     let less = ltb-false most_headers (size_of (block_of false lines)) (sym (same_above most_headers (size_of (block_of false lines))) ∙ sym (ap (is_above most_headers) split.block) ∙ within) in
     record { headers = omega arith; all = omega arith })

@@ -1,5 +1,5 @@
 -- What a message's headers say (RFC 5322, sections 2.2, 3.6.1 and 3.6.7; RFC 5321, section 6.3; Sendmail Installation and Operation Guide, "P: Precedence Definitions").
-use Rattle.std.specs.Prelude.{◌≡◌, ℕ, ℤ, pos, ◌-◌, slice_index, ◌==◌, Bool, List, [], ◌∷◌, length, take, drop, Option, Some, None, option_map, option_and_then, unwrap_or, find, count_by, if◌then◌else◌, codes}
+use Rattle.std.specs.Prelude.{◌≡◌, ℕ, ℤ, pos, ◌-◌, slice_index, ◌==◌, Bool, List, [], ◌∷◌, length, take, drop, Option, Some, None, option_map, option_and_then, unwrap_or, find, count_by, if◌then◌else◌, codes, refl}
 use Rattle.std.specs.List.{prefix_len, suffix_len, before_first, after_first}
 use Rattle.std.specs.Str.{str_eq_ignore_ascii_case}
 use Rattle.mail_base.specs.Texts.{is_blank}
@@ -64,3 +64,6 @@ date_told headers = option_and_then (λ header. some_text (trimmed (first_line (
 abbrev pub IsDate : Option (List ℕ) → ℕ → List ℕ → Type 0
 IsDate None created text = IsDateText Mail created text
 IsDate (Some told) created text = text ≡ told
+
+example : (name_of (codes "To: a:b ") ≡ codes "To") × (value_of (codes "To: a:b ") ≡ codes " a:b ") × (trimmed (codes " a b ") ≡ codes "a b") × (first_line (97 ∷ 13 ∷ 10 ∷ 32 ∷ 98 ∷ []) ≡ codes "a")
+example = (refl, refl, refl, refl)

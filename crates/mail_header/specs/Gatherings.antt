@@ -3,7 +3,7 @@ use Rattle.std.specs.Prelude.{◌≡◌, ◌≤◌, ℕ, ◌+◌, nat_lt, length
 use Rattle.mail_base.specs.Limits.{most_headers}
 use Rattle.mail_base.specs.Texts.{crlf}
 use Rattle.mail_header.specs.declared.gathered.Gathered.{Gathered}
-use Rattle.mail_header.specs.Headers.{is_continuation, is_some_line}
+use Rattle.mail_header.specs.Headers.{is_continuation, is_some_line, text_of}
 use Rattle.mail_header.specs.inner.Lines.{headers_of, body_of, block_of, rest_of, size_of}
 
 -- a size that counts no further once it is above its limit
@@ -57,7 +57,7 @@ pub record Gathers (g : Gathered) (limit : ℕ) (lines : List (List ℕ)) : Type
   pub split : is_above limit g.size ≡ false → KeepsSplit g lines
   pub gone : is_above limit g.size ≡ true → IsGone g
 
--- the bytes that are kept are within the limits: those of the headers, each with two bytes for its end, and these with those of the body
+-- the bytes that are kept are within the limits: those of the headers, each with its CR LF, and these with those of the body
 pub record IsSmall (g : Gathered) (limit : ℕ) : Type 0 where
-  pub headers : size_of g.headers ≤ most_headers
-  pub all : size_of g.headers + length g.body ≤ limit
+  pub headers : length (text_of g.headers) ≤ most_headers
+  pub all : length (text_of g.headers) + length g.body ≤ limit

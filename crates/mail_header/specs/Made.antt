@@ -1,5 +1,5 @@
 -- The headers that H lines make (Sendmail Installation and Operation Guide, "H: Define Header"; what becomes of line ends in a value is our own).
-use Rattle.std.specs.Prelude.{ℕ, slice_index, ◌==◌, Bool, true, not, ◌||◌, ◌&&◌, List, [], ◌∷◌, ◌++◌, take, map, filter, find, Option, option_map, if◌then◌else◌, codes}
+use Rattle.std.specs.Prelude.{◌≡◌, ℕ, slice_index, ◌==◌, Bool, true, not, ◌||◌, ◌&&◌, List, [], ◌∷◌, ◌++◌, take, map, filter, find, Option, option_map, if◌then◌else◌, codes, refl}
 use Rattle.std.specs.List.{list_any}
 use Rattle.std.specs.Result.{result_unwrap_or}
 use Rattle.std.specs.Str.{str_eq_ignore_ascii_case}
@@ -55,3 +55,6 @@ is_added mailer headers line =
 -- the headers of a message as it is delivered by a mailer
 abbrev pub added_of : List HeaderLine → Mailer → List (List ℕ × List ℕ) → List (List ℕ) → List (List ℕ)
 added_of lines mailer macros headers = headers ++ map (made_of macros) (filter (is_added mailer headers) lines)
+
+example : (tidied (97 ∷ 13 ∷ 10 ∷ 32 ∷ 98 ∷ 10 ∷ []) ≡ 97 ∷ 13 ∷ 10 ∷ 32 ∷ 98 ∷ 32 ∷ []) × (tidied (97 ∷ 13 ∷ 10 ∷ 98 ∷ []) ≡ codes "a  b")
+example = (refl, refl)

@@ -1,8 +1,8 @@
-ghost use Rattle.std.specs.Prelude.{◌≡◌, ◌≤◌, ◌+◌, ◌++◌, ◌∷◌, [], List, ℕ, Bool, false, true, nat_lt, OnOk, OnErr};
+ghost use Rattle.std.specs.Prelude.{◌≡◌, ◌≤◌, ◌+◌, ◌++◌, ◌∷◌, [], List, ℕ, Bool, false, true, length, OnOk, OnErr};
+ghost use Rattle.mail_base.specs.declared.message.Split.{Split};
 ghost use Rattle.mail_base.specs.Limits.{most_message, most_headers};
 ghost use Rattle.mail_header.specs.Headers.{AreLines, IsSplit, text_of, with_end};
 ghost use Rattle.mail_header.specs.Gatherings.{Gathers, KeepsSplit, AddsHeader, IsSmall, counted, header_added, is_above, unless};
-ghost use Rattle.mail_header.specs.inner.Lines.{block_of, size_of};
 
 use crate::grown::{add_header_line, extend_both};
 use crate::header_lines::belongs;
@@ -110,7 +110,7 @@ impl Gathered {
     pub(crate) fn size(&self) -> u64
         ensures size { result ≡ self.now.size }
         ensures lines { (limit : ℕ) (lines : List (List ℕ)) → Gathers self.now limit lines
-            → result ≡ counted limit (size_of lines) }
+            → result ≡ counted limit (length (text_of lines)) }
     {
         self.size
     }
@@ -119,8 +119,10 @@ impl Gathered {
     /// header block.
     pub(crate) fn is_large_block(&self) -> bool
         ensures large { result ≡ is_above most_headers self.now.block }
-        ensures lines { (limit : ℕ) (lines : List (List ℕ)) → Gathers self.now limit lines
-            → is_above limit self.now.size ≡ false → result ≡ is_above most_headers (size_of (block_of false lines)) }
+        ensures lines { (limit : ℕ) (lines : List (List ℕ)) (split : Split)
+            → Gathers self.now limit lines → AreLines lines → IsSplit (text_of lines) split
+            → is_above limit self.now.size ≡ false
+            → result ≡ is_above most_headers split.block }
     {
         is_large(self.block)
     }

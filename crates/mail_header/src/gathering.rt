@@ -1,8 +1,8 @@
-ghost use Rattle.std.specs.Prelude.{◌≡◌, ◌≤◌, ◌++◌, ◌∷◌, [], List, ℕ, false, OnOk, OnErr};
+ghost use Rattle.std.specs.Prelude.{◌≡◌, ◌≤◌, ◌++◌, ◌∷◌, [], List, ℕ, false, length, OnOk, OnErr};
+ghost use Rattle.mail_base.specs.declared.message.Split.{Split};
 ghost use Rattle.mail_base.specs.Limits.{most_message, most_headers};
 ghost use Rattle.mail_header.specs.Headers.{AreLines, IsSplit, text_of};
 ghost use Rattle.mail_header.specs.Gatherings.{Gathers, IsSmall, counted, is_above};
-ghost use Rattle.mail_header.specs.inner.Lines.{block_of, size_of};
 
 use crate::gathered::Gathered;
 use mail_base::{NoMemory, Split};
@@ -53,7 +53,7 @@ impl Gathering {
     pub fn size(&self) -> u64
         ensures size { result ≡ self.now.size }
         ensures lines { (limit : ℕ) (lines : List (List ℕ)) → Gathers self.now limit lines
-            → result ≡ counted limit (size_of lines) }
+            → result ≡ counted limit (length (text_of lines)) }
     {
         self.kept.size()
     }
@@ -62,8 +62,10 @@ impl Gathering {
     /// are of the header block.
     pub fn is_large_block(&self) -> bool
         ensures large { result ≡ is_above most_headers self.now.block }
-        ensures lines { (limit : ℕ) (lines : List (List ℕ)) → Gathers self.now limit lines
-            → is_above limit self.now.size ≡ false → result ≡ is_above most_headers (size_of (block_of false lines)) }
+        ensures lines { (limit : ℕ) (lines : List (List ℕ)) (split : Split)
+            → Gathers self.now limit lines → AreLines lines → IsSplit (text_of lines) split
+            → is_above limit self.now.size ≡ false
+            → result ≡ is_above most_headers split.block }
     {
         self.kept.is_large_block()
     }

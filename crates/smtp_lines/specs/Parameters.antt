@@ -1,5 +1,5 @@
 -- The parameters of MAIL (RFC 5321, section 4.1.1.11; RFC 1870, section 3, for SIZE; RFC 6152, section 2, for BODY; that each comes once at most is our own).
-use Rattle.std.specs.Prelude.{◌≡◌, ◌≤◌, ◌<◌, ℕ, Bool, true, false, List, [], ◌∷◌, ◌++◌, length, Option, Some, None, unwrap_or, filter, codes}
+use Rattle.std.specs.Prelude.{◌≡◌, ◌≤◌, ◌<◌, ℕ, Bool, true, false, List, [], ◌∷◌, ◌++◌, length, Option, Some, None, unwrap_or, filter, codes, refl}
 use Rattle.std.specs.List.{list_all, slice_split}
 use Rattle.std.specs.Char.{is_ascii_digit}
 use Rattle.std.specs.Str.{str_eq_ignore_ascii_case}
@@ -56,3 +56,6 @@ pub record AreGiven (text : List ℕ) (size : Option ℕ) (eight : Bool) : Type 
   pub size_is : sizes_in given ≡ listed size
   pub body_is : bodies_in given ≡ listed body
   pub eight_is : eight ≡ unwrap_or body false
+
+example : words_of (codes " SIZE=5  BODY=7BIT ") ≡ codes "SIZE=5" ∷ codes "BODY=7BIT" ∷ []
+example = refl

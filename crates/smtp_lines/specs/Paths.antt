@@ -1,5 +1,5 @@
 -- A path of MAIL or RCPT (RFC 5321, sections 4.1.1.2, 4.1.1.3, 4.1.2 and 4.5.3.1; that it may lack its angles, and that the rest is any bytes, is our own).
-use Rattle.std.specs.Prelude.{◌≡◌, ◌≢◌, ℕ, ◌+◌, ◌-◌, slice_index, ◌==◌, nat_lt, Bool, true, false, not, ◌||◌, ◌&&◌, List, [], ◌∷◌, ◌++◌, length, take, if◌then◌else◌}
+use Rattle.std.specs.Prelude.{◌≡◌, ◌≢◌, ℕ, ◌+◌, ◌-◌, slice_index, ◌==◌, nat_lt, Bool, true, false, not, ◌||◌, ◌&&◌, List, [], ◌∷◌, ◌++◌, length, take, if◌then◌else◌, codes, refl}
 use Rattle.std.specs.List.{list_any, list_all, position_or_len, suffix_len, after_first, after_last}
 use Rattle.std.specs.Str.{str_eq_ignore_ascii_case}
 use Rattle.mail_base.specs.Limits.{most_path, most_local_part, most_domain}
@@ -87,3 +87,6 @@ pub record HasPath (keyword argument path rest : List ℕ) : Type 0 where
   pub is : IsWritten written inside
   pub parted : is_parted rest ≡ true
   pub unrouted : path ≡ without_route inside
+
+example : (without_route (codes "@h,@i:a@c") ≡ codes "a@c") × (without_route (codes "a:b@c") ≡ codes "a:b@c") × (local_part (codes "a@b@c") ≡ codes "a@b") × (domain_of (codes "a@b@c") ≡ codes "c")
+example = (refl, refl, refl, refl)

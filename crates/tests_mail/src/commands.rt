@@ -77,16 +77,31 @@ static PATHS: [Row; 34] = [
     (b"MAIL FROM: ", b"!Syntax MAIL"),
     (b"MAIL FROM:<a@b>SIZE=1", b"!Syntax MAIL"),
     (b"MAIL FROM:<a@b> SIZE=1", b"MAIL<a@b> size 1"),
-    (b"MAIL FROM:<a@b>\tsize=12345678901234567890", b"MAIL<a@b> size 12345678901234567890"),
-    (b"MAIL FROM:<a@b> SIZE=00000000000000000007", b"MAIL<a@b> size 7"),
-    (b"MAIL FROM:<a@b> SIZE=123456789012345678901", b"!Parameter MAIL"),
+    (
+        b"MAIL FROM:<a@b>\tsize=12345678901234567890",
+        b"MAIL<a@b> size 12345678901234567890",
+    ),
+    (
+        b"MAIL FROM:<a@b> SIZE=00000000000000000007",
+        b"MAIL<a@b> size 7",
+    ),
+    (
+        b"MAIL FROM:<a@b> SIZE=123456789012345678901",
+        b"!Parameter MAIL",
+    ),
     (b"MAIL FROM:<a@b> SIZE=", b"!Parameter MAIL"),
     (b"MAIL FROM:<a@b> SIZE", b"!Parameter MAIL"),
     (b"MAIL FROM:<a@b> SIZE=1x", b"!Parameter MAIL"),
     (b"MAIL FROM:<a@b> SIZE=1 SIZE=1", b"!Parameter MAIL"),
     (b"MAIL FROM:<a@b> BODY=7BIT", b"MAIL<a@b>"),
-    (b"MAIL FROM:<a@b> body=8BitMime  size=5", b"MAIL<a@b> size 5 eight"),
-    (b"MAIL FROM:<a@b> BODY=8BITMIME BODY=8BITMIME", b"!Parameter MAIL"),
+    (
+        b"MAIL FROM:<a@b> body=8BitMime  size=5",
+        b"MAIL<a@b> size 5 eight",
+    ),
+    (
+        b"MAIL FROM:<a@b> BODY=8BITMIME BODY=8BITMIME",
+        b"!Parameter MAIL",
+    ),
     (b"MAIL FROM:<a@b> BODY=", b"!Parameter MAIL"),
     (b"RCPT TO:<a@b> SIZE=1", b"!Parameter RCPT"),
 ];
@@ -211,7 +226,10 @@ static LENGTHS: [(usize, usize, bool); 6] = [
 fn is_long(alloc: Global, local: usize, domain: usize) -> Result<bool, NoMemory> {
     let mut line = Text::new(alloc);
     fill(&mut line, local, domain)?;
-    Ok(matches!(&command(line.bytes()), Err(LineFault::PathTooLong(Verb::Rcpt))))
+    Ok(matches!(
+        &command(line.bytes()),
+        Err(LineFault::PathTooLong(Verb::Rcpt))
+    ))
 }
 
 fn wrong_length(alloc: Global) -> Result<Option<usize>, NoMemory> {

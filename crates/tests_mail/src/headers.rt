@@ -1,3 +1,6 @@
+ghost use Rattle.std.specs.Prelude.{◌≤◌};
+ghost use Rattle.mail_base.specs.Limits.{most_message};
+
 use mail_base::{Config, Macros, NoMemory, Precedence, Seq, Split, Text};
 use mail_header::{Gathering, class_of, date_of, hops, split};
 use std::alloc::Global;
@@ -15,7 +18,10 @@ static ROWS: [Row; 24] = [
     (b"a: b\r\n\r\n\r\nhi\r\n", b"<a: b>{\r\nhi\r\n}6"),
     (b"a: b\r\nhi\r\n", b"<a: b>{hi\r\n}6"),
     (b"a:b\r\nc:\r\n\r\n", b"<a:b><c:>{}9"),
-    (b"a: b\r\n c\r\n\td\r\ne: f\r\n\r\n", b"<a: b\r\n c\r\n\td><e: f>{}20"),
+    (
+        b"a: b\r\n c\r\n\td\r\ne: f\r\n\r\n",
+        b"<a: b\r\n c\r\n\td><e: f>{}20",
+    ),
     (b" a\r\na: b\r\n", b"{ a\r\na: b\r\n}"),
     (b": b\r\n", b"{: b\r\n}"),
     (b"a b: c\r\n", b"{a b: c\r\n}"),
@@ -76,7 +82,9 @@ fn texts_are_split(rt: HostRuntime) -> Result<(), NoMemory> {
 }
 
 /// The lines of a text, gathered; a last one without its end isn't taken.
-fn gather(alloc: Global, text: &[u8], limit: u64) -> Result<Gathering, NoMemory> {
+fn gather(alloc: Global, text: &[u8], limit: u64) -> Result<Gathering, NoMemory>
+    requires { limit ≤ most_message }
+{
     let mut gathering = Gathering::new(alloc);
     let mut start = 0;
     for end in 1..text.len() {
@@ -88,6 +96,7 @@ fn gather(alloc: Global, text: &[u8], limit: u64) -> Result<Gathering, NoMemory>
     Ok(gathering)
 }
 
+#[tactic(auto, unfolding(mail_base::specs::Limits::most_message))]
 fn gathers_so(alloc: Global, row: &Row) -> Result<bool, NoMemory> {
     let gathering = gather(alloc, row.0, 1000)?;
     let mut text = Text::new(alloc);
@@ -112,6 +121,7 @@ fn lines_are_gathered(rt: HostRuntime) -> Result<(), NoMemory> {
 }
 
 #[test]
+#[tactic(auto, unfolding(mail_base::specs::Limits::most_message))]
 fn limits_are_kept(rt: HostRuntime) -> Result<(), NoMemory> {
     let whole = gather(rt.alloc(), b"a: b\r\n\r\nhi\r\n", 12)?;
     let above = gather(rt.alloc(), b"a: b\r\n\r\nhi\r\n", 11)?;
@@ -198,7 +208,10 @@ static DATES: [Row; 6] = [
     (b"", b"Thu, 1 Jan 2026 00:00:00 +0000"),
     (b"Date:  Fri, 2 Jan 2026 \r\n", b"Fri, 2 Jan 2026"),
     (b"date: a\r\n b\r\nDate: c\r\n", b"a"),
-    (b"Date: \t\r\nDate: c\r\n", b"Thu, 1 Jan 2026 00:00:00 +0000"),
+    (
+        b"Date: \t\r\nDate: c\r\n",
+        b"Thu, 1 Jan 2026 00:00:00 +0000",
+    ),
     (b"Date:\r\n later\r\n", b"Thu, 1 Jan 2026 00:00:00 +0000"),
     (b"X-Date: a\r\n", b"Thu, 1 Jan 2026 00:00:00 +0000"),
 ];
