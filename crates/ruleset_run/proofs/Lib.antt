@@ -1,7 +1,11 @@
 mod Candidates
+mod Ends
+mod FillLemmas
+mod LookLemmas
 mod Moves
-mod Parts
-mod Plains
-mod Sets
+mod SetLemmas
 mod Skipping
+mod Turning
 mod Unique
+mod ValueLemmas
+mod Walking

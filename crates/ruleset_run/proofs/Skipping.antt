@@ -1,15 +1,19 @@
 -- Rules between two candidates can't match, so a run passes them by.
-use Rattle.std.proofs.Common.{◌≡◌, inl, inr, ℕ, ◌+◌, ◌-◌, ◌<◌, ◌≤◌, List, [], ◌∷◌, length, drop, true, false, Some, Ok, refl, sym, ap, subst, ◌∙◌, zero, suc, arith}
-use Rattle.std.specs.Prelude.{slice_get, ◌==◌}
-use Rattle.std.specs.List.{list_all}
-use Rattle.std.proofs.lemmas.Bool.{cases_order, eq-eqb, ne_eqb, cond-true, cond-false, cond_both, and_parts}
+use Rattle.std.proofs.Common.{◌≡◌, inl, inr, ℕ, ◌+◌, ◌-◌, ◌<◌, ◌≤◌, List, [], ◌∷◌, ◌++◌, length, drop, cond, true, false, Some, Ok, refl, sym, ap, subst, ◌∙◌, zero, suc, arith}
+use Rattle.std.specs.Prelude.{slice_get, count_by, ◌==◌}
+use Rattle.std.specs.List.{list_any}
+use Rattle.std.proofs.lemmas.List.Concat.{flat_map-cons}
+use Rattle.std.proofs.lemmas.List.Recursion.{is_count_by}
+use Rattle.std.proofs.lemmas.Bool.{cases_order, eq-eqb, ne_eqb, cond-true, cond-false, cond_both}
 use Rattle.mail_base.specs.declared.token.Token.{Token}
 use Rattle.mail_base.specs.declared.rule.Rule.{Rule}
-use Rattle.mail_base.specs.declared.rule.RuleSet.{RuleSet}
-use Rattle.mail_base.specs.Candidates.{is_candidate, IsNext}
-use Rattle.ruleset_run.specs.Looks.{times_at}
-use Rattle.ruleset_run.specs.Plain.{is_plain_rule}
-use Rattle.ruleset_run.specs.Runs.{Macros, Outcome, Runs, unmatched, no_rule}
+use Rattle.mail_base.specs.declared.rule.Item.{Item}
+use Rattle.mail_base.specs.declared.rule.Item.TheVariants.{Any, More, One, Empty, InClass, NotInClass, Exact, Late}
+use Rattle.mail_base.specs.Candidates.{is_candidate, is_late, IsNext}
+use Rattle.ruleset_run.specs.inner.Looks.{times_at}
+use Rattle.ruleset_run.specs.Sites.{Site, Macros}
+use Rattle.ruleset_run.specs.Cutting.{Lates, is_cut_left, item_lists, left_lists}
+use Rattle.ruleset_run.specs.Runs.{Outcome, Called, late_of, Runs, unmatched, no_rule}
 use Rattle.ruleset_run.proofs.Candidates.{no_candidate}
 
 -- ---- lists
@@ -38,47 +42,55 @@ drop_all [] (suc n) le = refl
 drop_all (rule ∷ rules) zero le = absurd (omega (arith, le))
 drop_all (rule ∷ rules) (suc n) le = drop_all rules n (omega (arith, le))
 
-pub plain_at : (rules : List Rule) (n : ℕ) (rule : Rule) → slice_get rules n ≡ Some rule → list_all is_plain_rule rules ≡ true → is_plain_rule rule ≡ true
-plain_at [] n rule is plain = absurd (cc is)
-plain_at (r ∷ rules) zero rule is plain = let e : r ≡ rule = cc is in subst (λ (x : Rule). is_plain_rule x ≡ true) e (and_parts (is_plain_rule r) (list_all is_plain_rule rules) plain).0
-plain_at (r ∷ rules) (suc n) rule is plain = plain_at rules n rule is (and_parts (is_plain_rule r) (list_all is_plain_rule rules) plain).1
+-- a left side without a `$&x` can be cut
+pub no_late_cut : (late : Lates) (items : List Item) → list_any is_late items ≡ false → is_cut_left late items ≡ true
+no_late_cut late [] h = refl
+no_late_cut late (Late name ∷ items) h = absurd (cc h)
+no_late_cut late (Any ∷ items) h = no_late_cut late items h
+no_late_cut late (More ∷ items) h = no_late_cut late items h
+no_late_cut late (One ∷ items) h = no_late_cut late items h
+no_late_cut late (Empty ∷ items) h = no_late_cut late items h
+no_late_cut late (InClass name ∷ items) h = no_late_cut late items h
+no_late_cut late (NotInClass name ∷ items) h = no_late_cut late items h
+no_late_cut late (Exact token ∷ items) h = no_late_cut late items h
 
 -- ---- rules that are passed by
 
-module _ (book : List RuleSet) (rules : List Rule) (tokens : List Token) (depth work : ℕ) (macros : Macros) where
+module _ (site : Site) (called : Called) (rules : List Rule) (tokens : List Token) (work : ℕ) (macros : Macros) where
   -- so many rules from one on, with no successive application before
   passed : (count from times : ℕ) (outcome : Outcome) → from + count ≤ length rules → ((k : ℕ) (rule : Rule) → from ≤ k → k < from + count → slice_get rules k ≡ Some rule → is_candidate tokens rule ≡ false)
-      → Runs book (drop (from + count) rules) 0 tokens depth work macros outcome → (count ≡ 0 → times ≡ 0) → Runs book (drop from rules) times tokens depth work macros outcome
+      → Runs site called (drop (from + count) rules) 0 tokens work macros outcome → (count ≡ 0 → times ≡ 0) → Runs site called (drop from rules) times tokens work macros outcome
   passed zero from times outcome within none run start =
-      subst (λ (n : ℕ). Runs book (drop from rules) n tokens depth work macros outcome) (sym (start refl))
-      (subst (λ (n : ℕ). Runs book (drop n rules) 0 tokens depth work macros outcome) {x = from + 0} {y = from} (omega arith) run)
+      subst (λ (n : ℕ). Runs site called (drop from rules) n tokens work macros outcome) (sym (start refl))
+      (subst (λ (n : ℕ). Runs site called (drop n rules) 0 tokens work macros outcome) {x = from + 0} {y = from} (omega arith) run)
   passed (suc count) from times outcome within none run start =
       let found = get_below rules from (omega (arith, within)) in
-      subst (λ (rs : List Rule). Runs book rs times tokens depth work macros outcome) (sym (drop_at rules from found.0 found.1))
-      (unmatched found.0 (drop (from + 1) rules) times tokens depth work macros outcome ((no_candidate found.0 tokens (none from found.0 (omega arith) (omega arith) found.1)).1 [] [])
+      subst (λ (rs : List Rule). Runs site called rs times tokens work macros outcome) (sym (drop_at rules from found.0 found.1))
+      (unmatched found.0 (drop (from + 1) rules) times tokens work macros outcome (no_late_cut (late_of site macros) found.0.left (no_candidate found.0 tokens (none from found.0 (omega arith) (omega arith) found.1)).0)
+      ((no_candidate found.0 tokens (none from found.0 (omega arith) (omega arith) found.1)).1 site.classes (left_lists (late_of site macros) found.0.left))
       (passed count (from + 1) 0 outcome (omega (arith, within)) (λ k rule le lt is. none k rule (omega (arith, le)) (omega (arith, lt)) is)
-      (subst (λ (n : ℕ). Runs book (drop n rules) 0 tokens depth work macros outcome) {x = from + suc count} {y = from + 1 + count} (omega arith) run) (λ e. refl)))
+      (subst (λ (n : ℕ). Runs site called (drop n rules) 0 tokens work macros outcome) {x = from + suc count} {y = from + 1 + count} (omega arith) run) (λ e. refl)))
 
   difference : (from number : ℕ) → from ≤ number → (count : ℕ) × (number ≡ from + count)
   difference from number le = (number - from, omega (arith, le))
 
   pub skipped : (from number times now : ℕ) (rule : Rule) (outcome : Outcome) → IsNext rules from tokens number rule → now ≡ times_at number from times
-      → Runs book (drop number rules) now tokens depth work macros outcome → Runs book (drop from rules) times tokens depth work macros outcome
+      → Runs site called (drop number rules) now tokens work macros outcome → Runs site called (drop from rules) times tokens work macros outcome
   skipped from number times now rule outcome n is run = elim (cases_order number from) [
     | inl e ↦
-        subst (λ (k : ℕ). Runs book (drop k rules) times tokens depth work macros outcome) e
-        (subst (λ (k : ℕ). Runs book (drop number rules) k tokens depth work macros outcome) (is ∙ cond-true (number == from) times 0 (eq-eqb number from e)) run)
+        subst (λ (k : ℕ). Runs site called (drop k rules) times tokens work macros outcome) e
+        (subst (λ (k : ℕ). Runs site called (drop number rules) k tokens work macros outcome) (is ∙ cond-true (number == from) times 0 (eq-eqb number from e)) run)
     | inr (inl less) ↦ absurd (omega (arith, less, n.above))
     | inr (inr more) ↦
         let d = difference from number n.above in
         let never : now ≡ 0 = is ∙ cond-false (number == from) times 0 (ne_eqb number from (λ e. omega (arith, e, more))) in
         passed d.0 from times outcome (omega (arith, d.1, below_length rules number rule n.is)) (λ k other le lt is. n.first k other le (omega (arith, lt, d.1)) is)
-        (subst (λ (k : ℕ). Runs book (drop k rules) 0 tokens depth work macros outcome) d.1 (subst (λ (k : ℕ). Runs book (drop number rules) k tokens depth work macros outcome) never run))
+        (subst (λ (k : ℕ). Runs site called (drop k rules) 0 tokens work macros outcome) d.1 (subst (λ (k : ℕ). Runs site called (drop number rules) k tokens work macros outcome) never run))
         (λ e. absurd (omega (arith, e, d.1, more)))
   ]
 
   pub all_passed : (from times : ℕ) → from ≤ length rules → ((k : ℕ) (rule : Rule) → from ≤ k → slice_get rules k ≡ Some rule → is_candidate tokens rule ≡ false)
-      → Runs book (drop from rules) times tokens depth work macros (Ok (record { tokens = tokens; work = work; macros = macros }))
+      → Runs site called (drop from rules) times tokens work macros (Ok (record { tokens = tokens; work = work; macros = macros }))
   all_passed from times le none = elim (cases_order from (length rules)) [
     | inl e ↦ at_end from times (omega (arith, e))
     | inr (inl less) ↦
@@ -88,9 +100,24 @@ module _ (book : List RuleSet) (rules : List Rule) (tokens : List Token) (depth 
     | inr (inr more) ↦ absurd (omega (arith, le, more))
   ]
     where
-      at_end : (k times : ℕ) → length rules ≤ k → Runs book (drop k rules) times tokens depth work macros (Ok (record { tokens = tokens; work = work; macros = macros }))
-      at_end k times l = subst (λ (rs : List Rule). Runs book rs times tokens depth work macros (Ok (record { tokens = tokens; work = work; macros = macros }))) (sym (drop_all rules k l)) (no_rule times tokens depth work macros)
+      at_end : (k times : ℕ) → length rules ≤ k → Runs site called (drop k rules) times tokens work macros (Ok (record { tokens = tokens; work = work; macros = macros }))
+      at_end k times l = subst (λ (rs : List Rule). Runs site called rs times tokens work macros (Ok (record { tokens = tokens; work = work; macros = macros }))) (sym (drop_all rules k l)) (no_rule times tokens work macros)
 
 -- no more successive applications than before
 pub few_times : (number from times now : ℕ) → now ≡ times_at number from times → times ≤ 100 → now ≤ 100
 few_times number from times now is few = cond_both (number == from) times 0 (λ (n : ℕ). now ≡ n → now ≤ 100) (λ e q. omega (arith, q, few)) (λ e q. omega (arith, q)) is
+
+one_list : (late : Lates) (item : Item) (lists : List (List Token)) → length (item_lists late item ++ lists) ≡ cond (is_late item) (1 + length lists) (length lists)
+one_list late (Late name) lists = omega arith
+one_list late Any lists = refl
+one_list late More lists = refl
+one_list late One lists = refl
+one_list late Empty lists = refl
+one_list late (InClass name) lists = refl
+one_list late (NotInClass name) lists = refl
+one_list late (Exact token) lists = refl
+
+-- a left side has as many lists as it has `$&x`
+pub lists_count : (late : Lates) (items : List Item) → length (left_lists late items) ≡ count_by is_late items
+lists_count late items =
+    is_count_by (λ (xs : List Item). length (left_lists late xs)) is_late refl (λ item more. ap length (flat_map-cons (item_lists late) item more) ∙ one_list late item (left_lists late more)) items

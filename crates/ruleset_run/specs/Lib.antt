@@ -1,6 +1,6 @@
 pub mod Books
+pub mod Cutting
 pub mod Filling
-pub mod Fills
-pub mod Looks
-pub mod Plain
 pub mod Runs
+pub mod Sites
+pub mod inner

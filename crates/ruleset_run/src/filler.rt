@@ -1,64 +1,287 @@
-ghost use Rattle.std.specs.Prelude.{◌≡◌, ◌+◌, ◌++◌, ◌≤◌, ◌<◌, List, ℕ, length, OnOk, IfErr, IsErrOf, take, slice_get, ◌&&◌};
+ghost use Rattle.std.specs.Prelude.{◌≡◌, ◌++◌, IfOk, OnOk, map, true};
 ghost use Rattle.std.specs.List.{list_all};
-ghost use Rattle.rule_match.specs.Choices.{Fits};
-ghost use Rattle.rule_match.specs.Kept.{kept_cuts};
-ghost use Rattle.ruleset_run.specs.Filling.{filled, step_filled};
+ghost use Rattle.ruleset_run.specs.declared.part.Part.TheVariants.{Token as OneToken};
+ghost use Rattle.ruleset_run.specs.Cutting.{Lates};
+ghost use Rattle.ruleset_run.specs.Filling.{Matched, asked, fallback_tokens, filled, is_cut_fallback, is_cut_piece, is_cut_right, is_cut_step, looked_up, piece_tokens, pieces_tokens};
 ghost use Rattle.ruleset_run.specs.Filling as spec;
-ghost use Rattle.ruleset_run.specs.Plain.{is_plain, is_plain_book, is_plain_rule, is_plain_step, is_plain_there, left_wants};
-ghost use Rattle.ruleset_run.specs.Fills.{Fills, Pushes};
+ghost use Rattle.ruleset_run.specs.inner.Filler.{Fills, Gain, IsCutAs, Looks, StepFills, is_plain};
+ghost use Rattle.ruleset_run.specs.inner.Values.{lates};
 
 use crate::RunFault;
-use mail_base::{Config, Item, Mark, Pattern, Piece, Rule, RuleSet, Seq, Step, Token, TryCopy};
+use crate::parts::Parts;
+use crate::values::Values;
+use addr_tokens::join;
+use mail_base::{Mark, NoMemory, Pattern, Piece, Seq, Step, Text, Token, TryCopy};
+use map_tables::{Found, MapFault, Maps};
 use rule_match::Cuts;
-use std::alloc::Global;
 use std::slice;
 
-/// The most tokens of a filled list.
-const MOST_TOKENS: usize = 2000;
-
-/// The rule's right side, filled from the match of its left side, or `Long` where it has more than
-/// 2,000 tokens.
-pub fn fill(
-    alloc: Global,
-    rule: &Rule,
-    cuts: &Cuts,
-    tokens: &Seq<Token>,
-) -> Result<Seq<Token>, RunFault>
-    requires { (lengths : List ℕ) × Fits (left_wants rule.now) tokens.now lengths × (cuts.now ≡ kept_cuts rule.now.left 0 lengths) }
-    ensures { (lengths : List ℕ) → Fits (left_wants rule.now) tokens.now lengths → cuts.now ≡ kept_cuts rule.now.left 0 lengths
-        → Fills result (filled rule.now tokens.now lengths) }
+/// Whether each `$&x` of a right side can be cut.
+pub fn is_cut(values: &mut Values, steps: &[Step]) -> Result<bool, NoMemory>
+    ensures value { IfOk result (λ is. is ≡ is_cut_right (lates values.old) steps.now) }
+    ensures same { values.new ≡ values.old }
 {
-    let mut given = Seq::new(alloc);
-    for step in rule.right.steps.items() {
-        push_all(&mut given, piece_of(step, rule, cuts, tokens))?;
+    for step in steps {
+        if !is_cut_step(values, step)? {
+            return Ok(false);
+        }
+    }
+    Ok(true)
+}
+
+fn is_cut_step(values: &mut Values, step: &Step) -> Result<bool, NoMemory>
+    ensures value { IfOk result (λ is. is ≡ is_cut_step (lates values.old) step.now) }
+    ensures same { values.new ≡ values.old }
+{
+    match step {
+        Step::Plain(piece) => is_cut_piece(values, piece),
+        Step::Lookup {
+            name: _,
+            key,
+            args,
+            fallback,
+        } => Ok(
+            are_cut(values, key.items())?
+                && all_cut(values, args.items())?
+                && is_cut_fallback(values, fallback)?,
+        ),
+        Step::Call => Ok(true),
+    }
+}
+
+fn is_cut_fallback(values: &mut Values, fallback: &Option<Seq<Piece>>) -> Result<bool, NoMemory>
+    ensures value { IfOk result (λ is. is ≡ is_cut_fallback (lates values.old) fallback.now) }
+    ensures same { values.new ≡ values.old }
+{
+    match fallback {
+        Some(pieces) => are_cut(values, pieces.items()),
+        None => Ok(true),
+    }
+}
+
+fn all_cut(values: &mut Values, args: &[Seq<Piece>]) -> Result<bool, NoMemory>
+    ensures value { IfOk result (λ is. is ≡ list_all (list_all (is_cut_piece (lates values.old))) args.now) }
+    ensures same { values.new ≡ values.old }
+{
+    for pieces in args {
+        if !are_cut(values, pieces.items())? {
+            return Ok(false);
+        }
+    }
+    Ok(true)
+}
+
+fn are_cut(values: &mut Values, pieces: &[Piece]) -> Result<bool, NoMemory>
+    ensures value { IfOk result (λ is. is ≡ list_all (is_cut_piece (lates values.old)) pieces.now) }
+    ensures same { values.new ≡ values.old }
+{
+    for piece in pieces {
+        if !is_cut_piece(values, piece)? {
+            return Ok(false);
+        }
+    }
+    Ok(true)
+}
+
+fn is_cut_piece(values: &mut Values, piece: &Piece) -> Result<bool, NoMemory>
+    ensures value { IfOk result (λ is. is ≡ is_cut_piece (lates values.old) piece.now) }
+    ensures same { values.new ≡ values.old }
+{
+    match piece {
+        Piece::Late(name) => values.is_cut(name),
+        _ => Ok(true),
+    }
+}
+
+/// A match of a left side with tokens, by its cuts.
+#[derive(Clone, Copy)]
+pub struct Match<'a> {
+    pub left: &'a Pattern,
+    pub cuts: &'a Cuts,
+    pub tokens: &'a Seq<Token>,
+}
+
+/// The parts of a right side, filled from a match, where each `$&x` can be cut. A look-up that is refused goes
+/// before too many tokens.
+pub fn fill(
+    maps: &Maps,
+    values: &mut Values,
+    source: &Match,
+    steps: &[Step],
+) -> Result<Parts, RunFault>
+    requires cuts { (found : Matched) × IsCutAs source.now.left.now source.now.tokens.now source.now.cuts.now found }
+    requires settled { values.old.after ≡ values.old.macros }
+    ensures fills { (found : Matched) → IsCutAs source.now.left.now source.now.tokens.now source.now.cuts.now found
+        → Fills result values.new.macros (filled maps.now values.old.operators (lates values.old) found steps.now values.old.macros) }
+    ensures operators { values.new.operators ≡ values.old.operators }
+    ensures settled { OnOk result (values.new.after ≡ values.new.macros) }
+{
+    let mut parts = Parts::new(values.allocator());
+    for step in steps {
+        fill_step(maps, values, source, step, &mut parts)?;
+    }
+    values.settle()?;
+    Ok(parts)
+}
+
+fn fill_step(
+    maps: &Maps,
+    values: &mut Values,
+    source: &Match,
+    step: &Step,
+    parts: &mut Parts,
+) -> Result<(), RunFault>
+    requires { (found : Matched) × IsCutAs source.now.left.now source.now.tokens.now source.now.cuts.now found }
+    ensures fills { (found : Matched) → IsCutAs source.now.left.now source.now.tokens.now source.now.cuts.now found
+        → StepFills (filled maps.now values.old.operators (lates values.old) found) step.now parts.old values.old.after parts.new values.new.after result }
+    ensures operators { values.new.operators ≡ values.old.operators }
+    ensures macros { values.new.macros ≡ values.old.macros }
+{
+    match step {
+        Step::Plain(piece) => {
+            add_piece(values, source, piece, parts)?;
+            Ok(())
+        }
+        Step::Lookup {
+            name,
+            key,
+            args,
+            fallback,
+        } => {
+            let given = look_up(maps, values, source, name, key, args, fallback)?;
+            parts.push_tokens(given.items())?;
+            Ok(())
+        }
+        Step::Call => {
+            parts.push_call()?;
+            Ok(())
+        }
+    }
+}
+
+fn add_piece(
+    values: &mut Values,
+    source: &Match,
+    piece: &Piece,
+    parts: &mut Parts,
+) -> Result<(), NoMemory>
+    requires { (found : Matched) × IsCutAs source.now.left.now source.now.tokens.now source.now.cuts.now found }
+    ensures gain { (found : Matched) → IsCutAs source.now.left.now source.now.tokens.now source.now.cuts.now found
+        → OnOk result (Gain parts.old parts.new (map OneToken (piece_tokens (lates values.old) found piece.now))) }
+    ensures same { values.new ≡ values.old }
+{
+    match piece {
+        Piece::Late(name) => match values.late(name)? {
+            Some(tokens) => parts.push_tokens(tokens.items()),
+            None => parts.push_tokens(&[]),
+        },
+        _ => parts.push_tokens(plain_tokens(source, piece)),
+    }
+}
+
+// What a piece other than `$&x` stands for.
+fn plain_tokens<'a>(source: &Match<'a>, piece: &'a Piece) -> &'a [Token]
+    requires { (found : Matched) × IsCutAs source.now.left.now source.now.tokens.now source.now.cuts.now found }
+    ensures { (found : Matched) (late : Lates) → IsCutAs source.now.left.now source.now.tokens.now source.now.cuts.now found → is_plain piece.now ≡ true
+        → result.now ≡ piece_tokens late found piece.now }
+{
+    match piece {
+        Piece::Give(token) => slice::from_ref(token),
+        Piece::Cut(number) => source.cuts.piece(source.tokens, *number),
+        Piece::Late(_) => &[],
+    }
+}
+
+// What a look-up gives; what it changes of the macros waits.
+fn look_up(
+    maps: &Maps,
+    values: &mut Values,
+    source: &Match,
+    name: &Text,
+    key: &Seq<Piece>,
+    args: &Seq<Seq<Piece>>,
+    fallback: &Option<Seq<Piece>>,
+) -> Result<Seq<Token>, RunFault>
+    requires { (found : Matched) × IsCutAs source.now.left.now source.now.tokens.now source.now.cuts.now found }
+    ensures looks { (found : Matched) → IsCutAs source.now.left.now source.now.tokens.now source.now.cuts.now found
+        → Looks result values.new.after (looked_up maps.now values.old.operators name.now (pieces_tokens (lates values.old) found key.now) (map (pieces_tokens (lates values.old) found) args.now) (fallback_tokens (lates values.old) found fallback.now) values.old.after) }
+    ensures operators { values.new.operators ≡ values.old.operators }
+    ensures macros { values.new.macros ≡ values.old.macros }
+{
+    let key = tokens_of(values, source, key.items())?;
+    let args = texts_of(values, source, args.items())?;
+    let text = join(values.allocator(), &key, Some(b' '))?;
+    match values.lookup(maps, name, &text, &args) {
+        Ok(Found::Value(answer)) => match values.cut(&answer)? {
+            Some(tokens) => Ok(tokens),
+            None => Err(RunFault::BadScan),
+        },
+        Ok(Found::Absent) => match fallback {
+            Some(pieces) => Ok(tokens_of(values, source, pieces.items())?),
+            None => Ok(key),
+        },
+        Err(MapFault::MapClass) => Err(RunFault::MapClass(name.copy()?)),
+        Err(MapFault::NoSuchMap) => Err(RunFault::NoSuchMap(name.copy()?)),
+        Err(MapFault::NoMemory) => Err(RunFault::NoMemory),
+    }
+}
+
+// The tokens that pieces stand for.
+fn tokens_of(values: &mut Values, source: &Match, pieces: &[Piece]) -> Result<Seq<Token>, NoMemory>
+    requires { (found : Matched) × IsCutAs source.now.left.now source.now.tokens.now source.now.cuts.now found }
+    ensures tokens { (found : Matched) → IsCutAs source.now.left.now source.now.tokens.now source.now.cuts.now found
+        → IfOk result (λ tokens. tokens ≡ pieces_tokens (lates values.old) found pieces.now) }
+    ensures same { values.new ≡ values.old }
+{
+    let mut given = Seq::new(values.allocator());
+    for piece in pieces {
+        push_piece(values, source, piece, &mut given)?;
     }
     Ok(given)
 }
 
-fn piece_of<'a>(step: &'a Step, rule: &Rule, cuts: &Cuts, tokens: &'a Seq<Token>) -> &'a [Token]
-    requires { (lengths : List ℕ) × Fits (left_wants rule.now) tokens.now lengths × (cuts.now ≡ kept_cuts rule.now.left 0 lengths) }
-    ensures { (lengths : List ℕ) → Fits (left_wants rule.now) tokens.now lengths → cuts.now ≡ kept_cuts rule.now.left 0 lengths
-        → result.now ≡ step_filled rule.now.left tokens.now lengths step.now }
+fn push_piece(
+    values: &mut Values,
+    source: &Match,
+    piece: &Piece,
+    given: &mut Seq<Token>,
+) -> Result<(), NoMemory>
+    requires { (found : Matched) × IsCutAs source.now.left.now source.now.tokens.now source.now.cuts.now found }
+    ensures gain { (found : Matched) → IsCutAs source.now.left.now source.now.tokens.now source.now.cuts.now found
+        → OnOk result (given.new ≡ given.old ++ piece_tokens (lates values.old) found piece.now) }
+    ensures same { values.new ≡ values.old }
 {
-    match step {
-        Step::Plain(Piece::Give(token)) => slice::from_ref(token),
-        Step::Plain(Piece::Cut(number)) => cuts.piece(tokens, *number),
-        _ => &[],
+    match piece {
+        Piece::Late(name) => match values.late(name)? {
+            Some(tokens) => push_all(given, tokens.items()),
+            None => push_all(given, &[]),
+        },
+        _ => push_all(given, plain_tokens(source, piece)),
     }
 }
 
-/// Adds copies of tokens at the end, or answers `Long` where they would be more than 2,000.
-fn push_all(given: &mut Seq<Token>, more: &[Token]) -> Result<(), RunFault>
-    requires { length given.old ≤ 2000 }
-    ensures { Pushes result given.old more.now given.new }
+fn push_all(given: &mut Seq<Token>, more: &[Token]) -> Result<(), NoMemory>
+    ensures { OnOk result (given.new ≡ given.old ++ more.now) }
 {
-    if given.len() + more.len() > MOST_TOKENS {
-        return Err(RunFault::Long);
-    }
     for token in more {
         given.push(token.copy()?)?;
     }
     Ok(())
+}
+
+// The arguments of a look-up as texts.
+fn texts_of(values: &mut Values, source: &Match, args: &[Seq<Piece>]) -> Result<Seq<Text>, NoMemory>
+    requires { (found : Matched) × IsCutAs source.now.left.now source.now.tokens.now source.now.cuts.now found }
+    ensures texts { (found : Matched) → IsCutAs source.now.left.now source.now.tokens.now source.now.cuts.now found
+        → IfOk result (λ texts. texts ≡ map asked (map (pieces_tokens (lates values.old) found) args.now)) }
+    ensures same { values.new ≡ values.old }
+{
+    let mut texts = Seq::new(values.allocator());
+    for pieces in args {
+        let tokens = tokens_of(values, source, pieces.items())?;
+        texts.push(join(values.allocator(), &tokens, Some(b' '))?)?;
+    }
+    Ok(texts)
 }
 
 /// Whether the list begins with `$#`.
@@ -69,65 +292,4 @@ pub fn is_resolved(tokens: &Seq<Token>) -> bool
         [Token::Sign(Mark::Mailer), ..] => true,
         _ => false,
     }
-}
-
-/// Whether each rule has a left side of `$*`, `$+`, `$-` and tokens, and a right side of tokens and `$n`.
-pub fn is_plain(config: &Config) -> bool
-    ensures { result ≡ is_plain_book config.now.book }
-{
-    config.book.sets().iter().all(|set| is_plain_set(set))
-}
-
-fn is_plain_set(set: &RuleSet) -> bool
-    ensures { result ≡ list_all is_plain_rule set.now.rules }
-{
-    for number in 0..set.count() {
-        if !is_plain_at(set, number) {
-            return false;
-        }
-    }
-    true
-}
-
-fn is_plain_at(set: &RuleSet, number: u32) -> bool
-    ensures { result ≡ is_plain_there (slice_get set.now.rules number) }
-{
-    match set.rule(number) {
-        Some(rule) => is_plain_rule(rule),
-        None => true,
-    }
-}
-
-fn is_plain_rule(rule: &Rule) -> bool
-    ensures { result ≡ is_plain_rule rule.now }
-{
-    is_plain_left(&rule.left) && is_plain_right(rule)
-}
-
-fn is_plain_left(left: &Pattern) -> bool
-    ensures { result ≡ list_all is_plain left.now }
-{
-    left.items().iter().all(|item| is_plain_item(item))
-}
-
-fn is_plain_item(item: &Item) -> bool
-    ensures { result ≡ is_plain item.now }
-{
-    matches!(item, Item::Any | Item::More | Item::One | Item::Exact(_))
-}
-
-fn is_plain_right(rule: &Rule) -> bool
-    ensures { result ≡ list_all is_plain_step rule.now.right.steps }
-{
-    rule.right
-        .steps
-        .items()
-        .iter()
-        .all(|step| is_plain_step(step))
-}
-
-fn is_plain_step(step: &Step) -> bool
-    ensures { result ≡ is_plain_step step.now }
-{
-    matches!(step, Step::Plain(Piece::Give(_) | Piece::Cut(_)))
 }

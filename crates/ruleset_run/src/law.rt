@@ -2,18 +2,28 @@ ghost use Rattle.std.specs.Prelude.{◌≡◌, List, ℕ, false};
 ghost use Rattle.std.specs.List.{list_any};
 ghost use Rattle.mail_base.specs.declared.classes.Classes.{Classes};
 ghost use Rattle.mail_base.specs.declared.token.Token.{Token};
-ghost use Rattle.mail_base.specs.declared.rule.RuleSet.{RuleSet};
 ghost use Rattle.mail_base.specs.declared.rule.Rule.{Rule};
 ghost use Rattle.mail_base.specs.Candidates.{is_candidate, is_late};
 ghost use Rattle.rule_match.specs.Choices.{Fits};
 ghost use Rattle.rule_match.specs.Wants.{wants};
-ghost use Rattle.ruleset_run.specs.Runs.{Macros, Outcome, RunsSet};
+ghost use Rattle.ruleset_run.specs.Runs.{Outcome, RunsSet};
+ghost use Rattle.ruleset_run.specs.Sites.{Macros, Site};
+
+use rule_match::each_choice;
 
 /// A run has one outcome.
 pub fn one_outcome()
-    ensures { (book : List RuleSet) (name : List ℕ) (tokens : List Token) (depth work : ℕ) (macros : Macros) (one another : Outcome)
-        → RunsSet book name tokens depth work macros one → RunsSet book name tokens depth work macros another → one ≡ another }
+    ensures { (site : Site) (macros : Macros) (name : List ℕ) (tokens : List Token) (one another : Outcome)
+        → RunsSet site macros name tokens one → RunsSet site macros name tokens another → one ≡ another }
 {}
+
+/// A run has an outcome.
+pub fn each_run_ends()
+    ensures { (site : Site) (macros : Macros) (name : List ℕ) (tokens : List Token) → (outcome : Outcome) × RunsSet site macros name tokens outcome }
+{
+    // A law: a match is taken, or none fits.
+    each_choice();
+}
 
 /// A rule that is no candidate for tokens has no `$&x` on its left side, and no match with them,
 /// whatever the classes are.

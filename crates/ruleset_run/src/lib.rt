@@ -1,13 +1,16 @@
-//! The runs of rulesets over the tokens of an address.
+//! The runs of rulesets over the tokens of an address, with their look-ups and calls.
 #![tactic(auto)]
 
 mod book;
+mod calls;
 mod fault;
 mod filler;
 mod law;
+mod part;
+mod parts;
 mod runner;
+mod values;
 
 pub use fault::RunFault;
-pub use filler::is_plain;
-pub use law::{candidates_lose_no_match, one_outcome};
+pub use law::{candidates_lose_no_match, each_run_ends, one_outcome};
 pub use runner::{Ran, run};

@@ -1,17 +1,23 @@
-ghost use Rattle.std.specs.Prelude.{◌≡◌, ◌+◌, ◌≤◌, ◌<◌, List, ℕ, [], IfOk, OnOk, IfSome, IfNone, IsTrue, None};
-ghost use Rattle.std.specs.List.{list_all, find};
+ghost use Rattle.std.specs.Prelude.{◌≡◌, ◌≤◌, ◌<◌, ◌++◌, ℕ, None, Some, IfErr, IfOk, OnOk, false, reverse, true};
+ghost use Rattle.std.specs.List.{find};
 ghost use Rattle.mail_base.specs.Rulesets.{is_named};
-ghost use Rattle.mail_base.specs.declared.rule.RuleSet.{RuleSet};
-ghost use Rattle.rule_match.specs.Choices.{Fits};
 ghost use Rattle.rule_match.specs.Kept.{IsChoice};
-ghost use Rattle.ruleset_run.specs.Looks.{times_at};
-ghost use Rattle.ruleset_run.specs.Plain.{is_plain_book, is_plain_rule, left_wants};
-ghost use Rattle.ruleset_run.specs.Runs.{Gives, Macros, Outcome, Runs, RunsSet, Applies};
+ghost use Rattle.ruleset_run.specs.Cutting.{is_cut_item, is_cut_left, item_lists, left_lists};
+ghost use Rattle.ruleset_run.specs.Runs.{Ends, Gives, Outcome, Replaced, Runs, RunsAt, RunsSet, SetRuns, Takes, name_of, rest_of};
+ghost use Rattle.ruleset_run.specs.Sites.{Macros as TheMacros, Site, site_of};
+ghost use Rattle.ruleset_run.specs.inner.Filler.{Stand};
+ghost use Rattle.ruleset_run.specs.inner.Looks.{LeftFault, LimitFault, MatchFound, times_at};
+ghost use Rattle.ruleset_run.specs.inner.Values.{lates};
 
 use crate::RunFault;
 use crate::book::is_standard;
-use crate::filler::{fill, is_resolved};
-use mail_base::{Classes, Config, Go, Rule, RuleSet, Seq, Text, Token, TryCopy};
+use crate::calls::{call_name, push, turned};
+use crate::filler::{Match, fill, is_cut, is_resolved};
+use crate::part::Part;
+use crate::parts::{MOST_TOKENS, Parts};
+use crate::values::Values;
+use mail_base::{Classes, Config, Go, Item, Macros, Rule, RuleSet, Seq, Text, Token, TryCopy};
+use map_tables::Maps;
 use rule_index::next;
 use rule_match::{Cuts, find};
 use std::alloc::Global;
@@ -22,59 +28,95 @@ const MOST_TIMES: u32 = 100;
 /// The most applications of a run.
 const MOST_WORK: u32 = 10_000;
 
+/// The most calls that may be nested in each other.
+const MOST_CALLS: u32 = 50;
+
 /// What a run ends with.
 #[derive(Drop)]
 pub struct Ran {
     pub tokens: Seq<Token>,
-    /// The number of applications.
+    /// The number of applications, those in calls too.
     pub work: u32,
 }
 
-/// Runs the ruleset of a name over tokens. A rule that doesn't match costs its search alone; an
-/// application makes one new list.
-pub fn run(alloc: Global, config: &Config, set: &Text, tokens: &Seq<Token>) -> Result<Ran, RunFault>
-    requires { IsTrue (is_plain_book config.now.book) }
-    ensures run { Gives result (RunsSet config.now.book set.now tokens.now 0 0 []) }
-    ensures only { (outcome : Outcome) → RunsSet config.now.book set.now tokens.now 0 0 [] outcome → Gives result (λ given. given ≡ outcome) }
-{
-    let Some(found) = config.book.get(set) else {
-        return run_absent(set, tokens);
-    };
-    let tokens = tokens.copy()?;
-    let late = Seq::new(alloc);
-    run_rules(
-        alloc,
-        found,
-        &config.classes,
-        &late,
-        Ran { tokens, work: 0 },
-    )
-}
-
-/// Runs a set that isn't there: one from 0 to 5 is empty.
-fn run_absent(set: &Text, tokens: &Seq<Token>) -> Result<Ran, RunFault>
-    ensures { (book : List RuleSet) → find (is_named set.now) book ≡ None → Gives result (RunsSet book set.now tokens.now 0 0 []) }
-{
-    if is_standard(set) {
-        let tokens = tokens.copy()?;
-        return Ok(Ran { tokens, work: 0 });
-    }
-    Err(RunFault::NoRuleset(set.copy()?))
-}
-
-/// Runs the rules of a set over tokens, after so many applications. No rule has a `$&x`, so the lists
-/// of these are none.
-fn run_rules(
+/// Runs the ruleset of a name over tokens (Sendmail Operation Guide, R and S: rewriting rules).
+///
+/// A rule that can't match, since its anchor isn't among the tokens, costs nothing, and one that doesn't
+/// its search alone; an application makes one new list, which its calls take over. What a `$&x` stands for is cut
+/// once, until a look-up changes a macro. Macros are copied when that happens for the first time.
+///
+/// The faults of one application come in this order: `Loop`, `Work`, a `$&x` of the right side that can't be
+/// cut, its look-ups from the left to the right, `Long`, its calls from the right to the left, each with
+/// `Long` behind it.
+pub fn run(
     alloc: Global,
-    set: &RuleSet,
-    classes: &Classes,
-    late: &Seq<Seq<Token>>,
-    start: Ran,
+    config: &Config,
+    maps: &Maps,
+    macros: &Macros,
+    set: &Text,
+    tokens: &Seq<Token>,
 ) -> Result<Ran, RunFault>
-    requires plain { IsTrue (list_all is_plain_rule set.now.rules) }
-    requires late { late.now ≡ [] }
+    ensures run { Gives result (RunsSet (site_of config.now maps.now) macros.now set.now tokens.now) }
+    ensures only { (outcome : Outcome) → RunsSet (site_of config.now maps.now) macros.now set.now tokens.now outcome → Gives result (λ given. given ≡ outcome) }
+{
+    let mut values = Values::new(alloc, &config.options.operator_chars, macros);
+    let tokens = tokens.copy()?;
+    let start = Ran { tokens, work: 0 };
+    run_set(config, maps, &mut values, set, start, MOST_CALLS)
+}
+
+/// Runs the ruleset of a name, where so many calls may be nested in it.
+#[cycle(runs)]
+fn run_set(
+    config: &Config,
+    maps: &Maps,
+    values: &mut Values,
+    name: &Text,
+    start: Ran,
+    left: u32,
+) -> Result<Ran, RunFault>
+    requires operators { values.old.operators ≡ config.now.options.operator_chars }
+    requires settled { values.old.after ≡ values.old.macros }
     requires work { start.work ≤ 10000 }
-    ensures { (book : List RuleSet) (depth : ℕ) (macros : Macros) → Gives result (Runs book set.now.rules 0 start.tokens depth start.work macros) }
+    ensures run { Ends values.new.macros result (SetRuns (site_of config.now maps.now) (RunsAt (site_of config.now maps.now) left) (Some name.now) start.tokens start.work values.old.macros) }
+    ensures operators { values.new.operators ≡ values.old.operators }
+    ensures settled { OnOk result (values.new.after ≡ values.new.macros) }
+    ensures work { IfOk result (λ ran. (start.work ≤ ran.work) × (ran.work ≤ 10000)) }
+{
+    match config.book.get(name) {
+        Some(set) => run_rules(config, maps, values, set, start, left),
+        None => run_absent(name, start),
+    }
+}
+
+/// Runs a ruleset that isn't there: one from 0 to 5 is empty.
+fn run_absent(name: &Text, start: Ran) -> Result<Ran, RunFault>
+    ensures run { (site : Site) (left : ℕ) (macros : TheMacros) → find (is_named name.now) site.book ≡ None → Ends macros result (SetRuns site (RunsAt site left) (Some name.now) start.tokens start.work macros) }
+    ensures work { IfOk result (λ ran. ran.work ≡ start.work) }
+{
+    if is_standard(name) {
+        return Ok(start);
+    }
+    Err(RunFault::NoRuleset(name.copy()?))
+}
+
+/// Runs the rules of a ruleset, where so many calls may be nested in them.
+#[cycle(runs)]
+fn run_rules(
+    config: &Config,
+    maps: &Maps,
+    values: &mut Values,
+    set: &RuleSet,
+    start: Ran,
+    left: u32,
+) -> Result<Ran, RunFault>
+    requires operators { values.old.operators ≡ config.now.options.operator_chars }
+    requires settled { values.old.after ≡ values.old.macros }
+    requires work { start.work ≤ 10000 }
+    ensures run { Ends values.new.macros result (Runs (site_of config.now maps.now) (RunsAt (site_of config.now maps.now) left) set.now.rules 0 start.tokens start.work values.old.macros) }
+    ensures operators { values.new.operators ≡ values.old.operators }
+    ensures settled { OnOk result (values.new.after ≡ values.new.macros) }
+    ensures work { IfOk result (λ ran. (start.work ≤ ran.work) × (ran.work ≤ 10000)) }
 {
     let _count = set.count();
     let mut from: u32 = 0;
@@ -82,12 +124,13 @@ fn run_rules(
     let mut now = start;
     while let Some((number, rule)) = next(set, from, &now.tokens) {
         times = times_at(number, from, times);
-        let Some(cuts) = find_plain(rule, &now.tokens, classes, late) else {
+        let Some(cuts) = match_of(values, rule, &now.tokens, &config.classes)? else {
             from = number + 1;
             times = 0;
             continue;
         };
-        now = apply(alloc, rule, &cuts, times, &now)?;
+        check_limits(times, now.work)?;
+        now = apply(config, maps, values, rule, &cuts, &now, left)?;
         if is_resolved(&now.tokens) {
             return Ok(now);
         }
@@ -106,21 +149,6 @@ fn run_rules(
     Ok(now)
 }
 
-/// The match that a plain rule takes; no class and no list changes it.
-fn find_plain(
-    rule: &Rule,
-    tokens: &Seq<Token>,
-    classes: &Classes,
-    late: &Seq<Seq<Token>>,
-) -> Option<Cuts>
-    requires plain { IsTrue (is_plain_rule rule.now) }
-    requires late { late.now ≡ [] }
-    ensures some { IfSome result (λ cuts. IsChoice [] [] rule.now.left tokens.now cuts) }
-    ensures none { IfNone result ((lengths : List ℕ) → Fits (left_wants rule.now) tokens.now lengths → ⊥) }
-{
-    find(&rule.left, tokens, classes, late)
-}
-
 /// How often the rule that comes next was applied in succession: another one than before, never.
 fn times_at(number: u32, from: u32, times: u32) -> u32
     ensures { result ≡ times_at number from times }
@@ -128,24 +156,175 @@ fn times_at(number: u32, from: u32, times: u32) -> u32
     if number == from { times } else { 0 }
 }
 
-/// Applies a rule to tokens that it matches, where it was applied so many times in succession before.
-fn apply(alloc: Global, rule: &Rule, cuts: &Cuts, times: u32, now: &Ran) -> Result<Ran, RunFault>
-    requires choice { IsChoice [] [] rule.now.left now.now.tokens cuts.now }
-    requires work { now.now.work ≤ 10000 }
-    requires times { times ≤ 100 }
-    ensures applied { (book : List RuleSet) (depth : ℕ) (macros : Macros) → Gives result (Applies book rule.now times now.now.tokens depth now.now.work macros) }
-    ensures work { IfOk result (λ ran. (ran.work ≡ now.now.work + 1) × (ran.work ≤ 10000)) }
-    ensures times { OnOk result (times < 100) }
+/// The match that a rule takes, if it has any, or `BadScan` where a `$&x` of its left side can't be cut.
+fn match_of(
+    values: &mut Values,
+    rule: &Rule,
+    tokens: &Seq<Token>,
+    classes: &Classes,
+) -> Result<Option<Cuts>, RunFault>
+    ensures found { IfOk result (MatchFound (is_cut_left (lates values.old) rule.now.left) classes.now (left_lists (lates values.old) rule.now.left) rule.now.left tokens.now) }
+    ensures refused { IfErr result (LeftFault (is_cut_left (lates values.old) rule.now.left)) }
+    ensures same { values.new ≡ values.old }
+{
+    let late = lists_of(values, rule.left.items())?;
+    Ok(find(&rule.left, tokens, classes, &late))
+}
+
+/// The tokens of each `$&x` of a left side, in order, or `BadScan` where one can't be cut.
+fn lists_of(values: &mut Values, items: &[Item]) -> Result<Seq<Seq<Token>>, RunFault>
+    ensures lists { IfOk result (λ lists. (is_cut_left (lates values.old) items.now ≡ true) × (lists ≡ left_lists (lates values.old) items.now)) }
+    ensures refused { IfErr result (LeftFault (is_cut_left (lates values.old) items.now)) }
+    ensures same { values.new ≡ values.old }
+{
+    let mut lists = Seq::new(values.allocator());
+    for item in items {
+        push_list(values, item, &mut lists)?;
+    }
+    Ok(lists)
+}
+
+/// Adds the tokens of an item that is a `$&x`.
+fn push_list(values: &mut Values, item: &Item, lists: &mut Seq<Seq<Token>>) -> Result<(), RunFault>
+    ensures lists { OnOk result ((is_cut_item (lates values.old) item.now ≡ true) × (lists.new ≡ lists.old ++ item_lists (lates values.old) item.now)) }
+    ensures refused { IfErr result (LeftFault (is_cut_item (lates values.old) item.now)) }
+    ensures same { values.new ≡ values.old }
+{
+    match item {
+        Item::Late(name) => match values.late(name)? {
+            Some(tokens) => Ok(lists.push(tokens)?),
+            None => Err(RunFault::BadScan),
+        },
+        _ => Ok(()),
+    }
+}
+
+/// Whether a rule may be applied once more.
+fn check_limits(times: u32, work: u32) -> Result<(), RunFault>
+    ensures within { OnOk result ((times < 100) × (work < 10000)) }
+    ensures refused { IfErr result (LimitFault times work) }
 {
     if times >= MOST_TIMES {
         return Err(RunFault::Loop);
     }
-    if now.work >= MOST_WORK {
+    if work >= MOST_WORK {
         return Err(RunFault::Work);
     }
-    let tokens = fill(alloc, rule, cuts, &now.tokens)?;
+    Ok(())
+}
+
+/// Applies a rule to tokens by the match that it takes.
+#[cycle(runs)]
+fn apply(
+    config: &Config,
+    maps: &Maps,
+    values: &mut Values,
+    rule: &Rule,
+    cuts: &Cuts,
+    now: &Ran,
+    left: u32,
+) -> Result<Ran, RunFault>
+    requires operators { values.old.operators ≡ config.now.options.operator_chars }
+    requires settled { values.old.after ≡ values.old.macros }
+    requires cut { is_cut_left (lates values.old) rule.now.left ≡ true }
+    requires choice { IsChoice config.now.classes (left_lists (lates values.old) rule.now.left) rule.now.left now.now.tokens cuts.now }
+    requires work { now.now.work < 10000 }
+    ensures takes { (times : ℕ) → times < 100 → Ends values.new.macros result (Takes (site_of config.now maps.now) (RunsAt (site_of config.now maps.now) left) rule.now times now.now.tokens now.now.work values.old.macros) }
+    ensures operators { values.new.operators ≡ values.old.operators }
+    ensures settled { OnOk result (values.new.after ≡ values.new.macros) }
+    ensures work { IfOk result (λ ran. (now.now.work < ran.work) × (ran.work ≤ 10000)) }
+{
+    let steps = rule.right.steps.items();
+    if !is_cut(values, steps)? {
+        return Err(RunFault::BadScan);
+    }
+    let source = Match {
+        left: &rule.left,
+        cuts,
+        tokens: &now.tokens,
+    };
+    let parts = fill(maps, values, &source, steps)?;
+    if parts.is_long {
+        return Err(RunFault::Long);
+    }
+    replace(config, maps, values, parts, now.work + 1, left)
+}
+
+/// Makes the calls among parts, from the rightmost to the leftmost.
+#[cycle(runs)]
+fn replace(
+    config: &Config,
+    maps: &Maps,
+    values: &mut Values,
+    parts: Parts,
+    work: u32,
+    left: u32,
+) -> Result<Ran, RunFault>
+    requires operators { values.old.operators ≡ config.now.options.operator_chars }
+    requires settled { values.old.after ≡ values.old.macros }
+    requires parts { Stand parts parts.kept }
+    requires short { parts.is_long ≡ false }
+    requires work { work ≤ 10000 }
+    ensures run { Ends values.new.macros result (Replaced (RunsAt (site_of config.now maps.now) left) 0 parts.kept work values.old.macros) }
+    ensures operators { values.new.operators ≡ values.old.operators }
+    ensures settled { OnOk result (values.new.after ≡ values.new.macros) }
+    ensures work { IfOk result (λ ran. (work ≤ ran.work) × (ran.work ≤ 10000)) }
+{
+    let mut before = parts.count;
+    let mut front = parts.kept.into_vec();
+    // the tokens behind the parts that are left, the last one first
+    let mut back = Vec::new(values.allocator());
+    let mut now_work = work;
+    'parts: while let Some(part) = front.pop() {
+        match part {
+            Part::Token(token) => {
+                push(&mut back, token)?;
+                before -= 1;
+            }
+            Part::Call => {
+                let ran = call(config, maps, values, back, now_work, left)?;
+                if ran.tokens.len() > MOST_TOKENS - before {
+                    return Err(RunFault::Long);
+                }
+                now_work = ran.work;
+                back = turned(ran.tokens.into_vec());
+            }
+        }
+    }
     Ok(Ran {
-        tokens,
-        work: now.work + 1,
+        tokens: Seq::from_vec(turned(back)),
+        work: now_work,
     })
+}
+
+/// Makes a call on tokens that stand with the last one first; the first names the ruleset.
+#[cycle(runs)]
+fn call(
+    config: &Config,
+    maps: &Maps,
+    values: &mut Values,
+    mut back: Vec<Token>,
+    work: u32,
+    left: u32,
+) -> Result<Ran, RunFault>
+    requires operators { values.old.operators ≡ config.now.options.operator_chars }
+    requires settled { values.old.after ≡ values.old.macros }
+    requires work { work ≤ 10000 }
+    ensures run { Ends values.new.macros result (RunsAt (site_of config.now maps.now) left (name_of (reverse back.items)) (rest_of (reverse back.items)) work values.old.macros) }
+    ensures operators { values.new.operators ≡ values.old.operators }
+    ensures settled { OnOk result (values.new.after ≡ values.new.macros) }
+    ensures work { IfOk result (λ ran. (work ≤ ran.work) × (ran.work ≤ 10000)) }
+{
+    if left == 0 {
+        return Err(RunFault::Deep);
+    }
+    let Some(token) = back.pop() else {
+        return Err(RunFault::NoRuleset(Text::new(values.allocator())));
+    };
+    let name = call_name(values.allocator(), token)?;
+    let start = Ran {
+        tokens: Seq::from_vec(turned(back)),
+        work,
+    };
+    run_set(config, maps, values, &name, start, left - 1)
 }

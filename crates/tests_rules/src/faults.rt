@@ -25,7 +25,17 @@ static EXPAND: [(ExpandFault, &str); 4] = [
 static BAD: [(Bad, &str); 1] = [(Bad { place: 3 }, "bad value at 3")];
 
 /// The texts of the faults of a run, by their places.
-static RUN: [&str; 5] = ["Loop", "Work", "Long", "NoRuleset", "NoMemory"];
+static RUN: [&str; 9] = [
+    "Loop",
+    "Work",
+    "Deep",
+    "Long",
+    "BadScan",
+    "NoRuleset",
+    "MapClass",
+    "NoSuchMap",
+    "NoMemory",
+];
 
 fn says(alloc: Global, fault: &impl Display, text: &str) -> Result<bool, NoMemory> {
     let said = format!(in alloc; "{fault}")?;
@@ -36,8 +46,12 @@ fn run_fault(alloc: Global, place: usize) -> Result<RunFault, NoMemory> {
     match place {
         0 => Ok(RunFault::Loop),
         1 => Ok(RunFault::Work),
-        2 => Ok(RunFault::Long),
-        3 => Ok(RunFault::NoRuleset(Text::of(alloc, b"parse")?)),
+        2 => Ok(RunFault::Deep),
+        3 => Ok(RunFault::Long),
+        4 => Ok(RunFault::BadScan),
+        5 => Ok(RunFault::NoRuleset(Text::of(alloc, b"parse")?)),
+        6 => Ok(RunFault::MapClass(Text::of(alloc, b"access")?)),
+        7 => Ok(RunFault::NoSuchMap(Text::of(alloc, b"access")?)),
         _ => Ok(RunFault::NoMemory),
     }
 }

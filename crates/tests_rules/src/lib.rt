@@ -7,6 +7,8 @@ mod faults;
 #[cfg(test)]
 mod indexed;
 #[cfg(test)]
+mod lookups;
+#[cfg(test)]
 mod macros;
 #[cfg(test)]
 mod matches;
@@ -22,3 +24,5 @@ mod signs;
 mod tokens;
 #[cfg(test)]
 mod values;
+#[cfg(test)]
+mod world;

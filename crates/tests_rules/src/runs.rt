@@ -3,32 +3,37 @@ use self::Rules::{Lines, Rounds};
 use self::Tokens::{Signs, Words};
 use crate::sets::{Line, add_lines, rule_of, set_of};
 use crate::signs::{Broken, are_all, are_signs, repeated, tokens_of};
+use crate::world::{World, world_of};
 use mail_base::{Book, Config, Go, NoMemory, Piece, Rule, Seq, Step, Text, Token};
-use ruleset_run::{Ran, RunFault, is_plain, run};
+use ruleset_run::{Ran, RunFault, run};
 use std::alloc::Global;
 
 /// The rules of a set: lines, or rounds and so many applications more.
 #[derive(Clone, Copy)]
-enum Rules {
+pub enum Rules {
     Lines(&'static [Line]),
     Rounds(usize),
 }
 
 /// Tokens: by signs, or so many words.
 #[derive(Clone, Copy)]
-enum Tokens {
+pub enum Tokens {
     Signs(&'static str),
     Words(usize),
 }
 
 /// What a run ends with: a list with so much work, or a fault.
 #[derive(Clone, Copy)]
-enum End {
+pub enum End {
     List(Tokens, u32),
     Loop,
     Work,
+    Deep,
     Long,
-    NoRuleset,
+    NoRuleset(&'static str),
+    MapClass(&'static str),
+    NoSuchMap(&'static str),
+    BadScan,
 }
 
 // Each application takes a token away, as long as there are two.
@@ -70,15 +75,13 @@ fn add(alloc: Global, book: &mut Book, name: &str, made: Rules) -> Result<(), Br
 }
 
 // Rulesets by their names.
-type Sets<'a> = &'a [(&'static str, Rules)];
+pub type Sets<'a> = &'a [(&'static str, Rules)];
 
-// No clause: no test needs to know what a configuration has before any line.
-fn config_of(alloc: Global, sets: Sets) -> Result<Config, Broken> {
-    let mut config = Config::new(alloc)?;
+fn add_sets(alloc: Global, config: &mut Config, sets: Sets) -> Result<(), Broken> {
     for (name, made) in sets {
         add(alloc, &mut config.book, name, *made)?;
     }
-    Ok(config)
+    Ok(())
 }
 
 fn list_of(alloc: Global, tokens: Tokens) -> Result<Seq<Token>, NoMemory> {
@@ -95,45 +98,62 @@ fn are_wanted(tokens: &[Token], wanted: Tokens) -> bool {
     }
 }
 
-fn is_end(given: &Result<Ran, RunFault>, set: &str, end: End) -> bool {
+fn is_end(given: &Result<Ran, RunFault>, end: End) -> bool {
     match (given, end) {
         (Ok(ran), End::List(wanted, work)) => {
             are_wanted(ran.tokens.items(), wanted) && ran.work == work
         }
-        (Err(RunFault::NoRuleset(name)), End::NoRuleset) => name.bytes() == set.as_bytes(),
-        (Err(RunFault::Loop), End::Loop)
-        | (Err(RunFault::Work), End::Work)
-        | (Err(RunFault::Long), End::Long) => true,
+        (Err(fault), end) => is_fault(fault, end),
+        _ => false,
+    }
+}
+
+fn is_fault(fault: &RunFault, end: End) -> bool {
+    match (fault, end) {
+        (RunFault::NoRuleset(name), End::NoRuleset(wanted))
+        | (RunFault::MapClass(name), End::MapClass(wanted))
+        | (RunFault::NoSuchMap(name), End::NoSuchMap(wanted)) => name.bytes() == wanted.as_bytes(),
+        (RunFault::Loop, End::Loop)
+        | (RunFault::Work, End::Work)
+        | (RunFault::Deep, End::Deep)
+        | (RunFault::Long, End::Long)
+        | (RunFault::BadScan, End::BadScan) => true,
         _ => false,
     }
 }
 
 /// The name of the set that runs, what it runs over, and what the run ends with.
-type Run = (&'static str, Tokens, End);
+pub type Run = (&'static str, Tokens, End);
 
-// Whether the run ends so, where no rule asks for more than a plain one does.
-fn ends_so(alloc: Global, config: &Config, row: &Run) -> Result<bool, Broken> {
-    if !is_plain(config) {
-        return Err(Broken::NotPlain);
-    }
+fn ends_so(alloc: Global, world: &World, row: &Run) -> Result<bool, Broken> {
     let set = Text::of(alloc, row.0.as_bytes())?;
     let tokens = list_of(alloc, row.1)?;
-    Ok(is_end(&run(alloc, config, &set, &tokens), row.0, row.2))
+    let given = run(
+        alloc,
+        &world.config,
+        &world.maps,
+        &world.config.macros,
+        &set,
+        &tokens,
+    );
+    Ok(is_end(&given, row.2))
 }
 
-// The first name with which a run ends otherwise.
-fn wrong_of(alloc: Global, config: &Config, rows: &[Run]) -> Result<Option<&'static str>, Broken> {
-    for row in rows {
-        if !ends_so(alloc, config, row)? {
-            return Ok(Some(row.0));
+// The first place of a run that ends otherwise.
+fn wrong_of(alloc: Global, world: &World, rows: &[Run]) -> Result<Option<usize>, Broken> {
+    for (at, row) in rows.iter().enumerate() {
+        if !ends_so(alloc, world, row)? {
+            return Ok(Some(at));
         }
     }
     Ok(None)
 }
 
-fn wrong(alloc: Global, sets: Sets, rows: &[Run]) -> Result<Option<&'static str>, Broken> {
-    let config = config_of(alloc, sets)?;
-    wrong_of(alloc, &config, rows)
+/// The first place of a run that ends otherwise, in a configuration with these sets.
+pub fn wrong(alloc: Global, sets: Sets, rows: &[Run]) -> Result<Option<usize>, Broken> {
+    let mut world = world_of(alloc)?;
+    add_sets(alloc, &mut world.config, sets)?;
+    wrong_of(alloc, &world, rows)
 }
 
 // The cases of one set, which is called Set, and those of three.
@@ -257,10 +277,10 @@ const CASES: &[(Sets, &[Run])] = &[
             ("3", Signs("a"), End::List(Signs("az"), 1)),
             ("0", Signs("a"), End::List(Signs("a"), 0)),
             ("5", Signs("a"), End::List(Signs("a"), 0)),
-            ("6", Words(1), End::NoRuleset),
-            ("two", Words(1), End::NoRuleset),
-            ("", Words(1), End::NoRuleset),
-            ("00", Words(1), End::NoRuleset),
+            ("6", Words(1), End::NoRuleset("6")),
+            ("two", Words(1), End::NoRuleset("two")),
+            ("", Words(1), End::NoRuleset("")),
+            ("00", Words(1), End::NoRuleset("00")),
         ],
     ),
 ];

@@ -17,12 +17,14 @@ impl From<NoMemory> for Broken {
     }
 }
 
-// A token is written as one byte: `.`, `:` and `@` are operators, `#` is `$#`, `"` is the quoted q.
+// A token is written as one byte: `.`, `:` and `@` are operators, `#` is `$#`, `"` is a Quoted token that is
+// `q`, and `'` one that is `"q"`.
 fn token_of(alloc: Global, sign: u8) -> Result<Token, NoMemory> {
     match sign {
         b'.' | b':' | b'@' => Ok(Token::Op(sign)),
         b'#' => Ok(Token::Sign(Mark::Mailer)),
         b'"' => Ok(Token::Quoted(Text::of(alloc, b"q")?)),
+        b'\'' => Ok(Token::Quoted(Text::of(alloc, b"\"q\"")?)),
         _ => Ok(Token::Word(Text::of(alloc, &[sign])?)),
     }
 }
@@ -75,13 +77,17 @@ pub fn are_all(tokens: &[Token], sign: u8, count: usize) -> bool {
     tokens.len() == count
 }
 
-// An item is written as a token, or as `*`, `+` or `-` for the one with `$` in front; `&` is a `$&x`.
+// An item is written as a token, or as `*`, `+` or `-` for the one with `$` in front; `&` is a `$&x`, `%` a
+// `$&y`, `=` a `$=c` and `~` a `$~c`.
 fn item_of(alloc: Global, sign: u8) -> Result<Item, NoMemory> {
     match sign {
         b'*' => Ok(Item::Any),
         b'+' => Ok(Item::More),
         b'-' => Ok(Item::One),
         b'&' => Ok(Item::Late(Text::of(alloc, b"x")?)),
+        b'%' => Ok(Item::Late(Text::of(alloc, b"y")?)),
+        b'=' => Ok(Item::InClass(Text::of(alloc, b"c")?)),
+        b'~' => Ok(Item::NotInClass(Text::of(alloc, b"c")?)),
         _ => Ok(Item::Exact(token_of(alloc, sign)?)),
     }
 }
@@ -98,20 +104,100 @@ pub fn pattern_of(alloc: Global, signs: &str) -> Result<Pattern, Broken> {
     Pattern::of(items_of(alloc, signs)?).ok_or(Broken::ManySigns)
 }
 
-// A piece is written as a token, or as the digit of a `$1` to `$3`.
+// A piece is written as a token, as the digit of a `$1` to `$3`, or as `&` or `%` for a `$&x` or `$&y`.
 fn piece_of(alloc: Global, sign: u8) -> Result<Piece, NoMemory> {
     match sign {
         b'1' => Ok(Piece::Cut(1)),
         b'2' => Ok(Piece::Cut(2)),
         b'3' => Ok(Piece::Cut(3)),
+        b'&' => Ok(Piece::Late(Text::of(alloc, b"x")?)),
+        b'%' => Ok(Piece::Late(Text::of(alloc, b"y")?)),
         _ => Ok(Piece::Give(token_of(alloc, sign)?)),
     }
 }
 
+fn pieces_of(alloc: Global, signs: &[u8]) -> Result<Seq<Piece>, NoMemory> {
+    let mut pieces = Seq::new(alloc);
+    for sign in signs {
+        pieces.push(piece_of(alloc, *sign)?)?;
+    }
+    Ok(pieces)
+}
+
+// A step is written as a piece, or as `>` for a call.
+fn step_of(alloc: Global, sign: u8) -> Result<Step, NoMemory> {
+    match sign {
+        b'>' => Ok(Step::Call),
+        _ => Ok(Step::Plain(piece_of(alloc, sign)?)),
+    }
+}
+
+/// What a look-up is made of.
+#[derive(Drop)]
+struct Parts {
+    name: Text,
+    key: Seq<Piece>,
+    args: Seq<Seq<Piece>>,
+    fallback: Option<Seq<Piece>>,
+}
+
+// A part of a look-up has a mark in front: `-` an argument, `|` the default, and any other the key, of
+// whose map it is the name.
+fn add_part(parts: &mut Parts, signs: &[u8]) -> Result<(), NoMemory> {
+    let alloc = parts.args.allocator();
+    let Some((mark, rest)) = signs.split_first() else {
+        return Ok(());
+    };
+    let pieces = pieces_of(alloc, rest)?;
+    match *mark {
+        b'-' => parts.args.push(pieces),
+        b'|' => {
+            parts.fallback = Some(pieces);
+            Ok(())
+        }
+        name => {
+            parts.name = Text::of(alloc, &[name])?;
+            parts.key = pieces;
+            Ok(())
+        }
+    }
+}
+
+fn lookup_of(alloc: Global, signs: &[u8]) -> Result<Step, NoMemory> {
+    let mut parts = Parts {
+        name: Text::new(alloc),
+        key: Seq::new(alloc),
+        args: Seq::new(alloc),
+        fallback: None,
+    };
+    for part in signs.split(|sign| *sign == b';') {
+        add_part(&mut parts, part)?;
+    }
+    Ok(Step::Lookup {
+        name: parts.name,
+        key: parts.key,
+        args: parts.args,
+        fallback: parts.fallback,
+    })
+}
+
+/// The steps that are written so: a look-up stands in braces, and its parts are divided by `;`.
 pub fn steps_of(alloc: Global, signs: &str) -> Result<Seq<Step>, NoMemory> {
     let mut steps = Seq::new(alloc);
-    for sign in signs.as_bytes() {
-        steps.push(Step::Plain(piece_of(alloc, *sign)?))?;
+    let texts = signs.as_bytes().split(|sign| *sign == b'{' || *sign == b'}');
+    for (at, text) in texts.enumerate() {
+        if at % 2 == 1 {
+            steps.push(lookup_of(alloc, text)?)?;
+        } else {
+            add_steps(&mut steps, text)?;
+        }
     }
     Ok(steps)
+}
+
+fn add_steps(steps: &mut Seq<Step>, signs: &[u8]) -> Result<(), NoMemory> {
+    for sign in signs {
+        steps.push(step_of(steps.allocator(), *sign)?)?;
+    }
+    Ok(())
 }

@@ -1,14 +1,15 @@
-use Rattle.std.proofs.Common.{◌≡◌, ℕ, ◌≤◌, List, take, length}
-use Rattle.std.specs.List.{flat_map}
-use Rattle.rule_match.specs.Choices.{Fits}
-use Rattle.rule_match.specs.Kept.{kept_cuts}
-use Rattle.ruleset_run.specs.Filling.{step_filled}
-use Rattle.ruleset_run.specs.Plain.{left_wants}
+use Rattle.std.proofs.Common.{◌≡◌, List, drop}
+use Rattle.ruleset_run.specs.declared.part.Part.{Part}
+use Rattle.ruleset_run.specs.Filling.{Matched, filled, put}
+use Rattle.ruleset_run.specs.inner.Filler.{IsCutAs, Stand}
+use Rattle.ruleset_run.specs.inner.Values.{lates}
 use Rattle.ruleset_run.proofs.filler.fill.Given as goal
 
--- the steps so far are filled
+-- what the steps that are left give behind the parts so far is what all give
 abbrev pub invariant-loop-step : goal.invariant-loop-step
 invariant-loop-step l = record {
-  filled : (lengths : List ℕ) → Fits (left_wants l.rule) l.tokens lengths → l.cuts ≡ kept_cuts l.rule.left 0 lengths → l.given ≡ flat_map (step_filled l.rule.left l.tokens lengths) (take l.step-index l.step-items);
-  room : length l.given ≤ 2000;
+  operators : l.values.operators ≡ l.fn.values.operators;
+  macros : l.values.macros ≡ l.fn.values.macros;
+  filled : (found : Matched) → IsCutAs l.source.left.now l.source.tokens.now l.source.cuts.now found
+      → (given : List Part) × Stand l.parts given × (filled l.maps l.fn.values.operators (lates l.fn.values) found l.steps l.fn.values.macros ≡ put given (filled l.maps l.fn.values.operators (lates l.fn.values) found (drop l.step-index l.steps) l.values.after));
 }

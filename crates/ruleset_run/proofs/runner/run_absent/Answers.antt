@@ -1,18 +1,16 @@
-use Rattle.std.proofs.Common.{[], Err, Ok, sym, ◌∙◌, subst, Some, None, List}
-use Rattle.std.proofs.lemmas.Bool.{cond-true, cond-false}
-use Rattle.mail_base.specs.declared.token.Token.{Token}
+use Rattle.std.proofs.Common.{[], Some, Err, sym, ◌∙◌, subst}
 use Rattle.ruleset_run.specs.declared.fault.RunFault.TheVariants.{NoRuleset}
-use Rattle.ruleset_run.specs.Books.{is_standard}
-use Rattle.ruleset_run.specs.Runs.{RunsSet, unknown, known, no_rule}
-use Rattle.ruleset_run.proofs.Sets.{absent_rules}
+use Rattle.ruleset_run.specs.Runs.{SetRuns, RunsAt, known, unknown, no_rule}
+use Rattle.ruleset_run.proofs.SetLemmas.{absent_standard, absent_other}
 use Rattle.ruleset_run.proofs.runner.run_absent.Goals as goal
 
-pub returns-then-is_standard : goal.returns-then-is_standard
-returns-then-is_standard c = λ book none.
-    let empty = absent_rules c.args.set.now book none ∙ cond-true (is_standard c.args.set.now) (Some []) None (sym c.is_standard.ensures ∙ c.if-is_standard.true) in
-    ([], subst (λ (ts : List Token). RunsSet book c.args.set.now c.args.tokens.now 0 0 [] (Ok (record { tokens = ts; work = 0; macros = [] }))) (sym c.in_ok-tokens.ensures) (known c.args.set.now c.args.tokens.now 0 0 [] [] _ empty (no_rule 0 c.args.tokens.now 0 0 [])))
+pub returns-then-is_standard-clause-run : goal.returns-then-is_standard-clause-run
+returns-then-is_standard-clause-run c = λ site left macros none.
+    let a = c.args in
+    known (Some a.name.now) a.start.tokens a.start.work macros [] _ (absent_standard site a.name.now none (sym c.is_standard.ensures ∙ c.if-is_standard.true)) (no_rule 0 a.start.tokens a.start.work macros)
 
-pub returns : goal.returns
-returns c = λ book none.
-    let absent = absent_rules c.args.set.now book none ∙ cond-false (is_standard c.args.set.now) (Some []) None (sym c.is_standard.ensures ∙ c.if-is_standard.false) in
-    subst (λ name. RunsSet book c.args.set.now c.args.tokens.now 0 0 [] (Err (NoRuleset name))) (sym c.in_ok-copy.ensures) (unknown c.args.set.now c.args.tokens.now 0 0 [] absent)
+pub returns-clause-run : goal.returns-clause-run
+returns-clause-run c = λ site left macros none.
+    let a = c.args in
+    subst (λ name. SetRuns site (RunsAt site left) (Some a.name.now) a.start.tokens a.start.work macros (Err (NoRuleset name))) (sym c.in_ok-copy.ensures)
+    (unknown (Some a.name.now) a.start.tokens a.start.work macros (absent_other site a.name.now none (sym c.is_standard.ensures ∙ c.if-is_standard.false)))

@@ -1,0 +1,54 @@
+use Rattle.std.proofs.Common.{◌≡◌, ◌≤◌, ◌+◌, ◌-◌, ◌*◌, List, ◌++◌, length, drop, reverse, Ok}
+use Rattle.ruleset_run.specs.declared.part.Part.{Part}
+use Rattle.ruleset_run.specs.Filling.{tokens_in}
+use Rattle.ruleset_run.specs.Runs.{Outcome, Runs, Replaced, RunsAt}
+use Rattle.ruleset_run.specs.Sites.{site_of}
+use Rattle.ruleset_run.proofs.runner.+runs.Given as goal
+
+abbrev pub decreases-run_set : goal.decreases-run_set
+decreases-run_set l = 5 * l.left + 4
+
+abbrev pub decreases-run_rules : goal.decreases-run_rules
+decreases-run_rules l = 5 * l.left + 3
+
+abbrev pub decreases-apply : goal.decreases-apply
+decreases-apply l = 5 * l.left + 2
+
+abbrev pub decreases-replace : goal.decreases-replace
+decreases-replace l = 5 * l.left + 1
+
+abbrev pub decreases-call : goal.decreases-call
+decreases-call l = 5 * l.left
+
+-- whatever is an outcome of the rest is one of the whole
+abbrev pub invariant-run_rules-loop-number : goal.invariant-run_rules-loop-number
+invariant-run_rules-loop-number l = record {
+  completes : (o : Outcome) → Runs (site_of l.config l.maps) (RunsAt (site_of l.config l.maps) l.left) (drop l.from l.set.rules) l.times l.now.tokens l.now.work l.values.macros o
+      → Runs (site_of l.config l.maps) (RunsAt (site_of l.config l.maps) l.left) l.set.rules 0 l.fn.start.tokens l.fn.start.work l.fn.values.macros o;
+  within : l.from ≤ length l.set.rules;
+  times : l.times ≤ 100;
+  grew : l.fn.start.work ≤ l.now.work;
+  work : l.now.work ≤ 10000;
+  operators : l.values.operators ≡ l.fn.values.operators;
+  settled : l.values.after ≡ l.values.macros;
+}
+
+abbrev pub decreases-run_rules-loop-number : goal.decreases-run_rules-loop-number
+decreases-run_rules-loop-number l = (10000 - l.now.work) + (length l.set.rules - l.from)
+
+-- the parts behind those that are left are done
+abbrev pub invariant-replace-parts : goal.invariant-replace-parts
+invariant-replace-parts l = record {
+  done : List Part;
+  parts : l.fn.parts.kept ≡ l.front.items ++ done;
+  before : l.before ≡ tokens_in l.front.items;
+  few : l.before ≤ 2000;
+  run : Replaced (RunsAt (site_of l.config l.maps) l.left) (tokens_in l.front.items) done l.work l.fn.values.macros (Ok (record { tokens = reverse l.back.items; work = l.now_work; macros = l.values.macros }));
+  grew : l.work ≤ l.now_work;
+  work : l.now_work ≤ 10000;
+  operators : l.values.operators ≡ l.fn.values.operators;
+  settled : l.values.after ≡ l.values.macros;
+}
+
+abbrev pub decreases-replace-parts : goal.decreases-replace-parts
+decreases-replace-parts l = length l.front.items

@@ -1,0 +1,3 @@
+pub mod Filler
+pub mod Looks
+pub mod Values
