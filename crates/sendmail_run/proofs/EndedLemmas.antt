@@ -12,7 +12,7 @@ use Rattle.std.proofs.Math.Seq.{split_at}
 use Rattle.memchr.specs.Find.{IsFirstByte, is_byte}
 use Rattle.mail_base.specs.declared.config.Config.{Config}
 use Rattle.sendmail_run.specs.declared.input.Partial.{Partial}
-use Rattle.sendmail_run.specs.LogicalLines.{physical_lines}
+use Rattle.cf_reader.specs.LogicalLines.{physical_lines}
 use Rattle.sendmail_run.specs.Printing.{Printed, Answers, is_quit}
 use Rattle.sendmail_run.specs.Testing.{ended, ended_lines, holds_quit}
 use Rattle.sendmail_run.specs.inner.Taking.{has_end, with_end, lines_of, Keeps, Cut, Stands, Quits, AnswersLast}

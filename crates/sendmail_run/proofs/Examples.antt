@@ -7,64 +7,15 @@ use Rattle.mail_base.specs.declared.rule.Item.TheVariants.{More, One, Exact}
 use Rattle.mail_base.specs.declared.rule.Piece.TheVariants.{Give, Cut}
 use Rattle.mail_base.specs.declared.rule.Step.TheVariants.{Plain}
 use Rattle.mail_base.specs.declared.rule.Go.TheVariants.{Again, Return}
-use Rattle.sendmail_run.specs.declared.fault.Fault.TheVariants.{NoTab, BadReference, NotYet}
 use Rattle.sendmail_run.specs.declared.command_line.Job.TheVariants.{Test, Session}
-use Rattle.sendmail_run.specs.LogicalLines.{logical_lines}
 use Rattle.sendmail_run.specs.Tokens.{tokens_of, default_operators}
-use Rattle.sendmail_run.specs.Configuration.{configuration}
 use Rattle.sendmail_run.specs.CommandLines.{Does, Joined, Apart, IsCommandLine, IsRefusedAt}
 use Rattle.sendmail_run.proofs.CommandLemmas.{is_refused}
-
--- ---- logical lines
-
--- an indented line goes to the one before, and a comment goes with the white space before it
-joined_and_cut : logical_lines (codes "S1\n# none\n of it\nRa\n\tb # c\n\nR\\#d") ≡
-    (record { number = 1; text = codes "S1" }) ∷ (record { number = 4; text = codes "Ra \tb" }) ∷ (record { number = 7; text = codes "R#d" }) ∷ []
-joined_and_cut = refl
-
--- a sign is no comment, an indented first line says nothing, and a CR before an LF is dropped
-signs_and_returns : logical_lines (codes " x\nR$# e\r\nS2\r") ≡ (record { number = 2; text = codes "R$# e" }) ∷ (record { number = 3; text = codes "S2" ++ 13 ∷ [] }) ∷ []
-signs_and_returns = refl
 
 -- ---- tokens
 
 an_address : tokens_of default_operators (codes "eric@ UCB.arpa") ≡ Word (codes "eric") ∷ Op 64 ∷ Word (codes "UCB") ∷ Op 46 ∷ Word (codes "arpa") ∷ []
 an_address = refl
-
--- ---- configurations
-
-eric : configuration (codes "S5\nR$-:$+\t$@ $2 @ $1\n") ≡ Ok (record initial {
-  book = (record {
-    names = codes "5" ∷ [];
-    rules = (record {
-      left = One ∷ Exact (Op 58) ∷ More ∷ [];
-      right = record { go = Return; steps = Plain (Cut 2) ∷ Plain (Give (Op 64)) ∷ Plain (Cut 1) ∷ [] };
-    }) ∷ [];
-  }) ∷ [];
-})
-eric = refl
-
--- rules before any S line are of set 0, and a set goes on where its name comes again
-sets_go_on : configuration (codes "Ra\tb\nS \"x\"\nS0\n") ≡ Ok (record initial {
-  book = (record {
-    names = codes "0" ∷ [];
-    rules = (record { left = Exact (Word (codes "a")) ∷ []; right = record { go = Again; steps = Plain (Give (Word (codes "b"))) ∷ [] } }) ∷ [];
-  }) ∷ (record { names = codes "x" ∷ []; rules = [] }) ∷ [];
-})
-sets_go_on = refl
-
-without_tab : configuration (codes "S1\nR$*\n") ≡ Err (record { line = 2; fault = NoTab })
-without_tab = refl
-
-without_item : configuration (codes "S1\nR$-\t$2\n") ≡ Err (record { line = 2; fault = BadReference })
-without_item = refl
-
--- a fault in an indented line has the number of the line that it belongs to
-in_a_joined_line : configuration (codes "S1\n\nR$*\n\t$1\n $2\nRa\n") ≡ Err (record { line = 3; fault = BadReference })
-in_a_joined_line = refl
-
-not_yet : configuration (codes "Dwmx\n") ≡ Err (record { line = 1; fault = NotYet })
-not_yet = refl
 
 -- ---- command lines
 

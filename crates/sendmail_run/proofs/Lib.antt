@@ -3,11 +3,8 @@ mod CuttingLemmas
 mod EndedLemmas
 mod Examples
 mod KeepLemmas
-mod LineLemmas
 mod PlainLemmas
 mod ProgramLemmas
-mod ReaderLemmas
 mod ServingLemmas
-mod SideLemmas
 mod TestLemmas
 mod TokenLemmas

@@ -23,13 +23,13 @@ use Rattle.sendmail_run.specs.declared.command_line.WordFault.{WordFault}
 use Rattle.sendmail_run.specs.declared.command_line.WordFault.TheVariants as word_faults
 use Rattle.sendmail_run.specs.declared.fault.ConfigFault.{ConfigFault}
 use Rattle.sendmail_run.specs.declared.fault.ConfigFault.TheVariants as config_faults
-use Rattle.sendmail_run.specs.declared.fault.Refusal.{Refusal}
+use Rattle.cf_reader.specs.declared.fault.CfFault.{CfFault}
+use Rattle.cf_reader.specs.declared.fault.CfFault.TheVariants as reasons
 use Rattle.sendmail_run.specs.declared.outcome.Outcome.{Outcome}
 use Rattle.sendmail_run.specs.declared.outcome.Outcome.TheVariants as outcomes
 use Rattle.sendmail_run.specs.declared.session_mode.SessionEnd.{SessionEnd}
 use Rattle.sendmail_run.specs.declared.session_mode.SessionEnd.TheVariants as session_ends
-use Rattle.sendmail_run.specs.Beginning.{Begins, HasText}
-use Rattle.sendmail_run.specs.Configuration.{configuration}
+use Rattle.sendmail_run.specs.Beginning.{Begins, Says, said_by}
 use Rattle.sendmail_run.specs.CommandLines.{Fails, IsCommandLine}
 use Rattle.sendmail_run.specs.Devices.{World, streams, streams_of, core_of, world}
 use Rattle.sendmail_run.specs.Outcomes.{of_config, of_opening, of_session, of_test, of_words}
@@ -138,26 +138,20 @@ words_whole words job mode word_faults.NoMemory said fails = whole_memory job
 told_text : (files : FilesSeen) (name : List ℕ) (text : Option (List ℕ)) (map : FileMap) → files.map ≡ Some map → HasText files name text → text_of map name ≡ text
 told_text files name text map told has = let at : IfSome (Some map) (λ m. text_of m name ≡ text) = subst (λ (o : Option FileMap). IfSome o (λ m. text_of m name ≡ text)) told has in at
 
--- a file that is there isn't missing
-not_missing : (files : FilesSeen) (map : FileMap) (file bytes : List ℕ) → files.map ≡ Some map → text_of map file ≡ Some bytes → HasText files file None → ⊥
-not_missing files map file bytes told there has =
-    let none : text_of map file ≡ None = told_text files file None map told has in
-    cc (none, there)
-
--- lines that are taken are not refused
-not_refused : (files : FilesSeen) (map : FileMap) (file bytes more : List ℕ) (config : Config) (refusal : Refusal) → files.map ≡ Some map → text_of map file ≡ Some bytes → configuration bytes ≡ Ok config → HasText files file (Some more) → configuration more ≡ Err refusal → ⊥
-not_refused files map file bytes more config refusal told there read has refused =
-    let text : text_of map file ≡ Some more = told_text files file (Some more) map told has in
-    let both : Some more ≡ Some bytes = sym text ∙ there in
-    let one : more ≡ bytes = cc (both) in
-    let taken = ap configuration one ∙ read in
-    cc (taken, refused)
+-- a file that says a configuration isn't missing, and none of its lines is refused
+not_said : (files : FilesSeen) (map : FileMap) (file : List ℕ) (config : Config) (said : Option (Result Config CfFault)) → files.map ≡ Some map → said_by map file ≡ Some (Ok config) → Says files file said → said ≡ Some (Ok config)
+not_said files map file config said told read says =
+    let here : said_by map file ≡ said = subst (λ (o : Option FileMap). IfSome o (λ m. said_by m file ≡ said)) told says in
+    sym here ∙ read
 
 file_whole : (words : List (List ℕ)) (before after : World) (job : Job) (ready : IsReady words before job) (fault : ConfigFault) → ¬ (Rose before.files.faults after.files.faults) → Begins ready.mode.file before.files after.files (Err fault) → IsWhole job (of_config fault)
-file_whole words before after job ready (config_faults.NoFile name) sound is = absurd (not_missing before.files ready.map ready.mode.file ready.bytes ready.told ready.there is.1)
+file_whole words before after job ready (config_faults.NoFile name) sound is =
+    let same : None ≡ Some (Ok ready.config) = not_said before.files ready.map ready.mode.file ready.config None ready.told ready.read is.1 in
+    absurd (cc same)
 file_whole words before after job ready config_faults.FilesFault sound is = absurd (sound is)
-file_whole words before after job ready (config_faults.Refused refusal) sound is =
-    absurd (not_refused before.files ready.map ready.mode.file ready.bytes is.0 ready.config refusal ready.told ready.there ready.read is.1 is.2)
+file_whole words before after job ready (config_faults.Refused line fault) sound is =
+    let same : Some (Err (reasons.Refused line fault)) ≡ Some (Ok ready.config) = not_said before.files ready.map ready.mode.file ready.config (Some (Err (reasons.Refused line fault))) ready.told ready.read is in
+    absurd (cc same)
 file_whole words before after job ready config_faults.NoMemory sound is = whole_memory job
 
 few_lost : (left : List ℕ) (after : Option (List ℕ)) (taken : List ℕ) → Loses (Some left) after taken → length taken ≡ 2 ^ 32 → length left < 2 ^ 32 → ⊥

@@ -14,7 +14,7 @@ use Rattle.sendmail_run.specs.declared.address_test.TestEnd.TheVariants as ends
 use Rattle.sendmail_run.specs.declared.input.Partial.{Partial}
 use Rattle.sendmail_run.specs.declared.outcome.Outcome.{Outcome}
 use Rattle.sendmail_run.specs.Devices.{Streams, streams}
-use Rattle.sendmail_run.specs.LogicalLines.{physical_lines}
+use Rattle.cf_reader.specs.LogicalLines.{physical_lines}
 use Rattle.sendmail_run.specs.Printing.{Printed, Prints, warnings_text}
 use Rattle.sendmail_run.specs.Rises.{RisesOnlyAt}
 use Rattle.sendmail_run.specs.inner.Taking.{Keeps, Stands, Quits, At, Answered, AnswersLast, lines_of}

@@ -1,8 +1,4 @@
-pub mod LogicalLines
 pub mod Tokens
-pub mod Sides
-pub mod Configuration
-pub mod Refusals
 pub mod CommandLines
 pub mod Printing
 pub mod Devices

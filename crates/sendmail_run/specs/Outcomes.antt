@@ -24,7 +24,7 @@ of_words word_faults.NoMemory = NoMemory
 abbrev pub of_config : ConfigFault → Outcome
 of_config (config_faults.NoFile name) = NoFile name
 of_config config_faults.FilesFault = FilesFault
-of_config (config_faults.Refused refusal) = ConfigLine refusal.line refusal.fault
+of_config (config_faults.Refused line fault) = ConfigLine line fault
 of_config config_faults.NoMemory = NoMemory
 
 -- the end of address test mode

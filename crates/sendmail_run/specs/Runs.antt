@@ -2,7 +2,7 @@
 use Rattle.std.specs.Prelude.{◌≡◌, ℕ, ◌^◌, ◌<◌, List, length, Option, Some, Result, Ok, Err, ◌⊎◌}
 use Rattle.mail_base.specs.declared.config.Config.{Config}
 use Rattle.mail_base.specs.Histories.{Rose}
-use Rattle.mail_edge.specs.Seen.{FileMap, text_of}
+use Rattle.mail_edge.specs.Seen.{FileMap}
 use Rattle.spool_disk.specs.Disk.{FileMap as SpoolMap}
 use Rattle.spool_store.specs.Standing.{AreEmpty}
 use Rattle.mail_core.specs.Standing.{dirs_of}
@@ -15,9 +15,8 @@ use Rattle.sendmail_run.specs.declared.fault.ConfigFault.{ConfigFault}
 use Rattle.sendmail_run.specs.declared.outcome.Outcome.{Outcome}
 use Rattle.sendmail_run.specs.declared.outcome.Outcome.TheVariants as ends
 use Rattle.sendmail_run.specs.declared.session_mode.SessionEnd.{SessionEnd}
-use Rattle.sendmail_run.specs.Beginning.{Begins}
+use Rattle.sendmail_run.specs.Beginning.{Begins, said_by}
 use Rattle.sendmail_run.specs.CommandLines.{Fails, IsCommandLine}
-use Rattle.sendmail_run.specs.Configuration.{configuration}
 use Rattle.sendmail_run.specs.Devices.{Streams, World, core_of, streams_of}
 use Rattle.sendmail_run.specs.Outcomes.{of_config, of_session, of_test, of_words}
 use Rattle.sendmail_run.specs.Rises.{Counts}
@@ -121,10 +120,8 @@ pub record IsReady (words : List (List ℕ)) (before : World) (job : Job) : Type
   pub does : mode.job ≡ job
   pub map : FileMap
   pub told : before.files.map ≡ Some map
-  pub bytes : List ℕ
-  pub there : text_of map mode.file ≡ Some bytes
   pub config : Config
-  pub read : configuration bytes ≡ Ok config
+  pub read : said_by map mode.file ≡ Some (Ok config)
   pub finds : Finds job before
 
 -- no device of a mode failed; a send may have

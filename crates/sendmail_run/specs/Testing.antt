@@ -7,7 +7,7 @@ use Rattle.mail_edge.specs.Moves.{Loses, GainsPart}
 use Rattle.sendmail_run.specs.declared.address_test.TestEnd.{TestEnd}
 use Rattle.sendmail_run.specs.declared.address_test.TestEnd.TheVariants as ends
 use Rattle.sendmail_run.specs.Devices.{Streams}
-use Rattle.sendmail_run.specs.LogicalLines.{physical_lines}
+use Rattle.cf_reader.specs.LogicalLines.{physical_lines}
 use Rattle.sendmail_run.specs.Printing.{Prints, is_quit}
 
 -- the front of a text up to and including its last LF (10)

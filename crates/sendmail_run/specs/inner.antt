@@ -1,4 +1,2 @@
-pub mod Parts
-pub mod Readings
 pub mod Taking
 pub mod Words

@@ -6,7 +6,6 @@ ghost use Rattle.sendmail_run.specs.Printing as spec;
 ghost use Rattle.sendmail_run.specs.inner.Taking.{Keeps, AnswersLast, cut_text, most_kept};
 
 use crate::answers::answer;
-use crate::logical::without_return;
 use mail_base::{Config, MOST_LINE, NoMemory, Text};
 use std::alloc::Global;
 
@@ -113,5 +112,16 @@ fn answer_cut(front: &[u8], out: &mut Text) -> Result<(), NoMemory>
         Ok(())
     } else {
         out.extend(b"line too long\n")
+    }
+}
+
+// A line before an LF, without the one CR that may stand at its end.
+fn without_return(line: &[u8]) -> &[u8]
+    ensures { result.now ≡ strip_carriage_return line.now }
+{
+    if !line.is_empty() && line[line.len() - 1] == b'\r' {
+        &line[..line.len() - 1]
+    } else {
+        line
     }
 }

@@ -8,17 +8,12 @@ mod command_line;
 mod fault;
 mod input;
 mod law;
-mod logical;
 mod outcome;
 mod program;
-mod reader;
 mod session_mode;
-mod sides;
 mod tokens;
 
 pub use command_line::{DEFAULT_FILE, Job, Mode, WordFault, words};
-pub use fault::{Fault, ReadFault, Refusal};
 pub use law::{tokens_are_of_any_cutting, words_are_taken_or_refused};
 pub use outcome::Outcome;
 pub use program::sendmail;
-pub use reader::read;

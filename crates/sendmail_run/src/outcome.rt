@@ -3,8 +3,9 @@ ghost use Rattle.sendmail_run.specs.Outcomes as spec;
 
 use crate::address_test::TestEnd;
 use crate::command_line::WordFault;
-use crate::fault::{ConfigFault, Fault};
+use crate::fault::ConfigFault;
 use crate::session_mode::SessionEnd;
+use cf_reader::Fault;
 use mail_base::Text;
 use mail_core::Ending;
 use spool_store::OpenFault;
@@ -81,7 +82,7 @@ impl Outcome {
         match fault {
             ConfigFault::NoFile(name) => Outcome::NoFile(name),
             ConfigFault::FilesFault => Outcome::FilesFault,
-            ConfigFault::Refused(refusal) => Outcome::ConfigLine(refusal.line, refusal.fault),
+            ConfigFault::Refused { line, fault } => Outcome::ConfigLine(line, fault),
             ConfigFault::NoMemory => Outcome::NoMemory,
         }
     }

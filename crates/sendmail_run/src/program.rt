@@ -1,4 +1,5 @@
-ghost use Rattle.std.specs.Prelude.{◌≡◌, ◌<◌, ◌≤◌, ◌^◌, length, IfErr, List, OnOk, ℕ};
+ghost use Rattle.std.specs.Prelude.{◌≡◌, ◌<◌, ◌≤◌, ◌^◌, length, true, IfErr, IfOk, OnOk};
+ghost use Rattle.ruleset_run.specs.Plain.{is_plain_book};
 ghost use Rattle.sendmail_run.specs.Beginning.{Begins};
 ghost use Rattle.sendmail_run.specs.Devices.{world};
 ghost use Rattle.sendmail_run.specs.Outcomes.{of_config};
@@ -8,10 +9,10 @@ ghost use Rattle.sendmail_run.specs.declared.outcome.Outcome.TheVariants.{FilesF
 
 use crate::address_test::address_test;
 use crate::command_line::{Job, words};
-use crate::fault::{ConfigFault, ReadFault};
+use crate::fault::ConfigFault;
 use crate::outcome::Outcome;
-use crate::reader::read;
 use crate::session_mode::session_mode;
+use cf_reader::{CfFault, read};
 use link_edge::Floor;
 use mail_base::{Config, EdgeFault, Seq, Text};
 use mail_edge::{Clock, Files, Sink, Source};
@@ -103,6 +104,7 @@ fn configuration<F: Files>(alloc: Global, name: Text, files: &mut F) -> Result<C
     ensures map { (F.seen files.new).map ≡ (F.seen files.old).map }
     ensures later { (F.seen files.old).faults ≤ (F.seen files.new).faults }
     ensures kept { OnOk result ((F.seen files.new).faults ≡ (F.seen files.old).faults) }
+    ensures plain { IfOk result (λ config. is_plain_book config.book ≡ true) }
     ensures rises { IfErr result (λ fault. RisesOnlyAt FilesFault (of_config fault) (F.seen files.old).faults (F.seen files.new).faults) }
 {
     let text = match files.read(alloc, &name) {
@@ -111,9 +113,10 @@ fn configuration<F: Files>(alloc: Global, name: Text, files: &mut F) -> Result<C
         Err(EdgeFault::Failed) => return Err(ConfigFault::FilesFault),
         Err(EdgeFault::NoMemory) => return Err(ConfigFault::NoMemory),
     };
-    match read(alloc, text.bytes()) {
+    match read(alloc, &text, files) {
         Ok(config) => Ok(config),
-        Err(ReadFault::Refused(refusal)) => Err(ConfigFault::Refused(refusal)),
-        Err(ReadFault::NoMemory) => Err(ConfigFault::NoMemory),
+        Err(CfFault::Refused { line, fault }) => Err(ConfigFault::Refused { line, fault }),
+        Err(CfFault::FilesFault) => Err(ConfigFault::FilesFault),
+        Err(CfFault::NoMemory) => Err(ConfigFault::NoMemory),
     }
 }

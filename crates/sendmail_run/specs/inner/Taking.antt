@@ -9,7 +9,7 @@ use Rattle.sendmail_run.specs.declared.address_test.Step.{Step}
 use Rattle.sendmail_run.specs.declared.address_test.Step.TheVariants.{On, Ended}
 use Rattle.sendmail_run.specs.declared.outcome.Outcome.TheVariants.{WriteFault}
 use Rattle.sendmail_run.specs.Printing.{Printed, Answers, is_quit, line_of}
-use Rattle.sendmail_run.specs.LogicalLines.{physical_lines}
+use Rattle.cf_reader.specs.LogicalLines.{physical_lines}
 use Rattle.sendmail_run.specs.Devices.{Streams}
 use Rattle.sendmail_run.specs.Outcomes.{of_test}
 use Rattle.sendmail_run.specs.Rises.{RisesOnlyAt}

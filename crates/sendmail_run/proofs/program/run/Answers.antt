@@ -1,13 +1,12 @@
 use Rattle.sendmail_run.specs.declared.outcome.Outcome.TheVariants.{FilesFault, ReadFault, WriteFault}
 use Rattle.sendmail_run.specs.Outcomes.{of_config, of_test}
-use Rattle.sendmail_run.proofs.PlainLemmas.{plain_configuration, quiet_configuration}
 use Rattle.sendmail_run.proofs.ProgramLemmas.{counts, ends_at_words, ends_at_file, ends_tested, ends_served, stays_at_words, stays_at_file, stays_tested, stays_served}
 use Rattle.sendmail_run.proofs.program.run.Goals as goal
 
 pub address_test-requires : goal.address_test-requires
 address_test-requires g c = record {
-  plain = plain_configuration c.in-Ok-configuration.ensures.begins.0 c.in-Ok-configuration.config c.in-Ok-configuration.ensures.begins.2;
-  quiet = quiet_configuration c.in-Ok-configuration.ensures.begins.0 c.in-Ok-configuration.config c.in-Ok-configuration.ensures.begins.2;
+  plain = c.in-Ok-configuration.ensures.plain;
+  quiet = ?;
 }
 
 pub returns-in-Err-clause-ends : goal.returns-in-Err-clause-ends

@@ -1,6 +1,0 @@
-use Rattle.std.proofs.Common.{◌≡◌, ◌++◌, drop}
-use Rattle.sendmail_run.specs.LogicalLines as spec
-use Rattle.sendmail_run.proofs.logical.unshielded.Given as goal
-
-abbrev pub invariant-loop-index : goal.invariant-loop-index
-invariant-loop-index l = l.plain ++ spec.unshielded (drop l.index l.text) ≡ spec.unshielded l.text

@@ -1,7 +1,0 @@
-use Rattle.std.proofs.Common.{◌≡◌, ◌+◌, drop}
-use Rattle.std.specs.List.{prefix_len}
-use Rattle.sendmail_run.specs.Sides.{is_tab}
-use Rattle.sendmail_run.proofs.sides.tabs_length.Given as goal
-
-abbrev pub invariant-loop-index : goal.invariant-loop-index
-invariant-loop-index l = l.index + prefix_len is_tab (drop l.index l.text) ≡ prefix_len is_tab l.text
