@@ -135,9 +135,6 @@ words_whole : (words : List (List ℕ)) (job : Job) (mode : Mode) (fault : WordF
 words_whole words job mode (word_faults.At place) said refused = absurd (not_both words mode place said refused)
 words_whole words job mode word_faults.NoMemory said fails = whole_memory job
 
-told_text : (files : FilesSeen) (name : List ℕ) (text : Option (List ℕ)) (map : FileMap) → files.map ≡ Some map → HasText files name text → text_of map name ≡ text
-told_text files name text map told has = let at : IfSome (Some map) (λ m. text_of m name ≡ text) = subst (λ (o : Option FileMap). IfSome o (λ m. text_of m name ≡ text)) told has in at
-
 -- a file that says a configuration isn't missing, and none of its lines is refused
 not_said : (files : FilesSeen) (map : FileMap) (file : List ℕ) (config : Config) (said : Option (Result Config CfFault)) → files.map ≡ Some map → said_by map file ≡ Some (Ok config) → Says files file said → said ≡ Some (Ok config)
 not_said files map file config said told read says =
