@@ -1,10 +1,10 @@
 -- How the answers to the lines of input go on and end.
-use Rattle.std.proofs.Common.{◌≡◌, ℕ, ◌+◌, ◌<◌, ◌≤◌, ◌^◌, List, [], ◌++◌, length, take, Bool, true, false, Option, Some, None, refl, sym, ◌∙◌, ap, subst, arith, append-nil, length-append, inl, inr}
+use Rattle.std.proofs.Common.{◌≡◌, ℕ, ◌+◌, ◌<◌, ◌≤◌, ◌^◌, List, [], ◌++◌, length, take, Bool, true, false, Option, Some, None, refl, sym, ◌∙◌, ap, subst, arith, append-nil, append_assoc, length-append, inl, inr}
 use Rattle.std.proofs.lemmas.List.{length-take-le}
 use Rattle.std.specs.Prelude.{IfSome, ◌↔◌}
 use Rattle.mail_base.specs.declared.config.Config.{Config}
 use Rattle.mail_base.specs.Histories.{Gains, Rose}
-use Rattle.mail_base.proofs.Gaining.{gains_none, gains_join}
+use Rattle.mail_base.proofs.Gaining.{gains_join}
 use Rattle.mail_edge.specs.Seen.{SourceSeen, SinkSeen}
 use Rattle.mail_edge.specs.Moves.{Loses, GainsPart}
 use Rattle.mail_edge.proofs.Giving.{part_whole, part_none, part_join}
@@ -21,22 +21,49 @@ use Rattle.sendmail_run.specs.inner.Taking.{Keeps, Stands, Quits, At, Answered, 
 use Rattle.sendmail_run.specs.Testing.{Tests, IsDone, IsCutOff, IsBroken, WritesFront, ended_lines}
 use Rattle.sendmail_run.proofs.EndedLemmas.{stands_none, stands_printed, stands_on, stands_front, stands_last}
 
--- without warnings the answers alone are printed
-prints : (config : Config) (lines : List (List ℕ)) (text : List ℕ) → config.warnings ≡ [] → Printed config lines text → Prints config lines text
-prints config lines text quiet printed = (text, printed, ap (λ (numbers : List ℕ). warnings_text numbers ++ text) (sym quiet))
+-- the warnings and then the answers are printed
+abbrev warned : Config → List ℕ → List ℕ
+warned config text = warnings_text config.warnings ++ text
 
--- before anything is taken
-pub at_start : (config : Config) → config.warnings ≡ [] → (i : SourceSeen) (o : SinkSeen) (partial : Partial) → Keeps partial [] → At config (streams i o) (streams i o) [] [] partial
-at_start config quiet i o partial keeps = record { few = omega arith; quiet = quiet; text = []; takes = loses_none i.left; writes = gains_none o.written; stands = stands_none config partial keeps; input = omega arith; output = omega arith }
+prints : (config : Config) (lines : List (List ℕ)) (text : List ℕ) → Printed config lines text → Prints config lines (warned config text)
+prints config lines text printed = (text, printed, refl)
 
--- no memory before anything is taken
-pub none_taken : (config : Config) → config.warnings ≡ [] → (i : SourceSeen) (o : SinkSeen) → IsBroken config (streams i o) (streams i o)
-none_taken config quiet i o = record {
+-- more is written behind the warnings
+gains_more : (config : Config) (a b c : Option (List ℕ)) (text answers : List ℕ) → Gains a b (warned config text) → Gains b c answers → Gains a c (warned config (text ++ answers))
+gains_more config a b c text answers h k = subst (λ (t : List ℕ). Gains a c t) (append_assoc (warnings_text config.warnings) text answers) (gains_join a b c (warned config text) answers h k)
+
+part_more : (config : Config) (a b c : Option (List ℕ)) (text answers : List ℕ) → Gains a b (warned config text) → GainsPart b c answers → GainsPart a c (warned config (text ++ answers))
+part_more config a b c text answers h k = subst (λ (t : List ℕ). GainsPart a c t) (append_assoc (warnings_text config.warnings) text answers) (part_join a b c (warned config text) answers h k)
+
+-- before anything is taken, the warnings being written
+pub at_start : (config : Config) (i : SourceSeen) (o0 o1 : SinkSeen) (partial : Partial) (text : List ℕ) → text ≡ warnings_text config.warnings → Gains o0.written o1.written text → o0.faults ≤ o1.faults → Keeps partial [] → At config (streams i o0) (streams i o1) [] [] partial
+at_start config i o0 o1 partial text is gains later keeps = record {
+  few = omega arith;
+  text = [];
+  takes = loses_none i.left;
+  writes = subst (λ (t : List ℕ). Gains o0.written o1.written t) (is ∙ sym (append-nil (warnings_text config.warnings))) gains;
+  stands = stands_none config partial keeps;
+  input = omega arith;
+  output = later;
+}
+
+-- it ends before anything is taken, in the midst of the warnings
+broken_at_start : (config : Config) (i : SourceSeen) (o0 o1 : SinkSeen) → GainsPart o0.written o1.written (warned config []) → IsBroken config (streams i o0) (streams i o1)
+broken_at_start config i o0 o1 part = record {
   taken = [];
   few = omega arith;
   takes = loses_none i.left;
-  writes = record { first = []; later = []; lines = inl refl; text = []; printed = prints config [] [] quiet refl; written = part_none o.written [] };
+  writes = record { first = []; later = []; lines = inl refl; text = warned config []; printed = prints config [] [] refl; written = part };
 }
+
+-- no memory before anything is taken
+pub none_taken : (config : Config) (i : SourceSeen) (o : SinkSeen) → IsBroken config (streams i o) (streams i o)
+none_taken config i o = broken_at_start config i o o (part_none o.written (warned config []))
+
+-- the warnings broke off
+pub at_warning_fault : (config : Config) (i : SourceSeen) (o0 o1 : SinkSeen) (text : List ℕ) → text ≡ warnings_text config.warnings → GainsPart o0.written o1.written text → Rose o0.faults o1.faults → Tests config (streams i o0) (streams i o1) ends.WriteFault
+at_warning_fault config i o0 o1 text is part rose =
+    (broken_at_start config i o0 o1 (subst (λ (t : List ℕ). GainsPart o0.written o1.written t) (is ∙ sym (append-nil (warnings_text config.warnings))) part), rose)
 
 -- more is taken
 pub at_taken : (config : Config) (before : Streams) (i0 i1 : SourceSeen) (o : SinkSeen) (all taken bytes : List ℕ) (partial : Partial)
@@ -47,7 +74,6 @@ at_taken config before i0 i1 o all taken bytes partial at loses later few = reco
   takes = loses_join before.input.left i0.left i1.left all bytes at.takes loses;
   writes = at.writes;
   stands = at.stands;
-  quiet = at.quiet;
   input = omega (arith, at.input);
   output = at.output;
 }
@@ -56,10 +82,10 @@ at_taken config before i0 i1 o all taken bytes partial at loses later few = reco
 pub at_cut_off : (config : Config) (before : Streams) (i0 i1 : SourceSeen) (o : SinkSeen) (taken : List ℕ) (partial : Partial)
     → At config before (streams i0 o) taken taken partial → i1.left ≡ i0.left → IsCutOff config before (streams i1 o) taken
 at_cut_off config before i0 i1 o taken partial at same = record {
-  text = at.text;
+  text = warned config at.text;
   takes = subst (λ (left : Option (List ℕ)). Loses before.input.left left taken) (sym same) at.takes;
   writes = at.writes;
-  printed = prints config (ended_lines taken) at.text at.quiet (stands_printed config taken at.text partial at.stands);
+  printed = prints config (ended_lines taken) at.text (stands_printed config taken at.text partial at.stands);
   on = stands_on config taken at.text partial at.stands;
 }
 
@@ -74,9 +100,9 @@ at_broken config before i o taken more partial at = record {
     first = lines_of at.stands.raws;
     later = ended_lines (at.stands.rest ++ more);
     lines = inl (stands_front config taken at.text partial more at.stands);
-    text = at.text;
-    printed = prints config (lines_of at.stands.raws) at.text at.quiet at.stands.printed;
-    written = part_whole before.output.written o.written at.text at.writes;
+    text = warned config at.text;
+    printed = prints config (lines_of at.stands.raws) at.text at.stands.printed;
+    written = part_whole before.output.written o.written (warned config at.text) at.writes;
   };
 }
 
@@ -85,21 +111,21 @@ pub at_broken_last : (config : Config) (before : Streams) (i : SourceSeen) (o : 
 at_broken_last config before i o taken partial at =
     at_broken config before i o taken [] partial (subst (λ (all : List ℕ). At config before (streams i o) all taken partial) (sym (append-nil taken)) at)
 
-front_of : (config : Config) → config.warnings ≡ [] → (all : List ℕ) (before now : Streams) (partial : Partial) (whole : List ℕ) (quit : Bool) → Answered config all partial whole quit → GainsPart before.output.written now.output.written whole → WritesFront config all before now
-front_of config quiet all before now partial whole true quits part = record {
+front_of : (config : Config) (all : List ℕ) (before now : Streams) (partial : Partial) (whole : List ℕ) (quit : Bool) → Answered config all partial whole quit → GainsPart before.output.written now.output.written (warned config whole) → WritesFront config all before now
+front_of config all before now partial whole true quits part = record {
   first = ended_lines all;
   later = [];
   lines = inl (sym (append-nil (ended_lines all)));
-  text = whole;
-  printed = prints config (ended_lines all) whole quiet quits.among;
+  text = warned config whole;
+  printed = prints config (ended_lines all) whole quits.among;
   written = part;
 }
-front_of config quiet all before now partial whole false stands part = record {
+front_of config all before now partial whole false stands part = record {
   first = ended_lines all;
   later = [];
   lines = inl (sym (append-nil (ended_lines all)));
-  text = whole;
-  printed = prints config (ended_lines all) whole quiet (stands_printed config all whole partial stands);
+  text = warned config whole;
+  printed = prints config (ended_lines all) whole (stands_printed config all whole partial stands);
   written = part;
 }
 
@@ -111,7 +137,7 @@ at_write_fault config before i o0 o1 all taken old new answers quit at answered 
     taken = all;
     few = at.few;
     takes = at.takes;
-    writes = front_of config at.quiet all before (streams i o1) new (at.text ++ answers) quit (answered at.text at.stands) (part_join before.output.written o0.written o1.written at.text answers at.writes part);
+    writes = front_of config all before (streams i o1) new (at.text ++ answers) quit (answered at.text at.stands) (part_more config before.output.written o0.written o1.written at.text answers at.writes part);
   },
   rose_since before.output.faults o0.faults o1.faults at.output rose,
 )
@@ -121,14 +147,14 @@ pub at_quit : (config : Config) (before : Streams) (i : SourceSeen) (o0 o1 : Sin
     → At config before (streams i o0) all taken old → ((text : List ℕ) → Stands config taken old text → Answered config all new (text ++ answers) quit) → quit ≡ true → Gains o0.written o1.written answers → IsDone config before (streams i o1)
 at_quit config before i o0 o1 all taken old new answers quit at answered is gains =
     let quits : Quits config all (at.text ++ answers) = subst (λ (q : Bool). Answered config all new (at.text ++ answers) q) is (answered at.text at.stands) in
-    record { taken = all; text = at.text ++ answers; takes = at.takes; writes = gains_join before.output.written o0.written o1.written at.text answers at.writes gains; printed = prints config (physical_lines all) (at.text ++ answers) at.quiet quits.printed; over = inr (quits.quit, at.few) }
+    record { taken = all; text = warned config (at.text ++ answers); takes = at.takes; writes = gains_more config before.output.written o0.written o1.written at.text answers at.writes gains; printed = prints config (physical_lines all) (at.text ++ answers) quits.printed; over = inr (quits.quit, at.few) }
 
 -- the piece was answered
 pub at_on : (config : Config) (before : Streams) (i : SourceSeen) (o0 o1 : SinkSeen) (all taken : List ℕ) (old new : Partial) (answers : List ℕ) (quit : Bool)
     → At config before (streams i o0) all taken old → ((text : List ℕ) → Stands config taken old text → Answered config all new (text ++ answers) quit) → quit ≡ false → Gains o0.written o1.written answers → o0.faults ≤ o1.faults → At config before (streams i o1) all all new
 at_on config before i o0 o1 all taken old new answers quit at answered is gains later =
     let stands : Stands config all new (at.text ++ answers) = subst (λ (q : Bool). Answered config all new (at.text ++ answers) q) is (answered at.text at.stands) in
-    record { few = at.few; text = at.text ++ answers; takes = at.takes; writes = gains_join before.output.written o0.written o1.written at.text answers at.writes gains; stands = stands; quiet = at.quiet; input = at.input; output = omega (arith, at.output) }
+    record { few = at.few; text = at.text ++ answers; takes = at.takes; writes = gains_more config before.output.written o0.written o1.written at.text answers at.writes gains; stands = stands; input = at.input; output = omega (arith, at.output) }
 
 -- the input came to its end
 pub at_end : (config : Config) (before : Streams) (i : SourceSeen) (o0 o1 : SinkSeen) (taken : List ℕ) (partial : Partial) (out : List ℕ) → IfSome i.left (λ left. left ≡ []) → length taken < 2 ^ 32
@@ -138,10 +164,10 @@ at_end config before i o0 o1 taken partial out over few at answer gains =
     let last : AnswersLast config at.stands.rest out = subst (λ (t : List ℕ). AnswersLast config at.stands.rest t) (sym a.2) a.1 in
     record {
       taken = taken;
-      text = at.text ++ out;
+      text = warned config (at.text ++ out);
       takes = at.takes;
-      writes = gains_join before.output.written o0.written o1.written at.text out at.writes gains;
-      printed = prints config (physical_lines taken) (at.text ++ out) at.quiet (stands_last config taken at.text out partial at.stands last);
+      writes = gains_more config before.output.written o0.written o1.written at.text out at.writes gains;
+      printed = prints config (physical_lines taken) (at.text ++ out) (stands_last config taken at.text out partial at.stands last);
       over = inl (over, few);
     }
 
@@ -158,9 +184,9 @@ at_end_fault config before i o0 o1 taken partial out over at answer part rose =
           first = physical_lines taken;
           later = [];
           lines = inr (over, sym (append-nil (physical_lines taken)));
-          text = at.text ++ out;
-          printed = prints config (physical_lines taken) (at.text ++ out) at.quiet (stands_last config taken at.text out partial at.stands last);
-          written = part_join before.output.written o0.written o1.written at.text out at.writes part;
+          text = warned config (at.text ++ out);
+          printed = prints config (physical_lines taken) (at.text ++ out) (stands_last config taken at.text out partial at.stands last);
+          written = part_more config before.output.written o0.written o1.written at.text out at.writes part;
         };
       },
       rose_since before.output.faults o0.faults o1.faults at.output rose,

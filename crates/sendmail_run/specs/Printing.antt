@@ -12,7 +12,7 @@ use Rattle.mail_base.specs.declared.config.Config.{Config}
 use Rattle.ruleset_run.specs.declared.fault.RunFault.{RunFault}
 use Rattle.ruleset_run.specs.declared.fault.RunFault.TheVariants.{Loop, Work, Long, NoRuleset, NoMemory}
 use Rattle.ruleset_run.specs.Runs.{Outcome, RunsSet}
-use Rattle.sendmail_run.specs.Tokens.{tokens_of, default_operators, most_tokens}
+use Rattle.sendmail_run.specs.Tokens.{tokens_of, most_tokens}
 
 -- a text, on a line of its own
 abbrev pub line_of : List ℕ → List ℕ
@@ -48,9 +48,12 @@ abbrev pub outcome_text : List ℕ → Outcome → List ℕ
 outcome_text name (Ok done) = line_of (name ++ codes " returns:" ++ spaced done.tokens)
 outcome_text name (Err fault) = line_of (name ++ codes " error: " ++ fault_name fault)
 
--- a line for each line of the configuration that is ignored
+-- the line that tells of a line of the configuration that is ignored
+unfoldable pub warning_text : ℕ → List ℕ
+warning_text number = line_of (codes "warning: line " ++ decimal number ++ codes " ignored")
+
 abbrev pub warnings_text : List ℕ → List ℕ
-warnings_text numbers = flat_map (λ number. line_of (codes "warning: line " ++ decimal number ++ codes " ignored")) numbers
+warnings_text numbers = flat_map warning_text numbers
 
 -- the name of a set: what stands before the first white space
 abbrev pub name_of : List ℕ → List ℕ
@@ -106,7 +109,7 @@ AnswersForm Quiet config line text = text ≡ []
 AnswersForm TooLong config line text = text ≡ line_of (codes "line too long")
 AnswersForm Unread config line text = text ≡ line_of (codes "not yet")
 AnswersForm Unknown config line text = text ≡ line_of (codes "unknown line")
-AnswersForm Runs config line text = AnswersRun config (name_of line) (tokens_of default_operators (address_of line)) text
+AnswersForm Runs config line text = AnswersRun config (name_of line) (tokens_of config.options.operator_chars (address_of line)) text
 
 -- the text that a line of input is answered with
 abbrev pub Answers : Config → List ℕ → List ℕ → Type 0

@@ -12,6 +12,7 @@ ghost use Rattle.sendmail_run.specs.declared.outcome.Outcome.TheVariants.{ReadFa
 
 use crate::buffer::zeros;
 use crate::input::Partial;
+use crate::warning::warnings_of;
 use mail_base::{Config, Failed, MOST_PIECE, NoMemory, Text};
 use mail_edge::{Sink, Source};
 use memchr::memchr;
@@ -34,7 +35,8 @@ pub enum TestEnd {
     NoMemory,
 }
 
-/// Answers each line of input on the output, up to the end of the input or the line `/quit`.
+/// Gives the warnings of the configuration on the output, and then answers each line of input, up to
+/// the end of the input or the line `/quit`.
 pub fn address_test<I: Source, O: Sink>(
     alloc: Global,
     config: &Config,
@@ -42,7 +44,6 @@ pub fn address_test<I: Source, O: Sink>(
     output: &mut O,
 ) -> TestEnd
     requires plain { IsTrue (is_plain_book config.now.book) }
-    requires quiet { config.now.warnings ≡ [] }
     ensures tests { Tests config.now (streams (I.seen input.old) (O.seen output.old)) (streams (I.seen input.new) (O.seen output.new)) result }
     ensures input { (I.seen input.old).faults ≤ (I.seen input.new).faults }
     ensures output { (O.seen output.old).faults ≤ (O.seen output.new).faults }
@@ -55,7 +56,7 @@ pub fn address_test<I: Source, O: Sink>(
     answer_all(alloc, config, input, output, &mut buffer)
 }
 
-// Answers each line, taking as many bytes at once as the buffer holds.
+// Gives the warnings and answers each line, taking as many bytes at once as the buffer holds.
 fn answer_all<I: Source, O: Sink>(
     alloc: Global,
     config: &Config,
@@ -64,7 +65,6 @@ fn answer_all<I: Source, O: Sink>(
     buffer: &mut [u8],
 ) -> TestEnd
     requires plain { IsTrue (is_plain_book config.now.book) }
-    requires quiet { config.now.warnings ≡ [] }
     requires buffer { 0 < length buffer.old }
     ensures tests { Tests config.now (streams (I.seen input.old) (O.seen output.old)) (streams (I.seen input.new) (O.seen output.new)) result }
     ensures input { (I.seen input.old).faults ≤ (I.seen input.new).faults }
@@ -72,6 +72,12 @@ fn answer_all<I: Source, O: Sink>(
     ensures read { RisesOnlyAt ReadFault (of_test result) (I.seen input.old).faults (I.seen input.new).faults }
     ensures written { RisesOnlyAt WriteFault (of_test result) (O.seen output.old).faults (O.seen output.new).faults }
 {
+    let Ok(warnings) = warnings_of(alloc, config) else {
+        return TestEnd::NoMemory;
+    };
+    let Ok(()) = give(output, &warnings) else {
+        return TestEnd::WriteFault;
+    };
     let mut partial = Partial::new(alloc);
     let mut total: u64 = 0;
     while total < MOST_INPUT {

@@ -2,12 +2,11 @@ ghost use Rattle.std.specs.Prelude.{◌≡◌, ◌≤◌, ◌++◌, List, ℕ, l
 ghost use Rattle.std.specs.List.{list_any, position_or_len};
 ghost use Rattle.mail_base.specs.Whites.{is_white};
 ghost use Rattle.ruleset_run.specs.Plain.{is_plain_book};
-ghost use Rattle.sendmail_run.specs.Tokens.{tokens_of, default_operators};
+ghost use Rattle.sendmail_run.specs.Tokens.{tokens_of};
 ghost use Rattle.sendmail_run.specs.Printing.{Answers, AnswersRun, spaced, line_of};
 ghost use Rattle.sendmail_run.specs.Printing as spec;
 
 use crate::tokens;
-use crate::tokens::DEFAULT_OPERATORS;
 use mail_base::{Config, MOST_LINE, Mark, NoMemory, Seq, Text, Token, is_white};
 use ruleset_run::{RunFault, run};
 use std::alloc::Global;
@@ -45,9 +44,9 @@ fn answer_run(
     out: &mut Text,
 ) -> Result<(), NoMemory>
     requires { IsTrue (is_plain_book config.now.book) }
-    ensures { OnOk result ((text : List ℕ) × AnswersRun config.now name.now (tokens_of default_operators address.now) text × (out.new ≡ out.old ++ text)) }
+    ensures { OnOk result ((text : List ℕ) × AnswersRun config.now name.now (tokens_of config.now.options.operator_chars address.now) text × (out.new ≡ out.old ++ text)) }
 {
-    let tokens = tokens::tokens_of(alloc, DEFAULT_OPERATORS, address)?;
+    let tokens = tokens::tokens_of(alloc, config.options.operator_chars.bytes(), address)?;
     if tokens.len() > MOST_TOKENS {
         return out.extend(b"bad address: Long\n");
     }

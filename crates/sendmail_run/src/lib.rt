@@ -12,6 +12,7 @@ mod outcome;
 mod program;
 mod session_mode;
 mod tokens;
+mod warning;
 
 pub use command_line::{DEFAULT_FILE, Job, Mode, WordFault, words};
 pub use law::{tokens_are_of_any_cutting, words_are_taken_or_refused};

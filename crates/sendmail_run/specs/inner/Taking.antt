@@ -8,7 +8,7 @@ use Rattle.sendmail_run.specs.declared.input.Partial.{Partial}
 use Rattle.sendmail_run.specs.declared.address_test.Step.{Step}
 use Rattle.sendmail_run.specs.declared.address_test.Step.TheVariants.{On, Ended}
 use Rattle.sendmail_run.specs.declared.outcome.Outcome.TheVariants.{WriteFault}
-use Rattle.sendmail_run.specs.Printing.{Printed, Answers, is_quit, line_of}
+use Rattle.sendmail_run.specs.Printing.{Printed, Answers, is_quit, line_of, warnings_text}
 use Rattle.cf_reader.specs.LogicalLines.{physical_lines}
 use Rattle.sendmail_run.specs.Devices.{Streams}
 use Rattle.sendmail_run.specs.Outcomes.{of_test}
@@ -68,14 +68,13 @@ abbrev pub Answered : Config → List ℕ → Partial → List ℕ → Bool → 
 Answered config taken partial text true = Quits config taken text
 Answered config taken partial text false = Stands config taken partial text
 
--- all these bytes were taken since the start, and the answers to the ended lines of a front of them were written
+-- all these bytes were taken since the start, and the warnings and the answers to the ended lines of a front of them were written
 pub record At (config : Config) (before now : Streams) (all taken : List ℕ) (partial : Partial) : Type 0 where
   pub few : length all ≤ 2 ^ 32
   pub text : List ℕ
   pub takes : Takes before now all
-  pub writes : Writes before now text
+  pub writes : Writes before now (warnings_text config.warnings ++ text)
   pub stands : Stands config taken partial text
-  pub quiet : config.warnings ≡ []
   pub input : before.input.faults ≤ now.input.faults
   pub output : before.output.faults ≤ now.output.faults
 

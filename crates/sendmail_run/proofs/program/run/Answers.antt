@@ -6,7 +6,6 @@ use Rattle.sendmail_run.proofs.program.run.Goals as goal
 pub address_test-requires : goal.address_test-requires
 address_test-requires g c = record {
   plain = c.in-Ok-configuration.ensures.plain;
-  quiet = ?;
 }
 
 pub returns-in-Err-clause-ends : goal.returns-in-Err-clause-ends
