@@ -3,7 +3,6 @@ mod CuttingLemmas
 mod EndedLemmas
 mod Examples
 mod KeepLemmas
-mod PlainLemmas
 mod ProgramLemmas
 mod ServingLemmas
 mod TestLemmas

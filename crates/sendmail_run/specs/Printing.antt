@@ -10,8 +10,10 @@ use Rattle.mail_base.specs.declared.token.Mark.{Mark}
 use Rattle.mail_base.specs.declared.token.Mark.TheVariants.{Alt, Mailer, Host, User, End}
 use Rattle.mail_base.specs.declared.config.Config.{Config}
 use Rattle.ruleset_run.specs.declared.fault.RunFault.{RunFault}
-use Rattle.ruleset_run.specs.declared.fault.RunFault.TheVariants.{Loop, Work, Long, NoRuleset, NoMemory}
+use Rattle.ruleset_run.specs.declared.fault.RunFault.TheVariants.{Loop, Work, Deep, Long, NoRuleset, MapClass, NoSuchMap, BadScan, NoMemory}
+use Rattle.map_tables.specs.Answers.{Loaded, loaded}
 use Rattle.ruleset_run.specs.Runs.{Outcome, RunsSet}
+use Rattle.ruleset_run.specs.Sites.{site_of}
 use Rattle.sendmail_run.specs.Tokens.{tokens_of, most_tokens}
 
 -- a text, on a line of its own
@@ -39,8 +41,12 @@ spaced tokens = flat_map (λ token. 32 ∷ token_bytes token) tokens
 abbrev pub fault_name : RunFault → List ℕ
 fault_name Loop = codes "Loop"
 fault_name Work = codes "Work"
+fault_name Deep = codes "Deep"
 fault_name Long = codes "Long"
 fault_name (NoRuleset name) = codes "NoRuleset"
+fault_name (MapClass name) = codes "MapClass"
+fault_name (NoSuchMap name) = codes "NoSuchMap"
+fault_name BadScan = codes "BadScan"
 fault_name NoMemory = codes "NoMemory"
 
 -- what a run of the set of that name prints
@@ -98,11 +104,15 @@ form_of line =
     else if length (name_of line) == 0 then Unknown
     else Runs
 
+-- the maps of a configuration without their files: no rule that is read asks a map yet
+abbrev pub maps_of : Config → Loaded
+maps_of config = loaded config.maps [] []
+
 -- what a run of the set of a name on an address prints
 abbrev pub AnswersRun : Config → List ℕ → List Token → List ℕ → Type 0
 AnswersRun config name tokens text =
     MatchBool (nat_lt most_tokens (length tokens)) (text ≡ line_of (codes "bad address: Long"))
-    ((outcome : Outcome) × RunsSet config.book name tokens 0 0 [] outcome × (text ≡ outcome_text name outcome))
+    ((outcome : Outcome) × RunsSet (site_of config (maps_of config)) config.macros name tokens outcome × (text ≡ outcome_text name outcome))
 
 abbrev pub AnswersForm : Form → Config → List ℕ → List ℕ → Type 0
 AnswersForm Quiet config line text = text ≡ []

@@ -1,10 +1,10 @@
-ghost use Rattle.std.specs.Prelude.{◌≡◌, ◌<◌, ◌≤◌, ◌^◌, ◌++◌, ◌∷◌, List, [], ℕ, false, MatchOption, length, take, IfOk, OnOk, OnErr, IfSome, IsTrue, ◌↔◌};
+ghost use Rattle.std.specs.Prelude.{◌≡◌, ◌<◌, ◌≤◌, ◌^◌, ◌++◌, ◌∷◌, List, [], ℕ, false, MatchOption, length, take, IfOk, OnOk, OnErr, IfSome, ◌↔◌};
 ghost use Rattle.mail_base.specs.Histories.{Gains, HasCause};
 ghost use Rattle.mail_edge.specs.Moves.{Loses, GainsPart};
 ghost use Rattle.mail_edge.specs.Seen.{SourceSeen};
-ghost use Rattle.ruleset_run.specs.Plain.{is_plain_book};
 ghost use Rattle.sendmail_run.specs.Devices.{Streams, streams};
 ghost use Rattle.sendmail_run.specs.Outcomes.{of_test};
+ghost use Rattle.sendmail_run.specs.Printing.{maps_of};
 ghost use Rattle.sendmail_run.specs.Rises.{RisesOnlyAt};
 ghost use Rattle.sendmail_run.specs.inner.Taking.{Answered, At, RisesOnlyIn, Stands, Went, has_end};
 ghost use Rattle.sendmail_run.specs.Testing.{Tests};
@@ -13,8 +13,9 @@ ghost use Rattle.sendmail_run.specs.declared.outcome.Outcome.TheVariants.{ReadFa
 use crate::buffer::zeros;
 use crate::input::Partial;
 use crate::warning::warnings_of;
-use mail_base::{Config, Failed, MOST_PIECE, NoMemory, Text};
+use mail_base::{Config, Failed, MOST_PIECE, NoMemory, Seq, Text};
 use mail_edge::{Sink, Source};
+use map_tables::Maps;
 use memchr::memchr;
 use std::alloc::Global;
 
@@ -43,28 +44,38 @@ pub fn address_test<I: Source, O: Sink>(
     input: &mut I,
     output: &mut O,
 ) -> TestEnd
-    requires plain { IsTrue (is_plain_book config.now.book) }
     ensures tests { Tests config.now (streams (I.seen input.old) (O.seen output.old)) (streams (I.seen input.new) (O.seen output.new)) result }
     ensures input { (I.seen input.old).faults ≤ (I.seen input.new).faults }
     ensures output { (O.seen output.old).faults ≤ (O.seen output.new).faults }
     ensures read { RisesOnlyAt ReadFault (of_test result) (I.seen input.old).faults (I.seen input.new).faults }
     ensures written { RisesOnlyAt WriteFault (of_test result) (O.seen output.old).faults (O.seen output.new).faults }
 {
+    let Ok(maps) = unfilled(alloc, config) else {
+        return TestEnd::NoMemory;
+    };
     let Ok(mut buffer) = zeros(alloc, MOST_PIECE) else {
         return TestEnd::NoMemory;
     };
-    answer_all(alloc, config, input, output, &mut buffer)
+    answer_all(alloc, config, &maps, input, output, &mut buffer)
+}
+
+// The maps of a configuration before their files are read: no rule asks one yet.
+fn unfilled(alloc: Global, config: &Config) -> Result<Maps, NoMemory>
+    ensures { IfOk result (λ maps. maps ≡ maps_of config.now) }
+{
+    Maps::load(alloc, config, &Seq::new(alloc), &Text::new(alloc))
 }
 
 // Gives the warnings and answers each line, taking as many bytes at once as the buffer holds.
 fn answer_all<I: Source, O: Sink>(
     alloc: Global,
     config: &Config,
+    maps: &Maps,
     input: &mut I,
     output: &mut O,
     buffer: &mut [u8],
 ) -> TestEnd
-    requires plain { IsTrue (is_plain_book config.now.book) }
+    requires maps { maps.now ≡ maps_of config.now }
     requires buffer { 0 < length buffer.old }
     ensures tests { Tests config.now (streams (I.seen input.old) (O.seen output.old)) (streams (I.seen input.new) (O.seen output.new)) result }
     ensures input { (I.seen input.old).faults ≤ (I.seen input.new).faults }
@@ -86,10 +97,10 @@ fn answer_all<I: Source, O: Sink>(
             Err(_) => return TestEnd::ReadFault,
         };
         if count == 0 {
-            return end(alloc, config, &partial, output);
+            return end(alloc, config, maps, &partial, output);
         }
         total += count as u64;
-        match answer_piece(alloc, config, &mut partial, &buffer[..count], output) {
+        match answer_piece(alloc, config, maps, &mut partial, &buffer[..count], output) {
             Step::On => {}
             Step::Ended(how) => return how,
         }
@@ -123,16 +134,17 @@ enum Step {
 fn answer_piece<O: Sink>(
     alloc: Global,
     config: &Config,
+    maps: &Maps,
     partial: &mut Partial,
     bytes: &[u8],
     output: &mut O,
 ) -> Step
-    requires { IsTrue (is_plain_book config.now.book) }
+    requires { maps.now ≡ maps_of config.now }
     ensures went { (before : Streams) (input : SourceSeen) (taken : List ℕ) → At config.now before (streams input (O.seen output.old)) (taken ++ bytes.now) taken partial.old → Went config.now before (streams input (O.seen output.new)) (taken ++ bytes.now) partial.new result }
     ensures later { (O.seen output.old).faults ≤ (O.seen output.new).faults }
     ensures rises { RisesOnlyIn result (O.seen output.old).faults (O.seen output.new).faults }
 {
-    let Ok(answers) = answer_lines(alloc, config, partial, bytes) else {
+    let Ok(answers) = answer_lines(alloc, config, maps, partial, bytes) else {
         return Step::Ended(TestEnd::NoMemory);
     };
     match give(output, &answers.text) {
@@ -170,10 +182,11 @@ struct Answers {
 fn answer_lines(
     alloc: Global,
     config: &Config,
+    maps: &Maps,
     partial: &mut Partial,
     bytes: &[u8],
 ) -> Result<Answers, NoMemory>
-    requires { IsTrue (is_plain_book config.now.book) }
+    requires { maps.now ≡ maps_of config.now }
     ensures { IfOk result (λ answers. (taken text : List ℕ) → Stands config.now taken partial.old text → Answered config.now (taken ++ bytes.now) partial.new (text ++ answers.text) answers.is_quit) }
 {
     let mut text = Text::new(alloc);
@@ -186,7 +199,7 @@ fn answer_lines(
                 is_quit: true,
             });
         }
-        partial.answer(alloc, config, &mut text)?;
+        partial.answer(alloc, config, maps, &mut text)?;
         partial.clear();
         rest = parts.1;
     }
@@ -208,14 +221,20 @@ fn split_end(text: &[u8]) -> Option<(&[u8], &[u8])>
 }
 
 // Answers the last line, which the input's end ends.
-fn end<O: Sink>(alloc: Global, config: &Config, partial: &Partial, output: &mut O) -> TestEnd
-    requires { IsTrue (is_plain_book config.now.book) }
+fn end<O: Sink>(
+    alloc: Global,
+    config: &Config,
+    maps: &Maps,
+    partial: &Partial,
+    output: &mut O,
+) -> TestEnd
+    requires { maps.now ≡ maps_of config.now }
     ensures tests { (before : Streams) (input : SourceSeen) (taken : List ℕ) → IfSome input.left (λ left. left ≡ []) → length taken < 2 ^ 32 → At config.now before (streams input (O.seen output.old)) taken taken partial.now → Tests config.now before (streams input (O.seen output.new)) result }
     ensures later { (O.seen output.old).faults ≤ (O.seen output.new).faults }
     ensures rises { RisesOnlyAt WriteFault (of_test result) (O.seen output.old).faults (O.seen output.new).faults }
 {
     let mut text = Text::new(alloc);
-    let Ok(()) = partial.answer_last(alloc, config, &mut text) else {
+    let Ok(()) = partial.answer_last(alloc, config, maps, &mut text) else {
         return TestEnd::NoMemory;
     };
     match give(output, &text) {

@@ -1,13 +1,13 @@
-ghost use Rattle.std.specs.Prelude.{◌≡◌, ◌≤◌, ◌++◌, List, ℕ, length, OnOk, IsTrue, codes};
+ghost use Rattle.std.specs.Prelude.{◌≡◌, ◌≤◌, ◌++◌, List, ℕ, length, OnOk, codes};
 ghost use Rattle.std.specs.List.{list_any, position_or_len};
 ghost use Rattle.mail_base.specs.Whites.{is_white};
-ghost use Rattle.ruleset_run.specs.Plain.{is_plain_book};
 ghost use Rattle.sendmail_run.specs.Tokens.{tokens_of};
-ghost use Rattle.sendmail_run.specs.Printing.{Answers, AnswersRun, spaced, line_of};
+ghost use Rattle.sendmail_run.specs.Printing.{Answers, AnswersRun, spaced, line_of, maps_of};
 ghost use Rattle.sendmail_run.specs.Printing as spec;
 
 use crate::tokens;
 use mail_base::{Config, MOST_LINE, Mark, NoMemory, Seq, Text, Token, is_white};
+use map_tables::Maps;
 use ruleset_run::{RunFault, run};
 use std::alloc::Global;
 
@@ -16,8 +16,14 @@ const MOST_TOKENS: usize = 2_000;
 
 /// Adds the text that a line of input is answered with. After `NoMemory` a part of it may have been added.
 #[tactic(auto, unfolding(mail_base::specs::Limits::most_line))]
-pub fn answer(alloc: Global, config: &Config, line: &[u8], out: &mut Text) -> Result<(), NoMemory>
-    requires { IsTrue (is_plain_book config.now.book) }
+pub fn answer(
+    alloc: Global,
+    config: &Config,
+    maps: &Maps,
+    line: &[u8],
+    out: &mut Text,
+) -> Result<(), NoMemory>
+    requires { maps.now ≡ maps_of config.now }
     ensures { OnOk result ((text : List ℕ) × Answers config.now line.now text × (out.new ≡ out.old ++ text)) }
 {
     if is_quiet(line) {
@@ -33,17 +39,18 @@ pub fn answer(alloc: Global, config: &Config, line: &[u8], out: &mut Text) -> Re
     if name.is_empty() {
         return out.extend(b"unknown line\n");
     }
-    answer_run(alloc, config, name, &line[name.len()..], out)
+    answer_run(alloc, config, maps, name, &line[name.len()..], out)
 }
 
 fn answer_run(
     alloc: Global,
     config: &Config,
+    maps: &Maps,
     name: &[u8],
     address: &[u8],
     out: &mut Text,
 ) -> Result<(), NoMemory>
-    requires { IsTrue (is_plain_book config.now.book) }
+    requires { maps.now ≡ maps_of config.now }
     ensures { OnOk result ((text : List ℕ) × AnswersRun config.now name.now (tokens_of config.now.options.operator_chars address.now) text × (out.new ≡ out.old ++ text)) }
 {
     let tokens = tokens::tokens_of(alloc, config.options.operator_chars.bytes(), address)?;
@@ -51,7 +58,7 @@ fn answer_run(
         return out.extend(b"bad address: Long\n");
     }
     let set = Text::of(alloc, name)?;
-    match run(alloc, config, &set, &tokens) {
+    match run(alloc, config, maps, &config.macros, &set, &tokens) {
         Ok(ran) => push_tokens(name, ran.tokens.items(), out),
         Err(RunFault::NoMemory) => Err(NoMemory),
         Err(fault) => push_fault(name, &fault, out),
@@ -74,8 +81,12 @@ fn fault_name(fault: &RunFault) -> &'static [u8]
     match fault {
         RunFault::Loop => b"Loop",
         RunFault::Work => b"Work",
+        RunFault::Deep => b"Deep",
         RunFault::Long => b"Long",
         RunFault::NoRuleset(_) => b"NoRuleset",
+        RunFault::MapClass(_) => b"MapClass",
+        RunFault::NoSuchMap(_) => b"NoSuchMap",
+        RunFault::BadScan => b"BadScan",
         RunFault::NoMemory => b"NoMemory",
     }
 }

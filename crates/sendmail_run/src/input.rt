@@ -1,12 +1,12 @@
-ghost use Rattle.std.specs.Prelude.{◌≡◌, ◌<◌, ◌++◌, MatchOption, List, [], ℕ, length, OnOk, OnErr, IsTrue, false};
+ghost use Rattle.std.specs.Prelude.{◌≡◌, ◌<◌, ◌++◌, MatchOption, List, [], ℕ, length, OnOk, OnErr, false};
 ghost use Rattle.std.specs.Str.Lines.{strip_carriage_return};
-ghost use Rattle.ruleset_run.specs.Plain.{is_plain_book};
-ghost use Rattle.sendmail_run.specs.Printing.{Answers};
+ghost use Rattle.sendmail_run.specs.Printing.{Answers, maps_of};
 ghost use Rattle.sendmail_run.specs.Printing as spec;
 ghost use Rattle.sendmail_run.specs.inner.Taking.{Keeps, AnswersLast, cut_text, most_kept};
 
 use crate::answers::answer;
 use mail_base::{Config, MOST_LINE, NoMemory, Text};
+use map_tables::Maps;
 use std::alloc::Global;
 
 /// The most bytes that are kept of a line: its own, and a CR that may stand before its end.
@@ -65,12 +65,18 @@ impl Partial {
     }
 
     /// Adds the answer to the line, which is ended now.
-    pub fn answer(&self, alloc: Global, config: &Config, out: &mut Text) -> Result<(), NoMemory>
-        requires { IsTrue (is_plain_book config.now.book) }
+    pub fn answer(
+        &self,
+        alloc: Global,
+        config: &Config,
+        maps: &Maps,
+        out: &mut Text,
+    ) -> Result<(), NoMemory>
+        requires { maps.now ≡ maps_of config.now }
         ensures { OnOk result ((rest : List ℕ) → Keeps self.now rest → (text : List ℕ) × Answers config.now (strip_carriage_return rest) text × (out.new ≡ out.old ++ text)) }
     {
         match self.whole() {
-            Some(line) => answer(alloc, config, without_return(line), out),
+            Some(line) => answer(alloc, config, maps, without_return(line), out),
             None => answer_cut(self.front.bytes(), out),
         }
     }
@@ -80,14 +86,15 @@ impl Partial {
         &self,
         alloc: Global,
         config: &Config,
+        maps: &Maps,
         out: &mut Text,
     ) -> Result<(), NoMemory>
-        requires { IsTrue (is_plain_book config.now.book) }
+        requires { maps.now ≡ maps_of config.now }
         ensures { OnOk result ((rest : List ℕ) → Keeps self.now rest → (text : List ℕ) × AnswersLast config.now rest text × (out.new ≡ out.old ++ text)) }
     {
         match self.whole() {
             Some(line) if line == b"/quit".as_slice() => Ok(()),
-            Some(line) => answer(alloc, config, line, out),
+            Some(line) => answer(alloc, config, maps, line, out),
             None => answer_cut(self.front.bytes(), out),
         }
     }

@@ -1,5 +1,4 @@
-ghost use Rattle.std.specs.Prelude.{◌≡◌, ◌<◌, ◌≤◌, ◌^◌, length, true, IfErr, IfOk, OnOk};
-ghost use Rattle.ruleset_run.specs.Plain.{is_plain_book};
+ghost use Rattle.std.specs.Prelude.{◌≡◌, ◌<◌, ◌≤◌, ◌^◌, length, IfErr, IfOk, OnOk};
 ghost use Rattle.sendmail_run.specs.Beginning.{Begins};
 ghost use Rattle.sendmail_run.specs.Devices.{world};
 ghost use Rattle.sendmail_run.specs.Outcomes.{of_config};
@@ -104,7 +103,6 @@ fn configuration<F: Files>(alloc: Global, name: Text, files: &mut F) -> Result<C
     ensures map { (F.seen files.new).map ≡ (F.seen files.old).map }
     ensures later { (F.seen files.old).faults ≤ (F.seen files.new).faults }
     ensures kept { OnOk result ((F.seen files.new).faults ≡ (F.seen files.old).faults) }
-    ensures plain { IfOk result (λ config. is_plain_book config.book ≡ true) }
     ensures rises { IfErr result (λ fault. RisesOnlyAt FilesFault (of_config fault) (F.seen files.old).faults (F.seen files.new).faults) }
 {
     let text = match files.read(alloc, &name) {

@@ -3,11 +3,6 @@ use Rattle.sendmail_run.specs.Outcomes.{of_config, of_test}
 use Rattle.sendmail_run.proofs.ProgramLemmas.{counts, ends_at_words, ends_at_file, ends_tested, ends_served, stays_at_words, stays_at_file, stays_tested, stays_served}
 use Rattle.sendmail_run.proofs.program.run.Goals as goal
 
-pub address_test-requires : goal.address_test-requires
-address_test-requires g c = record {
-  plain = c.in-Ok-configuration.ensures.plain;
-}
-
 pub returns-in-Err-clause-ends : goal.returns-in-Err-clause-ends
 returns-in-Err-clause-ends g c =
     ends_at_words c.args.arguments.now (g.F.Files.seen c.args.files.now) (g.I.Source.seen c.args.input.now) (g.O.Sink.seen c.args.output.now) (g.L.Floor.seen c.args.floor.now) (g.D.Spool.seen c.args.spool.now) (g.C.Clock.seen c.args.clock.now)
