@@ -5,10 +5,6 @@ use Rattle.mail_base.specs.Whites.{is_white}
 use Rattle.mail_base.specs.declared.token.Token.{Token}
 use Rattle.mail_base.specs.declared.token.Token.TheVariants.{Word, Op}
 
--- the bytes of OperatorChars by default
-abbrev pub default_operators : List ℕ
-default_operators = codes ".:@[]"
-
 -- these are operators always
 abbrev pub fixed_operators : List ℕ
 fixed_operators = codes "()<>,;"

@@ -5,9 +5,6 @@ ghost use Rattle.sendmail_run.specs.Tokens as spec;
 use mail_base::{NoMemory, Seq, Text, Token, is_white};
 use std::alloc::Global;
 
-/// The bytes that are operators unless a configuration says otherwise.
-pub const DEFAULT_OPERATORS: &[u8] = b".:@[]";
-
 const FIXED_OPERATORS: &[u8] = b"()<>,;";
 
 /// The tokens of a text that has no quote, no backslash and no parenthesis.
