@@ -1,13 +1,12 @@
 -- Columns of K lines.
-use Rattle.std.proofs.Common.{◌≡◌, ◌↔◌, ℕ, ◌≤◌, ◌<◌, Bool, true, false, cond, not, ltb, List, Option, Some, None, Result, Ok, Err, refl, sym, ap, subst, ◌∙◌, arith}
+use Rattle.std.proofs.Common.{◌≡◌, ◌↔◌, ℕ, ◌≤◌, Bool, true, false, cond, not, ltb, List, Option, Some, None, Result, Ok, Err, refl, sym, ap, ◌∙◌, arith}
 use Rattle.std.specs.Prelude.{unwrap_or}
 use Rattle.std.proofs.lemmas.Bool.{ltb-true}
 use Rattle.std.proofs.lemmas.Bool.Decides.{nat_tests}
 use Rattle.cf_values.specs.Numbers.{IsNumber, number_value}
-use Rattle.cf_reader.specs.Reads.{Reads, first_fault}
 use Rattle.cf_reader.specs.declared.fault.Fault.{Fault}
 use Rattle.cf_reader.specs.declared.fault.Fault.TheVariants.{BadMap}
-use Rattle.cf_reader.specs.MapLines.{column_or, is_column, is_no_column}
+use Rattle.cf_reader.specs.MapLines.{is_column}
 
 -- what a number is computed to be is what it means
 abbrev Computes : Type 0

@@ -1,5 +1,5 @@
 -- Reading line by line.
-use Rattle.std.proofs.Common.{◌≡◌, ◌∙◌, ℕ, ◌+◌, ◌<◌, ◌≤◌, false, Bool, List, ◌∷◌, length, drop, get_or, Some, None, Ok, Err, refl, sym, ap, subst, arith}
+use Rattle.std.proofs.Common.{◌≡◌, ◌∙◌, ℕ, ◌+◌, ◌<◌, false, Bool, List, ◌∷◌, length, drop, get_or, Some, None, Ok, Err, refl, sym, ap, subst, arith}
 use Rattle.std.specs.Prelude.{Option, Result, IfSome}
 use Rattle.std.proofs.lemmas.List.{drop_more}
 use Rattle.mail_base.specs.Histories.{Rose}

@@ -1,6 +1,6 @@
 -- A book that is read has only rules that are run.
-use Rattle.std.proofs.Common.{◌≡◌, ◌∙◌, ℕ, Bool, true, false, cond, ◌||◌, List, [], ◌∷◌, ◌++◌, Ok, Err, Some, None, refl, sym, ap, subst}
-use Rattle.std.specs.Prelude.{Option, Result, fold, OnOk, is_none}
+use Rattle.std.proofs.Common.{◌≡◌, ◌∙◌, ℕ, Bool, true, false, ◌||◌, List, [], ◌∷◌, ◌++◌, Ok, Err, None, refl, ap}
+use Rattle.std.specs.Prelude.{Option, Result, OnOk}
 use Rattle.std.specs.List.{list_any}
 use Rattle.std.proofs.lemmas.Bool.{cond_both}
 use Rattle.std.proofs.lemmas.List.Folds.{list_any-append}
@@ -9,7 +9,6 @@ use Rattle.mail_base.specs.Rulesets.{Ruled, is_named, with_name, with_rule}
 use Rattle.cf_reader.specs.declared.fault.Fault.{Fault}
 use Rattle.cf_reader.specs.declared.fault.Fault.TheVariants.{NoTab, BadPattern, TooManyMetas, BadReference, NotYet}
 use Rattle.cf_reader.specs.declared.fault.LineStop.{LineStop}
-use Rattle.cf_reader.specs.declared.fault.LineStop.TheVariants as stops
 use Rattle.cf_reader.specs.declared.state.State.{State}
 use Rattle.cf_reader.specs.NotYet.{is_later_rule, holds_later}
 use Rattle.cf_reader.specs.Reads.{first_fault}
@@ -58,16 +57,16 @@ begun_runs names book h =
     cond_both (list_any (has_one names) book) (with_first (has_one names) (with_names names) book) (book ++ with_names names empty_set ∷ []) (λ (b : List Ruled). holds_later b ≡ false)
     (λ e. first_keeps (has_one names) (with_names names) book (names_run names) h)
     (λ e.
-      list_any-append (λ (set : Ruled). list_any is_later_rule set.rules) book (with_names names empty_set ∷ [])
-      ∙ neither (holds_later book) (list_any is_later_rule (with_names names empty_set).rules || false) h
-      (neither (list_any is_later_rule (with_names names empty_set).rules) false (names_run names empty_set refl) refl))
+    list_any-append (λ (set : Ruled). list_any is_later_rule set.rules) book (with_names names empty_set ∷ [])
+    ∙ neither (holds_later book) (list_any is_later_rule (with_names names empty_set).rules || false) h
+    (neither (list_any is_later_rule (with_names names empty_set).rules) false (names_run names empty_set refl) refl))
 
 pub rule_runs : (names : List (List ℕ)) (rule : Rule) (book : List Ruled) → is_later_rule rule ≡ false → holds_later book ≡ false → holds_later (with_rule_of names rule book) ≡ false
 rule_runs names rule book runs h =
     first_keeps (has_one names) (λ set. with_rule set rule) (begun names book)
     (λ set k.
-      list_any-append is_later_rule set.rules (rule ∷ [])
-      ∙ neither (list_any is_later_rule set.rules) (is_later_rule rule || false) k (neither (is_later_rule rule) false runs refl))
+    list_any-append is_later_rule set.rules (rule ∷ [])
+    ∙ neither (list_any is_later_rule set.rules) (is_later_rule rule || false) k (neither (is_later_rule rule) false runs refl))
     (begun_runs names book h)
 
 -- a rule without a fault is run

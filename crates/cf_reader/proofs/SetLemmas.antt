@@ -1,10 +1,10 @@
 -- Rulesets that a line names, and their places.
 use Rattle.std.proofs.Common.{◌≡◌, ◌∙◌, ℕ, zero, suc, ◌+◌, ◌<◌, ◌≤◌, Bool, true, false, not, cond, ltb, ◌||◌, List, [], ◌∷◌, ◌++◌, length, drop, get_or, set, Some, None, refl, sym, ap, subst, arith}
-use Rattle.std.specs.Prelude.{Option, position, fold, min}
+use Rattle.std.specs.Prelude.{Option, position, min}
 use Rattle.std.specs.List.{list_any, position_or_len}
 use Rattle.std.proofs.lemmas.Bool.{cond-true, cond-false, ltb-true, ltb-false}
 use Rattle.std.proofs.lemmas.Bool.Decides.{nat_tests}
-use Rattle.std.proofs.lemmas.List.{drop_all, drop_more, set-get_or, get_or-set_same, length-set, length_push, get_or_push}
+use Rattle.std.proofs.lemmas.List.{drop_all, drop_more, set-get_or, get_or-set_same, length-set, get_or_push}
 use Rattle.std.proofs.lemmas.List.Folds.{list_any_none, list_any_at}
 use Rattle.std.proofs.lemmas.List.Sums.{passes_at_first, fails_before_first}
 use Rattle.mail_base.specs.Rulesets.{Ruled, is_named, with_name}

@@ -1,5 +1,5 @@
 -- A line by its letter.
-use Rattle.std.proofs.Common.{◌≡◌, ◌∙◌, ℕ, List, ◌∷◌, Ok, Err, Some, None, sym, subst}
+use Rattle.std.proofs.Common.{◌≡◌, ℕ, List, ◌∷◌, Ok, Err, sym, subst}
 use Rattle.std.specs.Prelude.{Option, Result}
 use Rattle.mail_edge.specs.Seen.{FileMap}
 use Rattle.cf_reader.specs.declared.fault.Fault.{Fault}

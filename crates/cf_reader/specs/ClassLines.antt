@@ -1,5 +1,5 @@
 -- C and F lines, which give words to a class (Sendmail Installation and Operation Guide, "C and F: Define Classes"; which words are refused is our own).
-use Rattle.std.specs.Prelude.{◌≡◌, ℕ, Bool, true, false, not, ◌&&◌, ◌==◌, List, map, [], ◌∷◌, bytes_eq, codes, Option, Some, None, is_some, unwrap_or, Result, Ok, Err, if◌then◌else◌}
+use Rattle.std.specs.Prelude.{ℕ, Bool, true, false, not, ◌==◌, List, map, [], ◌∷◌, bytes_eq, codes, Option, Some, None, is_some, unwrap_or, Result, Ok, Err, if◌then◌else◌}
 use Rattle.std.specs.List.{list_any, flat_map, before_first}
 use Rattle.std.specs.Str.Lines.{lines}
 use Rattle.mail_base.specs.declared.token.Token.{Token}

@@ -1,6 +1,6 @@
 -- The configuration that a file's bytes give (Sendmail Installation and Operation Guide, "The Whole Scoop on the Configuration File"), or the number and the fault of the
 -- first line that has one.
-use Rattle.std.specs.Prelude.{◌≡◌, ℕ, ◌==◌, List, [], ◌∷◌, length, fold, Option, Some, None, Result, Ok, Err, if◌then◌else◌}
+use Rattle.std.specs.Prelude.{ℕ, ◌==◌, List, [], ◌∷◌, length, fold, Option, Some, None, Result, Ok, Err, if◌then◌else◌}
 use Rattle.mail_base.specs.Catalogs.{with_value}
 use Rattle.mail_base.specs.declared.class.Member.{Member}
 use Rattle.mail_base.specs.declared.config.Config.{Config}

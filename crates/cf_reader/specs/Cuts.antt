@@ -1,5 +1,5 @@
 -- A text cut in two at a byte (our own).
-use Rattle.std.specs.Prelude.{◌≡◌, ◌==◌, ◌+◌, ℕ, List, [], ◌∷◌, take, drop, position, Option, None, Some, codes, refl}
+use Rattle.std.specs.Prelude.{◌≡◌, ◌==◌, ◌+◌, ℕ, List, [], take, drop, position, Option, None, Some, codes, refl}
 
 abbrev pub cut_by : List ℕ → Option ℕ → Option (List ℕ × List ℕ)
 cut_by text None = None

@@ -1,5 +1,5 @@
 -- H lines, by what follows the letter (Sendmail Installation and Operation Guide, "H: Define Header"; that blanks at both ends of the name go is our own).
-use Rattle.std.specs.Prelude.{◌≡◌, ◌==◌, ◌++◌, ℕ, Bool, true, false, not, nat_eq, is_some, List, [], ◌∷◌, drop, Option, None, Some, if◌then◌else◌, codes, refl}
+use Rattle.std.specs.Prelude.{◌≡◌, ◌==◌, ◌++◌, ℕ, Bool, true, not, nat_eq, is_some, List, [], ◌∷◌, drop, Option, None, Some, if◌then◌else◌, codes, refl}
 use Rattle.std.specs.List.{prefix_len, starts_with}
 use Rattle.mail_base.specs.Texts.{is_blank}
 use Rattle.mail_base.specs.declared.lines.HeaderLine.{HeaderLine}

@@ -1,7 +1,6 @@
 -- What a line of each letter says (Sendmail Installation and Operation Guide, "The Whole Scoop on the Configuration File"), by what follows the letter. What is said of a
 -- line here counts where the line has no fault.
-use Rattle.std.specs.Prelude.{◌≡◌, ℕ, Bool, true, false, ◌||◌, ◌&&◌, ◌==◌, not, List, [], ◌∷◌, ◌++◌, bytes_eq, codes, Option, Some, None, is_some, if◌then◌else◌}
-use Rattle.std.specs.List.{list_any}
+use Rattle.std.specs.Prelude.{ℕ, Bool, true, false, ◌||◌, ◌&&◌, ◌==◌, not, List, [], ◌∷◌, ◌++◌, bytes_eq, codes, Option, Some, None, is_some, if◌then◌else◌}
 use Rattle.std.specs.Str.{str_to_ascii_lowercase}
 use Rattle.mail_base.specs.Catalogs.{value_at, with_value}
 use Rattle.mail_base.specs.Configs.{initial, main_group, host_map}

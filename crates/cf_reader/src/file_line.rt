@@ -40,11 +40,7 @@ pub(crate) fn file_class<F: Files>(
 }
 
 // The text of a file, or `None` where there is none.
-fn read_file<F: Files>(
-    alloc: Global,
-    name: &Text,
-    files: &mut F,
-) -> Result<Option<Text>, LineStop>
+fn read_file<F: Files>(alloc: Global, name: &Text, files: &mut F) -> Result<Option<Text>, LineStop>
     ensures text { IfSome (F.seen files.old).map (λ map. IsRead result (text_of map name.now)) }
     ensures asks { Asks (F.seen files.old) (F.seen files.new) (is_files_fault result) }
 {
@@ -97,7 +93,11 @@ fn wanted_by(alloc: Global, words: &[Text]) -> Result<Wanted, NoMemory>
         });
     };
     let optional = word.bytes() == b"-o".as_slice();
-    let file = if optional { first_word(alloc, rest)? } else { word.copy()? };
+    let file = if optional {
+        first_word(alloc, rest)?
+    } else {
+        word.copy()?
+    };
     Ok(Wanted { file, optional })
 }
 

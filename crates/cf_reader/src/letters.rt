@@ -121,7 +121,12 @@ impl State {
     pub(crate) fn take_rule(&mut self, alloc: Global, text: &[u8]) -> Result<(), LineStop>
         ensures { Steps result (fault_of_rule text.now self.old.config.macros self.old.config.options.operator_chars) (spec.after_rule text.now self.old) self.new }
     {
-        let rule = rule(alloc, text, &self.config.macros, &self.config.options.operator_chars)?;
+        let rule = rule(
+            alloc,
+            text,
+            &self.config.macros,
+            &self.config.options.operator_chars,
+        )?;
         add_rule(alloc, self.names.items(), rule, &mut self.config.book)?;
         self.has_rules = true;
         Ok(())

@@ -40,11 +40,7 @@ pub(crate) fn words(alloc: Global, text: &[u8]) -> Result<Seq<Text>, NoMemory>
 }
 
 /// Adds the words of a text at the end.
-pub(crate) fn push_words(
-    alloc: Global,
-    text: &[u8],
-    words: &mut Seq<Text>,
-) -> Result<(), NoMemory>
+pub(crate) fn push_words(alloc: Global, text: &[u8], words: &mut Seq<Text>) -> Result<(), NoMemory>
     ensures { OnOk result (words.new ≡ words.old ++ spec.words_of text.now) }
 {
     for word in slices(alloc, text)?.as_slice() {

@@ -1,6 +1,5 @@
-use Rattle.std.proofs.Common.{◌≡◌, ◌∙◌, List, ap}
+use Rattle.std.proofs.Common.{◌≡◌, ◌∙◌, ap}
 use Rattle.std.proofs.lemmas.Result.{err_from_is_err_and}
-use Rattle.cf_reader.specs.declared.logical.Logical.{Logical}
 use Rattle.mail_base.specs.declared.config.Config.{Config}
 use Rattle.cf_reader.specs.declared.state.State.{State}
 use Rattle.cf_reader.specs.Configuration.{configuration, read_lines}

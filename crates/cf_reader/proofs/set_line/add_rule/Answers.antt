@@ -11,9 +11,9 @@ returns-in-Some c =
     let change : Ruled → Ruled = λ s. with_rule s c.args.rule in
     on_ok_weaker c.push_rule.result
     (λ made.
-      made empty_set
-      ∙ changed_at (has_one names) change c.begin.new.book c.in-Some.place empty_set (is_first (has_one names) c.begin.new.book c.in-Some.place (sym c.first_place.ensures ∙ c.in-Some.is))
-      ∙ ap (with_first (has_one names) change) c.in_ok-begin.ensures)
+    made empty_set
+    ∙ changed_at (has_one names) change c.begin.new.book c.in-Some.place empty_set (is_first (has_one names) c.begin.new.book c.in-Some.place (sym c.first_place.ensures ∙ c.in-Some.is))
+    ∙ ap (with_first (has_one names) change) c.in_ok-begin.ensures)
     c.push_rule.ensures.ok
 
 pub returns-in-None : goal.returns-in-None

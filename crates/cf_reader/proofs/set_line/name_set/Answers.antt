@@ -1,4 +1,4 @@
-use Rattle.std.proofs.Common.{◌∙◌, arith}
+use Rattle.std.proofs.Common.{◌∙◌}
 use Rattle.cf_reader.specs.SetLines.{empty_set, named}
 use Rattle.std.specs.Prelude.{get_or}
 use Rattle.cf_reader.proofs.SetLemmas.{name_more, name_within}
