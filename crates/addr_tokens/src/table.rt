@@ -19,8 +19,8 @@ const ASKED: &[u8] = b"\"\\()$\x7f";
 #[derive(Drop)]
 pub(crate) struct Table {
     listed: [bool; 256],
-    /// Each other byte stands in a word whatever is behind it. Of these all but a backslash and a dollar
-    /// sign end one.
+    /// Where it is false the byte stands in a word whatever is behind it. Of the bytes where it is true
+    /// all but a backslash and a dollar sign end a word.
     asked: [bool; 256],
     dollars: Dollars,
     ghost lone: { AreLone listed asked },

@@ -3,6 +3,7 @@ mod CuttingLemmas
 mod EndedLemmas
 mod Examples
 mod KeepLemmas
+mod PrintingLemmas
 mod ProgramLemmas
 mod ServingLemmas
 mod TestLemmas

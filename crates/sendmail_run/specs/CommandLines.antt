@@ -1,5 +1,5 @@
 -- Command lines (Sendmail Installation and Operation Guide, "Command Line Flags"), as far as their modes are built: `-bt` and `-bs`, with `-C file` or `-Cfile`.
-use Rattle.std.specs.Prelude.{◌≡◌, ℕ, List, [], ◌∷◌, ◌++◌, length, codes, Result, Ok, Err, ◌⊎◌}
+use Rattle.std.specs.Prelude.{◌≡◌, ◌≤◌, ℕ, List, [], ◌∷◌, ◌++◌, length, codes, Result, Ok, Err, ◌⊎◌}
 use Rattle.std.specs.List.{flat_map}
 use Rattle.sendmail_run.specs.declared.command_line.Job.{Job}
 use Rattle.sendmail_run.specs.declared.command_line.Job.TheVariants.{Test, Session}
@@ -47,29 +47,44 @@ pub record IsCommandLine (words : List (List ℕ)) (mode : Mode) : Type 0 where
   pub job : flat_map jobs_in flags ≡ mode.job ∷ []
   pub file : IsFile (flat_map files_in flags) mode.file
 
--- the words begin a command line: with more words, or with none, they are one
-abbrev pub BeginsOne : List (List ℕ) → Type 0
-BeginsOne words = (more : List (List ℕ)) × (mode : Mode) × IsCommandLine (words ++ more) mode
+-- words as options, of each kind at most one: a mode, and a file
+pub record AreOptions (flags : List Flag) (words : List (List ℕ)) : Type 0 where
+  pub written : words ≡ flat_map spelling flags
+  pub one_mode : length (flat_map jobs_in flags) ≤ 1
+  pub one_file : length (flat_map files_in flags) ≤ 1
 
--- the words before this place begin a command line, and with the word there they begin none
+-- the words begin options: with more words, or with none, they are options
+abbrev pub BeginsOptions : List (List ℕ) → Type 0
+BeginsOptions words = (more : List (List ℕ)) × (flags : List Flag) × AreOptions flags (words ++ more)
+
+-- The refusals, in their order: each says that none before it applies.
+
+-- 1. The word at this place is no option, or is the second of its kind: those before it begin options, and with it they begin none.
 pub record IsBadWord (words : List (List ℕ)) (place : ℕ) : Type 0 where
   pub front : List (List ℕ)
   pub word : List ℕ
   pub later : List (List ℕ)
   pub whole : words ≡ front ++ word ∷ later
   pub at : place ≡ length front
-  pub good : BeginsOne front
-  pub bad : ¬ (BeginsOne (front ++ word ∷ []))
+  pub good : BeginsOptions front
+  pub bad : ¬ (BeginsOptions (front ++ word ∷ []))
 
--- the words begin a command line and are none: what is missing would stand at their number
-pub record IsCutShort (words : List (List ℕ)) (place : ℕ) : Type 0 where
+-- 2. The words begin options and are none: the name of a file is missing, which would stand at their number.
+pub record LacksFile (words : List (List ℕ)) (place : ℕ) : Type 0 where
   pub at : place ≡ length words
-  pub good : BeginsOne words
-  pub short : (mode : Mode) → ¬ (IsCommandLine words mode)
+  pub good : BeginsOptions words
+  pub short : (flags : List Flag) → ¬ (AreOptions flags words)
+
+-- 3. The words are options, and none of them is a mode: it would stand at their number.
+pub record LacksMode (words : List (List ℕ)) (place : ℕ) : Type 0 where
+  pub at : place ≡ length words
+  pub flags : List Flag
+  pub options : AreOptions flags words
+  pub none : flat_map jobs_in flags ≡ []
 
 -- the place, counted from 0, at which words are refused
 abbrev pub IsRefusedAt : List (List ℕ) → ℕ → Type 0
-IsRefusedAt words place = IsBadWord words place ⊎ IsCutShort words place
+IsRefusedAt words place = IsBadWord words place ⊎ (LacksFile words place ⊎ LacksMode words place)
 
 abbrev pub Fails : WordFault → List (List ℕ) → Type 0
 Fails faults.NoMemory words = Unit {0}

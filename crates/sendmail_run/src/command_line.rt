@@ -1,7 +1,7 @@
-ghost use Rattle.std.specs.Prelude.{◌≡◌, ◌<◌, ◌^◌, ◌+◌, [], ◌∷◌, ℕ, List, length};
+ghost use Rattle.std.specs.Prelude.{◌≡◌, ◌<◌, ◌^◌, ◌+◌, ◌∷◌, ℕ, List, Ok, length};
 ghost use Rattle.sendmail_run.specs.declared.command_line.WordFault.TheVariants.{NoMemory as Memory};
 ghost use Rattle.sendmail_run.specs.CommandLines.{Gives as Says};
-ghost use Rattle.sendmail_run.specs.inner.Words.{Gives, Takes, command_line, job_said, read_words};
+ghost use Rattle.sendmail_run.specs.inner.Words.{Gives, Takes, command_line, job_said, judged, read_options};
 
 use mail_base::{NoMemory, Seq, Text, TryCopy};
 use std::alloc::Global;
@@ -91,9 +91,10 @@ fn job_of(word: &[u8]) -> Option<Job>
 }
 
 impl Saying {
+    // Takes a word, unless it is no option or the second of its kind.
     fn take(&mut self, alloc: Global, word: &Text, place: u32) -> Result<(), WordFault>
         requires { place < 2 ^ 32 }
-        ensures { (words : List (List ℕ)) → Takes result (read_words self.old place (word.now ∷ words)) (read_words self.new (place + 1) words) }
+        ensures { (words : List (List ℕ)) → Takes result (read_options self.old place (word.now ∷ words)) (read_options self.new (place + 1) words) }
     {
         if self.awaits_file {
             self.file = Some(word.copy()?);
@@ -118,14 +119,15 @@ impl Saying {
         Ok(())
     }
 
-    fn whole(self, alloc: Global, place: u32) -> Result<Mode, WordFault>
-        ensures { Gives result (read_words self place []) }
+    // The refusals of words that are options, in their order: a file that is missing, and a mode.
+    fn whole(self, alloc: Global, count: u32) -> Result<Mode, WordFault>
+        ensures { Gives result (judged count (Ok self)) }
     {
         if self.awaits_file {
-            return Err(WordFault::At(place));
+            return Err(WordFault::At(count));
         }
         let Some(job) = self.job else {
-            return Err(WordFault::At(place));
+            return Err(WordFault::At(count));
         };
         let file = match self.file {
             Some(file) => file,

@@ -1,8 +1,12 @@
 ghost use Rattle.std.specs.Prelude.{◌≡◌, ◌⊎◌, List, ℕ};
 ghost use Rattle.std.specs.List.{flat_map};
+ghost use Rattle.mail_base.specs.declared.config.Config.{Config};
 ghost use Rattle.sendmail_run.specs.declared.command_line.Mode.{Mode};
 ghost use Rattle.sendmail_run.specs.CommandLines.{IsCommandLine, IsRefusedAt};
+ghost use Rattle.sendmail_run.specs.Printing.{Printed};
 ghost use Rattle.sendmail_run.specs.Tokens.{Cutting, Cuts, token_of, tokens_of};
+
+use ruleset_run::one_outcome;
 
 /// Each text without quotes, backslashes and parentheses is cut in some way, and its tokens are those of
 /// every cutting.
@@ -10,6 +14,13 @@ pub fn tokens_are_of_any_cutting()
     ensures some { (operators text : List ℕ) → (pieces : List Cutting) × Cuts operators text pieces }
     ensures any { (operators text : List ℕ) (pieces : List Cutting) → Cuts operators text pieces → tokens_of operators text ≡ flat_map token_of pieces }
 {}
+
+/// Lines have one printed text at most.
+pub fn one_text()
+    ensures { (config : Config) (lines : List (List ℕ)) (one another : List ℕ) → Printed config lines one → Printed config lines another → one ≡ another }
+{
+    one_outcome();
+}
 
 /// Words are a command line or are refused at a place, and never both; its mode and the place are the only
 /// ones.

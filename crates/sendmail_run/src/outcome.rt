@@ -66,7 +66,7 @@ impl Outcome {
     }
 
     /// That of a run whose words are refused.
-    pub fn of_words(fault: WordFault) -> Outcome
+    pub(crate) fn of_words(fault: WordFault) -> Outcome
         ensures { result ≡ spec.of_words fault }
     {
         match fault {
@@ -76,7 +76,7 @@ impl Outcome {
     }
 
     /// That of a run that has no configuration.
-    pub fn of_config(fault: ConfigFault) -> Outcome
+    pub(crate) fn of_config(fault: ConfigFault) -> Outcome
         ensures { result ≡ spec.of_config fault }
     {
         match fault {
@@ -88,7 +88,7 @@ impl Outcome {
     }
 
     /// That of a run of address test mode.
-    pub fn of_test(how: TestEnd) -> Outcome
+    pub(crate) fn of_test(how: TestEnd) -> Outcome
         ensures { result ≡ spec.of_test how }
     {
         match how {
@@ -101,7 +101,7 @@ impl Outcome {
     }
 
     /// That of a run of session mode.
-    pub fn of_session(how: SessionEnd) -> Outcome
+    pub(crate) fn of_session(how: SessionEnd) -> Outcome
         ensures { result ≡ spec.of_session how }
     {
         match how {

@@ -1,10 +1,10 @@
 use Rattle.std.proofs.Common.{◌≡◌, drop}
-use Rattle.sendmail_run.specs.inner.Words.{command_line, read_words}
+use Rattle.sendmail_run.specs.inner.Words.{nothing, read_options}
 use Rattle.sendmail_run.proofs.command_line.mode_of.Given as goal
 
 -- what the rest of the words says is what all say
 abbrev pub invariant-loop-word : goal.invariant-loop-word
 invariant-loop-word l = record {
-  rest : read_words l.said l.place (drop l.word-index l.word-items) ≡ command_line l.fn.words;
+  rest : read_options l.said l.place (drop l.word-index l.word-items) ≡ read_options nothing 0 l.fn.words;
   place : l.place ≡ l.word-index;
 }
