@@ -6,7 +6,7 @@ ghost use Rattle.sendmail_run.specs.CommandLines.{IsCommandLine, IsRefusedAt};
 ghost use Rattle.sendmail_run.specs.Printing.{Printed};
 ghost use Rattle.sendmail_run.specs.Tokens.{Cutting, Cuts, token_of, tokens_of};
 
-use ruleset_run::one_outcome;
+use ruleset_run::{each_run_ends, one_outcome};
 
 /// Each text without quotes, backslashes and parentheses is cut in some way, and its tokens are those of
 /// every cutting.
@@ -20,6 +20,13 @@ pub fn one_text()
     ensures { (config : Config) (lines : List (List ℕ)) (one another : List ℕ) → Printed config lines one → Printed config lines another → one ≡ another }
 {
     one_outcome();
+}
+
+/// Lines have a printed text.
+pub fn some_text()
+    ensures { (config : Config) (lines : List (List ℕ)) → (text : List ℕ) × Printed config lines text }
+{
+    each_run_ends();
 }
 
 /// Words are a command line or are refused at a place, and never both; its mode and the place are the only

@@ -15,6 +15,6 @@ mod tokens;
 mod warning;
 
 pub use command_line::{DEFAULT_FILE, Job, Mode, WordFault, words};
-pub use law::{one_text, tokens_are_of_any_cutting, words_are_taken_or_refused};
+pub use law::{one_text, some_text, tokens_are_of_any_cutting, words_are_taken_or_refused};
 pub use outcome::Outcome;
 pub use program::sendmail;

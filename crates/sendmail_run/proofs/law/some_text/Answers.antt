@@ -1,0 +1,5 @@
+use Rattle.sendmail_run.proofs.PrintingLemmas.{some_text}
+use Rattle.sendmail_run.proofs.law.some_text.Goals as goal
+
+pub returns : goal.returns
+returns c = λ config lines. some_text c.each_run_ends.ensures config lines
