@@ -1,5 +1,5 @@
 -- What the core does is a step of the machine.
-use Rattle.std.proofs.Common.{◌≡◌, ℕ, ◌<◌, ◌^◌, List, [], ◌∷◌, ◌++◌, length, Bool, true, false, Option, Some, None, refl, sym, ◌∙◌, ap, subst}
+use Rattle.std.proofs.Common.{◌≡◌, ℕ, ◌<◌, ◌^◌, List, [], ◌∷◌, ◌++◌, length, Bool, true, false, Option, Some, None, refl, sym, ◌∙◌, ap, subst, arith}
 use Rattle.std.specs.Prelude.{◌≢◌, All, nat_eq, nat_le, ◌||◌, not, if◌then◌else◌}
 use Rattle.std.specs.List.{list_any}
 use Rattle.std.specs.Option.{is_some}
@@ -10,7 +10,7 @@ use Rattle.mail_base.proofs.Gaining.{gains_none}
 use Rattle.mail_edge.specs.Seen.{ClockSeen}
 use Rattle.link_edge.specs.Heard.{Heard}
 use Rattle.link_edge.specs.declared.event.Event.{Event}
-use Rattle.link_edge.specs.declared.event.Event.TheVariants.{Stops}
+use Rattle.link_edge.specs.declared.event.Event.TheVariants.{Opens, Brings, Stops}
 use Rattle.spool_disk.specs.Spooled.{Spooled}
 use Rattle.smtp_receive.specs.Replies.{greeting_text, shown_host, too_many_sessions_text}
 use Rattle.spool_store.specs.Tables.{Table}
@@ -24,16 +24,16 @@ use Rattle.mail_core.specs.declared.serving.Ending.TheVariants.{Stopped, SpoolFa
 use Rattle.mail_core.specs.declared.serving.Site.{Site}
 use Rattle.mail_core.specs.declared.serving.Went.{Went}
 use Rattle.mail_core.specs.declared.serving.Went.TheVariants.{GoesOn as Going, Ends}
-use Rattle.mail_core.specs.Acts.{Takes, Sends, HangsUp, heard_of, readings_of, commands_of}
+use Rattle.mail_core.specs.Acts.{Act, Takes, Ticks, Sends, HangsUp, heard_of, readings_of, commands_of}
 use Rattle.mail_core.specs.Events.{IsTaken, IsTakenUp, IsOpened, Steps, Turns, is_well, went_of}
+use Rattle.mail_core.specs.Causes.{EndsSo, HasCause}
 use Rattle.mail_core.specs.Going.{Feeds, way_after, is_onward, is_alive}
 use Rattle.mail_core.specs.Going as going
 use Rattle.mail_core.specs.Guests.{Guest, newcomer, with_bytes, guest_of, is_here, without, with_guest}
-use Rattle.mail_core.specs.Machine.{Choice, Plain, Short, Drops, Fails, Way, GoesOn, Leaves, Over, By, Did, all_answered, State, Step, still, most_guests, turned_away, welcomed, opened, brought, pieced, handled, Turn, at_moment, moment_by, stepped, taken}
-use Rattle.mail_core.specs.Messages.{is_spent}
+use Rattle.mail_core.specs.Machine.{Opening, Replied, Dropped, Choices, Way, GoesOn, Leaves, Over, By, Did, all_answered, State, Step, still, most_guests, turned_away, welcomed, opened, brought, pieced, handled, Turn, at_moment, moment_by, stepped, taken}
 use Rattle.mail_core.specs.Seen.{Seen, seen, Ran}
 use Rattle.mail_core.specs.Standing.{dirs_of, Stores, IsAlone, Hosts, Stands, is_hosted}
-use Rattle.mail_core.proofs.GoingLemmas.{way_onward}
+use Rattle.mail_core.proofs.GoingLemmas.{cause_since, way_onward}
 use Rattle.mail_core.proofs.LineLemmas.{onward_alive}
 use Rattle.mail_core.proofs.RanLemmas.{ran_join, ran_quiet, ran_none, ran_floor}
 
@@ -91,7 +91,7 @@ module _ (site : Site) (m : State) (session : ℕ) (peer : List ℕ) (core : Cor
   pub opens_here : (f : Heard) (g : Guest) → m.guests ≡ g ∷ [] → nat_eq g.number session ≡ true → Stands site core m → IsOpened site m session peer f f core
   opens_here f g alone is stands =
       let step = cond-true (is_here session m.guests) (still m) _ (here_is m.guests g session true alone is) in record {
-        choices = [];
+        choice = Dropped;
         told = subst (λ (s : Step). Gains f.told f.told (heard_of s.acts)) (sym step) (gains_none f.told);
         stands = subst (λ (s : Step). Stands site core s.state) (sym step) stands;
       }
@@ -104,8 +104,8 @@ module _ (site : Site) (m : State) (session : ℕ) (peer : List ℕ) (core : Cor
   pub opens_full : (f now : Heard) (g : Guest) (text : List ℕ) (whole : Bool) → m.guests ≡ g ∷ [] → nat_eq g.number session ≡ false → text ≡ too_many_sessions_text → Gains f.told now.told (heard_of (Sends session text whole ∷ HangsUp session ∷ [])) → Stands site core m
       → IsOpened site m session peer f now core
   opens_full f now g text whole alone is text_is told stands =
-      let step = cond-false (is_here session m.guests) _ _ (here_is m.guests g session false alone is) ∙ cond-true (nat_le most_guests (length m.guests)) (turned_away m session (Plain whole ∷ [])) _ (full m.guests g alone) in record {
-        choices = Plain whole ∷ [];
+      let step = cond-false (is_here session m.guests) _ _ (here_is m.guests g session false alone is) ∙ cond-true (nat_le most_guests (length m.guests)) (turned_away m session (Replied whole)) _ (full m.guests g alone) in record {
+        choice = Replied whole;
         told = subst (λ (s : Step). Gains f.told now.told (heard_of s.acts)) (sym step) (subst (λ t. Gains f.told now.told (heard_of (Sends session t whole ∷ HangsUp session ∷ []))) text_is told);
         stands = subst (λ (s : Step). Stands site core s.state) (sym step) stands;
       }
@@ -115,14 +115,14 @@ module _ (site : Site) (m : State) (session : ℕ) (peer : List ℕ) (core : Cor
   free guests e = ap (λ q. nat_le 1 (length q)) e
 
   -- a new session
-  new_is : (choices : List Choice) → m.guests ≡ [] → opened site m session peer choices ≡ welcomed site m session peer choices
-  new_is choices none = cond-false (is_here session m.guests) (still m) _ (ap (is_here session) none) ∙ cond-false (nat_le most_guests (length m.guests)) (turned_away m session choices) _ (free m.guests none)
+  new_is : (choice : Opening) → m.guests ≡ [] → opened site m session peer choice ≡ welcomed site m session peer choice
+  new_is choice none = cond-false (is_here session m.guests) (still m) _ (ap (is_here session) none) ∙ cond-false (nat_le most_guests (length m.guests)) (turned_away m session choice) _ (free m.guests none)
 
   pub opens_new : (f now : Heard) (text : List ℕ) → m.guests ≡ [] → text ≡ greeting_text (shown_host site.host) → Gains f.told now.told (heard_of (Sends session text true ∷ []))
       → Stands site core (record m { guests = m.guests ++ newcomer session peer ∷ [] }) → IsOpened site m session peer f now core
   opens_new f now text none text_is told stands =
-      let step = new_is (Plain true ∷ []) none in record {
-        choices = Plain true ∷ [];
+      let step = new_is (Replied true) none in record {
+        choice = Replied true;
         told = subst (λ (s : Step). Gains f.told now.told (heard_of s.acts)) (sym step) (subst (λ t. Gains f.told now.told (heard_of (Sends session t true ∷ []))) text_is told);
         stands = subst (λ (s : Step). Stands site core s.state) (sym step) stands;
       }
@@ -130,16 +130,16 @@ module _ (site : Site) (m : State) (session : ℕ) (peer : List ℕ) (core : Cor
   pub opens_unsent : (f now : Heard) (text : List ℕ) → m.guests ≡ [] → text ≡ greeting_text (shown_host site.host) → Gains f.told now.told (heard_of (Sends session text false ∷ HangsUp session ∷ []))
       → Stands site core m → IsOpened site m session peer f now core
   opens_unsent f now text none text_is told stands =
-      let step = new_is (Plain false ∷ []) none in record {
-        choices = Plain false ∷ [];
+      let step = new_is (Replied false) none in record {
+        choice = Replied false;
         told = subst (λ (s : Step). Gains f.told now.told (heard_of s.acts)) (sym step) (subst (λ t. Gains f.told now.told (heard_of (Sends session t false ∷ HangsUp session ∷ []))) text_is told);
         stands = subst (λ (s : Step). Stands site core s.state) (sym step) stands;
       }
 
   pub opens_lacking : (f now : Heard) → m.guests ≡ [] → Gains f.told now.told (heard_of (HangsUp session ∷ [])) → Stands site core m → IsOpened site m session peer f now core
   opens_lacking f now none told stands =
-      let step = new_is (Drops ∷ []) none in record {
-        choices = Drops ∷ [];
+      let step = new_is Dropped none in record {
+        choice = Dropped;
         told = subst (λ (s : Step). Gains f.told now.told (heard_of s.acts)) (sym step) told;
         stands = subst (λ (s : Step). Stands site core s.state) (sym step) stands;
       }
@@ -153,19 +153,13 @@ went_well HungUp = refl
 went_well Faulted = refl
 went_well Spent = refl
 
-went_faulted : (fed : Fed) → went_of fed ≡ Ends SpoolFault → fed ≡ Faulted
-went_faulted Onward e = absurd (cc e)
-went_faulted Granted e = absurd (cc e)
-went_faulted HungUp e = absurd (cc e)
-went_faulted Faulted e = refl
-went_faulted Spent e = absurd (cc e)
-
-went_spent : (fed : Fed) → went_of fed ≡ Ends IdsSpent → fed ≡ Spent
-went_spent Onward e = absurd (cc e)
-went_spent Granted e = absurd (cc e)
-went_spent HungUp e = absurd (cc e)
-went_spent Faulted e = absurd (cc e)
-went_spent Spent e = refl
+-- the run ended so where the piece did
+went_over : (fed : Fed) (ending : Ending) → went_of fed ≡ Ends ending → way_after fed ≡ Over (By ending)
+went_over Onward ending e = absurd (cc e)
+went_over Granted ending e = absurd (cc e)
+went_over HungUp ending e = absurd (cc e)
+went_over Faulted ending e = let same : SpoolFault ≡ ending = cc e in ap (λ q. Over (By q)) same
+went_over Spent ending e = let same : IdsSpent ≡ ending = cc e in ap (λ q. Over (By q)) same
 
 onward_went : (fed : Fed) → is_onward fed ≡ true → went_of fed ≡ Going
 onward_went Onward on = refl
@@ -200,12 +194,8 @@ brought_table m Leaves d = refl
 brought_table m (Over finish) d = refl
 
 -- the run ended as the piece did
-brought_end : (m : State) (fed : Fed) (d : Did) (ending : Ending) → went_of fed ≡ Ends ending → (brought m (way_after fed) d).state.over ≡ Some (By ending)
-brought_end m Onward d ending e = absurd (cc e)
-brought_end m Granted d ending e = absurd (cc e)
-brought_end m HungUp d ending e = absurd (cc e)
-brought_end m Faulted d ending e = let same : SpoolFault ≡ ending = cc e in ap (λ q. Some (By q)) same
-brought_end m Spent d ending e = let same : IdsSpent ≡ ending = cc e in ap (λ q. Some (By q)) same
+brought_over : (m : State) (way : Way) (d : Did) (ending : Ending) → way ≡ Over (By ending) → (brought m way d).state.over ≡ Some (By ending)
+brought_over m way d ending e = ap (λ w. (brought m w d).state.over) e
 
 -- taken out, the one session leaves none
 pub without_one : (number : ℕ) (guests : List Guest) (g : Guest) → guests ≡ g ∷ [] → nat_eq g.number number ≡ true → without number guests ≡ []
@@ -216,15 +206,13 @@ put_one guests g now e is = ap (with_guest now) e ∙ ap (λ (b : Bool). (if b t
 
 module _ (site : Site) (m : State) (session : ℕ) (piece : List ℕ) (core : Core) where
   -- one of a session that isn't open
-  pub piece_dropped : (f : Heard) (s : Spooled) (k : ClockSeen) → guest_of session m.guests ≡ None → Stands site core m → Steps site (λ choices. pieced site m piece choices (guest_of session m.guests)) m.table (seen f s k) (seen f s k) core Going
+  pub piece_dropped : (f : Heard) (s : Spooled) (k : ClockSeen) → guest_of session m.guests ≡ None → Stands site core m → Steps site m (Brings session piece) (seen f s k) (seen f s k) core Going
   piece_dropped f s k none stands =
       let step = ap (λ o. pieced site m piece [] o) none in record {
         choices = [];
         ran = subst (λ (q : Step). Ran (dirs_of site) m.table (seen f s k) (seen f s k) q.acts true) (sym step) (ran_none (dirs_of site) m.table f s k);
         stands = λ e. subst (λ (q : Step). Stands site core q.state) (sym step) stands;
         ended = λ ending e. absurd (cc e);
-        cause = λ e. cc e;
-        spent = λ e. cc e;
       }
 
 module _ (site : Site) (m : State) (session : ℕ) (piece : List ℕ) (a b : Seen) (core : Core) where
@@ -238,23 +226,26 @@ module _ (site : Site) (m : State) (session : ℕ) (piece : List ℕ) (a b : See
     same_number : nat_eq g.number did.guest.number ≡ true
     same_number = eq-eqb g.number did.guest.number (sym h.number)
 
-    pub piece_steps : ((went_of fed ≡ Going) → Stands site core (brought m (way_after fed) did).state) → Steps site (λ choices. pieced site m piece choices (guest_of session m.guests)) m.table a b core (went_of fed)
+    pub piece_steps : ((went_of fed ≡ Going) → Stands site core (brought m (way_after fed) did).state) → Steps site m (Brings session piece) a b core (went_of fed)
     piece_steps stands = record {
       choices = h.choices;
       ran = subst (λ (q : Step). Ran (dirs_of site) m.table a b q.acts (is_well (went_of fed))) (sym step_is)
           (subst (λ w. Ran (dirs_of site) m.table a b (brought m (way_after fed) did).acts w) (went_well fed)
           (subst (λ acts. Ran (dirs_of site) m.table a b acts (going.is_well fed)) (sym (brought_acts m (way_after fed) did)) h.ran));
       stands = λ e. subst (λ (q : Step). Stands site core q.state) (sym step_is) (stands e);
-      ended = λ ending e. ap (λ (q : Step). q.state.over) step_is ∙ brought_end m fed did ending e;
-      cause = λ e. h.cause (went_faulted fed e);
-      spent = λ e. ap (λ (q : Step). is_spent q.state.table) step_is ∙ ap is_spent (brought_table m (way_after fed) did) ∙ h.spent (went_spent fed e);
+      ended = λ ending e.
+          let over = went_over fed ending e in
+          subst (λ (q : Step). EndsSo ending (Brings session piece) q.state a b) (sym step_is) (record {
+            over = brought_over m (way_after fed) did ending over;
+            cause = subst (λ t. HasCause ending (Brings session piece) t a b) (sym (brought_table m (way_after fed) did)) (h.cause ending over (Brings session piece));
+          });
     }
 
     -- the session goes on
     pub piece_goes : (other : Core) → is_onward fed ≡ true → Stands site other (record m { guests = [] }) → core ≡ record other { intake = intake; caller = Some caller } → intake.moment ≡ m.latest
-        → Steps site (λ choices. pieced site m piece choices (guest_of session m.guests)) m.table a b core Going
+        → Steps site m (Brings session piece) a b core Going
     piece_goes other on old core_is moment =
-        subst (Steps site (λ choices. pieced site m piece choices (guest_of session m.guests)) m.table a b core) (onward_went fed on)
+        subst (Steps site m (Brings session piece) a b core) (onward_went fed on)
         (piece_steps (λ e.
         subst (λ w. Stands site core (brought m w did).state) (sym (way_onward fed on))
         (subst (λ c. Stands site c (record m { table = did.table; guests = with_guest did.guest m.guests })) (sym core_is) (record {
@@ -268,7 +259,7 @@ module _ (site : Site) (m : State) (session : ℕ) (piece : List ℕ) (a b : See
 
     -- the session is over, or the run
     pub piece_leaves : (other : Core) → is_onward fed ≡ false → Stands site other (record m { guests = [] }) → core ≡ record other { intake = intake } → intake.moment ≡ m.latest
-        → Steps site (λ choices. pieced site m piece choices (guest_of session m.guests)) m.table a b core (went_of fed)
+        → Steps site m (Brings session piece) a b core (went_of fed)
     piece_leaves other off old core_is moment = piece_steps (λ e.
         subst (λ w. Stands site core (brought m w did).state) (sym (left_way fed off e))
         (subst (λ c. Stands site c (record m { table = did.table; guests = without did.guest.number m.guests })) (sym core_is) (record {
@@ -290,55 +281,53 @@ quiet_if : (b : Bool) (x y : Step) → IsQuiet x → IsQuiet y → IsQuiet (if b
 quiet_if true x y h k = h
 quiet_if false x y h k = k
 
-away_quiet : (m : State) (session : ℕ) (choices : List Choice) → IsQuiet (turned_away m session choices)
-away_quiet m session [] = (refl, refl)
-away_quiet m session (Plain true ∷ choices) = (refl, refl)
-away_quiet m session (Plain false ∷ choices) = (refl, refl)
-away_quiet m session (Short accepted whole ∷ choices) = (refl, refl)
-away_quiet m session (Drops ∷ choices) = (refl, refl)
-away_quiet m session (Fails ∷ choices) = (refl, refl)
+away_quiet : (m : State) (session : ℕ) (choice : Opening) → IsQuiet (turned_away m session choice)
+away_quiet m session (Replied true) = (refl, refl)
+away_quiet m session (Replied false) = (refl, refl)
+away_quiet m session Dropped = (refl, refl)
 
-welcomed_quiet : (site : Site) (m : State) (session : ℕ) (peer : List ℕ) (choices : List Choice) → IsQuiet (welcomed site m session peer choices)
-welcomed_quiet site m session peer [] = (refl, refl)
-welcomed_quiet site m session peer (Plain true ∷ choices) = (refl, refl)
-welcomed_quiet site m session peer (Plain false ∷ choices) = (refl, refl)
-welcomed_quiet site m session peer (Short accepted whole ∷ choices) = (refl, refl)
-welcomed_quiet site m session peer (Drops ∷ choices) = (refl, refl)
-welcomed_quiet site m session peer (Fails ∷ choices) = (refl, refl)
+welcomed_quiet : (site : Site) (m : State) (session : ℕ) (peer : List ℕ) (choice : Opening) → IsQuiet (welcomed site m session peer choice)
+welcomed_quiet site m session peer (Replied true) = (refl, refl)
+welcomed_quiet site m session peer (Replied false) = (refl, refl)
+welcomed_quiet site m session peer Dropped = (refl, refl)
 
-opened_quiet : (site : Site) (m : State) (session : ℕ) (peer : List ℕ) (choices : List Choice) → IsQuiet (opened site m session peer choices)
-opened_quiet site m session peer choices =
+opened_quiet : (site : Site) (m : State) (session : ℕ) (peer : List ℕ) (choice : Opening) → IsQuiet (opened site m session peer choice)
+opened_quiet site m session peer choice =
     quiet_if (is_here session m.guests) (still m) _ (refl, refl)
-    (quiet_if (nat_le most_guests (length m.guests)) (turned_away m session choices) (welcomed site m session peer choices) (away_quiet m session choices) (welcomed_quiet site m session peer choices))
+    (quiet_if (nat_le most_guests (length m.guests)) (turned_away m session choice) (welcomed site m session peer choice) (away_quiet m session choice) (welcomed_quiet site m session peer choice))
 
 -- an opening
-pub opened_steps : (site : Site) (m : State) (session : ℕ) (peer : List ℕ) (f now : Heard) (s : Spooled) (k : ClockSeen) (core : Core) → IsOpened site m session peer f now core → now.faults ≡ f.faults → Steps site (opened site m session peer) m.table (seen f s k) (seen now s k) core Going
+pub opened_steps : (site : Site) (m : State) (session : ℕ) (peer : List ℕ) (f now : Heard) (s : Spooled) (k : ClockSeen) (core : Core) → IsOpened site m session peer f now core → now.faults ≡ f.faults → Steps site m (Opens session peer) (seen f s k) (seen now s k) core Going
 opened_steps site m session peer f now s k core h own =
-    let step = opened site m session peer h.choices in
-    let quiet = opened_quiet site m session peer h.choices in record {
-      choices = h.choices;
+    let step = opened site m session peer h.choice in
+    let quiet = opened_quiet site m session peer h.choice in record {
+      choices = h.choice;
       ran = ran_floor (dirs_of site) m.table f now s k step.acts quiet.0 quiet.1 h.told own;
       stands = λ e. h.stands;
       ended = λ ending e. absurd (cc e);
-      cause = λ e. cc e;
-      spent = λ e. cc e;
     }
 
--- nothing is asked of the devices
-pub quiet_steps : (site : Site) (gives : List Choice → Step) (table : Table) (f : Heard) (s : Spooled) (k : ClockSeen) (core : Core) (went : Went) → (gives []).acts ≡ [] → is_well went ≡ true → (went ≡ Going → Stands site core (gives []).state) → ((ending : Ending) → went ≡ Ends ending → (gives []).state.over ≡ Some (By ending)) → went ≢ Ends SpoolFault → went ≢ Ends IdsSpent
-    → Steps site gives table (seen f s k) (seen f s k) core went
-quiet_steps site gives table f s k core went none well stands ended whole some = record {
-  choices = [];
-  ran = subst (λ acts. Ran (dirs_of site) table (seen f s k) (seen f s k) acts (is_well went)) (sym none) (subst (Ran (dirs_of site) table (seen f s k) (seen f s k) []) (sym well) (ran_none (dirs_of site) table f s k));
-  stands = stands;
-  ended = ended;
-  cause = λ e. absurd (whole e);
-  spent = λ e. absurd (some e);
+-- nothing is asked of the devices, and the run goes on
+pub quiet_steps : (site : Site) (m : State) (event : Event) (choices : Choices event) (f : Heard) (s : Spooled) (k : ClockSeen) (core : Core) → (handled site m event choices).acts ≡ [] → Stands site core (handled site m event choices).state
+    → Steps site m event (seen f s k) (seen f s k) core Going
+quiet_steps site m event choices f s k core none stands = record {
+  choices = choices;
+  ran = subst (λ acts. Ran (dirs_of site) m.table (seen f s k) (seen f s k) acts true) (sym none) (ran_none (dirs_of site) m.table f s k);
+  stands = λ e. stands;
+  ended = λ ending e. absurd (cc e);
 }
 
+stopped_so : (m : State) (a b : Seen) (ending : Ending) → Ends Stopped ≡ Ends ending → EndsSo ending Stops (record m { over = Some (By Stopped) }) a b
+stopped_so m a b ending e = let same : Stopped ≡ ending = cc e in subst (λ q. EndsSo q Stops (record m { over = Some (By Stopped) }) a b) same (record { over = refl; cause = refl })
+
 -- the floor told Stop
-pub stopped_so : (ending : Ending) → Ends Stopped ≡ Ends ending → Some (By Stopped) ≡ Some (By ending)
-stopped_so ending e = let same : Stopped ≡ ending = cc e in ap (λ q. Some (By q)) same
+pub stop_steps : (site : Site) (m : State) (f : Heard) (s : Spooled) (k : ClockSeen) (core : Core) → Steps site m Stops (seen f s k) (seen f s k) core (Ends Stopped)
+stop_steps site m f s k core = record {
+  choices = tt;
+  ran = ran_none (dirs_of site) m.table f s k;
+  stands = λ e. absurd (cc e);
+  ended = stopped_so m (seen f s k) (seen f s k);
+}
 
 here_by : (t : Bool) (g h : Guest) → (if t then Some g else None) ≡ Some h → t ≡ true
 here_by true g h e = refl
@@ -381,18 +370,21 @@ at_stands site m core intake reading st is range = record {
 }
 
 pub turns_of : (site : Site) (m : State) (event : Event) (reading : ℕ) (before f : Heard) (s : Spooled) (clock read : ClockSeen) (b : Seen) (core : Core) (went : Went) → m.over ≡ None → IsTaken before f clock read event reading
-    → Steps site (handled site (at_moment m reading) event) m.table (seen f s read) b core went → (went ≡ Ends Stopped → event ≡ Stops) → Turns site m event reading (seen before s clock) b core went
-turns_of site m event reading before f s clock read b core went on taken_is h stopped =
+    → Steps site (at_moment m reading) event (seen f s read) b core went → Turns site m event reading (seen before s clock) b core went
+turns_of site m event reading before f s clock read b core went on taken_is h =
     let turn : Turn = record { event = event; reading = reading; choices = h.choices } in
     let inner = handled site (at_moment m reading) event h.choices in
+    let first : List Act = Takes event ∷ Ticks reading ∷ [] in
     let is : stepped site m turn ≡ taken turn inner = cond-false (is_some m.over) (still m) (taken turn inner) (ap is_some on) in record {
       choices = h.choices;
       ran = subst (λ (q : Step). Ran (dirs_of site) m.table (seen before s clock) b q.acts (is_well went)) (sym is)
-          (ran_join (dirs_of site) m.table (seen before s clock) (seen f s read) b (Takes event reading ∷ []) inner.acts (is_well went)
-          (ran_quiet (dirs_of site) m.table before f s clock read (Takes event reading ∷ []) refl taken_is.told taken_is.faults taken_is.clock_told taken_is.readings) h.ran);
+          (ran_join (dirs_of site) m.table (seen before s clock) (seen f s read) b first inner.acts (is_well went)
+          (ran_quiet (dirs_of site) m.table before f s clock read first refl taken_is.told taken_is.faults taken_is.clock_told taken_is.readings) h.ran);
       stands = λ e. subst (λ (q : Step). Stands site core q.state) (sym is) (h.stands e);
-      ended = λ ending e. ap (λ (q : Step). q.state.over) is ∙ h.ended ending e;
-      stopped = stopped;
-      cause = h.cause;
-      spent = λ e. ap (λ (q : Step). is_spent q.state.table) is ∙ h.spent e;
+      ended = λ ending e.
+          let so = h.ended ending e in
+          subst (λ (q : Step). EndsSo ending event q.state (seen before s clock) b) (sym is) (record {
+            over = so.over;
+            cause = cause_since ending event inner.state.table (seen before s clock) (seen f s read) b (omega arith) so.cause;
+          });
     }

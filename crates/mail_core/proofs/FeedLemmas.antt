@@ -1,8 +1,8 @@
 -- Lines are answered in turn, and pieces are fed.
-use Rattle.std.proofs.Common.{◌≡◌, ℕ, suc, ◌+◌, ◌<◌, ◌≤◌, List, [], ◌∷◌, ◌++◌, length, take, drop, get_or, map, slice_get, Bool, true, false, Option, Some, None, refl, sym, ◌∙◌, ap, subst, arith, append_assoc}
-use Rattle.std.specs.Prelude.{if◌then◌else◌}
+use Rattle.std.proofs.Common.{◌≡◌, ℕ, suc, ◌+◌, ◌<◌, ◌≤◌, List, [], ◌∷◌, ◌++◌, length, take, drop, get_or, map, slice_get, Bool, true, false, Option, Some, None, refl, sym, ◌∙◌, ap, subst, arith, append_assoc, length-append}
+use Rattle.std.specs.Prelude.{◌≢◌, if◌then◌else◌}
 use Rattle.std.specs.List.{list_any}
-use Rattle.std.proofs.lemmas.Bool.{cond-true, or_parts, false≢true}
+use Rattle.std.proofs.lemmas.Bool.{cond-true, lt-ltb, or_parts, false≢true}
 use Rattle.std.proofs.lemmas.List.{append-nil, take_more, take_all, take-append-drop}
 use Rattle.std.proofs.lemmas.List.Sums.{fold_push, fold-append}
 use Rattle.std.proofs.lemmas.Option.{slice_get_past}
@@ -10,12 +10,13 @@ use Rattle.mail_base.specs.Histories.{Gains}
 use Rattle.mail_edge.specs.Seen.{ClockSeen}
 use Rattle.link_edge.specs.Heard.{Heard as FloorHeard}
 use Rattle.smtp_lines.specs.declared.line.Line.{Line}
-use Rattle.smtp_lines.specs.Stream.{asks, reading_of}
-use Rattle.smtp_lines.specs.Reader.{Reader, Stream, Stands as Reads, StandsFirst, OnlyLastAsks, HasGrants, Gives, asked_after, received, given, granted, refused}
+use Rattle.smtp_lines.specs.declared.line.Mode.TheVariants.{Commands}
+use Rattle.smtp_lines.specs.Stream.{asks, Reading, reading_by, reading_of}
+use Rattle.smtp_lines.specs.Reader.{Reader, Stream, Stands as Reads, StandsFirst, OnlyLastAsks, HasGrants, Gives, asked_after, awaited, received, given, granted, refused}
 use Rattle.smtp_lines.specs.Runs.{granted_by as turned_by}
 use Rattle.smtp_lines.proofs.GivenLemmas.{after_given, after_grant, after_refusal, only_last, told_first_now, told_all_now, waiting_first}
 use Rattle.smtp_lines.proofs.ReadLemmas.{asked_after-push}
-use Rattle.smtp_lines.proofs.RunLemmas.{asked_after-turns}
+use Rattle.smtp_lines.proofs.ReadingLemmas.{reading_by-all}
 use Rattle.smtp_lines.proofs.StandLemmas.{stands_granted, stands_received, stands_refused}
 use Rattle.smtp_receive.specs.Dialogue.{Heard}
 use Rattle.smtp_receive.specs.Sessions.{Stands as Speaks}
@@ -27,10 +28,10 @@ use Rattle.mail_core.specs.declared.fed.Fed.TheVariants.{GoesOn as Onward, Grant
 use Rattle.mail_core.specs.declared.intake.Intake.{Intake}
 use Rattle.mail_core.specs.declared.serving.Site.{Site}
 use Rattle.mail_core.specs.Acts.{HangsUp, heard_of}
+use Rattle.mail_core.specs.Causes.{HasCause}
 use Rattle.mail_core.specs.Going.{Does, Hears, AnswersLine, AnswersLines, Feeds, granted_by, is_alive, is_granted, is_onward, is_well, reached, way_after}
-use Rattle.mail_core.specs.Guests.{Guest, grants_of, lines_of, next_line, with_bytes}
-use Rattle.mail_core.specs.Machine.{Choice, Drops, Way, GoesOn, Leaves, Over, Cut, Did, answered, by_choice, does, fresh_start, goes_on, is_over, settled, settled_by}
-use Rattle.mail_core.specs.Messages.{is_spent}
+use Rattle.mail_core.specs.Guests.{Guest, bytes_left, has_bytes_left, grants_of, lines_of, next_line, with_bytes}
+use Rattle.mail_core.specs.Machine.{Choice, Disconnects, Way, GoesOn, Leaves, Over, Cut, Did, answered, by_choice, does, fresh_start, goes_on, is_over, settled, settled_by}
 use Rattle.mail_core.specs.Seen.{Seen, seen, Ran}
 use Rattle.mail_core.specs.Standing.{Serves, Talks, Follows, IsReady, Keeps, dirs_of, line_in, lines_heard}
 use Rattle.mail_core.proofs.GoingLemmas.{does_join, does_drops, does_none, way_onward}
@@ -86,7 +87,7 @@ none_next g all =
 
 does_onward : (site : Site) (d e : Did) (a b : Seen) (fed : Fed) → is_onward fed ≡ true → Does site d e a b fed → Does site d e a b Onward
 does_onward site d e a b Onward on h = h
-does_onward site d e a b Granted on h = record { more = h.more; acts = h.acts; table = h.table; number = h.number; ran = h.ran; way = h.way; cause = λ x. cc x; spent = λ x. cc x }
+does_onward site d e a b Granted on h = record { more = h.more; acts = h.acts; table = h.table; number = h.number; ran = h.ran; way = h.way; cause = λ ending over event. absurd (cc over) }
 does_onward site d e a b HungUp on h = absurd (cc on)
 does_onward site d e a b Faulted on h = absurd (cc on)
 does_onward site d e a b Spent on h = absurd (cc on)
@@ -114,7 +115,7 @@ module _ (site : Site) (moment : ℕ) (d : Did) where
       stays = record { serves = serves; talks = talks; peer = refl; received = refl };
       answered = sym (append-nil (lines_heard d.guest));
       grants = sym (append-nil (grants_of d.guest));
-      fresh = refl;
+      may_disconnect = λ asking. absurd (false≢true asking);
     };
   }
 
@@ -130,7 +131,7 @@ module _ (site : Site) (moment : ℕ) (d : Did) where
           stays = record { serves = k.stays.serves; talks = k.stays.talks; peer = k.stays.peer ∙ h.stays.peer; received = k.stays.received ∙ h.stays.received };
           answered = k.answered ∙ ap (λ q. q ++ line ∷ []) h.answered ∙ append_assoc (lines_heard d.guest) done (line ∷ []);
           grants = k.grants ∙ ap (λ q. q ++ granted_by (asks line) fed) same ∙ ap (λ b. grants_of d.guest ++ granted_by b fed) (sym (asked_after-push false done line));
-          fresh = k.fresh ∙ sym (asked_after-push d.fresh done line);
+          may_disconnect = λ asking. k.may_disconnect (sym (asked_after-push false done line) ∙ asking);
         }
 
     -- the line is the next one
@@ -274,6 +275,31 @@ only_fed old new g piece lines f stands turns =
 only_more : (old new : Reader) (g : Guest) (lines : List Line) → Follows old g → ((s : Stream) → Reads old s → Reads new (given old.under.may_turn s lines)) → new.under.may_turn ≡ asked_after old.under.may_turn lines → OnlyLastAsks lines
 only_more old new g lines f stands turns = only_last old new f.stream lines f.stands (stands f.stream f.stands) turns
 
+-- ---- bytes that are left
+
+pub turned_left : (grant : Bool) (r : Reader) → (turned_by grant r).left ≡ r.left
+turned_left true r = refl
+turned_left false r = refl
+
+some_left : (left : List ℕ) → left ≢ [] → 0 < length left
+some_left [] h = absurd (h refl)
+some_left (b ∷ left) h = omega arith
+
+bytes_left_are : (r : Reader) (g : Guest) (f : Follows r g) → bytes_left g ≡ f.stands.begun ++ r.left
+bytes_left_are r g f =
+    let s = f.stream in
+    let count = ap length f.lines ∙ how_many_heard g.heard in
+    ap (λ n. (reading_by n Commands g.received (grants_of g)).rest) (sym count)
+    ∙ ap (λ q. (reading_by (length s.lines) Commands q (grants_of g)).rest) (sym f.received)
+    ∙ ap (λ q. (reading_by (length s.lines) Commands s.received q).rest) (sym f.granted)
+    ∙ ap (λ (x : Reading). x.rest) (reading_by-all Commands s.received _ s.lines _ _ (f.stands.reads false))
+
+-- what a reader has left came after the lines that were answered
+bytes_there : (r : Reader) (g : Guest) → Follows r g → r.left ≢ [] → has_bytes_left g ≡ true
+bytes_there r g f left =
+    let some = some_left r.left left in
+    lt-ltb 0 (length (bytes_left g)) (omega (arith, some, ap length (bytes_left_are r g f), length-append f.stands.begun r.left))
+
 -- ---- a caller with another reader
 
 pub ready_lines : (intake : Intake) (old new : Caller) → new.number ≡ old.number → new.session ≡ old.session → IsReady intake old → IsReady intake new
@@ -308,16 +334,16 @@ settled_end : (on : Bool) (fed : Fed) (d : Did) → is_onward fed ≡ on → d.w
 settled_end true fed d is way none = ap (λ o. settled_by d.way o d) (none is) ∙ settled_none d.way d
 settled_end false fed d is way none = ap (λ w. settled_by w (next_line d.guest) d) way ∙ settled_off fed (next_line d.guest) d is
 
-by_drops : (site : Site) (moment : ℕ) (d : Did) (line : Option Line) → by_choice site moment d Drops line ≡ (if d.fresh then does d (HangsUp d.guest.number ∷ []) Leaves else is_over d Cut)
+by_drops : (site : Site) (moment : ℕ) (d : Did) (line : Option Line) → by_choice site moment d Disconnects line ≡ (if d.may_disconnect then does d (HangsUp d.guest.number ∷ []) Leaves else is_over d Cut)
 by_drops site moment d None = refl
 by_drops site moment d (Some line) = refl
 
 -- the session is dropped
-dropped : (site : Site) (moment : ℕ) (d : Did) → d.way ≡ GoesOn → d.fresh ≡ true → answered site moment d Drops ≡ does d (HangsUp d.guest.number ∷ []) Leaves
-dropped site moment d way fresh =
-    ap (λ w. goes_on w d (by_choice site moment d Drops (next_line d.guest))) way
+dropped : (site : Site) (moment : ℕ) (d : Did) → d.way ≡ GoesOn → d.may_disconnect ≡ true → answered site moment d Disconnects ≡ does d (HangsUp d.guest.number ∷ []) Leaves
+dropped site moment d way may =
+    ap (λ w. goes_on w d (by_choice site moment d Disconnects (next_line d.guest))) way
     ∙ by_drops site moment d (next_line d.guest)
-    ∙ cond-true d.fresh (does d (HangsUp d.guest.number ∷ []) Leaves) (is_over d Cut) fresh
+    ∙ cond-true d.may_disconnect (does d (HangsUp d.guest.number ∷ []) Leaves) (is_over d Cut) may
 
 module _ (site : Site) (moment : ℕ) (table : Table) (g : Guest) (bytes : List ℕ) where
   -- where a piece begins
@@ -335,8 +361,7 @@ module _ (site : Site) (moment : ℕ) (table : Table) (g : Guest) (bytes : List 
     number = ap (λ (x : Did). x.guest.number) same ∙ h.number;
     serves = λ on. subst (λ (x : Did). Serves site intake x.table) (sym same) (serves on);
     keeps = λ on. subst (λ (x : Did). Keeps site caller x.guest) (sym same) (keeps on);
-    cause = h.cause;
-    spent = λ e. ap (λ (x : Did). is_spent x.table) same ∙ h.spent e;
+    cause = λ ending over event. subst (λ (x : Did). HasCause ending event x.table a b) (sym same) (h.cause ending over event);
   }
 
   -- by some choices, a piece has come to these lines, which are to be answered
@@ -347,7 +372,6 @@ module _ (site : Site) (moment : ℕ) (table : Table) (g : Guest) (bytes : List 
     pub talks : Talks site caller (reached site moment start choices).guest
     pub pending : Pending caller.lines (reached site moment start choices).guest lines
     pub only : OnlyLastAsks lines
-    pub fresh : (reached site moment start choices).fresh ≡ true
 
   -- by some choices, these lines were answered
   pub record Batch (a b : Seen) (reader : Reader) (lines : List Line) (intake : Intake) (caller : Caller) (fed : Fed) : Type 0 where
@@ -355,7 +379,6 @@ module _ (site : Site) (moment : ℕ) (table : Table) (g : Guest) (bytes : List 
     pub choices : List Choice
     pub does : Does site start (reached site moment start choices) a b fed
     pub pending : Pending reader before.guest lines
-    pub fresh : before.fresh ≡ true
     pub alive : is_alive fed ≡ true → Serves site intake (reached site moment start choices).table
     pub hears : is_onward fed ≡ true → Hears site before (reached site moment start choices) lines intake caller fed
 
@@ -372,7 +395,6 @@ module _ (site : Site) (moment : ℕ) (table : Table) (g : Guest) (bytes : List 
         talks = record { number = number ∙ t.number; session = subst (λ q. Speaks q site.host g.peer g.heard) (sym session) t.session; peer = t.peer };
         pending = pending_fed old.lines new.lines g bytes lines keeps.follows stands turns;
         only = only_fed old.lines new.lines g bytes lines keeps.follows stands turns;
-        fresh = refl;
       }
 
   -- the lines were answered
@@ -392,7 +414,6 @@ module _ (site : Site) (moment : ℕ) (table : Table) (g : Guest) (bytes : List 
         choices = p.choices ++ k.choices;
         does = subst (λ q. Does site start q a c fed) (sym is) (does_join site start e x a b c fed p.does k.does);
         pending = p.pending;
-        fresh = p.fresh;
         alive = λ live. subst (λ q. Serves site after q.table) (sym is) (k.alive live);
         hears = λ on. subst (λ q. Hears site e q lines after new fed) (sym is) (k.hears on);
       }
@@ -419,9 +440,13 @@ module _ (site : Site) (moment : ℕ) (table : Table) (g : Guest) (bytes : List 
         (λ on. record { talks = (batch.hears on).stays.talks; follows = subst (λ r. Follows r ended.guest) (sym same) (follows on); left = ap (λ (r : Reader). r.left) same ∙ left })
 
     module _ (on : is_onward fed ≡ true) (asked : asked_after false lines ≡ true) where
-      -- what comes next is fresh
-      fresh_ended : ended.fresh ≡ true
-      fresh_ended = (batch.hears on).fresh ∙ asked_after-turns batch.before.fresh lines asked
+      -- where bytes are left, want of memory may end the session
+      may_end : reader.left ≢ [] → ended.may_disconnect ≡ true
+      may_end left =
+          let hears = batch.hears on in
+          hears.may_disconnect asked
+          ∙ bytes_there (turned_by (is_granted fed) reader) ended.guest (follows_asked site batch.before ended reader lines intake caller fed asked batch.pending hears)
+          (λ e. left (sym (turned_left (is_granted fed) reader) ∙ e))
 
       -- the lines after the one that asked
       pub pends_more : (turned next : Caller) (more : List Line) → turned.lines ≡ turned_by (is_granted fed) reader → next.number ≡ caller.number → next.session ≡ caller.session
@@ -437,20 +462,19 @@ module _ (site : Site) (moment : ℕ) (table : Table) (g : Guest) (bytes : List 
             talks = record { number = number ∙ t.number; session = subst (λ q. Speaks q site.host ended.guest.peer ended.guest.heard) (sym session) t.session; peer = t.peer };
             pending = pending_more turned.lines next.lines ended.guest more turned_follows stands turns;
             only = only_more turned.lines next.lines ended.guest more turned_follows stands turns;
-            fresh = fresh_ended;
           }
 
   feeds_dropped : (a : Seen) (f h : FloorHeard) (s : Spooled) (k : ClockSeen) (intake : Intake) (caller : Caller) (fed : Fed) (session : ℕ) (choices : List Choice)
-      → Does site start (reached site moment start choices) a (seen f s k) Onward → (reached site moment start choices).fresh ≡ true → session ≡ (reached site moment start choices).guest.number
+      → Does site start (reached site moment start choices) a (seen f s k) Onward → (reached site moment start choices).may_disconnect ≡ true → session ≡ (reached site moment start choices).guest.number
       → Gains f.told h.told (heard_of (HangsUp session ∷ [])) → h.faults ≡ f.faults → fed ≡ HungUp → Serves site intake (reached site moment start choices).table
       → Feeds site moment table g bytes a (seen h s k) intake caller fed
-  feeds_dropped a f h s k intake caller fed session choices done fresh number told own is serves =
+  feeds_dropped a f h s k intake caller fed session choices done may number told own is serves =
       let e : Did = reached site moment start choices in
       let x : Did = does e (HangsUp e.guest.number ∷ []) Leaves in
-      let drops : reached site moment start (choices ++ Drops ∷ []) ≡ x = fold_push (answered site moment) start choices Drops ∙ dropped site moment e done.way fresh in
+      let drops : reached site moment start (choices ++ Disconnects ∷ []) ≡ x = fold_push (answered site moment) start choices Disconnects ∙ dropped site moment e done.way may in
       let last = does_drops site e f h s k (subst (λ n. Gains f.told h.told (heard_of (HangsUp n ∷ []))) number told) own in
       subst (Feeds site moment table g bytes a (seen h s k) intake caller) (sym is)
-      (feeds_of a (seen h s k) intake caller HungUp (choices ++ Drops ∷ [])
+      (feeds_of a (seen h s k) intake caller HungUp (choices ++ Disconnects ∷ [])
       (subst (λ q. settled q ≡ q) (sym drops) refl)
       (subst (λ q. Does site start q a (seen h s k) HungUp) (sym drops) (does_join site start e x a (seen f s k) (seen h s k) HungUp done last))
       (λ live. subst (λ (q : Did). Serves site intake q.table) (sym drops) serves)
@@ -465,11 +489,11 @@ module _ (site : Site) (moment : ℕ) (table : Table) (g : Guest) (bytes : List 
 
   -- there was none for what follows a line that asks
   pub feeds_lost : (a : Seen) (f h : FloorHeard) (s : Spooled) (k : ClockSeen) (reader : Reader) (lines : List Line) (intake : Intake) (caller last : Caller) (went fed : Fed) (session : ℕ) → Batch a (seen f s k) reader lines intake caller went
-      → is_onward went ≡ true → asked_after false lines ≡ true → session ≡ caller.number
+      → is_onward went ≡ true → asked_after false lines ≡ true → reader.left ≢ [] → session ≡ caller.number
       → Gains f.told h.told (heard_of (HangsUp session ∷ [])) → h.faults ≡ f.faults → fed ≡ HungUp
       → Feeds site moment table g bytes a (seen h s k) intake last fed
-  feeds_lost a f h s k reader lines intake caller last went fed session batch on asked same told own is =
+  feeds_lost a f h s k reader lines intake caller last went fed session batch on asked left same told own is =
       feeds_dropped a f h s k intake last fed session batch.choices
       (does_onward site start (reached site moment start batch.choices) a (seen f s k) went on batch.does)
-      (fresh_ended a (seen f s k) reader lines intake caller went batch on asked)
+      (may_end a (seen f s k) reader lines intake caller went batch on asked left)
       (same ∙ (batch.hears on).stays.talks.number) told own is (batch.hears on).stays.serves

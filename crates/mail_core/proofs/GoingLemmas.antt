@@ -1,25 +1,29 @@
 -- What is done for a line joins, and single sends are done.
 use Rattle.std.proofs.Common.{◌≡◌, ◌⊎◌, inl, inr, ℕ, ◌≤◌, List, [], ◌∷◌, ◌++◌, Bool, true, false, refl, sym, ◌∙◌, ap, subst, arith, append_assoc}
-use Rattle.std.specs.Prelude.{◌≢◌, if◌then◌else◌}
+use Rattle.std.specs.Prelude.{if◌then◌else◌}
 use Rattle.std.proofs.lemmas.List.{append-nil}
 use Rattle.std.proofs.lemmas.Bool.{cond-false, false≢true}
 use Rattle.mail_base.specs.Histories.{Gains, Rose}
 use Rattle.mail_edge.specs.Seen.{ClockSeen}
 use Rattle.link_edge.specs.Heard.{Heard}
+use Rattle.link_edge.specs.declared.event.Event.{Event}
 use Rattle.smtp_lines.specs.declared.line.Line.{Line}
 use Rattle.smtp_receive.specs.declared.received.Received.{Received}
 use Rattle.smtp_receive.specs.Dialogue.{Gives}
+use Rattle.smtp_receive.specs.Replies.{stored_text}
 use Rattle.spool_disk.specs.Spooled.{Spooled}
 use Rattle.spool_store.specs.Moves.{Moves}
 use Rattle.spool_store.specs.Standing.{IsClean, IsEither}
-use Rattle.spool_store.specs.Tables.{after, applied}
+use Rattle.spool_store.specs.Tables.{Table, after, applied}
 use Rattle.mail_core.specs.declared.fed.Fed.{Fed}
 use Rattle.mail_core.specs.declared.fed.Fed.TheVariants.{GoesOn as Onward, Granted, HungUp, Faulted, Spent}
-use Rattle.mail_core.specs.declared.serving.Ending.TheVariants.{SpoolFault, IdsSpent}
+use Rattle.mail_core.specs.declared.serving.Ending.{Ending}
+use Rattle.mail_core.specs.declared.serving.Ending.TheVariants.{Stopped, SpoolFault, IdsSpent}
 use Rattle.mail_core.specs.declared.serving.Site.{Site}
 use Rattle.mail_core.specs.Acts.{Commits, Sends, HangsUp, heard_of, readings_of, commands_of, speech}
+use Rattle.mail_core.specs.Causes.{HasCause}
 use Rattle.mail_core.specs.Going.{Does, way_after, is_well, is_onward, is_granted}
-use Rattle.mail_core.specs.Machine.{GoesOn, Leaves, By, Did, way_of, does, says, closes, is_over, commits, accepts, fails, heard_line}
+use Rattle.mail_core.specs.Machine.{GoesOn, Leaves, Over, Finish, By, Did, way_of, does, says, closes, is_over, commits, accepts, fails, heard_line}
 use Rattle.mail_core.specs.Messages.{accept_of, is_spent}
 use Rattle.mail_core.specs.Seen.{Seen, seen, table_after, Ran}
 use Rattle.mail_core.specs.Standing.{dirs_of}
@@ -52,19 +56,13 @@ spoken_well HungUp h = refl
 spoken_well Faulted h = absurd (cc h)
 spoken_well Spent h = refl
 
-pub spoken_no_fault : (fed : Fed) → IsSpoken fed → fed ≢ Faulted
-spoken_no_fault Onward h = λ e. cc e
-spoken_no_fault Granted h = λ e. cc e
-spoken_no_fault HungUp h = λ e. cc e
-spoken_no_fault Faulted h = absurd (cc h)
-spoken_no_fault Spent h = λ e. cc e
+-- a session that was spoken to doesn't end the run
+said_on : (whole : Bool) (finish : Finish) → way_of whole ≡ Over finish → ⊥
+said_on true finish e = cc e
+said_on false finish e = cc e
 
-pub spoken_not_spent : (fed : Fed) → IsSpoken fed → fed ≢ Spent
-spoken_not_spent Onward h = λ e. cc e
-spoken_not_spent Granted h = λ e. cc e
-spoken_not_spent HungUp h = λ e. cc e
-spoken_not_spent Faulted h = λ e. cc e
-spoken_not_spent Spent h = absurd (cc h)
+pub spoken_on : (fed : Fed) (finish : Finish) → IsSpoken fed → way_after fed ≡ Over finish → ⊥
+spoken_on fed finish h e = said_on (is_onward fed) finish (h ∙ e)
 
 -- it was no grant
 pub ungranted : (fed : Fed) → (fed ≡ Onward) ⊎ (fed ≡ HungUp) → is_granted fed ≡ false
@@ -92,6 +90,18 @@ well_onward HungUp on = refl
 well_onward Faulted on = on
 well_onward Spent on = refl
 
+-- ---- causes
+
+-- the cause of an ending is one since an earlier moment
+pub cause_since : (ending : Ending) (event : Event) (table : Table) (a b c : Seen) → a.spool.faults ≤ b.spool.faults → HasCause ending event table b c → HasCause ending event table a c
+cause_since Stopped event table a b c le h = h
+cause_since SpoolFault event table a b c le h = omega (arith, h, le)
+cause_since IdsSpent event table a b c le h = h
+
+-- the run ended so
+ended_as : (one ending : Ending) (event : Event) (table : Table) (a b : Seen) → Over (By one) ≡ Over (By ending) → HasCause one event table a b → HasCause ending event table a b
+ended_as one ending event table a b e h = let same : one ≡ ending = cc e in subst (λ q. HasCause q event table a b) same h
+
 -- ---- joins
 
 pub does_join : (site : Site) (d e x : Did) (a b c : Seen) (fed : Fed) → Does site d e a b Onward → Does site e x b c fed → Does site d x a c fed
@@ -102,8 +112,7 @@ does_join site d e x a b c fed h k = record {
   number = k.number ∙ h.number;
   ran = ran_join (dirs_of site) d.table a b c h.more k.more (is_well fed) h.ran (subst (λ t. Ran (dirs_of site) t b c k.more (is_well fed)) h.table k.ran);
   way = k.way;
-  cause = λ f. let r = k.cause f in omega (arith, r, h.ran.spool_faults);
-  spent = k.spent;
+  cause = λ ending over event. cause_since ending event x.table a b c h.ran.spool_faults (k.cause ending over event);
 }
 
 -- ---- single steps, where nothing is done by the spool
@@ -122,8 +131,7 @@ module _ (site : Site) (d : Did) (f g : Heard) (s : Spooled) (k : ClockSeen) whe
         ran = subst (Ran (dirs_of site) d.table (seen f s k) (seen g s k) acts) (sym (spoken_well fed spoken))
             (ran_floor (dirs_of site) d.table f g s k acts (speech_quiet d.guest.number text whole) (speech_unread d.guest.number text whole) told own);
         way = spoken;
-        cause = λ e. absurd (spoken_no_fault fed spoken e);
-        spent = λ e. absurd (spoken_not_spent fed spoken e);
+        cause = λ ending over event. absurd (spoken_on fed (By ending) spoken over);
       }
 
   -- the last text was said
@@ -136,8 +144,7 @@ module _ (site : Site) (d : Did) (f g : Heard) (s : Spooled) (k : ClockSeen) whe
     number = refl;
     ran = ran_floor (dirs_of site) d.table f g s k (Sends d.guest.number text whole ∷ HangsUp d.guest.number ∷ []) refl refl told own;
     way = refl;
-    cause = λ e. cc e;
-    spent = λ e. cc e;
+    cause = λ ending over event. absurd (cc over);
   }
 
   -- the session was hung up
@@ -150,8 +157,7 @@ module _ (site : Site) (d : Did) (f g : Heard) (s : Spooled) (k : ClockSeen) whe
     number = refl;
     ran = ran_floor (dirs_of site) d.table f g s k (HangsUp d.guest.number ∷ []) refl refl told own;
     way = refl;
-    cause = λ e. cc e;
-    spent = λ e. cc e;
+    cause = λ ending over event. absurd (cc over);
   }
 
 module _ (site : Site) (d : Did) (f : Heard) (s : Spooled) (k : ClockSeen) where
@@ -164,8 +170,7 @@ module _ (site : Site) (d : Did) (f : Heard) (s : Spooled) (k : ClockSeen) where
     number = number;
     ran = ran_none (dirs_of site) d.table f s k;
     way = way;
-    cause = λ x. cc x;
-    spent = λ x. cc x;
+    cause = λ ending over event. absurd (cc over);
   }
 
   -- no id is left
@@ -177,8 +182,7 @@ module _ (site : Site) (d : Did) (f : Heard) (s : Spooled) (k : ClockSeen) where
     number = refl;
     ran = ran_none (dirs_of site) d.table f s k;
     way = refl;
-    cause = λ x. cc x;
-    spent = λ x. spent;
+    cause = λ ending over event. ended_as IdsSpent ending event d.table (seen f s k) (seen f s k) over spent;
   }
 
 -- ---- messages
@@ -194,8 +198,7 @@ module _ (site : Site) (moment : ℕ) (d : Did) (message : Received) (f : Heard)
     number = refl;
     ran = ran_done (dirs_of site) d.table (accept_of site moment message) f s t k moves later;
     way = way;
-    cause = λ x. cc x;
-    spent = λ x. cc x;
+    cause = λ ending over event. absurd (cc over);
   }
 
   -- the spool failed at a message
@@ -208,31 +211,30 @@ module _ (site : Site) (moment : ℕ) (d : Did) (message : Received) (f : Heard)
     number = refl;
     ran = ran_failed (dirs_of site) d.table (accept_of site moment message) f s t k moves later;
     way = refl;
-    cause = λ x. rose;
-    spent = λ x. cc x;
+    cause = λ ending over event. ended_as SpoolFault ending event (after d.table (accept_of site moment message)) (seen f s k) (seen f t k) over rose;
   })
 
--- a message was taken in, and a text said
-pub does_accepts : (site : Site) (moment : ℕ) (d : Did) (message : Received) (f g : Heard) (s t : Spooled) (k : ClockSeen) (text : List ℕ) (fed : Fed) → d.way ≡ GoesOn → is_spent d.table ≡ false
+-- a message was taken in, and its 250 said
+pub does_accepts : (site : Site) (moment : ℕ) (d : Did) (message : Received) (f g : Heard) (s t : Spooled) (k : ClockSeen) (fed : Fed) → d.way ≡ GoesOn → is_spent d.table ≡ false
     → Moves s t (IsClean (dirs_of site) d.table) (IsClean (dirs_of site) (after d.table (accept_of site moment message))) (IsEither (dirs_of site) d.table (accept_of site moment message)) → s.faults ≤ t.faults
-    → IsSpoken fed → Gains f.told g.told (heard_of (speech d.guest.number text (is_onward fed))) → g.faults ≡ f.faults
-    → Does site d (accepts site moment d message text (is_onward fed)) (seen f s k) (seen g t k) fed
-does_accepts site moment d message f g s t k text fed way left moves later spoken told own =
+    → IsSpoken fed → Gains f.told g.told (heard_of (speech d.guest.number (stored_text d.table.next) (is_onward fed))) → g.faults ≡ f.faults
+    → Does site d (accepts site moment d message (is_onward fed)) (seen f s k) (seen g t k) fed
+does_accepts site moment d message f g s t k fed way left moves later spoken told own =
     subst (λ e. Does site d e (seen f s k) (seen g t k) fed) (sym (cond-false (is_spent d.table) _ _ left))
-    (does_join site d (commits site moment d message) (says (commits site moment d message) text (is_onward fed)) (seen f s k) (seen f t k) (seen g t k) fed
+    (does_join site d (commits site moment d message) (says (commits site moment d message) (stored_text d.table.next) (is_onward fed)) (seen f s k) (seen f t k) (seen g t k) fed
     (does_commits site moment d message f s t k way moves later)
-    (does_says site (commits site moment d message) f g t k text fed spoken told own))
+    (does_says site (commits site moment d message) f g t k (stored_text d.table.next) fed spoken told own))
 
 -- the line was heard besides
 pub does_heard : (site : Site) (d e : Did) (a b : Seen) (fed : Fed) (line : Line) (short : Bool) → Does site d e a b fed → Does site d (heard_line e line short) a b fed
-does_heard site d e a b fed line short h = record { more = h.more; acts = h.acts; table = h.table; number = h.number; ran = h.ran; way = h.way; cause = h.cause; spent = h.spent }
+does_heard site d e a b fed line short h = record { more = h.more; acts = h.acts; table = h.table; number = h.number; ran = h.ran; way = h.way; cause = h.cause }
 
 accepts_case : (b : Bool) (d x : Did) → x.guest ≡ d.guest → (if b then is_over d (By IdsSpent) else x).guest ≡ d.guest
 accepts_case true d x e = refl
 accepts_case false d x e = e
 
-pub accepts_guest : (site : Site) (moment : ℕ) (d : Did) (message : Received) (text : List ℕ) (whole : Bool) → (accepts site moment d message text whole).guest ≡ d.guest
-accepts_guest site moment d message text whole = accepts_case (is_spent d.table) d (says (commits site moment d message) text whole) refl
+pub accepts_guest : (site : Site) (moment : ℕ) (d : Did) (message : Received) (whole : Bool) → (accepts site moment d message whole).guest ≡ d.guest
+accepts_guest site moment d message whole = accepts_case (is_spent d.table) d (says (commits site moment d message) (stored_text d.table.next) whole) refl
 
 pub fails_guest : (site : Site) (moment : ℕ) (d : Did) (message : Received) → (fails site moment d (Gives message)).guest ≡ d.guest
 fails_guest site moment d message = accepts_case (is_spent d.table) d (is_over (commits site moment d message) (By SpoolFault)) refl

@@ -1,6 +1,6 @@
 -- A line is answered.
 use Rattle.std.proofs.Common.{◌≡◌, ℕ, List, [], ◌∷◌, ◌++◌, Bool, true, false, Some, None, Ok, Err, refl, sym, ◌∙◌, ap, subst}
-use Rattle.std.specs.Prelude.{◌≢◌, if◌then◌else◌}
+use Rattle.std.specs.Prelude.{◌≢◌, ◌&&◌, if◌then◌else◌}
 use Rattle.std.proofs.lemmas.Bool.{cond-false}
 use Rattle.mail_base.specs.Histories.{Gains}
 use Rattle.mail_edge.specs.Seen.{ClockSeen}
@@ -22,8 +22,8 @@ use Rattle.mail_core.specs.declared.intake.Intake.{Intake}
 use Rattle.mail_core.specs.declared.serving.Site.{Site}
 use Rattle.mail_core.specs.Acts.{Sends, HangsUp, heard_of, speech}
 use Rattle.mail_core.specs.Going.{Does, Hears, AnswersLine, AnswersMessage, IsAnswered, message_by, is_onward, is_alive, is_granted, is_short}
-use Rattle.mail_core.specs.Guests.{grants_of, is_passed, with_line}
-use Rattle.mail_core.specs.Machine.{Choice, Plain, Short, Drops, Fails, GoesOn, Cut, Did, is_over, says, closes, lacks, fails, replies, by_choice, heard_line, fresh_start}
+use Rattle.mail_core.specs.Guests.{grants_of, has_bytes_left, is_passed, with_line}
+use Rattle.mail_core.specs.Machine.{Choice, Normal, OutOfMemory, Disconnects, SpoolFails, GoesOn, Cut, Did, is_over, says, closes, fails, replies, by_choice, heard_line, fresh_start}
 use Rattle.mail_core.specs.Seen.{Seen, seen}
 use Rattle.mail_core.specs.Standing.{Serves, Talks, IsReady, lines_heard}
 use Rattle.mail_core.proofs.AnswerLemmas.{IsReply, IsSilent, answer_kept, lines_more, grants_more}
@@ -37,19 +37,10 @@ onward_alive HungUp on = refl
 onward_alive Faulted on = on
 onward_alive Spent on = on
 
--- 452 4.3.1 where nothing was taken in
-lacks_says : (site : Site) (moment : ℕ) (d : Did) (answer : Answer) (whole : Bool) → lacks site moment d answer false whole ≡ says d out_of_memory_text whole
-lacks_says site moment d (Says reply) whole = refl
-lacks_says site moment d Greets whole = refl
-lacks_says site moment d Grants whole = refl
-lacks_says site moment d Closes whole = refl
-lacks_says site moment d (Gives message) whole = refl
-lacks_says site moment d Takes whole = refl
-
 -- 452 4.3.1 to a line that isn't dropped
-short_is : (site : Site) (moment : ℕ) (d : Did) (line : Line) (accepted whole : Bool) → is_passed d.guest line ≡ false
-    → by_choice site moment d (Short accepted whole) (Some line) ≡ heard_line (lacks site moment d (answer_of d.guest.peer d.guest.heard line) accepted whole) line true
-short_is site moment d line accepted whole kept = cond-false (is_passed d.guest line) (is_over d Cut) _ kept
+short_is : (site : Site) (moment : ℕ) (d : Did) (line : Line) (whole : Bool) → is_passed d.guest line ≡ false
+    → by_choice site moment d (OutOfMemory whole) (Some line) ≡ heard_line (says d out_of_memory_text whole) line true
+short_is site moment d line whole kept = cond-false (is_passed d.guest line) (is_over d Cut) _ kept
 
 -- a line for which memory was wanting isn't dropped
 pub not_passed : {T E : Type 0} (passed : Bool) (told : T) (fault : E) → (passed ≡ true → Err fault ≡ Ok told) → passed ≡ false
@@ -69,7 +60,7 @@ module _ (site : Site) (moment : ℕ) (d : Did) (line : Line) (intake : Intake) 
         stays = record { serves = serves; talks = subst (Talks site caller) (sym same) talks; peer = ap (λ g. g.peer) guest; received = ap (λ g. g.received) guest };
         answered = ap lines_heard same ∙ lines_more d.guest line short;
         grants = ap grants_of same ∙ grants_more d.guest line short ∙ ap (λ (b : Bool). grants_of d.guest ++ (if asks line then b ∷ [] else [])) grant;
-        fresh = refl;
+        may_disconnect = λ asking. ap (λ b. b && has_bytes_left (with_line x.guest line short)) asking;
       }
 
   module _ (f g : FloorHeard) (s : Spooled) (k : ClockSeen) where
@@ -80,7 +71,7 @@ module _ (site : Site) (moment : ℕ) (d : Did) (line : Line) (intake : Intake) 
     line_said text grant fed r spoken grants told own serves talks =
         let whole = is_onward fed in
         let is = r.says_it d whole in record {
-          choice = Plain whole;
+          choice = Normal whole;
           does = subst (λ x. Does site d (heard_line x line false) (seen f s k) (seen g s k) fed) (sym is) (does_heard site d (says d text whole) (seen f s k) (seen g s k) fed line false (does_says site d f g s k text fed spoken told own));
           alive = λ live. subst (λ x. Serves site intake (heard_line x line false).table) (sym is) serves;
           hears = λ on. subst (λ x. Hears site d (heard_line x line false) (line ∷ []) intake caller fed) (sym is) (hears_line false (says d text whole) fed refl (r.grant_is ∙ sym (grants on)) serves talks);
@@ -90,7 +81,7 @@ module _ (site : Site) (moment : ℕ) (d : Did) (line : Line) (intake : Intake) 
     pub line_closed : (text : List ℕ) (whole : Bool) → replies site moment d answer whole ≡ closes d text whole → Gains f.told g.told (heard_of (Sends d.guest.number text whole ∷ HangsUp d.guest.number ∷ [])) → g.faults ≡ f.faults → Serves site intake d.table
         → AnswersLine site moment d line (seen f s k) (seen g s k) intake caller HungUp
     line_closed text whole is told own serves = record {
-      choice = Plain whole;
+      choice = Normal whole;
       does = subst (λ x. Does site d (heard_line x line false) (seen f s k) (seen g s k) HungUp) (sym is) (does_heard site d (closes d text whole) (seen f s k) (seen g s k) HungUp line false (does_closes site d f g s k text whole told own));
       alive = λ live. subst (λ x. Serves site intake (heard_line x line false).table) (sym is) serves;
       hears = λ on. absurd (cc on);
@@ -102,8 +93,8 @@ module _ (site : Site) (moment : ℕ) (d : Did) (line : Line) (intake : Intake) 
         → AnswersLine site moment d line (seen f s k) (seen g s k) intake caller fed
     line_lacked fed kept spoken grants told own serves talks =
         let whole = is_onward fed in
-        let is = short_is site moment d line false whole kept ∙ ap (λ x. heard_line x line true) (lacks_says site moment d answer whole) in record {
-          choice = Short false whole;
+        let is = short_is site moment d line whole kept in record {
+          choice = OutOfMemory whole;
           does = subst (λ x. Does site d x (seen f s k) (seen g s k) fed) (sym is) (does_heard site d (says d out_of_memory_text whole) (seen f s k) (seen g s k) fed line true (does_says site d f g s k out_of_memory_text fed spoken told own));
           alive = λ live. subst (λ x. Serves site intake x.table) (sym is) serves;
           hears = λ on. subst (λ x. Hears site d x (line ∷ []) intake caller fed) (sym is)
@@ -115,7 +106,7 @@ module _ (site : Site) (moment : ℕ) (d : Did) (line : Line) (intake : Intake) 
       → AnswersLine site moment d line (seen f s k) (seen f s k) intake caller Onward
   line_taken f s k way silent serves talks =
       let is = silent.says_none d true in record {
-        choice = Plain true;
+        choice = Normal true;
         does = subst (λ x. Does site d (heard_line x line false) (seen f s k) (seen f s k) Onward) (sym is) (does_heard site d d (seen f s k) (seen f s k) Onward line false (does_none site d f s k d refl refl refl way));
         alive = λ live. subst (λ x. Serves site intake (heard_line x line false).table) (sym is) serves;
         hears = λ on. subst (λ x. Hears site d (heard_line x line false) (line ∷ []) intake caller Onward) (sym is) (hears_line false d Onward refl silent.grant_is serves talks);
@@ -124,14 +115,14 @@ module _ (site : Site) (moment : ℕ) (d : Did) (line : Line) (intake : Intake) 
 -- ---- a line that ends a message
 
 module _ (site : Site) (moment : ℕ) (d : Did) (line : Line) (message : Received) where
-  chosen_by : (given : Answer) → given ≡ Gives message → (choice : Choice) → choice ≢ Drops → is_passed d.guest line ≡ false → answer_of d.guest.peer d.guest.heard line ≡ given
+  chosen_by : (given : Answer) → given ≡ Gives message → (choice : Choice) → choice ≢ Disconnects → is_passed d.guest line ≡ false → answer_of d.guest.peer d.guest.heard line ≡ given
       → by_choice site moment d choice (Some line) ≡ heard_line (message_by site moment d message choice) line (is_short choice)
-  chosen_by given gives (Plain whole) apart kept is = ap (λ a. heard_line (replies site moment d a whole) line false) (is ∙ gives)
-  chosen_by given gives (Short accepted whole) apart kept is = short_is site moment d line accepted whole kept ∙ ap (λ a. heard_line (lacks site moment d a accepted whole) line true) (is ∙ gives)
-  chosen_by given gives Drops apart kept is = absurd (apart refl)
-  chosen_by given gives Fails apart kept is = ap (λ a. heard_line (fails site moment d a) line false) (is ∙ gives)
+  chosen_by given gives (Normal whole) apart kept is = ap (λ a. heard_line (replies site moment d a whole) line false) (is ∙ gives)
+  chosen_by given gives (OutOfMemory whole) apart kept is = short_is site moment d line whole kept
+  chosen_by given gives Disconnects apart kept is = absurd (apart refl)
+  chosen_by given gives SpoolFails apart kept is = ap (λ a. heard_line (fails site moment d a) line false) (is ∙ gives)
 
-  chosen : answer_of d.guest.peer d.guest.heard line ≡ Gives message → (choice : Choice) → choice ≢ Drops
+  chosen : answer_of d.guest.peer d.guest.heard line ≡ Gives message → (choice : Choice) → choice ≢ Disconnects
       → by_choice site moment d choice (Some line) ≡ heard_line (message_by site moment d message choice) line (is_short choice)
   chosen gives choice apart = chosen_by (Gives message) refl choice apart (gift_kept d.guest.peer (exchanges d.guest.peer d.guest.heard) line message gives) gives
 
@@ -156,7 +147,7 @@ module _ (site : Site) (moment : ℕ) (d : Did) (line : Line) (message : Receive
       → AnswersMessage site moment d message a b intake old new fed → AnswersLine site moment d line a b intake new fed
   line_given a b intake old new fed gives ends talks number m =
       let x = message_by site moment d message m.choice in
-      let is = chosen gives m.choice m.drops in record {
+      let is = chosen gives m.choice m.answers in record {
         choice = m.choice;
         does = subst (λ e. Does site d e a b fed) (sym is) (does_heard site d x a b fed line (is_short m.choice) m.does);
         alive = λ live. subst (λ e. Serves site intake e.table) (sym is) (m.serves live);

@@ -18,9 +18,9 @@ use Rattle.spool_store.specs.Tables.{Stored, Table, Command, stored, after, appl
 use Rattle.spool_store.specs.Tables.Command.{Accept}
 use Rattle.mail_core.specs.declared.serving.Ending.TheVariants.{SpoolFault, IdsSpent}
 use Rattle.mail_core.specs.declared.serving.Site.{Site}
-use Rattle.mail_core.specs.Acts.{Act, Takes, Commits, Sends, HangsUp, speech}
+use Rattle.mail_core.specs.Acts.{Act, Takes, Ticks, Commits, Sends, HangsUp, speech}
 use Rattle.mail_core.specs.Guests.{Guest, is_passed, guest_of, is_here, next_line, with_bytes}
-use Rattle.mail_core.specs.Machine.{Choice, Plain, Short, Drops, Fails, Way, GoesOn, Leaves, Over, Finish, By, Cut, Did, way_of, does, says, closes, is_over, commits, accepts, replies, lacks, fails, heard_line, by_choice, goes_on, answered, settled_by, settled, fresh_start, all_answered, State, Step, still, most_guests, turned_away, welcomed, opened, brought, pieced, handled, Turn, at_moment, taken, stepped, followed, run}
+use Rattle.mail_core.specs.Machine.{Opening, Replied, Dropped, Choice, Normal, OutOfMemory, Disconnects, SpoolFails, Choices, Way, GoesOn, Leaves, Over, Finish, By, Cut, Did, way_of, does, says, closes, is_over, commits, accepts, replies, fails, heard_line, by_choice, goes_on, answered, settled_by, settled, fresh_start, all_answered, State, Step, still, most_guests, turned_away, welcomed, opened, brought, pieced, handled, Turn, at_moment, taken, stepped, followed, run}
 use Rattle.mail_core.specs.Messages.{accept_of, draft_of, is_spent, last_id}
 use Rattle.mail_core.specs.Runs.{HasEntry, IsAcked, AreAcked}
 use Rattle.mail_core.specs.Seen.{table_after}
@@ -34,7 +34,8 @@ IsPlaced site (Accept draft body) = draft.dir ≡ site.dir
 
 -- a command is of the site
 abbrev IsOurs : Site → Act → Type 0
-IsOurs site (Takes event reading) = Unit {0}
+IsOurs site (Takes event) = Unit {0}
+IsOurs site (Ticks reading) = Unit {0}
 IsOurs site (Commits command) = IsPlaced site command
 IsOurs site (Sends session text whole) = Unit {0}
 IsOurs site (HangsUp session) = Unit {0}
@@ -170,22 +171,17 @@ commits_grows site moment d message = record {
   number = refl;
 }
 
-accepts_by : (site : Site) (moment : ℕ) (d : Did) (message : Received) (text : List ℕ) (whole spent : Bool) → is_spent d.table ≡ spent
-    → (is_spent d.table ≡ false → (w : Bool) → IsAcked (after d.table (accept_of site moment message)) (Sends d.guest.number text w))
-    → Grows site d (if spent then is_over d (By IdsSpent) else says (commits site moment d message) text whole)
-accepts_by site moment d message text whole true e acked = over_grows site d (By IdsSpent)
-accepts_by site moment d message text whole false e acked =
+accepts_by : (site : Site) (moment : ℕ) (d : Did) (message : Received) (whole spent : Bool) → is_spent d.table ≡ spent
+    → Grows site d (if spent then is_over d (By IdsSpent) else says (commits site moment d message) (stored_text d.table.next) whole)
+accepts_by site moment d message whole true e = over_grows site d (By IdsSpent)
+accepts_by site moment d message whole false e =
     let c = commits site moment d message in
-    grows_join site d c (says c text whole) (commits_grows site moment d message) (says_grows site c text whole (acked e))
+    grows_join site d c (says c (stored_text d.table.next) whole) (commits_grows site moment d message)
+    (says_grows site c (stored_text d.table.next) whole (λ w. entry_of site moment d.table message d.guest.number w e))
 
 -- a message is accepted, and its id told
-stores_grows : (site : Site) (moment : ℕ) (d : Did) (message : Received) (whole : Bool) → Grows site d (accepts site moment d message (stored_text d.table.next) whole)
-stores_grows site moment d message whole = accepts_by site moment d message (stored_text d.table.next) whole (is_spent d.table) refl (λ left w. entry_of site moment d.table message d.guest.number w left)
-
--- a message is accepted, and 452 4.3.1 said
-lacking_grows : (site : Site) (moment : ℕ) (d : Did) (message : Received) (whole : Bool) → Grows site d (accepts site moment d message out_of_memory_text whole)
-lacking_grows site moment d message whole = accepts_by site moment d message out_of_memory_text whole (is_spent d.table) refl
-    (λ left w. unlike_final (after d.table (accept_of site moment message)) d.guest.number out_of_memory_text w memory_final)
+stores_grows : (site : Site) (moment : ℕ) (d : Did) (message : Received) (whole : Bool) → Grows site d (accepts site moment d message whole)
+stores_grows site moment d message whole = accepts_by site moment d message whole (is_spent d.table) refl
 
 replies_grows : (site : Site) (moment : ℕ) (d : Did) (answer : Answer) (whole : Bool) → Grows site d (replies site moment d answer whole)
 replies_grows site moment d (Says reply) whole = tells_grows site d (text_of reply) whole (reply_final reply)
@@ -197,15 +193,6 @@ replies_grows site moment d Passes whole = grows_none site d
 
 lack_grows : (site : Site) (d : Did) (whole : Bool) → Grows site d (says d out_of_memory_text whole)
 lack_grows site d whole = tells_grows site d out_of_memory_text whole memory_final
-
-lacks_grows : (site : Site) (moment : ℕ) (d : Did) (answer : Answer) (accepted whole : Bool) → Grows site d (lacks site moment d answer accepted whole)
-lacks_grows site moment d (Gives message) true whole = lacking_grows site moment d message whole
-lacks_grows site moment d (Gives message) false whole = lack_grows site d whole
-lacks_grows site moment d (Says reply) accepted whole = lack_grows site d whole
-lacks_grows site moment d Greets accepted whole = lack_grows site d whole
-lacks_grows site moment d Grants accepted whole = lack_grows site d whole
-lacks_grows site moment d Ends accepted whole = lack_grows site d whole
-lacks_grows site moment d Passes accepted whole = lack_grows site d whole
 
 failing_grows : (site : Site) (moment : ℕ) (d : Did) (message : Received) (spent : Bool) → Grows site d (if spent then is_over d (By IdsSpent) else is_over (commits site moment d message) (By SpoolFault))
 failing_grows site moment d message true = over_grows site d (By IdsSpent)
@@ -224,7 +211,7 @@ fails_grows site moment d Passes = over_grows site d Cut
 line_grows : (site : Site) (d e : Did) (line : Line) (short : Bool) → Grows site d e → Grows site d (heard_line e line short)
 line_grows site d e line short h = record { more = h.more; acts = h.acts; leads = h.leads; number = h.number }
 
-drop_grows : (site : Site) (d : Did) (fresh : Bool) → Grows site d (if fresh then does d (HangsUp d.guest.number ∷ []) Leaves else is_over d Cut)
+drop_grows : (site : Site) (d : Did) (may : Bool) → Grows site d (if may then does d (HangsUp d.guest.number ∷ []) Leaves else is_over d Cut)
 drop_grows site d true = drops_grows site d
 drop_grows site d false = over_grows site d Cut
 
@@ -234,21 +221,20 @@ short_grows site d e true h = over_grows site d Cut
 short_grows site d e false h = h
 
 choice_grows : (site : Site) (moment : ℕ) (d : Did) (choice : Choice) (line : Option Line) → Grows site d (by_choice site moment d choice line)
-choice_grows site moment d (Plain whole) (Some line) =
+choice_grows site moment d (Normal whole) (Some line) =
     let answer = answer_of d.guest.peer d.guest.heard line in
     line_grows site d (replies site moment d answer whole) line false (replies_grows site moment d answer whole)
-choice_grows site moment d (Short accepted whole) (Some line) =
-    let answer = answer_of d.guest.peer d.guest.heard line in
-    short_grows site d (heard_line (lacks site moment d answer accepted whole) line true) (is_passed d.guest line)
-    (line_grows site d (lacks site moment d answer accepted whole) line true (lacks_grows site moment d answer accepted whole))
-choice_grows site moment d Fails (Some line) =
+choice_grows site moment d (OutOfMemory whole) (Some line) =
+    short_grows site d (heard_line (says d out_of_memory_text whole) line true) (is_passed d.guest line)
+    (line_grows site d (says d out_of_memory_text whole) line true (lack_grows site d whole))
+choice_grows site moment d SpoolFails (Some line) =
     let answer = answer_of d.guest.peer d.guest.heard line in
     line_grows site d (fails site moment d answer) line false (fails_grows site moment d answer)
-choice_grows site moment d Drops (Some line) = drop_grows site d d.fresh
-choice_grows site moment d Drops None = drop_grows site d d.fresh
-choice_grows site moment d (Plain whole) None = over_grows site d Cut
-choice_grows site moment d (Short accepted whole) None = over_grows site d Cut
-choice_grows site moment d Fails None = over_grows site d Cut
+choice_grows site moment d Disconnects (Some line) = drop_grows site d d.may_disconnect
+choice_grows site moment d Disconnects None = drop_grows site d d.may_disconnect
+choice_grows site moment d (Normal whole) None = over_grows site d Cut
+choice_grows site moment d (OutOfMemory whole) None = over_grows site d Cut
+choice_grows site moment d SpoolFails None = over_grows site d Cut
 
 goes_grows : (site : Site) (way : Way) (d e : Did) → Grows site d e → Grows site d (goes_on way d e)
 goes_grows site GoesOn d e h = h
@@ -293,29 +279,23 @@ either_steps site table false one other h k = k
 still_steps : (site : Site) (m : State) → Steps site m.table (still m)
 still_steps site m = leads_none site m.table
 
-away_steps : (site : Site) (m : State) (session : ℕ) (choices : List Choice) → Steps site m.table (turned_away m session choices)
-away_steps site m session [] = leads_none site m.table
-away_steps site m session (Plain whole ∷ choices) = last_leads site m.table session too_many_sessions_text whole (unlike_final m.table session too_many_sessions_text whole sessions_final)
-away_steps site m session (Short accepted whole ∷ choices) = leads_none site m.table
-away_steps site m session (Drops ∷ choices) = leads_none site m.table
-away_steps site m session (Fails ∷ choices) = leads_none site m.table
+away_steps : (site : Site) (m : State) (session : ℕ) (choice : Opening) → Steps site m.table (turned_away m session choice)
+away_steps site m session (Replied whole) = last_leads site m.table session too_many_sessions_text whole (unlike_final m.table session too_many_sessions_text whole sessions_final)
+away_steps site m session Dropped = leads_none site m.table
 
 greeted : (site : Site) (table : Table) (session : ℕ) (whole : Bool) → IsAcked table (Sends session (greeting_text (shown_host site.host)) whole)
 greeted site table session whole = unlike_final table session (greeting_text (shown_host site.host)) whole (greeting_final (shown_host site.host))
 
-welcome_steps : (site : Site) (m : State) (session : ℕ) (peer : List ℕ) (choices : List Choice) → Steps site m.table (welcomed site m session peer choices)
-welcome_steps site m session peer [] = leads_none site m.table
-welcome_steps site m session peer (Plain true ∷ choices) = speech_leads site m.table session (greeting_text (shown_host site.host)) true (greeted site m.table session)
-welcome_steps site m session peer (Plain false ∷ choices) = speech_leads site m.table session (greeting_text (shown_host site.host)) false (greeted site m.table session)
-welcome_steps site m session peer (Short accepted whole ∷ choices) = hang_leads site m.table session
-welcome_steps site m session peer (Drops ∷ choices) = hang_leads site m.table session
-welcome_steps site m session peer (Fails ∷ choices) = hang_leads site m.table session
+welcome_steps : (site : Site) (m : State) (session : ℕ) (peer : List ℕ) (choice : Opening) → Steps site m.table (welcomed site m session peer choice)
+welcome_steps site m session peer (Replied true) = speech_leads site m.table session (greeting_text (shown_host site.host)) true (greeted site m.table session)
+welcome_steps site m session peer (Replied false) = speech_leads site m.table session (greeting_text (shown_host site.host)) false (greeted site m.table session)
+welcome_steps site m session peer Dropped = hang_leads site m.table session
 
-opened_steps : (site : Site) (m : State) (session : ℕ) (peer : List ℕ) (choices : List Choice) → Steps site m.table (opened site m session peer choices)
-opened_steps site m session peer choices =
-    let crowd = if nat_le most_guests (length m.guests) then turned_away m session choices else welcomed site m session peer choices in
+opened_steps : (site : Site) (m : State) (session : ℕ) (peer : List ℕ) (choice : Opening) → Steps site m.table (opened site m session peer choice)
+opened_steps site m session peer choice =
+    let crowd = if nat_le most_guests (length m.guests) then turned_away m session choice else welcomed site m session peer choice in
     either_steps site m.table (is_here session m.guests) (still m) crowd (still_steps site m)
-    (either_steps site m.table (nat_le most_guests (length m.guests)) (turned_away m session choices) (welcomed site m session peer choices) (away_steps site m session choices) (welcome_steps site m session peer choices))
+    (either_steps site m.table (nat_le most_guests (length m.guests)) (turned_away m session choice) (welcomed site m session peer choice) (away_steps site m session choice) (welcome_steps site m session peer choice))
 
 brought_steps : (site : Site) (m : State) (way : Way) (d : Did) → Leads site m.table d.table d.acts → Steps site m.table (brought m way d)
 brought_steps site m GoesOn d h = h
@@ -328,15 +308,15 @@ pieced_steps site m bytes choices (Some guest) =
     let d = all_answered site m.latest m.table (with_bytes guest bytes) choices in
     brought_steps site m d.way d (all_leads site m.latest m.table (with_bytes guest bytes) choices)
 
-handled_steps : (site : Site) (m : State) (event : Event) (choices : List Choice) → Steps site m.table (handled site m event choices)
-handled_steps site m (Opens session peer) choices = opened_steps site m session peer choices
+handled_steps : (site : Site) (m : State) (event : Event) (choices : Choices event) → Steps site m.table (handled site m event choices)
+handled_steps site m (Opens session peer) choice = opened_steps site m session peer choice
 handled_steps site m (Brings session bytes) choices = pieced_steps site m bytes choices (guest_of session m.guests)
-handled_steps site m (Closes session) choices = leads_none site m.table
-handled_steps site m Rests choices = leads_none site m.table
-handled_steps site m Stops choices = leads_none site m.table
+handled_steps site m (Closes session) none = leads_none site m.table
+handled_steps site m Rests none = leads_none site m.table
+handled_steps site m Stops none = leads_none site m.table
 
 taken_steps : (site : Site) (table : Table) (turn : Turn) (step : Step) → Steps site table step → Steps site table (taken turn step)
-taken_steps site table turn step h = record { table = h.table; acked = (tt, h.acked); ours = (tt, h.ours) }
+taken_steps site table turn step h = record { table = h.table; acked = (tt, (tt, h.acked)); ours = (tt, (tt, h.ours)) }
 
 -- the acts of a step lead to its table
 pub stepped_leads : (site : Site) (m : State) (turn : Turn) → Leads site m.table (stepped site m turn).state.table (stepped site m turn).acts

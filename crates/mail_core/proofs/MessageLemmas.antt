@@ -24,7 +24,7 @@ use Rattle.mail_core.specs.declared.serving.Ending.TheVariants.{IdsSpent}
 use Rattle.mail_core.specs.declared.serving.Site.{Site}
 use Rattle.mail_core.specs.Acts.{heard_of, speech}
 use Rattle.mail_core.specs.Going.{Does, AnswersMessage, IsReset, is_onward, is_granted}
-use Rattle.mail_core.specs.Machine.{Plain, Short, Fails, GoesOn, By, Did, says, is_over, commits, accepts}
+use Rattle.mail_core.specs.Machine.{Normal, OutOfMemory, SpoolFails, GoesOn, By, Did, says, is_over, commits, accepts}
 use Rattle.mail_core.specs.Messages.{accept_of, draft_of, control_of, is_spent, last_id}
 use Rattle.mail_core.specs.Seen.{seen}
 use Rattle.mail_core.specs.Standing.{dirs_of, Stores, Serves}
@@ -93,10 +93,10 @@ module _ (site : Site) (moment : ℕ) (d : Did) (message : Received) (old new : 
   -- no id is left
   pub message_spent : (f : FloorHeard) (s : Spooled) (intake : Intake) → is_spent d.table ≡ true → AnswersMessage site moment d message (seen f s k) (seen f s k) intake old new Spent
   message_spent f s intake spent = record {
-    choice = Plain true;
-    drops = λ e. cc e;
+    choice = Normal true;
+    answers = λ e. cc e;
     does = subst (λ e. Does site d e (seen f s k) (seen f s k) Spent) (sym (cond-true (is_spent d.table) _ _ spent)) (does_spent site d f s k spent);
-    guest = accepts_guest site moment d message (stored_text d.table.next) true;
+    guest = accepts_guest site moment d message true;
     serves = λ on. absurd (cc on);
     caller = λ on. absurd (cc on);
     granted = refl;
@@ -106,8 +106,8 @@ module _ (site : Site) (moment : ℕ) (d : Did) (message : Received) (old new : 
   pub message_lacked : (f g : FloorHeard) (s : Spooled) (intake : Intake) (fed : Fed) → IsSpoken fed → is_granted fed ≡ false → Gains f.told g.told (heard_of (speech d.guest.number out_of_memory_text (is_onward fed))) → g.faults ≡ f.faults
       → Serves site intake d.table → IsReset old new → AnswersMessage site moment d message (seen f s k) (seen g s k) intake old new fed
   message_lacked f g s intake fed spoken granted told own serves reset = record {
-    choice = Short false (is_onward fed);
-    drops = λ e. cc e;
+    choice = OutOfMemory (is_onward fed);
+    answers = λ e. cc e;
     does = does_says site d f g s k out_of_memory_text fed spoken told own;
     guest = refl;
     serves = λ on. serves;
@@ -119,8 +119,8 @@ module _ (site : Site) (moment : ℕ) (d : Did) (message : Received) (old new : 
   pub message_failed : (f : FloorHeard) (s t : Spooled) (intake : Intake) → is_spent d.table ≡ false → Moves s t (IsClean (dirs_of site) d.table) (IsEither (dirs_of site) d.table (accept_of site moment message)) (IsEither (dirs_of site) d.table (accept_of site moment message)) → s.faults ≤ t.faults → Rose s.faults t.faults
       → AnswersMessage site moment d message (seen f s k) (seen f t k) intake old new Faulted
   message_failed f s t intake left moves later rose = record {
-    choice = Fails;
-    drops = λ e. cc e;
+    choice = SpoolFails;
+    answers = λ e. cc e;
     does = does_failed site moment d message f s t k left moves later rose;
     guest = fails_guest site moment d message;
     serves = λ on. absurd (cc on);
@@ -139,8 +139,8 @@ module _ (site : Site) (moment : ℕ) (d : Did) (message : Received) (old new : 
     })
 
     -- the table of a message that was taken in
-    accepted_in : (text : List ℕ) (whole : Bool) → is_spent d.table ≡ false → Serves site intake (after d.table (accept_of site moment message)) → Serves site intake (accepts site moment d message text whole).table
-    accepted_in text whole left serves = subst (λ (e : Did). Serves site intake e.table) (sym (cond-false (is_spent d.table) (is_over d (By IdsSpent)) (says (commits site moment d message) text whole) left)) serves
+    accepted_in : (whole : Bool) → is_spent d.table ≡ false → Serves site intake (after d.table (accept_of site moment message)) → Serves site intake (accepts site moment d message whole).table
+    accepted_in whole left serves = subst (λ (e : Did). Serves site intake e.table) (sym (cond-false (is_spent d.table) (is_over d (By IdsSpent)) (says (commits site moment d message) (stored_text d.table.next) whole) left)) serves
 
     -- it was taken in and acknowledged
     pub message_stored : (text : List ℕ) → d.way ≡ GoesOn → is_spent d.table ≡ false → text ≡ stored_text d.table.next
@@ -149,27 +149,11 @@ module _ (site : Site) (moment : ℕ) (d : Did) (message : Received) (old new : 
         → Serves site before d.table → intake ≡ record before { store = store } → store ≡ record before.store { next = before.store.next + 1 } → new ≡ old
         → AnswersMessage site moment d message (seen f s k) (seen g t k) intake old new fed
     message_stored text way left is moves later spoken granted told own serves kept more same = record {
-      choice = Plain (is_onward fed);
-      drops = λ e. cc e;
-      does = does_accepts site moment d message f g s t k (stored_text d.table.next) fed way left moves later spoken (subst (λ q. Gains f.told g.told (heard_of (speech d.guest.number q (is_onward fed)))) is told) own;
-      guest = accepts_guest site moment d message (stored_text d.table.next) (is_onward fed);
-      serves = λ on. accepted_in (stored_text d.table.next) (is_onward fed) left (taken_in serves kept more);
+      choice = Normal (is_onward fed);
+      answers = λ e. cc e;
+      does = does_accepts site moment d message f g s t k fed way left moves later spoken (subst (λ q. Gains f.told g.told (heard_of (speech d.guest.number q (is_onward fed)))) is told) own;
+      guest = accepts_guest site moment d message (is_onward fed);
+      serves = λ on. accepted_in (is_onward fed) left (taken_in serves kept more);
       caller = λ on. same;
-      granted = granted;
-    }
-
-    -- it was taken in, and 452 4.3.1 said all the same
-    pub message_kept : d.way ≡ GoesOn → is_spent d.table ≡ false
-        → Moves s t (IsClean (dirs_of site) d.table) (IsClean (dirs_of site) (after d.table (accept_of site moment message))) (IsEither (dirs_of site) d.table (accept_of site moment message)) → s.faults ≤ t.faults
-        → IsSpoken fed → is_granted fed ≡ false → Gains f.told g.told (heard_of (speech d.guest.number out_of_memory_text (is_onward fed))) → g.faults ≡ f.faults
-        → Serves site before d.table → intake ≡ record before { store = store } → store ≡ record before.store { next = before.store.next + 1 } → IsReset old new
-        → AnswersMessage site moment d message (seen f s k) (seen g t k) intake old new fed
-    message_kept way left moves later spoken granted told own serves kept more reset = record {
-      choice = Short true (is_onward fed);
-      drops = λ e. cc e;
-      does = does_accepts site moment d message f g s t k out_of_memory_text fed way left moves later spoken told own;
-      guest = accepts_guest site moment d message out_of_memory_text (is_onward fed);
-      serves = λ on. accepted_in out_of_memory_text (is_onward fed) left (taken_in serves kept more);
-      caller = λ on. reset;
       granted = granted;
     }

@@ -36,13 +36,14 @@ use Rattle.mail_core.specs.declared.serving.Core.{Core}
 use Rattle.mail_core.specs.declared.serving.Site.{Site}
 use Rattle.mail_core.specs.declared.serving.Went.{Went}
 use Rattle.mail_core.specs.declared.serving.Went.TheVariants.{GoesOn}
-use Rattle.mail_core.specs.Acts.{Act, Takes, Commits, Sends, HangsUp, heard, heard_of, commands_of}
+use Rattle.mail_core.specs.Acts.{Act, Takes, Ticks, Commits, Sends, HangsUp, heard, heard_of, commands_of}
+use Rattle.mail_core.specs.Causes.{EndsSo}
 use Rattle.mail_core.specs.Events.{Turns, is_well}
 use Rattle.mail_core.specs.Machine.{Step, Turn, beginning, stepped}
-use Rattle.mail_core.specs.Messages.{is_spent}
 use Rattle.mail_core.specs.Runs.{AreAcked, HasEntry, Headline, IsAcked, IsEnded, IsKept, IsLeft, IsUnderWay, run_over}
 use Rattle.mail_core.specs.Seen.{IsPart, LacksLast, Leaves as Left, Ran, Seen, seen, table_after}
 use Rattle.mail_core.specs.Standing.{Stands, dirs_of}
+use Rattle.mail_core.proofs.GoingLemmas.{cause_since}
 use Rattle.mail_core.proofs.RanLemmas.{ran_join, ran_quiet, table_more}
 use Rattle.mail_core.proofs.MessageLemmas.{one_dir}
 use Rattle.mail_core.proofs.MachineLemmas.{AreOurs, acked_front, entry_stays, ours_back, ours_front, run_leads, run_more}
@@ -125,7 +126,8 @@ under_way_floor site table core n a f g s k u gains le =
 -- ---- what was sent was done
 
 one_sent : (act : Act) (session : ℕ) (text : List ℕ) → Contains (heard act) (Sent session text) → act ≡ Sends session text true
-one_sent (Takes event reading) session text h = let e : Took event ≡ Sent session text = one_only (Took event) (Sent session text) h in absurd (cc e)
+one_sent (Takes event) session text h = let e : Took event ≡ Sent session text = one_only (Took event) (Sent session text) h in absurd (cc e)
+one_sent (Ticks reading) session text h = absurd (nothing_there (Sent session text) h)
 one_sent (Commits command) session text h = absurd (nothing_there (Sent session text) h)
 one_sent (Sends other bytes true) session text h = let e : Sent other bytes ≡ Sent session text = one_only (Sent other bytes) (Sent session text) h in cc e
 one_sent (Sends other bytes false) session text h = let e : Unsent other ≡ Sent session text = one_only (Unsent other) (Sent session text) h in absurd (cc e)
@@ -152,7 +154,8 @@ acked_entry id session table (act ∷ acts) within acked h = ⊎_elim
 -- ---- tables stay sound
 
 sound_one : (site : Site) (table : Table) (act : Act) → IsSound (dirs_of site) table → AreOurs site (act ∷ []) → IsSound (dirs_of site) (table_after table (act ∷ []))
-sound_one site table (Takes event reading) sound ours = sound
+sound_one site table (Takes event) sound ours = sound
+sound_one site table (Ticks reading) sound ours = sound
 sound_one site table (Commits (Accept draft body)) sound ours = accept_sound (dirs_of site) table draft body sound (one_dir site draft.dir ours.0)
 sound_one site table (Sends session text whole) sound ours = sound
 sound_one site table (HangsUp session) sound ours = sound
@@ -334,15 +337,19 @@ pub ended_by : (site : Site) (table : Table) (core new : Core) (n : ℕ) (event 
     → Turns site (run_over site table u.turns).state event reading b c new went → IsSound (dirs_of site) table → OnlyNow a.spool → c.clock.readings ≡ b.clock.readings + 1 → IsEnded site table (n + 1) a c went
 ended_by site table core new n event reading a b c went u t sound only read =
     let turn : Turn = record { event = event; reading = reading; choices = t.choices } in
-    let turns = u.turns ++ turn ∷ [] in record {
+    let turns = u.turns ++ turn ∷ [] in
+    let m = (run_over site table u.turns).state in record {
       turns = turns;
+      before = u.turns;
+      last = turn;
+      whole = refl;
       events = length_push u.turns turn ∙ ap (λ q. q + 1) u.events;
       headline = headline_of site table turns a c (is_well went) sound only (ran_turn site table u.turns turn a b c (is_well went) u.ran t.ran);
       readings = omega (arith, read, u.readings);
-      ended = λ ending e. ap (λ (q : Step). q.state.over) (run_more site (beginning table) u.turns turn) ∙ t.ended ending e;
-      stopped = λ e. record { before = u.turns; last = turn; whole = refl; stops = t.stopped e };
-      cause = λ e. let rose = t.cause e in omega (arith, rose, u.ran.spool_faults);
-      spent = λ e. subst (λ (q : Step). is_spent q.state.table ≡ true) (sym (run_more site (beginning table) u.turns turn)) (t.spent e);
+      ended = λ ending e.
+          let so = t.ended ending e in
+          subst (λ (q : Step). EndsSo ending event q.state a c) (sym (run_more site (beginning table) u.turns turn))
+          (record { over = so.over; cause = cause_since ending event (stepped site m turn).state.table a b c u.ran.spool_faults so.cause });
     }
 
 -- a run that is cut off between two turns

@@ -7,30 +7,34 @@ use Rattle.link_edge.specs.declared.event.FloorEvent.TheVariants.{Took, HungUp}
 use Rattle.link_edge.specs.Sessions.{send_event}
 use Rattle.spool_store.specs.Tables.{Command}
 
--- a turn of the floor was taken and the clock read; a command was asked of the table; a text was sent to a session, whole or not; a session was hung up
+-- a turn of the floor was taken; the clock was read; a command was asked of the table; a text was sent to a session, whole or not; a session was hung up
 pub data Act : Type 0 where
-  Takes : (event : Event) (reading : ℕ) → Act
+  Takes : (event : Event) → Act
+  Ticks : (reading : ℕ) → Act
   Commits : (command : Command) → Act
   Sends : (session : ℕ) (text : List ℕ) (whole : Bool) → Act
   HangsUp : (session : ℕ) → Act
 
 -- what a floor tells of an act
 abbrev pub heard : Act → List FloorEvent
-heard (Takes event reading) = Took event ∷ []
+heard (Takes event) = Took event ∷ []
+heard (Ticks reading) = []
 heard (Commits command) = []
 heard (Sends session text whole) = send_event session text whole ∷ []
 heard (HangsUp session) = HungUp session ∷ []
 
 -- the readings that a clock tells of it
 abbrev pub read : Act → List ℕ
-read (Takes event reading) = reading ∷ []
+read (Takes event) = []
+read (Ticks reading) = reading ∷ []
 read (Commits command) = []
 read (Sends session text whole) = []
 read (HangsUp session) = []
 
 -- the command that it asks
 abbrev pub commanded : Act → List Command
-commanded (Takes event reading) = []
+commanded (Takes event) = []
+commanded (Ticks reading) = []
 commanded (Commits command) = command ∷ []
 commanded (Sends session text whole) = []
 commanded (HangsUp session) = []

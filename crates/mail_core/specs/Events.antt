@@ -1,6 +1,6 @@
 -- What an event comes to (own).
 use Rattle.std.specs.Prelude.{◌≡◌, ℕ, ◌+◌, ◌≤◌, List, [], ◌∷◌, take, Option, None, Some, IfSome, Bool, true, false}
-use Rattle.mail_base.specs.Histories.{Gains, Rose}
+use Rattle.mail_base.specs.Histories.{Gains}
 use Rattle.mail_edge.specs.Seen.{ClockSeen}
 use Rattle.link_edge.specs.Heard.{Heard, IsSoundAt}
 use Rattle.link_edge.specs.Sessions.{Follows}
@@ -18,11 +18,10 @@ use Rattle.mail_core.specs.declared.serving.Site.{Site}
 use Rattle.mail_core.specs.declared.caller.Caller.{Caller}
 use Rattle.mail_core.specs.declared.fed.Fed.{Fed}
 use Rattle.mail_core.specs.declared.fed.Fed.TheVariants.{GoesOn as Onward, Granted, HungUp, Faulted, Spent}
-use Rattle.spool_store.specs.Tables.{Table}
 use Rattle.mail_core.specs.Acts.{heard_of}
 use Rattle.mail_core.specs.Guests.{Guest, guest_of}
-use Rattle.mail_core.specs.Messages.{is_spent}
-use Rattle.mail_core.specs.Machine.{Choice, By, State, Step, stepped, opened}
+use Rattle.mail_core.specs.Causes.{EndsSo}
+use Rattle.mail_core.specs.Machine.{Opening, Choices, State, Step, stepped, handled, opened}
 use Rattle.mail_core.specs.Seen.{Seen, Ran}
 use Rattle.mail_core.specs.Standing.{dirs_of, Keeps, Stands}
 
@@ -58,18 +57,15 @@ is_well (Ends SpoolFault) = false
 is_well (Ends IdsSpent) = true
 
 -- the step of the machine at an event, by some choices
-abbrev pub step_of : Site → State → Event → ℕ → List Choice → Step
+abbrev pub step_of : Site → State → (event : Event) → ℕ → Choices event → Step
 step_of site m event reading choices = stepped site m (record { event = event; reading = reading; choices = choices })
 
 -- by some choices, the machine's step is what happened from a to b; the core stands for its state where the run goes on, and else it ended the run so
 pub record Turns (site : Site) (m : State) (event : Event) (reading : ℕ) (a b : Seen) (core : Core) (went : Went) : Type 0 where
-  pub choices : List Choice
+  pub choices : Choices event
   pub ran : Ran (dirs_of site) m.table a b (step_of site m event reading choices).acts (is_well went)
   pub stands : went ≡ GoesOn → Stands site core (step_of site m event reading choices).state
-  pub ended : (ending : Ending) → went ≡ Ends ending → (step_of site m event reading choices).state.over ≡ Some (By ending)
-  pub stopped : went ≡ Ends Stopped → event ≡ Stops
-  pub cause : went ≡ Ends SpoolFault → Rose a.spool.faults b.spool.faults
-  pub spent : went ≡ Ends IdsSpent → is_spent (step_of site m event reading choices).state.table ≡ true
+  pub ended : (ending : Ending) → went ≡ Ends ending → EndsSo ending event (step_of site m event reading choices).state a b
 
 -- the session of an opening or a piece is open, where the floor tells
 abbrev pub IsHeardAt : Heard → Turn → Type 0
@@ -88,19 +84,17 @@ pub record IsTakenOut (site : Site) (m : State) (session : ℕ) (caller : Caller
   pub stands : Stands site core (record m { guests = [] })
 
 -- the same of what is done beside the turn itself
-pub record Steps (site : Site) (gives : List Choice → Step) (table : Table) (a b : Seen) (core : Core) (went : Went) : Type 0 where
-  pub choices : List Choice
-  pub ran : Ran (dirs_of site) table a b (gives choices).acts (is_well went)
-  pub stands : went ≡ GoesOn → Stands site core (gives choices).state
-  pub ended : (ending : Ending) → went ≡ Ends ending → (gives choices).state.over ≡ Some (By ending)
-  pub cause : went ≡ Ends SpoolFault → Rose a.spool.faults b.spool.faults
-  pub spent : went ≡ Ends IdsSpent → is_spent (gives choices).state.table ≡ true
+pub record Steps (site : Site) (m : State) (event : Event) (a b : Seen) (core : Core) (went : Went) : Type 0 where
+  pub choices : Choices event
+  pub ran : Ran (dirs_of site) m.table a b (handled site m event choices).acts (is_well went)
+  pub stands : went ≡ GoesOn → Stands site core (handled site m event choices).state
+  pub ended : (ending : Ending) → went ≡ Ends ending → EndsSo ending event (handled site m event choices).state a b
 
--- what is done at an opening, by some choices
+-- what is done at an opening, by some choice
 pub record IsOpened (site : Site) (m : State) (session : ℕ) (peer : List ℕ) (before now : Heard) (core : Core) : Type 0 where
-  pub choices : List Choice
-  pub told : Gains before.told now.told (heard_of (opened site m session peer choices).acts)
-  pub stands : Stands site core (opened site m session peer choices).state
+  pub choice : Opening
+  pub told : Gains before.told now.told (heard_of (opened site m session peer choice).acts)
+  pub stands : Stands site core (opened site m session peer choice).state
 
 -- the session of that number was taken out, if it is there
 abbrev pub IsTakenUp : Site → State → ℕ → Option Caller → Core → Type 0

@@ -1,11 +1,11 @@
 -- What is done for lines and pieces, by some choices of the machine.
 use Rattle.std.specs.Prelude.{◌≡◌, ℕ, List, [], ◌∷◌, ◌++◌, fold, Bool, true, false, Some, ◌≢◌, if◌then◌else◌}
-use Rattle.mail_base.specs.Histories.{Rose}
+use Rattle.link_edge.specs.declared.event.Event.{Event}
 use Rattle.smtp_lines.specs.declared.line.Line.{Line}
 use Rattle.smtp_lines.specs.declared.line.Line.TheVariants.{DataEnd}
 use Rattle.smtp_receive.specs.declared.received.Received.{Received}
 use Rattle.smtp_receive.specs.Dialogue.{Heard, Gives}
-use Rattle.smtp_receive.specs.Replies.{stored_text}
+use Rattle.smtp_receive.specs.Replies.{out_of_memory_text}
 use Rattle.smtp_receive.specs.Sessions.{Stands as Speaks}
 use Rattle.smtp_lines.specs.Reader.{asked_after}
 use Rattle.spool_store.specs.Tables.{Table}
@@ -14,11 +14,12 @@ use Rattle.mail_core.specs.declared.fed.Fed.TheVariants.{GoesOn as Onward, Grant
 use Rattle.mail_core.specs.declared.caller.Caller.{Caller}
 use Rattle.mail_core.specs.declared.intake.Intake.{Intake}
 use Rattle.mail_core.specs.Acts.{Act}
-use Rattle.mail_core.specs.Guests.{Guest, grants_of, with_bytes}
+use Rattle.mail_core.specs.Guests.{Guest, grants_of, has_bytes_left, with_bytes}
+use Rattle.mail_core.specs.declared.serving.Ending.{Ending}
 use Rattle.mail_core.specs.declared.serving.Ending.TheVariants.{SpoolFault, IdsSpent}
 use Rattle.mail_core.specs.declared.serving.Site.{Site}
-use Rattle.mail_core.specs.Messages.{is_spent}
-use Rattle.mail_core.specs.Machine.{Choice, Plain, Short, Drops, Fails, Way, GoesOn, Leaves, Over, By, Cut, Did, is_over, accepts, lacks, fails, by_choice, answered, all_answered}
+use Rattle.mail_core.specs.Causes.{HasCause}
+use Rattle.mail_core.specs.Machine.{Choice, Normal, OutOfMemory, Disconnects, SpoolFails, Way, GoesOn, Leaves, Over, By, Cut, Did, is_over, says, accepts, fails, by_choice, answered, all_answered}
 use Rattle.mail_core.specs.Seen.{Seen, Ran, table_after}
 use Rattle.mail_core.specs.Standing.{dirs_of, Serves, Talks, Keeps, lines_heard}
 
@@ -69,8 +70,7 @@ pub record Does (site : Site) (d e : Did) (a b : Seen) (fed : Fed) : Type 0 wher
   pub number : e.guest.number ≡ d.guest.number
   pub ran : Ran (dirs_of site) d.table a b more (is_well fed)
   pub way : e.way ≡ way_after fed
-  pub cause : fed ≡ Faulted → Rose a.spool.faults b.spool.faults
-  pub spent : fed ≡ Spent → is_spent e.table ≡ true
+  pub cause : (ending : Ending) → way_after fed ≡ Over (By ending) → (event : Event) → HasCause ending event e.table a b
 
 -- what is kept where the session goes on
 pub record Stays (site : Site) (d e : Did) (intake : Intake) (caller : Caller) : Type 0 where
@@ -88,7 +88,7 @@ pub record Hears (site : Site) (d e : Did) (lines : List Line) (intake : Intake)
   pub stays : Stays site d e intake caller
   pub answered : lines_heard e.guest ≡ lines_heard d.guest ++ lines
   pub grants : grants_of e.guest ≡ grants_of d.guest ++ granted_by (asked_after false lines) fed
-  pub fresh : e.fresh ≡ asked_after d.fresh lines
+  pub may_disconnect : asked_after false lines ≡ true → e.may_disconnect ≡ has_bytes_left e.guest
 
 -- by a choice, a line was answered
 pub record AnswersLine (site : Site) (moment : ℕ) (d : Did) (line : Line) (a b : Seen) (intake : Intake) (caller : Caller) (fed : Fed) : Type 0 where
@@ -99,17 +99,17 @@ pub record AnswersLine (site : Site) (moment : ℕ) (d : Did) (line : Line) (a b
 
 -- what a message comes to by a choice
 abbrev pub message_by : Site → ℕ → Did → Received → Choice → Did
-message_by site moment d message (Plain whole) = accepts site moment d message (stored_text d.table.next) whole
-message_by site moment d message (Short accepted whole) = lacks site moment d (Gives message) accepted whole
-message_by site moment d message Drops = is_over d Cut
-message_by site moment d message Fails = fails site moment d (Gives message)
+message_by site moment d message (Normal whole) = accepts site moment d message whole
+message_by site moment d message (OutOfMemory whole) = says d out_of_memory_text whole
+message_by site moment d message Disconnects = is_over d Cut
+message_by site moment d message SpoolFails = fails site moment d (Gives message)
 
 -- whether 452 4.3.1 was said
 abbrev pub is_short : Choice → Bool
-is_short (Plain whole) = false
-is_short (Short accepted whole) = true
-is_short Drops = false
-is_short Fails = false
+is_short (Normal whole) = false
+is_short (OutOfMemory whole) = true
+is_short Disconnects = false
+is_short SpoolFails = false
 
 -- the session of a caller was reset after the end of data
 abbrev pub IsReset : Caller → Caller → Type 0
@@ -124,7 +124,7 @@ IsAnswered true old new = IsReset old new
 -- by a choice, a message was taken in or not
 pub record AnswersMessage (site : Site) (moment : ℕ) (d : Did) (message : Received) (a b : Seen) (intake : Intake) (old new : Caller) (fed : Fed) : Type 0 where
   pub choice : Choice
-  pub drops : choice ≢ Drops
+  pub answers : choice ≢ Disconnects
   pub does : Does site d (message_by site moment d message choice) a b fed
   pub guest : (message_by site moment d message choice).guest ≡ d.guest
   pub serves : is_alive fed ≡ true → Serves site intake (message_by site moment d message choice).table
@@ -150,5 +150,4 @@ pub record Feeds (site : Site) (moment : ℕ) (table : Table) (g : Guest) (bytes
   pub number : (all_answered site moment table (with_bytes g bytes) choices).guest.number ≡ g.number
   pub serves : is_alive fed ≡ true → Serves site intake (all_answered site moment table (with_bytes g bytes) choices).table
   pub keeps : is_onward fed ≡ true → Keeps site caller (all_answered site moment table (with_bytes g bytes) choices).guest
-  pub cause : fed ≡ Faulted → Rose a.spool.faults b.spool.faults
-  pub spent : fed ≡ Spent → is_spent (all_answered site moment table (with_bytes g bytes) choices).table ≡ true
+  pub cause : (ending : Ending) → way_after fed ≡ Over (By ending) → (event : Event) → HasCause ending event (all_answered site moment table (with_bytes g bytes) choices).table a b

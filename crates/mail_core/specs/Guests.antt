@@ -1,8 +1,9 @@
 -- The open sessions: all bytes that each has sent, and its lines so far (RFC 5321 sections 2.3.8 and 3.3).
-use Rattle.std.specs.Prelude.{ℕ, nat_eq, List, [], ◌∷◌, ◌++◌, length, map, filter, slice_get, Option, Bool, not, if◌then◌else◌}
+use Rattle.std.specs.Prelude.{ℕ, nat_eq, nat_lt, List, [], ◌∷◌, ◌++◌, length, map, filter, slice_get, Option, Bool, not, if◌then◌else◌}
 use Rattle.std.specs.List.{flat_map, find, list_any}
 use Rattle.smtp_lines.specs.declared.line.Line.{Line}
-use Rattle.smtp_lines.specs.Stream.{asks, reading_of}
+use Rattle.smtp_lines.specs.declared.line.Mode.TheVariants.{Commands}
+use Rattle.smtp_lines.specs.Stream.{asks, reading_by, reading_of}
 use Rattle.smtp_receive.specs.Dialogue.{Heard, Exchange, dialogue, exchanges, is_dropped, is_grant}
 
 -- an open session: its number, the peer's address, all bytes that were received, and the lines that were answered, each with whether 452 4.3.1 came to it
@@ -31,6 +32,13 @@ lines_of g = (reading_of g.received (grants_of g)).lines
 -- the first of them that was not answered yet
 abbrev pub next_line : Guest → Option Line
 next_line g = slice_get (lines_of g) (length g.heard)
+
+-- the bytes that came after the lines that were answered
+abbrev pub bytes_left : Guest → List ℕ
+bytes_left g = (reading_by (length g.heard) Commands g.received (grants_of g)).rest
+
+abbrev pub has_bytes_left : Guest → Bool
+has_bytes_left g = nat_lt 0 (length (bytes_left g))
 
 -- whether a line is of data that is dropped, which gets no reply
 abbrev pub is_passed : Guest → Line → Bool

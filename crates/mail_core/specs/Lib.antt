@@ -3,6 +3,7 @@ pub mod Guests
 pub mod Messages
 pub mod Machine
 pub mod Seen
+pub mod Causes
 pub mod Standing
 pub mod Going
 pub mod Events

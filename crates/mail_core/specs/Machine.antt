@@ -1,5 +1,5 @@
--- The machine: what sessions, table and clock come to at each event. What it can't know are its choices: whether a text could be sent, where memory was wanting, and that the spool failed (own; the replies are those of RFC 5321).
-use Rattle.std.specs.Prelude.{ℕ, nat_le, List, [], ◌∷◌, ◌++◌, length, fold, max, min, Option, Some, None, is_some, Bool, true, false, if◌then◌else◌}
+-- The machine: what sessions, table and clock come to at each event. What it can't know are the choices at an event: whether a text could be sent, where memory was wanting, and that the spool failed (own; the replies are those of RFC 5321).
+use Rattle.std.specs.Prelude.{ℕ, nat_le, List, [], ◌∷◌, ◌++◌, length, fold, max, min, Option, Some, None, is_some, Bool, true, false, ◌&&◌, if◌then◌else◌}
 use Rattle.link_edge.specs.declared.event.Event.{Event}
 use Rattle.link_edge.specs.declared.event.Event.TheVariants.{Opens, Brings, Closes, Rests, Stops}
 use Rattle.smtp_lines.specs.declared.line.Line.{Line}
@@ -9,19 +9,32 @@ use Rattle.smtp_receive.specs.Dialogue.{Answer, Says, Greets, Grants, Closes as 
 use Rattle.smtp_receive.specs.Replies.{text_of, grant_text, hello_text, closing_text, greeting_text, stored_text, shown_host, out_of_memory_text, too_many_sessions_text}
 use Rattle.smtp_receive.specs.Sessions.{answer_of}
 use Rattle.spool_store.specs.Tables.{Table, after}
-use Rattle.mail_core.specs.Acts.{Act, Takes, Commits, Sends, HangsUp, speech}
-use Rattle.mail_core.specs.Guests.{Guest, newcomer, next_line, is_passed, with_bytes, with_line, guest_of, is_here, without, with_guest}
+use Rattle.mail_core.specs.Acts.{Act, Takes, Ticks, Commits, Sends, HangsUp, speech}
+use Rattle.mail_core.specs.Guests.{Guest, newcomer, next_line, is_passed, has_bytes_left, with_bytes, with_line, guest_of, is_here, without, with_guest}
 use Rattle.mail_core.specs.declared.serving.Ending.{Ending}
 use Rattle.mail_core.specs.declared.serving.Ending.TheVariants.{Stopped, SpoolFault, IdsSpent}
 use Rattle.mail_core.specs.declared.serving.Site.{Site}
 use Rattle.mail_core.specs.Messages.{accept_of, is_spent}
 
--- what is left open at an opening or a line: its reply, sent whole or not; 452 4.3.1 in place of it, where a message may have been accepted; the session's end for want of memory; a fault of the spool
+-- what is left open at an opening: its greeting, or its 421, is sent whole or not; or the session ends for want of memory
+pub data Opening : Type 0 where
+  Replied : (whole : Bool) → Opening
+  Dropped : Opening
+
+-- what is left open at a line: its reply, sent whole or not; 452 4.3.1 in place of it; the session's end for want of memory; a fault of the spool
 pub data Choice : Type 0 where
-  Plain : (whole : Bool) → Choice
-  Short : (accepted : Bool) (whole : Bool) → Choice
-  Drops : Choice
-  Fails : Choice
+  Normal : (whole : Bool) → Choice
+  OutOfMemory : (whole : Bool) → Choice
+  Disconnects : Choice
+  SpoolFails : Choice
+
+-- what is left open at an event: at an opening, and at each line that a piece completes; nothing else is
+abbrev pub Choices : Event → Type 0
+Choices (Opens session peer) = Opening
+Choices (Brings session bytes) = List Choice
+Choices (Closes session) = Unit {0}
+Choices Rests = Unit {0}
+Choices Stops = Unit {0}
 
 -- how a run is over: it ended so, or it is cut where a choice is missing
 pub data Finish : Type 0 where
@@ -34,11 +47,11 @@ pub data Way : Type 0 where
   Leaves : Way
   Over : (finish : Finish) → Way
 
--- what an event has come to so far: the table, the session, whether want of memory may end the session here, what was done, and how it goes on
+-- what a piece has come to so far: the table, the session, whether want of memory may end the session here, what was done, and how it goes on
 pub record Did : Type 0 where
   pub table : Table
   pub guest : Guest
-  pub fresh : Bool
+  pub may_disconnect : Bool
   pub acts : List Act
   pub way : Way
 
@@ -67,9 +80,9 @@ is_over d finish = does d [] (Over finish)
 abbrev pub commits : Site → ℕ → Did → Received → Did
 commits site moment d message = record d { table = after d.table (accept_of site moment message); acts = d.acts ++ Commits (accept_of site moment message) ∷ [] }
 
--- a message is accepted, and then a text said; where no id is left the run ends
-abbrev pub accepts : Site → ℕ → Did → Received → List ℕ → Bool → Did
-accepts site moment d message text whole = if is_spent d.table then is_over d (By IdsSpent) else says (commits site moment d message) text whole
+-- a message is accepted, and then its 250 said; where no id is left the run ends
+abbrev pub accepts : Site → ℕ → Did → Received → Bool → Did
+accepts site moment d message whole = if is_spent d.table then is_over d (By IdsSpent) else says (commits site moment d message) (stored_text d.table.next) whole
 
 -- the answer that the dialogue has, sent whole or not
 abbrev pub replies : Site → ℕ → Did → Answer → Bool → Did
@@ -77,32 +90,27 @@ replies site moment d (Says reply) whole = says d (text_of reply) whole
 replies site moment d Greets whole = says d (hello_text (shown_host site.host)) whole
 replies site moment d Grants whole = says d grant_text whole
 replies site moment d Ends whole = closes d (closing_text (shown_host site.host)) whole
-replies site moment d (Gives message) whole = accepts site moment d message (stored_text d.table.next) whole
+replies site moment d (Gives message) whole = accepts site moment d message whole
 replies site moment d Passes whole = d
-
--- 452 4.3.1 to a line, whose message was accepted or not
-abbrev pub lacks : Site → ℕ → Did → Answer → Bool → Bool → Did
-lacks site moment d (Gives message) true whole = accepts site moment d message out_of_memory_text whole
-lacks site moment d answer accepted whole = says d out_of_memory_text whole
 
 -- the spool fails at a message, where an id is left for it; nothing else is asked of it
 abbrev pub fails : Site → ℕ → Did → Answer → Did
 fails site moment d (Gives message) = if is_spent d.table then is_over d (By IdsSpent) else is_over (commits site moment d message) (By SpoolFault)
 fails site moment d answer = is_over d Cut
 
--- the line was answered, and the next may be one that want of memory keeps from being read
+-- the line was answered; bytes that came after one that asks may be what want of memory keeps from being read
 abbrev pub heard_line : Did → Line → Bool → Did
-heard_line d line short = record d { guest = with_line d.guest line short; fresh = asks line }
+heard_line d line short = record d { guest = with_line d.guest line short; may_disconnect = asks line && has_bytes_left (with_line d.guest line short) }
 
--- a line is answered by a choice; 452 4.3.1 comes to no line of data that is dropped. Want of memory for a piece, or for what follows a line that asks, drops it whole and ends the session
+-- a line is answered by a choice; 452 4.3.1 comes to no line of data that is dropped. Want of memory for a piece, or for the bytes after a line that asks, drops them whole and ends the session
 abbrev pub by_choice : Site → ℕ → Did → Choice → Option Line → Did
-by_choice site moment d (Plain whole) (Some line) = heard_line (replies site moment d (answer_of d.guest.peer d.guest.heard line) whole) line false
-by_choice site moment d (Short accepted whole) (Some line) = if is_passed d.guest line then is_over d Cut else heard_line (lacks site moment d (answer_of d.guest.peer d.guest.heard line) accepted whole) line true
-by_choice site moment d Fails (Some line) = heard_line (fails site moment d (answer_of d.guest.peer d.guest.heard line)) line false
-by_choice site moment d Drops line = if d.fresh then does d (HangsUp d.guest.number ∷ []) Leaves else is_over d Cut
-by_choice site moment d (Plain whole) None = is_over d Cut
-by_choice site moment d (Short accepted whole) None = is_over d Cut
-by_choice site moment d Fails None = is_over d Cut
+by_choice site moment d (Normal whole) (Some line) = heard_line (replies site moment d (answer_of d.guest.peer d.guest.heard line) whole) line false
+by_choice site moment d (OutOfMemory whole) (Some line) = if is_passed d.guest line then is_over d Cut else heard_line (says d out_of_memory_text whole) line true
+by_choice site moment d SpoolFails (Some line) = heard_line (fails site moment d (answer_of d.guest.peer d.guest.heard line)) line false
+by_choice site moment d Disconnects line = if d.may_disconnect then does d (HangsUp d.guest.number ∷ []) Leaves else is_over d Cut
+by_choice site moment d (Normal whole) None = is_over d Cut
+by_choice site moment d (OutOfMemory whole) None = is_over d Cut
+by_choice site moment d SpoolFails None = is_over d Cut
 
 -- the next line is answered where the session still goes on
 abbrev pub goes_on : Way → Did → Did → Did
@@ -125,7 +133,7 @@ settled d = settled_by d.way (next_line d.guest) d
 
 -- nothing was done yet
 abbrev pub fresh_start : Table → Guest → Did
-fresh_start table guest = record { table = table; guest = guest; fresh = true; acts = []; way = GoesOn }
+fresh_start table guest = record { table = table; guest = guest; may_disconnect = true; acts = []; way = GoesOn }
 
 -- the lines that a piece completes, by a choice each
 abbrev pub all_answered : Site → ℕ → Table → Guest → List Choice → Did
@@ -155,28 +163,22 @@ unfoldable pub most_guests : ℕ
 most_guests = 1
 
 -- a session more than may be open gets 421 and is hung up; its text is kept, so want of memory doesn't come between
-abbrev pub turned_away : State → ℕ → List Choice → Step
-turned_away m session [] = cut m
-turned_away m session (Plain whole ∷ choices) = record { state = m; acts = Sends session too_many_sessions_text whole ∷ HangsUp session ∷ [] }
-turned_away m session (Short accepted whole ∷ choices) = cut m
-turned_away m session (Drops ∷ choices) = cut m
-turned_away m session (Fails ∷ choices) = cut m
+abbrev pub turned_away : State → ℕ → Opening → Step
+turned_away m session (Replied whole) = record { state = m; acts = Sends session too_many_sessions_text whole ∷ HangsUp session ∷ [] }
+turned_away m session Dropped = cut m
 
 -- a new session gets the greeting, and is kept where it was sent; want of memory ends it
-abbrev pub welcomed : Site → State → ℕ → List ℕ → List Choice → Step
-welcomed site m session peer [] = cut m
-welcomed site m session peer (Plain true ∷ choices) = record { state = record m { guests = m.guests ++ newcomer session peer ∷ [] }; acts = Sends session (greeting_text (shown_host site.host)) true ∷ [] }
-welcomed site m session peer (Plain false ∷ choices) = record { state = m; acts = Sends session (greeting_text (shown_host site.host)) false ∷ HangsUp session ∷ [] }
-welcomed site m session peer (Short accepted whole ∷ choices) = record { state = m; acts = HangsUp session ∷ [] }
-welcomed site m session peer (Drops ∷ choices) = record { state = m; acts = HangsUp session ∷ [] }
-welcomed site m session peer (Fails ∷ choices) = record { state = m; acts = HangsUp session ∷ [] }
+abbrev pub welcomed : Site → State → ℕ → List ℕ → Opening → Step
+welcomed site m session peer (Replied true) = record { state = record m { guests = m.guests ++ newcomer session peer ∷ [] }; acts = Sends session (greeting_text (shown_host site.host)) true ∷ [] }
+welcomed site m session peer (Replied false) = record { state = m; acts = Sends session (greeting_text (shown_host site.host)) false ∷ HangsUp session ∷ [] }
+welcomed site m session peer Dropped = record { state = m; acts = HangsUp session ∷ [] }
 
 -- an opening; one of a session that is open changes nothing
-abbrev pub opened : Site → State → ℕ → List ℕ → List Choice → Step
-opened site m session peer choices =
+abbrev pub opened : Site → State → ℕ → List ℕ → Opening → Step
+opened site m session peer choice =
     if is_here session m.guests then still m
-    else if nat_le most_guests (length m.guests) then turned_away m session choices
-    else welcomed site m session peer choices
+    else if nat_le most_guests (length m.guests) then turned_away m session choice
+    else welcomed site m session peer choice
 
 -- what a piece came to
 abbrev pub brought : State → Way → Did → Step
@@ -190,18 +192,18 @@ pieced site m bytes choices None = still m
 pieced site m bytes choices (Some guest) = let d = all_answered site m.latest m.table (with_bytes guest bytes) choices in brought m d.way d
 
 -- what is done at an event
-abbrev pub handled : Site → State → Event → List Choice → Step
-handled site m (Opens session peer) choices = opened site m session peer choices
+abbrev pub handled : Site → State → (event : Event) → Choices event → Step
+handled site m (Opens session peer) choice = opened site m session peer choice
 handled site m (Brings session bytes) choices = pieced site m bytes choices (guest_of session m.guests)
-handled site m (Closes session) choices = still (record m { guests = without session m.guests })
-handled site m Rests choices = still m
-handled site m Stops choices = still (record m { over = Some (By Stopped) })
+handled site m (Closes session) none = still (record m { guests = without session m.guests })
+handled site m Rests none = still m
+handled site m Stops none = still (record m { over = Some (By Stopped) })
 
 -- a turn of the floor with its event, the clock's reading at it, and what was left open in it
 pub record Turn : Type 0 where
   pub event : Event
   pub reading : ℕ
-  pub choices : List Choice
+  pub choices : Choices event
 
 -- the beginning of the year 3000: a later reading counts as that
 unfoldable pub last_moment : ℕ
@@ -216,7 +218,7 @@ abbrev pub at_moment : State → ℕ → State
 at_moment m reading = record m { latest = moment_by m.latest reading }
 
 abbrev pub taken : Turn → Step → Step
-taken turn step = record step { acts = Takes turn.event turn.reading ∷ step.acts }
+taken turn step = record step { acts = Takes turn.event ∷ Ticks turn.reading ∷ step.acts }
 
 -- one event; after the run is over there is none
 abbrev pub stepped : Site → State → Turn → Step

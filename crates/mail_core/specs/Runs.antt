@@ -1,10 +1,9 @@
 -- A whole run: the machine's turns are all that happened, and what was acknowledged is in the queue (own).
 use Rattle.std.specs.Prelude.{◌≡◌, ℕ, ◌+◌, ◌≤◌, List, [], ◌∷◌, ◌++◌, length, Option, Some, Bool, true, Contains}
-use Rattle.mail_base.specs.Histories.{Gains, Rose}
+use Rattle.mail_base.specs.Histories.{Gains}
 use Rattle.mail_base.specs.Limits.{IsId}
 use Rattle.mail_base.specs.Names.{name_of}
 use Rattle.mail_base.specs.declared.id.Kind.TheVariants.{Df, Qf}
-use Rattle.link_edge.specs.declared.event.Event.TheVariants.{Stops}
 use Rattle.link_edge.specs.declared.event.FloorEvent.TheVariants.{Sent}
 use Rattle.qf_format.specs.Spelling.{spelled}
 use Rattle.smtp_receive.specs.Replies.{stored_text}
@@ -12,15 +11,14 @@ use Rattle.spool_disk.specs.Disk.{FileMap, bytes_at}
 use Rattle.spool_store.specs.Standing.{IsClean}
 use Rattle.spool_store.specs.Tables.{Table, Stored}
 use Rattle.mail_core.specs.declared.serving.Core.{Core}
-use Rattle.mail_core.specs.Acts.{Act, Takes, Commits, Sends, HangsUp, heard_of, readings_of}
+use Rattle.mail_core.specs.Acts.{Act, Takes, Ticks, Commits, Sends, HangsUp, heard_of, readings_of}
 use Rattle.mail_core.specs.declared.serving.Site.{Site}
 use Rattle.mail_core.specs.declared.serving.Ending.{Ending}
-use Rattle.mail_core.specs.declared.serving.Ending.TheVariants.{Stopped, SpoolFault, IdsSpent}
 use Rattle.mail_core.specs.declared.serving.Went.{Went}
 use Rattle.mail_core.specs.declared.serving.Went.TheVariants.{Ends}
+use Rattle.mail_core.specs.Causes.{EndsSo}
 use Rattle.mail_core.specs.Events.{is_well}
-use Rattle.mail_core.specs.Messages.{is_spent}
-use Rattle.mail_core.specs.Machine.{By, Turn, Step, run, beginning}
+use Rattle.mail_core.specs.Machine.{Turn, Step, run, beginning}
 use Rattle.mail_core.specs.Seen.{Seen, Ran, IsPart, Leaves, table_after}
 use Rattle.mail_core.specs.Standing.{dirs_of, Stands}
 
@@ -44,7 +42,8 @@ pub record HasEntry (table : Table) (id : ℕ) : Type 0 where
 
 -- where an act is the final 250 of an id, the entry is in the table
 abbrev pub IsAcked : Table → Act → Type 0
-IsAcked table (Takes event reading) = Unit {0}
+IsAcked table (Takes event) = Unit {0}
+IsAcked table (Ticks reading) = Unit {0}
 IsAcked table (Commits command) = Unit {0}
 IsAcked table (Sends session text whole) = (id : ℕ) → IsId id → text ≡ stored_text id → HasEntry table id
 IsAcked table (HangsUp session) = Unit {0}
@@ -83,20 +82,13 @@ pub record Headline (site : Site) (table : Table) (turns : List Turn) (a b : See
   pub floor_faults : a.floor.faults ≤ b.floor.faults
   pub spool_faults : a.spool.faults ≤ b.spool.faults
 
--- the last turn told Stop
-pub record IsStopped (turns : List Turn) : Type 0 where
+-- a run of so many turns, of which the last ended it so, and for its cause
+pub record IsEnded (site : Site) (table : Table) (count : ℕ) (a b : Seen) (went : Went) : Type 0 where
+  pub turns : List Turn
   pub before : List Turn
   pub last : Turn
   pub whole : turns ≡ before ++ last ∷ []
-  pub stops : last.event ≡ Stops
-
--- a run of so many turns, of which the last ended it so
-pub record IsEnded (site : Site) (table : Table) (count : ℕ) (a b : Seen) (went : Went) : Type 0 where
-  pub turns : List Turn
   pub events : length turns ≡ count
   pub headline : Headline site table turns a b (is_well went)
   pub readings : b.clock.readings ≡ a.clock.readings + count
-  pub ended : (ending : Ending) → went ≡ Ends ending → (run_over site table turns).state.over ≡ Some (By ending)
-  pub stopped : went ≡ Ends Stopped → IsStopped turns
-  pub cause : went ≡ Ends SpoolFault → Rose a.spool.faults b.spool.faults
-  pub spent : went ≡ Ends IdsSpent → is_spent (run_over site table turns).state.table ≡ true
+  pub ended : (ending : Ending) → went ≡ Ends ending → EndsSo ending last.event (run_over site table turns).state a b

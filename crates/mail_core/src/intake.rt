@@ -140,7 +140,8 @@ impl Intake {
         self.store.prepare(draft, body)
     }
 
-    // Takes a message in, and acknowledges it once it is in the queue.
+    // Takes a message in, and acknowledges it once it is in the queue. The text of its 250 is made before, so
+    // that nothing after the commit takes memory.
     fn accept<F: Floor, D: Spool>(
         &mut self,
         floor: &mut F,
@@ -169,13 +170,13 @@ impl Intake {
             Err(StoreFault::IdsSpent) => return Fed::Spent,
             Err(_no_memory) => return self.lack(floor, caller),
         };
-        let Ok(id) = self.store.commit(spool, change) else {
+        let Ok(text) = caller.session.stored(&change.id()) else {
+            return self.lack(floor, caller);
+        };
+        let Ok(_id) = self.store.commit(spool, change) else {
             return Fed::Faulted;
         };
-        match caller.session.stored(&id) {
-            Ok(text) => Intake::reply(floor, caller.number, &text),
-            Err(_no_memory) => self.lack(floor, caller),
-        }
+        Intake::reply(floor, caller.number, &text)
     }
 
     // Answers a line.

@@ -3,12 +3,12 @@ ghost use Rattle.mail_base.specs.Histories.{Gains};
 ghost use Rattle.mail_edge.specs.Seen.{ClockSeen};
 ghost use Rattle.link_edge.specs.Heard.{Heard, IsSoundAt};
 ghost use Rattle.link_edge.specs.Turns.{Fits};
-ghost use Rattle.link_edge.specs.declared.event.Event.TheVariants.{Stops};
+ghost use Rattle.link_edge.specs.declared.event.Event.TheVariants.{Brings};
 ghost use Rattle.smtp_receive.specs.Replies.{greeting_text, shown_host};
 ghost use Rattle.mail_core.specs.Acts.{Sends, HangsUp, heard_of};
 ghost use Rattle.mail_core.specs.Events.{IsTaken, IsTakenUp, IsHeardAt, IsOpened, Steps, Turns, event_of, is_well, went_of};
-ghost use Rattle.mail_core.specs.Guests.{guest_of, newcomer};
-ghost use Rattle.mail_core.specs.Machine.{State, Step, at_moment, beginning, handled, opened, pieced};
+ghost use Rattle.mail_core.specs.Guests.{newcomer};
+ghost use Rattle.mail_core.specs.Machine.{State, beginning};
 ghost use Rattle.mail_core.specs.Seen.{seen};
 ghost use Rattle.mail_core.specs.Standing.{IsReady, IsStanding, Keeps, Stands, Stores, is_hosted};
 ghost use Rattle.spool_store.specs.Tables.{Table};
@@ -132,11 +132,10 @@ impl Core {
         requires sound { IsHeardAt (F.seen floor.old) turn }
         requires standing { IsStanding self.old }
         ensures steps { (site : Site) (m : State) (clock : ClockSeen) → Stands site self.old m
-            → Steps site (handled site m (event_of turn buf.now)) m.table
+            → Steps site m (event_of turn buf.now)
             (seen (F.seen floor.old) (D.seen spool.old) clock)
             (seen (F.seen floor.new) (D.seen spool.new) clock)
             self.new result }
-        ensures stopped { result ≡ Went.Ends Ending.Stopped → event_of turn buf.now ≡ Stops }
         ensures own { (F.seen floor.new).faults ≡ (F.seen floor.old).faults }
         ensures begun { (F.seen floor.new).begun ≡ (F.seen floor.old).begun }
         ensures calm { is_well result ≡ true → (D.seen spool.new).faults ≡ (D.seen spool.old).faults }
@@ -241,11 +240,10 @@ impl Core {
         requires sound { IsSoundAt (F.seen floor.old) session }
         requires standing { IsStanding self.old }
         ensures steps { (site : Site) (m : State) (clock : ClockSeen) → Stands site self.old m
-            → Steps site (λ choices. pieced site m piece.now choices (guest_of session m.guests)) m.table
+            → Steps site m (Brings session piece.now)
             (seen (F.seen floor.old) (D.seen spool.old) clock)
             (seen (F.seen floor.new) (D.seen spool.new) clock)
             self.new result }
-        ensures stopped { result ≢ Went.Ends Ending.Stopped }
         ensures own { (F.seen floor.new).faults ≡ (F.seen floor.old).faults }
         ensures begun { (F.seen floor.new).begun ≡ (F.seen floor.old).begun }
         ensures calm { is_well result ≡ true → (D.seen spool.new).faults ≡ (D.seen spool.old).faults }

@@ -173,7 +173,7 @@ not_opened_whole before after open_faults.NoMemory empty sound is = inr (inl ref
 
 over_whole : (before after : World) (ending : Ending) → NoneFailed Session before after → IsServedOut (core_of before) (core_of after) (WentOut ending) → IsWhole Session (of_session (session_ends.Over ending))
 over_whole before after endings.Stopped sound is = inl refl
-over_whole before after endings.SpoolFault sound is = absurd (sound.1 (is.ended.cause refl))
+over_whole before after endings.SpoolFault sound is = absurd (sound.1 (is.ended.ended endings.SpoolFault refl).cause)
 over_whole before after endings.IdsSpent sound is = inr (inr (inl refl))
 
 session_whole : (before after : World) (how : SessionEnd) → IsQueueEmpty before.spool.told → NoneFailed Session before after → Serves (core_of before) (core_of after) how → IsWhole Session (of_session how)

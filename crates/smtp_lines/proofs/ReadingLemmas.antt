@@ -57,6 +57,17 @@ reading_by-is (suc n) _ _ _ _ _ _ grants left (asked mode content after grant gr
     ∙ ap (λ g. reading_by n (granted_mode g) after (drop 1 grants)) (sym follows.0)
     ∙ reading_by-is n _ _ _ _ _ _ (drop 1 grants) left then none follows.1 (omega arith))
 
+-- read so far and no further
+pub reading_by-all : (mode : Mode) (bytes : List ℕ) (granted : List Bool) (lines : List Line) (last : Mode) (rest : List ℕ) → Reads mode bytes granted lines last rest
+    → reading_by (length lines) mode bytes granted ≡ record { lines = lines; mode = last; rest = rest }
+reading_by-all _ _ _ _ _ _ (nothing mode bytes) = refl
+reading_by-all _ _ _ _ _ _ (plain mode content after granted lines last rest ended quiet then) =
+    ap (parts_by (reading_by (length lines)) mode (content ++ (end_of mode ++ after)) granted) (cut-at mode content after ended)
+    ∙ ap (with_line (line_of mode content)) (cond-false _ _ _ quiet ∙ reading_by-all _ _ _ _ _ _ then)
+reading_by-all _ _ _ _ _ _ (asked mode content after grant granted lines last rest ended asking then) =
+    ap (parts_by (reading_by (length lines)) mode (content ++ (end_of mode ++ after)) (grant ∷ granted)) (cut-at mode content after ended)
+    ∙ ap (with_line (line_of mode content)) (cond-true _ _ _ asking ∙ reading_by-all _ _ _ _ _ _ then)
+
 end_some : (mode : Mode) → 0 < length (end_of mode)
 end_some Commands = omega arith
 end_some Message = omega arith

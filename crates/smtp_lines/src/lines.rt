@@ -1,4 +1,4 @@
-ghost use Rattle.std.specs.Prelude.{◌≡◌, ◌≤◌, ◌<◌, ◌-◌, ◌++◌, [], ◌∷◌, length, take, drop, vec_len, IfOk, OnOk, OnErr, IsTrue, false, true};
+ghost use Rattle.std.specs.Prelude.{◌≡◌, ◌≤◌, ◌<◌, ◌-◌, ◌++◌, [], ◌∷◌, length, take, drop, vec_len, IfOk, IsOk, OnOk, OnErr, IsTrue, false, true};
 ghost use Rattle.smtp_lines.specs.Views.{under};
 ghost use Rattle.smtp_lines.specs.Reader.{Reader, fresh, Stream, empty_stream, Stands, received, given, granted, refused, refused_by, asked_after};
 
@@ -74,7 +74,7 @@ impl Lines {
     }
 
     /// Gives the lines that what is kept completes, up to a command with the verb DATA. After `NoMemory` the
-    /// reader is as before.
+    /// reader is as before. Where nothing is left it takes no memory.
     pub fn more(&mut self) -> Result<Seq<Line>, NoMemory>
         ensures stands { IfOk result (λ lines. (s : Stream) → Stands self.old s
             → Stands self.new (given self.old.under.may_turn s lines)) }
@@ -83,8 +83,12 @@ impl Lines {
         ensures all { IfOk result (λ lines. asked_after false lines ≡ false → self.new.left ≡ []) }
         ensures less { IfOk result (λ lines. IsTrue (asked_after false lines)
             → length self.new.left < length self.old.left) }
+        ensures none { self.old.left ≡ [] → IsOk result }
         ensures err { OnErr result (self.new ≡ self.old) }
     {
+        if self.start == self.left.len() {
+            return Ok(Seq::new(*self.left.allocator()));
+        }
         let (lines, used) = self.begun.take(&self.left[self.start..])?;
         self.start += used;
         Ok(lines)

@@ -10,10 +10,10 @@ use Rattle.smtp_receive.specs.declared.reply.Reply.TheVariants.{NeedRcpt, Recipi
 use Rattle.smtp_receive.specs.Dialogue.{Answer, Says, Greets, Grants, Closes, Gives, Takes, Exchange, Heard, answer_heard, dialogue, exchanges, with_heard}
 use Rattle.smtp_receive.specs.Splits.{is_large_block, is_too_large}
 
-abbrev peer : List ℕ
+abbrev pub peer : List ℕ
 peer = codes "10.0.0.1"
 
-abbrev heard : Line → Heard
+abbrev pub heard : Line → Heard
 heard line = record { line = line; short = false }
 
 -- memory is wanting at a line
@@ -24,38 +24,38 @@ abbrev exchange : Line → Option Answer → Exchange
 exchange line answer = record { line = line; answer = answer }
 
 -- one line more
-more : (lines : List Heard) (next : Heard) (before : List Exchange) (answer : Option Answer) → exchanges peer lines ≡ before → answer_heard peer before next ≡ answer
+pub more : (lines : List Heard) (next : Heard) (before : List Exchange) (answer : Option Answer) → exchanges peer lines ≡ before → answer_heard peer before next ≡ answer
     → exchanges peer (lines ++ next ∷ []) ≡ exchange next.line answer ∷ before
 more lines next before answer e is =
     fold-append (with_heard peer) [] lines (next ∷ []) ∙ ap (λ b. with_heard peer b next) e ∙ ap (λ a. exchange next.line a ∷ before) is
 
 -- ---- up to the first line of a message
 
-abbrev helo : Line
+abbrev pub helo : Line
 helo = Command (codes "HELO c.example")
 
-abbrev mail : Line
+abbrev pub mail : Line
 mail = Command (codes "MAIL FROM:<bob@c.example>")
 
-abbrev rcpt : Line
+abbrev pub rcpt : Line
 rcpt = Command (codes "RCPT TO:<ann@mx.example>")
 
-abbrev data_line : Line
+abbrev pub data_line : Line
 data_line = Command (codes "DATA")
 
-abbrev subject : Line
+abbrev pub subject : Line
 subject = Data (codes "Subject: hi")
 
-abbrev greeted : List Exchange
+abbrev pub greeted : List Exchange
 greeted = exchange helo (Some Greets) ∷ []
 
-abbrev given : List Exchange
+abbrev pub given : List Exchange
 given = exchange rcpt (Some (Says RecipientOk)) ∷ exchange mail (Some (Says SenderOk)) ∷ greeted
 
-abbrev granted : List Exchange
+abbrev pub granted : List Exchange
 granted = exchange subject (Some Takes) ∷ exchange data_line (Some Grants) ∷ given
 
-abbrev begun : List Heard
+abbrev pub begun : List Heard
 begun = heard helo ∷ heard mail ∷ heard rcpt ∷ heard data_line ∷ heard subject ∷ []
 
 begins : exchanges peer begun ≡ granted
@@ -71,13 +71,13 @@ begins =
 
 -- ---- a message is given at its end
 
-abbrev body : Line
+abbrev pub body : Line
 body = Data (codes "hello")
 
-abbrev quit : Line
+abbrev pub quit : Line
 quit = Command (codes "QUIT")
 
-abbrev message : Received
+abbrev pub message : Received
 message = record {
   sender = codes "<bob@c.example>";
   recipient = codes "<ann@mx.example>";
@@ -87,10 +87,10 @@ message = record {
   kept = record { protocol = codes "SMTP"; helo = codes "c.example"; client = codes "10.0.0.1" };
 }
 
-abbrev taken : List Exchange
+abbrev pub taken : List Exchange
 taken = exchange body (Some Takes) ∷ exchange (Data []) (Some Takes) ∷ granted
 
-ends : answer_heard peer taken (heard DataEnd) ≡ Some (Gives message)
+pub ends : answer_heard peer taken (heard DataEnd) ≡ Some (Gives message)
 unfolding is_too_large is_large_block most_message most_headers most_path most_local_part
 ends = refl
 

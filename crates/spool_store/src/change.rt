@@ -42,6 +42,13 @@ impl Drop for Change {
 }
 
 impl Change {
+    /// The id under which the entry is to be committed.
+    pub fn id(&self) -> Id
+        ensures { result ≡ self.now.id }
+    {
+        self.id
+    }
+
     // The change that commits a draft with its body under an id.
     pub(crate) fn of(alloc: Global, id: Id, draft: Draft, body: Text) -> Result<Change, NoMemory>
         requires within { IsId id }

@@ -1,10 +1,11 @@
-use Rattle.std.proofs.Common.{◌≡◌, true, false, refl, sym, ◌∙◌, ap, subst}
-use Rattle.smtp_lines.specs.Reader.{asked_after}
+use Rattle.std.proofs.Common.{◌≡◌, [], true, false, refl, sym, ◌∙◌, ap, subst}
+use Rattle.std.proofs.lemmas.Bool.{false≢true}
+use Rattle.smtp_lines.specs.Reader.{Reader, asked_after}
 use Rattle.smtp_lines.proofs.RunLemmas.{asked_after-turns}
-use Rattle.mail_core.specs.Going.{is_onward}
+use Rattle.mail_core.specs.Going.{is_granted, is_onward}
 use Rattle.link_edge.specs.Heard.{IsSoundAt}
 use Rattle.mail_core.proofs.GoingLemmas.{well_onward}
-use Rattle.mail_core.proofs.FeedLemmas.{pends_start, pends_more, batch_of, feeds_none, feeds_cut, feeds_lost, feeds_all, ready_lines, turned_lines}
+use Rattle.mail_core.proofs.FeedLemmas.{pends_start, pends_more, batch_of, feeds_none, feeds_cut, feeds_lost, feeds_all, ready_lines, turned_left, turned_lines}
 use Rattle.mail_core.proofs.intake.Intake.feed.Goals as goal
 
 pub returns-in_default-clause-feeds : goal.returns-in_default-clause-feeds
@@ -50,7 +51,8 @@ returns-in_default-more-clause-feeds g c = λ site table guest clock serves keep
     let batch =
     batch_of site c.args.self.now.moment table guest c.args.piece.now c.answers.self.moment _ _ _ c.answers.self c.answer_all-fed.new.self c.answers.caller c.answer_all-fed.new.caller c.items-in-answers.result.now c.answers.lines c.answer_all-fed.result
     c.items-in-answers.ensures h.moment (h.pends site table guest clock serves keeps) (λ d. k.answers site d clock) in
-    feeds_lost site c.args.self.now.moment table guest c.args.piece.now _ (g.F.Floor.seen c.answer_all-fed.new.floor) (g.F.Floor.seen c.drop_caller-in_default-more.new.floor) (g.D.Spool.seen c.answer_all-fed.new.spool) clock c.answers.caller.lines c.answers.lines c.answer_all-fed.new.self c.answer_all-fed.new.caller _ c.answer_all-fed.result c.drop_caller-in_default-more.result c.turn.new.self.number batch on asking (ap (λ q. q.number) c.turn.ensures) d.told d.own d.fed
+    let left = λ (e : c.answers.caller.lines.left ≡ []). false≢true (c.in_default-more.ensures.none (ap (λ (r : Reader). r.left) (turned_lines c.answer_all-fed.new.caller c.turn.new.self c.answers.caller.lines c.answer_all-fed.result c.turn.ensures k.lines) ∙ turned_left (is_granted c.answer_all-fed.result) c.answers.caller.lines ∙ e)) in
+    feeds_lost site c.args.self.now.moment table guest c.args.piece.now _ (g.F.Floor.seen c.answer_all-fed.new.floor) (g.F.Floor.seen c.drop_caller-in_default-more.new.floor) (g.D.Spool.seen c.answer_all-fed.new.spool) clock c.answers.caller.lines c.answers.lines c.answer_all-fed.new.self c.answer_all-fed.new.caller _ c.answer_all-fed.result c.drop_caller-in_default-more.result c.turn.new.self.number batch on asking left (ap (λ q. q.number) c.turn.ensures) d.told d.own d.fed
 
 pub answers-preserved : goal.answers-preserved
 answers-preserved g c =

@@ -1,7 +1,6 @@
 use Rattle.std.proofs.Common.{refl}
-use Rattle.mail_core.specs.declared.serving.Ending.TheVariants.{Stopped}
-use Rattle.mail_core.specs.declared.serving.Went.TheVariants.{GoesOn, Ends}
-use Rattle.mail_core.proofs.CoreLemmas.{opened_steps, quiet_steps, closed_stands, stopped_so}
+use Rattle.link_edge.specs.declared.event.Event.TheVariants.{Closes, Rests}
+use Rattle.mail_core.proofs.CoreLemmas.{opened_steps, quiet_steps, closed_stands, stop_steps}
 use Rattle.mail_core.proofs.serving.Core.handle.Goals as goal
 
 pub returns-in-Opened-clause-steps : goal.returns-in-Opened-clause-steps
@@ -13,10 +12,10 @@ returns-in-Piece-clause-steps g c = λ site m clock st. rw c.in-Piece.is (c.piec
 
 pub returns-in-Closed-clause-steps : goal.returns-in-Closed-clause-steps
 returns-in-Closed-clause-steps g c = λ site m clock st.
-    rw c.in-Closed.is (quiet_steps site _ m.table _ _ clock _ GoesOn refl refl (λ e. closed_stands site m c.in-Closed.session c.take-caller.result _ (c.take-caller.ensures.taken site m st)) (λ ending e. absurd (cc e)) (λ e. cc e) (λ e. cc e))
+    rw c.in-Closed.is (quiet_steps site m (Closes c.in-Closed.session) tt _ _ clock _ refl (closed_stands site m c.in-Closed.session c.take-caller.result _ (c.take-caller.ensures.taken site m st)))
 
 pub returns-in-Idle-clause-steps : goal.returns-in-Idle-clause-steps
-returns-in-Idle-clause-steps g c = λ site m clock st. rw c.in-Idle.is (quiet_steps site _ m.table _ _ clock _ GoesOn refl refl (λ e. st) (λ ending e. absurd (cc e)) (λ e. cc e) (λ e. cc e))
+returns-in-Idle-clause-steps g c = λ site m clock st. rw c.in-Idle.is (quiet_steps site m Rests tt _ _ clock _ refl st)
 
 pub returns-in-Stop-clause-steps : goal.returns-in-Stop-clause-steps
-returns-in-Stop-clause-steps g c = λ site m clock st. rw c.in-Stop.is (quiet_steps site _ m.table _ _ clock _ (Ends Stopped) refl refl (λ e. cc e) (λ ending e. stopped_so ending e) (λ e. cc e) (λ e. cc e))
+returns-in-Stop-clause-steps g c = λ site m clock st. rw c.in-Stop.is (stop_steps site m _ _ clock _)

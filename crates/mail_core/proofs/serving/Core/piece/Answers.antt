@@ -1,8 +1,7 @@
 use Rattle.std.proofs.Common.{refl, sym, ◌∙◌, subst}
+use Rattle.link_edge.specs.declared.event.Event.TheVariants.{Brings}
 use Rattle.mail_core.specs.Going.{Feeds}
 use Rattle.mail_core.specs.Events.{Steps}
-use Rattle.mail_core.specs.Guests.{guest_of}
-use Rattle.mail_core.specs.Machine.{pieced}
 use Rattle.mail_core.specs.Seen.{seen}
 use Rattle.mail_core.proofs.CoreLemmas.{piece_dropped, piece_goes, piece_leaves, well_went}
 use Rattle.mail_core.proofs.GoingLemmas.{well_onward}
@@ -27,7 +26,7 @@ returns-clause-steps g c = λ site m clock st.
     let b = seen (g.F.Floor.seen c.feed-fed.new.floor) (g.D.Spool.seen c.feed-fed.new.spool) clock in
     let h = subst (λ n. Feeds site n m.table t.guest c.args.piece.now a b c.feed-fed.new.self c.feed-fed.new.caller c.feed-fed.result) t.stands.latest
     (c.feed-fed.ensures.feeds site m.table t.guest clock t.stands.intake t.keeps) in
-    subst (Steps site (λ choices. pieced site m c.args.piece.now choices (guest_of c.args.session m.guests)) m.table a b (record c.take.new.self { intake = c.feed-fed.new.self })) (sym c.went_after.ensures)
+    subst (Steps site m (Brings c.args.session c.args.piece.now) a b (record c.take.new.self { intake = c.feed-fed.new.self })) (sym c.went_after.ensures)
     (piece_leaves site m c.args.session c.args.piece.now a b _ t.guest c.feed-fed.new.self c.feed-fed.new.caller c.feed-fed.result t.is t.alone h c.take.new.self (sym c.is_onward.ensures ∙ c.if-is_onward.false) t.stands refl (c.feed-fed.ensures.moment ∙ t.stands.latest))
 
 pub returns-then-is_onward-clause-calm : goal.returns-then-is_onward-clause-calm

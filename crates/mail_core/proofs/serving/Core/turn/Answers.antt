@@ -11,8 +11,7 @@ pub returns : goal.returns
 returns g c = record {
   turns = λ site m before clock read st taken.
       turns_of site m _ c.args.reading before _ _ clock read _ _ _ st.on taken
-      (c.handle.ensures.steps site (at_moment m c.args.reading) read (at_stands site m c.args.self.now c.at.new.self c.args.reading st c.at.ensures.moment c.at.ensures.range))
-      c.handle.ensures.stopped;
+      (c.handle.ensures.steps site (at_moment m c.args.reading) read (at_stands site m c.args.self.now c.at.new.self c.args.reading st c.at.ensures.moment c.at.ensures.range));
   own = c.handle.ensures.own;
   begun = c.handle.ensures.begun;
   calm = c.handle.ensures.calm;
