@@ -9,3 +9,5 @@ pub mod GoingLemmas
 pub mod LineLemmas
 pub mod MessageLemmas
 pub mod FeedLemmas
+pub mod ExampleLemmas
+pub mod Examples

@@ -1,0 +1,278 @@
+-- What pieces come to, line by line: each fact is of one line, so that examples compute.
+use Rattle.std.proofs.Common.{◌≡◌, ℕ, List, [], ◌∷◌, ◌++◌, length, slice_get, Bool, true, false, Option, Some, None, refl, sym, ◌∙◌, ap, subst, append_assoc}
+use Rattle.std.specs.Prelude.{◌&&◌, not, is_none, is_some, map, reverse, fold, if◌then◌else◌}
+use Rattle.std.specs.List.{flat_map}
+use Rattle.std.proofs.lemmas.Bool.{and_parts, cond-false}
+use Rattle.std.proofs.lemmas.Grind.{flat_map-append}
+use Rattle.std.proofs.lemmas.List.{append-nil, map-append}
+use Rattle.std.proofs.lemmas.List.Sums.{fold_push}
+use Rattle.link_edge.specs.declared.event.Event.{Event}
+use Rattle.link_edge.specs.declared.event.Event.TheVariants.{Opens, Brings}
+use Rattle.smtp_lines.specs.declared.line.Line.{Line}
+use Rattle.smtp_lines.specs.Stream.{reading_of}
+use Rattle.smtp_receive.specs.Dialogue.{Heard, Exchange, Answer, Says, Greets, Grants, Closes, Gives, Takes as Passes, answer_to, exchanges, is_dropped, with_heard}
+use Rattle.smtp_receive.specs.Replies.{text_of, grant_text, hello_text, closing_text, out_of_memory_text, stored_text, shown_host}
+use Rattle.spool_store.specs.Tables.{Table, after, start}
+use Rattle.mail_core.specs.declared.serving.Site.{Site}
+use Rattle.mail_core.specs.Acts.{Act, Takes, Ticks, Commits, Sends, HangsUp, speech}
+use Rattle.mail_core.specs.Guests.{Guest, grant_in, guest_of, is_passed, next_line, with_bytes}
+use Rattle.mail_core.specs.Machine.{Choice, Normal, OutOfMemory, Way, GoesOn, Leaves, Did, way_of, replies, by_choice, heard_line, answered, settled, settled_by, fresh_start, all_answered, State, Step, still, Turn, at_moment, beginning, brought, moment_by, pieced, stepped, taken, followed, run}
+use Rattle.mail_core.specs.Messages.{accept_of, is_spent}
+use Rattle.mail_core.proofs.MachineLemmas.{run_more}
+
+-- the grants of these exchanges, of which the latest is first
+abbrev pub grants_by : List Exchange → List Bool
+grants_by before = flat_map grant_in (reverse before)
+
+-- the line at a place of a stream with these grants
+abbrev pub line_at : ℕ → List ℕ → List Bool → Option Line
+line_at place bytes grants = slice_get (reading_of bytes grants).lines place
+
+-- a line was answered, or 452 4.3.1 came in place of it
+abbrev pub plain : Line → Answer → Exchange
+plain line answer = record { line = line; answer = Some answer }
+
+abbrev pub lacked : Line → Exchange
+lacked line = record { line = line; answer = None }
+
+-- a session with these lines
+abbrev pub with_lines : Guest → List Heard → Guest
+with_lines g heard = record g { heard = heard }
+
+abbrev pub input : Line → Bool → Heard
+input line short = record { line = line; short = short }
+
+module _ (site : Site) (moment : ℕ) where
+  -- what is done at an answer that is sent whole or not
+  abbrev pub acts_by : ℕ → Table → Answer → Bool → List Act
+  acts_by session table (Says reply) whole = speech session (text_of reply) whole
+  acts_by session table Greets whole = speech session (hello_text (shown_host site.host)) whole
+  acts_by session table Grants whole = speech session grant_text whole
+  acts_by session table Closes whole = Sends session (closing_text (shown_host site.host)) whole ∷ HangsUp session ∷ []
+  acts_by session table (Gives message) whole = Commits (accept_of site moment message) ∷ speech session (stored_text table.next) whole
+  acts_by session table Passes whole = []
+
+  abbrev pub table_by : Table → Answer → Table
+  table_by table (Says reply) = table
+  table_by table Greets = table
+  table_by table Grants = table
+  table_by table Closes = table
+  table_by table (Gives message) = after table (accept_of site moment message)
+  table_by table Passes = table
+
+  abbrev pub way_by : Answer → Bool → Way
+  way_by (Says reply) whole = way_of whole
+  way_by Greets whole = way_of whole
+  way_by Grants whole = way_of whole
+  way_by Closes whole = Leaves
+  way_by (Gives message) whole = way_of whole
+  way_by Passes whole = GoesOn
+
+  abbrev pub so_far : Table → Guest → List Heard → Bool → List Act → Way → Did
+  so_far table guest heard may acts way = record { table = table; guest = with_lines guest heard; may_disconnect = may; acts = acts; way = way }
+
+  -- what a piece has come to by these choices, and the exchanges of the lines so far
+  pub record Comes (table : Table) (guest : Guest) (choices : List Choice) (now : Table) (heard : List Heard) (before : List Exchange) (acts : List Act) (way : Way) : Type 0 where
+    pub may : Bool
+    pub known : exchanges guest.peer heard ≡ before
+    pub is : fold (answered site moment) (fresh_start table guest) choices ≡ so_far now guest heard may acts way
+
+  -- no line was answered
+  pub comes_none : (table : Table) (guest : Guest) (before : List Exchange) → exchanges guest.peer guest.heard ≡ before → Comes table guest [] table guest.heard before [] GoesOn
+  comes_none table guest before known = record { may = true; known = known; is = refl }
+
+  module _ (table : Table) (guest : Guest) (choices : List Choice) (now : Table) (heard : List Heard) (before : List Exchange) (acts : List Act) (line : Line) (c : Comes table guest choices now heard before acts GoesOn)
+      (next : line_at (length heard) guest.received (grants_by before) ≡ Some line) where
+    abbrev here : Did
+    here = so_far now guest heard c.may acts GoesOn
+
+    next_here : next_line here.guest ≡ Some line
+    next_here = ap (λ q. line_at (length heard) guest.received (grants_by q)) c.known ∙ next
+
+    chosen : (choice : Choice) → fold (answered site moment) (fresh_start table guest) (choices ++ choice ∷ []) ≡ by_choice site moment here choice (Some line)
+    chosen choice =
+        fold_push (answered site moment) (fresh_start table guest) choices choice
+        ∙ ap (λ d. answered site moment d choice) c.is
+        ∙ ap (λ o. by_choice site moment here choice o) next_here
+
+    replied : (answer : Answer) (whole : Bool) → is_spent now ≡ false
+        → replies site moment here answer whole ≡ so_far (table_by now answer) guest heard c.may (acts ++ acts_by guest.number now answer whole) (way_by answer whole)
+    replied (Says reply) whole left = refl
+    replied Greets whole left = refl
+    replied Grants whole left = refl
+    replied Closes whole left = refl
+    replied (Gives message) whole left =
+        cond-false (is_spent now) _ _ left
+        ∙ ap (λ q. so_far (after now (accept_of site moment message)) guest heard c.may q (way_of whole))
+        (append_assoc acts (Commits (accept_of site moment message) ∷ []) (speech guest.number (stored_text now.next) whole))
+    replied Passes whole left = ap (λ q. so_far now guest heard c.may q GoesOn) (sym (append-nil acts))
+
+    heard_more : (h : Heard) → exchanges guest.peer (heard ++ h ∷ []) ≡ with_heard guest.peer before h
+    heard_more h = fold_push (with_heard guest.peer) [] heard h ∙ ap (λ b. with_heard guest.peer b h) c.known
+
+    -- a line got its answer
+    pub comes_more : (answer : Answer) (whole : Bool) → is_spent now ≡ false → answer_to guest.peer before line ≡ answer
+        → Comes table guest (choices ++ Normal whole ∷ []) (table_by now answer) (heard ++ input line false ∷ []) (plain line answer ∷ before) (acts ++ acts_by guest.number now answer whole) (way_by answer whole)
+    comes_more answer whole left is = record {
+      may = (heard_line (so_far (table_by now answer) guest heard c.may (acts ++ acts_by guest.number now answer whole) (way_by answer whole)) line false).may_disconnect;
+      known = heard_more (input line false) ∙ ap (λ a. plain line a ∷ before) is;
+      is = chosen (Normal whole)
+          ∙ ap (λ q. heard_line (replies site moment here (answer_to guest.peer q line) whole) line false) c.known
+          ∙ ap (λ q. heard_line (replies site moment here q whole) line false) is
+          ∙ ap (λ d. heard_line d line false) (replied answer whole left);
+    }
+
+    -- 452 4.3.1 came in place of it
+    pub comes_short : (whole : Bool) → is_dropped before line ≡ false
+        → Comes table guest (choices ++ OutOfMemory whole ∷ []) now (heard ++ input line true ∷ []) (lacked line ∷ before) (acts ++ speech guest.number out_of_memory_text whole) (way_of whole)
+    comes_short whole kept = record {
+      may = (heard_line (so_far now guest heard c.may (acts ++ speech guest.number out_of_memory_text whole) (way_of whole)) line true).may_disconnect;
+      known = heard_more (input line true) ∙ ap (λ b. record { line = line; answer = if not b then None else Some (answer_to guest.peer before line) } ∷ before) kept;
+      is = chosen (OutOfMemory whole) ∙ cond-false (is_passed here.guest line) _ _ (ap (λ b. is_dropped b line) c.known ∙ kept);
+    }
+
+  module _ (table now : Table) (guest : Guest) (choices : List Choice) (heard : List Heard) (before : List Exchange) (acts : List Act) where
+    -- the session is over
+    pub all_left : (c : Comes table guest choices now heard before acts Leaves) → all_answered site moment table guest choices ≡ so_far now guest heard c.may acts Leaves
+    all_left c = ap settled c.is
+
+    -- it goes on, and no line is left
+    pub all_kept : (c : Comes table guest choices now heard before acts GoesOn) → line_at (length heard) guest.received (grants_by before) ≡ None → all_answered site moment table guest choices ≡ so_far now guest heard c.may acts GoesOn
+    all_kept c none =
+        ap settled c.is
+        ∙ ap (λ o. settled_by GoesOn o (so_far now guest heard c.may acts GoesOn))
+        (ap (λ q. line_at (length heard) guest.received (grants_by q)) c.known ∙ none)
+
+-- a piece of the session of a number
+abbrev pub piece : ℕ → List ℕ → ℕ → List Choice → Turn
+piece session bytes reading choices = record { event = Brings session bytes; reading = reading; choices = choices }
+
+-- a turn that brings a piece
+pub piece_turn : (site : Site) (m : State) (session : ℕ) (g : Guest) (bytes : List ℕ) (reading : ℕ) (choices : List Choice) (d : Did) → m.over ≡ None → guest_of session m.guests ≡ Some g
+    → all_answered site (at_moment m reading).latest m.table (with_bytes g bytes) choices ≡ d → stepped site m (piece session bytes reading choices) ≡ taken (piece session bytes reading choices) (brought (at_moment m reading) d.way d)
+piece_turn site m session g bytes reading choices d on is all =
+    cond-false (is_some m.over) (still m) _ (ap is_some on)
+    ∙ ap (λ o. taken (piece session bytes reading choices) (pieced site (at_moment m reading) bytes choices o)) is
+    ∙ ap (λ (q : Did). taken (piece session bytes reading choices) (brought (at_moment m reading) q.way q)) all
+
+-- a run, turn by turn
+pub run_first : (site : Site) (m : State) (turn : Turn) (turns : List Turn) (now later : Step) → stepped site m turn ≡ now → run site now.state turns ≡ later → run site m (turn ∷ turns) ≡ followed now later
+run_first site m turn turns now later first rest =
+    ap (λ (s : Step). followed s (run site s.state turns)) first ∙ ap (λ (s : Step). followed now s) rest
+
+-- ---- byte by byte
+
+-- no byte of these, one after the other, completes a line of what was received
+abbrev pub are_within : ℕ → List Bool → List ℕ → List ℕ → Bool
+are_within place grants received [] = true
+are_within place grants received (b ∷ bytes) = is_none (line_at place (received ++ b ∷ []) grants) && are_within place grants (received ++ b ∷ []) bytes
+
+-- what is sent and asked for of all that is done
+abbrev pub answers_in : Act → List Act
+answers_in (Takes event) = []
+answers_in (Ticks reading) = []
+answers_in (Commits command) = Commits command ∷ []
+answers_in (Sends session text whole) = Sends session text whole ∷ []
+answers_in (HangsUp session) = HangsUp session ∷ []
+
+abbrev pub answers_of : List Act → List Act
+answers_of acts = flat_map answers_in acts
+
+none_is : (o : Option Line) → is_none o ≡ true → o ≡ None
+none_is None is = refl
+none_is (Some line) is = absurd (cc is)
+
+-- a byte of the session 1
+abbrev pub one : ℕ → Event
+one b = Brings 1 (b ∷ [])
+
+module _ (site : Site) (peer : List ℕ) (reading : ℕ) (latest : ℕ) (same : moment_by latest reading ≡ latest) where
+  abbrev pub caller : List ℕ → List Heard → Guest
+  caller bytes heard = record { number = 1; peer = peer; received = bytes; heard = heard }
+
+  -- a session alone, between its bytes
+  abbrev pub alone : Table → List ℕ → List Heard → State
+  alone table bytes heard = record { table = table; guests = caller bytes heard ∷ []; latest = latest; over = None }
+
+  abbrev pub byte_turn : ℕ → List Choice → Turn
+  byte_turn b choices = piece 1 (b ∷ []) reading choices
+
+  -- by some choices, this is what these bytes have come to, one after the other
+  pub record Talks (bytes : List ℕ) (table : Table) (heard : List Heard) (before : List Exchange) (acts : List Act) : Type 0 where
+    pub turns : List Turn
+    pub events : map (λ (t : Turn). t.event) turns ≡ Opens 1 peer ∷ map one bytes
+    pub done : List Act
+    pub is : run site (beginning start) turns ≡ record { state = alone table bytes heard; acts = done }
+    pub answers : answers_of done ≡ acts
+    pub known : exchanges peer heard ≡ before
+
+  module _ (bytes : List ℕ) (table : Table) (heard : List Heard) (before : List Exchange) (acts : List Act) (t : Talks bytes table heard before acts) (b : ℕ) where
+    abbrev now : List ℕ
+    now = bytes ++ b ∷ []
+
+    -- one byte more
+    turn_more : (choices : List Choice) (d : Did) → all_answered site latest table (caller now heard) choices ≡ d
+        → run site (beginning start) (t.turns ++ byte_turn b choices ∷ []) ≡ followed (record { state = alone table bytes heard; acts = t.done }) (taken (byte_turn b choices) (brought (alone table bytes heard) d.way d))
+    turn_more choices d all =
+        let m = alone table bytes heard in
+        let at : at_moment m reading ≡ m = ap (λ n. record m { latest = n }) same in
+        run_more site (beginning start) t.turns (byte_turn b choices)
+        ∙ ap (λ (s : Step). followed s (stepped site s.state (byte_turn b choices))) t.is
+        ∙ ap (λ (s : Step). followed (record { state = m; acts = t.done }) s)
+        (piece_turn site m 1 (caller bytes heard) (b ∷ []) reading choices d refl refl (ap (λ n. all_answered site n table (caller now heard) choices) same ∙ all)
+        ∙ ap (λ q. taken (byte_turn b choices) (brought q d.way d)) at)
+
+    events_more : (choices : List Choice) → map (λ (q : Turn). q.event) (t.turns ++ byte_turn b choices ∷ []) ≡ Opens 1 peer ∷ map one now
+    events_more choices =
+        map-append (λ (q : Turn). q.event) t.turns (byte_turn b choices ∷ [])
+        ∙ ap (λ q. q ++ one b ∷ []) t.events
+        ∙ ap (λ q. Opens 1 peer ∷ q) (sym (map-append one bytes (b ∷ [])))
+
+    answers_more : (more : List Act) → answers_of (t.done ++ Takes (one b) ∷ Ticks reading ∷ more) ≡ acts ++ answers_of more
+    answers_more more = flat_map-append answers_in t.done (Takes (one b) ∷ Ticks reading ∷ more) ∙ ap (λ q. q ++ answers_of more) t.answers
+
+    -- it completes no line
+    pub talks_byte : line_at (length heard) now (grants_by before) ≡ None → Talks now table heard before acts
+    talks_byte none =
+        let c = comes_none site latest table (caller now heard) before t.known in record {
+          turns = t.turns ++ byte_turn b [] ∷ [];
+          events = events_more [];
+          done = t.done ++ Takes (one b) ∷ Ticks reading ∷ [];
+          is = turn_more [] _ (all_kept site latest table table (caller now heard) [] heard before [] c none);
+          answers = answers_more [] ∙ append-nil acts;
+          known = t.known;
+        }
+
+    -- it completes one, which gets its answer
+    pub talks_line : (line : Line) (answer : Answer) → line_at (length heard) now (grants_by before) ≡ Some line → is_spent table ≡ false → answer_to peer before line ≡ answer
+        → way_by site latest answer true ≡ GoesOn → line_at (length (heard ++ input line false ∷ [])) now (grants_by (plain line answer ∷ before)) ≡ None
+        → Talks now (table_by site latest table answer) (heard ++ input line false ∷ []) (plain line answer ∷ before) (acts ++ answers_of (acts_by site latest 1 table answer true))
+    talks_line line answer next left is on none =
+        let c = comes_more site latest table (caller now heard) [] table heard before [] line (comes_none site latest table (caller now heard) before t.known) next answer true left is in
+        let went = subst (λ w. Comes site latest table (caller now heard) (Normal true ∷ []) (table_by site latest table answer) (heard ++ input line false ∷ []) (plain line answer ∷ before) (acts_by site latest 1 table answer true) w) on c in record {
+          turns = t.turns ++ byte_turn b (Normal true ∷ []) ∷ [];
+          events = events_more (Normal true ∷ []);
+          done = t.done ++ Takes (one b) ∷ Ticks reading ∷ acts_by site latest 1 table answer true;
+          is = turn_more (Normal true ∷ []) _ (all_kept site latest table (table_by site latest table answer) (caller now heard) (Normal true ∷ []) (heard ++ input line false ∷ []) (plain line answer ∷ before) (acts_by site latest 1 table answer true) went none);
+          answers = answers_more (acts_by site latest 1 table answer true);
+          known = went.known;
+        }
+
+    -- it completes the last one, which ends the session
+    pub talks_last : (line : Line) (answer : Answer) → line_at (length heard) now (grants_by before) ≡ Some line → is_spent table ≡ false → answer_to peer before line ≡ answer → way_by site latest answer true ≡ Leaves
+        → (turns : List Turn) × (map (λ (q : Turn). q.event) turns ≡ Opens 1 peer ∷ map one now) × (answers_of (run site (beginning start) turns).acts ≡ acts ++ answers_of (acts_by site latest 1 table answer true))
+    talks_last line answer next left is off =
+        let c = comes_more site latest table (caller now heard) [] table heard before [] line (comes_none site latest table (caller now heard) before t.known) next answer true left is in
+        let went = subst (λ w. Comes site latest table (caller now heard) (Normal true ∷ []) (table_by site latest table answer) (heard ++ input line false ∷ []) (plain line answer ∷ before) (acts_by site latest 1 table answer true) w) off c in
+        (t.turns ++ byte_turn b (Normal true ∷ []) ∷ [], events_more (Normal true ∷ []),
+        ap (λ (s : Step). answers_of s.acts) (turn_more (Normal true ∷ []) _ (all_left site latest table (table_by site latest table answer) (caller now heard) (Normal true ∷ []) (heard ++ input line false ∷ []) (plain line answer ∷ before) (acts_by site latest 1 table answer true) went))
+        ∙ answers_more (acts_by site latest 1 table answer true))
+
+  -- bytes within a line
+  pub talks_within : (bytes more : List ℕ) (table : Table) (heard : List Heard) (before : List Exchange) (acts : List Act) → Talks bytes table heard before acts → are_within (length heard) (grants_by before) bytes more ≡ true
+      → Talks (bytes ++ more) table heard before acts
+  talks_within bytes [] table heard before acts t within = subst (λ q. Talks q table heard before acts) (sym (append-nil bytes)) t
+  talks_within bytes (b ∷ more) table heard before acts t within =
+      let parts = and_parts _ _ within in
+      subst (λ q. Talks q table heard before acts) (append_assoc bytes (b ∷ []) more)
+      (talks_within (bytes ++ b ∷ []) more table heard before acts (talks_byte bytes table heard before acts t b (none_is _ parts.0)) parts.1)
