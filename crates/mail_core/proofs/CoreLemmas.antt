@@ -1,6 +1,6 @@
 -- What the core does is a step of the machine.
-use Rattle.std.proofs.Common.{◌≡◌, ℕ, ◌<◌, ◌^◌, List, [], ◌∷◌, ◌++◌, length, Bool, true, false, Option, Some, None, refl, sym, ◌∙◌, ap, subst, arith}
-use Rattle.std.specs.Prelude.{◌≢◌, All, nat_eq, nat_le, ◌||◌, not, if◌then◌else◌}
+use Rattle.std.proofs.Common.{◌≡◌, ℕ, ◌<◌, ◌^◌, List, [], ◌∷◌, ◌++◌, length, Bool, true, false, Option, Some, None, Result, Ok, Err, refl, sym, ◌∙◌, ap, subst, arith}
+use Rattle.std.specs.Prelude.{is_ok, ◌≢◌, All, nat_eq, nat_le, ◌||◌, not, if◌then◌else◌}
 use Rattle.std.specs.List.{list_any}
 use Rattle.std.specs.Option.{is_some}
 use Rattle.std.proofs.lemmas.Bool.{cond-true, cond-false, false≢true, eq-eqb}
@@ -13,24 +13,21 @@ use Rattle.link_edge.specs.declared.event.Event.{Event}
 use Rattle.link_edge.specs.declared.event.Event.TheVariants.{Opens, Brings, Stops}
 use Rattle.spool_disk.specs.Spooled.{Spooled}
 use Rattle.smtp_receive.specs.Replies.{greeting_text, shown_host, too_many_sessions_text}
-use Rattle.spool_store.specs.Tables.{Table}
 use Rattle.mail_core.specs.declared.caller.Caller.{Caller}
-use Rattle.mail_core.specs.declared.fed.Fed.{Fed}
-use Rattle.mail_core.specs.declared.fed.Fed.TheVariants.{GoesOn as Onward, Granted, HungUp, Faulted, Spent}
+use Rattle.mail_core.specs.declared.next.Next.{Next}
+use Rattle.mail_core.specs.declared.next.Next.TheVariants.{Continue, BeginData, Closed}
 use Rattle.mail_core.specs.declared.intake.Intake.{Intake}
 use Rattle.mail_core.specs.declared.serving.Core.{Core}
-use Rattle.mail_core.specs.declared.serving.Ending.{Ending}
-use Rattle.mail_core.specs.declared.serving.Ending.TheVariants.{Stopped, SpoolFault, IdsSpent}
+use Rattle.mail_core.specs.declared.serving.Act.{Act}
+use Rattle.mail_core.specs.declared.serving.Act.TheVariants.{Went, Ended}
+use Rattle.mail_core.specs.declared.serving.CoreStop.{CoreStop}
 use Rattle.mail_core.specs.declared.serving.Site.{Site}
-use Rattle.mail_core.specs.declared.serving.Went.{Went}
-use Rattle.mail_core.specs.declared.serving.Went.TheVariants.{GoesOn as Going, Ends}
-use Rattle.mail_core.specs.Acts.{Act, Takes, Ticks, Sends, HangsUp, heard_of, readings_of, commands_of}
-use Rattle.mail_core.specs.Events.{IsTaken, IsTakenUp, IsOpened, Steps, Turns, is_well, went_of}
-use Rattle.mail_core.specs.Causes.{EndsSo, HasCause}
-use Rattle.mail_core.specs.Going.{Feeds, way_after, is_onward, is_alive}
-use Rattle.mail_core.specs.Going as going
+use Rattle.mail_core.specs.Effects.{Effect, Takes, Ticks, Sends, HangsUp, heard_of, readings_of, commands_of}
+use Rattle.mail_core.specs.Events.{IsTaken, IsTakenUp, IsOpened, Steps, Turns}
+use Rattle.mail_core.specs.Causes.{EndsSo, HasCause, ending_by, ending_of, is_well}
+use Rattle.mail_core.specs.Going.{Feeds, way_after, is_onward}
 use Rattle.mail_core.specs.Guests.{Guest, newcomer, with_bytes, guest_of, is_here, without, with_guest}
-use Rattle.mail_core.specs.Machine.{Opening, Replied, Dropped, Choices, Way, GoesOn, Leaves, Over, By, Did, all_answered, State, Step, still, most_guests, turned_away, welcomed, opened, brought, pieced, handled, Turn, at_moment, moment_by, stepped, taken}
+use Rattle.mail_core.specs.Machine.{Ending, Stopped, Opening, Replied, Dropped, Choices, Way, GoesOn, Leaves, Over, By, Did, all_answered, State, Step, still, most_guests, turned_away, welcomed, opened, brought, pieced, handled, Turn, at_moment, moment_by, stepped, taken}
 use Rattle.mail_core.specs.Seen.{Seen, seen, Ran}
 use Rattle.mail_core.specs.Standing.{dirs_of, Stores, IsAlone, Hosts, Stands, is_hosted}
 use Rattle.mail_core.proofs.GoingLemmas.{cause_since, way_onward}
@@ -76,14 +73,6 @@ pub empty_at : (site : Site) (o : Option Caller) (guests : List Guest) → false
 empty_at site None guests none h = h
 empty_at site (Some caller) guests none h = absurd (false≢true none)
 
--- how it went for the run has the spool's fault from how it went for the session
-pub well_went : (fed : Fed) (went : Went) → went ≡ went_of fed → is_well went ≡ true → going.is_well fed ≡ true
-well_went Onward went e well = refl
-well_went Granted went e well = refl
-well_went HungUp went e well = refl
-well_went Faulted went e well = sym (ap is_well e) ∙ well
-well_went Spent went e well = refl
-
 -- ---- openings
 
 module _ (site : Site) (m : State) (session : ℕ) (peer : List ℕ) (core : Core) where
@@ -92,7 +81,7 @@ module _ (site : Site) (m : State) (session : ℕ) (peer : List ℕ) (core : Cor
   opens_here f g alone is stands =
       let step = cond-true (is_here session m.guests) (still m) _ (here_is m.guests g session true alone is) in record {
         choice = Dropped;
-        told = subst (λ (s : Step). Gains f.told f.told (heard_of s.acts)) (sym step) (gains_none f.told);
+        told = subst (λ (s : Step). Gains f.told f.told (heard_of s.effects)) (sym step) (gains_none f.told);
         stands = subst (λ (s : Step). Stands site core s.state) (sym step) stands;
       }
 
@@ -106,7 +95,7 @@ module _ (site : Site) (m : State) (session : ℕ) (peer : List ℕ) (core : Cor
   opens_full f now g text whole alone is text_is told stands =
       let step = cond-false (is_here session m.guests) _ _ (here_is m.guests g session false alone is) ∙ cond-true (nat_le most_guests (length m.guests)) (turned_away m session (Replied whole)) _ (full m.guests g alone) in record {
         choice = Replied whole;
-        told = subst (λ (s : Step). Gains f.told now.told (heard_of s.acts)) (sym step) (subst (λ t. Gains f.told now.told (heard_of (Sends session t whole ∷ HangsUp session ∷ []))) text_is told);
+        told = subst (λ (s : Step). Gains f.told now.told (heard_of s.effects)) (sym step) (subst (λ t. Gains f.told now.told (heard_of (Sends session t whole ∷ HangsUp session ∷ []))) text_is told);
         stands = subst (λ (s : Step). Stands site core s.state) (sym step) stands;
       }
 
@@ -123,7 +112,7 @@ module _ (site : Site) (m : State) (session : ℕ) (peer : List ℕ) (core : Cor
   opens_new f now text none text_is told stands =
       let step = new_is (Replied true) none in record {
         choice = Replied true;
-        told = subst (λ (s : Step). Gains f.told now.told (heard_of s.acts)) (sym step) (subst (λ t. Gains f.told now.told (heard_of (Sends session t true ∷ []))) text_is told);
+        told = subst (λ (s : Step). Gains f.told now.told (heard_of s.effects)) (sym step) (subst (λ t. Gains f.told now.told (heard_of (Sends session t true ∷ []))) text_is told);
         stands = subst (λ (s : Step). Stands site core s.state) (sym step) stands;
       }
 
@@ -132,7 +121,7 @@ module _ (site : Site) (m : State) (session : ℕ) (peer : List ℕ) (core : Cor
   opens_unsent f now text none text_is told stands =
       let step = new_is (Replied false) none in record {
         choice = Replied false;
-        told = subst (λ (s : Step). Gains f.told now.told (heard_of s.acts)) (sym step) (subst (λ t. Gains f.told now.told (heard_of (Sends session t false ∷ HangsUp session ∷ []))) text_is told);
+        told = subst (λ (s : Step). Gains f.told now.told (heard_of s.effects)) (sym step) (subst (λ t. Gains f.told now.told (heard_of (Sends session t false ∷ HangsUp session ∷ []))) text_is told);
         stands = subst (λ (s : Step). Stands site core s.state) (sym step) stands;
       }
 
@@ -140,53 +129,45 @@ module _ (site : Site) (m : State) (session : ℕ) (peer : List ℕ) (core : Cor
   opens_lacking f now none told stands =
       let step = new_is Dropped none in record {
         choice = Dropped;
-        told = subst (λ (s : Step). Gains f.told now.told (heard_of s.acts)) (sym step) told;
+        told = subst (λ (s : Step). Gains f.told now.told (heard_of s.effects)) (sym step) told;
         stands = subst (λ (s : Step). Stands site core s.state) (sym step) stands;
       }
 
 -- ---- pieces
 
-went_well : (fed : Fed) → going.is_well fed ≡ is_well (went_of fed)
-went_well Onward = refl
-went_well Granted = refl
-went_well HungUp = refl
-went_well Faulted = refl
-went_well Spent = refl
+-- how an event went, by how its piece did
+abbrev pub act_of : Result Next CoreStop → Result Act CoreStop
+act_of (Ok next) = Ok Went
+act_of (Err stop) = Err stop
+
+well_act : (fed : Result Next CoreStop) → is_well fed ≡ is_well (act_of fed)
+well_act (Ok next) = refl
+well_act (Err stop) = refl
 
 -- the run ended so where the piece did
-went_over : (fed : Fed) (ending : Ending) → went_of fed ≡ Ends ending → way_after fed ≡ Over (By ending)
-went_over Onward ending e = absurd (cc e)
-went_over Granted ending e = absurd (cc e)
-went_over HungUp ending e = absurd (cc e)
-went_over Faulted ending e = let same : SpoolFault ≡ ending = cc e in ap (λ q. Over (By q)) same
-went_over Spent ending e = let same : IdsSpent ≡ ending = cc e in ap (λ q. Over (By q)) same
+over_act : (fed : Result Next CoreStop) (ending : Ending) → ending_of (act_of fed) ≡ Some ending → way_after fed ≡ Over (By ending)
+over_act (Ok next) ending e = absurd (cc e)
+over_act (Err stop) ending e = let same : ending_by stop ≡ ending = cc e in ap (λ q. Over (By q)) same
 
-onward_went : (fed : Fed) → is_onward fed ≡ true → went_of fed ≡ Going
-onward_went Onward on = refl
-onward_went Granted on = refl
-onward_went HungUp on = refl
-onward_went Faulted on = absurd (false≢true on)
-onward_went Spent on = absurd (false≢true on)
+onward_act : (fed : Result Next CoreStop) → is_onward fed ≡ true → act_of fed ≡ Ok Went
+onward_act (Ok next) on = refl
+onward_act (Err stop) on = absurd (false≢true on)
 
-left_way : (fed : Fed) → is_onward fed ≡ false → went_of fed ≡ Going → way_after fed ≡ Leaves
-left_way Onward off e = absurd (false≢true (sym off))
-left_way Granted off e = absurd (false≢true (sym off))
-left_way HungUp off e = refl
-left_way Faulted off e = absurd (cc e)
-left_way Spent off e = absurd (cc e)
+left_way : (fed : Result Next CoreStop) → is_onward fed ≡ false → ending_of (act_of fed) ≡ None → way_after fed ≡ Leaves
+left_way (Ok Continue) off e = absurd (false≢true (sym off))
+left_way (Ok BeginData) off e = absurd (false≢true (sym off))
+left_way (Ok Closed) off e = refl
+left_way (Err stop) off e = absurd (cc e)
 
-going_alive : (fed : Fed) → went_of fed ≡ Going → is_alive fed ≡ true
-going_alive Onward e = refl
-going_alive Granted e = refl
-going_alive HungUp e = refl
-going_alive Faulted e = absurd (cc e)
-going_alive Spent e = absurd (cc e)
+going_alive : (fed : Result Next CoreStop) → ending_of (act_of fed) ≡ None → is_ok fed ≡ true
+going_alive (Ok next) e = refl
+going_alive (Err stop) e = absurd (cc e)
 
--- the acts and the table are those of the piece, however it goes on
-brought_acts : (m : State) (way : Way) (d : Did) → (brought m way d).acts ≡ d.acts
-brought_acts m GoesOn d = refl
-brought_acts m Leaves d = refl
-brought_acts m (Over finish) d = refl
+-- the effects and the table are those of the piece, however it goes on
+brought_effects : (m : State) (way : Way) (d : Did) → (brought m way d).effects ≡ d.effects
+brought_effects m GoesOn d = refl
+brought_effects m Leaves d = refl
+brought_effects m (Over finish) d = refl
 
 brought_table : (m : State) (way : Way) (d : Did) → (brought m way d).state.table ≡ d.table
 brought_table m GoesOn d = refl
@@ -206,17 +187,17 @@ put_one guests g now e is = ap (with_guest now) e ∙ ap (λ (b : Bool). (if b t
 
 module _ (site : Site) (m : State) (session : ℕ) (piece : List ℕ) (core : Core) where
   -- one of a session that isn't open
-  pub piece_dropped : (f : Heard) (s : Spooled) (k : ClockSeen) → guest_of session m.guests ≡ None → Stands site core m → Steps site m (Brings session piece) (seen f s k) (seen f s k) core Going
+  pub piece_dropped : (f : Heard) (s : Spooled) (k : ClockSeen) → guest_of session m.guests ≡ None → Stands site core m → Steps site m (Brings session piece) (seen f s k) (seen f s k) core (Ok Went)
   piece_dropped f s k none stands =
       let step = ap (λ o. pieced site m piece [] o) none in record {
         choices = [];
-        ran = subst (λ (q : Step). Ran (dirs_of site) m.table (seen f s k) (seen f s k) q.acts true) (sym step) (ran_none (dirs_of site) m.table f s k);
+        ran = subst (λ (q : Step). Ran (dirs_of site) m.table (seen f s k) (seen f s k) q.effects true) (sym step) (ran_none (dirs_of site) m.table f s k);
         stands = λ e. subst (λ (q : Step). Stands site core q.state) (sym step) stands;
         ended = λ ending e. absurd (cc e);
       }
 
 module _ (site : Site) (m : State) (session : ℕ) (piece : List ℕ) (a b : Seen) (core : Core) where
-  module _ (g : Guest) (intake : Intake) (caller : Caller) (fed : Fed) (is : guest_of session m.guests ≡ Some g) (alone : m.guests ≡ g ∷ []) (h : Feeds site m.latest m.table g piece a b intake caller fed) where
+  module _ (g : Guest) (intake : Intake) (caller : Caller) (fed : Result Next CoreStop) (is : guest_of session m.guests ≡ Some g) (alone : m.guests ≡ g ∷ []) (h : Feeds site m.latest m.table g piece a b intake caller fed) where
     abbrev did : Did
     did = all_answered site m.latest m.table (with_bytes g piece) h.choices
 
@@ -226,15 +207,15 @@ module _ (site : Site) (m : State) (session : ℕ) (piece : List ℕ) (a b : See
     same_number : nat_eq g.number did.guest.number ≡ true
     same_number = eq-eqb g.number did.guest.number (sym h.number)
 
-    pub piece_steps : ((went_of fed ≡ Going) → Stands site core (brought m (way_after fed) did).state) → Steps site m (Brings session piece) a b core (went_of fed)
+    pub piece_steps : ((ending_of (act_of fed) ≡ None) → Stands site core (brought m (way_after fed) did).state) → Steps site m (Brings session piece) a b core (act_of fed)
     piece_steps stands = record {
       choices = h.choices;
-      ran = subst (λ (q : Step). Ran (dirs_of site) m.table a b q.acts (is_well (went_of fed))) (sym step_is)
-          (subst (λ w. Ran (dirs_of site) m.table a b (brought m (way_after fed) did).acts w) (went_well fed)
-          (subst (λ acts. Ran (dirs_of site) m.table a b acts (going.is_well fed)) (sym (brought_acts m (way_after fed) did)) h.ran));
+      ran = subst (λ (q : Step). Ran (dirs_of site) m.table a b q.effects (is_well (act_of fed))) (sym step_is)
+          (subst (λ w. Ran (dirs_of site) m.table a b (brought m (way_after fed) did).effects w) (well_act fed)
+          (subst (λ effects. Ran (dirs_of site) m.table a b effects (is_well fed)) (sym (brought_effects m (way_after fed) did)) h.ran));
       stands = λ e. subst (λ (q : Step). Stands site core q.state) (sym step_is) (stands e);
       ended = λ ending e.
-          let over = went_over fed ending e in
+          let over = over_act fed ending e in
           subst (λ (q : Step). EndsSo ending (Brings session piece) q.state a b) (sym step_is) (record {
             over = brought_over m (way_after fed) did ending over;
             cause = subst (λ t. HasCause ending (Brings session piece) t a b) (sym (brought_table m (way_after fed) did)) (h.cause ending over (Brings session piece));
@@ -243,9 +224,9 @@ module _ (site : Site) (m : State) (session : ℕ) (piece : List ℕ) (a b : See
 
     -- the session goes on
     pub piece_goes : (other : Core) → is_onward fed ≡ true → Stands site other (record m { guests = [] }) → core ≡ record other { intake = intake; caller = Some caller } → intake.moment ≡ m.latest
-        → Steps site m (Brings session piece) a b core Going
+        → Steps site m (Brings session piece) a b core (Ok Went)
     piece_goes other on old core_is moment =
-        subst (Steps site m (Brings session piece) a b core) (onward_went fed on)
+        subst (Steps site m (Brings session piece) a b core) (onward_act fed on)
         (piece_steps (λ e.
         subst (λ w. Stands site core (brought m w did).state) (sym (way_onward fed on))
         (subst (λ c. Stands site c (record m { table = did.table; guests = with_guest did.guest m.guests })) (sym core_is) (record {
@@ -259,7 +240,7 @@ module _ (site : Site) (m : State) (session : ℕ) (piece : List ℕ) (a b : See
 
     -- the session is over, or the run
     pub piece_leaves : (other : Core) → is_onward fed ≡ false → Stands site other (record m { guests = [] }) → core ≡ record other { intake = intake } → intake.moment ≡ m.latest
-        → Steps site m (Brings session piece) a b core (went_of fed)
+        → Steps site m (Brings session piece) a b core (act_of fed)
     piece_leaves other off old core_is moment = piece_steps (λ e.
         subst (λ w. Stands site core (brought m w did).state) (sym (left_way fed off e))
         (subst (λ c. Stands site c (record m { table = did.table; guests = without did.guest.number m.guests })) (sym core_is) (record {
@@ -273,9 +254,9 @@ module _ (site : Site) (m : State) (session : ℕ) (piece : List ℕ) (a b : See
 
 -- ---- what a turn asks for
 
--- acts of the floor alone
+-- effects of the floor alone
 abbrev IsQuiet : Step → Type 0
-IsQuiet s = (commands_of s.acts ≡ []) × (readings_of s.acts ≡ [])
+IsQuiet s = (commands_of s.effects ≡ []) × (readings_of s.effects ≡ [])
 
 quiet_if : (b : Bool) (x y : Step) → IsQuiet x → IsQuiet y → IsQuiet (if b then x else y)
 quiet_if true x y h k = h
@@ -297,31 +278,31 @@ opened_quiet site m session peer choice =
     (quiet_if (nat_le most_guests (length m.guests)) (turned_away m session choice) (welcomed site m session peer choice) (away_quiet m session choice) (welcomed_quiet site m session peer choice))
 
 -- an opening
-pub opened_steps : (site : Site) (m : State) (session : ℕ) (peer : List ℕ) (f now : Heard) (s : Spooled) (k : ClockSeen) (core : Core) → IsOpened site m session peer f now core → now.faults ≡ f.faults → Steps site m (Opens session peer) (seen f s k) (seen now s k) core Going
+pub opened_steps : (site : Site) (m : State) (session : ℕ) (peer : List ℕ) (f now : Heard) (s : Spooled) (k : ClockSeen) (core : Core) → IsOpened site m session peer f now core → now.faults ≡ f.faults → Steps site m (Opens session peer) (seen f s k) (seen now s k) core (Ok Went)
 opened_steps site m session peer f now s k core h own =
     let step = opened site m session peer h.choice in
     let quiet = opened_quiet site m session peer h.choice in record {
       choices = h.choice;
-      ran = ran_floor (dirs_of site) m.table f now s k step.acts quiet.0 quiet.1 h.told own;
+      ran = ran_floor (dirs_of site) m.table f now s k step.effects quiet.0 quiet.1 h.told own;
       stands = λ e. h.stands;
       ended = λ ending e. absurd (cc e);
     }
 
 -- nothing is asked of the devices, and the run goes on
-pub quiet_steps : (site : Site) (m : State) (event : Event) (choices : Choices event) (f : Heard) (s : Spooled) (k : ClockSeen) (core : Core) → (handled site m event choices).acts ≡ [] → Stands site core (handled site m event choices).state
-    → Steps site m event (seen f s k) (seen f s k) core Going
+pub quiet_steps : (site : Site) (m : State) (event : Event) (choices : Choices event) (f : Heard) (s : Spooled) (k : ClockSeen) (core : Core) → (handled site m event choices).effects ≡ [] → Stands site core (handled site m event choices).state
+    → Steps site m event (seen f s k) (seen f s k) core (Ok Went)
 quiet_steps site m event choices f s k core none stands = record {
   choices = choices;
-  ran = subst (λ acts. Ran (dirs_of site) m.table (seen f s k) (seen f s k) acts true) (sym none) (ran_none (dirs_of site) m.table f s k);
+  ran = subst (λ effects. Ran (dirs_of site) m.table (seen f s k) (seen f s k) effects true) (sym none) (ran_none (dirs_of site) m.table f s k);
   stands = λ e. stands;
   ended = λ ending e. absurd (cc e);
 }
 
-stopped_so : (m : State) (a b : Seen) (ending : Ending) → Ends Stopped ≡ Ends ending → EndsSo ending Stops (record m { over = Some (By Stopped) }) a b
+stopped_so : (m : State) (a b : Seen) (ending : Ending) → Some Stopped ≡ Some ending → EndsSo ending Stops (record m { over = Some (By Stopped) }) a b
 stopped_so m a b ending e = let same : Stopped ≡ ending = cc e in subst (λ q. EndsSo q Stops (record m { over = Some (By Stopped) }) a b) same (record { over = refl; cause = refl })
 
 -- the floor told Stop
-pub stop_steps : (site : Site) (m : State) (f : Heard) (s : Spooled) (k : ClockSeen) (core : Core) → Steps site m Stops (seen f s k) (seen f s k) core (Ends Stopped)
+pub stop_steps : (site : Site) (m : State) (f : Heard) (s : Spooled) (k : ClockSeen) (core : Core) → Steps site m Stops (seen f s k) (seen f s k) core (Ok Ended)
 stop_steps site m f s k core = record {
   choices = tt;
   ran = ran_none (dirs_of site) m.table f s k;
@@ -369,16 +350,16 @@ at_stands site m core intake reading st is range = record {
   on = st.on;
 }
 
-pub turns_of : (site : Site) (m : State) (event : Event) (reading : ℕ) (before f : Heard) (s : Spooled) (clock read : ClockSeen) (b : Seen) (core : Core) (went : Went) → m.over ≡ None → IsTaken before f clock read event reading
+pub turns_of : (site : Site) (m : State) (event : Event) (reading : ℕ) (before f : Heard) (s : Spooled) (clock read : ClockSeen) (b : Seen) (core : Core) (went : Result Act CoreStop) → m.over ≡ None → IsTaken before f clock read event reading
     → Steps site (at_moment m reading) event (seen f s read) b core went → Turns site m event reading (seen before s clock) b core went
 turns_of site m event reading before f s clock read b core went on taken_is h =
     let turn : Turn = record { event = event; reading = reading; choices = h.choices } in
     let inner = handled site (at_moment m reading) event h.choices in
-    let first : List Act = Takes event ∷ Ticks reading ∷ [] in
+    let first : List Effect = Takes event ∷ Ticks reading ∷ [] in
     let is : stepped site m turn ≡ taken turn inner = cond-false (is_some m.over) (still m) (taken turn inner) (ap is_some on) in record {
       choices = h.choices;
-      ran = subst (λ (q : Step). Ran (dirs_of site) m.table (seen before s clock) b q.acts (is_well went)) (sym is)
-          (ran_join (dirs_of site) m.table (seen before s clock) (seen f s read) b first inner.acts (is_well went)
+      ran = subst (λ (q : Step). Ran (dirs_of site) m.table (seen before s clock) b q.effects (is_well went)) (sym is)
+          (ran_join (dirs_of site) m.table (seen before s clock) (seen f s read) b first inner.effects (is_well went)
           (ran_quiet (dirs_of site) m.table before f s clock read first refl taken_is.told taken_is.faults taken_is.clock_told taken_is.readings) h.ran);
       stands = λ e. subst (λ (q : Step). Stands site core q.state) (sym is) (h.stands e);
       ended = λ ending e.

@@ -14,7 +14,7 @@ use Rattle.smtp_receive.specs.Dialogue.{Heard, Exchange, Answer, Says, Greets, G
 use Rattle.smtp_receive.specs.Replies.{text_of, grant_text, hello_text, closing_text, out_of_memory_text, stored_text, shown_host}
 use Rattle.spool_store.specs.Tables.{Table, after, start}
 use Rattle.mail_core.specs.declared.serving.Site.{Site}
-use Rattle.mail_core.specs.Acts.{Act, Takes, Ticks, Commits, Sends, HangsUp, speech}
+use Rattle.mail_core.specs.Effects.{Effect, Takes, Ticks, Commits, Sends, HangsUp, speech}
 use Rattle.mail_core.specs.Guests.{Guest, grant_in, guest_of, is_passed, next_line, with_bytes}
 use Rattle.mail_core.specs.Machine.{Choice, Normal, OutOfMemory, Way, GoesOn, Leaves, Did, way_of, replies, by_choice, heard_line, answered, settled, settled_by, fresh_start, all_answered, State, Step, still, Turn, at_moment, beginning, brought, moment_by, pieced, stepped, taken, followed, run}
 use Rattle.mail_core.specs.Messages.{accept_of, is_spent}
@@ -44,13 +44,13 @@ input line short = record { line = line; short = short }
 
 module _ (site : Site) (moment : ℕ) where
   -- what is done at an answer that is sent whole or not
-  abbrev pub acts_by : ℕ → Table → Answer → Bool → List Act
-  acts_by session table (Says reply) whole = speech session (text_of reply) whole
-  acts_by session table Greets whole = speech session (hello_text (shown_host site.host)) whole
-  acts_by session table Grants whole = speech session grant_text whole
-  acts_by session table Closes whole = Sends session (closing_text (shown_host site.host)) whole ∷ HangsUp session ∷ []
-  acts_by session table (Gives message) whole = Commits (accept_of site moment message) ∷ speech session (stored_text table.next) whole
-  acts_by session table Passes whole = []
+  abbrev pub effects_by : ℕ → Table → Answer → Bool → List Effect
+  effects_by session table (Says reply) whole = speech session (text_of reply) whole
+  effects_by session table Greets whole = speech session (hello_text (shown_host site.host)) whole
+  effects_by session table Grants whole = speech session grant_text whole
+  effects_by session table Closes whole = Sends session (closing_text (shown_host site.host)) whole ∷ HangsUp session ∷ []
+  effects_by session table (Gives message) whole = Commits (accept_of site moment message) ∷ speech session (stored_text table.next) whole
+  effects_by session table Passes whole = []
 
   abbrev pub table_by : Table → Answer → Table
   table_by table (Says reply) = table
@@ -68,23 +68,23 @@ module _ (site : Site) (moment : ℕ) where
   way_by (Gives message) whole = way_of whole
   way_by Passes whole = GoesOn
 
-  abbrev pub so_far : Table → Guest → List Heard → Bool → List Act → Way → Did
-  so_far table guest heard may acts way = record { table = table; guest = with_lines guest heard; may_disconnect = may; acts = acts; way = way }
+  abbrev pub so_far : Table → Guest → List Heard → Bool → List Effect → Way → Did
+  so_far table guest heard may effects way = record { table = table; guest = with_lines guest heard; may_disconnect = may; effects = effects; way = way }
 
   -- what a piece has come to by these choices, and the exchanges of the lines so far
-  pub record Comes (table : Table) (guest : Guest) (choices : List Choice) (now : Table) (heard : List Heard) (before : List Exchange) (acts : List Act) (way : Way) : Type 0 where
+  pub record Comes (table : Table) (guest : Guest) (choices : List Choice) (now : Table) (heard : List Heard) (before : List Exchange) (effects : List Effect) (way : Way) : Type 0 where
     pub may : Bool
     pub known : exchanges guest.peer heard ≡ before
-    pub is : fold (answered site moment) (fresh_start table guest) choices ≡ so_far now guest heard may acts way
+    pub is : fold (answered site moment) (fresh_start table guest) choices ≡ so_far now guest heard may effects way
 
   -- no line was answered
   pub comes_none : (table : Table) (guest : Guest) (before : List Exchange) → exchanges guest.peer guest.heard ≡ before → Comes table guest [] table guest.heard before [] GoesOn
   comes_none table guest before known = record { may = true; known = known; is = refl }
 
-  module _ (table : Table) (guest : Guest) (choices : List Choice) (now : Table) (heard : List Heard) (before : List Exchange) (acts : List Act) (line : Line) (c : Comes table guest choices now heard before acts GoesOn)
+  module _ (table : Table) (guest : Guest) (choices : List Choice) (now : Table) (heard : List Heard) (before : List Exchange) (effects : List Effect) (line : Line) (c : Comes table guest choices now heard before effects GoesOn)
       (next : line_at (length heard) guest.received (grants_by before) ≡ Some line) where
     abbrev here : Did
-    here = so_far now guest heard c.may acts GoesOn
+    here = so_far now guest heard c.may effects GoesOn
 
     next_here : next_line here.guest ≡ Some line
     next_here = ap (λ q. line_at (length heard) guest.received (grants_by q)) c.known ∙ next
@@ -96,7 +96,7 @@ module _ (site : Site) (moment : ℕ) where
         ∙ ap (λ o. by_choice site moment here choice o) next_here
 
     replied : (answer : Answer) (whole : Bool) → is_spent now ≡ false
-        → replies site moment here answer whole ≡ so_far (table_by now answer) guest heard c.may (acts ++ acts_by guest.number now answer whole) (way_by answer whole)
+        → replies site moment here answer whole ≡ so_far (table_by now answer) guest heard c.may (effects ++ effects_by guest.number now answer whole) (way_by answer whole)
     replied (Says reply) whole left = refl
     replied Greets whole left = refl
     replied Grants whole left = refl
@@ -104,17 +104,17 @@ module _ (site : Site) (moment : ℕ) where
     replied (Gives message) whole left =
         cond-false (is_spent now) _ _ left
         ∙ ap (λ q. so_far (after now (accept_of site moment message)) guest heard c.may q (way_of whole))
-        (append_assoc acts (Commits (accept_of site moment message) ∷ []) (speech guest.number (stored_text now.next) whole))
-    replied Passes whole left = ap (λ q. so_far now guest heard c.may q GoesOn) (sym (append-nil acts))
+        (append_assoc effects (Commits (accept_of site moment message) ∷ []) (speech guest.number (stored_text now.next) whole))
+    replied Passes whole left = ap (λ q. so_far now guest heard c.may q GoesOn) (sym (append-nil effects))
 
     heard_more : (h : Heard) → exchanges guest.peer (heard ++ h ∷ []) ≡ with_heard guest.peer before h
     heard_more h = fold_push (with_heard guest.peer) [] heard h ∙ ap (λ b. with_heard guest.peer b h) c.known
 
     -- a line got its answer
     pub comes_more : (answer : Answer) (whole : Bool) → is_spent now ≡ false → answer_to guest.peer before line ≡ answer
-        → Comes table guest (choices ++ Normal whole ∷ []) (table_by now answer) (heard ++ input line false ∷ []) (plain line answer ∷ before) (acts ++ acts_by guest.number now answer whole) (way_by answer whole)
+        → Comes table guest (choices ++ Normal whole ∷ []) (table_by now answer) (heard ++ input line false ∷ []) (plain line answer ∷ before) (effects ++ effects_by guest.number now answer whole) (way_by answer whole)
     comes_more answer whole left is = record {
-      may = (heard_line (so_far (table_by now answer) guest heard c.may (acts ++ acts_by guest.number now answer whole) (way_by answer whole)) line false).may_disconnect;
+      may = (heard_line (so_far (table_by now answer) guest heard c.may (effects ++ effects_by guest.number now answer whole) (way_by answer whole)) line false).may_disconnect;
       known = heard_more (input line false) ∙ ap (λ a. plain line a ∷ before) is;
       is = chosen (Normal whole)
           ∙ ap (λ q. heard_line (replies site moment here (answer_to guest.peer q line) whole) line false) c.known
@@ -124,23 +124,23 @@ module _ (site : Site) (moment : ℕ) where
 
     -- 452 4.3.1 came in place of it
     pub comes_short : (whole : Bool) → is_dropped before line ≡ false
-        → Comes table guest (choices ++ OutOfMemory whole ∷ []) now (heard ++ input line true ∷ []) (lacked line ∷ before) (acts ++ speech guest.number out_of_memory_text whole) (way_of whole)
+        → Comes table guest (choices ++ OutOfMemory whole ∷ []) now (heard ++ input line true ∷ []) (lacked line ∷ before) (effects ++ speech guest.number out_of_memory_text whole) (way_of whole)
     comes_short whole kept = record {
-      may = (heard_line (so_far now guest heard c.may (acts ++ speech guest.number out_of_memory_text whole) (way_of whole)) line true).may_disconnect;
+      may = (heard_line (so_far now guest heard c.may (effects ++ speech guest.number out_of_memory_text whole) (way_of whole)) line true).may_disconnect;
       known = heard_more (input line true) ∙ ap (λ b. record { line = line; answer = if not b then None else Some (answer_to guest.peer before line) } ∷ before) kept;
       is = chosen (OutOfMemory whole) ∙ cond-false (is_passed here.guest line) _ _ (ap (λ b. is_dropped b line) c.known ∙ kept);
     }
 
-  module _ (table now : Table) (guest : Guest) (choices : List Choice) (heard : List Heard) (before : List Exchange) (acts : List Act) where
+  module _ (table now : Table) (guest : Guest) (choices : List Choice) (heard : List Heard) (before : List Exchange) (effects : List Effect) where
     -- the session is over
-    pub all_left : (c : Comes table guest choices now heard before acts Leaves) → all_answered site moment table guest choices ≡ so_far now guest heard c.may acts Leaves
+    pub all_left : (c : Comes table guest choices now heard before effects Leaves) → all_answered site moment table guest choices ≡ so_far now guest heard c.may effects Leaves
     all_left c = ap settled c.is
 
     -- it goes on, and no line is left
-    pub all_kept : (c : Comes table guest choices now heard before acts GoesOn) → line_at (length heard) guest.received (grants_by before) ≡ None → all_answered site moment table guest choices ≡ so_far now guest heard c.may acts GoesOn
+    pub all_kept : (c : Comes table guest choices now heard before effects GoesOn) → line_at (length heard) guest.received (grants_by before) ≡ None → all_answered site moment table guest choices ≡ so_far now guest heard c.may effects GoesOn
     all_kept c none =
         ap settled c.is
-        ∙ ap (λ o. settled_by GoesOn o (so_far now guest heard c.may acts GoesOn))
+        ∙ ap (λ o. settled_by GoesOn o (so_far now guest heard c.may effects GoesOn))
         (ap (λ q. line_at (length heard) guest.received (grants_by q)) c.known ∙ none)
 
 -- a piece of the session of a number
@@ -168,15 +168,15 @@ are_within place grants received [] = true
 are_within place grants received (b ∷ bytes) = is_none (line_at place (received ++ b ∷ []) grants) && are_within place grants (received ++ b ∷ []) bytes
 
 -- what is sent and asked for of all that is done
-abbrev pub answers_in : Act → List Act
+abbrev pub answers_in : Effect → List Effect
 answers_in (Takes event) = []
 answers_in (Ticks reading) = []
 answers_in (Commits command) = Commits command ∷ []
 answers_in (Sends session text whole) = Sends session text whole ∷ []
 answers_in (HangsUp session) = HangsUp session ∷ []
 
-abbrev pub answers_of : List Act → List Act
-answers_of acts = flat_map answers_in acts
+abbrev pub answers_of : List Effect → List Effect
+answers_of effects = flat_map answers_in effects
 
 none_is : (o : Option Line) → is_none o ≡ true → o ≡ None
 none_is None is = refl
@@ -198,27 +198,27 @@ module _ (site : Site) (peer : List ℕ) (reading : ℕ) (latest : ℕ) (same : 
   byte_turn b choices = piece 1 (b ∷ []) reading choices
 
   -- by some choices, this is what these bytes have come to, one after the other
-  pub record Talks (bytes : List ℕ) (table : Table) (heard : List Heard) (before : List Exchange) (acts : List Act) : Type 0 where
+  pub record Talks (bytes : List ℕ) (table : Table) (heard : List Heard) (before : List Exchange) (effects : List Effect) : Type 0 where
     pub turns : List Turn
     pub events : map (λ (t : Turn). t.event) turns ≡ Opens 1 peer ∷ map one bytes
-    pub done : List Act
-    pub is : run site (beginning start) turns ≡ record { state = alone table bytes heard; acts = done }
-    pub answers : answers_of done ≡ acts
+    pub done : List Effect
+    pub is : run site (beginning start) turns ≡ record { state = alone table bytes heard; effects = done }
+    pub answers : answers_of done ≡ effects
     pub known : exchanges peer heard ≡ before
 
-  module _ (bytes : List ℕ) (table : Table) (heard : List Heard) (before : List Exchange) (acts : List Act) (t : Talks bytes table heard before acts) (b : ℕ) where
+  module _ (bytes : List ℕ) (table : Table) (heard : List Heard) (before : List Exchange) (effects : List Effect) (t : Talks bytes table heard before effects) (b : ℕ) where
     abbrev now : List ℕ
     now = bytes ++ b ∷ []
 
     -- one byte more
     turn_more : (choices : List Choice) (d : Did) → all_answered site latest table (caller now heard) choices ≡ d
-        → run site (beginning start) (t.turns ++ byte_turn b choices ∷ []) ≡ followed (record { state = alone table bytes heard; acts = t.done }) (taken (byte_turn b choices) (brought (alone table bytes heard) d.way d))
+        → run site (beginning start) (t.turns ++ byte_turn b choices ∷ []) ≡ followed (record { state = alone table bytes heard; effects = t.done }) (taken (byte_turn b choices) (brought (alone table bytes heard) d.way d))
     turn_more choices d all =
         let m = alone table bytes heard in
         let at : at_moment m reading ≡ m = ap (λ n. record m { latest = n }) same in
         run_more site (beginning start) t.turns (byte_turn b choices)
         ∙ ap (λ (s : Step). followed s (stepped site s.state (byte_turn b choices))) t.is
-        ∙ ap (λ (s : Step). followed (record { state = m; acts = t.done }) s)
+        ∙ ap (λ (s : Step). followed (record { state = m; effects = t.done }) s)
         (piece_turn site m 1 (caller bytes heard) (b ∷ []) reading choices d refl refl (ap (λ n. all_answered site n table (caller now heard) choices) same ∙ all)
         ∙ ap (λ q. taken (byte_turn b choices) (brought q d.way d)) at)
 
@@ -228,51 +228,53 @@ module _ (site : Site) (peer : List ℕ) (reading : ℕ) (latest : ℕ) (same : 
         ∙ ap (λ q. q ++ one b ∷ []) t.events
         ∙ ap (λ q. Opens 1 peer ∷ q) (sym (map-append one bytes (b ∷ [])))
 
-    answers_more : (more : List Act) → answers_of (t.done ++ Takes (one b) ∷ Ticks reading ∷ more) ≡ acts ++ answers_of more
+    answers_more : (more : List Effect) → answers_of (t.done ++ Takes (one b) ∷ Ticks reading ∷ more) ≡ effects ++ answers_of more
     answers_more more = flat_map-append answers_in t.done (Takes (one b) ∷ Ticks reading ∷ more) ∙ ap (λ q. q ++ answers_of more) t.answers
 
     -- it completes no line
-    pub talks_byte : line_at (length heard) now (grants_by before) ≡ None → Talks now table heard before acts
+    pub talks_byte : line_at (length heard) now (grants_by before) ≡ None → Talks now table heard before effects
     talks_byte none =
         let c = comes_none site latest table (caller now heard) before t.known in record {
           turns = t.turns ++ byte_turn b [] ∷ [];
           events = events_more [];
           done = t.done ++ Takes (one b) ∷ Ticks reading ∷ [];
           is = turn_more [] _ (all_kept site latest table table (caller now heard) [] heard before [] c none);
-          answers = answers_more [] ∙ append-nil acts;
+          answers = answers_more [] ∙ append-nil effects;
           known = t.known;
         }
 
     -- it completes one, which gets its answer
     pub talks_line : (line : Line) (answer : Answer) → line_at (length heard) now (grants_by before) ≡ Some line → is_spent table ≡ false → answer_to peer before line ≡ answer
         → way_by site latest answer true ≡ GoesOn → line_at (length (heard ++ input line false ∷ [])) now (grants_by (plain line answer ∷ before)) ≡ None
-        → Talks now (table_by site latest table answer) (heard ++ input line false ∷ []) (plain line answer ∷ before) (acts ++ answers_of (acts_by site latest 1 table answer true))
+        → Talks now (table_by site latest table answer) (heard ++ input line false ∷ []) (plain line answer ∷ before) (effects ++ answers_of (effects_by site latest 1 table answer true))
     talks_line line answer next left is on none =
         let c = comes_more site latest table (caller now heard) [] table heard before [] line (comes_none site latest table (caller now heard) before t.known) next answer true left is in
-        let went = subst (λ w. Comes site latest table (caller now heard) (Normal true ∷ []) (table_by site latest table answer) (heard ++ input line false ∷ []) (plain line answer ∷ before) (acts_by site latest 1 table answer true) w) on c in record {
+        let went = subst (λ w. Comes site latest table (caller now heard) (Normal true ∷ []) (table_by site latest table answer) (heard ++ input line false ∷ []) (plain line answer ∷ before) (effects_by site latest 1 table answer true) w) on c in record {
           turns = t.turns ++ byte_turn b (Normal true ∷ []) ∷ [];
           events = events_more (Normal true ∷ []);
-          done = t.done ++ Takes (one b) ∷ Ticks reading ∷ acts_by site latest 1 table answer true;
-          is = turn_more (Normal true ∷ []) _ (all_kept site latest table (table_by site latest table answer) (caller now heard) (Normal true ∷ []) (heard ++ input line false ∷ []) (plain line answer ∷ before) (acts_by site latest 1 table answer true) went none);
-          answers = answers_more (acts_by site latest 1 table answer true);
+          done = t.done ++ Takes (one b) ∷ Ticks reading ∷ effects_by site latest 1 table answer true;
+          is = turn_more (Normal true ∷ []) _ (all_kept site latest table (table_by site latest table answer) (caller now heard) (Normal true ∷ []) (heard ++ input line false ∷ []) (plain line answer ∷ before) (effects_by site latest 1 table answer true) went none);
+          answers = answers_more (effects_by site latest 1 table answer true);
           known = went.known;
         }
 
     -- it completes the last one, which ends the session
     pub talks_last : (line : Line) (answer : Answer) → line_at (length heard) now (grants_by before) ≡ Some line → is_spent table ≡ false → answer_to peer before line ≡ answer → way_by site latest answer true ≡ Leaves
-        → (turns : List Turn) × (map (λ (q : Turn). q.event) turns ≡ Opens 1 peer ∷ map one now) × (answers_of (run site (beginning start) turns).acts ≡ acts ++ answers_of (acts_by site latest 1 table answer true))
+        → (turns : List Turn) × (map (λ (q : Turn). q.event) turns ≡ Opens 1 peer ∷ map one now) × (answers_of (run site (beginning start) turns).effects ≡ effects ++ answers_of (effects_by site latest 1 table answer true))
     talks_last line answer next left is off =
         let c = comes_more site latest table (caller now heard) [] table heard before [] line (comes_none site latest table (caller now heard) before t.known) next answer true left is in
-        let went = subst (λ w. Comes site latest table (caller now heard) (Normal true ∷ []) (table_by site latest table answer) (heard ++ input line false ∷ []) (plain line answer ∷ before) (acts_by site latest 1 table answer true) w) off c in
-        (t.turns ++ byte_turn b (Normal true ∷ []) ∷ [], events_more (Normal true ∷ []),
-        ap (λ (s : Step). answers_of s.acts) (turn_more (Normal true ∷ []) _ (all_left site latest table (table_by site latest table answer) (caller now heard) (Normal true ∷ []) (heard ++ input line false ∷ []) (plain line answer ∷ before) (acts_by site latest 1 table answer true) went))
-        ∙ answers_more (acts_by site latest 1 table answer true))
+        let went = subst (λ w. Comes site latest table (caller now heard) (Normal true ∷ []) (table_by site latest table answer) (heard ++ input line false ∷ []) (plain line answer ∷ before) (effects_by site latest 1 table answer true) w) off c in (
+          t.turns ++ byte_turn b (Normal true ∷ []) ∷ [],
+          events_more (Normal true ∷ []),
+          ap (λ (s : Step). answers_of s.effects) (turn_more (Normal true ∷ []) _ (all_left site latest table (table_by site latest table answer) (caller now heard) (Normal true ∷ []) (heard ++ input line false ∷ []) (plain line answer ∷ before) (effects_by site latest 1 table answer true) went))
+              ∙ answers_more (effects_by site latest 1 table answer true),
+        )
 
   -- bytes within a line
-  pub talks_within : (bytes more : List ℕ) (table : Table) (heard : List Heard) (before : List Exchange) (acts : List Act) → Talks bytes table heard before acts → are_within (length heard) (grants_by before) bytes more ≡ true
-      → Talks (bytes ++ more) table heard before acts
-  talks_within bytes [] table heard before acts t within = subst (λ q. Talks q table heard before acts) (sym (append-nil bytes)) t
-  talks_within bytes (b ∷ more) table heard before acts t within =
+  pub talks_within : (bytes more : List ℕ) (table : Table) (heard : List Heard) (before : List Exchange) (effects : List Effect) → Talks bytes table heard before effects → are_within (length heard) (grants_by before) bytes more ≡ true
+      → Talks (bytes ++ more) table heard before effects
+  talks_within bytes [] table heard before effects t within = subst (λ q. Talks q table heard before effects) (sym (append-nil bytes)) t
+  talks_within bytes (b ∷ more) table heard before effects t within =
       let parts = and_parts _ _ within in
-      subst (λ q. Talks q table heard before acts) (append_assoc bytes (b ∷ []) more)
-      (talks_within (bytes ++ b ∷ []) more table heard before acts (talks_byte bytes table heard before acts t b (none_is _ parts.0)) parts.1)
+      subst (λ q. Talks q table heard before effects) (append_assoc bytes (b ∷ []) more)
+      (talks_within (bytes ++ b ∷ []) more table heard before effects (talks_byte bytes table heard before effects t b (none_is _ parts.0)) parts.1)

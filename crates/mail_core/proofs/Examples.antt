@@ -10,13 +10,12 @@ use Rattle.smtp_receive.specs.Replies.{shown_host}
 use Rattle.smtp_receive.specs.Splits.{is_large_block, is_too_large}
 use Rattle.smtp_receive.proofs.Examples.{peer, helo, mail, rcpt, data_line, subject, body, quit, message, begun, given, granted, taken as whole}
 use Rattle.spool_store.specs.Tables.{Table, after, start}
-use Rattle.mail_core.specs.declared.serving.Ending.TheVariants.{Stopped}
 use Rattle.mail_core.specs.declared.serving.Site.{Site}
-use Rattle.mail_core.specs.Acts.{Act, Takes, Ticks, Commits, Sends, HangsUp}
+use Rattle.mail_core.specs.Effects.{Effect, Takes, Ticks, Commits, Sends, HangsUp}
 use Rattle.mail_core.specs.Guests.{Guest, newcomer}
-use Rattle.mail_core.specs.Machine.{By, Choice, Normal, OutOfMemory, Replied, GoesOn, Leaves, State, Step, Turn, beginning, followed, last_moment, moment_by, most_guests, run}
+use Rattle.mail_core.specs.Machine.{Stopped, By, Choice, Normal, OutOfMemory, Replied, GoesOn, Leaves, State, Step, Turn, beginning, followed, last_moment, moment_by, most_guests, run}
 use Rattle.mail_core.specs.Messages.{accept_of, is_spent, last_id}
-use Rattle.mail_core.proofs.ExampleLemmas.{Comes, Talks, acts_by, all_left, answers_of, are_within, comes_more, comes_none, comes_short, grants_by, input, lacked, line_at, one, piece, piece_turn, plain, run_first, so_far, table_by, talks_last, talks_line, talks_within, way_by}
+use Rattle.mail_core.proofs.ExampleLemmas.{Comes, Talks, effects_by, all_left, answers_of, are_within, comes_more, comes_none, comes_short, grants_by, input, lacked, line_at, one, piece, piece_turn, plain, run_first, so_far, table_by, talks_last, talks_line, talks_within, way_by}
 
 abbrev site : Site
 site = record { host = codes "localhost"; dir = codes "/q" }
@@ -43,14 +42,14 @@ guest = record { number = 1; peer = peer; received = sent; heard = [] }
 abbrev kept : Choice
 kept = Normal true
 
-abbrev hello : List Act
+abbrev hello : List Effect
 hello = Sends 1 (codes "250 localhost Hello\r\n") true ∷ []
 
-abbrev given_acts : List Act
-given_acts = hello ++ Sends 1 (codes "250 2.1.0 Sender ok\r\n") true ∷ Sends 1 (codes "250 2.1.5 Recipient ok\r\n") true ∷ Sends 1 (codes "354 Enter mail, end with " ++ 34 ∷ 46 ∷ 34 ∷ codes " on a line by itself\r\n") true ∷ []
+abbrev given_effects : List Effect
+given_effects = hello ++ Sends 1 (codes "250 2.1.0 Sender ok\r\n") true ∷ Sends 1 (codes "250 2.1.5 Recipient ok\r\n") true ∷ Sends 1 (codes "354 Enter mail, end with " ++ 34 ∷ 46 ∷ 34 ∷ codes " on a line by itself\r\n") true ∷ []
 
 -- up to the first line of the message
-begins : Comes site 5 start guest (kept ∷ kept ∷ kept ∷ kept ∷ kept ∷ []) start begun granted given_acts GoesOn
+begins : Comes site 5 start guest (kept ∷ kept ∷ kept ∷ kept ∷ kept ∷ []) start begun granted given_effects GoesOn
 unfolding most_command most_message most_path most_local_part most_domain shown_host last_id
 begins =
     let one = comes_more site 5 start guest [] start [] [] [] helo (comes_none site 5 start guest [] refl) refl Greets true refl refl in
@@ -66,7 +65,7 @@ given_lines = begun ++ input (Data []) false ∷ input body false ∷ []
 abbrev data_choices : List Choice
 data_choices = kept ∷ kept ∷ kept ∷ kept ∷ kept ∷ kept ∷ kept ∷ []
 
-up_to_the_dot : Comes site 5 start guest data_choices start given_lines whole given_acts GoesOn
+up_to_the_dot : Comes site 5 start guest data_choices start given_lines whole given_effects GoesOn
 unfolding most_command most_message most_path most_local_part most_domain shown_host last_id
 up_to_the_dot =
     let six = comes_more site 5 start guest _ start _ _ _ (Data []) begins refl Passes true refl refl in
@@ -75,12 +74,12 @@ up_to_the_dot =
 abbrev stored_now : Table
 stored_now = after start (accept_of site 5 message)
 
-abbrev closing : List Act
+abbrev closing : List Effect
 closing = Sends 1 (codes "221 2.0.0 localhost closing connection\r\n") true ∷ HangsUp 1 ∷ []
 
 -- the whole session, in one piece
 plain_piece : Comes site 5 start guest (data_choices ++ kept ∷ kept ∷ []) stored_now (given_lines ++ input DataEnd false ∷ input quit false ∷ []) (plain quit Closes ∷ plain DataEnd (Gives message) ∷ whole)
-    (given_acts ++ Commits (accept_of site 5 message) ∷ Sends 1 (codes "250 2.0.0 w000000000001 Message accepted for delivery\r\n") true ∷ closing) Leaves
+    (given_effects ++ Commits (accept_of site 5 message) ∷ Sends 1 (codes "250 2.0.0 w000000000001 Message accepted for delivery\r\n") true ∷ closing) Leaves
 unfolding digits is_too_large is_large_block most_command most_message most_headers most_path most_local_part most_domain shown_host last_id
 plain_piece =
     let dot = comes_more site 5 start guest _ start _ _ _ DataEnd up_to_the_dot refl (Gives message) true refl refl in
@@ -96,40 +95,40 @@ stops = record { event = Stops; reading = 5; choices = tt }
 abbrev open_state : State
 open_state = record { table = start; guests = newcomer 1 peer ∷ []; latest = 5; over = None }
 
-abbrev greeting : List Act
+abbrev greeting : List Effect
 greeting = Takes (Opens 1 peer) ∷ Ticks 5 ∷ Sends 1 (codes "220 localhost ESMTP ready\r\n") true ∷ []
 
 abbrev greeted : Step
-greeted = record { state = open_state; acts = greeting }
+greeted = record { state = open_state; effects = greeting }
 
 -- it brings all in one piece, and is over
 abbrev left_state : Table → State
 left_state table = record { table = table; guests = []; latest = 5; over = None }
 
-abbrev served : Table → List Act → Step
-served table acts = record { state = left_state table; acts = Takes (Brings 1 sent) ∷ Ticks 5 ∷ acts }
+abbrev served : Table → List Effect → Step
+served table effects = record { state = left_state table; effects = Takes (Brings 1 sent) ∷ Ticks 5 ∷ effects }
 
-session_by : (choices : List Choice) (now : Table) (heard : List Heard) (before : List Exchange) (acts : List Act) (turns : List Turn) (later : Step) → Comes site 5 start guest choices now heard before acts Leaves
-    → run site (left_state now) turns ≡ later → run site (beginning start) (opens ∷ piece 1 sent 5 choices ∷ turns) ≡ followed greeted (followed (served now acts) later)
+session_by : (choices : List Choice) (now : Table) (heard : List Heard) (before : List Exchange) (effects : List Effect) (turns : List Turn) (later : Step) → Comes site 5 start guest choices now heard before effects Leaves
+    → run site (left_state now) turns ≡ later → run site (beginning start) (opens ∷ piece 1 sent 5 choices ∷ turns) ≡ followed greeted (followed (served now effects) later)
 unfolding most_guests last_moment most_domain shown_host
-session_by choices now heard before acts turns later c rest =
-    run_first site (beginning start) opens (piece 1 sent 5 choices ∷ turns) greeted (followed (served now acts) later) refl
-    (run_first site open_state (piece 1 sent 5 choices) turns (served now acts) later
-    (piece_turn site open_state 1 (newcomer 1 peer) sent 5 choices (so_far site 5 now guest heard c.may acts Leaves) refl refl (all_left site 5 start now guest choices heard before acts c))
+session_by choices now heard before effects turns later c rest =
+    run_first site (beginning start) opens (piece 1 sent 5 choices ∷ turns) greeted (followed (served now effects) later) refl
+    (run_first site open_state (piece 1 sent 5 choices) turns (served now effects) later
+    (piece_turn site open_state 1 (newcomer 1 peer) sent 5 choices (so_far site 5 now guest heard c.may effects Leaves) refl refl (all_left site 5 start now guest choices heard before effects c))
     rest)
 
 -- the message is in the table before its 250 is sent
 plain_session : run site (beginning start) (opens ∷ piece 1 sent 5 (data_choices ++ kept ∷ kept ∷ []) ∷ stops ∷ []) ≡ record {
   state = record { table = stored_now; guests = []; latest = 5; over = Some (By Stopped) };
-  acts = greeting ++ Takes (Brings 1 sent) ∷ Ticks 5 ∷ (given_acts ++ Commits (accept_of site 5 message) ∷ Sends 1 (codes "250 2.0.0 w000000000001 Message accepted for delivery\r\n") true ∷ closing) ++ Takes Stops ∷ Ticks 5 ∷ [];
+  effects = greeting ++ Takes (Brings 1 sent) ∷ Ticks 5 ∷ (given_effects ++ Commits (accept_of site 5 message) ∷ Sends 1 (codes "250 2.0.0 w000000000001 Message accepted for delivery\r\n") true ∷ closing) ++ Takes Stops ∷ Ticks 5 ∷ [];
 }
 unfolding last_moment
 plain_session =
-    session_by _ _ _ _ _ (stops ∷ []) (record { state = record (left_state stored_now) { over = Some (By Stopped) }; acts = Takes Stops ∷ Ticks 5 ∷ [] }) plain_piece refl
+    session_by _ _ _ _ _ (stops ∷ []) (record { state = record (left_state stored_now) { over = Some (By Stopped) }; effects = Takes Stops ∷ Ticks 5 ∷ [] }) plain_piece refl
 
 -- 452 4.3.1 at the dot: nothing is stored, the transaction is over, and the session goes on
 lacking_piece : Comes site 5 start guest (data_choices ++ OutOfMemory true ∷ kept ∷ []) start (given_lines ++ input DataEnd true ∷ input quit false ∷ []) (plain quit Closes ∷ lacked DataEnd ∷ whole)
-    (given_acts ++ Sends 1 (codes "452 4.3.1 Out of memory\r\n") true ∷ closing) Leaves
+    (given_effects ++ Sends 1 (codes "452 4.3.1 Out of memory\r\n") true ∷ closing) Leaves
 unfolding most_command most_message most_path most_local_part most_domain shown_host last_id
 lacking_piece =
     let dot = comes_short site 5 start guest _ start _ _ _ DataEnd up_to_the_dot refl true refl in
@@ -137,9 +136,9 @@ lacking_piece =
 
 memory_is_wanting_at_the_dot : run site (beginning start) (opens ∷ piece 1 sent 5 (data_choices ++ OutOfMemory true ∷ kept ∷ []) ∷ []) ≡ record {
   state = record { table = start; guests = []; latest = 5; over = None };
-  acts = greeting ++ Takes (Brings 1 sent) ∷ Ticks 5 ∷ given_acts ++ Sends 1 (codes "452 4.3.1 Out of memory\r\n") true ∷ closing;
+  effects = greeting ++ Takes (Brings 1 sent) ∷ Ticks 5 ∷ given_effects ++ Sends 1 (codes "452 4.3.1 Out of memory\r\n") true ∷ closing;
 }
-memory_is_wanting_at_the_dot = session_by _ _ _ _ _ [] (record { state = left_state start; acts = [] }) lacking_piece refl
+memory_is_wanting_at_the_dot = session_by _ _ _ _ _ [] (record { state = left_state start; effects = [] }) lacking_piece refl
 
 -- the reply to MAIL isn't sent whole: the session is hung up, and the rest of its piece is dropped
 lost_piece : Comes site 5 start guest (kept ∷ Normal false ∷ []) start (input helo false ∷ input mail false ∷ []) (plain mail sender_ok ∷ plain helo Greets ∷ [])
@@ -151,9 +150,9 @@ lost_piece =
 
 a_send_fails : run site (beginning start) (opens ∷ piece 1 sent 5 (kept ∷ Normal false ∷ []) ∷ []) ≡ record {
   state = record { table = start; guests = []; latest = 5; over = None };
-  acts = greeting ++ Takes (Brings 1 sent) ∷ Ticks 5 ∷ hello ++ Sends 1 (codes "250 2.1.0 Sender ok\r\n") false ∷ HangsUp 1 ∷ [];
+  effects = greeting ++ Takes (Brings 1 sent) ∷ Ticks 5 ∷ hello ++ Sends 1 (codes "250 2.1.0 Sender ok\r\n") false ∷ HangsUp 1 ∷ [];
 }
-a_send_fails = session_by _ _ _ _ _ [] (record { state = left_state start; acts = [] }) lost_piece refl
+a_send_fails = session_by _ _ _ _ _ [] (record { state = left_state start; effects = [] }) lost_piece refl
 
 -- ---- byte by byte
 
@@ -161,29 +160,29 @@ same_moment : moment_by 5 5 ≡ 5
 unfolding last_moment
 same_moment = refl
 
-abbrev Bytes : List ℕ → Table → List Heard → List Exchange → List Act → Type 0
-Bytes bytes table heard before acts = Talks site peer 5 5 same_moment bytes table heard before acts
+abbrev Bytes : List ℕ → Table → List Heard → List Exchange → List Effect → Type 0
+Bytes bytes table heard before effects = Talks site peer 5 5 same_moment bytes table heard before effects
 
-abbrev first_acts : List Act
-first_acts = Sends 1 (codes "220 localhost ESMTP ready\r\n") true ∷ []
+abbrev first_effects : List Effect
+first_effects = Sends 1 (codes "220 localhost ESMTP ready\r\n") true ∷ []
 
-opening : Bytes [] start [] [] first_acts
+opening : Bytes [] start [] [] first_effects
 unfolding most_guests last_moment most_domain shown_host
 opening = record { turns = opens ∷ []; events = refl; done = greeting; is = refl; answers = refl; known = refl }
 
 -- the bytes of a line, and the LF that ends it
-line_of : (bytes more : List ℕ) (table : Table) (heard : List Heard) (before : List Exchange) (acts : List Act) → Bytes bytes table heard before acts → (line : Line) (answer : Answer) → are_within (length heard) (grants_by before) bytes more ≡ true
+line_of : (bytes more : List ℕ) (table : Table) (heard : List Heard) (before : List Exchange) (effects : List Effect) → Bytes bytes table heard before effects → (line : Line) (answer : Answer) → are_within (length heard) (grants_by before) bytes more ≡ true
     → line_at (length heard) ((bytes ++ more) ++ 10 ∷ []) (grants_by before) ≡ Some line → is_spent table ≡ false → answer_to peer before line ≡ answer → way_by site 5 answer true ≡ GoesOn
     → line_at (length (heard ++ input line false ∷ [])) ((bytes ++ more) ++ 10 ∷ []) (grants_by (plain line answer ∷ before)) ≡ None
-    → Bytes ((bytes ++ more) ++ 10 ∷ []) (table_by site 5 table answer) (heard ++ input line false ∷ []) (plain line answer ∷ before) (acts ++ answers_of (acts_by site 5 1 table answer true))
-line_of bytes more table heard before acts t line answer within next left is on none =
-    talks_line site peer 5 5 same_moment (bytes ++ more) table heard before acts (talks_within site peer 5 5 same_moment bytes more table heard before acts t within) 10 line answer next left is on none
+    → Bytes ((bytes ++ more) ++ 10 ∷ []) (table_by site 5 table answer) (heard ++ input line false ∷ []) (plain line answer ∷ before) (effects ++ answers_of (effects_by site 5 1 table answer true))
+line_of bytes more table heard before effects t line answer within next left is on none =
+    talks_line site peer 5 5 same_moment (bytes ++ more) table heard before effects (talks_within site peer 5 5 same_moment bytes more table heard before effects t within) 10 line answer next left is on none
 
 by_bytes_to_the_dot : Bytes (codes "HELO c.example\r\nMAIL FROM:<bob@c.example>\r\nRCPT TO:<ann@mx.example>\r\nDATA\r\nSubject: hi\r\n\r\nhello\r\n.\r\n") stored_now (given_lines ++ input DataEnd false ∷ []) (plain DataEnd (Gives message) ∷ whole)
-    (first_acts ++ given_acts ++ Commits (accept_of site 5 message) ∷ Sends 1 (codes "250 2.0.0 w000000000001 Message accepted for delivery\r\n") true ∷ [])
+    (first_effects ++ given_effects ++ Commits (accept_of site 5 message) ∷ Sends 1 (codes "250 2.0.0 w000000000001 Message accepted for delivery\r\n") true ∷ [])
 unfolding digits is_too_large is_large_block most_command most_message most_headers most_path most_local_part most_domain shown_host last_id
 by_bytes_to_the_dot =
-    let one = line_of [] (codes "HELO c.example\r") start [] [] first_acts opening helo Greets refl refl refl refl refl refl in
+    let one = line_of [] (codes "HELO c.example\r") start [] [] first_effects opening helo Greets refl refl refl refl refl refl in
     let two = line_of _ (codes "MAIL FROM:<bob@c.example>\r") start _ _ _ one mail sender_ok refl refl refl refl refl refl in
     let three = line_of _ (codes "RCPT TO:<ann@mx.example>\r") start _ _ _ two rcpt recipient_ok refl refl refl refl refl refl in
     let four = line_of _ (codes "DATA\r") start _ _ _ three data_line Grants refl refl refl refl refl refl in
@@ -194,7 +193,7 @@ by_bytes_to_the_dot =
 
 -- the same is sent and stored as by one piece
 by_bytes : (turns : List Turn) × (map (λ (t : Turn). t.event) turns ≡ Opens 1 peer ∷ map one sent)
-    × (answers_of (run site (beginning start) turns).acts ≡ first_acts ++ given_acts ++ Commits (accept_of site 5 message) ∷ Sends 1 (codes "250 2.0.0 w000000000001 Message accepted for delivery\r\n") true ∷ closing)
+    × (answers_of (run site (beginning start) turns).effects ≡ first_effects ++ given_effects ++ Commits (accept_of site 5 message) ∷ Sends 1 (codes "250 2.0.0 w000000000001 Message accepted for delivery\r\n") true ∷ closing)
 unfolding most_command most_message most_domain shown_host last_id most_path most_local_part
 by_bytes =
     let t = talks_within site peer 5 5 same_moment _ (codes "QUIT\r") stored_now _ _ _ by_bytes_to_the_dot refl in

@@ -1,6 +1,6 @@
 -- Lines are answered in turn, and pieces are fed.
 use Rattle.std.proofs.Common.{◌≡◌, ℕ, suc, ◌+◌, ◌<◌, ◌≤◌, List, [], ◌∷◌, ◌++◌, length, take, drop, get_or, map, slice_get, Bool, true, false, Option, Some, None, refl, sym, ◌∙◌, ap, subst, arith, append_assoc, length-append}
-use Rattle.std.specs.Prelude.{◌≢◌, if◌then◌else◌}
+use Rattle.std.specs.Prelude.{Result, Ok, Err, is_ok, ◌≢◌, if◌then◌else◌}
 use Rattle.std.specs.List.{list_any}
 use Rattle.std.proofs.lemmas.Bool.{cond-true, lt-ltb, or_parts, false≢true}
 use Rattle.std.proofs.lemmas.List.{append-nil, take_more, take_all, take-append-drop}
@@ -12,7 +12,7 @@ use Rattle.link_edge.specs.Heard.{Heard as FloorHeard}
 use Rattle.smtp_lines.specs.declared.line.Line.{Line}
 use Rattle.smtp_lines.specs.declared.line.Mode.TheVariants.{Commands}
 use Rattle.smtp_lines.specs.Stream.{asks, Reading, reading_by, reading_of}
-use Rattle.smtp_lines.specs.Reader.{Reader, Stream, Stands as Reads, StandsFirst, OnlyLastAsks, HasGrants, Gives, asked_after, awaited, received, given, granted, refused}
+use Rattle.smtp_lines.specs.Reader.{Reader, Stream, Stands as Reads, StandsFirst, OnlyLastAsks, HasGrants, Gives, asked_after, received, given, granted, refused}
 use Rattle.smtp_lines.specs.Runs.{granted_by as turned_by}
 use Rattle.smtp_lines.proofs.GivenLemmas.{after_given, after_grant, after_refusal, only_last, told_first_now, told_all_now, waiting_first}
 use Rattle.smtp_lines.proofs.ReadLemmas.{asked_after-push}
@@ -23,13 +23,14 @@ use Rattle.smtp_receive.specs.Sessions.{Stands as Speaks}
 use Rattle.spool_disk.specs.Spooled.{Spooled}
 use Rattle.spool_store.specs.Tables.{Table}
 use Rattle.mail_core.specs.declared.caller.Caller.{Caller}
-use Rattle.mail_core.specs.declared.fed.Fed.{Fed}
-use Rattle.mail_core.specs.declared.fed.Fed.TheVariants.{GoesOn as Onward, Granted, HungUp, Faulted, Spent}
+use Rattle.mail_core.specs.declared.next.Next.{Next}
+use Rattle.mail_core.specs.declared.next.Next.TheVariants.{Continue, BeginData, Closed}
+use Rattle.mail_core.specs.declared.serving.CoreStop.{CoreStop}
 use Rattle.mail_core.specs.declared.intake.Intake.{Intake}
 use Rattle.mail_core.specs.declared.serving.Site.{Site}
-use Rattle.mail_core.specs.Acts.{HangsUp, heard_of}
-use Rattle.mail_core.specs.Causes.{HasCause}
-use Rattle.mail_core.specs.Going.{Does, Hears, AnswersLine, AnswersLines, Feeds, granted_by, is_alive, is_granted, is_onward, is_well, reached, way_after}
+use Rattle.mail_core.specs.Effects.{HangsUp, heard_of}
+use Rattle.mail_core.specs.Causes.{HasCause, is_well}
+use Rattle.mail_core.specs.Going.{Does, Hears, AnswersLine, AnswersLines, Feeds, granted_by, is_granted, is_onward, reached, way_after}
 use Rattle.mail_core.specs.Guests.{Guest, bytes_left, has_bytes_left, grants_of, lines_of, next_line, with_bytes}
 use Rattle.mail_core.specs.Machine.{Choice, Disconnects, Way, GoesOn, Leaves, Over, Cut, Did, answered, by_choice, does, fresh_start, goes_on, is_over, settled, settled_by}
 use Rattle.mail_core.specs.Seen.{Seen, seen, Ran}
@@ -85,12 +86,11 @@ none_next g all =
 
 -- ---- how it went
 
-does_onward : (site : Site) (d e : Did) (a b : Seen) (fed : Fed) → is_onward fed ≡ true → Does site d e a b fed → Does site d e a b Onward
-does_onward site d e a b Onward on h = h
-does_onward site d e a b Granted on h = record { more = h.more; acts = h.acts; table = h.table; number = h.number; ran = h.ran; way = h.way; cause = λ ending over event. absurd (cc over) }
-does_onward site d e a b HungUp on h = absurd (cc on)
-does_onward site d e a b Faulted on h = absurd (cc on)
-does_onward site d e a b Spent on h = absurd (cc on)
+does_onward : (site : Site) (d e : Did) (a b : Seen) (fed : Result Next CoreStop) → is_onward fed ≡ true → Does site d e a b fed → Does site d e a b (Ok Continue)
+does_onward site d e a b (Ok Continue) on h = h
+does_onward site d e a b (Ok BeginData) on h = record { more = h.more; effects = h.effects; table = h.table; number = h.number; ran = h.ran; way = h.way; cause = λ ending over event. absurd (cc over) }
+does_onward site d e a b (Ok Closed) on h = absurd (cc on)
+does_onward site d e a b (Err stop) on h = absurd (cc on)
 
 -- ---- lines in turn
 
@@ -106,7 +106,7 @@ module _ (site : Site) (moment : ℕ) (d : Did) where
 
   -- no line was answered
   pub answers_none : (f : FloorHeard) (s : Spooled) (k : ClockSeen) (intake : Intake) (caller : Caller) → d.way ≡ GoesOn → Serves site intake d.table → Talks site caller d.guest
-      → AnswersLines site moment d [] (seen f s k) (seen f s k) intake caller Onward
+      → AnswersLines site moment d [] (seen f s k) (seen f s k) intake caller (Ok Continue)
   answers_none f s k intake caller way serves talks = record {
     choices = [];
     does = does_none site d f s k d refl refl refl way;
@@ -120,10 +120,10 @@ module _ (site : Site) (moment : ℕ) (d : Did) where
   }
 
   -- where the session ended, the lines after are left
-  pub answers_cut : (done lines : List Line) (a b : Seen) (intake : Intake) (caller : Caller) (fed : Fed) → is_onward fed ≡ false → AnswersLines site moment d done a b intake caller fed → AnswersLines site moment d lines a b intake caller fed
+  pub answers_cut : (done lines : List Line) (a b : Seen) (intake : Intake) (caller : Caller) (fed : Result Next CoreStop) → is_onward fed ≡ false → AnswersLines site moment d done a b intake caller fed → AnswersLines site moment d lines a b intake caller fed
   answers_cut done lines a b intake caller fed off h = record { choices = h.choices; does = h.does; alive = h.alive; hears = λ on. absurd (false≢true (sym off ∙ on)) }
 
-  module _ (before after : Intake) (old new : Caller) (last fed : Fed) (done : List Line) (line : Line) where
+  module _ (before after : Intake) (old new : Caller) (last fed : Result Next CoreStop) (done : List Line) (line : Line) where
     -- what was heard of a line after others of which none asked
     hears_more : (e x : Did) → asked_after false done ≡ false → Hears site d e done before old last → Hears site e x (line ∷ []) after new fed → Hears site d x (done ++ line ∷ []) after new fed
     hears_more e x quiet h k =
@@ -176,7 +176,7 @@ module _ (site : Site) (moment : ℕ) (d : Did) where
         subst (λ q. AnswersLines site moment d q a c after new fed) (sym more) (answers_more now lines (drop (i + 1) lines) a b c only is first same on h answers)
 
   -- none is left
-  pub answers_all : (lines : List Line) (i : ℕ) (a b : Seen) (intake : Intake) (caller : Caller) (fed : Fed) → length lines ≤ i → AnswersLines site moment d (take i lines) a b intake caller fed → AnswersLines site moment d lines a b intake caller fed
+  pub answers_all : (lines : List Line) (i : ℕ) (a b : Seen) (intake : Intake) (caller : Caller) (fed : Result Next CoreStop) → length lines ≤ i → AnswersLines site moment d (take i lines) a b intake caller fed → AnswersLines site moment d lines a b intake caller fed
   answers_all lines i a b intake caller fed past h = subst (λ q. AnswersLines site moment d q a b intake caller fed) (take_all i lines past) h
 
 -- ---- what was given and not answered yet
@@ -244,7 +244,7 @@ follows_by false r s g told stands has turns bytes lines grants = record {
   granted = after_refusal (turned_by false r) s told has refl ∙ sym grants;
 }
 
-module _ (site : Site) (d e : Did) (r : Reader) (lines : List Line) (intake : Intake) (caller : Caller) (fed : Fed) where
+module _ (site : Site) (d e : Did) (r : Reader) (lines : List Line) (intake : Intake) (caller : Caller) (fed : Result Next CoreStop) where
   -- the last asked, and the reader turned as it was granted
   follows_asked : asked_after false lines ≡ true → Pending r d.guest lines → Hears site d e lines intake caller fed → Follows (turned_by (is_granted fed) r) e.guest
   follows_asked asked p h =
@@ -313,7 +313,7 @@ ready_lines intake old new number session r =
       talks = record { number = number ∙ t.number; session = subst (λ q. Speaks q r.site.host r.guest.peer r.guest.heard) (sym session) t.session; peer = t.peer };
     }
 
-pub turned_lines : (caller turned : Caller) (reader : Reader) (fed : Fed) → turned ≡ record caller { lines = turned_by (is_granted fed) caller.lines } → caller.lines ≡ reader → turned.lines ≡ turned_by (is_granted fed) reader
+pub turned_lines : (caller turned : Caller) (reader : Reader) (fed : Result Next CoreStop) → turned ≡ record caller { lines = turned_by (is_granted fed) caller.lines } → caller.lines ≡ reader → turned.lines ≡ turned_by (is_granted fed) reader
 turned_lines caller turned reader fed is same = ap (λ (q : Caller). q.lines) is ∙ ap (turned_by (is_granted fed)) same
 
 -- ---- the ends of a piece
@@ -323,14 +323,13 @@ settled_none GoesOn d = refl
 settled_none Leaves d = refl
 settled_none (Over finish) d = refl
 
-settled_off : (fed : Fed) (line : Option Line) (d : Did) → is_onward fed ≡ false → settled_by (way_after fed) line d ≡ d
-settled_off Onward line d off = absurd (cc off)
-settled_off Granted line d off = absurd (cc off)
-settled_off HungUp line d off = refl
-settled_off Faulted line d off = refl
-settled_off Spent line d off = refl
+settled_off : (fed : Result Next CoreStop) (line : Option Line) (d : Did) → is_onward fed ≡ false → settled_by (way_after fed) line d ≡ d
+settled_off (Ok Continue) line d off = absurd (cc off)
+settled_off (Ok BeginData) line d off = absurd (cc off)
+settled_off (Ok Closed) line d off = refl
+settled_off (Err stop) line d off = refl
 
-settled_end : (on : Bool) (fed : Fed) (d : Did) → is_onward fed ≡ on → d.way ≡ way_after fed → (is_onward fed ≡ true → next_line d.guest ≡ None) → settled d ≡ d
+settled_end : (on : Bool) (fed : Result Next CoreStop) (d : Did) → is_onward fed ≡ on → d.way ≡ way_after fed → (is_onward fed ≡ true → next_line d.guest ≡ None) → settled d ≡ d
 settled_end true fed d is way none = ap (λ o. settled_by d.way o d) (none is) ∙ settled_none d.way d
 settled_end false fed d is way none = ap (λ w. settled_by w (next_line d.guest) d) way ∙ settled_off fed (next_line d.guest) d is
 
@@ -350,13 +349,13 @@ module _ (site : Site) (moment : ℕ) (table : Table) (g : Guest) (bytes : List 
   abbrev start : Did
   start = fresh_start table (with_bytes g bytes)
 
-  feeds_of : (a b : Seen) (intake : Intake) (caller : Caller) (fed : Fed) (choices : List Choice) → settled (reached site moment start choices) ≡ reached site moment start choices
+  feeds_of : (a b : Seen) (intake : Intake) (caller : Caller) (fed : Result Next CoreStop) (choices : List Choice) → settled (reached site moment start choices) ≡ reached site moment start choices
       → Does site start (reached site moment start choices) a b fed
-      → (is_alive fed ≡ true → Serves site intake (reached site moment start choices).table) → (is_onward fed ≡ true → Keeps site caller (reached site moment start choices).guest)
+      → (is_ok fed ≡ true → Serves site intake (reached site moment start choices).table) → (is_onward fed ≡ true → Keeps site caller (reached site moment start choices).guest)
       → Feeds site moment table g bytes a b intake caller fed
   feeds_of a b intake caller fed choices same h serves keeps = record {
     choices = choices;
-    ran = subst (λ (x : Did). Ran (dirs_of site) table a b x.acts (is_well fed)) (sym same) (subst (λ q. Ran (dirs_of site) table a b q (is_well fed)) (sym h.acts) h.ran);
+    ran = subst (λ (x : Did). Ran (dirs_of site) table a b x.effects (is_well fed)) (sym same) (subst (λ q. Ran (dirs_of site) table a b q (is_well fed)) (sym h.effects) h.ran);
     way = ap (λ (x : Did). x.way) same ∙ h.way;
     number = ap (λ (x : Did). x.guest.number) same ∙ h.number;
     serves = λ on. subst (λ (x : Did). Serves site intake x.table) (sym same) (serves on);
@@ -367,19 +366,19 @@ module _ (site : Site) (moment : ℕ) (table : Table) (g : Guest) (bytes : List 
   -- by some choices, a piece has come to these lines, which are to be answered
   pub record Pends (a b : Seen) (intake : Intake) (caller : Caller) (lines : List Line) : Type 0 where
     pub choices : List Choice
-    pub does : Does site start (reached site moment start choices) a b Onward
+    pub does : Does site start (reached site moment start choices) a b (Ok Continue)
     pub serves : Serves site intake (reached site moment start choices).table
     pub talks : Talks site caller (reached site moment start choices).guest
     pub pending : Pending caller.lines (reached site moment start choices).guest lines
     pub only : OnlyLastAsks lines
 
   -- by some choices, these lines were answered
-  pub record Batch (a b : Seen) (reader : Reader) (lines : List Line) (intake : Intake) (caller : Caller) (fed : Fed) : Type 0 where
+  pub record Batch (a b : Seen) (reader : Reader) (lines : List Line) (intake : Intake) (caller : Caller) (fed : Result Next CoreStop) : Type 0 where
     pub before : Did
     pub choices : List Choice
     pub does : Does site start (reached site moment start choices) a b fed
     pub pending : Pending reader before.guest lines
-    pub alive : is_alive fed ≡ true → Serves site intake (reached site moment start choices).table
+    pub alive : is_ok fed ≡ true → Serves site intake (reached site moment start choices).table
     pub hears : is_onward fed ≡ true → Hears site before (reached site moment start choices) lines intake caller fed
 
   -- a piece was taken
@@ -398,7 +397,7 @@ module _ (site : Site) (moment : ℕ) (table : Table) (g : Guest) (bytes : List 
       }
 
   -- the lines were answered
-  pub batch_of : (now : ℕ) (a b c : Seen) (before after : Intake) (old new : Caller) (passed lines : List Line) (fed : Fed) → passed ≡ lines → now ≡ moment → Pends a b before old lines
+  pub batch_of : (now : ℕ) (a b c : Seen) (before after : Intake) (old new : Caller) (passed lines : List Line) (fed : Result Next CoreStop) → passed ≡ lines → now ≡ moment → Pends a b before old lines
       → ((d : Did) → d.way ≡ GoesOn → Serves site before d.table → Talks site old d.guest → OnlyLastAsks passed → StandsFirst (lines_heard d.guest ++ passed) (lines_of d.guest) → AnswersLines site now d passed b c after new fed)
       → Batch a c old.lines lines after new fed
   batch_of now a b c before after old new passed lines fed same_lines same_moment p answers =
@@ -418,7 +417,7 @@ module _ (site : Site) (moment : ℕ) (table : Table) (g : Guest) (bytes : List 
         hears = λ on. subst (λ q. Hears site e q lines after new fed) (sym is) (k.hears on);
       }
 
-  module _ (a b : Seen) (reader : Reader) (lines : List Line) (intake : Intake) (caller : Caller) (fed : Fed) (batch : Batch a b reader lines intake caller fed) where
+  module _ (a b : Seen) (reader : Reader) (lines : List Line) (intake : Intake) (caller : Caller) (fed : Result Next CoreStop) (batch : Batch a b reader lines intake caller fed) where
     -- what was done then
     abbrev ended : Did
     ended = reached site moment start batch.choices
@@ -464,9 +463,9 @@ module _ (site : Site) (moment : ℕ) (table : Table) (g : Guest) (bytes : List 
             only = only_more turned.lines next.lines ended.guest more turned_follows stands turns;
           }
 
-  feeds_dropped : (a : Seen) (f h : FloorHeard) (s : Spooled) (k : ClockSeen) (intake : Intake) (caller : Caller) (fed : Fed) (session : ℕ) (choices : List Choice)
-      → Does site start (reached site moment start choices) a (seen f s k) Onward → (reached site moment start choices).may_disconnect ≡ true → session ≡ (reached site moment start choices).guest.number
-      → Gains f.told h.told (heard_of (HangsUp session ∷ [])) → h.faults ≡ f.faults → fed ≡ HungUp → Serves site intake (reached site moment start choices).table
+  feeds_dropped : (a : Seen) (f h : FloorHeard) (s : Spooled) (k : ClockSeen) (intake : Intake) (caller : Caller) (fed : Result Next CoreStop) (session : ℕ) (choices : List Choice)
+      → Does site start (reached site moment start choices) a (seen f s k) (Ok Continue) → (reached site moment start choices).may_disconnect ≡ true → session ≡ (reached site moment start choices).guest.number
+      → Gains f.told h.told (heard_of (HangsUp session ∷ [])) → h.faults ≡ f.faults → fed ≡ (Ok Closed) → Serves site intake (reached site moment start choices).table
       → Feeds site moment table g bytes a (seen h s k) intake caller fed
   feeds_dropped a f h s k intake caller fed session choices done may number told own is serves =
       let e : Did = reached site moment start choices in
@@ -474,23 +473,23 @@ module _ (site : Site) (moment : ℕ) (table : Table) (g : Guest) (bytes : List 
       let drops : reached site moment start (choices ++ Disconnects ∷ []) ≡ x = fold_push (answered site moment) start choices Disconnects ∙ dropped site moment e done.way may in
       let last = does_drops site e f h s k (subst (λ n. Gains f.told h.told (heard_of (HangsUp n ∷ []))) number told) own in
       subst (Feeds site moment table g bytes a (seen h s k) intake caller) (sym is)
-      (feeds_of a (seen h s k) intake caller HungUp (choices ++ Disconnects ∷ [])
+      (feeds_of a (seen h s k) intake caller (Ok Closed) (choices ++ Disconnects ∷ [])
       (subst (λ q. settled q ≡ q) (sym drops) refl)
-      (subst (λ q. Does site start q a (seen h s k) HungUp) (sym drops) (does_join site start e x a (seen f s k) (seen h s k) HungUp done last))
+      (subst (λ q. Does site start q a (seen h s k) (Ok Closed)) (sym drops) (does_join site start e x a (seen f s k) (seen h s k) (Ok Closed) done last))
       (λ live. subst (λ (q : Did). Serves site intake q.table) (sym drops) serves)
       (λ on. absurd (cc on)))
 
   -- there was no memory for the piece
-  pub feeds_none : (f h : FloorHeard) (s : Spooled) (k : ClockSeen) (intake : Intake) (old caller : Caller) (fed : Fed) (session : ℕ) → Keeps site old g → session ≡ old.number
-      → Gains f.told h.told (heard_of (HangsUp session ∷ [])) → h.faults ≡ f.faults → fed ≡ HungUp → Serves site intake table
+  pub feeds_none : (f h : FloorHeard) (s : Spooled) (k : ClockSeen) (intake : Intake) (old caller : Caller) (fed : Result Next CoreStop) (session : ℕ) → Keeps site old g → session ≡ old.number
+      → Gains f.told h.told (heard_of (HangsUp session ∷ [])) → h.faults ≡ f.faults → fed ≡ (Ok Closed) → Serves site intake table
       → Feeds site moment table g bytes (seen f s k) (seen h s k) intake caller fed
   feeds_none f h s k intake old caller fed session keeps same told own is serves =
       feeds_dropped (seen f s k) f h s k intake caller fed session [] (does_none site start f s k start refl refl refl refl) refl (same ∙ keeps.talks.number) told own is serves
 
   -- there was none for what follows a line that asks
-  pub feeds_lost : (a : Seen) (f h : FloorHeard) (s : Spooled) (k : ClockSeen) (reader : Reader) (lines : List Line) (intake : Intake) (caller last : Caller) (went fed : Fed) (session : ℕ) → Batch a (seen f s k) reader lines intake caller went
+  pub feeds_lost : (a : Seen) (f h : FloorHeard) (s : Spooled) (k : ClockSeen) (reader : Reader) (lines : List Line) (intake : Intake) (caller last : Caller) (went fed : Result Next CoreStop) (session : ℕ) → Batch a (seen f s k) reader lines intake caller went
       → is_onward went ≡ true → asked_after false lines ≡ true → reader.left ≢ [] → session ≡ caller.number
-      → Gains f.told h.told (heard_of (HangsUp session ∷ [])) → h.faults ≡ f.faults → fed ≡ HungUp
+      → Gains f.told h.told (heard_of (HangsUp session ∷ [])) → h.faults ≡ f.faults → fed ≡ (Ok Closed)
       → Feeds site moment table g bytes a (seen h s k) intake last fed
   feeds_lost a f h s k reader lines intake caller last went fed session batch on asked left same told own is =
       feeds_dropped a f h s k intake last fed session batch.choices

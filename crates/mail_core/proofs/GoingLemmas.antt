@@ -1,5 +1,5 @@
 -- What is done for a line joins, and single sends are done.
-use Rattle.std.proofs.Common.{◌≡◌, ◌⊎◌, inl, inr, ℕ, ◌≤◌, List, [], ◌∷◌, ◌++◌, Bool, true, false, refl, sym, ◌∙◌, ap, subst, arith, append_assoc}
+use Rattle.std.proofs.Common.{◌≡◌, ◌⊎◌, inl, inr, ℕ, ◌≤◌, List, [], ◌∷◌, ◌++◌, Bool, true, false, Result, Ok, Err, refl, sym, ◌∙◌, ap, subst, arith, append_assoc}
 use Rattle.std.specs.Prelude.{if◌then◌else◌}
 use Rattle.std.proofs.lemmas.List.{append-nil}
 use Rattle.std.proofs.lemmas.Bool.{cond-false, false≢true}
@@ -15,15 +15,15 @@ use Rattle.spool_disk.specs.Spooled.{Spooled}
 use Rattle.spool_store.specs.Moves.{Moves}
 use Rattle.spool_store.specs.Standing.{IsClean, IsEither}
 use Rattle.spool_store.specs.Tables.{Table, after, applied}
-use Rattle.mail_core.specs.declared.fed.Fed.{Fed}
-use Rattle.mail_core.specs.declared.fed.Fed.TheVariants.{GoesOn as Onward, Granted, HungUp, Faulted, Spent}
-use Rattle.mail_core.specs.declared.serving.Ending.{Ending}
-use Rattle.mail_core.specs.declared.serving.Ending.TheVariants.{Stopped, SpoolFault, IdsSpent}
+use Rattle.mail_core.specs.declared.next.Next.{Next}
+use Rattle.mail_core.specs.declared.next.Next.TheVariants.{Continue, BeginData, Closed}
+use Rattle.mail_core.specs.declared.serving.CoreStop.{CoreStop}
+use Rattle.mail_core.specs.declared.serving.CoreStop.TheVariants as stops
 use Rattle.mail_core.specs.declared.serving.Site.{Site}
-use Rattle.mail_core.specs.Acts.{Commits, Sends, HangsUp, heard_of, readings_of, commands_of, speech}
-use Rattle.mail_core.specs.Causes.{HasCause}
-use Rattle.mail_core.specs.Going.{Does, way_after, is_well, is_onward, is_granted}
-use Rattle.mail_core.specs.Machine.{GoesOn, Leaves, Over, Finish, By, Did, way_of, does, says, closes, is_over, commits, accepts, fails, heard_line}
+use Rattle.mail_core.specs.Effects.{Commits, Sends, HangsUp, heard_of, readings_of, commands_of, speech}
+use Rattle.mail_core.specs.Causes.{HasCause, is_well}
+use Rattle.mail_core.specs.Going.{Does, begins_data, stays_open, way_after, is_onward}
+use Rattle.mail_core.specs.Machine.{Ending, Stopped, SpoolFault, IdsSpent, GoesOn, Leaves, Over, Finish, By, Did, way_of, does, says, closes, is_over, commits, accepts, fails, heard_line}
 use Rattle.mail_core.specs.Messages.{accept_of, is_spent}
 use Rattle.mail_core.specs.Seen.{Seen, seen, table_after, Ran}
 use Rattle.mail_core.specs.Standing.{dirs_of}
@@ -42,53 +42,41 @@ speech_unread s text false = refl
 -- ---- how it went, after a send
 
 -- it went as a send does
-abbrev pub IsSpoken : Fed → Type 0
+abbrev pub IsSpoken : Result Next CoreStop → Type 0
 IsSpoken fed = way_of (is_onward fed) ≡ way_after fed
 
-pub spoken_of : (fed other : Fed) → IsSpoken other → (fed ≡ other) ⊎ (fed ≡ HungUp) → IsSpoken fed
-spoken_of fed other h (inl e) = subst IsSpoken (sym e) h
-spoken_of fed other h (inr e) = subst IsSpoken (sym e) refl
-
-pub spoken_well : (fed : Fed) → IsSpoken fed → is_well fed ≡ true
-spoken_well Onward h = refl
-spoken_well Granted h = refl
-spoken_well HungUp h = refl
-spoken_well Faulted h = absurd (cc h)
-spoken_well Spent h = refl
+pub spoken_of : (next other : Next) → IsSpoken (Ok other) → (next ≡ other) ⊎ (next ≡ Closed) → IsSpoken (Ok next)
+spoken_of next other h (inl e) = subst (λ n. IsSpoken (Ok n)) (sym e) h
+spoken_of next other h (inr e) = subst (λ n. IsSpoken (Ok n)) (sym e) refl
 
 -- a session that was spoken to doesn't end the run
 said_on : (whole : Bool) (finish : Finish) → way_of whole ≡ Over finish → ⊥
 said_on true finish e = cc e
 said_on false finish e = cc e
 
-pub spoken_on : (fed : Fed) (finish : Finish) → IsSpoken fed → way_after fed ≡ Over finish → ⊥
+pub spoken_on : (fed : Result Next CoreStop) (finish : Finish) → IsSpoken fed → way_after fed ≡ Over finish → ⊥
 spoken_on fed finish h e = said_on (is_onward fed) finish (h ∙ e)
 
+pub spoken_well : (fed : Result Next CoreStop) → IsSpoken fed → is_well fed ≡ true
+spoken_well (Ok next) h = refl
+spoken_well (Err stop) h = absurd (cc h)
+
 -- it was no grant
-pub ungranted : (fed : Fed) → (fed ≡ Onward) ⊎ (fed ≡ HungUp) → is_granted fed ≡ false
-ungranted fed (inl e) = ap is_granted e
-ungranted fed (inr e) = ap is_granted e
+pub ungranted : (next : Next) → (next ≡ Continue) ⊎ (next ≡ Closed) → begins_data next ≡ false
+ungranted next (inl e) = ap begins_data e
+ungranted next (inr e) = ap begins_data e
 
 -- it was one, where the session goes on
-pub granted_on : (fed : Fed) → (fed ≡ Granted) ⊎ (fed ≡ HungUp) → is_onward fed ≡ true → is_granted fed ≡ true
-granted_on fed (inl e) on = ap is_granted e
-granted_on fed (inr e) on = absurd (false≢true (sym (ap is_onward e) ∙ on))
+pub granted_on : (next : Next) → (next ≡ BeginData) ⊎ (next ≡ Closed) → stays_open next ≡ true → begins_data next ≡ true
+granted_on next (inl e) on = ap begins_data e
+granted_on next (inr e) on = absurd (false≢true (sym (ap stays_open e) ∙ on))
 
 -- where the session goes on, the run goes on with it
-pub way_onward : (fed : Fed) → is_onward fed ≡ true → way_after fed ≡ GoesOn
-way_onward Onward on = refl
-way_onward Granted on = refl
-way_onward HungUp on = absurd (false≢true on)
-way_onward Faulted on = absurd (false≢true on)
-way_onward Spent on = absurd (false≢true on)
-
--- the spool didn't fail where the session goes on
-pub well_onward : (fed : Fed) → is_onward fed ≡ true → is_well fed ≡ true
-well_onward Onward on = refl
-well_onward Granted on = refl
-well_onward HungUp on = refl
-well_onward Faulted on = on
-well_onward Spent on = refl
+pub way_onward : (fed : Result Next CoreStop) → is_onward fed ≡ true → way_after fed ≡ GoesOn
+way_onward (Ok Continue) on = refl
+way_onward (Ok BeginData) on = refl
+way_onward (Ok Closed) on = absurd (false≢true on)
+way_onward (Err stop) on = absurd (false≢true on)
 
 -- ---- causes
 
@@ -104,10 +92,10 @@ ended_as one ending event table a b e h = let same : one ≡ ending = cc e in su
 
 -- ---- joins
 
-pub does_join : (site : Site) (d e x : Did) (a b c : Seen) (fed : Fed) → Does site d e a b Onward → Does site e x b c fed → Does site d x a c fed
+pub does_join : (site : Site) (d e x : Did) (a b c : Seen) (fed : Result Next CoreStop) → Does site d e a b (Ok Continue) → Does site e x b c fed → Does site d x a c fed
 does_join site d e x a b c fed h k = record {
   more = h.more ++ k.more;
-  acts = k.acts ∙ ap (λ q. q ++ k.more) h.acts ∙ append_assoc d.acts h.more k.more;
+  effects = k.effects ∙ ap (λ q. q ++ k.more) h.effects ∙ append_assoc d.effects h.more k.more;
   table = k.table ∙ ap (λ t. table_after t k.more) h.table ∙ sym (table_more d.table h.more k.more);
   number = k.number ∙ h.number;
   ran = ran_join (dirs_of site) d.table a b c h.more k.more (is_well fed) h.ran (subst (λ t. Ran (dirs_of site) t b c k.more (is_well fed)) h.table k.ran);
@@ -119,27 +107,27 @@ does_join site d e x a b c fed h k = record {
 
 module _ (site : Site) (d : Did) (f g : Heard) (s : Spooled) (k : ClockSeen) where
   -- a text was said
-  pub does_says : (text : List ℕ) (fed : Fed) → IsSpoken fed → Gains f.told g.told (heard_of (speech d.guest.number text (is_onward fed))) → g.faults ≡ f.faults
+  pub does_says : (text : List ℕ) (fed : Result Next CoreStop) → IsSpoken fed → Gains f.told g.told (heard_of (speech d.guest.number text (is_onward fed))) → g.faults ≡ f.faults
       → Does site d (says d text (is_onward fed)) (seen f s k) (seen g s k) fed
   does_says text fed spoken told own =
       let whole = is_onward fed in
-      let acts = speech d.guest.number text whole in record {
-        more = acts;
-        acts = refl;
+      let effects = speech d.guest.number text whole in record {
+        more = effects;
+        effects = refl;
         table = sym (ap (applied d.table) (speech_quiet d.guest.number text whole));
         number = refl;
-        ran = subst (Ran (dirs_of site) d.table (seen f s k) (seen g s k) acts) (sym (spoken_well fed spoken))
-            (ran_floor (dirs_of site) d.table f g s k acts (speech_quiet d.guest.number text whole) (speech_unread d.guest.number text whole) told own);
+        ran = subst (Ran (dirs_of site) d.table (seen f s k) (seen g s k) effects) (sym (spoken_well fed spoken))
+            (ran_floor (dirs_of site) d.table f g s k effects (speech_quiet d.guest.number text whole) (speech_unread d.guest.number text whole) told own);
         way = spoken;
         cause = λ ending over event. absurd (spoken_on fed (By ending) spoken over);
       }
 
   -- the last text was said
   pub does_closes : (text : List ℕ) (whole : Bool) → Gains f.told g.told (heard_of (Sends d.guest.number text whole ∷ HangsUp d.guest.number ∷ [])) → g.faults ≡ f.faults
-      → Does site d (closes d text whole) (seen f s k) (seen g s k) HungUp
+      → Does site d (closes d text whole) (seen f s k) (seen g s k) (Ok Closed)
   does_closes text whole told own = record {
     more = Sends d.guest.number text whole ∷ HangsUp d.guest.number ∷ [];
-    acts = refl;
+    effects = refl;
     table = refl;
     number = refl;
     ran = ran_floor (dirs_of site) d.table f g s k (Sends d.guest.number text whole ∷ HangsUp d.guest.number ∷ []) refl refl told own;
@@ -149,10 +137,10 @@ module _ (site : Site) (d : Did) (f g : Heard) (s : Spooled) (k : ClockSeen) whe
 
   -- the session was hung up
   pub does_drops : Gains f.told g.told (heard_of (HangsUp d.guest.number ∷ [])) → g.faults ≡ f.faults
-      → Does site d (does d (HangsUp d.guest.number ∷ []) Leaves) (seen f s k) (seen g s k) HungUp
+      → Does site d (does d (HangsUp d.guest.number ∷ []) Leaves) (seen f s k) (seen g s k) (Ok Closed)
   does_drops told own = record {
     more = HangsUp d.guest.number ∷ [];
-    acts = refl;
+    effects = refl;
     table = refl;
     number = refl;
     ran = ran_floor (dirs_of site) d.table f g s k (HangsUp d.guest.number ∷ []) refl refl told own;
@@ -162,10 +150,10 @@ module _ (site : Site) (d : Did) (f g : Heard) (s : Spooled) (k : ClockSeen) whe
 
 module _ (site : Site) (d : Did) (f : Heard) (s : Spooled) (k : ClockSeen) where
   -- nothing was done
-  pub does_none : (e : Did) → e.acts ≡ d.acts → e.table ≡ d.table → e.guest.number ≡ d.guest.number → e.way ≡ GoesOn → Does site d e (seen f s k) (seen f s k) Onward
-  does_none e acts table number way = record {
+  pub does_none : (e : Did) → e.effects ≡ d.effects → e.table ≡ d.table → e.guest.number ≡ d.guest.number → e.way ≡ GoesOn → Does site d e (seen f s k) (seen f s k) (Ok Continue)
+  does_none e effects table number way = record {
     more = [];
-    acts = acts ∙ sym (append-nil d.acts);
+    effects = effects ∙ sym (append-nil d.effects);
     table = table;
     number = number;
     ran = ran_none (dirs_of site) d.table f s k;
@@ -174,10 +162,10 @@ module _ (site : Site) (d : Did) (f : Heard) (s : Spooled) (k : ClockSeen) where
   }
 
   -- no id is left
-  pub does_spent : is_spent d.table ≡ true → Does site d (is_over d (By IdsSpent)) (seen f s k) (seen f s k) Spent
+  pub does_spent : is_spent d.table ≡ true → Does site d (is_over d (By IdsSpent)) (seen f s k) (seen f s k) (Err stops.IdsSpent)
   does_spent spent = record {
     more = [];
-    acts = refl;
+    effects = refl;
     table = refl;
     number = refl;
     ran = ran_none (dirs_of site) d.table f s k;
@@ -190,10 +178,10 @@ module _ (site : Site) (d : Did) (f : Heard) (s : Spooled) (k : ClockSeen) where
 module _ (site : Site) (moment : ℕ) (d : Did) (message : Received) (f : Heard) (s t : Spooled) (k : ClockSeen) where
   -- a message was taken in
   pub does_commits : d.way ≡ GoesOn → Moves s t (IsClean (dirs_of site) d.table) (IsClean (dirs_of site) (after d.table (accept_of site moment message))) (IsEither (dirs_of site) d.table (accept_of site moment message)) → s.faults ≤ t.faults
-      → Does site d (commits site moment d message) (seen f s k) (seen f t k) Onward
+      → Does site d (commits site moment d message) (seen f s k) (seen f t k) (Ok Continue)
   does_commits way moves later = record {
     more = Commits (accept_of site moment message) ∷ [];
-    acts = refl;
+    effects = refl;
     table = refl;
     number = refl;
     ran = ran_done (dirs_of site) d.table (accept_of site moment message) f s t k moves later;
@@ -203,10 +191,10 @@ module _ (site : Site) (moment : ℕ) (d : Did) (message : Received) (f : Heard)
 
   -- the spool failed at a message
   pub does_failed : is_spent d.table ≡ false → Moves s t (IsClean (dirs_of site) d.table) (IsEither (dirs_of site) d.table (accept_of site moment message)) (IsEither (dirs_of site) d.table (accept_of site moment message)) → s.faults ≤ t.faults → Rose s.faults t.faults
-      → Does site d (fails site moment d (Gives message)) (seen f s k) (seen f t k) Faulted
-  does_failed left moves later rose = subst (λ e. Does site d e (seen f s k) (seen f t k) Faulted) (sym (cond-false (is_spent d.table) _ _ left)) (record {
+      → Does site d (fails site moment d (Gives message)) (seen f s k) (seen f t k) (Err stops.SpoolFault)
+  does_failed left moves later rose = subst (λ e. Does site d e (seen f s k) (seen f t k) (Err stops.SpoolFault)) (sym (cond-false (is_spent d.table) _ _ left)) (record {
     more = Commits (accept_of site moment message) ∷ [];
-    acts = append-nil (d.acts ++ Commits (accept_of site moment message) ∷ []);
+    effects = append-nil (d.effects ++ Commits (accept_of site moment message) ∷ []);
     table = refl;
     number = refl;
     ran = ran_failed (dirs_of site) d.table (accept_of site moment message) f s t k moves later;
@@ -215,7 +203,7 @@ module _ (site : Site) (moment : ℕ) (d : Did) (message : Received) (f : Heard)
   })
 
 -- a message was taken in, and its 250 said
-pub does_accepts : (site : Site) (moment : ℕ) (d : Did) (message : Received) (f g : Heard) (s t : Spooled) (k : ClockSeen) (fed : Fed) → d.way ≡ GoesOn → is_spent d.table ≡ false
+pub does_accepts : (site : Site) (moment : ℕ) (d : Did) (message : Received) (f g : Heard) (s t : Spooled) (k : ClockSeen) (fed : Result Next CoreStop) → d.way ≡ GoesOn → is_spent d.table ≡ false
     → Moves s t (IsClean (dirs_of site) d.table) (IsClean (dirs_of site) (after d.table (accept_of site moment message))) (IsEither (dirs_of site) d.table (accept_of site moment message)) → s.faults ≤ t.faults
     → IsSpoken fed → Gains f.told g.told (heard_of (speech d.guest.number (stored_text d.table.next) (is_onward fed))) → g.faults ≡ f.faults
     → Does site d (accepts site moment d message (is_onward fed)) (seen f s k) (seen g t k) fed
@@ -226,8 +214,8 @@ does_accepts site moment d message f g s t k fed way left moves later spoken tol
     (does_says site (commits site moment d message) f g t k (stored_text d.table.next) fed spoken told own))
 
 -- the line was heard besides
-pub does_heard : (site : Site) (d e : Did) (a b : Seen) (fed : Fed) (line : Line) (short : Bool) → Does site d e a b fed → Does site d (heard_line e line short) a b fed
-does_heard site d e a b fed line short h = record { more = h.more; acts = h.acts; table = h.table; number = h.number; ran = h.ran; way = h.way; cause = h.cause }
+pub does_heard : (site : Site) (d e : Did) (a b : Seen) (fed : Result Next CoreStop) (line : Line) (short : Bool) → Does site d e a b fed → Does site d (heard_line e line short) a b fed
+does_heard site d e a b fed line short h = record { more = h.more; effects = h.effects; table = h.table; number = h.number; ran = h.ran; way = h.way; cause = h.cause }
 
 accepts_case : (b : Bool) (d x : Did) → x.guest ≡ d.guest → (if b then is_over d (By IdsSpent) else x).guest ≡ d.guest
 accepts_case true d x e = refl

@@ -1,6 +1,6 @@
 -- A line is answered.
 use Rattle.std.proofs.Common.{◌≡◌, ℕ, List, [], ◌∷◌, ◌++◌, Bool, true, false, Some, None, Ok, Err, refl, sym, ◌∙◌, ap, subst}
-use Rattle.std.specs.Prelude.{◌≢◌, ◌&&◌, if◌then◌else◌}
+use Rattle.std.specs.Prelude.{Result, is_ok, ◌≢◌, ◌&&◌, if◌then◌else◌}
 use Rattle.std.proofs.lemmas.Bool.{cond-false}
 use Rattle.mail_base.specs.Histories.{Gains}
 use Rattle.mail_edge.specs.Seen.{ClockSeen}
@@ -9,19 +9,20 @@ use Rattle.smtp_lines.specs.declared.line.Line.{Line}
 use Rattle.smtp_lines.specs.declared.line.Line.TheVariants.{DataEnd}
 use Rattle.smtp_lines.specs.Stream.{asks}
 use Rattle.smtp_receive.specs.declared.received.Received.{Received}
-use Rattle.smtp_receive.specs.Dialogue.{Answer, Says, Greets, Grants, Closes, Gives, Takes, exchanges, is_grant}
+use Rattle.smtp_receive.specs.Dialogue.{Answer, Gives, exchanges, is_grant}
 use Rattle.smtp_receive.specs.Replies.{out_of_memory_text}
 use Rattle.smtp_receive.specs.Sessions.{answer_of, Stands as Speaks}
 use Rattle.smtp_receive.proofs.KeepLemmas.{lacking}
 use Rattle.smtp_receive.proofs.ToldLemmas.{gift_kept}
 use Rattle.spool_disk.specs.Spooled.{Spooled}
 use Rattle.mail_core.specs.declared.caller.Caller.{Caller}
-use Rattle.mail_core.specs.declared.fed.Fed.{Fed}
-use Rattle.mail_core.specs.declared.fed.Fed.TheVariants.{GoesOn as Onward, Granted, HungUp, Faulted, Spent}
+use Rattle.mail_core.specs.declared.next.Next.{Next}
+use Rattle.mail_core.specs.declared.next.Next.TheVariants.{Continue, Closed}
+use Rattle.mail_core.specs.declared.serving.CoreStop.{CoreStop}
 use Rattle.mail_core.specs.declared.intake.Intake.{Intake}
 use Rattle.mail_core.specs.declared.serving.Site.{Site}
-use Rattle.mail_core.specs.Acts.{Sends, HangsUp, heard_of, speech}
-use Rattle.mail_core.specs.Going.{Does, Hears, AnswersLine, AnswersMessage, IsAnswered, message_by, is_onward, is_alive, is_granted, is_short}
+use Rattle.mail_core.specs.Effects.{Sends, HangsUp, heard_of, speech}
+use Rattle.mail_core.specs.Going.{Does, Hears, AnswersLine, AnswersMessage, IsAnswered, message_by, is_onward, is_granted, is_short}
 use Rattle.mail_core.specs.Guests.{grants_of, has_bytes_left, is_passed, with_line}
 use Rattle.mail_core.specs.Machine.{Choice, Normal, OutOfMemory, Disconnects, SpoolFails, GoesOn, Cut, Did, is_over, says, closes, fails, replies, by_choice, heard_line, fresh_start}
 use Rattle.mail_core.specs.Seen.{Seen, seen}
@@ -30,12 +31,9 @@ use Rattle.mail_core.proofs.AnswerLemmas.{IsReply, IsSilent, answer_kept, lines_
 use Rattle.mail_core.proofs.GoingLemmas.{IsSpoken, does_says, does_closes, does_none, does_heard}
 
 -- where the session goes on, so does the run
-pub onward_alive : (fed : Fed) → is_onward fed ≡ true → is_alive fed ≡ true
-onward_alive Onward on = refl
-onward_alive Granted on = refl
-onward_alive HungUp on = refl
-onward_alive Faulted on = on
-onward_alive Spent on = on
+pub onward_alive : (fed : Result Next CoreStop) → is_onward fed ≡ true → is_ok fed ≡ true
+onward_alive (Ok next) on = refl
+onward_alive (Err stop) on = on
 
 -- 452 4.3.1 to a line that isn't dropped
 short_is : (site : Site) (moment : ℕ) (d : Did) (line : Line) (whole : Bool) → is_passed d.guest line ≡ false
@@ -53,7 +51,7 @@ module _ (site : Site) (moment : ℕ) (d : Did) (line : Line) (intake : Intake) 
   answer = answer_of d.guest.peer d.guest.heard line
 
   -- what is kept after it
-  hears_line : (short : Bool) (x : Did) (fed : Fed) → x.guest ≡ d.guest → is_grant (answer_kept d.guest line short) ≡ is_granted fed → Serves site intake x.table → Talks site caller (with_line d.guest line short)
+  hears_line : (short : Bool) (x : Did) (fed : Result Next CoreStop) → x.guest ≡ d.guest → is_grant (answer_kept d.guest line short) ≡ is_granted fed → Serves site intake x.table → Talks site caller (with_line d.guest line short)
       → Hears site d (heard_line x line short) (line ∷ []) intake caller fed
   hears_line short x fed guest grant serves talks =
       let same : with_line x.guest line short ≡ with_line d.guest line short = ap (λ g. with_line g line short) guest in record {
@@ -65,7 +63,7 @@ module _ (site : Site) (moment : ℕ) (d : Did) (line : Line) (intake : Intake) 
 
   module _ (f g : FloorHeard) (s : Spooled) (k : ClockSeen) where
     -- a reply was said, and the session goes on
-    pub line_said : (text : List ℕ) (grant : Bool) (fed : Fed) → IsReply site moment answer text grant → IsSpoken fed → (is_onward fed ≡ true → is_granted fed ≡ grant)
+    pub line_said : (text : List ℕ) (grant : Bool) (fed : Result Next CoreStop) → IsReply site moment answer text grant → IsSpoken fed → (is_onward fed ≡ true → is_granted fed ≡ grant)
         → Gains f.told g.told (heard_of (speech d.guest.number text (is_onward fed))) → g.faults ≡ f.faults → Serves site intake d.table → Talks site caller (with_line d.guest line false)
         → AnswersLine site moment d line (seen f s k) (seen g s k) intake caller fed
     line_said text grant fed r spoken grants told own serves talks =
@@ -79,16 +77,16 @@ module _ (site : Site) (moment : ℕ) (d : Did) (line : Line) (intake : Intake) 
 
     -- the last reply was said
     pub line_closed : (text : List ℕ) (whole : Bool) → replies site moment d answer whole ≡ closes d text whole → Gains f.told g.told (heard_of (Sends d.guest.number text whole ∷ HangsUp d.guest.number ∷ [])) → g.faults ≡ f.faults → Serves site intake d.table
-        → AnswersLine site moment d line (seen f s k) (seen g s k) intake caller HungUp
+        → AnswersLine site moment d line (seen f s k) (seen g s k) intake caller (Ok Closed)
     line_closed text whole is told own serves = record {
       choice = Normal whole;
-      does = subst (λ x. Does site d (heard_line x line false) (seen f s k) (seen g s k) HungUp) (sym is) (does_heard site d (closes d text whole) (seen f s k) (seen g s k) HungUp line false (does_closes site d f g s k text whole told own));
+      does = subst (λ x. Does site d (heard_line x line false) (seen f s k) (seen g s k) (Ok Closed)) (sym is) (does_heard site d (closes d text whole) (seen f s k) (seen g s k) (Ok Closed) line false (does_closes site d f g s k text whole told own));
       alive = λ live. subst (λ x. Serves site intake (heard_line x line false).table) (sym is) serves;
       hears = λ on. absurd (cc on);
     }
 
     -- 452 4.3.1 was said
-    pub line_lacked : (fed : Fed) → is_passed d.guest line ≡ false → IsSpoken fed → (is_onward fed ≡ true → is_granted fed ≡ false)
+    pub line_lacked : (fed : Result Next CoreStop) → is_passed d.guest line ≡ false → IsSpoken fed → (is_onward fed ≡ true → is_granted fed ≡ false)
         → Gains f.told g.told (heard_of (speech d.guest.number out_of_memory_text (is_onward fed))) → g.faults ≡ f.faults → Serves site intake d.table → Talks site caller (with_line d.guest line true)
         → AnswersLine site moment d line (seen f s k) (seen g s k) intake caller fed
     line_lacked fed kept spoken grants told own serves talks =
@@ -103,13 +101,13 @@ module _ (site : Site) (moment : ℕ) (d : Did) (line : Line) (intake : Intake) 
 
   -- nothing is said to a line of data
   pub line_taken : (f : FloorHeard) (s : Spooled) (k : ClockSeen) → d.way ≡ GoesOn → IsSilent site moment answer → Serves site intake d.table → Talks site caller (with_line d.guest line false)
-      → AnswersLine site moment d line (seen f s k) (seen f s k) intake caller Onward
+      → AnswersLine site moment d line (seen f s k) (seen f s k) intake caller (Ok Continue)
   line_taken f s k way silent serves talks =
       let is = silent.says_none d true in record {
         choice = Normal true;
-        does = subst (λ x. Does site d (heard_line x line false) (seen f s k) (seen f s k) Onward) (sym is) (does_heard site d d (seen f s k) (seen f s k) Onward line false (does_none site d f s k d refl refl refl way));
+        does = subst (λ x. Does site d (heard_line x line false) (seen f s k) (seen f s k) (Ok Continue)) (sym is) (does_heard site d d (seen f s k) (seen f s k) (Ok Continue) line false (does_none site d f s k d refl refl refl way));
         alive = λ live. subst (λ x. Serves site intake (heard_line x line false).table) (sym is) serves;
-        hears = λ on. subst (λ x. Hears site d (heard_line x line false) (line ∷ []) intake caller Onward) (sym is) (hears_line false d Onward refl silent.grant_is serves talks);
+        hears = λ on. subst (λ x. Hears site d (heard_line x line false) (line ∷ []) intake caller (Ok Continue)) (sym is) (hears_line false d (Ok Continue) refl silent.grant_is serves talks);
       }
 
 -- ---- a line that ends a message
@@ -143,7 +141,7 @@ module _ (site : Site) (moment : ℕ) (d : Did) (line : Line) (message : Receive
     peer = talks.peer;
   }
 
-  pub line_given : (a b : Seen) (intake : Intake) (old new : Caller) (fed : Fed) → answer_of d.guest.peer d.guest.heard line ≡ Gives message → line ≡ DataEnd → Talks site old (with_line d.guest line false) → new.number ≡ old.number
+  pub line_given : (a b : Seen) (intake : Intake) (old new : Caller) (fed : Result Next CoreStop) → answer_of d.guest.peer d.guest.heard line ≡ Gives message → line ≡ DataEnd → Talks site old (with_line d.guest line false) → new.number ≡ old.number
       → AnswersMessage site moment d message a b intake old new fed → AnswersLine site moment d line a b intake new fed
   line_given a b intake old new fed gives ends talks number m =
       let x = message_by site moment d message m.choice in
@@ -157,7 +155,7 @@ module _ (site : Site) (moment : ℕ) (d : Did) (line : Line) (message : Receive
 
 -- ---- what an intake is ready for stays so
 
-pub ready_by : (old new : Intake) (before after : Caller) (line : Line) (a b : (k : ClockSeen) → Seen) (fed : Fed) → IsReady old before
+pub ready_by : (old new : Intake) (before after : Caller) (line : Line) (a b : (k : ClockSeen) → Seen) (fed : Result Next CoreStop) → IsReady old before
     → ((site : Site) (d : Did) (k : ClockSeen) → d.way ≡ GoesOn → Serves site old d.table → Talks site before d.guest → AnswersLine site old.moment d line (a k) (b k) new after fed) → is_onward fed ≡ true → IsReady new after
 ready_by old new before after line a b fed r answers on =
     let h = answers r.site (fresh_start r.table r.guest) (record { told = None; readings = 0 }) refl r.serves r.talks in

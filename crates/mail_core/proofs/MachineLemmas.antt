@@ -1,4 +1,4 @@
--- Each step of the machine does acts that lead from its table to the next, and says the final 250 of entries alone.
+-- Each step of the machine does effects that lead from its table to the next, and says the final 250 of entries alone.
 use Rattle.std.proofs.Common.{◌≡◌, ℕ, List, [], ◌∷◌, ◌++◌, Bool, true, false, Option, Some, None, refl, sym, ◌∙◌, ap, subst, append_assoc}
 use Rattle.std.specs.Prelude.{if◌then◌else◌, nat_le, length, fold, is_some}
 use Rattle.std.proofs.lemmas.List.{append-nil}
@@ -16,73 +16,72 @@ use Rattle.smtp_receive.specs.Sessions.{answer_of}
 use Rattle.smtp_receive.proofs.FinalLemmas.{reply_final, grant_final, hello_final, closing_final, greeting_final, memory_final, sessions_final, same_id}
 use Rattle.spool_store.specs.Tables.{Stored, Table, Command, stored, after, applied}
 use Rattle.spool_store.specs.Tables.Command.{Accept}
-use Rattle.mail_core.specs.declared.serving.Ending.TheVariants.{SpoolFault, IdsSpent}
 use Rattle.mail_core.specs.declared.serving.Site.{Site}
-use Rattle.mail_core.specs.Acts.{Act, Takes, Ticks, Commits, Sends, HangsUp, speech}
+use Rattle.mail_core.specs.Effects.{Effect, Takes, Ticks, Commits, Sends, HangsUp, speech}
 use Rattle.mail_core.specs.Guests.{Guest, is_passed, guest_of, is_here, next_line, with_bytes}
-use Rattle.mail_core.specs.Machine.{Opening, Replied, Dropped, Choice, Normal, OutOfMemory, Disconnects, SpoolFails, Choices, Way, GoesOn, Leaves, Over, Finish, By, Cut, Did, way_of, does, says, closes, is_over, commits, accepts, replies, fails, heard_line, by_choice, goes_on, answered, settled_by, settled, fresh_start, all_answered, State, Step, still, most_guests, turned_away, welcomed, opened, brought, pieced, handled, Turn, at_moment, taken, stepped, followed, run}
+use Rattle.mail_core.specs.Machine.{SpoolFault, IdsSpent, Opening, Replied, Dropped, Choice, Normal, OutOfMemory, Disconnects, SpoolFails, Choices, Way, GoesOn, Leaves, Over, Finish, By, Cut, Did, way_of, does, says, closes, is_over, commits, accepts, replies, fails, heard_line, by_choice, goes_on, answered, settled_by, settled, fresh_start, all_answered, State, Step, still, most_guests, turned_away, welcomed, opened, brought, pieced, handled, Turn, at_moment, taken, stepped, followed, run}
 use Rattle.mail_core.specs.Messages.{accept_of, draft_of, is_spent, last_id}
 use Rattle.mail_core.specs.Runs.{HasEntry, IsAcked, AreAcked}
 use Rattle.mail_core.specs.Seen.{table_after}
 use Rattle.mail_core.proofs.RanLemmas.{table_more}
 
--- ---- what acts are
+-- ---- what effects are
 
 -- a new entry lies in the site's directory
 abbrev IsPlaced : Site → Command → Type 0
 IsPlaced site (Accept draft body) = draft.dir ≡ site.dir
 
 -- a command is of the site
-abbrev IsOurs : Site → Act → Type 0
+abbrev IsOurs : Site → Effect → Type 0
 IsOurs site (Takes event) = Unit {0}
 IsOurs site (Ticks reading) = Unit {0}
 IsOurs site (Commits command) = IsPlaced site command
 IsOurs site (Sends session text whole) = Unit {0}
 IsOurs site (HangsUp session) = Unit {0}
 
-abbrev pub AreOurs : Site → List Act → Type 0
+abbrev pub AreOurs : Site → List Effect → Type 0
 AreOurs site [] = Unit {0}
-AreOurs site (act ∷ acts) = IsOurs site act × AreOurs site acts
+AreOurs site (effect ∷ effects) = IsOurs site effect × AreOurs site effects
 
--- acts that lead from a table to another
-pub record Leads (site : Site) (old new : Table) (acts : List Act) : Type 0 where
-  pub table : new ≡ table_after old acts
-  pub acked : AreAcked old acts
-  pub ours : AreOurs site acts
+-- effects that lead from a table to another
+pub record Leads (site : Site) (old new : Table) (effects : List Effect) : Type 0 where
+  pub table : new ≡ table_after old effects
+  pub acked : AreAcked old effects
+  pub ours : AreOurs site effects
 
 -- what was done has grown
 pub record Grows (site : Site) (d e : Did) : Type 0 where
-  pub more : List Act
-  pub acts : e.acts ≡ d.acts ++ more
+  pub more : List Effect
+  pub effects : e.effects ≡ d.effects ++ more
   pub leads : Leads site d.table e.table more
   pub number : e.guest.number ≡ d.guest.number
 
--- ---- acts join
+-- ---- effects join
 
-pub acked_join : (table : Table) (xs ys : List Act) → AreAcked table xs → AreAcked (table_after table xs) ys → AreAcked table (xs ++ ys)
+pub acked_join : (table : Table) (xs ys : List Effect) → AreAcked table xs → AreAcked (table_after table xs) ys → AreAcked table (xs ++ ys)
 acked_join table [] ys h k = k
 acked_join table (x ∷ xs) ys h k = (h.0, acked_join (table_after table (x ∷ [])) xs ys h.1 (subst (λ t. AreAcked t ys) (table_more table (x ∷ []) xs) k))
 
-pub acked_front : (table : Table) (xs ys : List Act) → AreAcked table (xs ++ ys) → AreAcked table xs
+pub acked_front : (table : Table) (xs ys : List Effect) → AreAcked table (xs ++ ys) → AreAcked table xs
 acked_front table [] ys h = tt
 acked_front table (x ∷ xs) ys h = (h.0, acked_front (table_after table (x ∷ [])) xs ys h.1)
 
-pub ours_join : (site : Site) (xs ys : List Act) → AreOurs site xs → AreOurs site ys → AreOurs site (xs ++ ys)
+pub ours_join : (site : Site) (xs ys : List Effect) → AreOurs site xs → AreOurs site ys → AreOurs site (xs ++ ys)
 ours_join site [] ys h k = k
 ours_join site (x ∷ xs) ys h k = (h.0, ours_join site xs ys h.1 k)
 
-pub ours_front : (site : Site) (xs ys : List Act) → AreOurs site (xs ++ ys) → AreOurs site xs
+pub ours_front : (site : Site) (xs ys : List Effect) → AreOurs site (xs ++ ys) → AreOurs site xs
 ours_front site [] ys h = tt
 ours_front site (x ∷ xs) ys h = (h.0, ours_front site xs ys h.1)
 
-pub ours_back : (site : Site) (xs ys : List Act) → AreOurs site (xs ++ ys) → AreOurs site ys
+pub ours_back : (site : Site) (xs ys : List Effect) → AreOurs site (xs ++ ys) → AreOurs site ys
 ours_back site [] ys h = h
 ours_back site (x ∷ xs) ys h = ours_back site xs ys h.1
 
 pub leads_none : (site : Site) (table : Table) → Leads site table table []
 leads_none site table = record { table = refl; acked = tt; ours = tt }
 
-pub leads_join : (site : Site) (one two three : Table) (xs ys : List Act) → Leads site one two xs → Leads site two three ys → Leads site one three (xs ++ ys)
+pub leads_join : (site : Site) (one two three : Table) (xs ys : List Effect) → Leads site one two xs → Leads site two three ys → Leads site one three (xs ++ ys)
 leads_join site one two three xs ys h k = record {
   table = k.table ∙ ap (λ t. table_after t ys) h.table ∙ sym (table_more one xs ys);
   acked = acked_join one xs ys h.acked (subst (λ t. AreAcked t ys) h.table k.acked);
@@ -118,7 +117,7 @@ entry_of site moment table message session whole left = λ id within is.
       id_is = same_id table.next id (unspent table left) within is;
     }
 
--- ---- single acts
+-- ---- single effects
 
 speech_leads : (site : Site) (table : Table) (session : ℕ) (text : List ℕ) (whole : Bool) → ((w : Bool) → IsAcked table (Sends session text w)) → Leads site table table (speech session text whole)
 speech_leads site table session text true acked = record { table = refl; acked = (acked true, tt); ours = (tt, tt) }
@@ -133,18 +132,18 @@ hang_leads site table session = record { table = refl; acked = (tt, tt); ours = 
 -- ---- what is done for a session
 
 grows_none : (site : Site) (d : Did) → Grows site d d
-grows_none site d = record { more = []; acts = sym (append-nil d.acts); leads = leads_none site d.table; number = refl }
+grows_none site d = record { more = []; effects = sym (append-nil d.effects); leads = leads_none site d.table; number = refl }
 
 grows_join : (site : Site) (d e x : Did) → Grows site d e → Grows site e x → Grows site d x
 grows_join site d e x h k = record {
   more = h.more ++ k.more;
-  acts = k.acts ∙ ap (λ q. q ++ k.more) h.acts ∙ append_assoc d.acts h.more k.more;
+  effects = k.effects ∙ ap (λ q. q ++ k.more) h.effects ∙ append_assoc d.effects h.more k.more;
   leads = leads_join site d.table e.table x.table h.more k.more h.leads k.leads;
   number = k.number ∙ h.number;
 }
 
-does_grows : (site : Site) (d : Did) (acts : List Act) (way : Way) → Leads site d.table d.table acts → Grows site d (does d acts way)
-does_grows site d acts way leads = record { more = acts; acts = refl; leads = leads; number = refl }
+does_grows : (site : Site) (d : Did) (effects : List Effect) (way : Way) → Leads site d.table d.table effects → Grows site d (does d effects way)
+does_grows site d effects way leads = record { more = effects; effects = refl; leads = leads; number = refl }
 
 says_grows : (site : Site) (d : Did) (text : List ℕ) (whole : Bool) → ((w : Bool) → IsAcked d.table (Sends d.guest.number text w)) → Grows site d (says d text whole)
 says_grows site d text whole acked = does_grows site d (speech d.guest.number text whole) (way_of whole) (speech_leads site d.table d.guest.number text whole acked)
@@ -166,7 +165,7 @@ drops_grows site d = does_grows site d (HangsUp d.guest.number ∷ []) Leaves (h
 commits_grows : (site : Site) (moment : ℕ) (d : Did) (message : Received) → Grows site d (commits site moment d message)
 commits_grows site moment d message = record {
   more = Commits (accept_of site moment message) ∷ [];
-  acts = refl;
+  effects = refl;
   leads = record { table = refl; acked = (tt, tt); ours = (refl, tt) };
   number = refl;
 }
@@ -209,7 +208,7 @@ fails_grows site moment d Ends = over_grows site d Cut
 fails_grows site moment d Passes = over_grows site d Cut
 
 line_grows : (site : Site) (d e : Did) (line : Line) (short : Bool) → Grows site d e → Grows site d (heard_line e line short)
-line_grows site d e line short h = record { more = h.more; acts = h.acts; leads = h.leads; number = h.number }
+line_grows site d e line short h = record { more = h.more; effects = h.effects; leads = h.leads; number = h.number }
 
 drop_grows : (site : Site) (d : Did) (may : Bool) → Grows site d (if may then does d (HangsUp d.guest.number ∷ []) Leaves else is_over d Cut)
 drop_grows site d true = drops_grows site d
@@ -262,15 +261,15 @@ all_grows site moment table guest choices =
     let e = fold (answered site moment) d choices in
     grows_join site d e (settled e) (fold_grows site moment d choices) (settled_grows site e.way (next_line e.guest) e)
 
-all_leads : (site : Site) (moment : ℕ) (table : Table) (guest : Guest) (choices : List Choice) → Leads site table (all_answered site moment table guest choices).table (all_answered site moment table guest choices).acts
+all_leads : (site : Site) (moment : ℕ) (table : Table) (guest : Guest) (choices : List Choice) → Leads site table (all_answered site moment table guest choices).table (all_answered site moment table guest choices).effects
 all_leads site moment table guest choices =
     let h = all_grows site moment table guest choices in
-    subst (Leads site table (all_answered site moment table guest choices).table) (sym h.acts) h.leads
+    subst (Leads site table (all_answered site moment table guest choices).table) (sym h.effects) h.leads
 
 -- ---- events
 
 abbrev Steps : Site → Table → Step → Type 0
-Steps site table step = Leads site table step.state.table step.acts
+Steps site table step = Leads site table step.state.table step.effects
 
 either_steps : (site : Site) (table : Table) (b : Bool) (one other : Step) → Steps site table one → Steps site table other → Steps site table (if b then one else other)
 either_steps site table true one other h k = h
@@ -297,7 +296,7 @@ opened_steps site m session peer choice =
     either_steps site m.table (is_here session m.guests) (still m) crowd (still_steps site m)
     (either_steps site m.table (nat_le most_guests (length m.guests)) (turned_away m session choice) (welcomed site m session peer choice) (away_steps site m session choice) (welcome_steps site m session peer choice))
 
-brought_steps : (site : Site) (m : State) (way : Way) (d : Did) → Leads site m.table d.table d.acts → Steps site m.table (brought m way d)
+brought_steps : (site : Site) (m : State) (way : Way) (d : Did) → Leads site m.table d.table d.effects → Steps site m.table (brought m way d)
 brought_steps site m GoesOn d h = h
 brought_steps site m Leaves d h = h
 brought_steps site m (Over finish) d h = h
@@ -318,27 +317,27 @@ handled_steps site m Stops none = leads_none site m.table
 taken_steps : (site : Site) (table : Table) (turn : Turn) (step : Step) → Steps site table step → Steps site table (taken turn step)
 taken_steps site table turn step h = record { table = h.table; acked = (tt, (tt, h.acked)); ours = (tt, (tt, h.ours)) }
 
--- the acts of a step lead to its table
-pub stepped_leads : (site : Site) (m : State) (turn : Turn) → Leads site m.table (stepped site m turn).state.table (stepped site m turn).acts
+-- the effects of a step lead to its table
+pub stepped_leads : (site : Site) (m : State) (turn : Turn) → Leads site m.table (stepped site m turn).state.table (stepped site m turn).effects
 stepped_leads site m turn =
     let step = handled site (at_moment m turn.reading) turn.event turn.choices in
     either_steps site m.table (is_some m.over) (still m) (taken turn step) (still_steps site m)
     (taken_steps site m.table turn step (handled_steps site (at_moment m turn.reading) turn.event turn.choices))
 
--- the acts of a run lead to its table
-pub run_leads : (site : Site) (m : State) (turns : List Turn) → Leads site m.table (run site m turns).state.table (run site m turns).acts
+-- the effects of a run lead to its table
+pub run_leads : (site : Site) (m : State) (turns : List Turn) → Leads site m.table (run site m turns).state.table (run site m turns).effects
 run_leads site m [] = leads_none site m.table
 run_leads site m (turn ∷ turns) =
     let now = stepped site m turn in
     let later = run site now.state turns in
-    leads_join site m.table now.state.table later.state.table now.acts later.acts (stepped_leads site m turn) (run_leads site now.state turns)
+    leads_join site m.table now.state.table later.state.table now.effects later.effects (stepped_leads site m turn) (run_leads site now.state turns)
 
 -- a run and one turn more
 pub run_more : (site : Site) (m : State) (turns : List Turn) (turn : Turn) → run site m (turns ++ turn ∷ []) ≡ followed (run site m turns) (stepped site (run site m turns).state turn)
-run_more site m [] turn = ap (λ q. record { state = (stepped site m turn).state; acts = q }) (append-nil (stepped site m turn).acts)
+run_more site m [] turn = ap (λ q. record { state = (stepped site m turn).state; effects = q }) (append-nil (stepped site m turn).effects)
 run_more site m (first ∷ turns) turn =
     let now = stepped site m first in
     let later = run site now.state turns in
     let last = stepped site later.state turn in
     ap (λ (q : Step). followed now q) (run_more site now.state turns turn)
-    ∙ ap (λ q. record { state = last.state; acts = q }) (sym (append_assoc now.acts later.acts last.acts))
+    ∙ ap (λ q. record { state = last.state; effects = q }) (sym (append_assoc now.effects later.effects last.effects))

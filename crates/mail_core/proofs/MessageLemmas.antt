@@ -17,14 +17,14 @@ use Rattle.spool_store.specs.Tables.{Table, IsSound, after}
 use Rattle.spool_store.specs.Tables.Command.{Accept}
 use Rattle.spool_store.proofs.TableLemmas.{accept_sound}
 use Rattle.mail_core.specs.declared.caller.Caller.{Caller}
-use Rattle.mail_core.specs.declared.fed.Fed.{Fed}
-use Rattle.mail_core.specs.declared.fed.Fed.TheVariants.{Faulted, Spent}
+use Rattle.mail_core.specs.declared.next.Next.{Next}
+use Rattle.mail_core.specs.declared.serving.CoreStop.{CoreStop}
+use Rattle.mail_core.specs.declared.serving.CoreStop.TheVariants as stops
 use Rattle.mail_core.specs.declared.intake.Intake.{Intake}
-use Rattle.mail_core.specs.declared.serving.Ending.TheVariants.{IdsSpent}
 use Rattle.mail_core.specs.declared.serving.Site.{Site}
-use Rattle.mail_core.specs.Acts.{heard_of, speech}
+use Rattle.mail_core.specs.Effects.{heard_of, speech}
 use Rattle.mail_core.specs.Going.{Does, AnswersMessage, IsReset, is_onward, is_granted}
-use Rattle.mail_core.specs.Machine.{Normal, OutOfMemory, SpoolFails, GoesOn, By, Did, says, is_over, commits, accepts}
+use Rattle.mail_core.specs.Machine.{IdsSpent, Normal, OutOfMemory, SpoolFails, GoesOn, By, Did, says, is_over, commits, accepts}
 use Rattle.mail_core.specs.Messages.{accept_of, draft_of, control_of, is_spent, last_id}
 use Rattle.mail_core.specs.Seen.{seen}
 use Rattle.mail_core.specs.Standing.{dirs_of, Stores, Serves}
@@ -91,11 +91,11 @@ serves_same site old new table s e = subst (λ i. Serves site i table) (sym e) s
 
 module _ (site : Site) (moment : ℕ) (d : Did) (message : Received) (old new : Caller) (k : ClockSeen) where
   -- no id is left
-  pub message_spent : (f : FloorHeard) (s : Spooled) (intake : Intake) → is_spent d.table ≡ true → AnswersMessage site moment d message (seen f s k) (seen f s k) intake old new Spent
+  pub message_spent : (f : FloorHeard) (s : Spooled) (intake : Intake) → is_spent d.table ≡ true → AnswersMessage site moment d message (seen f s k) (seen f s k) intake old new (Err stops.IdsSpent)
   message_spent f s intake spent = record {
     choice = Normal true;
     answers = λ e. cc e;
-    does = subst (λ e. Does site d e (seen f s k) (seen f s k) Spent) (sym (cond-true (is_spent d.table) _ _ spent)) (does_spent site d f s k spent);
+    does = subst (λ e. Does site d e (seen f s k) (seen f s k) (Err stops.IdsSpent)) (sym (cond-true (is_spent d.table) _ _ spent)) (does_spent site d f s k spent);
     guest = accepts_guest site moment d message true;
     serves = λ on. absurd (cc on);
     caller = λ on. absurd (cc on);
@@ -103,7 +103,7 @@ module _ (site : Site) (moment : ℕ) (d : Did) (message : Received) (old new : 
   }
 
   -- it was not taken in for want of memory
-  pub message_lacked : (f g : FloorHeard) (s : Spooled) (intake : Intake) (fed : Fed) → IsSpoken fed → is_granted fed ≡ false → Gains f.told g.told (heard_of (speech d.guest.number out_of_memory_text (is_onward fed))) → g.faults ≡ f.faults
+  pub message_lacked : (f g : FloorHeard) (s : Spooled) (intake : Intake) (fed : Result Next CoreStop) → IsSpoken fed → is_granted fed ≡ false → Gains f.told g.told (heard_of (speech d.guest.number out_of_memory_text (is_onward fed))) → g.faults ≡ f.faults
       → Serves site intake d.table → IsReset old new → AnswersMessage site moment d message (seen f s k) (seen g s k) intake old new fed
   message_lacked f g s intake fed spoken granted told own serves reset = record {
     choice = OutOfMemory (is_onward fed);
@@ -117,7 +117,7 @@ module _ (site : Site) (moment : ℕ) (d : Did) (message : Received) (old new : 
 
   -- the spool failed
   pub message_failed : (f : FloorHeard) (s t : Spooled) (intake : Intake) → is_spent d.table ≡ false → Moves s t (IsClean (dirs_of site) d.table) (IsEither (dirs_of site) d.table (accept_of site moment message)) (IsEither (dirs_of site) d.table (accept_of site moment message)) → s.faults ≤ t.faults → Rose s.faults t.faults
-      → AnswersMessage site moment d message (seen f s k) (seen f t k) intake old new Faulted
+      → AnswersMessage site moment d message (seen f s k) (seen f t k) intake old new (Err stops.SpoolFault)
   message_failed f s t intake left moves later rose = record {
     choice = SpoolFails;
     answers = λ e. cc e;
@@ -128,7 +128,7 @@ module _ (site : Site) (moment : ℕ) (d : Did) (message : Received) (old new : 
     granted = refl;
   }
 
-  module _ (f g : FloorHeard) (s t : Spooled) (before intake : Intake) (store : Store) (fed : Fed) where
+  module _ (f g : FloorHeard) (s t : Spooled) (before intake : Intake) (store : Store) (fed : Result Next CoreStop) where
     -- a store that has taken it in
     taken_in : Serves site before d.table → intake ≡ record before { store = store } → store ≡ record before.store { next = before.store.next + 1 } → Serves site intake (after d.table (accept_of site moment message))
     taken_in serves is more = subst (λ i. Serves site i (after d.table (accept_of site moment message))) (sym is) (record {

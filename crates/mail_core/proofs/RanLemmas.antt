@@ -1,4 +1,4 @@
--- Acts join, and single calls are acts.
+-- Effects join, and single calls are effects.
 use Rattle.std.proofs.Common.{◌≡◌, inl, inr, ⊎_elim, ℕ, ◌+◌, ◌≤◌, List, [], ◌∷◌, ◌++◌, length, Bool, true, false, Option, Some, None, refl, sym, ◌∙◌, ap, subst, arith, append_assoc, length-append}
 use Rattle.std.proofs.lemmas.Grind.{flat_map-append}
 use Rattle.mail_base.specs.Histories.{Gains}
@@ -12,17 +12,17 @@ use Rattle.spool_store.specs.Standing.{IsClean, IsEither, StandsFor}
 use Rattle.spool_store.specs.Tables.{Table, Command, after, applied}
 use Rattle.spool_store.proofs.MovesLemmas.{moves_join, moves_none}
 use Rattle.spool_store.proofs.TableLemmas.{applied_more}
-use Rattle.mail_core.specs.Acts.{Act, Commits, heard, read, commanded, heard_of, readings_of, commands_of}
+use Rattle.mail_core.specs.Effects.{Effect, Commits, heard, read, commanded, heard_of, readings_of, commands_of}
 use Rattle.mail_core.specs.Seen.{Seen, seen, table_after, IsPart, Leaves, Ran}
 
--- the table after two lists of acts
-pub table_more : (table : Table) (xs ys : List Act) → table_after table (xs ++ ys) ≡ table_after (table_after table xs) ys
+-- the table after two lists of effects
+pub table_more : (table : Table) (xs ys : List Effect) → table_after table (xs ++ ys) ≡ table_after (table_after table xs) ys
 table_more table xs ys = ap (applied table) (flat_map-append commanded xs ys) ∙ applied_more table (commands_of xs) (commands_of ys)
 
-part_before : (dirs : List (List ℕ)) (table : Table) (xs ys : List Act) (f : FileMap) → IsPart dirs table xs f → IsPart dirs table (xs ++ ys) f
+part_before : (dirs : List (List ℕ)) (table : Table) (xs ys : List Effect) (f : FileMap) → IsPart dirs table xs f → IsPart dirs table (xs ++ ys) f
 part_before dirs table xs ys f p = record { done = p.done; rest = p.rest ++ ys; whole = ap (λ q. q ++ ys) p.whole ∙ append_assoc p.done p.rest ys; stands = p.stands }
 
-part_after : (dirs : List (List ℕ)) (table : Table) (xs ys : List Act) (f : FileMap) → IsPart dirs (table_after table xs) ys f → IsPart dirs table (xs ++ ys) f
+part_after : (dirs : List (List ℕ)) (table : Table) (xs ys : List Effect) (f : FileMap) → IsPart dirs (table_after table xs) ys f → IsPart dirs table (xs ++ ys) f
 part_after dirs table xs ys f p = record {
   done = xs ++ p.done;
   rest = p.rest;
@@ -30,7 +30,7 @@ part_after dirs table xs ys f p = record {
   stands = subst (λ t. StandsFor dirs t f) (sym (table_more table xs p.done)) p.stands;
 }
 
-leaves_after : (dirs : List (List ℕ)) (table : Table) (xs ys : List Act) (well : Bool) (f : FileMap) → Leaves dirs (table_after table xs) ys well f → Leaves dirs table (xs ++ ys) well f
+leaves_after : (dirs : List (List ℕ)) (table : Table) (xs ys : List Effect) (well : Bool) (f : FileMap) → Leaves dirs (table_after table xs) ys well f → Leaves dirs table (xs ++ ys) well f
 leaves_after dirs table xs ys true f h = subst (λ t. IsClean dirs t f) (sym (table_more table xs ys)) h
 leaves_after dirs table xs ys false f h = record {
   done = xs ++ h.done;
@@ -54,8 +54,8 @@ moves_wider a b P Q S R U to left h = record {
   kept = h.kept;
 }
 
--- acts after acts
-pub ran_join : (dirs : List (List ℕ)) (table : Table) (a b c : Seen) (xs ys : List Act) (well : Bool) → Ran dirs table a b xs true → Ran dirs (table_after table xs) b c ys well → Ran dirs table a c (xs ++ ys) well
+-- effects after effects
+pub ran_join : (dirs : List (List ℕ)) (table : Table) (a b c : Seen) (xs ys : List Effect) (well : Bool) → Ran dirs table a b xs true → Ran dirs (table_after table xs) b c ys well → Ran dirs table a c (xs ++ ys) well
 ran_join dirs table a b c xs ys well h k = record {
   floor = subst (Gains a.floor.told c.floor.told) (sym (flat_map-append heard xs ys)) (gains_join a.floor.told b.floor.told c.floor.told (heard_of xs) (heard_of ys) h.floor k.floor);
   clock = subst (Gains a.clock.told c.clock.told) (sym (flat_map-append read xs ys)) (gains_join a.clock.told b.clock.told c.clock.told (readings_of xs) (readings_of ys) h.clock k.clock);
@@ -67,23 +67,23 @@ ran_join dirs table a b c xs ys well h k = record {
   spool_faults = omega (arith, h.spool_faults, k.spool_faults);
 }
 
--- acts that ask nothing of the spool
-pub ran_quiet : (dirs : List (List ℕ)) (table : Table) (f g : Heard) (s : Spooled) (c d : ClockSeen) (acts : List Act) → commands_of acts ≡ [] → Gains f.told g.told (heard_of acts) → f.faults ≤ g.faults
-    → Gains c.told d.told (readings_of acts) → d.readings ≡ c.readings + length (readings_of acts) → Ran dirs table (seen f s c) (seen g s d) acts true
-ran_quiet dirs table f g s c d acts none floor faults clock readings = record {
+-- effects that ask nothing of the spool
+pub ran_quiet : (dirs : List (List ℕ)) (table : Table) (f g : Heard) (s : Spooled) (c d : ClockSeen) (effects : List Effect) → commands_of effects ≡ [] → Gains f.told g.told (heard_of effects) → f.faults ≤ g.faults
+    → Gains c.told d.told (readings_of effects) → d.readings ≡ c.readings + length (readings_of effects) → Ran dirs table (seen f s c) (seen g s d) effects true
+ran_quiet dirs table f g s c d effects none floor faults clock readings = record {
   floor = floor;
   clock = clock;
   readings = readings;
-  spool = moves_none s (IsClean dirs table) (Leaves dirs table acts true) (IsPart dirs table acts) (λ files p. subst (λ cs. IsClean dirs (applied table cs) files) (sym none) p);
+  spool = moves_none s (IsClean dirs table) (Leaves dirs table effects true) (IsPart dirs table effects) (λ files p. subst (λ cs. IsClean dirs (applied table cs) files) (sym none) p);
   floor_faults = faults;
   spool_faults = omega arith;
 }
 
--- acts of the floor alone
-pub ran_floor : (dirs : List (List ℕ)) (table : Table) (f g : Heard) (s : Spooled) (c : ClockSeen) (acts : List Act) → commands_of acts ≡ [] → readings_of acts ≡ [] → Gains f.told g.told (heard_of acts) → g.faults ≡ f.faults
-    → Ran dirs table (seen f s c) (seen g s c) acts true
-ran_floor dirs table f g s c acts none unread floor same =
-    ran_quiet dirs table f g s c c acts none floor (omega (arith, same)) (subst (Gains c.told c.told) (sym unread) (gains_none c.told)) (omega (arith, ap length unread))
+-- effects of the floor alone
+pub ran_floor : (dirs : List (List ℕ)) (table : Table) (f g : Heard) (s : Spooled) (c : ClockSeen) (effects : List Effect) → commands_of effects ≡ [] → readings_of effects ≡ [] → Gains f.told g.told (heard_of effects) → g.faults ≡ f.faults
+    → Ran dirs table (seen f s c) (seen g s c) effects true
+ran_floor dirs table f g s c effects none unread floor same =
+    ran_quiet dirs table f g s c c effects none floor (omega (arith, same)) (subst (Gains c.told c.told) (sym unread) (gains_none c.told)) (omega (arith, ap length unread))
 
 pub ran_none : (dirs : List (List ℕ)) (table : Table) (f : Heard) (s : Spooled) (c : ClockSeen) → Ran dirs table (seen f s c) (seen f s c) [] true
 ran_none dirs table f s c = ran_floor dirs table f f s c [] refl refl (gains_none f.told) refl

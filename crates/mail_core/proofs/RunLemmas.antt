@@ -1,5 +1,5 @@
 -- Runs begin, go on and end.
-use Rattle.std.proofs.Common.{◌≡◌, ◌≢◌, inl, inr, ⊎_elim, Less, ℕ, ◌+◌, ◌<◌, ◌≤◌, List, [], ◌∷◌, ◌++◌, Bool, true, false, Option, Some, None, refl, sym, ◌∙◌, ap, subst, arith}
+use Rattle.std.proofs.Common.{◌≡◌, ◌≢◌, inl, inr, ⊎_elim, Less, ℕ, ◌+◌, ◌<◌, ◌≤◌, List, [], ◌∷◌, ◌++◌, Bool, true, false, Option, Some, None, Result, Ok, refl, sym, ◌∙◌, ap, subst, arith}
 use Rattle.std.specs.Prelude.{Contains}
 use Rattle.std.specs.Cmp.{ranks}
 use Rattle.std.specs.List.{AllByRecursion}
@@ -34,11 +34,12 @@ use Rattle.spool_store.proofs.StageLemmas.{clean_stands}
 use Rattle.spool_store.proofs.TableLemmas.{accept_sound}
 use Rattle.mail_core.specs.declared.serving.Core.{Core}
 use Rattle.mail_core.specs.declared.serving.Site.{Site}
-use Rattle.mail_core.specs.declared.serving.Went.{Went}
-use Rattle.mail_core.specs.declared.serving.Went.TheVariants.{GoesOn}
-use Rattle.mail_core.specs.Acts.{Act, Takes, Ticks, Commits, Sends, HangsUp, heard, heard_of, commands_of}
-use Rattle.mail_core.specs.Causes.{EndsSo}
-use Rattle.mail_core.specs.Events.{Turns, is_well}
+use Rattle.mail_core.specs.declared.serving.Act.{Act}
+use Rattle.mail_core.specs.declared.serving.Act.TheVariants.{Went}
+use Rattle.mail_core.specs.declared.serving.CoreStop.{CoreStop}
+use Rattle.mail_core.specs.Effects.{Effect, Takes, Ticks, Commits, Sends, HangsUp, heard, heard_of, commands_of}
+use Rattle.mail_core.specs.Causes.{EndsSo, is_well}
+use Rattle.mail_core.specs.Events.{Turns}
 use Rattle.mail_core.specs.Machine.{Step, Turn, beginning, stepped}
 use Rattle.mail_core.specs.Runs.{AreAcked, HasEntry, Headline, IsAcked, IsEnded, IsKept, IsLeft, IsUnderWay, run_over}
 use Rattle.mail_core.specs.Seen.{IsPart, LacksLast, Leaves as Left, Ran, Seen, seen, table_after}
@@ -89,17 +90,17 @@ under_way_begin site table core f g s t c reads same floor_faults spool_faults s
 -- ---- a run goes on
 
 -- one turn more
-ran_turn : (site : Site) (table : Table) (turns : List Turn) (turn : Turn) (a b c : Seen) (well : Bool) → Ran (dirs_of site) table a b (run_over site table turns).acts true
-    → Ran (dirs_of site) (run_over site table turns).state.table b c (stepped site (run_over site table turns).state turn).acts well
-    → Ran (dirs_of site) table a c (run_over site table (turns ++ turn ∷ [])).acts well
+ran_turn : (site : Site) (table : Table) (turns : List Turn) (turn : Turn) (a b c : Seen) (well : Bool) → Ran (dirs_of site) table a b (run_over site table turns).effects true
+    → Ran (dirs_of site) (run_over site table turns).state.table b c (stepped site (run_over site table turns).state turn).effects well
+    → Ran (dirs_of site) table a c (run_over site table (turns ++ turn ∷ [])).effects well
 ran_turn site table turns turn a b c well h k =
     let run = run_over site table turns in
     let last = stepped site run.state turn in
     let leads = run_leads site (beginning table) turns in
-    subst (λ (q : Step). Ran (dirs_of site) table a c q.acts well) (sym (run_more site (beginning table) turns turn))
-    (ran_join (dirs_of site) table a b c run.acts last.acts well h (subst (λ t. Ran (dirs_of site) t b c last.acts well) leads.table k))
+    subst (λ (q : Step). Ran (dirs_of site) table a c q.effects well) (sym (run_more site (beginning table) turns turn))
+    (ran_join (dirs_of site) table a b c run.effects last.effects well h (subst (λ t. Ran (dirs_of site) t b c last.effects well) leads.table k))
 
-pub under_way_more : (site : Site) (table : Table) (core new : Core) (n : ℕ) (event : Event) (reading : ℕ) (a b c : Seen) → (u : IsUnderWay site table core n a b) → Turns site (run_over site table u.turns).state event reading b c new GoesOn
+pub under_way_more : (site : Site) (table : Table) (core new : Core) (n : ℕ) (event : Event) (reading : ℕ) (a b c : Seen) → (u : IsUnderWay site table core n a b) → Turns site (run_over site table u.turns).state event reading b c new (Ok Went)
     → c.clock.readings ≡ b.clock.readings + 1 → IsUnderWay site table new (n + 1) a c
 under_way_more site table core new n event reading a b c u t read =
     let turn : Turn = record { event = event; reading = reading; choices = t.choices } in record {
@@ -114,18 +115,18 @@ under_way_more site table core new n event reading a b c u t read =
 pub under_way_floor : (site : Site) (table : Table) (core : Core) (n : ℕ) (a : Seen) (f g : Heard) (s : Spooled) (k : ClockSeen) → IsUnderWay site table core n a (seen f s k) → Gains f.told g.told [] → f.faults ≤ g.faults
     → IsUnderWay site table core n a (seen g s k)
 under_way_floor site table core n a f g s k u gains le =
-    let acts = (run_over site table u.turns).acts in record {
+    let effects = (run_over site table u.turns).effects in record {
       turns = u.turns;
       events = u.events;
-      ran = subst (λ q. Ran (dirs_of site) table a (seen g s k) q true) (append-nil acts)
-          (ran_join (dirs_of site) table a (seen f s k) (seen g s k) acts [] true u.ran (ran_quiet (dirs_of site) (table_after table acts) f g s k k [] refl gains le (gains_none k.told) (omega arith)));
+      ran = subst (λ q. Ran (dirs_of site) table a (seen g s k) q true) (append-nil effects)
+          (ran_join (dirs_of site) table a (seen f s k) (seen g s k) effects [] true u.ran (ran_quiet (dirs_of site) (table_after table effects) f g s k k [] refl gains le (gains_none k.told) (omega arith)));
       readings = u.readings;
       stands = u.stands;
     }
 
 -- ---- what was sent was done
 
-one_sent : (act : Act) (session : ℕ) (text : List ℕ) → Contains (heard act) (Sent session text) → act ≡ Sends session text true
+one_sent : (effect : Effect) (session : ℕ) (text : List ℕ) → Contains (heard effect) (Sent session text) → effect ≡ Sends session text true
 one_sent (Takes event) session text h = let e : Took event ≡ Sent session text = one_only (Took event) (Sent session text) h in absurd (cc e)
 one_sent (Ticks reading) session text h = absurd (nothing_there (Sent session text) h)
 one_sent (Commits command) session text h = absurd (nothing_there (Sent session text) h)
@@ -133,37 +134,37 @@ one_sent (Sends other bytes true) session text h = let e : Sent other bytes ≡ 
 one_sent (Sends other bytes false) session text h = let e : Unsent other ≡ Sent session text = one_only (Unsent other) (Sent session text) h in absurd (cc e)
 one_sent (HangsUp other) session text h = let e : HungUp other ≡ Sent session text = one_only (HungUp other) (Sent session text) h in absurd (cc e)
 
-sent_done : (acts : List Act) (session : ℕ) (text : List ℕ) → Contains (heard_of acts) (Sent session text) → Contains acts (Sends session text true)
+sent_done : (effects : List Effect) (session : ℕ) (text : List ℕ) → Contains (heard_of effects) (Sent session text) → Contains effects (Sends session text true)
 sent_done [] session text h = absurd (nothing_there (Sent session text) h)
-sent_done (act ∷ acts) session text h = ⊎_elim
-    (λ first. Contains-append_left (act ∷ []) acts (Sends session text true) (subst (Contains (act ∷ [])) (one_sent act session text first) (Contains-push [] act)))
-    (λ rest. Contains-append_right (act ∷ []) acts (Sends session text true) (sent_done acts session text rest))
-    (Contains-append_cases (heard act) (heard_of acts) (Sent session text) h)
+sent_done (effect ∷ effects) session text h = ⊎_elim
+    (λ first. Contains-append_left (effect ∷ []) effects (Sends session text true) (subst (Contains (effect ∷ [])) (one_sent effect session text first) (Contains-push [] effect)))
+    (λ rest. Contains-append_right (effect ∷ []) effects (Sends session text true) (sent_done effects session text rest))
+    (Contains-append_cases (heard effect) (heard_of effects) (Sent session text) h)
 
--- the entry of a final 250 is in the table after the acts
-acked_entry : (id session : ℕ) (table : Table) (acts : List Act) → IsId id → AreAcked table acts → Contains acts (Sends session (stored_text id) true) → HasEntry (table_after table acts) id
+-- the entry of a final 250 is in the table after the effects
+acked_entry : (id session : ℕ) (table : Table) (effects : List Effect) → IsId id → AreAcked table effects → Contains effects (Sends session (stored_text id) true) → HasEntry (table_after table effects) id
 acked_entry id session table [] within acked h = absurd (nothing_there (Sends session (stored_text id) true) h)
-acked_entry id session table (act ∷ acts) within acked h = ⊎_elim
+acked_entry id session table (effect ∷ effects) within acked h = ⊎_elim
     (λ first.
-    let is : act ≡ Sends session (stored_text id) true = one_only act (Sends session (stored_text id) true) first in
+    let is : effect ≡ Sends session (stored_text id) true = one_only effect (Sends session (stored_text id) true) first in
     let there : (i : ℕ) → IsId i → stored_text id ≡ stored_text i → HasEntry table i = subst (IsAcked table) is acked.0 in
-    entry_stays id table (commands_of (act ∷ acts)) (there id within refl))
-    (λ rest. subst (λ t. HasEntry t id) (sym (table_more table (act ∷ []) acts)) (acked_entry id session (table_after table (act ∷ [])) acts within acked.1 rest))
-    (Contains-append_cases (act ∷ []) acts (Sends session (stored_text id) true) h)
+    entry_stays id table (commands_of (effect ∷ effects)) (there id within refl))
+    (λ rest. subst (λ t. HasEntry t id) (sym (table_more table (effect ∷ []) effects)) (acked_entry id session (table_after table (effect ∷ [])) effects within acked.1 rest))
+    (Contains-append_cases (effect ∷ []) effects (Sends session (stored_text id) true) h)
 
 -- ---- tables stay sound
 
-sound_one : (site : Site) (table : Table) (act : Act) → IsSound (dirs_of site) table → AreOurs site (act ∷ []) → IsSound (dirs_of site) (table_after table (act ∷ []))
+sound_one : (site : Site) (table : Table) (effect : Effect) → IsSound (dirs_of site) table → AreOurs site (effect ∷ []) → IsSound (dirs_of site) (table_after table (effect ∷ []))
 sound_one site table (Takes event) sound ours = sound
 sound_one site table (Ticks reading) sound ours = sound
 sound_one site table (Commits (Accept draft body)) sound ours = accept_sound (dirs_of site) table draft body sound (one_dir site draft.dir ours.0)
 sound_one site table (Sends session text whole) sound ours = sound
 sound_one site table (HangsUp session) sound ours = sound
 
-sound_after : (site : Site) (table : Table) (acts : List Act) → IsSound (dirs_of site) table → AreOurs site acts → IsSound (dirs_of site) (table_after table acts)
+sound_after : (site : Site) (table : Table) (effects : List Effect) → IsSound (dirs_of site) table → AreOurs site effects → IsSound (dirs_of site) (table_after table effects)
 sound_after site table [] sound ours = sound
-sound_after site table (act ∷ acts) sound ours = subst (IsSound (dirs_of site)) (sym (table_more table (act ∷ []) acts))
-    (sound_after site (table_after table (act ∷ [])) acts (sound_one site table act sound (ours.0, tt)) ours.1)
+sound_after site table (effect ∷ effects) sound ours = subst (IsSound (dirs_of site)) (sym (table_more table (effect ∷ []) effects))
+    (sound_after site (table_after table (effect ∷ [])) effects (sound_one site table effect sound (ours.0, tt)) ours.1)
 
 -- ---- the files of an entry
 
@@ -267,18 +268,18 @@ not_last : (command : Command) (session : ℕ) (text : List ℕ) → Commits com
 not_last command session text = λ e. cc e
 
 -- where all went well
-kept_well : (site : Site) (table : Table) (acts : List Act) (files : FileMap) (session id : ℕ) → IsSound (dirs_of site) table → AreAcked table acts → AreOurs site acts → IsClean (dirs_of site) (table_after table acts) files
-    → IsId id → Contains acts (Sends session (stored_text id) true) → IsKept site.dir (table_after table acts) files id
-kept_well site table acts files session id sound acked ours clean within said =
-    let now = table_after table acts in
-    kept_by site now files id (sound_after site table acts sound ours) (clean_stands (dirs_of site) now files clean) within (acked_entry id session table acts within acked said)
+kept_well : (site : Site) (table : Table) (effects : List Effect) (files : FileMap) (session id : ℕ) → IsSound (dirs_of site) table → AreAcked table effects → AreOurs site effects → IsClean (dirs_of site) (table_after table effects) files
+    → IsId id → Contains effects (Sends session (stored_text id) true) → IsKept site.dir (table_after table effects) files id
+kept_well site table effects files session id sound acked ours clean within said =
+    let now = table_after table effects in
+    kept_by site now files id (sound_after site table effects sound ours) (clean_stands (dirs_of site) now files clean) within (acked_entry id session table effects within acked said)
 
--- where the spool failed at the last act, before which the final 250 was said
-kept_failed : (site : Site) (table : Table) (acts : List Act) (files : FileMap) (session id : ℕ) → IsSound (dirs_of site) table → AreAcked table acts → AreOurs site acts → LacksLast (dirs_of site) table acts files
-    → IsId id → Contains acts (Sends session (stored_text id) true) → IsKept site.dir (table_after table acts) files id
-kept_failed site table acts files session id sound acked ours lacks within said =
+-- where the spool failed at the last effect, before which the final 250 was said
+kept_failed : (site : Site) (table : Table) (effects : List Effect) (files : FileMap) (session id : ℕ) → IsSound (dirs_of site) table → AreAcked table effects → AreOurs site effects → LacksLast (dirs_of site) table effects files
+    → IsId id → Contains effects (Sends session (stored_text id) true) → IsKept site.dir (table_after table effects) files id
+kept_failed site table effects files session id sound acked ours lacks within said =
     let done = lacks.done in
-    let last : List Act = Commits lacks.command ∷ [] in
+    let last : List Effect = Commits lacks.command ∷ [] in
     let now = table_after table done in
     let all_ours : AreOurs site (done ++ last) = subst (AreOurs site) lacks.whole ours in
     let all_acked : AreAcked table (done ++ last) = subst (AreAcked table) lacks.whole acked in
@@ -286,45 +287,45 @@ kept_failed site table acts files session id sound acked ours lacks within said 
     let before : Contains done (Sends session (stored_text id) true) = ⊎_elim (λ k. k) (λ e. absurd (not_last lacks.command session (stored_text id) e)) (Contains-push_cases done (Commits lacks.command) (Sends session (stored_text id) true) all_said) in
     let entry : HasEntry now id = acked_entry id session table done within (acked_front table done last all_acked) before in
     let safe : IsSound (dirs_of site) now = sound_after site table done sound (ours_front site done last all_ours) in
-    let all : table_after table acts ≡ after now lacks.command = ap (table_after table) lacks.whole ∙ table_more table done last in
+    let all : table_after table effects ≡ after now lacks.command = ap (table_after table) lacks.whole ∙ table_more table done last in
     subst (λ t. IsKept site.dir t files id) (sym all) (⊎_elim
     (λ stands. kept_more site.dir now lacks.command files id (kept_by site now files id safe stands within entry))
     (λ stands. kept_by site (after now lacks.command) files id (sound_one site now (Commits lacks.command) safe (ours_back site done last all_ours)) stands within (entry_stays id now (lacks.command ∷ []) entry))
     lacks.stands)
 
-kept_left : (site : Site) (table : Table) (acts : List Act) (well : Bool) (files : FileMap) (session id : ℕ) → IsSound (dirs_of site) table → AreAcked table acts → AreOurs site acts → Left (dirs_of site) table acts well files
-    → IsId id → Contains acts (Sends session (stored_text id) true) → IsKept site.dir (table_after table acts) files id
-kept_left site table acts true files session id sound acked ours left within said = kept_well site table acts files session id sound acked ours left within said
-kept_left site table acts false files session id sound acked ours left within said = kept_failed site table acts files session id sound acked ours left within said
+kept_left : (site : Site) (table : Table) (effects : List Effect) (well : Bool) (files : FileMap) (session id : ℕ) → IsSound (dirs_of site) table → AreAcked table effects → AreOurs site effects → Left (dirs_of site) table effects well files
+    → IsId id → Contains effects (Sends session (stored_text id) true) → IsKept site.dir (table_after table effects) files id
+kept_left site table effects true files session id sound acked ours left within said = kept_well site table effects files session id sound acked ours left within said
+kept_left site table effects false files session id sound acked ours left within said = kept_failed site table effects files session id sound acked ours left within said
 
 -- a stop since a moment leaves what is told then
 abbrev pub OnlyNow : Spooled → Type 0
 OnlyNow spool = (files : FileMap) → spool.left_since spool.moment files → spool.told ≡ Some files
 
-exit_of : (site : Site) (table : Table) (turns : List Turn) (well : Bool) (told : Option FileMap) (files : FileMap) → IsSound (dirs_of site) table → told ≡ Some files → Left (dirs_of site) table (run_over site table turns).acts well files
-    → IsLeft site table (run_over site table turns).acts well told
+exit_of : (site : Site) (table : Table) (turns : List Turn) (well : Bool) (told : Option FileMap) (files : FileMap) → IsSound (dirs_of site) table → told ≡ Some files → Left (dirs_of site) table (run_over site table turns).effects well files
+    → IsLeft site table (run_over site table turns).effects well told
 exit_of site table turns well told files sound is left =
-    let acts = (run_over site table turns).acts in
+    let effects = (run_over site table turns).effects in
     let leads = run_leads site (beginning table) turns in record {
       files = files;
       told_is = is;
       leaves = left;
-      acked = λ session id within sent. kept_left site table acts well files session id sound leads.acked leads.ours left within (sent_done acts session (stored_text id) sent);
+      acked = λ session id within sent. kept_left site table effects well files session id sound leads.acked leads.ours left within (sent_done effects session (stored_text id) sent);
     }
 
-pub headline_of : (site : Site) (table : Table) (turns : List Turn) (a b : Seen) (well : Bool) → IsSound (dirs_of site) table → OnlyNow a.spool → Ran (dirs_of site) table a b (run_over site table turns).acts well → Headline site table turns a b well
+pub headline_of : (site : Site) (table : Table) (turns : List Turn) (a b : Seen) (well : Bool) → IsSound (dirs_of site) table → OnlyNow a.spool → Ran (dirs_of site) table a b (run_over site table turns).effects well → Headline site table turns a b well
 headline_of site table turns a b well sound only ran =
-    let acts = (run_over site table turns).acts in record {
+    let effects = (run_over site table turns).effects in record {
       floor = ran.floor;
       clock = ran.clock;
       readings = ran.readings;
       exit = λ files told clean.
-          let now = told_after a.spool.told b.spool.told (IsClean (dirs_of site) table) (Left (dirs_of site) table acts well) ran.spool.now files told clean in
+          let now = told_after a.spool.told b.spool.told (IsClean (dirs_of site) table) (Left (dirs_of site) table effects well) ran.spool.now files told clean in
           exit_of site table turns well b.spool.told now.0 sound now.1 now.2;
       images = λ files told clean left at. ⊎_elim
           (λ before.
           let same : files ≡ left = same_told files left (sym told ∙ only left before) in
-          record { done = []; rest = acts; whole = refl; stands = clean_stands (dirs_of site) table left (subst (IsClean (dirs_of site) table) same clean) })
+          record { done = []; rest = effects; whole = refl; stands = clean_stands (dirs_of site) table left (subst (IsClean (dirs_of site) table) same clean) })
           (λ part. part)
           (ran.spool.images files told clean a.spool.moment left (le_refl a.spool.moment) at);
       floor_faults = ran.floor_faults;
@@ -333,7 +334,7 @@ headline_of site table turns a b well sound only ran =
 
 -- ---- a run ends
 
-pub ended_by : (site : Site) (table : Table) (core new : Core) (n : ℕ) (event : Event) (reading : ℕ) (a b c : Seen) (went : Went) → (u : IsUnderWay site table core n a b)
+pub ended_by : (site : Site) (table : Table) (core new : Core) (n : ℕ) (event : Event) (reading : ℕ) (a b c : Seen) (went : Result Act CoreStop) → (u : IsUnderWay site table core n a b)
     → Turns site (run_over site table u.turns).state event reading b c new went → IsSound (dirs_of site) table → OnlyNow a.spool → c.clock.readings ≡ b.clock.readings + 1 → IsEnded site table (n + 1) a c went
 ended_by site table core new n event reading a b c went u t sound only read =
     let turn : Turn = record { event = event; reading = reading; choices = t.choices } in

@@ -8,7 +8,7 @@ use Rattle.link_edge.specs.declared.event.FloorEvent.TheVariants.{Sent, Unsent, 
 use Rattle.link_edge.specs.Sessions.{is_among, is_open, is_sound, send_event}
 use Rattle.link_edge.proofs.Sessioning.{open_push}
 use Rattle.link_edge.proofs.Sounding.{sound_is_open}
-use Rattle.mail_core.specs.Acts.{Sends, HangsUp, heard_of, speech}
+use Rattle.mail_core.specs.Effects.{Sends, HangsUp, heard_of, speech}
 
 abbrev pub Sound : Option (List FloorEvent) → ℕ → Type 0
 Sound told session = IfSome told (λ history. is_sound session history ≡ true)

@@ -1,14 +1,33 @@
 -- Why a run ends (own).
-use Rattle.std.specs.Prelude.{◌≡◌, Some, true}
+use Rattle.std.specs.Prelude.{◌≡◌, Option, Some, None, Result, Ok, Err, Bool, true, false}
 use Rattle.mail_base.specs.Histories.{Rose}
 use Rattle.link_edge.specs.declared.event.Event.{Event}
 use Rattle.link_edge.specs.declared.event.Event.TheVariants.{Stops}
 use Rattle.spool_store.specs.Tables.{Table}
-use Rattle.mail_core.specs.declared.serving.Ending.{Ending}
-use Rattle.mail_core.specs.declared.serving.Ending.TheVariants.{Stopped, SpoolFault, IdsSpent}
-use Rattle.mail_core.specs.Machine.{By, State}
+use Rattle.mail_core.specs.declared.serving.Act.{Act}
+use Rattle.mail_core.specs.declared.serving.Act.TheVariants.{Went, Ended}
+use Rattle.mail_core.specs.declared.serving.CoreStop.{CoreStop}
+use Rattle.mail_core.specs.declared.serving.CoreStop.TheVariants as stops
+use Rattle.mail_core.specs.Machine.{Ending, Stopped, SpoolFault, IdsSpent, By, State}
 use Rattle.mail_core.specs.Messages.{is_spent}
 use Rattle.mail_core.specs.Seen.{Seen}
+
+-- the ending that an error of the core is
+abbrev pub ending_by : CoreStop → Ending
+ending_by stops.SpoolFault = SpoolFault
+ending_by stops.IdsSpent = IdsSpent
+
+-- the ending that a turn brought, if it did
+abbrev pub ending_of : Result Act CoreStop → Option Ending
+ending_of (Ok Went) = None
+ending_of (Ok Ended) = Some Stopped
+ending_of (Err stop) = Some (ending_by stop)
+
+-- whether the spool didn't fail
+abbrev pub is_well : {T : Type 0} → Result T CoreStop → Bool
+is_well (Ok done) = true
+is_well (Err stops.SpoolFault) = false
+is_well (Err stops.IdsSpent) = true
 
 -- why a run ended so, at an event that led from a to b, with the table after it: the floor told Stop; the count of the spool rose; a message was to be taken in, and no id is left for it
 abbrev pub HasCause : Ending → Event → Table → Seen → Seen → Type 0

@@ -1,5 +1,5 @@
 -- What an event comes to (own).
-use Rattle.std.specs.Prelude.{◌≡◌, ℕ, ◌+◌, ◌≤◌, List, [], ◌∷◌, take, Option, None, Some, IfSome, Bool, true, false}
+use Rattle.std.specs.Prelude.{◌≡◌, ℕ, ◌+◌, ◌≤◌, List, [], ◌∷◌, take, Option, None, Some, IfSome, Result}
 use Rattle.mail_base.specs.Histories.{Gains}
 use Rattle.mail_edge.specs.Seen.{ClockSeen}
 use Rattle.link_edge.specs.Heard.{Heard, IsSoundAt}
@@ -10,18 +10,14 @@ use Rattle.link_edge.specs.declared.event.FloorEvent.TheVariants.{Took}
 use Rattle.link_edge.specs.declared.turn.Turn.{Turn}
 use Rattle.link_edge.specs.declared.turn.Turn.TheVariants.{Opened, Piece, Closed, Idle, Stop}
 use Rattle.mail_core.specs.declared.serving.Core.{Core}
-use Rattle.mail_core.specs.declared.serving.Ending.{Ending}
-use Rattle.mail_core.specs.declared.serving.Ending.TheVariants.{Stopped, SpoolFault, IdsSpent}
-use Rattle.mail_core.specs.declared.serving.Went.{Went}
-use Rattle.mail_core.specs.declared.serving.Went.TheVariants.{GoesOn, Ends}
+use Rattle.mail_core.specs.declared.serving.Act.{Act}
+use Rattle.mail_core.specs.declared.serving.CoreStop.{CoreStop}
 use Rattle.mail_core.specs.declared.serving.Site.{Site}
 use Rattle.mail_core.specs.declared.caller.Caller.{Caller}
-use Rattle.mail_core.specs.declared.fed.Fed.{Fed}
-use Rattle.mail_core.specs.declared.fed.Fed.TheVariants.{GoesOn as Onward, Granted, HungUp, Faulted, Spent}
-use Rattle.mail_core.specs.Acts.{heard_of}
+use Rattle.mail_core.specs.Effects.{heard_of}
 use Rattle.mail_core.specs.Guests.{Guest, guest_of}
-use Rattle.mail_core.specs.Causes.{EndsSo}
-use Rattle.mail_core.specs.Machine.{Opening, Choices, State, Step, stepped, handled, opened}
+use Rattle.mail_core.specs.Causes.{EndsSo, ending_of, is_well}
+use Rattle.mail_core.specs.Machine.{Opening, Choices, Ending, State, Step, stepped, handled, opened}
 use Rattle.mail_core.specs.Seen.{Seen, Ran}
 use Rattle.mail_core.specs.Standing.{dirs_of, Keeps, Stands}
 
@@ -41,31 +37,16 @@ pub record IsTaken (before now : Heard) (clock read : ClockSeen) (event : Event)
   pub clock_told : Gains clock.told read.told (reading ∷ [])
   pub readings : read.readings ≡ clock.readings + 1
 
--- how it went for the run, by how it went for a session
-abbrev pub went_of : Fed → Went
-went_of Onward = GoesOn
-went_of Granted = GoesOn
-went_of HungUp = GoesOn
-went_of Faulted = Ends SpoolFault
-went_of Spent = Ends IdsSpent
-
--- the spool didn't fail
-abbrev pub is_well : Went → Bool
-is_well GoesOn = true
-is_well (Ends Stopped) = true
-is_well (Ends SpoolFault) = false
-is_well (Ends IdsSpent) = true
-
 -- the step of the machine at an event, by some choices
 abbrev pub step_of : Site → State → (event : Event) → ℕ → Choices event → Step
 step_of site m event reading choices = stepped site m (record { event = event; reading = reading; choices = choices })
 
 -- by some choices, the machine's step is what happened from a to b; the core stands for its state where the run goes on, and else it ended the run so
-pub record Turns (site : Site) (m : State) (event : Event) (reading : ℕ) (a b : Seen) (core : Core) (went : Went) : Type 0 where
+pub record Turns (site : Site) (m : State) (event : Event) (reading : ℕ) (a b : Seen) (core : Core) (went : Result Act CoreStop) : Type 0 where
   pub choices : Choices event
-  pub ran : Ran (dirs_of site) m.table a b (step_of site m event reading choices).acts (is_well went)
-  pub stands : went ≡ GoesOn → Stands site core (step_of site m event reading choices).state
-  pub ended : (ending : Ending) → went ≡ Ends ending → EndsSo ending event (step_of site m event reading choices).state a b
+  pub ran : Ran (dirs_of site) m.table a b (step_of site m event reading choices).effects (is_well went)
+  pub stands : ending_of went ≡ None → Stands site core (step_of site m event reading choices).state
+  pub ended : (ending : Ending) → ending_of went ≡ Some ending → EndsSo ending event (step_of site m event reading choices).state a b
 
 -- the session of an opening or a piece is open, where the floor tells
 abbrev pub IsHeardAt : Heard → Turn → Type 0
@@ -84,16 +65,16 @@ pub record IsTakenOut (site : Site) (m : State) (session : ℕ) (caller : Caller
   pub stands : Stands site core (record m { guests = [] })
 
 -- the same of what is done beside the turn itself
-pub record Steps (site : Site) (m : State) (event : Event) (a b : Seen) (core : Core) (went : Went) : Type 0 where
+pub record Steps (site : Site) (m : State) (event : Event) (a b : Seen) (core : Core) (went : Result Act CoreStop) : Type 0 where
   pub choices : Choices event
-  pub ran : Ran (dirs_of site) m.table a b (handled site m event choices).acts (is_well went)
-  pub stands : went ≡ GoesOn → Stands site core (handled site m event choices).state
-  pub ended : (ending : Ending) → went ≡ Ends ending → EndsSo ending event (handled site m event choices).state a b
+  pub ran : Ran (dirs_of site) m.table a b (handled site m event choices).effects (is_well went)
+  pub stands : ending_of went ≡ None → Stands site core (handled site m event choices).state
+  pub ended : (ending : Ending) → ending_of went ≡ Some ending → EndsSo ending event (handled site m event choices).state a b
 
 -- what is done at an opening, by some choice
 pub record IsOpened (site : Site) (m : State) (session : ℕ) (peer : List ℕ) (before now : Heard) (core : Core) : Type 0 where
   pub choice : Opening
-  pub told : Gains before.told now.told (heard_of (opened site m session peer choice).acts)
+  pub told : Gains before.told now.told (heard_of (opened site m session peer choice).effects)
   pub stands : Stands site core (opened site m session peer choice).state
 
 -- the session of that number was taken out, if it is there

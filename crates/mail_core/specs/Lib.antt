@@ -1,4 +1,4 @@
-pub mod Acts
+pub mod Effects
 pub mod Guests
 pub mod Messages
 pub mod Machine

@@ -9,10 +9,8 @@ use Rattle.smtp_receive.specs.Dialogue.{Answer, Says, Greets, Grants, Closes as 
 use Rattle.smtp_receive.specs.Replies.{text_of, grant_text, hello_text, closing_text, greeting_text, stored_text, shown_host, out_of_memory_text, too_many_sessions_text}
 use Rattle.smtp_receive.specs.Sessions.{answer_of}
 use Rattle.spool_store.specs.Tables.{Table, after}
-use Rattle.mail_core.specs.Acts.{Act, Takes, Ticks, Commits, Sends, HangsUp, speech}
+use Rattle.mail_core.specs.Effects.{Effect, Takes, Ticks, Commits, Sends, HangsUp, speech}
 use Rattle.mail_core.specs.Guests.{Guest, newcomer, next_line, is_passed, has_bytes_left, with_bytes, with_line, guest_of, is_here, without, with_guest}
-use Rattle.mail_core.specs.declared.serving.Ending.{Ending}
-use Rattle.mail_core.specs.declared.serving.Ending.TheVariants.{Stopped, SpoolFault, IdsSpent}
 use Rattle.mail_core.specs.declared.serving.Site.{Site}
 use Rattle.mail_core.specs.Messages.{accept_of, is_spent}
 
@@ -36,6 +34,12 @@ Choices (Closes session) = Unit {0}
 Choices Rests = Unit {0}
 Choices Stops = Unit {0}
 
+-- why a run ended: the floor told Stop; the spool failed; a message needs an id and none is left
+pub data Ending : Type 0 where
+  Stopped : Ending
+  SpoolFault : Ending
+  IdsSpent : Ending
+
 -- how a run is over: it ended so, or it is cut where a choice is missing
 pub data Finish : Type 0 where
   By : (ending : Ending) → Finish
@@ -52,7 +56,7 @@ pub record Did : Type 0 where
   pub table : Table
   pub guest : Guest
   pub may_disconnect : Bool
-  pub acts : List Act
+  pub effects : List Effect
   pub way : Way
 
 -- a session goes on where all was sent to it
@@ -61,8 +65,8 @@ way_of true = GoesOn
 way_of false = Leaves
 
 -- more is done
-abbrev pub does : Did → List Act → Way → Did
-does d acts way = record d { acts = d.acts ++ acts; way = way }
+abbrev pub does : Did → List Effect → Way → Did
+does d effects way = record d { effects = d.effects ++ effects; way = way }
 
 -- a text is said
 abbrev pub says : Did → List ℕ → Bool → Did
@@ -78,7 +82,7 @@ is_over d finish = does d [] (Over finish)
 
 -- a message is asked of the table
 abbrev pub commits : Site → ℕ → Did → Received → Did
-commits site moment d message = record d { table = after d.table (accept_of site moment message); acts = d.acts ++ Commits (accept_of site moment message) ∷ [] }
+commits site moment d message = record d { table = after d.table (accept_of site moment message); effects = d.effects ++ Commits (accept_of site moment message) ∷ [] }
 
 -- a message is accepted, and then its 250 said; where no id is left the run ends
 abbrev pub accepts : Site → ℕ → Did → Received → Bool → Did
@@ -133,7 +137,7 @@ settled d = settled_by d.way (next_line d.guest) d
 
 -- nothing was done yet
 abbrev pub fresh_start : Table → Guest → Did
-fresh_start table guest = record { table = table; guest = guest; may_disconnect = true; acts = []; way = GoesOn }
+fresh_start table guest = record { table = table; guest = guest; may_disconnect = true; effects = []; way = GoesOn }
 
 -- the lines that a piece completes, by a choice each
 abbrev pub all_answered : Site → ℕ → Table → Guest → List Choice → Did
@@ -149,14 +153,14 @@ pub record State : Type 0 where
 -- a state, and what was done to come to it
 pub record Step : Type 0 where
   pub state : State
-  pub acts : List Act
+  pub effects : List Effect
 
 abbrev pub still : State → Step
-still m = record { state = m; acts = [] }
+still m = record { state = m; effects = [] }
 
 -- a choice is missing: the run is cut here
 abbrev pub cut : State → Step
-cut m = record { state = record m { over = Some Cut }; acts = [] }
+cut m = record { state = record m { over = Some Cut }; effects = [] }
 
 -- the most sessions that are open at once
 unfoldable pub most_guests : ℕ
@@ -164,14 +168,14 @@ most_guests = 1
 
 -- a session more than may be open gets 421 and is hung up; its text is kept, so want of memory doesn't come between
 abbrev pub turned_away : State → ℕ → Opening → Step
-turned_away m session (Replied whole) = record { state = m; acts = Sends session too_many_sessions_text whole ∷ HangsUp session ∷ [] }
+turned_away m session (Replied whole) = record { state = m; effects = Sends session too_many_sessions_text whole ∷ HangsUp session ∷ [] }
 turned_away m session Dropped = cut m
 
 -- a new session gets the greeting, and is kept where it was sent; want of memory ends it
 abbrev pub welcomed : Site → State → ℕ → List ℕ → Opening → Step
-welcomed site m session peer (Replied true) = record { state = record m { guests = m.guests ++ newcomer session peer ∷ [] }; acts = Sends session (greeting_text (shown_host site.host)) true ∷ [] }
-welcomed site m session peer (Replied false) = record { state = m; acts = Sends session (greeting_text (shown_host site.host)) false ∷ HangsUp session ∷ [] }
-welcomed site m session peer Dropped = record { state = m; acts = HangsUp session ∷ [] }
+welcomed site m session peer (Replied true) = record { state = record m { guests = m.guests ++ newcomer session peer ∷ [] }; effects = Sends session (greeting_text (shown_host site.host)) true ∷ [] }
+welcomed site m session peer (Replied false) = record { state = m; effects = Sends session (greeting_text (shown_host site.host)) false ∷ HangsUp session ∷ [] }
+welcomed site m session peer Dropped = record { state = m; effects = HangsUp session ∷ [] }
 
 -- an opening; one of a session that is open changes nothing
 abbrev pub opened : Site → State → ℕ → List ℕ → Opening → Step
@@ -182,9 +186,9 @@ opened site m session peer choice =
 
 -- what a piece came to
 abbrev pub brought : State → Way → Did → Step
-brought m GoesOn d = record { state = record m { table = d.table; guests = with_guest d.guest m.guests }; acts = d.acts }
-brought m Leaves d = record { state = record m { table = d.table; guests = without d.guest.number m.guests }; acts = d.acts }
-brought m (Over finish) d = record { state = record m { table = d.table; guests = without d.guest.number m.guests; over = Some finish }; acts = d.acts }
+brought m GoesOn d = record { state = record m { table = d.table; guests = with_guest d.guest m.guests }; effects = d.effects }
+brought m Leaves d = record { state = record m { table = d.table; guests = without d.guest.number m.guests }; effects = d.effects }
+brought m (Over finish) d = record { state = record m { table = d.table; guests = without d.guest.number m.guests; over = Some finish }; effects = d.effects }
 
 -- a piece of the session of that number, which is dropped where none is open
 abbrev pub pieced : Site → State → List ℕ → List Choice → Option Guest → Step
@@ -218,7 +222,7 @@ abbrev pub at_moment : State → ℕ → State
 at_moment m reading = record m { latest = moment_by m.latest reading }
 
 abbrev pub taken : Turn → Step → Step
-taken turn step = record step { acts = Takes turn.event ∷ Ticks turn.reading ∷ step.acts }
+taken turn step = record step { effects = Takes turn.event ∷ Ticks turn.reading ∷ step.effects }
 
 -- one event; after the run is over there is none
 abbrev pub stepped : Site → State → Turn → Step
@@ -226,7 +230,7 @@ stepped site m turn = if is_some m.over then still m else taken turn (handled si
 
 -- what comes after a step
 abbrev pub followed : Step → Step → Step
-followed first later = record later { acts = first.acts ++ later.acts }
+followed first later = record later { effects = first.effects ++ later.effects }
 
 -- a whole run
 abbrev pub run : Site → State → List Turn → Step

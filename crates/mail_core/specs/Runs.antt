@@ -1,5 +1,5 @@
 -- A whole run: the machine's turns are all that happened, and what was acknowledged is in the queue (own).
-use Rattle.std.specs.Prelude.{◌≡◌, ℕ, ◌+◌, ◌≤◌, List, [], ◌∷◌, ◌++◌, length, Option, Some, Bool, true, Contains}
+use Rattle.std.specs.Prelude.{◌≡◌, ℕ, ◌+◌, ◌≤◌, List, [], ◌∷◌, ◌++◌, length, Option, Some, Result, Bool, true, Contains}
 use Rattle.mail_base.specs.Histories.{Gains}
 use Rattle.mail_base.specs.Limits.{IsId}
 use Rattle.mail_base.specs.Names.{name_of}
@@ -11,14 +11,12 @@ use Rattle.spool_disk.specs.Disk.{FileMap, bytes_at}
 use Rattle.spool_store.specs.Standing.{IsClean}
 use Rattle.spool_store.specs.Tables.{Table, Stored}
 use Rattle.mail_core.specs.declared.serving.Core.{Core}
-use Rattle.mail_core.specs.Acts.{Act, Takes, Ticks, Commits, Sends, HangsUp, heard_of, readings_of}
+use Rattle.mail_core.specs.Effects.{Effect, Takes, Ticks, Commits, Sends, HangsUp, heard_of, readings_of}
 use Rattle.mail_core.specs.declared.serving.Site.{Site}
-use Rattle.mail_core.specs.declared.serving.Ending.{Ending}
-use Rattle.mail_core.specs.declared.serving.Went.{Went}
-use Rattle.mail_core.specs.declared.serving.Went.TheVariants.{Ends}
-use Rattle.mail_core.specs.Causes.{EndsSo}
-use Rattle.mail_core.specs.Events.{is_well}
-use Rattle.mail_core.specs.Machine.{Turn, Step, run, beginning}
+use Rattle.mail_core.specs.declared.serving.Act.{Act}
+use Rattle.mail_core.specs.declared.serving.CoreStop.{CoreStop}
+use Rattle.mail_core.specs.Causes.{EndsSo, ending_of, is_well}
+use Rattle.mail_core.specs.Machine.{Ending, Turn, Step, run, beginning}
 use Rattle.mail_core.specs.Seen.{Seen, Ran, IsPart, Leaves, table_after}
 use Rattle.mail_core.specs.Standing.{dirs_of, Stands}
 
@@ -30,7 +28,7 @@ run_over site table turns = run site (beginning table) turns
 pub record IsUnderWay (site : Site) (table : Table) (core : Core) (count : ℕ) (a b : Seen) : Type 0 where
   pub turns : List Turn
   pub events : length turns ≡ count
-  pub ran : Ran (dirs_of site) table a b (run_over site table turns).acts true
+  pub ran : Ran (dirs_of site) table a b (run_over site table turns).effects true
   pub readings : b.clock.readings ≡ a.clock.readings + count
   pub stands : Stands site core (run_over site table turns).state
 
@@ -40,8 +38,8 @@ pub record HasEntry (table : Table) (id : ℕ) : Type 0 where
   pub among : Contains table.entries stored
   pub id_is : stored.entry.id ≡ id
 
--- where an act is the final 250 of an id, the entry is in the table
-abbrev pub IsAcked : Table → Act → Type 0
+-- where an effect is the final 250 of an id, the entry is in the table
+abbrev pub IsAcked : Table → Effect → Type 0
 IsAcked table (Takes event) = Unit {0}
 IsAcked table (Ticks reading) = Unit {0}
 IsAcked table (Commits command) = Unit {0}
@@ -49,9 +47,9 @@ IsAcked table (Sends session text whole) = (id : ℕ) → IsId id → text ≡ s
 IsAcked table (HangsUp session) = Unit {0}
 
 -- each final 250 names an entry of the table as it is then
-abbrev pub AreAcked : Table → List Act → Type 0
+abbrev pub AreAcked : Table → List Effect → Type 0
 AreAcked table [] = Unit {0}
-AreAcked table (act ∷ acts) = IsAcked table act × AreAcked (table_after table (act ∷ [])) acts
+AreAcked table (effect ∷ effects) = IsAcked table effect × AreAcked (table_after table (effect ∷ [])) effects
 
 -- the table has an entry of that id, and its control file and its body file are there, and hold its control and its body
 pub record IsKept (dir : List ℕ) (table : Table) (files : FileMap) (id : ℕ) : Type 0 where
@@ -62,28 +60,28 @@ pub record IsKept (dir : List ℕ) (table : Table) (files : FileMap) (id : ℕ) 
   pub body : bytes_at files (dir, name_of Df id) ≡ Some stored.body
 
 -- what the files are at the exit of a run: those of the table after its commands, but where the spool failed, and with the entry of each final 250 that was sent
-pub record IsLeft (site : Site) (table : Table) (acts : List Act) (well : Bool) (told : Option FileMap) : Type 0 where
+pub record IsLeft (site : Site) (table : Table) (effects : List Effect) (well : Bool) (told : Option FileMap) : Type 0 where
   pub files : FileMap
   pub told_is : told ≡ Some files
-  pub leaves : Leaves (dirs_of site) table acts well files
-  pub acked : (session id : ℕ) → IsId id → Contains (heard_of acts) (Sent session (stored_text id)) → IsKept site.dir (table_after table acts) files id
+  pub leaves : Leaves (dirs_of site) table effects well files
+  pub acked : (session id : ℕ) → IsId id → Contains (heard_of effects) (Sent session (stored_text id)) → IsKept site.dir (table_after table effects) files id
 
 -- these turns are all that happened from a to b, over files that were exactly the table's
 pub record Headline (site : Site) (table : Table) (turns : List Turn) (a b : Seen) (well : Bool) : Type 0 where
   -- the floor tells just what the machine does at these turns, and the clock their readings
-  pub floor : Gains a.floor.told b.floor.told (heard_of (run_over site table turns).acts)
-  pub clock : Gains a.clock.told b.clock.told (readings_of (run_over site table turns).acts)
-  pub readings : b.clock.readings ≡ a.clock.readings + length (readings_of (run_over site table turns).acts)
+  pub floor : Gains a.floor.told b.floor.told (heard_of (run_over site table turns).effects)
+  pub clock : Gains a.clock.told b.clock.told (readings_of (run_over site table turns).effects)
+  pub readings : b.clock.readings ≡ a.clock.readings + length (readings_of (run_over site table turns).effects)
   -- what the files are at the exit
-  pub exit : (files : FileMap) → a.spool.told ≡ Some files → IsClean (dirs_of site) table files → IsLeft site table (run_over site table turns).acts well b.spool.told
+  pub exit : (files : FileMap) → a.spool.told ≡ Some files → IsClean (dirs_of site) table files → IsLeft site table (run_over site table turns).effects well b.spool.told
   -- a stop at any moment since a leaves the table after a front of what was done
-  pub images : (files : FileMap) → a.spool.told ≡ Some files → IsClean (dirs_of site) table files → (left : FileMap) → b.spool.left_since a.spool.moment left → IsPart (dirs_of site) table (run_over site table turns).acts left
+  pub images : (files : FileMap) → a.spool.told ≡ Some files → IsClean (dirs_of site) table files → (left : FileMap) → b.spool.left_since a.spool.moment left → IsPart (dirs_of site) table (run_over site table turns).effects left
   -- no count of faults falls
   pub floor_faults : a.floor.faults ≤ b.floor.faults
   pub spool_faults : a.spool.faults ≤ b.spool.faults
 
 -- a run of so many turns, of which the last ended it so, and for its cause
-pub record IsEnded (site : Site) (table : Table) (count : ℕ) (a b : Seen) (went : Went) : Type 0 where
+pub record IsEnded (site : Site) (table : Table) (count : ℕ) (a b : Seen) (went : Result Act CoreStop) : Type 0 where
   pub turns : List Turn
   pub before : List Turn
   pub last : Turn
@@ -91,4 +89,4 @@ pub record IsEnded (site : Site) (table : Table) (count : ℕ) (a b : Seen) (wen
   pub events : length turns ≡ count
   pub headline : Headline site table turns a b (is_well went)
   pub readings : b.clock.readings ≡ a.clock.readings + count
-  pub ended : (ending : Ending) → went ≡ Ends ending → EndsSo ending last.event (run_over site table turns).state a b
+  pub ended : (ending : Ending) → ending_of went ≡ Some ending → EndsSo ending last.event (run_over site table turns).state a b

@@ -1,8 +1,8 @@
 ghost use Rattle.std.specs.Prelude.{◌≡◌, IsTrue};
-ghost use Rattle.mail_core.specs.Going.{is_granted};
+ghost use Rattle.mail_core.specs.Going.{begins_data};
 ghost use Rattle.smtp_lines.specs.Runs.{granted_by};
 
-use crate::fed::Fed;
+use crate::next::Next;
 use smtp_lines::Lines;
 use smtp_receive::Session;
 
@@ -16,11 +16,11 @@ pub struct Caller {
 
 impl Caller {
     /// Turns to the lines of a message, if one was granted to the last line, or goes on with commands.
-    pub(crate) fn turn(&mut self, fed: Fed)
+    pub(crate) fn turn(&mut self, next: Next)
         requires { IsTrue self.old.lines.under.may_turn }
-        ensures { self.new ≡ record self.old { lines = granted_by (is_granted fed) self.old.lines } }
+        ensures { self.new ≡ record self.old { lines = granted_by (begins_data next) self.old.lines } }
     {
-        if fed == Fed::Granted {
+        if next == Next::BeginData {
             self.lines.data();
         } else {
             self.lines.refuse();

@@ -1,7 +1,7 @@
-ghost use Rattle.std.specs.Prelude.{◌≡◌, ◌≤◌, ◌<◌, ◌⊎◌, ◌++◌, ◌∷◌, ◌^◌, [], List, ℕ, Bool, length, Some, None, IfOk, IfErr, IsErrOf, IsTrue, true, false, Contains};
+ghost use Rattle.std.specs.Prelude.{◌≡◌, ◌≢◌, ◌≤◌, ◌<◌, ◌⊎◌, ◌++◌, ◌∷◌, ◌^◌, [], List, ℕ, Bool, length, Some, None, Err, IfOk, IsErrOf, IsTrue, true, false, Contains};
 ghost use Rattle.mail_base.specs.Histories.{Gains};
 ghost use Rattle.mail_base.specs.Limits.{IsId};
-ghost use Rattle.mail_base.specs.declared.fault.StoreFault.TheVariants.{IdsSpent as NoIdLeft};
+ghost use Rattle.mail_base.specs.declared.fault.StoreFault.TheVariants.{IdsSpent as NoIdLeft, SpoolFault as SpoolBroke};
 ghost use Rattle.mail_edge.specs.Seen.{ClockSeen};
 ghost use Rattle.link_edge.specs.Heard.{IsSoundAt};
 ghost use Rattle.qf_format.specs.Valid.{IsValid};
@@ -13,8 +13,9 @@ ghost use Rattle.smtp_receive.specs.Replies.{out_of_memory_text};
 ghost use Rattle.smtp_receive.specs.Sessions.{Stands as Speaks};
 ghost use Rattle.spool_store.specs.Tables.{Table};
 ghost use Rattle.mail_core.specs.declared.serving.Site.{Site};
-ghost use Rattle.mail_core.specs.Acts.{heard_of, speech, Sends, HangsUp};
-ghost use Rattle.mail_core.specs.Going.{AnswersLine, AnswersLines, AnswersMessage, Feeds, is_onward, is_well};
+ghost use Rattle.mail_core.specs.Effects.{heard_of, speech, Sends, HangsUp};
+ghost use Rattle.mail_core.specs.Going.{AnswersLine, AnswersLines, AnswersMessage, Feeds, is_onward, stays_open};
+ghost use Rattle.mail_core.specs.Causes.{is_well};
 ghost use Rattle.mail_core.specs.Guests.{Guest, with_bytes, lines_of};
 ghost use Rattle.mail_core.specs.Machine as machine;
 ghost use Rattle.mail_core.specs.Machine.{moment_by};
@@ -23,8 +24,9 @@ ghost use Rattle.mail_core.specs.Seen.{seen};
 ghost use Rattle.mail_core.specs.Standing.{Serves, Talks, Keeps, IsReady, lines_heard};
 
 use crate::caller::Caller;
-use crate::fed::Fed;
 use crate::message::control_of;
+use crate::next::Next;
+use crate::serving::CoreStop;
 use crate::speech::say;
 use link_edge::Floor;
 use mail_base::{Draft, NoMemory, StoreFault, Text, TryCopy};
@@ -71,43 +73,43 @@ impl Intake {
     }
 
     // Says a reply to a session that goes on.
-    fn reply<F: Floor>(floor: &mut F, session: u64, text: &Text) -> Fed
+    fn reply<F: Floor>(floor: &mut F, session: u64, text: &Text) -> Next
         requires sound { IsSoundAt (F.seen floor.old) session }
-        ensures told { Gains (F.seen floor.old).told (F.seen floor.new).told (heard_of (speech session text.now (is_onward result))) }
-        ensures sound { is_onward result ≡ true → IsSoundAt (F.seen floor.new) session }
+        ensures told { Gains (F.seen floor.old).told (F.seen floor.new).told (heard_of (speech session text.now (stays_open result))) }
+        ensures sound { stays_open result ≡ true → IsSoundAt (F.seen floor.new) session }
         ensures own { (F.seen floor.new).faults ≡ (F.seen floor.old).faults }
         ensures begun { (F.seen floor.new).begun ≡ (F.seen floor.old).begun }
-        ensures fed { (result ≡ Fed.GoesOn) ⊎ (result ≡ Fed.HungUp) }
+        ensures next { (result ≡ Next.Continue) ⊎ (result ≡ Next.Closed) }
     {
         if say(floor, session, text) {
-            return Fed::GoesOn;
+            return Next::Continue;
         }
-        Fed::HungUp
+        Next::Closed
     }
 
     // Says 354.
-    fn grant<F: Floor>(floor: &mut F, session: u64, text: &Text) -> Fed
+    fn grant<F: Floor>(floor: &mut F, session: u64, text: &Text) -> Next
         requires sound { IsSoundAt (F.seen floor.old) session }
-        ensures told { Gains (F.seen floor.old).told (F.seen floor.new).told (heard_of (speech session text.now (is_onward result))) }
-        ensures sound { is_onward result ≡ true → IsSoundAt (F.seen floor.new) session }
+        ensures told { Gains (F.seen floor.old).told (F.seen floor.new).told (heard_of (speech session text.now (stays_open result))) }
+        ensures sound { stays_open result ≡ true → IsSoundAt (F.seen floor.new) session }
         ensures own { (F.seen floor.new).faults ≡ (F.seen floor.old).faults }
         ensures begun { (F.seen floor.new).begun ≡ (F.seen floor.old).begun }
-        ensures fed { (result ≡ Fed.Granted) ⊎ (result ≡ Fed.HungUp) }
+        ensures next { (result ≡ Next.BeginData) ⊎ (result ≡ Next.Closed) }
     {
         if say(floor, session, text) {
-            return Fed::Granted;
+            return Next::BeginData;
         }
-        Fed::HungUp
+        Next::Closed
     }
 
     // Says 452 4.3.1 to a line, which ends the transaction. It takes no memory.
-    fn lack<F: Floor>(&self, floor: &mut F, caller: &mut Caller) -> Fed
+    fn lack<F: Floor>(&self, floor: &mut F, caller: &mut Caller) -> Next
         requires sound { IsSoundAt (F.seen floor.old) caller.old.number }
-        ensures told { Gains (F.seen floor.old).told (F.seen floor.new).told (heard_of (speech caller.old.number self.now.short (is_onward result))) }
-        ensures sound { is_onward result ≡ true → IsSoundAt (F.seen floor.new) caller.old.number }
+        ensures told { Gains (F.seen floor.old).told (F.seen floor.new).told (heard_of (speech caller.old.number self.now.short (stays_open result))) }
+        ensures sound { stays_open result ≡ true → IsSoundAt (F.seen floor.new) caller.old.number }
         ensures own { (F.seen floor.new).faults ≡ (F.seen floor.old).faults }
         ensures begun { (F.seen floor.new).begun ≡ (F.seen floor.old).begun }
-        ensures fed { (result ≡ Fed.GoesOn) ⊎ (result ≡ Fed.HungUp) }
+        ensures next { (result ≡ Next.Continue) ⊎ (result ≡ Next.Closed) }
         ensures number { caller.new.number ≡ caller.old.number }
         ensures lines { caller.new.lines ≡ caller.old.lines }
         ensures line { (host peer : List ℕ) (heard : List Heard) (line : AnyLine) → Speaks caller.old.session host peer heard
@@ -130,6 +132,7 @@ impl Intake {
         ensures body { IfOk result (λ change. change.body ≡ message.body) }
         ensures room { IfOk result (λ _. IsId self.now.store.next) }
         ensures spent { IsErrOf result NoIdLeft → entry.last_id < self.now.store.next }
+        ensures never { result ≢ Err SpoolBroke }
     {
         let (control, body) = control_of(self.alloc, self.moment, message)?;
         let draft = Draft {
@@ -148,7 +151,7 @@ impl Intake {
         spool: &mut D,
         caller: &mut Caller,
         message: Received,
-    ) -> Fed
+    ) -> Result<Next, CoreStop>
         requires sound { IsSoundAt (F.seen floor.old) caller.old.number }
         requires place { Contains self.old.store.dirs self.old.dir }
         requires valid { IsValid (entry.control_of self.old.moment message) }
@@ -167,16 +170,15 @@ impl Intake {
     {
         let change = match self.change(message) {
             Ok(change) => change,
-            Err(StoreFault::IdsSpent) => return Fed::Spent,
-            Err(_no_memory) => return self.lack(floor, caller),
+            Err(StoreFault::IdsSpent) => return Err(CoreStop::IdsSpent),
+            Err(StoreFault::SpoolFault) => return Err(CoreStop::SpoolFault),
+            Err(StoreFault::NoMemory) => return Ok(self.lack(floor, caller)),
         };
         let Ok(text) = caller.session.stored(&change.id()) else {
-            return self.lack(floor, caller);
+            return Ok(self.lack(floor, caller));
         };
-        let Ok(_id) = self.store.commit(spool, change) else {
-            return Fed::Faulted;
-        };
-        Intake::reply(floor, caller.number, &text)
+        self.store.commit(spool, change)?;
+        Ok(Intake::reply(floor, caller.number, &text))
     }
 
     // Answers a line.
@@ -186,7 +188,7 @@ impl Intake {
         spool: &mut D,
         caller: &mut Caller,
         line: &Line,
-    ) -> Fed
+    ) -> Result<Next, CoreStop>
         requires sound { IsSoundAt (F.seen floor.old) caller.old.number }
         requires ready { IsReady self.old caller.old }
         ensures answers { (site : Site) (d : machine.Did) (clock : ClockSeen) → d.way ≡ machine.GoesOn → Serves site self.old d.table → Talks site caller.old d.guest
@@ -204,12 +206,12 @@ impl Intake {
         ensures sound { is_onward result ≡ true → IsSoundAt (F.seen floor.new) caller.old.number }
     {
         match caller.session.line(line) {
-            Ok(Did::Reply(text)) => Intake::reply(floor, caller.number, &text),
-            Ok(Did::Granted(text)) => Intake::grant(floor, caller.number, &text),
-            Ok(Did::Bye(text)) => part(floor, caller.number, &text),
-            Ok(Did::Taken) => Fed::GoesOn,
+            Ok(Did::Reply(text)) => Ok(Intake::reply(floor, caller.number, &text)),
+            Ok(Did::Granted(text)) => Ok(Intake::grant(floor, caller.number, &text)),
+            Ok(Did::Bye(text)) => Ok(part(floor, caller.number, &text)),
+            Ok(Did::Taken) => Ok(Next::Continue),
             Ok(Did::Message(message)) => self.accept(floor, spool, caller, message),
-            Err(_no_memory) => self.lack(floor, caller),
+            Err(_no_memory) => Ok(self.lack(floor, caller)),
         }
     }
 
@@ -220,7 +222,7 @@ impl Intake {
         spool: &mut D,
         caller: &mut Caller,
         lines: &[Line],
-    ) -> Fed
+    ) -> Result<Next, CoreStop>
         requires sound { IsSoundAt (F.seen floor.old) caller.old.number }
         requires ready { IsReady self.old caller.old }
         ensures answers { (site : Site) (d : machine.Did) (clock : ClockSeen) → d.way ≡ machine.GoesOn → Serves site self.old d.table → Talks site caller.old d.guest
@@ -238,14 +240,14 @@ impl Intake {
         ensures lines { caller.new.lines ≡ caller.old.lines }
         ensures sound { is_onward result ≡ true → IsSoundAt (F.seen floor.new) caller.old.number }
     {
-        let mut last = Fed::GoesOn;
+        let mut last = Next::Continue;
         for line in lines {
-            last = self.answer(floor, spool, caller, line);
-            if !last.is_onward() {
-                return last;
+            last = self.answer(floor, spool, caller, line)?;
+            if !last.stays_open() {
+                return Ok(last);
             }
         }
-        last
+        Ok(last)
     }
 
     /// Takes a piece of a session's bytes, and answers the lines that it completes. Want of memory for the
@@ -256,7 +258,7 @@ impl Intake {
         spool: &mut D,
         caller: &mut Caller,
         piece: &[u8],
-    ) -> Fed
+    ) -> Result<Next, CoreStop>
         requires sound { IsSoundAt (F.seen floor.old) caller.old.number }
         requires ready { IsReady self.old caller.old }
         ensures feeds { (site : Site) (table : Table) (g : Guest) (clock : ClockSeen) → Serves site self.old table → Keeps site caller.old g
@@ -270,17 +272,17 @@ impl Intake {
         ensures moment { self.new.moment ≡ self.old.moment }
     {
         let Ok(given) = caller.lines.feed(piece) else {
-            return drop_caller(floor, caller.number);
+            return Ok(drop_caller(floor, caller.number));
         };
         let mut lines = given;
         'answers: while last_asks(lines.items()) {
-            let fed = self.answer_all(floor, spool, caller, lines.items());
-            if !fed.is_onward() {
-                return fed;
+            let next = self.answer_all(floor, spool, caller, lines.items())?;
+            if !next.stays_open() {
+                return Ok(next);
             }
-            caller.turn(fed);
+            caller.turn(next);
             let Ok(more) = caller.lines.more() else {
-                return drop_caller(floor, caller.number);
+                return Ok(drop_caller(floor, caller.number));
             };
             lines = more;
         }
@@ -289,27 +291,27 @@ impl Intake {
 }
 
 /// Says the last reply to a session, and hangs it up.
-pub(crate) fn part<F: Floor>(floor: &mut F, session: u64, text: &Text) -> Fed
+pub(crate) fn part<F: Floor>(floor: &mut F, session: u64, text: &Text) -> Next
     requires sound { IsSoundAt (F.seen floor.old) session }
     ensures told { (whole : Bool) × Gains (F.seen floor.old).told (F.seen floor.new).told (heard_of (Sends session text.now whole ∷ HangsUp session ∷ [])) }
     ensures own { (F.seen floor.new).faults ≡ (F.seen floor.old).faults }
     ensures begun { (F.seen floor.new).begun ≡ (F.seen floor.old).begun }
-    ensures fed { result ≡ Fed.HungUp }
+    ensures next { result ≡ Next.Closed }
 {
     if say(floor, session, text) {
         floor.hang_up(session);
     }
-    Fed::HungUp
+    Next::Closed
 }
 
 // Hangs up a session for want of memory.
-fn drop_caller<F: Floor>(floor: &mut F, session: u64) -> Fed
+fn drop_caller<F: Floor>(floor: &mut F, session: u64) -> Next
     requires sound { IsSoundAt (F.seen floor.old) session }
     ensures told { Gains (F.seen floor.old).told (F.seen floor.new).told (heard_of (HangsUp session ∷ [])) }
     ensures own { (F.seen floor.new).faults ≡ (F.seen floor.old).faults }
     ensures begun { (F.seen floor.new).begun ≡ (F.seen floor.old).begun }
-    ensures fed { result ≡ Fed.HungUp }
+    ensures next { result ≡ Next.Closed }
 {
     floor.hang_up(session);
-    Fed::HungUp
+    Next::Closed
 }

@@ -3,12 +3,12 @@
 #![tactic(auto)]
 
 mod caller;
-mod fed;
 mod intake;
 mod law;
 mod message;
+mod next;
 mod serving;
 mod speech;
 
 pub use law::{acknowledged_messages_are_in_the_table, the_table_is_that_of_the_commands};
-pub use serving::{Core, Ending, Site, Went};
+pub use serving::{Act, Core, CoreStop, Site};

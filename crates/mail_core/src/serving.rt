@@ -5,16 +5,17 @@ ghost use Rattle.link_edge.specs.Heard.{Heard, IsSoundAt};
 ghost use Rattle.link_edge.specs.Turns.{Fits};
 ghost use Rattle.link_edge.specs.declared.event.Event.TheVariants.{Brings};
 ghost use Rattle.smtp_receive.specs.Replies.{greeting_text, shown_host};
-ghost use Rattle.mail_core.specs.Acts.{Sends, HangsUp, heard_of};
-ghost use Rattle.mail_core.specs.Events.{IsTaken, IsTakenUp, IsHeardAt, IsOpened, Steps, Turns, event_of, is_well, went_of};
+ghost use Rattle.mail_core.specs.Effects.{Sends, HangsUp, heard_of};
+ghost use Rattle.mail_core.specs.Events.{IsTaken, IsTakenUp, IsHeardAt, IsOpened, Steps, Turns, event_of};
+ghost use Rattle.mail_core.specs.Causes.{is_well};
 ghost use Rattle.mail_core.specs.Guests.{newcomer};
+ghost use Rattle.mail_core.specs.declared.serving.CoreStop.TheVariants.{SpoolFault as SpoolStop};
 ghost use Rattle.mail_core.specs.Machine.{State, beginning};
 ghost use Rattle.mail_core.specs.Seen.{seen};
 ghost use Rattle.mail_core.specs.Standing.{IsReady, IsStanding, Keeps, Stands, Stores, is_hosted};
 ghost use Rattle.spool_store.specs.Tables.{Table};
 
 use crate::caller::Caller;
-use crate::fed::Fed;
 use crate::intake::{Intake, part};
 use crate::speech::say;
 use link_edge::{Floor, Turn};
@@ -22,25 +23,33 @@ use mail_base::{NoMemory, Text};
 use smtp_lines::Lines;
 use smtp_receive::{Session, out_of_memory, too_many_sessions};
 use spool_disk::Spool;
-use spool_store::Store;
+use spool_store::{SpoolFault, Store};
 use std::alloc::Global;
 
-/// Why a run ended.
+/// Why a run can't go on.
 #[derive(Clone, Copy, Debug, PartialEq, Eq)]
-pub enum Ending {
-    /// The floor told `Stop`.
-    Stopped,
+pub enum CoreStop {
     /// The spool failed.
     SpoolFault,
     /// A message needs an id above 999,999,999,999.
     IdsSpent,
 }
 
+impl From<SpoolFault> for CoreStop {
+    ghost from_gives = { λ _ stop. stop ≡ SpoolStop };
+
+    fn from(_fault: SpoolFault) -> CoreStop {
+        CoreStop::SpoolFault
+    }
+}
+
 /// How an event went.
 #[derive(Clone, Copy, Debug, PartialEq, Eq)]
-pub enum Went {
-    GoesOn,
-    Ends(Ending),
+pub enum Act {
+    /// The run goes on.
+    Went,
+    /// It ended, since the floor told `Stop`.
+    Ended,
 }
 
 /// What sessions are served with.
@@ -93,7 +102,7 @@ impl Core {
     /// never used twice by a floor that tells. A second session is told 421 4.3.2 and hung up while one is
     /// open, a piece of a session that isn't open is dropped, and an idle turn changes nothing.
     ///
-    /// Want of memory is answered by 452 4.3.1, or ends the session. After `Ends` nothing more is done. A fault of
+    /// Want of memory is answered by 452 4.3.1, or ends the session. After `Ended` and an error nothing more is done. A fault of
     /// the spool ends the run with it: its count stays with every other answer, and the floor's own with each.
     pub fn turn<F: Floor, D: Spool>(
         &mut self,
@@ -102,7 +111,7 @@ impl Core {
         reading: u64,
         turn: Turn,
         buf: &[u8],
-    ) -> Went
+    ) -> Result<Act, CoreStop>
         requires fits { Fits turn buf.now }
         requires sound { IsHeardAt (F.seen floor.old) turn }
         requires standing { IsStanding self.old }
@@ -127,7 +136,7 @@ impl Core {
         spool: &mut D,
         turn: Turn,
         buf: &[u8],
-    ) -> Went
+    ) -> Result<Act, CoreStop>
         requires fits { Fits turn buf.now }
         requires sound { IsHeardAt (F.seen floor.old) turn }
         requires standing { IsStanding self.old }
@@ -143,15 +152,15 @@ impl Core {
         match turn {
             Turn::Opened(session, count) => {
                 self.open(floor, session, &buf[..count]);
-                Went::GoesOn
+                Ok(Act::Went)
             }
             Turn::Piece(session, count) => self.piece(floor, spool, session, &buf[..count]),
             Turn::Closed(session) => {
                 let _caller = self.take(session);
-                Went::GoesOn
+                Ok(Act::Went)
             }
-            Turn::Idle => Went::GoesOn,
-            Turn::Stop => Went::Ends(Ending::Stopped),
+            Turn::Idle => Ok(Act::Went),
+            Turn::Stop => Ok(Act::Ended),
         }
     }
 
@@ -236,7 +245,7 @@ impl Core {
         spool: &mut D,
         session: u64,
         piece: &[u8],
-    ) -> Went
+    ) -> Result<Act, CoreStop>
         requires sound { IsSoundAt (F.seen floor.old) session }
         requires standing { IsStanding self.old }
         ensures steps { (site : Site) (m : State) (clock : ClockSeen) → Stands site self.old m
@@ -249,24 +258,13 @@ impl Core {
         ensures calm { is_well result ≡ true → (D.seen spool.new).faults ≡ (D.seen spool.old).faults }
     {
         let Some(mut caller) = self.take(session) else {
-            return Went::GoesOn;
+            return Ok(Act::Went);
         };
-        let fed = self.intake.feed(floor, spool, &mut caller, piece);
-        if fed.is_onward() {
+        let next = self.intake.feed(floor, spool, &mut caller, piece)?;
+        if next.stays_open() {
             self.caller = Some(caller);
-            return Went::GoesOn;
+            return Ok(Act::Went);
         }
-        went_after(fed)
-    }
-}
-
-// How it went for the run, by how it went for a session.
-fn went_after(fed: Fed) -> Went
-    ensures { result ≡ went_of fed }
-{
-    match fed {
-        Fed::GoesOn | Fed::Granted | Fed::HungUp => Went::GoesOn,
-        Fed::Faulted => Went::Ends(Ending::SpoolFault),
-        Fed::Spent => Went::Ends(Ending::IdsSpent),
+        Ok(Act::Went)
     }
 }

@@ -1,7 +1,7 @@
 ghost use Rattle.std.specs.Prelude.{◌≡◌, ◌≤◌, IsTrue};
 ghost use Rattle.mail_base.specs.Histories.{Gains};
 ghost use Rattle.link_edge.specs.Heard.{IsSoundAt};
-ghost use Rattle.mail_core.specs.Acts.{heard_of, speech};
+ghost use Rattle.mail_core.specs.Effects.{heard_of, speech};
 
 use link_edge::Floor;
 use mail_base::Text;

@@ -5,9 +5,9 @@ use Rattle.std.specs.Prelude.{IfSome}
 use Rattle.link_edge.specs.Heard.{Heard}
 use Rattle.mail_base.specs.declared.config.Config.{Config}
 use Rattle.mail_base.specs.Histories.{Rose}
-use Rattle.mail_core.specs.declared.serving.Ending.{Ending}
-use Rattle.mail_core.specs.declared.serving.Ending.TheVariants as endings
-use Rattle.mail_core.specs.declared.serving.Went.TheVariants.{Ends as WentOut}
+use Rattle.mail_core.specs.declared.serving.CoreStop.{CoreStop}
+use Rattle.mail_core.specs.declared.serving.CoreStop.TheVariants as stops
+use Rattle.mail_core.specs.Machine.{SpoolFault}
 use Rattle.mail_core.specs.Seen.{seen as core_seen}
 use Rattle.mail_edge.specs.Moves.{Loses}
 use Rattle.mail_edge.specs.Seen.{SourceSeen, SinkSeen, FilesSeen, FileMap, ClockSeen, text_of}
@@ -171,15 +171,15 @@ not_opened_whole before after open_faults.SpoolFault empty sound is = absurd (so
 not_opened_whole before after open_faults.NotYet empty sound is = absurd (not_used before.spool.told empty.map empty.told empty.empty is.1)
 not_opened_whole before after open_faults.NoMemory empty sound is = inr (inl refl)
 
-over_whole : (before after : World) (ending : Ending) → NoneFailed Session before after → IsServedOut (core_of before) (core_of after) (WentOut ending) → IsWhole Session (of_session (session_ends.Over ending))
-over_whole before after endings.Stopped sound is = inl refl
-over_whole before after endings.SpoolFault sound is = absurd (sound.1 (is.ended.ended endings.SpoolFault refl).cause)
-over_whole before after endings.IdsSpent sound is = inr (inr (inl refl))
+over_whole : (before after : World) (stop : CoreStop) → NoneFailed Session before after → IsServedOut (core_of before) (core_of after) (Err stop) → IsWhole Session (of_session (session_ends.Over stop))
+over_whole before after stops.SpoolFault sound is = absurd (sound.1 (is.ended.ended SpoolFault refl).cause)
+over_whole before after stops.IdsSpent sound is = inr (inr (inl refl))
 
 session_whole : (before after : World) (how : SessionEnd) → IsQueueEmpty before.spool.told → NoneFailed Session before after → Serves (core_of before) (core_of after) how → IsWhole Session (of_session how)
 session_whole before after (session_ends.NotOpened fault) empty sound is = not_opened_whole before after fault empty sound is
 session_whole before after session_ends.FloorFault empty sound is = absurd (sound.0 is.rose)
-session_whole before after (session_ends.Over ending) empty sound is = over_whole before after ending sound is
+session_whole before after session_ends.Stopped empty sound is = inl refl
+session_whole before after (session_ends.Over stop) empty sound is = over_whole before after stop sound is
 session_whole before after (session_ends.TurnsSpent count) empty sound is = inr (inr (inr (ap (λ (n : ℕ). outcomes.TurnsSpent n) is.0)))
 
 work_whole : (words : List (List ℕ)) (config : Config) (before after : World) (job : Job) (outcome : Outcome) → IsReady words before job → NoneFailed job before after → Works job config before after outcome → IsWhole job outcome

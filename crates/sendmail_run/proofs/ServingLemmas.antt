@@ -25,12 +25,13 @@ use Rattle.spool_store.specs.Tables.{Table, start}
 use Rattle.spool_store.specs.declared.store.Store.{Store}
 use Rattle.spool_store.proofs.TableLemmas.{start_sound}
 use Rattle.mail_core.specs.declared.serving.Core.{Core}
-use Rattle.mail_core.specs.declared.serving.Ending.{Ending}
-use Rattle.mail_core.specs.declared.serving.Ending.TheVariants as endings
+use Rattle.mail_core.specs.declared.serving.Act.{Act}
+use Rattle.mail_core.specs.declared.serving.Act.TheVariants.{Ended}
+use Rattle.mail_core.specs.declared.serving.CoreStop.{CoreStop}
+use Rattle.mail_core.specs.declared.serving.CoreStop.TheVariants as stops
 use Rattle.mail_core.specs.declared.serving.Site.{Site}
-use Rattle.mail_core.specs.declared.serving.Went.{Went}
-use Rattle.mail_core.specs.declared.serving.Went.TheVariants.{Ends}
-use Rattle.mail_core.specs.Events.{IsTaken, IsHeardAt, Turns, event_of, is_well}
+use Rattle.mail_core.specs.Causes.{is_well}
+use Rattle.mail_core.specs.Events.{IsTaken, IsHeardAt, Turns, event_of}
 use Rattle.mail_core.specs.Machine.{beginning}
 use Rattle.mail_core.specs.Runs.{IsUnderWay, run_over}
 use Rattle.mail_core.specs.Seen.{Seen, seen}
@@ -139,7 +140,7 @@ pub serves_spent : (core : Core) (n most : ℕ) (a b : Seen) → BeganEmpty a �
 serves_spent core n most a b empty begun only all is u = (is, served core most a b empty begun only (subst (λ (q : ℕ). IsUnderWay site start core q a b) all u))
 
 -- a turn ended the run
-pub served_out : (core new : Core) (n : ℕ) (a b c : Seen) (event : Event) (reading : ℕ) (went : Went) → BeganEmpty a → IsBegun a c → OnlyNow a → n < 2 ^ 60
+pub served_out : (core new : Core) (n : ℕ) (a b c : Seen) (event : Event) (reading : ℕ) (went : Result Act CoreStop) → BeganEmpty a → IsBegun a c → OnlyNow a → n < 2 ^ 60
     → (u : IsUnderWay site start core n a b) → Turns site (run_over site start u.turns).state event reading b c new went → c.clock.readings ≡ b.clock.readings + 1 → IsServedOut a c went
 served_out core new n a b c event reading went empty begun only few u turns counted = record {
   count = n + 1;
@@ -158,7 +159,7 @@ pub record IsNoLess (a b : Seen) : Type 0 where
 unserved_later : (a b : Seen) → IsUnserved a b → IsNoLess a b
 unserved_later a b is = record { floor = let e = ap (λ (h : Heard). h.faults) is.floor in omega (arith, e); spool = is.spool_faults }
 
-out_later : (a b : Seen) (went : Went) → IsServedOut a b went → IsNoLess a b
+out_later : (a b : Seen) (went : Result Act CoreStop) → IsServedOut a b went → IsNoLess a b
 out_later a b went is = record { floor = is.ended.headline.floor_faults; spool = is.ended.headline.spool_faults }
 
 served_later : (n : ℕ) (a b : Seen) → IsServed n a b → IsNoLess a b
@@ -167,7 +168,8 @@ served_later n a b is = record { floor = is.headline.floor_faults; spool = is.he
 pub serves_later : (a b : Seen) (how : SessionEnd) → Serves a b how → IsNoLess a b
 serves_later a b (ends.NotOpened fault) is = unserved_later a b is.0
 serves_later a b ends.FloorFault is = served_later is.count a b is.served
-serves_later a b (ends.Over ending) is = out_later a b (Ends ending) is
+serves_later a b ends.Stopped is = out_later a b (Ok Ended) is
+serves_later a b (ends.Over stop) is = out_later a b (Err stop) is
 serves_later a b (ends.TurnsSpent count) is = served_later count a b is.1
 
 -- the files of a used directory aren't those of an empty one
@@ -181,7 +183,6 @@ not_used (Some other) files e empty used =
     cc (none, there)
 
 -- the count of the spool rises in a turn only where the spool's fault ends the run
-pub spool_ended : (ending : Ending) (first before now : ℕ) → before ≡ first → (is_well (Ends ending) ≡ true → now ≡ before) → RisesOnlyAt outcomes.SpoolFault (of_session (ends.Over ending)) first now
-spool_ended endings.Stopped first before now same calm = inr (calm refl ∙ same)
-spool_ended endings.SpoolFault first before now same calm = inl refl
-spool_ended endings.IdsSpent first before now same calm = inr (calm refl ∙ same)
+pub spool_ended : (stop : CoreStop) (first before now : ℕ) → before ≡ first → (is_well {T = Act} (Err stop) ≡ true → now ≡ before) → RisesOnlyAt outcomes.SpoolFault (of_session (ends.Over stop)) first now
+spool_ended stops.SpoolFault first before now same calm = inl refl
+spool_ended stops.IdsSpent first before now same calm = inr (calm refl ∙ same)

@@ -2,8 +2,8 @@
 use Rattle.std.specs.Prelude.{ℕ}
 use Rattle.spool_store.specs.declared.fault.OpenFault.{OpenFault}
 use Rattle.spool_store.specs.declared.fault.OpenFault.TheVariants as open_faults
-use Rattle.mail_core.specs.declared.serving.Ending.{Ending}
-use Rattle.mail_core.specs.declared.serving.Ending.TheVariants as endings
+use Rattle.mail_core.specs.declared.serving.CoreStop.{CoreStop}
+use Rattle.mail_core.specs.declared.serving.CoreStop.TheVariants as stops
 use Rattle.sendmail_run.specs.declared.command_line.WordFault.{WordFault}
 use Rattle.sendmail_run.specs.declared.command_line.WordFault.TheVariants as word_faults
 use Rattle.sendmail_run.specs.declared.fault.ConfigFault.{ConfigFault}
@@ -41,17 +41,17 @@ of_opening open_faults.SpoolFault = SpoolFault
 of_opening open_faults.NotYet = NotYet
 of_opening open_faults.NoMemory = NoMemory
 
--- the ending that a turn brought
-abbrev pub of_ending : Ending → Outcome
-of_ending endings.Stopped = Done
-of_ending endings.SpoolFault = SpoolFault
-of_ending endings.IdsSpent = IdsSpent
+-- a turn that could not be served whole
+abbrev pub of_stop : CoreStop → Outcome
+of_stop stops.SpoolFault = SpoolFault
+of_stop stops.IdsSpent = IdsSpent
 
 -- the end of session mode
 abbrev pub of_session : SessionEnd → Outcome
 of_session (session_ends.NotOpened fault) = of_opening fault
 of_session session_ends.FloorFault = FloorFault
-of_session (session_ends.Over ending) = of_ending ending
+of_session session_ends.Stopped = Done
+of_session (session_ends.Over stop) = of_stop stop
 of_session (session_ends.TurnsSpent count) = TurnsSpent count
 
 -- the status that a program ends with

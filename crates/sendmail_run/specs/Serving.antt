@@ -1,5 +1,5 @@
 -- How session mode ends, and what was served by then (Sendmail Installation and Operation Guide, "Command Line Flags": -bs; the replies are those of RFC 5321; the ends are own).
-use Rattle.std.specs.Prelude.{◌≡◌, ℕ, ◌+◌, ◌^◌, ◌≤◌, List, length, None, IfSome, codes, true}
+use Rattle.std.specs.Prelude.{◌≡◌, ℕ, ◌+◌, ◌^◌, ◌≤◌, List, length, None, IfSome, Result, Ok, Err, codes, true}
 use Rattle.mail_base.specs.Histories.{Rose}
 use Rattle.link_edge.specs.Begins.{begun_after}
 use Rattle.link_edge.specs.declared.place.Place.TheVariants.{Standard}
@@ -9,8 +9,9 @@ use Rattle.spool_store.specs.declared.fault.OpenFault.TheVariants as faults
 use Rattle.spool_store.specs.Standing.{IsClean, IsUsed}
 use Rattle.spool_store.specs.Tables.{start}
 use Rattle.mail_core.specs.declared.serving.Site.{Site}
-use Rattle.mail_core.specs.declared.serving.Went.{Went}
-use Rattle.mail_core.specs.declared.serving.Went.TheVariants.{Ends}
+use Rattle.mail_core.specs.declared.serving.Act.{Act}
+use Rattle.mail_core.specs.declared.serving.Act.TheVariants.{Ended}
+use Rattle.mail_core.specs.declared.serving.CoreStop.{CoreStop}
 use Rattle.mail_core.specs.Machine.{Turn}
 use Rattle.mail_core.specs.Runs.{Headline, IsEnded, run_over}
 use Rattle.mail_core.specs.Seen.{Seen}
@@ -55,7 +56,7 @@ pub record IsServed (count : ℕ) (a b : Seen) : Type 0 where
   pub readings : b.clock.readings ≡ a.clock.readings + count
 
 -- the floor was begun so, at most 2^60 turns were served, and the last of them ended the run so
-pub record IsServedOut (a b : Seen) (went : Went) : Type 0 where
+pub record IsServedOut (a b : Seen) (went : Result Act CoreStop) : Type 0 where
   pub count : ℕ
   pub few : count ≤ 2 ^ 60
   pub empty : BeganEmpty a
@@ -79,5 +80,6 @@ pub record HasLostFloor (a b : Seen) : Type 0 where
 abbrev pub Serves : Seen → Seen → SessionEnd → Type 0
 Serves a b (ends.NotOpened fault) = IsUnserved a b × HasRefused a.spool b.spool fault
 Serves a b ends.FloorFault = HasLostFloor a b
-Serves a b (ends.Over ending) = IsServedOut a b (Ends ending)
+Serves a b ends.Stopped = IsServedOut a b (Ok Ended)
+Serves a b (ends.Over stop) = IsServedOut a b (Err stop)
 Serves a b (ends.TurnsSpent count) = (count ≡ 2 ^ 60) × IsServed count a b

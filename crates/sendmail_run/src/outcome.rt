@@ -7,7 +7,7 @@ use crate::fault::ConfigFault;
 use crate::session_mode::SessionEnd;
 use cf_reader::Fault;
 use mail_base::Text;
-use mail_core::Ending;
+use mail_core::CoreStop;
 use spool_store::OpenFault;
 
 /// How a run ends.
@@ -109,9 +109,9 @@ impl Outcome {
             SessionEnd::NotOpened(OpenFault::NotYet) => Outcome::NotYet,
             SessionEnd::NotOpened(OpenFault::NoMemory) => Outcome::NoMemory,
             SessionEnd::FloorFault => Outcome::FloorFault,
-            SessionEnd::Over(Ending::Stopped) => Outcome::Done,
-            SessionEnd::Over(Ending::SpoolFault) => Outcome::SpoolFault,
-            SessionEnd::Over(Ending::IdsSpent) => Outcome::IdsSpent,
+            SessionEnd::Stopped => Outcome::Done,
+            SessionEnd::Over(CoreStop::SpoolFault) => Outcome::SpoolFault,
+            SessionEnd::Over(CoreStop::IdsSpent) => Outcome::IdsSpent,
             SessionEnd::TurnsSpent(count) => Outcome::TurnsSpent(count),
         }
     }

@@ -14,7 +14,7 @@ ghost use Rattle.sendmail_run.specs.declared.outcome.Outcome.TheVariants.{FloorF
 use crate::buffer::zeros;
 use link_edge::{Floor, Place};
 use mail_base::{MOST_PIECE, NoMemory, Seq, Text};
-use mail_core::{Core, Ending, Site, Went};
+use mail_core::{Act, Core, CoreStop, Site};
 use mail_edge::Clock;
 use spool_disk::Spool;
 use spool_store::{OpenFault, Store};
@@ -36,8 +36,10 @@ pub enum SessionEnd {
     NotOpened(OpenFault),
     /// The floor could not begin, or a turn of it failed; one that fails to send only ends that session.
     FloorFault,
-    /// A turn ended the run.
-    Over(Ending),
+    /// The floor told `Stop`.
+    Stopped,
+    /// A turn could not be served whole.
+    Over(CoreStop),
     /// So many turns were served, which are all that a run takes, and none of them ended it.
     TurnsSpent(u64),
 }
@@ -91,8 +93,9 @@ fn serve<D: Spool, L: Floor, C: Clock>(
         };
         let reading = clock.now();
         match core.turn(floor, spool, reading, turn, buffer) {
-            Went::GoesOn => {}
-            Went::Ends(ending) => return SessionEnd::Over(ending),
+            Ok(Act::Went) => {}
+            Ok(Act::Ended) => return SessionEnd::Stopped,
+            Err(stop) => return SessionEnd::Over(stop),
         }
     }
     SessionEnd::TurnsSpent(MOST_TURNS)

@@ -1,7 +1,7 @@
-use Rattle.std.proofs.Common.{refl, arith, inr, ap, ◌∙◌}
+use Rattle.std.proofs.Common.{Ok, Err, refl, arith, inr, ◌∙◌}
 use Rattle.spool_store.specs.Tables.{start}
-use Rattle.mail_core.specs.declared.serving.Went.TheVariants.{Ends}
-use Rattle.mail_core.specs.Events.{event_of, is_well}
+use Rattle.mail_core.specs.declared.serving.Act.TheVariants.{Ended}
+use Rattle.mail_core.specs.Events.{event_of}
 use Rattle.mail_core.specs.Runs.{run_over}
 use Rattle.mail_core.specs.Seen.{seen}
 use Rattle.mail_edge.proofs.Causing.{rose_since}
@@ -48,15 +48,30 @@ turn-requires-in-loop g c = record {
   standing = standing c.loop.core c.loop.counter (seen (g.L.Floor.seen c.args.floor.now) (g.D.Spool.seen c.args.spool.now) (g.C.Clock.seen c.args.clock.now)) (seen (g.L.Floor.seen c.loop.floor) (g.D.Spool.seen c.loop.spool) (g.C.Clock.seen c.loop.clock)) c.loop.invariant.run;
 }
 
-pub returns-in-Ends-clause-serves : goal.returns-in-Ends-clause-serves
-returns-in-Ends-clause-serves g c =
+-- the floor told Stop
+pub returns-in-Ok-Ended-clause-serves : goal.returns-in-Ok-Ended-clause-serves
+returns-in-Ok-Ended-clause-serves g c =
     let u = c.loop.invariant.run in
     served_out c.loop.core c.turn-in-loop.new.self c.loop.counter
     (seen (g.L.Floor.seen c.args.floor.now) (g.D.Spool.seen c.args.spool.now) (g.C.Clock.seen c.args.clock.now))
     (seen (g.L.Floor.seen c.loop.floor) (g.D.Spool.seen c.loop.spool) (g.C.Clock.seen c.loop.clock))
     (seen (g.L.Floor.seen c.turn-in-loop.new.floor) (g.D.Spool.seen c.turn-in-loop.new.spool) (g.C.Clock.seen c.now-reading.new.self))
-    (event_of c.in-Ok-turn.turn c.turn.new.buf) c.now-reading.result (Ends c.in-Ends.ending) c.loop.invariant.empty (c.turn-in-loop.ensures.begun ∙ c.in-Ok-turn.ensures.begun ∙ c.loop.invariant.begun) (g.met.D.Spool.only_now c.args.spool.now) (omega (arith, c.loop-test.true)) u
-    (c.in-Ends.ensures.turns site (run_over site start u.turns).state (g.L.Floor.seen c.loop.floor) (g.C.Clock.seen c.loop.clock) (g.C.Clock.seen c.now-reading.new.self) u.stands
+    (event_of c.in-Ok-turn.turn c.turn.new.buf) c.now-reading.result (Ok Ended) c.loop.invariant.empty (c.turn-in-loop.ensures.begun ∙ c.in-Ok-turn.ensures.begun ∙ c.loop.invariant.begun) (g.met.D.Spool.only_now c.args.spool.now) (omega (arith, c.loop-test.true)) u
+    (rw c.in-Ok-Ended.field-0-is at c.in-Ok-Ended.ensures.turns site (run_over site start u.turns).state (g.L.Floor.seen c.loop.floor) (g.C.Clock.seen c.loop.clock) (g.C.Clock.seen c.now-reading.new.self) u.stands
+    (taken (g.L.Floor.seen c.loop.floor) (g.L.Floor.seen c.turn.new.self) (g.C.Clock.seen c.loop.clock) (g.C.Clock.seen c.now-reading.new.self) c.in-Ok-turn.turn c.turn.new.buf c.now-reading.result
+    c.in-Ok-turn.ensures.told c.in-Ok-turn.ensures.follows c.in-Ok-turn.ensures.cause.later c.now-reading.ensures.told c.now-reading.ensures.counted))
+    c.now-reading.ensures.counted
+
+-- the run can't go on
+pub returns-in-Err-turn-clause-serves : goal.returns-in-Err-turn-clause-serves
+returns-in-Err-turn-clause-serves g c =
+    let u = c.loop.invariant.run in
+    served_out c.loop.core c.turn-in-loop.new.self c.loop.counter
+    (seen (g.L.Floor.seen c.args.floor.now) (g.D.Spool.seen c.args.spool.now) (g.C.Clock.seen c.args.clock.now))
+    (seen (g.L.Floor.seen c.loop.floor) (g.D.Spool.seen c.loop.spool) (g.C.Clock.seen c.loop.clock))
+    (seen (g.L.Floor.seen c.turn-in-loop.new.floor) (g.D.Spool.seen c.turn-in-loop.new.spool) (g.C.Clock.seen c.now-reading.new.self))
+    (event_of c.in-Ok-turn.turn c.turn.new.buf) c.now-reading.result (Err c.in-Err-turn.stop) c.loop.invariant.empty (c.turn-in-loop.ensures.begun ∙ c.in-Ok-turn.ensures.begun ∙ c.loop.invariant.begun) (g.met.D.Spool.only_now c.args.spool.now) (omega (arith, c.loop-test.true)) u
+    (c.in-Err-turn.ensures.turns site (run_over site start u.turns).state (g.L.Floor.seen c.loop.floor) (g.C.Clock.seen c.loop.clock) (g.C.Clock.seen c.now-reading.new.self) u.stands
     (taken (g.L.Floor.seen c.loop.floor) (g.L.Floor.seen c.turn.new.self) (g.C.Clock.seen c.loop.clock) (g.C.Clock.seen c.now-reading.new.self) c.in-Ok-turn.turn c.turn.new.buf c.now-reading.result
     c.in-Ok-turn.ensures.told c.in-Ok-turn.ensures.follows c.in-Ok-turn.ensures.cause.later c.now-reading.ensures.told c.now-reading.ensures.counted))
     c.now-reading.ensures.counted
@@ -72,12 +87,12 @@ loop-preserved g c =
           (seen (g.L.Floor.seen c.loop.floor) (g.D.Spool.seen c.loop.spool) (g.C.Clock.seen c.loop.clock))
           (seen (g.L.Floor.seen c.turn-in-loop.new.floor) (g.D.Spool.seen c.turn-in-loop.new.spool) (g.C.Clock.seen c.now-reading.new.self))
           u
-          (rw c.in-GoesOn.is at c.turn-in-loop.ensures.turns site (run_over site start u.turns).state (g.L.Floor.seen c.loop.floor) (g.C.Clock.seen c.loop.clock) (g.C.Clock.seen c.now-reading.new.self) u.stands
+          (rw c.in-Ok-Went.field-0-is at c.in-Ok-Went.ensures.turns site (run_over site start u.turns).state (g.L.Floor.seen c.loop.floor) (g.C.Clock.seen c.loop.clock) (g.C.Clock.seen c.now-reading.new.self) u.stands
           (taken (g.L.Floor.seen c.loop.floor) (g.L.Floor.seen c.turn.new.self) (g.C.Clock.seen c.loop.clock) (g.C.Clock.seen c.now-reading.new.self) c.in-Ok-turn.turn c.turn.new.buf c.now-reading.result
           c.in-Ok-turn.ensures.told c.in-Ok-turn.ensures.follows c.in-Ok-turn.ensures.cause.later c.now-reading.ensures.told c.now-reading.ensures.counted))
           c.now-reading.ensures.counted;
       floor = c.turn-in-loop.ensures.own ∙ c.in-Ok-turn.ensures.calm ∙ c.loop.invariant.floor;
-      spool = c.turn-in-loop.ensures.calm (ap is_well c.in-GoesOn.is) ∙ c.loop.invariant.spool;
+      spool = c.in-Ok-Went.ensures.calm refl ∙ c.loop.invariant.spool;
     }
 
 pub returns-clause-serves : goal.returns-clause-serves
@@ -93,12 +108,18 @@ returns-in_default-clause-rises_spool g c = inr c.in-Ok.ensures.kept
 pub returns-in_default-turn-clause-rises_spool : goal.returns-in_default-turn-clause-rises_spool
 returns-in_default-turn-clause-rises_spool g c = inr c.loop.invariant.spool
 
-pub returns-in-Ends-clause-rises_floor : goal.returns-in-Ends-clause-rises_floor
-returns-in-Ends-clause-rises_floor g c = inr (c.turn-in-loop.ensures.own ∙ c.in-Ok-turn.ensures.calm ∙ c.loop.invariant.floor)
+pub returns-in-Ok-Ended-clause-rises_floor : goal.returns-in-Ok-Ended-clause-rises_floor
+returns-in-Ok-Ended-clause-rises_floor g c = inr (c.turn-in-loop.ensures.own ∙ c.in-Ok-turn.ensures.calm ∙ c.loop.invariant.floor)
 
-pub returns-in-Ends-clause-rises_spool : goal.returns-in-Ends-clause-rises_spool
-returns-in-Ends-clause-rises_spool g c =
-    spool_ended c.in-Ends.ending (g.D.Spool.seen c.args.spool.now).faults (g.D.Spool.seen c.loop.spool).faults (g.D.Spool.seen c.turn-in-loop.new.spool).faults c.loop.invariant.spool c.in-Ends.ensures.calm
+pub returns-in-Ok-Ended-clause-rises_spool : goal.returns-in-Ok-Ended-clause-rises_spool
+returns-in-Ok-Ended-clause-rises_spool g c = inr (c.in-Ok-Ended.ensures.calm refl ∙ c.loop.invariant.spool)
+
+pub returns-in-Err-turn-clause-rises_floor : goal.returns-in-Err-turn-clause-rises_floor
+returns-in-Err-turn-clause-rises_floor g c = inr (c.turn-in-loop.ensures.own ∙ c.in-Ok-turn.ensures.calm ∙ c.loop.invariant.floor)
+
+pub returns-in-Err-turn-clause-rises_spool : goal.returns-in-Err-turn-clause-rises_spool
+returns-in-Err-turn-clause-rises_spool g c =
+    spool_ended c.in-Err-turn.stop (g.D.Spool.seen c.args.spool.now).faults (g.D.Spool.seen c.loop.spool).faults (g.D.Spool.seen c.turn-in-loop.new.spool).faults c.loop.invariant.spool c.in-Err-turn.ensures.calm
 
 pub returns-clause-rises_floor : goal.returns-clause-rises_floor
 returns-clause-rises_floor g c = inr c.loop.invariant.floor

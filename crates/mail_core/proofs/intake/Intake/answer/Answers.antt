@@ -1,10 +1,10 @@
-use Rattle.std.proofs.Common.{refl, sym, ◌∙◌, subst, true, false, [], ◌∷◌}
+use Rattle.std.proofs.Common.{Ok, refl, sym, ◌∙◌, subst, true, false, [], ◌∷◌}
 use Rattle.smtp_receive.specs.Dialogue.{exchanges}
 use Rattle.smtp_receive.specs.Sessions.{answer_of, Stands as Speaks}
 use Rattle.smtp_receive.proofs.FormLemmas.{given_formed}
 use Rattle.smtp_receive.proofs.ToldLemmas.{gift_at_end}
-use Rattle.mail_core.specs.declared.fed.Fed.TheVariants.{GoesOn as Onward, Granted}
-use Rattle.mail_core.specs.Acts.{Sends, HangsUp, heard_of}
+use Rattle.mail_core.specs.declared.next.Next.TheVariants.{Continue, BeginData}
+use Rattle.mail_core.specs.Effects.{Sends, HangsUp, heard_of}
 use Rattle.mail_core.specs.Going.{AnswersLine}
 use Rattle.mail_core.specs.Guests.{is_passed}
 use Rattle.mail_core.specs.Seen.{seen}
@@ -25,9 +25,9 @@ accept-requires-clause-valid g c =
 
 pub returns-in-Ok-Reply-clause-answers : goal.returns-in-Ok-Reply-clause-answers
 returns-in-Ok-Reply-clause-answers g c = λ site d clock way serves talks.
-    line_said site c.args.self.now.moment d c.args.line.now c.args.self.now _ _ _ _ clock c.in-Ok-Reply.text false c.reply.result
+    line_said site c.args.self.now.moment d c.args.line.now c.args.self.now _ _ _ _ clock c.in-Ok-Reply.text false (Ok c.reply.result)
     (reply_is site c.args.self.now.moment (answer_of d.guest.peer d.guest.heard c.args.line.now) c.in-Ok-Reply.text (sym c.in-Ok-Reply.field-0-is ∙ c.in-Ok-Reply.ensures.did site.host d.guest.peer d.guest.heard talks.session))
-    (spoken_of c.reply.result Onward refl c.reply.ensures.fed) (λ on. ungranted c.reply.result c.reply.ensures.fed)
+    (spoken_of c.reply.result Continue refl c.reply.ensures.next) (λ on. ungranted c.reply.result c.reply.ensures.next)
     (told_as _ _ _ _ _ _ _ talks.number refl c.reply.ensures.told) c.reply.ensures.own serves
     (record { number = talks.number; session = c.in-Ok-Reply.ensures.stands site.host d.guest.peer d.guest.heard talks.session; peer = talks.peer })
 
@@ -36,9 +36,9 @@ returns-in-Ok-Reply-clause-ready g c = ready_by _ _ _ _ _ _ _ _ c.requires.ready
 
 pub returns-in-Ok-Granted-clause-answers : goal.returns-in-Ok-Granted-clause-answers
 returns-in-Ok-Granted-clause-answers g c = λ site d clock way serves talks.
-    line_said site c.args.self.now.moment d c.args.line.now c.args.self.now _ _ _ _ clock c.in-Ok-Granted.text true c.grant.result
+    line_said site c.args.self.now.moment d c.args.line.now c.args.self.now _ _ _ _ clock c.in-Ok-Granted.text true (Ok c.grant.result)
     (grant_is site c.args.self.now.moment (answer_of d.guest.peer d.guest.heard c.args.line.now) c.in-Ok-Granted.text (sym c.in-Ok-Granted.field-0-is ∙ c.in-Ok-Granted.ensures.did site.host d.guest.peer d.guest.heard talks.session))
-    (spoken_of c.grant.result Granted refl c.grant.ensures.fed) (λ on. granted_on c.grant.result c.grant.ensures.fed on)
+    (spoken_of c.grant.result BeginData refl c.grant.ensures.next) (λ on. granted_on c.grant.result c.grant.ensures.next on)
     (told_as _ _ _ _ _ _ _ talks.number refl c.grant.ensures.told) c.grant.ensures.own serves
     (record { number = talks.number; session = c.in-Ok-Granted.ensures.stands site.host d.guest.peer d.guest.heard talks.session; peer = talks.peer })
 
@@ -47,7 +47,7 @@ returns-in-Ok-Granted-clause-ready g c = ready_by _ _ _ _ _ _ _ _ c.requires.rea
 
 pub returns-in-Ok-Bye-clause-answers : goal.returns-in-Ok-Bye-clause-answers
 returns-in-Ok-Bye-clause-answers g c = λ site d clock way serves talks.
-    subst (λ q. AnswersLine site c.args.self.now.moment d c.args.line.now (seen (g.F.Floor.seen c.args.floor.now) (g.D.Spool.seen c.args.spool.now) clock) (seen (g.F.Floor.seen c.part.new.floor) (g.D.Spool.seen c.args.spool.now) clock) c.args.self.now (record c.args.caller.now { session = c.line.new.self }) q) (sym c.part.ensures.fed)
+    subst (λ n. AnswersLine site c.args.self.now.moment d c.args.line.now (seen (g.F.Floor.seen c.args.floor.now) (g.D.Spool.seen c.args.spool.now) clock) (seen (g.F.Floor.seen c.part.new.floor) (g.D.Spool.seen c.args.spool.now) clock) c.args.self.now (record c.args.caller.now { session = c.line.new.self }) (Ok n)) (sym c.part.ensures.next)
     (line_closed site c.args.self.now.moment d c.args.line.now c.args.self.now (record c.args.caller.now { session = c.line.new.self }) _ _ _ clock c.in-Ok-Bye.text c.part.ensures.told.0
     (bye_is site c.args.self.now.moment (answer_of d.guest.peer d.guest.heard c.args.line.now) c.in-Ok-Bye.text (sym c.in-Ok-Bye.field-0-is ∙ c.in-Ok-Bye.ensures.did site.host d.guest.peer d.guest.heard talks.session) d c.part.ensures.told.0)
     (subst (λ n. Gains (g.F.Floor.seen c.args.floor.now).told (g.F.Floor.seen c.part.new.floor).told (heard_of (Sends n c.in-Ok-Bye.text c.part.ensures.told.0 ∷ HangsUp n ∷ []))) talks.number c.part.ensures.told.1) c.part.ensures.own serves)
@@ -75,8 +75,8 @@ returns-in-Ok-Message-clause-ready g c = ready_by _ _ _ _ _ _ _ _ c.requires.rea
 pub returns-in-Err-clause-answers : goal.returns-in-Err-clause-answers
 returns-in-Err-clause-answers g c = λ site d clock way serves talks.
     let kept = not_passed (is_passed d.guest c.args.line.now) _ _ (c.in-Err.ensures.silent site.host d.guest.peer d.guest.heard talks.session) in
-    line_lacked site c.args.self.now.moment d c.args.line.now c.args.self.now _ _ _ _ clock c.lack.result kept
-    (spoken_of c.lack.result Onward refl c.lack.ensures.fed) (λ on. ungranted c.lack.result c.lack.ensures.fed)
+    line_lacked site c.args.self.now.moment d c.args.line.now c.args.self.now _ _ _ _ clock (Ok c.lack.result) kept
+    (spoken_of c.lack.result Continue refl c.lack.ensures.next) (λ on. ungranted c.lack.result c.lack.ensures.next)
     (told_as _ _ _ _ _ _ _ talks.number serves.short c.lack.ensures.told) c.lack.ensures.own serves
     (record {
       number = c.lack.ensures.number ∙ talks.number;

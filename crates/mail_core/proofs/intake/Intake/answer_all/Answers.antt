@@ -1,7 +1,7 @@
-use Rattle.std.proofs.Common.{◌≡◌, true, false, refl, sym, ◌∙◌, subst}
-use Rattle.mail_core.specs.Going.{is_onward}
+use Rattle.std.proofs.Common.{◌≡◌, Ok, Err, true, false, refl, sym, ◌∙◌, subst}
+use Rattle.std.proofs.lemmas.Result.{err_from_is_err_and}
+use Rattle.mail_core.specs.Going.{stays_open}
 use Rattle.link_edge.specs.Heard.{IsSoundAt}
-use Rattle.mail_core.proofs.GoingLemmas.{well_onward}
 use Rattle.mail_core.proofs.FeedLemmas.{answers_none, answers_next, answers_cut, answers_all}
 use Rattle.mail_core.proofs.intake.Intake.answer_all.Goals as goal
 
@@ -22,10 +22,10 @@ loop-line-init g c = record {
 pub loop-line-preserved : goal.loop-line-preserved
 loop-line-preserved g c =
     let h = c.loop-line.invariant in
-    let k = c.answer-last.ensures in
-    let on : is_onward c.answer-last.result ≡ true = sym c.is_onward.ensures ∙ c.if-not-is_onward.false in record {
+    let k = c.in_ok-last.ensures in
+    let on : stays_open c.in_ok-last.last ≡ true = sym c.stays_open.ensures ∙ c.if-not-stays_open.false in record {
       answers = λ site d clock way serves talks only first.
-          answers_next site c.args.self.now.moment d c.loop-line.self c.answer-last.new.self c.loop-line.caller c.answer-last.new.caller c.loop-line.last c.answer-last.result _ c.line-item.result c.loop-line.self.moment c.args.lines.now c.loop-line.line-index _ _ _
+          answers_next site c.args.self.now.moment d c.loop-line.self c.answer.new.self c.loop-line.caller c.answer.new.caller (Ok c.loop-line.last) (Ok c.in_ok-last.last) _ c.line-item.result c.loop-line.self.moment c.args.lines.now c.loop-line.line-index _ _ _
           c.loop-line-test.true c.line-item.is refl only first h.moment h.onward (h.answers site d clock way serves talks only first) (λ e. k.answers site e clock);
       onward = on;
       ready = k.ready on;
@@ -34,25 +34,35 @@ loop-line-preserved g c =
       reader = k.lines ∙ h.reader;
       own = k.own ∙ h.own;
       begun = k.begun ∙ h.begun;
-      calm = k.calm (well_onward c.answer-last.result on) ∙ h.calm;
-      sound = subst (IsSoundAt (g.F.Floor.seen c.answer-last.new.floor)) h.number (k.sound on);
+      calm = k.calm (refl) ∙ h.calm;
+      sound = subst (IsSoundAt (g.F.Floor.seen c.answer.new.floor)) h.number (k.sound on);
     }
 
-pub returns-then-not-is_onward-clause-answers : goal.returns-then-not-is_onward-clause-answers
-returns-then-not-is_onward-clause-answers g c = λ site d clock way serves talks only first.
+pub returns-then-not-stays_open-clause-answers : goal.returns-then-not-stays_open-clause-answers
+returns-then-not-stays_open-clause-answers g c = λ site d clock way serves talks only first.
     let h = c.loop-line.invariant in
-    let k = c.answer-last.ensures in
-    let off : is_onward c.answer-last.result ≡ false = sym c.is_onward.ensures ∙ c.if-not-is_onward.true in
-    answers_cut site c.args.self.now.moment d _ c.args.lines.now _ _ c.answer-last.new.self c.answer-last.new.caller c.answer-last.result off
-    (answers_next site c.args.self.now.moment d c.loop-line.self c.answer-last.new.self c.loop-line.caller c.answer-last.new.caller c.loop-line.last c.answer-last.result _ c.line-item.result c.loop-line.self.moment c.args.lines.now c.loop-line.line-index _ _ _
+    let k = c.in_ok-last.ensures in
+    let off : stays_open c.in_ok-last.last ≡ false = sym c.stays_open.ensures ∙ c.if-not-stays_open.true in
+    answers_cut site c.args.self.now.moment d _ c.args.lines.now _ _ c.answer.new.self c.answer.new.caller (Ok c.in_ok-last.last) off
+    (answers_next site c.args.self.now.moment d c.loop-line.self c.answer.new.self c.loop-line.caller c.answer.new.caller (Ok c.loop-line.last) (Ok c.in_ok-last.last) _ c.line-item.result c.loop-line.self.moment c.args.lines.now c.loop-line.line-index _ _ _
     c.loop-line-test.true c.line-item.is refl only first h.moment h.onward (h.answers site d clock way serves talks only first) (λ e. k.answers site e clock))
+
+-- the run ended
+pub returns-in_err-last-clause-answers : goal.returns-in_err-last-clause-answers
+returns-in_err-last-clause-answers g c = λ site d clock way serves talks only first.
+    let h = c.loop-line.invariant in
+    let k = c.in_err-last.ensures in
+    let p = err_from_is_err_and c.from_residual.result c.from_residual.ensures.1 in
+    rw (p.1, p.2) (answers_cut site c.args.self.now.moment d _ c.args.lines.now _ _ c.answer.new.self c.answer.new.caller (Err c.in_err-last.field-0.0) refl
+    (answers_next site c.args.self.now.moment d c.loop-line.self c.answer.new.self c.loop-line.caller c.answer.new.caller (Ok c.loop-line.last) (Err c.in_err-last.field-0.0) _ c.line-item.result c.loop-line.self.moment c.args.lines.now c.loop-line.line-index _ _ _
+    c.loop-line-test.true c.line-item.is refl only first h.moment h.onward (h.answers site d clock way serves talks only first) (λ e. k.answers site e clock)))
 
 pub returns-clause-answers : goal.returns-clause-answers
 returns-clause-answers g c = λ site d clock way serves talks only first.
-    answers_all site c.args.self.now.moment d c.args.lines.now c.loop-line.line-index _ _ c.loop-line.self c.loop-line.caller c.loop-line.last c.loop-line-test.false (c.loop-line.invariant.answers site d clock way serves talks only first)
+    answers_all site c.args.self.now.moment d c.args.lines.now c.loop-line.line-index _ _ c.loop-line.self c.loop-line.caller (Ok c.loop-line.last) c.loop-line-test.false (c.loop-line.invariant.answers site d clock way serves talks only first)
 
-pub returns-then-not-is_onward-clause-calm : goal.returns-then-not-is_onward-clause-calm
-returns-then-not-is_onward-clause-calm g c = λ well. c.answer-last.ensures.calm well ∙ c.loop-line.invariant.calm
+pub returns-then-not-stays_open-clause-calm : goal.returns-then-not-stays_open-clause-calm
+returns-then-not-stays_open-clause-calm g c = λ well. c.in_ok-last.ensures.calm well ∙ c.loop-line.invariant.calm
 
 pub returns-clause-calm : goal.returns-clause-calm
 returns-clause-calm g c = λ well. c.loop-line.invariant.calm

@@ -1,9 +1,9 @@
-use Rattle.std.proofs.Common.{◌≡◌, ◌++◌, true, take}
+use Rattle.std.proofs.Common.{Ok, ◌≡◌, ◌++◌, true, take}
 use Rattle.mail_edge.specs.Seen.{ClockSeen}
 use Rattle.link_edge.specs.Heard.{IsSoundAt}
 use Rattle.smtp_lines.specs.Reader.{OnlyLastAsks, StandsFirst}
 use Rattle.mail_core.specs.declared.serving.Site.{Site}
-use Rattle.mail_core.specs.Going.{AnswersLines, is_onward}
+use Rattle.mail_core.specs.Going.{AnswersLines, stays_open}
 use Rattle.mail_core.specs.Guests.{lines_of}
 use Rattle.mail_core.specs.Machine.{Did, GoesOn}
 use Rattle.mail_core.specs.Seen.{seen}
@@ -15,8 +15,8 @@ abbrev pub invariant-loop-line : goal.invariant-loop-line
 invariant-loop-line g l = record {
   answers : (site : Site) (d : Did) (clock : ClockSeen) → d.way ≡ GoesOn → Serves site l.fn.self d.table → Talks site l.fn.caller d.guest → OnlyLastAsks l.lines → StandsFirst (lines_heard d.guest ++ l.lines) (lines_of d.guest)
       → AnswersLines site l.fn.self.moment d (take l.line-index l.lines)
-      (seen (g.F.Floor.seen l.fn.floor) (g.D.Spool.seen l.fn.spool) clock) (seen (g.F.Floor.seen l.floor) (g.D.Spool.seen l.spool) clock) l.self l.caller l.last;
-  onward : is_onward l.last ≡ true;
+      (seen (g.F.Floor.seen l.fn.floor) (g.D.Spool.seen l.fn.spool) clock) (seen (g.F.Floor.seen l.floor) (g.D.Spool.seen l.spool) clock) l.self l.caller (Ok l.last);
+  onward : stays_open l.last ≡ true;
   ready : IsReady l.self l.caller;
   moment : l.self.moment ≡ l.fn.self.moment;
   number : l.caller.number ≡ l.fn.caller.number;

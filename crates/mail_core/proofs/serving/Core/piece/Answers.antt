@@ -1,10 +1,8 @@
-use Rattle.std.proofs.Common.{refl, sym, ◌∙◌, subst}
-use Rattle.link_edge.specs.declared.event.Event.TheVariants.{Brings}
+use Rattle.std.proofs.Common.{refl, sym, ◌∙◌, Ok, Err, subst}
+use Rattle.std.proofs.lemmas.Result.{err_from_is_err_and}
 use Rattle.mail_core.specs.Going.{Feeds}
-use Rattle.mail_core.specs.Events.{Steps}
 use Rattle.mail_core.specs.Seen.{seen}
-use Rattle.mail_core.proofs.CoreLemmas.{piece_dropped, piece_goes, piece_leaves, well_went}
-use Rattle.mail_core.proofs.GoingLemmas.{well_onward}
+use Rattle.mail_core.proofs.CoreLemmas.{piece_dropped, piece_goes, piece_leaves}
 use Rattle.mail_core.proofs.serving.Core.piece.Goals as goal
 
 pub returns-in_default-clause-steps : goal.returns-in_default-clause-steps
@@ -12,25 +10,25 @@ returns-in_default-clause-steps g c = λ site m clock st.
     let t = c.in_default.ensures.taken site m st in
     piece_dropped site m c.args.session c.args.piece.now _ _ _ clock t.0 t.1
 
-pub returns-then-is_onward-clause-steps : goal.returns-then-is_onward-clause-steps
-returns-then-is_onward-clause-steps g c = λ site m clock st.
+-- the run ended
+pub returns-in_err-next-clause-steps : goal.returns-in_err-next-clause-steps
+returns-in_err-next-clause-steps g c = λ site m clock st.
     let t = c.in-Some.ensures.taken site m st in
-    let h = subst (λ n. Feeds site n m.table t.guest c.args.piece.now (seen (g.F.Floor.seen c.args.floor.now) (g.D.Spool.seen c.args.spool.now) clock) (seen (g.F.Floor.seen c.feed-fed.new.floor) (g.D.Spool.seen c.feed-fed.new.spool) clock) c.feed-fed.new.self c.feed-fed.new.caller c.feed-fed.result) t.stands.latest
-    (c.feed-fed.ensures.feeds site m.table t.guest clock t.stands.intake t.keeps) in
-    piece_goes site m c.args.session c.args.piece.now _ _ _ t.guest c.feed-fed.new.self c.feed-fed.new.caller c.feed-fed.result t.is t.alone h c.take.new.self (sym c.is_onward.ensures ∙ c.if-is_onward.true) t.stands refl (c.feed-fed.ensures.moment ∙ t.stands.latest)
+    let h = subst (λ n. Feeds site n m.table t.guest c.args.piece.now (seen (g.F.Floor.seen c.args.floor.now) (g.D.Spool.seen c.args.spool.now) clock) (seen (g.F.Floor.seen c.feed.new.floor) (g.D.Spool.seen c.feed.new.spool) clock) c.feed.new.self c.feed.new.caller (Err c.in_err-next.field-0.0)) t.stands.latest
+    (c.in_err-next.ensures.feeds site m.table t.guest clock t.stands.intake t.keeps) in
+    let p = err_from_is_err_and c.from_residual.result c.from_residual.ensures.1 in
+    rw (p.1, p.2) (piece_leaves site m c.args.session c.args.piece.now _ _ _ t.guest c.feed.new.self c.feed.new.caller (Err c.in_err-next.field-0.0) t.is t.alone h c.take.new.self refl t.stands refl (c.feed.ensures.moment ∙ t.stands.latest))
+
+pub returns-then-stays_open-clause-steps : goal.returns-then-stays_open-clause-steps
+returns-then-stays_open-clause-steps g c = λ site m clock st.
+    let t = c.in-Some.ensures.taken site m st in
+    let h = subst (λ n. Feeds site n m.table t.guest c.args.piece.now (seen (g.F.Floor.seen c.args.floor.now) (g.D.Spool.seen c.args.spool.now) clock) (seen (g.F.Floor.seen c.feed.new.floor) (g.D.Spool.seen c.feed.new.spool) clock) c.feed.new.self c.feed.new.caller (Ok c.in_ok-next.next)) t.stands.latest
+    (c.in_ok-next.ensures.feeds site m.table t.guest clock t.stands.intake t.keeps) in
+    piece_goes site m c.args.session c.args.piece.now _ _ _ t.guest c.feed.new.self c.feed.new.caller (Ok c.in_ok-next.next) t.is t.alone h c.take.new.self (sym c.stays_open.ensures ∙ c.if-stays_open.true) t.stands refl (c.feed.ensures.moment ∙ t.stands.latest)
 
 pub returns-clause-steps : goal.returns-clause-steps
 returns-clause-steps g c = λ site m clock st.
     let t = c.in-Some.ensures.taken site m st in
-    let a = seen (g.F.Floor.seen c.args.floor.now) (g.D.Spool.seen c.args.spool.now) clock in
-    let b = seen (g.F.Floor.seen c.feed-fed.new.floor) (g.D.Spool.seen c.feed-fed.new.spool) clock in
-    let h = subst (λ n. Feeds site n m.table t.guest c.args.piece.now a b c.feed-fed.new.self c.feed-fed.new.caller c.feed-fed.result) t.stands.latest
-    (c.feed-fed.ensures.feeds site m.table t.guest clock t.stands.intake t.keeps) in
-    subst (Steps site m (Brings c.args.session c.args.piece.now) a b (record c.take.new.self { intake = c.feed-fed.new.self })) (sym c.went_after.ensures)
-    (piece_leaves site m c.args.session c.args.piece.now a b _ t.guest c.feed-fed.new.self c.feed-fed.new.caller c.feed-fed.result t.is t.alone h c.take.new.self (sym c.is_onward.ensures ∙ c.if-is_onward.false) t.stands refl (c.feed-fed.ensures.moment ∙ t.stands.latest))
-
-pub returns-then-is_onward-clause-calm : goal.returns-then-is_onward-clause-calm
-returns-then-is_onward-clause-calm g c = λ well. c.feed-fed.ensures.calm (well_onward c.feed-fed.result (sym c.is_onward.ensures ∙ c.if-is_onward.true))
-
-pub returns-clause-calm : goal.returns-clause-calm
-returns-clause-calm g c = λ well. c.feed-fed.ensures.calm (well_went c.feed-fed.result c.went_after.result c.went_after.ensures well)
+    let h = subst (λ n. Feeds site n m.table t.guest c.args.piece.now (seen (g.F.Floor.seen c.args.floor.now) (g.D.Spool.seen c.args.spool.now) clock) (seen (g.F.Floor.seen c.feed.new.floor) (g.D.Spool.seen c.feed.new.spool) clock) c.feed.new.self c.feed.new.caller (Ok c.in_ok-next.next)) t.stands.latest
+    (c.in_ok-next.ensures.feeds site m.table t.guest clock t.stands.intake t.keeps) in
+    piece_leaves site m c.args.session c.args.piece.now _ _ _ t.guest c.feed.new.self c.feed.new.caller (Ok c.in_ok-next.next) t.is t.alone h c.take.new.self (sym c.stays_open.ensures ∙ c.if-stays_open.false) t.stands refl (c.feed.ensures.moment ∙ t.stands.latest)

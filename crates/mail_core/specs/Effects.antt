@@ -8,15 +8,15 @@ use Rattle.link_edge.specs.Sessions.{send_event}
 use Rattle.spool_store.specs.Tables.{Command}
 
 -- a turn of the floor was taken; the clock was read; a command was asked of the table; a text was sent to a session, whole or not; a session was hung up
-pub data Act : Type 0 where
-  Takes : (event : Event) → Act
-  Ticks : (reading : ℕ) → Act
-  Commits : (command : Command) → Act
-  Sends : (session : ℕ) (text : List ℕ) (whole : Bool) → Act
-  HangsUp : (session : ℕ) → Act
+pub data Effect : Type 0 where
+  Takes : (event : Event) → Effect
+  Ticks : (reading : ℕ) → Effect
+  Commits : (command : Command) → Effect
+  Sends : (session : ℕ) (text : List ℕ) (whole : Bool) → Effect
+  HangsUp : (session : ℕ) → Effect
 
--- what a floor tells of an act
-abbrev pub heard : Act → List FloorEvent
+-- what a floor tells of an effect
+abbrev pub heard : Effect → List FloorEvent
 heard (Takes event) = Took event ∷ []
 heard (Ticks reading) = []
 heard (Commits command) = []
@@ -24,7 +24,7 @@ heard (Sends session text whole) = send_event session text whole ∷ []
 heard (HangsUp session) = HungUp session ∷ []
 
 -- the readings that a clock tells of it
-abbrev pub read : Act → List ℕ
+abbrev pub read : Effect → List ℕ
 read (Takes event) = []
 read (Ticks reading) = reading ∷ []
 read (Commits command) = []
@@ -32,23 +32,23 @@ read (Sends session text whole) = []
 read (HangsUp session) = []
 
 -- the command that it asks
-abbrev pub commanded : Act → List Command
+abbrev pub commanded : Effect → List Command
 commanded (Takes event) = []
 commanded (Ticks reading) = []
 commanded (Commits command) = command ∷ []
 commanded (Sends session text whole) = []
 commanded (HangsUp session) = []
 
-abbrev pub heard_of : List Act → List FloorEvent
-heard_of acts = flat_map heard acts
+abbrev pub heard_of : List Effect → List FloorEvent
+heard_of effects = flat_map heard effects
 
-abbrev pub readings_of : List Act → List ℕ
-readings_of acts = flat_map read acts
+abbrev pub readings_of : List Effect → List ℕ
+readings_of effects = flat_map read effects
 
-abbrev pub commands_of : List Act → List Command
-commands_of acts = flat_map commanded acts
+abbrev pub commands_of : List Effect → List Command
+commands_of effects = flat_map commanded effects
 
 -- a text is sent to a session, which is hung up where that fails
-abbrev pub speech : ℕ → List ℕ → Bool → List Act
+abbrev pub speech : ℕ → List ℕ → Bool → List Effect
 speech session text true = Sends session text true ∷ []
 speech session text false = Sends session text false ∷ HangsUp session ∷ []
