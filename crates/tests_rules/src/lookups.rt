@@ -55,7 +55,10 @@ const CASES: &[(Sets, &[Run])] = &[
         &[("s", Signs("a"), End::List(Signs("pp."), 2))],
     ),
     (
-        &[("s", Lines(&[("&", Go::Return, "yes"), ("*", Go::Return, "no")]))],
+        &[(
+            "s",
+            Lines(&[("&", Go::Return, "yes"), ("*", Go::Return, "no")]),
+        )],
         &[
             ("s", Signs("P"), End::List(Signs("yes"), 1)),
             ("s", Signs("q"), End::List(Signs("no"), 1)),
@@ -72,7 +75,10 @@ const CASES: &[(Sets, &[Run])] = &[
     ),
     // Classes, with the phrases of several tokens.
     (
-        &[("s", Lines(&[("*.=", Go::Return, "1@2"), ("~", Go::Return, "1!")]))],
+        &[(
+            "s",
+            Lines(&[("*.=", Go::Return, "1@2"), ("~", Go::Return, "1!")]),
+        )],
         &[
             ("s", Signs("x.b.A"), End::List(Signs("x@b.A"), 1)),
             ("s", Signs("x.a"), End::List(Signs("x@a"), 1)),
@@ -116,8 +122,14 @@ const CASES: &[(Sets, &[Run])] = &[
     // A call that gives a `$#` ends its own set alone, and then the one that made it.
     (
         &[
-            ("s", Lines(&[("*", Go::Next, ">t1"), ("*", Go::Return, "1!")])),
-            ("t", Lines(&[("*", Go::Next, "#1"), ("*", Go::Return, "no")])),
+            (
+                "s",
+                Lines(&[("*", Go::Next, ">t1"), ("*", Go::Return, "1!")]),
+            ),
+            (
+                "t",
+                Lines(&[("*", Go::Next, "#1"), ("*", Go::Return, "no")]),
+            ),
         ],
         &[("s", Signs("a"), End::List(Signs("#a"), 2))],
     ),
@@ -126,7 +138,10 @@ const CASES: &[(Sets, &[Run])] = &[
         &[
             ("s", Lines(&[("*", Go::Next, ">s1")])),
             ("t", Lines(&[("-+", Go::Return, ">t2")])),
-            ("u", Lines(&[("-+", Go::Return, ">u2"), ("-", Go::Return, ">v1")])),
+            (
+                "u",
+                Lines(&[("-+", Go::Return, ">u2"), ("-", Go::Return, ">v1")]),
+            ),
         ],
         &[
             ("s", Signs("a"), End::Deep),
@@ -140,7 +155,10 @@ const CASES: &[(Sets, &[Run])] = &[
     (
         &[
             ("s", Lines(&[("*", Go::Return, ">r1")])),
-            ("u", Lines(&[("*", Go::Next, "1"), ("*", Go::Return, ">r1")])),
+            (
+                "u",
+                Lines(&[("*", Go::Next, "1"), ("*", Go::Return, ">r1")]),
+            ),
             ("r", Rounds(0)),
         ],
         &[
@@ -151,7 +169,10 @@ const CASES: &[(Sets, &[Run])] = &[
     ),
     // A left side whose `$&y` can't be cut is refused, whether it matches or not.
     (
-        &[("s", Lines(&[("a", Go::Return, "no"), ("%z", Go::Return, "no")]))],
+        &[(
+            "s",
+            Lines(&[("a", Go::Return, "no"), ("%z", Go::Return, "no")]),
+        )],
         &[
             ("s", Signs("a"), End::List(Signs("no"), 1)),
             ("s", Signs("b"), End::BadScan),

@@ -184,7 +184,9 @@ fn lookup_of(alloc: Global, signs: &[u8]) -> Result<Step, NoMemory> {
 /// The steps that are written so: a look-up stands in braces, and its parts are divided by `;`.
 pub fn steps_of(alloc: Global, signs: &str) -> Result<Seq<Step>, NoMemory> {
     let mut steps = Seq::new(alloc);
-    let texts = signs.as_bytes().split(|sign| *sign == b'{' || *sign == b'}');
+    let texts = signs
+        .as_bytes()
+        .split(|sign| *sign == b'{' || *sign == b'}');
     for (at, text) in texts.enumerate() {
         if at % 2 == 1 {
             steps.push(lookup_of(alloc, text)?)?;
