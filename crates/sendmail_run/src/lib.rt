@@ -14,6 +14,7 @@ mod session_mode;
 mod tokens;
 mod warning;
 
+pub use cf_reader::Fault;
 pub use command_line::{DEFAULT_FILE, Job, Mode, WordFault, words};
 pub use law::{one_text, some_text, tokens_are_of_any_cutting, words_are_taken_or_refused};
 pub use outcome::Outcome;
