@@ -1,4 +1,5 @@
-use sendmail_run::{Fault, WordFault};
+use cf_reader::Fault;
+use sendmail_run::WordFault;
 use std::alloc::Global;
 use std::fmt::Display;
 use std::test::Fail;
@@ -9,10 +10,20 @@ static WORDS: [(WordFault, &str); 3] = [
     (WordFault::NoMemory, "no memory"),
 ];
 
-static LINES: [(Fault, &str); 4] = [
+static LINES: [(Fault, &str); 14] = [
+    (Fault::UnknownLine, "UnknownLine"),
     (Fault::NoTab, "NoTab"),
+    (Fault::BadPattern, "BadPattern"),
     (Fault::TooManyMetas, "TooManyMetas"),
     (Fault::BadReference, "BadReference"),
+    (Fault::UnknownMailerField, "UnknownMailerField"),
+    (Fault::NoPath, "NoPath"),
+    (Fault::DuplicateGroup, "DuplicateGroup"),
+    (Fault::BadOption, "BadOption"),
+    (Fault::BadMap, "BadMap"),
+    (Fault::BadHeader, "BadHeader"),
+    (Fault::OperatorsLate, "OperatorsLate"),
+    (Fault::NoSuchFile, "NoSuchFile"),
     (Fault::NotYet, "NotYet"),
 ];
 

@@ -71,6 +71,20 @@ const REFUSED: Row = Row {
     ..LINE
 };
 
+// Three lines of the configuration are ignored, and it sets the operators.
+const WARNED: Row = Row {
+    config: b"V10/Berkeley\nTroot\nO NoSuchThing=1\nO OperatorChars=.%\nS3\nR$*\t$@ x $1\n",
+    input: b"3 a@b%c\n",
+    text: b"warning: line 1 ignored\nwarning: line 2 ignored\nwarning: line 3 ignored\n3 returns: x a@b % c\n",
+    ..LINE
+};
+
+// The same, where nothing is answered.
+const WARNED_ALONE: Row = Row {
+    text: b"warning: line 1 ignored\nwarning: line 2 ignored\nwarning: line 3 ignored\n",
+    ..WARNED
+};
+
 // Words that are refused.
 const BAD_WORDS: Row = Row {
     status: 64,
@@ -104,6 +118,33 @@ const ROWS: &[Row] = &[
         by_bytes: true,
         ..ENDLESS
     },
+    // Warnings come first, before anything is taken of the input.
+    WARNED,
+    Row {
+        by_bytes: true,
+        ..WARNED
+    },
+    Row {
+        input: b"/quit\n3 a\n",
+        ..WARNED_ALONE
+    },
+    Row {
+        input_fails: &[0],
+        status: 74,
+        ..WARNED_ALONE
+    },
+    Row {
+        output_fails: &[0],
+        input_fails: &[0],
+        status: 73,
+        text: b"",
+        ..WARNED
+    },
+    Row {
+        output_fails: &[1],
+        status: 73,
+        ..WARNED_ALONE
+    },
     // The first faulty line of a configuration is named.
     Row {
         config: b"S1\nR$*\n",
@@ -121,8 +162,8 @@ const ROWS: &[Row] = &[
         ..REFUSED
     },
     Row {
-        config: b"S1\n\nDx\nR$*\n",
-        place: b"line 3 NotYet",
+        config: b"S1\n\nDx\nR$=w\t$1\n",
+        place: b"line 4 NotYet",
         ..REFUSED
     },
     Row {
