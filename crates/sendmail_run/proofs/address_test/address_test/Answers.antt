@@ -3,3 +3,6 @@ use Rattle.sendmail_run.proofs.address_test.address_test.Goals as goal
 
 pub returns-in_default-clause-tests : goal.returns-in_default-clause-tests
 returns-in_default-clause-tests g c = none_taken c.args.config.now (g.I.Source.seen c.args.input.now) (g.O.Sink.seen c.args.output.now)
+
+pub returns-in_default-zeros-clause-tests : goal.returns-in_default-zeros-clause-tests
+returns-in_default-zeros-clause-tests g c = none_taken c.args.config.now (g.I.Source.seen c.args.input.now) (g.O.Sink.seen c.args.output.now)
