@@ -8,6 +8,7 @@ use Rattle.mail_base.specs.Histories.{Rose}
 use Rattle.mail_core.specs.declared.serving.CoreStop.{CoreStop}
 use Rattle.mail_core.specs.declared.serving.CoreStop.TheVariants as stops
 use Rattle.mail_core.specs.Machine.{SpoolFault}
+use Rattle.mail_core.specs.declared.serving.Site.{Site}
 use Rattle.mail_core.specs.Seen.{seen as core_seen}
 use Rattle.mail_edge.specs.Moves.{Loses}
 use Rattle.mail_edge.specs.Seen.{SourceSeen, SinkSeen, FilesSeen, FileMap, ClockSeen, text_of}
@@ -35,7 +36,7 @@ use Rattle.sendmail_run.specs.Devices.{World, streams, streams_of, core_of, worl
 use Rattle.sendmail_run.specs.Outcomes.{of_config, of_opening, of_session, of_test, of_words}
 use Rattle.sendmail_run.specs.Rises.{Counts, RisesOnlyAt}
 use Rattle.sendmail_run.specs.Runs.{Completes, Ends, EndsAtFile, EndsAtWords, EndsAtWork, HasServed, HasTested, IsReady, IsShort, IsQueueEmpty, IsSound, IsUntouched, IsWhole, NoneFailed, Stays, Works}
-use Rattle.sendmail_run.specs.Serving.{IsServedOut, Serves}
+use Rattle.sendmail_run.specs.Serving.{IsServedOut, Serves, site_of}
 use Rattle.sendmail_run.specs.Testing.{IsLarge, Tests}
 use Rattle.sendmail_run.proofs.CommandLemmas.{one_mode, not_both}
 use Rattle.sendmail_run.proofs.ServingLemmas.{left_alone, not_used, serves_later}
@@ -67,7 +68,7 @@ ends_tested words f0 f1 i0 i1 o0 o1 l s k mode config how outcome told said does
     (record { how = how; told = told; tests = tests; alone = left_alone (core_seen l s k) })
 
 pub ends_served : (words : List (List ℕ)) (f0 f1 : FilesSeen) (i : SourceSeen) (o : SinkSeen) (l0 l1 : Heard) (s0 s1 : Spooled) (k0 k1 : ClockSeen) (mode : Mode) (config : Config) (how : SessionEnd) (outcome : Outcome) → outcome ≡ of_session how
-    → IsCommandLine words mode → mode.job ≡ Session → Begins mode.file f0 f1 (Ok config) → Serves (core_seen l0 s0 k0) (core_seen l1 s1 k1) how → Ends words (world f0 i o l0 s0 k0) (world f1 i o l1 s1 k1) outcome
+    → IsCommandLine words mode → mode.job ≡ Session → Begins mode.file f0 f1 (Ok config) → Serves (site_of config) (core_seen l0 s0 k0) (core_seen l1 s1 k1) how → Ends words (world f0 i o l0 s0 k0) (world f1 i o l1 s1 k1) outcome
 ends_served words f0 f1 i o l0 l1 s0 s1 k0 k1 mode config how outcome told said does begins serves =
     ends_at_work words (world f0 i o l0 s0 k0) (world f1 i o l1 s1 k1) mode Session config outcome said does begins
     (record { how = how; told = told; serves = serves; idle = record { input = refl; output = refl } })
@@ -111,11 +112,11 @@ stays_tested f0 f1 i0 i1 o0 o1 l s k outcome map kept later input output = recor
   spool = same_count outcomes.SpoolFault outcome s.faults;
 }
 
-pub stays_served : (f0 f1 : FilesSeen) (i : SourceSeen) (o : SinkSeen) (l0 l1 : Heard) (s0 s1 : Spooled) (k0 k1 : ClockSeen) (how : SessionEnd) (outcome : Outcome) → outcome ≡ of_session how → f1.map ≡ f0.map → f1.faults ≡ f0.faults
-    → f0.faults ≤ f1.faults → Serves (core_seen l0 s0 k0) (core_seen l1 s1 k1) how → RisesOnlyAt outcomes.FloorFault (of_session how) l0.faults l1.faults → RisesOnlyAt outcomes.SpoolFault (of_session how) s0.faults s1.faults
+pub stays_served : (site : Site) (f0 f1 : FilesSeen) (i : SourceSeen) (o : SinkSeen) (l0 l1 : Heard) (s0 s1 : Spooled) (k0 k1 : ClockSeen) (how : SessionEnd) (outcome : Outcome) → outcome ≡ of_session how → f1.map ≡ f0.map → f1.faults ≡ f0.faults
+    → f0.faults ≤ f1.faults → Serves site (core_seen l0 s0 k0) (core_seen l1 s1 k1) how → RisesOnlyAt outcomes.FloorFault (of_session how) l0.faults l1.faults → RisesOnlyAt outcomes.SpoolFault (of_session how) s0.faults s1.faults
     → Stays (world f0 i o l0 s0 k0) (world f1 i o l1 s1 k1) outcome
-stays_served f0 f1 i o l0 l1 s0 s1 k0 k1 how outcome told map kept later serves floor spool =
-    let no_less = serves_later (core_seen l0 s0 k0) (core_seen l1 s1 k1) how serves in record {
+stays_served site f0 f1 i o l0 l1 s0 s1 k0 k1 how outcome told map kept later serves floor spool =
+    let no_less = serves_later site (core_seen l0 s0 k0) (core_seen l1 s1 k1) how serves in record {
       map = map;
       files = record { later = later; rises = inr kept };
       input = same_count outcomes.ReadFault outcome i.faults;
@@ -140,6 +141,12 @@ not_said : (files : FilesSeen) (map : FileMap) (file : List ℕ) (config : Confi
 not_said files map file config said told read says =
     let here : said_by map file ≡ said = subst (λ (o : Option FileMap). IfSome o (λ m. said_by m file ≡ said)) told says in
     sym here ∙ read
+
+-- a file says one configuration
+one_config : (files : FilesSeen) (map : FileMap) (file : List ℕ) (config other : Config) → files.map ≡ Some map → said_by map file ≡ Some (Ok config) → Says files file (Some (Ok other)) → config ≡ other
+one_config files map file config other told read says =
+    let same : Some (Ok other) ≡ Some (Ok config) = not_said files map file config (Some (Ok other)) told read says in
+    cc (same)
 
 file_whole : (words : List (List ℕ)) (before after : World) (job : Job) (ready : IsReady words before job) (fault : ConfigFault) → ¬ (Rose before.files.faults after.files.faults) → Begins ready.mode.file before.files after.files (Err fault) → IsWhole job (of_config fault)
 file_whole words before after job ready (config_faults.NoFile name) sound is =
@@ -166,25 +173,25 @@ test_whole config before after test_ends.WriteFault short sound is = absurd (sou
 test_whole config before after test_ends.InputLarge short sound is = absurd (not_large config before after short is)
 test_whole config before after test_ends.NoMemory short sound is = inr refl
 
-not_opened_whole : (before after : World) (fault : OpenFault) → IsQueueEmpty before.spool.told → NoneFailed Session before after → Serves (core_of before) (core_of after) (session_ends.NotOpened fault) → IsWhole Session (of_opening fault)
-not_opened_whole before after open_faults.SpoolFault empty sound is = absurd (sound.1 is.1)
-not_opened_whole before after open_faults.NotYet empty sound is = absurd (not_used before.spool.told empty.map empty.told empty.empty is.1)
-not_opened_whole before after open_faults.NoMemory empty sound is = inr (inl refl)
+not_opened_whole : (config : Config) (before after : World) (fault : OpenFault) → IsQueueEmpty config before.spool.told → NoneFailed Session before after → Serves (site_of config) (core_of before) (core_of after) (session_ends.NotOpened fault) → IsWhole Session (of_opening fault)
+not_opened_whole config before after open_faults.SpoolFault empty sound is = absurd (sound.1 is.1)
+not_opened_whole config before after open_faults.NotYet empty sound is = absurd (not_used (site_of config) before.spool.told empty.map empty.told empty.empty is.1)
+not_opened_whole config before after open_faults.NoMemory empty sound is = inr (inl refl)
 
-over_whole : (before after : World) (stop : CoreStop) → NoneFailed Session before after → IsServedOut (core_of before) (core_of after) (Err stop) → IsWhole Session (of_session (session_ends.Over stop))
-over_whole before after stops.SpoolFault sound is = absurd (sound.1 (is.ended.ended SpoolFault refl).cause)
-over_whole before after stops.IdsSpent sound is = inr (inr (inl refl))
+over_whole : (site : Site) (before after : World) (stop : CoreStop) → NoneFailed Session before after → IsServedOut site (core_of before) (core_of after) (Err stop) → IsWhole Session (of_session (session_ends.Over stop))
+over_whole site before after stops.SpoolFault sound is = absurd (sound.1 (is.ended.ended SpoolFault refl).cause)
+over_whole site before after stops.IdsSpent sound is = inr (inr (inl refl))
 
-session_whole : (before after : World) (how : SessionEnd) → IsQueueEmpty before.spool.told → NoneFailed Session before after → Serves (core_of before) (core_of after) how → IsWhole Session (of_session how)
-session_whole before after (session_ends.NotOpened fault) empty sound is = not_opened_whole before after fault empty sound is
-session_whole before after session_ends.FloorFault empty sound is = absurd (sound.0 is.rose)
-session_whole before after session_ends.Stopped empty sound is = inl refl
-session_whole before after (session_ends.Over stop) empty sound is = over_whole before after stop sound is
-session_whole before after (session_ends.TurnsSpent count) empty sound is = inr (inr (inr (ap (λ (n : ℕ). outcomes.TurnsSpent n) is.0)))
+session_whole : (config : Config) (before after : World) (how : SessionEnd) → IsQueueEmpty config before.spool.told → NoneFailed Session before after → Serves (site_of config) (core_of before) (core_of after) how → IsWhole Session (of_session how)
+session_whole config before after (session_ends.NotOpened fault) empty sound is = not_opened_whole config before after fault empty sound is
+session_whole config before after session_ends.FloorFault empty sound is = absurd (sound.0 is.rose)
+session_whole config before after session_ends.Stopped empty sound is = inl refl
+session_whole config before after (session_ends.Over stop) empty sound is = over_whole (site_of config) before after stop sound is
+session_whole config before after (session_ends.TurnsSpent count) empty sound is = inr (inr (inr (ap (λ (n : ℕ). outcomes.TurnsSpent n) is.0)))
 
-work_whole : (words : List (List ℕ)) (config : Config) (before after : World) (job : Job) (outcome : Outcome) → IsReady words before job → NoneFailed job before after → Works job config before after outcome → IsWhole job outcome
-work_whole words config before after Test outcome ready sound is = subst (λ (o : Outcome). IsWhole Test o) (sym is.told) (test_whole config before after is.how ready.finds sound is.tests)
-work_whole words config before after Session outcome ready sound is = subst (λ (o : Outcome). IsWhole Session o) (sym is.told) (session_whole before after is.how ready.finds sound is.serves)
+work_whole : (words : List (List ℕ)) (config : Config) (before after : World) (job : Job) (outcome : Outcome) (ready : IsReady words before job) → ready.config ≡ config → NoneFailed job before after → Works job config before after outcome → IsWhole job outcome
+work_whole words config before after Test outcome ready same sound is = subst (λ (o : Outcome). IsWhole Test o) (sym is.told) (test_whole config before after is.how ready.finds sound is.tests)
+work_whole words config before after Session outcome ready same sound is = subst (λ (o : Outcome). IsWhole Session o) (sym is.told) (session_whole config before after is.how (subst (λ (c : Config). IsQueueEmpty c before.spool.told) same ready.finds) sound is.serves)
 
 -- what a run's end says of a run that is ready
 complete_at_words : (words : List (List ℕ)) (before after : World) (outcome : Outcome) → EndsAtWords words before after outcome → Completes words before after outcome
@@ -201,7 +208,9 @@ complete_at_work words before after outcome is = λ job ready sound.
     let same = one_mode words is.mode ready.mode is.said ready.said in
     let does : is.mode.job ≡ job = ap (λ (m : Mode). m.job) same ∙ ready.does in
     let works : Works job is.config before after outcome = subst (λ (j : Job). Works j is.config before after outcome) does is.works in
-    work_whole words is.config before after job outcome ready sound.own works
+    let begins : Begins ready.mode.file before.files after.files (Ok is.config) = subst (λ (m : Mode). Begins m.file before.files after.files (Ok is.config)) same is.begins in
+    let one : ready.config ≡ is.config = one_config before.files ready.map ready.mode.file ready.config is.config ready.told ready.read begins in
+    work_whole words is.config before after job outcome ready one sound.own works
 
 -- however a run ends, it does the whole work of its mode where it is ready and no device fails
 pub completes : (words : List (List ℕ)) (before after : World) (outcome : Outcome) → Ends words before after outcome → Completes words before after outcome

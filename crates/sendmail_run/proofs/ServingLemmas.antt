@@ -41,7 +41,7 @@ use Rattle.sendmail_run.specs.declared.session_mode.SessionEnd.TheVariants as en
 use Rattle.sendmail_run.specs.declared.outcome.Outcome.TheVariants as outcomes
 use Rattle.sendmail_run.specs.Outcomes.{of_opening, of_session}
 use Rattle.sendmail_run.specs.Rises.{RisesOnlyAt}
-use Rattle.sendmail_run.specs.Serving.{site, HasRefused, IsBegun, IsLeftAlone, IsUnserved, BeganEmpty, IsServed, IsServedOut, Serves}
+use Rattle.sendmail_run.specs.Serving.{HasRefused, IsBegun, IsLeftAlone, IsUnserved, BeganEmpty, IsServed, IsServedOut, Serves}
 use Rattle.mail_core.proofs.RunLemmas.{ended_by, cut_off}
 
 -- ---- what is read or left alone
@@ -60,27 +60,27 @@ unserved : (f : Heard) (s t : Spooled) (k : ClockSeen) → Reads s t → s.fault
 unserved f s t k reads later = record { floor = refl; clock = refl; spool = reads; spool_faults = later }
 
 -- there was no memory for the buffer
-pub serves_none : (f : Heard) (s : Spooled) (k : ClockSeen) → Serves (seen f s k) (seen f s k) (ends.NotOpened faults.NoMemory)
-serves_none f s k = (unserved f s s k (reads_none s) (le_refl s.faults), tt)
+pub serves_none : (site : Site) → (f : Heard) (s : Spooled) (k : ClockSeen) → Serves site (seen f s k) (seen f s k) (ends.NotOpened faults.NoMemory)
+serves_none site f s k = (unserved f s s k (reads_none s) (le_refl s.faults), tt)
 
 -- the queue wasn't opened
-pub serves_refused : (f : Heard) (s t : Spooled) (k : ClockSeen) (fault : OpenFault) → Reads s t → s.faults ≤ t.faults → HasRefused s t fault → Serves (seen f s k) (seen f t k) (ends.NotOpened fault)
-serves_refused f s t k fault reads later is = (unserved f s t k reads later, is)
+pub serves_refused : (site : Site) → (f : Heard) (s t : Spooled) (k : ClockSeen) (fault : OpenFault) → Reads s t → s.faults ≤ t.faults → HasRefused site s t fault → Serves site (seen f s k) (seen f t k) (ends.NotOpened fault)
+serves_refused site f s t k fault reads later is = (unserved f s t k reads later, is)
 
 -- the store wasn't opened
-pub refused_by : (s t : Spooled) (dirs : List (List ℕ)) (fault : OpenFault) → dirs ≡ dirs_of site → (IsErrOf {T = Store} (Err fault) faults.NotYet → IfSome s.told (IsUsed dirs)) → (IsErrOf {T = Store} (Err fault) faults.SpoolFault → Rose s.faults t.faults) → HasRefused s t fault
-refused_by s t dirs faults.SpoolFault is used rose = rose refl
-refused_by s t dirs faults.NotYet is used rose = subst (λ (d : List (List ℕ)). IfSome s.told (IsUsed d)) is (used refl)
-refused_by s t dirs faults.NoMemory is used rose = tt
+pub refused_by : (site : Site) → (s t : Spooled) (dirs : List (List ℕ)) (fault : OpenFault) → dirs ≡ dirs_of site → (IsErrOf {T = Store} (Err fault) faults.NotYet → IfSome s.told (IsUsed dirs)) → (IsErrOf {T = Store} (Err fault) faults.SpoolFault → Rose s.faults t.faults) → HasRefused site s t fault
+refused_by site s t dirs faults.SpoolFault is used rose = rose refl
+refused_by site s t dirs faults.NotYet is used rose = subst (λ (d : List (List ℕ)). IfSome s.told (IsUsed d)) is (used refl)
+refused_by site s t dirs faults.NoMemory is used rose = tt
 
 pub rises_by : (before after : ℕ) (fault : OpenFault) → IsErrOf {T = Store} (Err fault) faults.SpoolFault ⊎ (after ≡ before) → RisesOnlyAt outcomes.SpoolFault (of_opening fault) before after
 rises_by before after fault (inl is) = let same : fault ≡ faults.SpoolFault = cc (is) in inl (ap (λ (f : OpenFault). of_opening f) same)
 rises_by before after fault (inr same) = inr same
 
 -- a core over the store of an unused queue
-pub made_over : (with : Site) (store : Store) (r : Result Core NoMemory) → with ≡ site → Stores site store start → IfOk r (λ core. (table : Table) → Stores with store table → Stands with core (beginning table)) → IfOk r (λ core. Stands site core (beginning start))
-made_over with store (Ok core) is stores made = subst (λ (s : Site). Stands s core (beginning start)) is (made start (subst (λ (s : Site). Stores s store start) (sym is) stores))
-made_over with store (Err e) is stores made = tt
+pub made_over : (site : Site) → (with : Site) (store : Store) (r : Result Core NoMemory) → with ≡ site → Stores site store start → IfOk r (λ core. (table : Table) → Stores with store table → Stands with core (beginning table)) → IfOk r (λ core. Stands site core (beginning start))
+made_over site with store (Ok core) is stores made = subst (λ (s : Site). Stands s core (beginning start)) is (made start (subst (λ (s : Site). Stores s store start) (sym is) stores))
+made_over site with store (Err e) is stores made = tt
 
 -- ---- turns of the floor
 
@@ -112,16 +112,16 @@ taken f g k l (Closed session) buf reading told follows later read counted = rec
 taken f g k l Idle buf reading told follows later read counted = record { told = told; follows = follows; faults = later; clock_told = read; readings = counted }
 taken f g k l Stop buf reading told follows later read counted = record { told = told; follows = follows; faults = later; clock_told = read; readings = counted }
 
-pub standing : (core : Core) (n : ℕ) (a b : Seen) → IsUnderWay site start core n a b → IsStanding core
-standing core n a b u = record { site = site; state = (run_over site start u.turns).state; stands = u.stands }
+pub standing : (site : Site) → (core : Core) (n : ℕ) (a b : Seen) → IsUnderWay site start core n a b → IsStanding core
+standing site core n a b u = record { site = site; state = (run_over site start u.turns).state; stands = u.stands }
 
 -- ---- how it ends
 
 abbrev pub OnlyNow : Seen → Type 0
 OnlyNow a = (c : FileMap) → a.spool.left_since a.spool.moment c → a.spool.told ≡ Some c
 
-served : (core : Core) (n : ℕ) (a b : Seen) → BeganEmpty a → IsBegun a b → OnlyNow a → IsUnderWay site start core n a b → IsServed n a b
-served core n a b empty begun only u = record {
+served : (site : Site) (core : Core) (n : ℕ) (a b : Seen) → BeganEmpty site a → IsBegun a b → OnlyNow a → IsUnderWay site start core n a b → IsServed site n a b
+served site core n a b empty begun only u = record {
   turns = u.turns;
   events = u.events;
   on = u.stands.on;
@@ -132,17 +132,17 @@ served core n a b empty begun only u = record {
 }
 
 -- the floor failed
-pub serves_lost : (core : Core) (n : ℕ) (a b : Seen) → BeganEmpty a → IsBegun a b → OnlyNow a → n ≤ 2 ^ 60 → IsUnderWay site start core n a b → Rose a.floor.faults b.floor.faults → Serves a b ends.FloorFault
-serves_lost core n a b empty begun only few u rose = record { count = n; few = few; served = served core n a b empty begun only u; rose = rose }
+pub serves_lost : (site : Site) → (core : Core) (n : ℕ) (a b : Seen) → BeganEmpty site a → IsBegun a b → OnlyNow a → n ≤ 2 ^ 60 → IsUnderWay site start core n a b → Rose a.floor.faults b.floor.faults → Serves site a b ends.FloorFault
+serves_lost site core n a b empty begun only few u rose = record { count = n; few = few; served = served site core n a b empty begun only u; rose = rose }
 
 -- all turns were taken
-pub serves_spent : (core : Core) (n most : ℕ) (a b : Seen) → BeganEmpty a → IsBegun a b → OnlyNow a → n ≡ most → most ≡ 2 ^ 60 → IsUnderWay site start core n a b → Serves a b (ends.TurnsSpent most)
-serves_spent core n most a b empty begun only all is u = (is, served core most a b empty begun only (subst (λ (q : ℕ). IsUnderWay site start core q a b) all u))
+pub serves_spent : (site : Site) → (core : Core) (n most : ℕ) (a b : Seen) → BeganEmpty site a → IsBegun a b → OnlyNow a → n ≡ most → most ≡ 2 ^ 60 → IsUnderWay site start core n a b → Serves site a b (ends.TurnsSpent most)
+serves_spent site core n most a b empty begun only all is u = (is, served site core most a b empty begun only (subst (λ (q : ℕ). IsUnderWay site start core q a b) all u))
 
 -- a turn ended the run
-pub served_out : (core new : Core) (n : ℕ) (a b c : Seen) (event : Event) (reading : ℕ) (went : Result Act CoreStop) → BeganEmpty a → IsBegun a c → OnlyNow a → n < 2 ^ 60
-    → (u : IsUnderWay site start core n a b) → Turns site (run_over site start u.turns).state event reading b c new went → c.clock.readings ≡ b.clock.readings + 1 → IsServedOut a c went
-served_out core new n a b c event reading went empty begun only few u turns counted = record {
+pub served_out : (site : Site) (core new : Core) (n : ℕ) (a b c : Seen) (event : Event) (reading : ℕ) (went : Result Act CoreStop) → BeganEmpty site a → IsBegun a c → OnlyNow a → n < 2 ^ 60
+    → (u : IsUnderWay site start core n a b) → Turns site (run_over site start u.turns).state event reading b c new went → c.clock.readings ≡ b.clock.readings + 1 → IsServedOut site a c went
+served_out site core new n a b c event reading went empty begun only few u turns counted = record {
   count = n + 1;
   few = omega (arith, few);
   empty = empty;
@@ -159,23 +159,23 @@ pub record IsNoLess (a b : Seen) : Type 0 where
 unserved_later : (a b : Seen) → IsUnserved a b → IsNoLess a b
 unserved_later a b is = record { floor = let e = ap (λ (h : Heard). h.faults) is.floor in omega (arith, e); spool = is.spool_faults }
 
-out_later : (a b : Seen) (went : Result Act CoreStop) → IsServedOut a b went → IsNoLess a b
-out_later a b went is = record { floor = is.ended.headline.floor_faults; spool = is.ended.headline.spool_faults }
+out_later : (site : Site) (a b : Seen) (went : Result Act CoreStop) → IsServedOut site a b went → IsNoLess a b
+out_later site a b went is = record { floor = is.ended.headline.floor_faults; spool = is.ended.headline.spool_faults }
 
-served_later : (n : ℕ) (a b : Seen) → IsServed n a b → IsNoLess a b
-served_later n a b is = record { floor = is.headline.floor_faults; spool = is.headline.spool_faults }
+served_later : (site : Site) (n : ℕ) (a b : Seen) → IsServed site n a b → IsNoLess a b
+served_later site n a b is = record { floor = is.headline.floor_faults; spool = is.headline.spool_faults }
 
-pub serves_later : (a b : Seen) (how : SessionEnd) → Serves a b how → IsNoLess a b
-serves_later a b (ends.NotOpened fault) is = unserved_later a b is.0
-serves_later a b ends.FloorFault is = served_later is.count a b is.served
-serves_later a b ends.Stopped is = out_later a b (Ok Ended) is
-serves_later a b (ends.Over stop) is = out_later a b (Err stop) is
-serves_later a b (ends.TurnsSpent count) is = served_later count a b is.1
+pub serves_later : (site : Site) (a b : Seen) (how : SessionEnd) → Serves site a b how → IsNoLess a b
+serves_later site a b (ends.NotOpened fault) is = unserved_later a b is.0
+serves_later site a b ends.FloorFault is = served_later site is.count a b is.served
+serves_later site a b ends.Stopped is = out_later site a b (Ok Ended) is
+serves_later site a b (ends.Over stop) is = out_later site a b (Err stop) is
+serves_later site a b (ends.TurnsSpent count) is = served_later site count a b is.1
 
 -- the files of a used directory aren't those of an empty one
-pub not_used : (told : Option FileMap) (files : FileMap) → told ≡ Some files → AreEmpty (dirs_of site) files → IfSome told (IsUsed (dirs_of site)) → ⊥
-not_used None files e empty used = cc e
-not_used (Some other) files e empty used =
+pub not_used : (site : Site) → (told : Option FileMap) (files : FileMap) → told ≡ Some files → AreEmpty (dirs_of site) files → IfSome told (IsUsed (dirs_of site)) → ⊥
+not_used site None files e empty used = cc e
+not_used site (Some other) files e empty used =
     let same : other ≡ files = cc e in
     let is : IsUsed (dirs_of site) files = subst (IsUsed (dirs_of site)) same used in
     let none = empty is.place is.among in

@@ -20,7 +20,7 @@ use Rattle.sendmail_run.specs.CommandLines.{Fails, IsCommandLine}
 use Rattle.sendmail_run.specs.Devices.{Streams, World, core_of, streams_of}
 use Rattle.sendmail_run.specs.Outcomes.{of_config, of_session, of_test, of_words}
 use Rattle.sendmail_run.specs.Rises.{Counts}
-use Rattle.sendmail_run.specs.Serving.{IsLeftAlone, Serves, site}
+use Rattle.sendmail_run.specs.Serving.{IsLeftAlone, Serves, site_of}
 use Rattle.sendmail_run.specs.Testing.{Tests}
 
 -- ---- how a run ends
@@ -60,16 +60,16 @@ pub record HasTested (config : Config) (before after : World) (outcome : Outcome
   pub alone : IsLeftAlone (core_of before) (core_of after)
 
 -- session mode did its work, and left the input and the output alone
-pub record HasServed (before after : World) (outcome : Outcome) : Type 0 where
+pub record HasServed (config : Config) (before after : World) (outcome : Outcome) : Type 0 where
   pub how : SessionEnd
   pub told : outcome ≡ of_session how
-  pub serves : Serves (core_of before) (core_of after) how
+  pub serves : Serves (site_of config) (core_of before) (core_of after) how
   pub idle : IsIdle (streams_of before) (streams_of after)
 
 -- how the work of a mode ends
 abbrev pub Works : Job → Config → World → World → Outcome → Type 0
 Works Test config before after outcome = HasTested config before after outcome
-Works Session config before after outcome = HasServed before after outcome
+Works Session config before after outcome = HasServed config before after outcome
 
 -- the words were taken, the file that they name is a configuration, and the mode's work was done
 pub record EndsAtWork (words : List (List ℕ)) (before after : World) (outcome : Outcome) : Type 0 where
@@ -103,15 +103,15 @@ pub record IsShort (left : Option (List ℕ)) : Type 0 where
   pub few : length bytes < 2 ^ 32
 
 -- the files of the spool are told, and none is in the queue
-pub record IsQueueEmpty (files : Option SpoolMap) : Type 0 where
+pub record IsQueueEmpty (config : Config) (files : Option SpoolMap) : Type 0 where
   pub map : SpoolMap
   pub told : files ≡ Some map
-  pub empty : AreEmpty (dirs_of site) map
+  pub empty : AreEmpty (dirs_of (site_of config)) map
 
--- what a mode wants of its devices
-abbrev pub Finds : Job → World → Type 0
-Finds Test before = IsShort before.input.left
-Finds Session before = IsQueueEmpty before.spool.told
+-- what a mode wants of its devices under a configuration
+abbrev pub Finds : Job → Config → World → Type 0
+Finds Test config before = IsShort before.input.left
+Finds Session config before = IsQueueEmpty config before.spool.told
 
 -- the words say this mode, they, the file and its lines are all taken, of files that are told, and the mode finds what it wants
 pub record IsReady (words : List (List ℕ)) (before : World) (job : Job) : Type 0 where
@@ -122,7 +122,7 @@ pub record IsReady (words : List (List ℕ)) (before : World) (job : Job) : Type
   pub told : before.files.map ≡ Some map
   pub config : Config
   pub read : said_by map mode.file ≡ Some (Ok config)
-  pub finds : Finds job before
+  pub finds : Finds job config before
 
 -- no device of a mode failed; a send may have
 abbrev pub NoneFailed : Job → World → World → Type 0

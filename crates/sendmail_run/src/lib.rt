@@ -11,6 +11,7 @@ mod law;
 mod outcome;
 mod program;
 mod session_mode;
+mod site;
 mod tokens;
 mod warning;
 

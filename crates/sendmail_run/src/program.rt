@@ -93,7 +93,7 @@ fn run<F: Files, D: Spool, L: Floor, C: Clock, I: Source, O: Sink>(
     };
     match mode.job {
         Job::Test => Outcome::of_test(address_test(alloc, &config, input, output)),
-        Job::Session => Outcome::of_session(session_mode(alloc, spool, floor, clock)),
+        Job::Session => Outcome::of_session(session_mode(alloc, &config, spool, floor, clock)),
     }
 }
 

@@ -7,13 +7,13 @@ ghost use Rattle.mail_core.specs.Seen.{seen};
 ghost use Rattle.mail_core.specs.Standing.{Stands, Stores, dirs_of};
 ghost use Rattle.sendmail_run.specs.Outcomes.{of_opening, of_session};
 ghost use Rattle.sendmail_run.specs.Rises.{RisesOnlyAt};
-ghost use Rattle.sendmail_run.specs.Serving as spec;
-ghost use Rattle.sendmail_run.specs.Serving.{HasRefused, Serves};
+ghost use Rattle.sendmail_run.specs.Serving.{HasRefused, Serves, site_of};
 ghost use Rattle.sendmail_run.specs.declared.outcome.Outcome.TheVariants.{FloorFault, SpoolFault};
 
 use crate::buffer::zeros;
+use crate::site::site_of;
 use link_edge::{Floor, Place};
-use mail_base::{MOST_PIECE, NoMemory, Seq, Text};
+use mail_base::{Config, MOST_PIECE, NoMemory, Seq, Text, TryCopy};
 use mail_core::{Act, Core, CoreStop, Site};
 use mail_edge::Clock;
 use spool_disk::Spool;
@@ -22,12 +22,6 @@ use std::alloc::Global;
 
 /// The most turns of the floor that a run takes.
 pub const MOST_TURNS: u64 = 1 << 60;
-
-/// The host that replies name: no line of a configuration says it yet.
-const HOST: &[u8] = b"localhost";
-
-/// The directory of the queue: no line of a configuration says it yet.
-const QUEUE: &[u8] = b"/var/spool/mqueue";
 
 /// How session mode ends.
 #[derive(Clone, Copy)]
@@ -45,12 +39,14 @@ pub enum SessionEnd {
 }
 
 /// Serves one session at the standard place of the floor, and takes its messages into the queue. It ends
-/// when the floor tells `Stop`.
+/// when the floor tells `Stop`. The configuration says the directory of the queue, and by `$j` the host that
+/// replies name.
 ///
 /// The steps are taken in this order, and the first refusal ends the run: the queue is opened, the floor
 /// begins, and then for each turn of the floor the clock is read once and the turn is served.
 pub fn session_mode<D: Spool, L: Floor, C: Clock>(
     alloc: Global,
+    config: &Config,
     spool: &mut D,
     floor: &mut L,
     clock: &mut C,
@@ -58,17 +54,21 @@ pub fn session_mode<D: Spool, L: Floor, C: Clock>(
     requires { (C.seen clock.old).readings ≤ 2 ^ 63 }
     ensures rises_floor { RisesOnlyAt FloorFault (of_session result) (L.seen floor.old).faults (L.seen floor.new).faults }
     ensures rises_spool { RisesOnlyAt SpoolFault (of_session result) (D.seen spool.old).faults (D.seen spool.new).faults }
-    ensures serves { Serves (seen (L.seen floor.old) (D.seen spool.old) (C.seen clock.old)) (seen (L.seen floor.new) (D.seen spool.new) (C.seen clock.new)) result }
+    ensures serves { Serves (site_of config.now) (seen (L.seen floor.old) (D.seen spool.old) (C.seen clock.old)) (seen (L.seen floor.new) (D.seen spool.new) (C.seen clock.new)) result }
 {
+    let Ok(site) = site_of(alloc, config) else {
+        return SessionEnd::NotOpened(OpenFault::NoMemory);
+    };
     let Ok(mut buffer) = zeros(alloc, MOST_PIECE) else {
         return SessionEnd::NotOpened(OpenFault::NoMemory);
     };
-    serve(alloc, spool, floor, clock, &mut buffer)
+    serve(alloc, &site, spool, floor, clock, &mut buffer)
 }
 
 // Opens the queue, begins the floor and serves its turns, taking as many bytes at once as the buffer holds.
 fn serve<D: Spool, L: Floor, C: Clock>(
     alloc: Global,
+    site: &Site,
     spool: &mut D,
     floor: &mut L,
     clock: &mut C,
@@ -78,9 +78,9 @@ fn serve<D: Spool, L: Floor, C: Clock>(
     requires room { 64 ≤ length buffer.old }
     ensures rises_floor { RisesOnlyAt FloorFault (of_session result) (L.seen floor.old).faults (L.seen floor.new).faults }
     ensures rises_spool { RisesOnlyAt SpoolFault (of_session result) (D.seen spool.old).faults (D.seen spool.new).faults }
-    ensures serves { Serves (seen (L.seen floor.old) (D.seen spool.old) (C.seen clock.old)) (seen (L.seen floor.new) (D.seen spool.new) (C.seen clock.new)) result }
+    ensures serves { Serves site.now (seen (L.seen floor.old) (D.seen spool.old) (C.seen clock.old)) (seen (L.seen floor.new) (D.seen spool.new) (C.seen clock.new)) result }
 {
-    let mut core = match opened(alloc, spool) {
+    let mut core = match opened(alloc, site, spool) {
         Ok(core) => core,
         Err(fault) => return SessionEnd::NotOpened(fault),
     };
@@ -102,49 +102,49 @@ fn serve<D: Spool, L: Floor, C: Clock>(
 }
 
 // Opens the queue, and makes a core over it.
-fn opened<D: Spool>(alloc: Global, spool: &mut D) -> Result<Core, OpenFault>
+fn opened<D: Spool>(alloc: Global, site: &Site, spool: &mut D) -> Result<Core, OpenFault>
     ensures reads { Reads (D.seen spool.old) (D.seen spool.new) }
     ensures later { (D.seen spool.old).faults ≤ (D.seen spool.new).faults }
-    ensures core { IfOk result (λ core. Stands spec.site core (beginning start)) }
-    ensures empty { IfOk result (λ _. IfSome (D.seen spool.old).told (IsClean (dirs_of spec.site) start)) }
-    ensures refused { IfErr result (HasRefused (D.seen spool.old) (D.seen spool.new)) }
+    ensures core { IfOk result (λ core. Stands site.now core (beginning start)) }
+    ensures empty { IfOk result (λ _. IfSome (D.seen spool.old).told (IsClean (dirs_of site.now) start)) }
+    ensures refused { IfErr result (HasRefused site.now (D.seen spool.old) (D.seen spool.new)) }
     ensures kept { OnOk result ((D.seen spool.new).faults ≡ (D.seen spool.old).faults) }
     ensures rises { IfErr result (λ fault. RisesOnlyAt SpoolFault (of_opening fault) (D.seen spool.old).faults (D.seen spool.new).faults) }
 {
-    let Ok(dirs) = queue_dirs(alloc) else {
+    let Ok(dirs) = queue_dirs(alloc, site) else {
         return Err(OpenFault::NoMemory);
     };
     let store = match Store::open(alloc, spool, &dirs) {
         Ok(store) => store,
         Err(fault) => return Err(fault),
     };
-    match core_over(alloc, store) {
+    match core_over(alloc, site, store) {
         Ok(core) => Ok(core),
         Err(NoMemory) => Err(OpenFault::NoMemory),
     }
 }
 
-fn queue_dirs(alloc: Global) -> Result<Seq<Text>, NoMemory>
-    ensures { IfOk result (λ dirs. dirs ≡ dirs_of spec.site) }
+fn queue_dirs(alloc: Global, site: &Site) -> Result<Seq<Text>, NoMemory>
+    ensures { IfOk result (λ dirs. dirs ≡ dirs_of site.now) }
 {
     let mut dirs = Seq::new(alloc);
-    dirs.push(Text::of(alloc, QUEUE)?)?;
+    dirs.push(site.dir.copy()?)?;
     Ok(dirs)
 }
 
-fn core_over(alloc: Global, store: Store) -> Result<Core, NoMemory>
-    requires { Stores spec.site store start }
-    ensures { IfOk result (λ core. Stands spec.site core (beginning start)) }
+fn core_over(alloc: Global, site: &Site, store: Store) -> Result<Core, NoMemory>
+    requires { Stores site.now store start }
+    ensures { IfOk result (λ core. Stands site.now core (beginning start)) }
 {
-    let site = local_site(alloc)?;
-    Core::new(alloc, site, store)
+    let own = copied(site)?;
+    Core::new(alloc, own, store)
 }
 
-fn local_site(alloc: Global) -> Result<Site, NoMemory>
-    ensures { IfOk result (λ site. site ≡ spec.site) }
+fn copied(site: &Site) -> Result<Site, NoMemory>
+    ensures { IfOk result (λ own. own ≡ site.now) }
 {
     Ok(Site {
-        host: Text::of(alloc, HOST)?,
-        dir: Text::of(alloc, QUEUE)?,
+        host: site.host.copy()?,
+        dir: site.dir.copy()?,
     })
 }

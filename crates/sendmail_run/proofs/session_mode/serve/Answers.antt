@@ -5,18 +5,17 @@ use Rattle.mail_core.specs.Events.{event_of}
 use Rattle.mail_core.specs.Runs.{run_over}
 use Rattle.mail_core.specs.Seen.{seen}
 use Rattle.mail_edge.proofs.Causing.{rose_since}
-use Rattle.sendmail_run.specs.Serving.{site}
 use Rattle.mail_core.proofs.RunLemmas.{under_way_begin, under_way_floor, under_way_more}
 use Rattle.sendmail_run.proofs.ServingLemmas.{heard_at, taken, standing, serves_lost, serves_spent, served_out, spool_ended}
 use Rattle.sendmail_run.proofs.session_mode.serve.Goals as goal
 
 pub returns-in_default-clause-serves : goal.returns-in_default-clause-serves
 returns-in_default-clause-serves g c =
-    serves_lost c.in-Ok.core 0
+    serves_lost c.args.site.now c.in-Ok.core 0
     (seen (g.L.Floor.seen c.args.floor.now) (g.D.Spool.seen c.args.spool.now) (g.C.Clock.seen c.args.clock.now))
     (seen (g.L.Floor.seen c.begin.new.self) (g.D.Spool.seen c.opened.new.spool) (g.C.Clock.seen c.args.clock.now))
     c.in-Ok.ensures.empty c.begin.ensures.begun (g.met.D.Spool.only_now c.args.spool.now) (omega arith)
-    (under_way_begin site start c.in-Ok.core (g.L.Floor.seen c.args.floor.now) (g.L.Floor.seen c.begin.new.self) (g.D.Spool.seen c.args.spool.now) (g.D.Spool.seen c.opened.new.spool) (g.C.Clock.seen c.args.clock.now)
+    (under_way_begin c.args.site.now start c.in-Ok.core (g.L.Floor.seen c.args.floor.now) (g.L.Floor.seen c.begin.new.self) (g.D.Spool.seen c.args.spool.now) (g.D.Spool.seen c.opened.new.spool) (g.C.Clock.seen c.args.clock.now)
     c.in-Ok.ensures.reads c.begin.ensures.told c.begin.ensures.cause.later c.in-Ok.ensures.later c.in-Ok.ensures.core)
     c.in_default.ensures.cause.failed
 
@@ -24,7 +23,7 @@ pub loop-init : goal.loop-init
 loop-init g c = record {
   empty = c.in-Ok.ensures.empty;
   begun = c.begin.ensures.begun;
-  run = under_way_begin site start c.in-Ok.core (g.L.Floor.seen c.args.floor.now) (g.L.Floor.seen c.begin.new.self) (g.D.Spool.seen c.args.spool.now) (g.D.Spool.seen c.opened.new.spool) (g.C.Clock.seen c.args.clock.now)
+  run = under_way_begin c.args.site.now start c.in-Ok.core (g.L.Floor.seen c.args.floor.now) (g.L.Floor.seen c.begin.new.self) (g.D.Spool.seen c.args.spool.now) (g.D.Spool.seen c.opened.new.spool) (g.C.Clock.seen c.args.clock.now)
       c.in-Ok.ensures.reads c.begin.ensures.told c.begin.ensures.cause.later c.in-Ok.ensures.later c.in-Ok.ensures.core;
   floor = c.in-Ok-begin.ensures.calm;
   spool = c.in-Ok.ensures.kept;
@@ -33,11 +32,11 @@ loop-init g c = record {
 pub returns-in_default-turn-clause-serves : goal.returns-in_default-turn-clause-serves
 returns-in_default-turn-clause-serves g c =
     let u = c.loop.invariant.run in
-    serves_lost c.loop.core c.loop.counter
+    serves_lost c.args.site.now c.loop.core c.loop.counter
     (seen (g.L.Floor.seen c.args.floor.now) (g.D.Spool.seen c.args.spool.now) (g.C.Clock.seen c.args.clock.now))
     (seen (g.L.Floor.seen c.turn.new.self) (g.D.Spool.seen c.loop.spool) (g.C.Clock.seen c.loop.clock))
     c.loop.invariant.empty (c.in_default-turn.ensures.begun ∙ c.loop.invariant.begun) (g.met.D.Spool.only_now c.args.spool.now) (omega (arith, c.loop-test.true))
-    (under_way_floor site start c.loop.core c.loop.counter (seen (g.L.Floor.seen c.args.floor.now) (g.D.Spool.seen c.args.spool.now) (g.C.Clock.seen c.args.clock.now))
+    (under_way_floor c.args.site.now start c.loop.core c.loop.counter (seen (g.L.Floor.seen c.args.floor.now) (g.D.Spool.seen c.args.spool.now) (g.C.Clock.seen c.args.clock.now))
     (g.L.Floor.seen c.loop.floor) (g.L.Floor.seen c.turn.new.self) (g.D.Spool.seen c.loop.spool) (g.C.Clock.seen c.loop.clock) u c.in_default-turn.ensures.told c.in_default-turn.ensures.cause.later)
     (rose_since (g.L.Floor.seen c.args.floor.now).faults (g.L.Floor.seen c.loop.floor).faults (g.L.Floor.seen c.turn.new.self).faults u.ran.floor_faults c.in_default-turn.ensures.cause.failed)
 
@@ -45,19 +44,19 @@ pub turn-requires-in-loop : goal.turn-requires-in-loop
 turn-requires-in-loop g c = record {
   fits = c.in-Ok-turn.ensures.fits;
   sound = heard_at (g.L.Floor.seen c.loop.floor) (g.L.Floor.seen c.turn.new.self) c.in-Ok-turn.turn c.turn.new.buf c.in-Ok-turn.ensures.told c.in-Ok-turn.ensures.follows;
-  standing = standing c.loop.core c.loop.counter (seen (g.L.Floor.seen c.args.floor.now) (g.D.Spool.seen c.args.spool.now) (g.C.Clock.seen c.args.clock.now)) (seen (g.L.Floor.seen c.loop.floor) (g.D.Spool.seen c.loop.spool) (g.C.Clock.seen c.loop.clock)) c.loop.invariant.run;
+  standing = standing c.args.site.now c.loop.core c.loop.counter (seen (g.L.Floor.seen c.args.floor.now) (g.D.Spool.seen c.args.spool.now) (g.C.Clock.seen c.args.clock.now)) (seen (g.L.Floor.seen c.loop.floor) (g.D.Spool.seen c.loop.spool) (g.C.Clock.seen c.loop.clock)) c.loop.invariant.run;
 }
 
 -- the floor told Stop
 pub returns-in-Ok-Ended-clause-serves : goal.returns-in-Ok-Ended-clause-serves
 returns-in-Ok-Ended-clause-serves g c =
     let u = c.loop.invariant.run in
-    served_out c.loop.core c.turn-in-loop.new.self c.loop.counter
+    served_out c.args.site.now c.loop.core c.turn-in-loop.new.self c.loop.counter
     (seen (g.L.Floor.seen c.args.floor.now) (g.D.Spool.seen c.args.spool.now) (g.C.Clock.seen c.args.clock.now))
     (seen (g.L.Floor.seen c.loop.floor) (g.D.Spool.seen c.loop.spool) (g.C.Clock.seen c.loop.clock))
     (seen (g.L.Floor.seen c.turn-in-loop.new.floor) (g.D.Spool.seen c.turn-in-loop.new.spool) (g.C.Clock.seen c.now-reading.new.self))
     (event_of c.in-Ok-turn.turn c.turn.new.buf) c.now-reading.result (Ok Ended) c.loop.invariant.empty (c.turn-in-loop.ensures.begun ∙ c.in-Ok-turn.ensures.begun ∙ c.loop.invariant.begun) (g.met.D.Spool.only_now c.args.spool.now) (omega (arith, c.loop-test.true)) u
-    (rw c.in-Ok-Ended.field-0-is at c.in-Ok-Ended.ensures.turns site (run_over site start u.turns).state (g.L.Floor.seen c.loop.floor) (g.C.Clock.seen c.loop.clock) (g.C.Clock.seen c.now-reading.new.self) u.stands
+    (rw c.in-Ok-Ended.field-0-is at c.in-Ok-Ended.ensures.turns c.args.site.now (run_over c.args.site.now start u.turns).state (g.L.Floor.seen c.loop.floor) (g.C.Clock.seen c.loop.clock) (g.C.Clock.seen c.now-reading.new.self) u.stands
     (taken (g.L.Floor.seen c.loop.floor) (g.L.Floor.seen c.turn.new.self) (g.C.Clock.seen c.loop.clock) (g.C.Clock.seen c.now-reading.new.self) c.in-Ok-turn.turn c.turn.new.buf c.now-reading.result
     c.in-Ok-turn.ensures.told c.in-Ok-turn.ensures.follows c.in-Ok-turn.ensures.cause.later c.now-reading.ensures.told c.now-reading.ensures.counted))
     c.now-reading.ensures.counted
@@ -66,12 +65,12 @@ returns-in-Ok-Ended-clause-serves g c =
 pub returns-in-Err-turn-clause-serves : goal.returns-in-Err-turn-clause-serves
 returns-in-Err-turn-clause-serves g c =
     let u = c.loop.invariant.run in
-    served_out c.loop.core c.turn-in-loop.new.self c.loop.counter
+    served_out c.args.site.now c.loop.core c.turn-in-loop.new.self c.loop.counter
     (seen (g.L.Floor.seen c.args.floor.now) (g.D.Spool.seen c.args.spool.now) (g.C.Clock.seen c.args.clock.now))
     (seen (g.L.Floor.seen c.loop.floor) (g.D.Spool.seen c.loop.spool) (g.C.Clock.seen c.loop.clock))
     (seen (g.L.Floor.seen c.turn-in-loop.new.floor) (g.D.Spool.seen c.turn-in-loop.new.spool) (g.C.Clock.seen c.now-reading.new.self))
     (event_of c.in-Ok-turn.turn c.turn.new.buf) c.now-reading.result (Err c.in-Err-turn.stop) c.loop.invariant.empty (c.turn-in-loop.ensures.begun ∙ c.in-Ok-turn.ensures.begun ∙ c.loop.invariant.begun) (g.met.D.Spool.only_now c.args.spool.now) (omega (arith, c.loop-test.true)) u
-    (c.in-Err-turn.ensures.turns site (run_over site start u.turns).state (g.L.Floor.seen c.loop.floor) (g.C.Clock.seen c.loop.clock) (g.C.Clock.seen c.now-reading.new.self) u.stands
+    (c.in-Err-turn.ensures.turns c.args.site.now (run_over c.args.site.now start u.turns).state (g.L.Floor.seen c.loop.floor) (g.C.Clock.seen c.loop.clock) (g.C.Clock.seen c.now-reading.new.self) u.stands
     (taken (g.L.Floor.seen c.loop.floor) (g.L.Floor.seen c.turn.new.self) (g.C.Clock.seen c.loop.clock) (g.C.Clock.seen c.now-reading.new.self) c.in-Ok-turn.turn c.turn.new.buf c.now-reading.result
     c.in-Ok-turn.ensures.told c.in-Ok-turn.ensures.follows c.in-Ok-turn.ensures.cause.later c.now-reading.ensures.told c.now-reading.ensures.counted))
     c.now-reading.ensures.counted
@@ -81,13 +80,13 @@ loop-preserved g c =
     let u = c.loop.invariant.run in record {
       empty = c.loop.invariant.empty;
       begun = c.turn-in-loop.ensures.begun ∙ c.in-Ok-turn.ensures.begun ∙ c.loop.invariant.begun;
-      run = under_way_more site start c.loop.core c.turn-in-loop.new.self c.loop.counter
+      run = under_way_more c.args.site.now start c.loop.core c.turn-in-loop.new.self c.loop.counter
           (event_of c.in-Ok-turn.turn c.turn.new.buf) c.now-reading.result
           (seen (g.L.Floor.seen c.args.floor.now) (g.D.Spool.seen c.args.spool.now) (g.C.Clock.seen c.args.clock.now))
           (seen (g.L.Floor.seen c.loop.floor) (g.D.Spool.seen c.loop.spool) (g.C.Clock.seen c.loop.clock))
           (seen (g.L.Floor.seen c.turn-in-loop.new.floor) (g.D.Spool.seen c.turn-in-loop.new.spool) (g.C.Clock.seen c.now-reading.new.self))
           u
-          (rw c.in-Ok-Went.field-0-is at c.in-Ok-Went.ensures.turns site (run_over site start u.turns).state (g.L.Floor.seen c.loop.floor) (g.C.Clock.seen c.loop.clock) (g.C.Clock.seen c.now-reading.new.self) u.stands
+          (rw c.in-Ok-Went.field-0-is at c.in-Ok-Went.ensures.turns c.args.site.now (run_over c.args.site.now start u.turns).state (g.L.Floor.seen c.loop.floor) (g.C.Clock.seen c.loop.clock) (g.C.Clock.seen c.now-reading.new.self) u.stands
           (taken (g.L.Floor.seen c.loop.floor) (g.L.Floor.seen c.turn.new.self) (g.C.Clock.seen c.loop.clock) (g.C.Clock.seen c.now-reading.new.self) c.in-Ok-turn.turn c.turn.new.buf c.now-reading.result
           c.in-Ok-turn.ensures.told c.in-Ok-turn.ensures.follows c.in-Ok-turn.ensures.cause.later c.now-reading.ensures.told c.now-reading.ensures.counted))
           c.now-reading.ensures.counted;
@@ -97,7 +96,7 @@ loop-preserved g c =
 
 pub returns-clause-serves : goal.returns-clause-serves
 returns-clause-serves g c =
-    serves_spent c.loop.core c.loop.counter 1152921504606846976
+    serves_spent c.args.site.now c.loop.core c.loop.counter 1152921504606846976
     (seen (g.L.Floor.seen c.args.floor.now) (g.D.Spool.seen c.args.spool.now) (g.C.Clock.seen c.args.clock.now))
     (seen (g.L.Floor.seen c.loop.floor) (g.D.Spool.seen c.loop.spool) (g.C.Clock.seen c.loop.clock))
     c.loop.invariant.empty c.loop.invariant.begun (g.met.D.Spool.only_now c.args.spool.now) (omega arith) refl c.loop.invariant.run
