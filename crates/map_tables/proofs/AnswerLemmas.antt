@@ -17,12 +17,12 @@ module _ {X : Type 0} where
   none_some : (x : X) → None ≡ Some x → ⊥
   none_some x same = false≢true (ap is_some same)
 
-  at_front : (xs ys : List X) (k : ℕ) → k < length xs → slice_get (xs ++ ys) k ≡ slice_get xs k
+  pub at_front : (xs ys : List X) (k : ℕ) → k < length xs → slice_get (xs ++ ys) k ≡ slice_get xs k
   at_front [] ys k lt = absurd (omega (arith, lt))
   at_front (x ∷ xs) ys zero lt = refl
   at_front (x ∷ xs) ys (suc k) lt = at_front xs ys k (omega (arith, lt))
 
-  at_last : (xs : List X) (x : X) → slice_get (xs ++ x ∷ []) (length xs) ≡ Some x
+  pub at_last : (xs : List X) (x : X) → slice_get (xs ++ x ∷ []) (length xs) ≡ Some x
   at_last [] x = refl
   at_last (y ∷ xs) x = at_last xs x
 
@@ -120,19 +120,6 @@ placed_more maps map old new placed sets name = by (bytes_eq name map.line.name)
         ∙ sym (last_more name maps map ∙ cond-false _ (Some (length maps)) (last_place name maps) other)
 
 module _ (hosts : List HostLine) (key : List ℕ) (args : List (List ℕ)) where
-  folded : (given : List Answer) (maps : List Table) (map : Table) → fold (with_answer hosts key args) given (maps ++ map ∷ []) ≡ with_answer hosts key args (fold (with_answer hosts key args) given maps) map
-  folded given [] map = refl
-  folded given (first ∷ maps) map = folded (with_answer hosts key args given first) maps map
-
-  -- the answer of one map more
-  pub answers_more : (maps : List Table) (i : ℕ) (map : Table) (given now shown : List Answer) (one : Answer) → i < length maps → map ≡ get_or maps i map → given ≡ answers hosts key args (take i maps) → shown ≡ given
-      → one ≡ answer hosts key args shown map → now ≡ given ++ one ∷ [] → now ≡ answers hosts key args (take (i + 1) maps)
-  answers_more maps i map given now shown one within at known lent is put =
-      put
-      ∙ ap (λ (o : Answer). given ++ o ∷ []) (is ∙ ap (λ (s : List Answer). answer hosts key args s map) lent)
-      ∙ ap (λ (g : List Answer). with_answer hosts key args g map) known
-      ∙ sym (ap (answers hosts key args) (take_more maps i map within ∙ ap (λ (m : Table). take i maps ++ m ∷ []) (sym at)) ∙ folded [] (take i maps) map)
-
   -- the answer that is made at a place is the one that stands there
   pub place_is : (maps : List Table) (k : ℕ) (map : Table) (one : Answer) (shown given : List Answer) → one ≡ answer hosts key args shown map → shown ≡ given
       → answer hosts key args given map ≡ answer hosts key args (answers hosts key args (take k maps)) map → Some map ≡ slice_get maps k → Some one ≡ slice_get (answers hosts key args maps) k

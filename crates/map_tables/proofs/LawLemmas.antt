@@ -37,7 +37,7 @@ never_memory o same = false≢true (tells o ∙ ap is_memory same)
 
 module _ (hosts : List HostLine) (key : List ℕ) (args : List (List ℕ)) (maps : List Table) (place : ℕ) (within : place < length maps) where
   -- an answer before the place is that of the maps before it
-  before : (member : ℕ) → member < place → slice_get (answers hosts key args maps) member ≡ slice_get (answers hosts key args (take place maps)) member
+  pub before : (member : ℕ) → member < place → slice_get (answers hosts key args maps) member ≡ slice_get (answers hosts key args (take place maps)) member
   before member lt =
       let count : length (take place maps) ≡ place = length-take-le place maps (omega (arith, within)) in
       ap (λ (m : List Table). slice_get (answers hosts key args m) member) (sym (take-append-drop place maps))

@@ -5,5 +5,6 @@ mod FileLemmas
 mod HostLemmas
 mod LawLemmas
 mod LineLemmas
+mod MemberLemmas
 mod ScanLemmas
 mod TableLemmas

@@ -7,29 +7,14 @@ ghost use Rattle.map_tables.specs.inner.MapPlaces.{is_sequence};
 use crate::answer::Answer;
 use crate::arith::calculated;
 use crate::host_table::HostTable;
+use crate::members::{member_answers, members_in};
 use crate::percent::filled;
 use crate::quotes::dequoted;
 use crate::table::Table;
 use mail_base::{MapClass, MapLine, NoMemory, Seq, Text, TryCopy};
 
-// The answers of maps, place by place.
-fn answers(
-    maps: &[Table],
-    hosts: &HostTable,
-    key: &Text,
-    args: &Seq<Text>,
-) -> Result<Seq<Answer>, NoMemory>
-    ensures { IfOk result (λ given. given ≡ answers hosts.now key.now args.now maps.now) }
-{
-    let mut answers = Seq::new(key.allocator());
-    for map in maps {
-        answers.push(answer(map, hosts, key, args, answers.items())?)?;
-    }
-    Ok(answers)
-}
-
-// What a map answers, where those before it answer these.
-fn answer(
+/// What a map answers, where those before it answer these.
+pub(crate) fn answer(
     map: &Table,
     hosts: &HostTable,
     key: &Text,
@@ -179,8 +164,8 @@ fn map_at(maps: &[Table], place: usize) -> Option<&Table>
     maps.get(place)
 }
 
-// Answers from which that of a map follows: a sequence's from those of all maps before it, and
-// another map's from none.
+// Answers from which that of a map follows: a sequence's from those of its members, and another
+// map's from none.
 fn before(
     maps: &[Table],
     map: &Table,
@@ -191,7 +176,7 @@ fn before(
     ensures { IfOk result (λ given. answer hosts.now key.now args.now given map.now ≡ answer hosts.now key.now args.now (answers hosts.now key.now args.now maps.now) map.now) }
 {
     if is_sequence(&map.line.class) {
-        return answers(maps, hosts, key, args);
+        return member_answers(maps, members_in(&map.line.class), hosts, key, args);
     }
     Ok(Seq::new(key.allocator()))
 }

@@ -12,6 +12,7 @@ mod hosts;
 mod law;
 mod lines;
 mod maps;
+mod members;
 mod named;
 mod percent;
 mod quotes;
