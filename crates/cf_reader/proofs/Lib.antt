@@ -14,3 +14,4 @@ mod FinishLemmas
 mod ReadingLemmas
 mod TakeLemmas
 mod RunLemmas
+mod ScanLemmas

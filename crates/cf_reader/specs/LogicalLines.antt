@@ -1,7 +1,7 @@
 -- Logical lines of a configuration file (Sendmail Installation and Operation Guide, "The Whole Scoop on the Configuration File").
-use Rattle.std.specs.Prelude.{ℕ, ◌+◌, ◌-◌, List, [], ◌∷◌, ◌++◌, length, take, Bool, true, false, not, ◌&&◌, ◌||◌, ◌==◌, nat_lt, if◌then◌else◌}
+use Rattle.std.specs.Prelude.{◌≡◌, ℕ, ◌+◌, ◌-◌, List, [], ◌∷◌, ◌++◌, length, take, map, filter, zip, Bool, true, false, not, ◌&&◌, ◌||◌, ◌==◌, nat_lt, if◌then◌else◌, codes, refl}
 use Rattle.std.specs.Str.Lines.{lines}
-use Rattle.std.specs.List.{flat_map, take_while, suffix_len}
+use Rattle.std.specs.List.{flat_map, take_while, suffix_len, position_or_len}
 use Rattle.mail_base.specs.Texts.{is_blank}
 use Rattle.cf_reader.specs.declared.logical.Logical.{Logical}
 
@@ -36,10 +36,13 @@ joined line indented = line ++ flat_map (λ more. joint_of line ∷ more) indent
 abbrev pub is_shield : ℕ → Bool
 is_shield b = (b == 92) || (b == 36)
 
--- what stands before the comment, read on after this byte
-abbrev pub before_comment : ℕ → List ℕ → List ℕ
-before_comment last [] = []
-before_comment last (b ∷ bs) = if (b == 35) && not (is_shield last) then [] else b ∷ before_comment b bs
+-- a `#` (35) begins a comment, unless the byte before it is a shield
+abbrev pub begins_comment : ℕ × ℕ → Bool
+begins_comment (last, b) = (b == 35) && not (is_shield last)
+
+-- what stands before the first that does; 0 stands for the byte before the first
+abbrev pub before_comment : List ℕ → List ℕ
+before_comment text = take (position_or_len begins_comment (zip (0 ∷ text) text)) text
 
 -- white space before a comment: blanks and the LF of a joint
 abbrev pub is_margin : ℕ → Bool
@@ -57,17 +60,34 @@ unshielded (b ∷ bs) = if (b == 92) && begins_with 35 bs then unshielded bs els
 -- a comment goes, and the white space before it
 abbrev pub uncommented : List ℕ → List ℕ
 uncommented text =
-    let kept = before_comment 0 text in
+    let kept = before_comment text in
     unshielded (if nat_lt (length kept) (length text) then trimmed kept else kept)
 
--- the logical lines with their numbers, where the first physical line has this number: each physical line that is
--- neither indented nor silent, joined with the indented ones after it
-abbrev pub numbered_from : ℕ → List (List ℕ) → List Logical
-numbered_from number [] = []
-numbered_from number (line ∷ lines) =
-    if is_indented line || is_silent line then numbered_from (number + 1) lines
-    else record { number = number; text = uncommented (joined line (take_while is_indented lines)) } ∷ numbered_from (number + 1) lines
+-- a physical line that isn't indented, with its number and the indented lines behind it
+pub record Group : Type 0 where
+  pub number : ℕ
+  pub line : List ℕ
+  pub indented : List (List ℕ)
 
--- the logical lines of a text, each with the number of its first physical line, from 1
+-- these, where the first physical line has this number; indented lines before the first of them go
+abbrev pub grouped : ℕ → List (List ℕ) → List Group
+grouped number [] = []
+grouped number (line ∷ lines) =
+    if is_indented line then grouped (number + 1) lines
+    else record { number = number; line = line; indented = take_while is_indented lines } ∷ grouped (number + 1) lines
+
+abbrev pub is_heard : Group → Bool
+is_heard group = not (is_silent group.line)
+
+abbrev pub whole : Group → Logical
+whole group = record { number = group.number; text = uncommented (joined group.line group.indented) }
+
+-- the logical lines of a text, each with the number of its first physical line, from 1: lines with those that belong to them, without
+-- the silent ones, and without comments
 abbrev pub logical_lines : List ℕ → List Logical
-logical_lines text = numbered_from 1 (physical_lines text)
+logical_lines text = map whole (filter is_heard (grouped 1 (physical_lines text)))
+
+example :
+    (logical_lines (codes "S1\n# none\n of it\nRa\n\tb # c\n\nR\\#d") ≡ (record { number = 1; text = codes "S1" }) ∷ (record { number = 4; text = codes "Ra \tb" }) ∷ (record { number = 7; text = codes "R#d" }) ∷ [])
+    × (logical_lines (codes " x\nR$# e\r\nHa: b\n c\nS2\r") ≡ (record { number = 2; text = codes "R$# e" }) ∷ (record { number = 3; text = codes "Ha: b\n c" }) ∷ (record { number = 5; text = codes "S2\r" }) ∷ [])
+example = (refl, refl)

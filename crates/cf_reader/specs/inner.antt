@@ -5,3 +5,4 @@ pub mod Making
 pub mod Additions
 pub mod Cuttings
 pub mod Settled
+pub mod Scans

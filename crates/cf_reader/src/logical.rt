@@ -3,6 +3,7 @@ ghost use Rattle.std.specs.List.{take_while};
 ghost use Rattle.std.specs.Str.Lines.{strip_carriage_return};
 ghost use Rattle.cf_reader.specs.LogicalLines.{physical_lines};
 ghost use Rattle.cf_reader.specs.LogicalLines as spec;
+ghost use Rattle.cf_reader.specs.inner.Scans.{numbered_from, read_on};
 
 use bstr::ByteSlice;
 use mail_base::{NoMemory, Seq, Text};
@@ -16,9 +17,17 @@ pub struct Logical {
 }
 
 /// The logical lines of a text, without those that say nothing and without comments.
+#[tactic(auto, using(crate::proofs::ScanLemmas::lines_read))]
 pub fn logical_lines(alloc: Global, text: &[u8]) -> Result<Seq<Logical>, NoMemory>
     requires { length text.now < 2 ^ 32 }
     ensures { IfOk result (λ lines. lines ≡ spec.logical_lines text.now) }
+{
+    numbered_lines(alloc, text)
+}
+
+fn numbered_lines(alloc: Global, text: &[u8]) -> Result<Seq<Logical>, NoMemory>
+    requires { length text.now < 2 ^ 32 }
+    ensures { IfOk result (λ lines. lines ≡ numbered_from 1 (physical_lines text.now)) }
 {
     let mut lines = Seq::new(alloc);
     let mut rest = text;
@@ -128,8 +137,15 @@ fn is_shield(byte: u8) -> bool
     byte == b'\\' || byte == b'$'
 }
 
+#[tactic(auto, using(crate::proofs::ScanLemmas::comment_cut))]
 fn before_comment(text: &[u8]) -> &[u8]
-    ensures { result.now ≡ spec.before_comment 0 text.now }
+    ensures { result.now ≡ spec.before_comment text.now }
+{
+    up_to_comment(text)
+}
+
+fn up_to_comment(text: &[u8]) -> &[u8]
+    ensures { result.now ≡ read_on 0 text.now }
 {
     let mut last = 0;
     for (index, byte) in text.iter().enumerate() {
