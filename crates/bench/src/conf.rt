@@ -82,7 +82,8 @@ fn counts(alloc: Global, config: &Config) -> Result<String, NoMemory> {
     for set in config.book.sets() {
         rules = rules.saturating_add(set.count() as u64);
     }
-    let counts = format!(in alloc; "{} warnings, {} rulesets, {rules} rules, {} maps, {} mailers, {} groups, {} headers",
+    let counts = format!(in alloc;
+        "{} warnings, {} rulesets, {rules} rules, {} maps, {} mailers, {} groups, {} headers",
         config.warnings.len(),
         config.book.sets().len(),
         config.maps.len(),

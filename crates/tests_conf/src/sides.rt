@@ -38,8 +38,16 @@ static PATTERNS: [Row; 37] = [
     (b"R$=w\t$(a $1 $@ $2 $)", "", b"line 1: BadReference"),
     (b"R$@ $&x $: $|\t$1", "", b"line 1: BadReference"),
     (b"R$*\t$[ $1 $: $2 $]", "", b"line 1: BadReference"),
-    (b"R$:$:$:$:$:$:$:$:$:$:$:$:$:$:$:$:$:$:$:$:$:\tx", "", b"line 1: TooManyMetas"),
-    (b"R$*$*$*$*$*$*$*$*$*$*$*$*$*$*$*$*$*$*$*$* $$ $$\tx", "", b""),
+    (
+        b"R$:$:$:$:$:$:$:$:$:$:$:$:$:$:$:$:$:$:$:$:$:\tx",
+        "",
+        b"line 1: TooManyMetas",
+    ),
+    (
+        b"R$*$*$*$*$*$*$*$*$*$*$*$*$*$*$*$*$*$*$*$* $$ $$\tx",
+        "",
+        b"",
+    ),
 ];
 
 static LATER: [Row; 18] = [
@@ -55,7 +63,11 @@ static LATER: [Row; 18] = [
     (b"R$*\t$|", "", b"line 1: NotYet"),
     (b"R$*\t$[ $]", "", b"line 1: NotYet"),
     (b"R$*\t$(a $)", "", b"line 1: NotYet"),
-    (b"R$*\t$(\"a\" $# $@ $@ $| $: $@ $: $.$)", "", b"line 1: NotYet"),
+    (
+        b"R$*\t$(\"a\" $# $@ $@ $| $: $@ $: $.$)",
+        "",
+        b"line 1: NotYet",
+    ),
     (b"R$*\t$(@ $1$)$[$1$]", "", b"line 1: NotYet"),
     (b"R$*\t$>$1", "", b"line 1: NotYet"),
     (b"R$*\t$>3 $>4 $1", "", b"line 1: NotYet"),
@@ -65,14 +77,22 @@ static LATER: [Row; 18] = [
 
 static RULES: [Row; 9] = [
     (b"S1\nR$*\t", "R1", b" $* ->;"),
-    (b"S1\nR$*\t\t\t\"$9\" \\$1 ($1 $1)\t$)", "R1", b" $* -> \"$9\" \\$1;"),
+    (
+        b"S1\nR$*\t\t\t\"$9\" \\$1 ($1 $1)\t$)",
+        "R1",
+        b" $* -> \"$9\" \\$1;",
+    ),
     (b"S1\nR$*\t (x) $@ (y) $1", "R1", b" $* -> $@ $1;"),
     (b"S1\nR$*\t$:", "R1", b" $* -> $:;"),
     (b"S1\nRa<$*@$->\t<$1$2", "R1", b" a < $* @ $- > -> < $1 $2;"),
     (b"S1\nR ${none}(x)\tx", "R1", b" -> x;"),
     (b"Dxa\tb\nS1\nR$x\t$x", "R1", b" a b -> a b;"),
     (b"Dx$*\nS1\nR$x\t$1", "R1", b" $* -> $1;"),
-    (b"O OperatorChars=%\nS1\nRa%b@c\t$$", "R1", b" a % b@c -> $;"),
+    (
+        b"O OperatorChars=%\nS1\nRa%b@c\t$$",
+        "R1",
+        b" a % b@c -> $;",
+    ),
 ];
 
 #[test]
