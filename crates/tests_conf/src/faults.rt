@@ -87,7 +87,9 @@ static ONE_LINE: [Row; 77] = [
 ];
 
 // Of two faults of one line the first in their order comes, and of two lines the first.
-static TWO: [Row; 21] = [
+static TWO: [Row; 23] = [
+    (b"S1\nR$*", "", b"line 2: NoTab"),
+    (b"S1\nR$-\t$2", "", b"line 2: BadReference"),
     (b"R\"x", "", b"line 1: NoTab"),
     (
         b"R$*$*$*$*$*$*$*$*$*$*$*$*$*$*$*$*$*$*$*$*$*\"x\t$1",
