@@ -1,7 +1,9 @@
 //! Makes a ruleset of so many rules of different anchors, 3,000 where that is left out, and tells how many it has.
 
 use anyhow::{Result, bail};
-use mail_base::{Go, Item, NoMemory, Pattern, Piece, Rule, RuleSet, Seq, Step, Template, Text, Token};
+use mail_base::{
+    Go, Item, NoMemory, Pattern, Piece, Rule, RuleSet, Seq, Step, Template, Text, Token,
+};
 use rule_index::build;
 use std::alloc::Global;
 
