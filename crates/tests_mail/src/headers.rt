@@ -149,7 +149,8 @@ static HOPS: [(&[u8], u32); 5] = [
 
 fn wrong_hops(alloc: Global) -> Result<Option<usize>, NoMemory> {
     for (place, row) in HOPS.iter().enumerate() {
-        if hops(&headers_of(alloc, row.0)?) != row.1 {
+        let headers = headers_of(alloc, row.0)?;
+        if headers.len() > 100 || hops(&headers) != row.1 {
             return Ok(Some(place));
         }
     }

@@ -4,8 +4,12 @@ use crate::runs::Tokens::{Signs, Words};
 use crate::runs::{End, Run, Sets, wrong};
 use crate::signs::Broken;
 use mail_base::Go;
+use std::alloc::Global;
 
-const CASES: &[(Sets, &[Run])] = &[
+/// Rulesets, and runs of them with their ends.
+type Case = (Sets<'static>, &'static [Run]);
+
+const LOOK_UPS: &[Case] = &[
     // A text map, with a default, without one, and with a value of several tokens.
     (
         &[("s", Lines(&[("*", Go::Return, "{t1}!")]))],
@@ -91,6 +95,9 @@ const CASES: &[(Sets, &[Run])] = &[
         &[("s", Lines(&[("*.*.*", Go::Return, "1@2@3")]))],
         &[("s", Signs("a.b.c.d"), End::List(Signs("a@b@c.d"), 1))],
     ),
+];
+
+const CALLS: &[Case] = &[
     // Calls, from the right to the left; a name may be quoted, and each call takes all that follows.
     (
         &[
@@ -167,6 +174,9 @@ const CASES: &[(Sets, &[Run])] = &[
             ("u", Words(101), End::Work),
         ],
     ),
+];
+
+const FAULTS: &[Case] = &[
     // A left side whose `$&y` can't be cut is refused, whether it matches or not.
     (
         &[(
@@ -218,10 +228,30 @@ const CASES: &[(Sets, &[Run])] = &[
     ),
 ];
 
-#[test]
-fn look_ups_and_calls_end_as_their_rules_say(rt: HostRuntime) -> Result<(), Broken> {
-    for (at, (sets, rows)) in CASES.iter().enumerate() {
-        assert_eq!(rt; wrong(rt.alloc(), sets, rows)?, None, "case {at}");
+// The first case of which a run ends otherwise, with the place of that run.
+fn first_wrong(alloc: Global, cases: &[Case]) -> Result<Option<(usize, usize)>, Broken> {
+    for (at, (sets, rows)) in cases.iter().enumerate() {
+        if let Some(row) = wrong(alloc, sets, rows)? {
+            return Ok(Some((at, row)));
+        }
     }
+    Ok(None)
+}
+
+#[test]
+fn look_ups_end_as_their_rules_say(rt: HostRuntime) -> Result<(), Broken> {
+    assert_eq!(rt; first_wrong(rt.alloc(), LOOK_UPS)?, None);
+    Ok(())
+}
+
+#[test]
+fn calls_end_as_their_rules_say(rt: HostRuntime) -> Result<(), Broken> {
+    assert_eq!(rt; first_wrong(rt.alloc(), CALLS)?, None);
+    Ok(())
+}
+
+#[test]
+fn faults_of_an_application_come_in_order(rt: HostRuntime) -> Result<(), Broken> {
+    assert_eq!(rt; first_wrong(rt.alloc(), FAULTS)?, None);
     Ok(())
 }
