@@ -71,17 +71,17 @@ const REFUSED: Row = Row {
     ..LINE
 };
 
-// Three lines of the configuration are ignored, and it sets the operators.
+// Lines as a generated file has them, of which three are ignored: the file of a class is absent, and the rule has no look-up.
 const WARNED: Row = Row {
-    config: b"V10/Berkeley\nTroot\nO NoSuchThing=1\nO OperatorChars=.%\nS3\nR$*\t$@ x $1\n",
-    input: b"3 a@b%c\n",
-    text: b"warning: line 1 ignored\nwarning: line 2 ignored\nwarning: line 3 ignored\n3 returns: x a@b % c\n",
+    config: b"V10/Berkeley\nFw-o /etc/mail/local-host-names\nKdequote dequote\nTroot\nO NoSuchThing=1\nO OperatorChars=.%\nScanonify=3\nR$*\t$@ $1\t# plain\n",
+    input: b"3 ann.smith@b%c\n",
+    text: b"warning: line 1 ignored\nwarning: line 4 ignored\nwarning: line 5 ignored\n3 returns: ann . smith@b % c\n",
     ..LINE
 };
 
 // The same, where nothing is answered.
 const WARNED_ALONE: Row = Row {
-    text: b"warning: line 1 ignored\nwarning: line 2 ignored\nwarning: line 3 ignored\n",
+    text: b"warning: line 1 ignored\nwarning: line 4 ignored\nwarning: line 5 ignored\n",
     ..WARNED
 };
 
