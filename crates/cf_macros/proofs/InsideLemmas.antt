@@ -2,7 +2,7 @@
 use Rattle.std.proofs.Common.{◌≡◌, ℕ, zero, suc, List, ◌++◌, refl, ap, sym, ◌∙◌, append_assoc, Option, None, Some, Bool, true, false, if◌then◌else◌}
 use Rattle.cf_macros.specs.Readings.{Parts, Choose, Reading, Last, BeforeElse, BeforeEnd, put, first_part, second_part, behind_end, closing}
 use Rattle.cf_macros.specs.Expansion.{Act, acts_of, silent, gives_any}
-use Rattle.cf_macros.specs.Insides.{is_closed, if_there, inside, inside_other}
+use Rattle.cf_macros.specs.inner.Insides.{is_closed, if_there, inside, inside_other}
 
 -- something in front comes first
 pub inside-put : (followed : List ℕ → List Act) (front : Parts → Parts) (first : List Act) → ((parts : Parts) → acts_of followed (front parts) ≡ first ++ acts_of followed parts) →

@@ -4,9 +4,10 @@ use Rattle.cf_macros.specs.declared.construct.Construct.{Construct}
 use Rattle.cf_macros.specs.declared.construct.Kind.{Kind}
 use Rattle.cf_macros.specs.declared.construct.Kind.TheVariants.{Plain, Reference, Test, Else, End, Unclosed}
 use Rattle.cf_macros.specs.declared.scope.Scope.{Scope}
-use Rattle.cf_macros.specs.Constructs.{Piece, piece, first_piece, Shows}
+use Rattle.cf_macros.specs.Constructs.{Piece, piece, first_piece}
+use Rattle.cf_macros.specs.inner.Found.{Shows}
 use Rattle.cf_macros.specs.Readings.{Parts, Nothing, Bytes, Refer, Choose, Reading, Last, BeforeElse, BeforeEnd, put, first_part, second_part, behind_end, closing, before, reading}
-use Rattle.cf_macros.specs.Insides.{rest_at, past, then_rest, ends_behind, IsBehind}
+use Rattle.cf_macros.specs.inner.Insides.{rest_at, past, then_rest, ends_behind, IsBehind}
 
 -- skipping is dropping
 pub reading-skips : (scope : Scope) (place skipped : ℕ) (text : List ℕ) → reading scope place skipped text ≡ reading scope (skipped + place) 0 (drop skipped text)

@@ -9,9 +9,9 @@ use Rattle.cf_macros.specs.declared.run.Run.{Run}
 use Rattle.cf_macros.specs.declared.scope.Scope.{Scope}
 use Rattle.cf_macros.specs.Readings.{Nothing, Last, reading}
 use Rattle.cf_macros.specs.Expansion.{Act, Follows, Fails, whole, followed, outcome, value_in}
-use Rattle.cf_macros.specs.Insides.{rest_at, inside}
-use Rattle.cf_macros.specs.Levels.{above, stacked, top, told, room, ending, state, is_silent, level_rest, Goes, IsAtEnd, IsNew, Resumes}
-use Rattle.cf_macros.specs.Runs.{left, comes_to, Finishes}
+use Rattle.cf_macros.specs.inner.Insides.{rest_at, inside}
+use Rattle.cf_macros.specs.inner.Levels.{above, stacked, top, told, room, ending, state, is_silent, level_rest, Goes, IsAtEnd, IsNew, Resumes}
+use Rattle.cf_macros.specs.inner.Runs.{left, comes_to, Finishes}
 use Rattle.cf_macros.proofs.ReadingLemmas.{rest-end}
 use Rattle.cf_macros.proofs.StackLemmas.{stacked-append, stacked-follows, ending-refuses, told-none}
 

@@ -7,8 +7,8 @@ use Rattle.cf_macros.specs.declared.fault.ExpandFault.TheVariants.{Unclosed, Dee
 use Rattle.cf_macros.specs.declared.level.Level.{Level}
 use Rattle.cf_macros.specs.declared.level.Given.{Given}
 use Rattle.cf_macros.specs.Expansion.{Act, Gives, Follows, Fails, silent, gives_any, followed, with_byte, outcome}
-use Rattle.cf_macros.specs.Levels.{Above, above, either, waiting, under, stacked, told, room, ending, is_silent, level_rest, top, Goes, StopsBy, Stops, IsGiven, KeepsOut, Overflows, gave_after}
-use Rattle.cf_macros.specs.Insides.{inside, inside_other}
+use Rattle.cf_macros.specs.inner.Levels.{Above, above, either, waiting, under, stacked, told, room, ending, is_silent, level_rest, top, Goes, StopsBy, Stops, IsGiven, KeepsOut, Overflows, gave_after}
+use Rattle.cf_macros.specs.inner.Insides.{inside, inside_other}
 
 -- acts
 

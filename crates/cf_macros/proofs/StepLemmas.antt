@@ -6,8 +6,8 @@ use Rattle.cf_macros.specs.declared.level.Level.{Level}
 use Rattle.cf_macros.specs.declared.level.Given.{Given}
 use Rattle.cf_macros.specs.Readings.{Nothing, Bytes, Refer, Broken, Reading, Last, BeforeElse, BeforeEnd, put, second_part, behind_end, closing}
 use Rattle.cf_macros.specs.Expansion.{Act, Gives, silent, gives_any}
-use Rattle.cf_macros.specs.Insides.{rest_at, is_closed, if_there, inside, inside_other}
-use Rattle.cf_macros.specs.Levels.{above, Goes, StopsBy, level_rest, Resumes, GivesNext, IsAt}
+use Rattle.cf_macros.specs.inner.Insides.{rest_at, is_closed, if_there, inside, inside_other}
+use Rattle.cf_macros.specs.inner.Levels.{above, Goes, StopsBy, level_rest, Resumes, GivesNext, IsAt}
 use Rattle.cf_macros.proofs.InsideLemmas.{inside-put, closed-put, closed-closing, inside-choose}
 use Rattle.cf_macros.proofs.StackLemmas.{goes-same, stops-refused, Refuses}
 

@@ -1,7 +1,6 @@
 -- The first construct of a text that names macros (Sendmail Installation and Operation Guide, macros and conditionals; which bytes are no names is our own).
-use Rattle.std.specs.Prelude.{ℕ, List, [], ◌∷◌, Bool, Option, None, Some, if◌then◌else◌, ◌==◌, not, take, drop, codes, ◌+◌, ◌≤◌, ◌≡◌}
+use Rattle.std.specs.Prelude.{ℕ, List, [], ◌∷◌, Bool, Option, None, Some, if◌then◌else◌, ◌==◌, not, take, drop, codes, ◌+◌}
 use Rattle.std.specs.List.{list_any, position}
-use Rattle.cf_macros.specs.declared.construct.Construct.{Construct}
 use Rattle.cf_macros.specs.declared.construct.Kind.{Kind}
 use Rattle.cf_macros.specs.declared.construct.Kind.TheVariants.{Plain, Reference, Test, Else, End, Unclosed}
 use Rattle.cf_macros.specs.declared.construct.Naming.{Naming}
@@ -84,18 +83,3 @@ first_piece scope [] = piece Plain [] 1
 first_piece scope (byte ∷ []) = piece Plain (byte ∷ []) 1
 first_piece scope (byte ∷ next ∷ rest) =
     if byte == 36 then dollar_piece scope (byte ∷ next ∷ rest) next else piece Plain (byte ∷ []) 1
-
--- what the naming takes is within so many bytes
-abbrev pub IsWithin : Naming → ℕ → Type 0
-IsWithin Letter bytes = 1 ≤ bytes
-IsWithin (Word length) bytes = length + 2 ≤ bytes
-IsWithin Open bytes = 1 ≤ bytes
-IsWithin Nameless bytes = Unit {0}
-
--- the construct is that piece, and takes a front of so many bytes
-pub record Shows (found : Construct) (wanted : Piece) (bytes : ℕ) : Type 0 where
-  pub kind : found.kind ≡ wanted.kind
-  pub text : found.text.now ≡ wanted.text
-  pub width : found.width ≡ wanted.width
-  pub moves : 1 ≤ found.width
-  pub within : found.width ≤ bytes

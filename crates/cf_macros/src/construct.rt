@@ -1,7 +1,8 @@
 ghost use Rattle.std.specs.Prelude.{◌≡◌, ◌==◌, ◌+◌, ◌<◌, ◌≤◌, [], take, drop, length};
 ghost use Rattle.std.specs.List.{position};
 ghost use Rattle.cf_macros.specs.declared.construct.Kind.TheVariants.{Plain};
-ghost use Rattle.cf_macros.specs.Constructs.{is_name, name_at, IsWithin, piece, reference_at, test_of, doubled, kept, late, dollar_piece, first_piece, Shows};
+ghost use Rattle.cf_macros.specs.Constructs.{is_name, name_at, piece, reference_at, test_of, doubled, kept, late, dollar_piece, first_piece};
+ghost use Rattle.cf_macros.specs.inner.Found.{IsWithin, Shows};
 
 use crate::scope::Scope;
 use bstr::ByteSlice;

@@ -1,5 +1,5 @@
 ghost use Rattle.std.specs.Prelude.{◌≡◌, ◌≤◌, true, length};
-ghost use Rattle.cf_macros.specs.Insides.{rest_at, is_closed};
+ghost use Rattle.cf_macros.specs.inner.Insides.{rest_at, is_closed};
 
 use crate::scope::Scope;
 use mail_base::Text;

@@ -1,5 +1,5 @@
 ghost use Rattle.std.specs.Prelude.{◌≡◌, ◌+◌, ◌<◌, ◌≤◌, ◌^◌, drop, length};
-ghost use Rattle.cf_macros.specs.Insides.{IsPast, IsBehind, IsMark, ends_behind};
+ghost use Rattle.cf_macros.specs.inner.Insides.{IsPast, IsBehind, IsMark, ends_behind};
 
 use crate::construct::{Kind, first_piece};
 use crate::scope::Scope;

@@ -1,8 +1,8 @@
 ghost use Rattle.std.specs.Prelude.{◌≡◌, ◌≤◌, ◌<◌, ◌+◌, suc, false, true, None, Some, length, codes, OnOk, IfOk, IfErr, IfNone, option_copied};
 ghost use Rattle.cf_macros.specs.declared.level.Given.{Given};
-ghost use Rattle.cf_macros.specs.Insides.{rest_at, is_closed};
+ghost use Rattle.cf_macros.specs.inner.Insides.{rest_at, is_closed};
 ghost use Rattle.cf_macros.specs.Readings.{Nothing, BeforeElse, BeforeEnd, put, Refer, closing, behind_end};
-ghost use Rattle.cf_macros.specs.Levels.{Goes, Stops, MovesOn, GivesNext, IsAt, IsAtEnd, IsNew, Resumes, level_rest, rest_behind, gave_after, room, IsGiven, KeepsOut};
+ghost use Rattle.cf_macros.specs.inner.Levels.{Goes, Stops, MovesOn, GivesNext, IsAt, IsAtEnd, IsNew, Resumes, level_rest, rest_behind, gave_after, room, IsGiven, KeepsOut};
 
 use crate::ExpandFault;
 use crate::construct::{Construct, Kind, first_piece};
@@ -14,7 +14,7 @@ use crate::scope::Scope;
 const MOST_BYTES: usize = 1_048_576;
 
 impl Given {
-    #[tactic(auto, unfolding(crate::specs::Levels::room))]
+    #[tactic(auto, unfolding(crate::specs::inner::Levels::room))]
     pub(crate) fn give(&mut self, bytes: &[u8]) -> Result<(), ExpandFault>
         ensures ok { OnOk result (IsGiven self.old bytes.now self.new) }
         ensures err { IfErr result (λ fault. KeepsOut fault self.old bytes.now) }

@@ -12,7 +12,7 @@ use Rattle.cf_values.specs.declared.under_way.UnderWay.{UnderWay}
 use Rattle.cf_values.specs.Numbers.{IsDigit, IsNumeral, value}
 use Rattle.cf_values.specs.Times.{Pair, Time, IsProper, IsTime, letter, seconds, pair_spelling, pair_seconds, spelling, total}
 use Rattle.cf_values.specs.Refusals.{Begins}
-use Rattle.cf_values.specs.Stages.{capped, count_of, Stands}
+use Rattle.cf_values.specs.inner.Stages.{capped, count_of, Stands}
 use Rattle.cf_values.proofs.DigitLemmas.{value-push, zero_digit, push_some}
 use Rattle.cf_values.proofs.ParseLemmas.{no_time_begins, next-other, next-bare}
 

@@ -5,7 +5,7 @@ use Rattle.cf_values.specs.declared.unit.TimeUnit.{TimeUnit}
 use Rattle.cf_values.specs.declared.under_way.UnderWay.{UnderWay}
 use Rattle.cf_values.specs.Times.{IsTime, total}
 use Rattle.cf_values.specs.Refusals.{Begins, IsFirstBad, IsRefused, empty, above}
-use Rattle.cf_values.specs.Stages.{Stands, capped}
+use Rattle.cf_values.specs.inner.Stages.{Stands, capped}
 use Rattle.cf_values.proofs.ParseLemmas.{one_time}
 use Rattle.cf_values.proofs.RefusalLemmas.{IsGrammar}
 use Rattle.cf_values.proofs.StandLemmas.{time_begins}

@@ -2,4 +2,4 @@ pub mod Refusals
 pub mod Numbers
 pub mod Times
 pub mod Flags
-pub mod Stages
+pub mod inner

@@ -1,7 +1,7 @@
 ghost use Rattle.std.specs.Prelude.{◌≡◌, ◌+◌, ◌*◌, ◌^◌, ◌≤◌, ℕ, List, [], ◌∷◌, ◌++◌, MatchOption};
 ghost use Rattle.cf_values.specs.Refusals.{Begins};
 ghost use Rattle.cf_values.specs.Times.{IsTime, Time, seconds, spelling, total, IsProper};
-ghost use Rattle.cf_values.specs.Stages.{Stands, capped};
+ghost use Rattle.cf_values.specs.inner.Stages.{Stands, capped};
 
 use crate::digit::{digit_of, with_digit};
 use crate::unit::TimeUnit;

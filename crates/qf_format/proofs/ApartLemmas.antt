@@ -6,8 +6,8 @@ use Rattle.std.proofs.lemmas.List.{append_cancel_left}
 use Rattle.std.proofs.lemmas.List.Concat.{flat_map-cons}
 use Rattle.std.proofs.lemmas.List.Elements.{All-head, All-tail}
 use Rattle.mail_base.specs.Texts.{IsLine}
-use Rattle.qf_format.specs.Reading.{Anything}
-use Rattle.qf_format.specs.Parts.{At, NotAt}
+use Rattle.qf_format.specs.inner.Reading.{Anything}
+use Rattle.qf_format.specs.inner.Parts.{At, NotAt}
 use Rattle.qf_format.specs.Spelling.{line}
 use Rattle.qf_format.proofs.ReadLemmas.{both, BothFormed, Retold}
 use Rattle.qf_format.proofs.FieldLemmas.{split_once}

@@ -8,8 +8,8 @@ use Rattle.qf_format.specs.declared.part.Place.{Place}
 use Rattle.qf_format.specs.declared.part.Order.{Order}
 use Rattle.qf_format.specs.declared.part.Envelope.{Envelope}
 use Rattle.qf_format.specs.declared.stop.Stop.{Stop}
-use Rattle.qf_format.specs.Parts.{At, EachHeader, IsEnvelope, IsOrder, IsPlace, NotAt, envelope_text, order_text, place_text, control_front}
-use Rattle.qf_format.specs.Reading.{Front, Stops, Anything}
+use Rattle.qf_format.specs.inner.Parts.{At, EachHeader, IsEnvelope, IsOrder, IsPlace, NotAt, envelope_text, order_text, place_text, control_front}
+use Rattle.qf_format.specs.inner.Reading.{Front, Stops, Anything}
 use Rattle.qf_format.specs.Spelling.{header_lines, kept_lines, order_lines, place_lines, row_lines, sender_lines}
 use Rattle.qf_format.specs.Valid.{AreKept, AreRows, IsValid}
 use Rattle.qf_format.proofs.ReadLemmas.{both, BothFormed, front_then, Retold, front_as}

@@ -4,8 +4,8 @@ use Rattle.std.specs.Prelude.{codes}
 use Rattle.mail_base.specs.declared.control.Control.{Control}
 use Rattle.qf_format.specs.declared.stop.Stop.{Stop}
 use Rattle.qf_format.specs.declared.stop.Stop.TheVariants.{Outside, Memory}
-use Rattle.qf_format.specs.Parts.{At, Parses, control_front}
-use Rattle.qf_format.specs.Reading.{Front, Stops, Whole, NoWhole}
+use Rattle.qf_format.specs.inner.Parts.{At, Parses, control_front}
+use Rattle.qf_format.specs.inner.Reading.{Front, Stops, Whole, NoWhole}
 use Rattle.qf_format.specs.Spelling.{line, spelled}
 use Rattle.qf_format.specs.Valid.{IsValid}
 use Rattle.qf_format.proofs.ReadLemmas.{whole_at_end, none_at_end, none_before_end}

@@ -5,8 +5,8 @@ use Rattle.mail_base.specs.Texts.{IsBracketed}
 use Rattle.mail_base.specs.declared.message.Marks.{Marks}
 use Rattle.qf_format.specs.declared.part.Envelope.{Envelope}
 use Rattle.qf_format.specs.declared.stop.Stop.{Stop}
-use Rattle.qf_format.specs.Parts.{AnyBool, AnyMarks, At, IsEnvelope, NotAt, envelope_text}
-use Rattle.qf_format.specs.Reading.{Front, Stops, Anything}
+use Rattle.qf_format.specs.inner.Parts.{AnyBool, AnyMarks, At, IsEnvelope, NotAt, envelope_text}
+use Rattle.qf_format.specs.inner.Reading.{Front, Stops, Anything}
 use Rattle.qf_format.specs.Spelling.{eight_line, line, marks_line}
 use Rattle.qf_format.proofs.ReadLemmas.{both, BothFormed, front_then, Retold, front_as}
 use Rattle.qf_format.proofs.ListLemmas.{stop_first, stop_second, stop_as}

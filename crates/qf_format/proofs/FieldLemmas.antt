@@ -8,7 +8,7 @@ use Rattle.std.proofs.lemmas.List.{take-append-drop, append_cancel_left, get_or-
 use Rattle.std.proofs.lemmas.List.Elements.{All-head, All-tail, All-from_get_or}
 use Rattle.bstr.specs.Find.{IsFirstByte, is_byte}
 use Rattle.mail_base.specs.Texts.{IsLine}
-use Rattle.qf_format.specs.Reading.{Front, NoFront, Reads, Anything}
+use Rattle.qf_format.specs.inner.Reading.{Front, NoFront, Reads, Anything}
 use Rattle.qf_format.specs.declared.stop.Stop.{Stop}
 use Rattle.qf_format.specs.declared.stop.Stop.TheVariants.{Outside, Memory}
 use Rattle.qf_format.specs.Spelling.{line}

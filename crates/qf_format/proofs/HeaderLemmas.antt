@@ -9,8 +9,8 @@ use Rattle.std.proofs.lemmas.List.{take-append-drop, get_or-take, get_or-append-
 use Rattle.mail_base.specs.Texts.{IsBlank, IsHeader}
 use Rattle.qf_format.specs.declared.stop.Stop.{Stop}
 use Rattle.qf_format.specs.declared.stop.Stop.TheVariants.{Outside, Memory}
-use Rattle.qf_format.specs.Reading.{Front, NoFront, Stops}
-use Rattle.qf_format.specs.Parts.{At, NotAt, NotBlank, EachHeader, EndsAt, IsHeaderEnd}
+use Rattle.qf_format.specs.inner.Reading.{Front, NoFront, Stops}
+use Rattle.qf_format.specs.inner.Parts.{At, NotAt, NotBlank, EachHeader, EndsAt, IsHeaderEnd}
 use Rattle.qf_format.specs.Spelling.{header_lines}
 use Rattle.qf_format.proofs.ListLemmas.{ReadSoFar, none_so_far, one_more, all_read, stuck}
 use Rattle.qf_format.proofs.ApartLemmas.{Apart, list_apart}

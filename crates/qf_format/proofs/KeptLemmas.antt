@@ -4,7 +4,7 @@ use Rattle.std.specs.Prelude.{codes}
 use Rattle.mail_base.specs.Texts.{IsLine}
 use Rattle.mail_base.specs.declared.message.Kept.{Kept}
 use Rattle.qf_format.specs.declared.stop.Stop.{Stop}
-use Rattle.qf_format.specs.Reading.{Front, Stops, Anything}
+use Rattle.qf_format.specs.inner.Reading.{Front, Stops, Anything}
 use Rattle.qf_format.specs.Spelling.{kept_lines, line}
 use Rattle.qf_format.specs.Valid.{AreKept}
 use Rattle.qf_format.proofs.ReadLemmas.{both, BothFormed, front_then, Retold, front_as}

@@ -7,8 +7,8 @@ use Rattle.std.proofs.lemmas.List.{append_cancel_left}
 use Rattle.std.proofs.lemmas.List.Elements.{All-nil, All-cons, All-append}
 use Rattle.mail_base.specs.Texts.{IsLine, IsBracketed}
 use Rattle.mail_base.specs.declared.message.Marks.{Marks}
-use Rattle.qf_format.specs.Parts.{AnyBool, AnyMarks, At, IsParentOrNone, IsSmall, NotAt, control_front, parent_text}
-use Rattle.qf_format.specs.Reading.{Anything}
+use Rattle.qf_format.specs.inner.Parts.{AnyBool, AnyMarks, At, IsParentOrNone, IsSmall, NotAt, control_front, parent_text}
+use Rattle.qf_format.specs.inner.Reading.{Anything}
 use Rattle.qf_format.specs.Spelling.{eight_line, letter, letters, line, marks_line, parent_line, spelled, state_text}
 use Rattle.qf_format.specs.Valid.{IsParent, IsRevision, IsState, IsValid}
 use Rattle.qf_format.proofs.ApartLemmas.{Apart, Once, apart_within, apart_fewer, line_apart}

@@ -5,11 +5,11 @@ use Rattle.std.specs.List.{flat_map}
 use Rattle.std.proofs.lemmas.List.{append-nil}
 use Rattle.std.proofs.lemmas.List.Concat.{flat_map-cons, flat_map-append}
 use Rattle.std.proofs.lemmas.List.Elements.{All-nil, All-push, All-head, All-tail}
-use Rattle.qf_format.specs.Reading.{Front, NoFront, Stops}
+use Rattle.qf_format.specs.inner.Reading.{Front, NoFront, Stops}
 use Rattle.qf_format.specs.declared.stop.Stop.{Stop}
 use Rattle.qf_format.specs.declared.stop.Stop.TheVariants.{Outside, Memory}
 use Rattle.qf_format.proofs.ReadLemmas.{both, BothFormed, none_first, none_second, Retold, none_as}
-use Rattle.qf_format.specs.Parts.{At, NotAt}
+use Rattle.qf_format.specs.inner.Parts.{At, NotAt}
 
 -- the items so far were read, and whatever spells the bytes goes on with the rest
 pub record ReadSoFar {X : Type 0} (s : X → List ℕ) (v : X → Type 0) (f : List ℕ → Type 0) (bytes : List ℕ) (xs : List X) (rest : List ℕ) : Type 0 where

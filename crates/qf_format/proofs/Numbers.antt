@@ -9,8 +9,8 @@ use Rattle.std.proofs.lemmas.Int.Digits.{digits_value_more}
 use Rattle.std.proofs.Math.Seq.{take-suc}
 use Rattle.std.specs.Str.Parse.{AllDigits, IsNumeral, digits_value}
 use Rattle.std.specs.Char.{digit_value}
-use Rattle.qf_format.specs.Parts.{IsPlain}
-use Rattle.qf_format.specs.Reading.{NoWhole, Spells}
+use Rattle.qf_format.specs.inner.Parts.{IsPlain}
+use Rattle.qf_format.specs.inner.Reading.{NoWhole, Spells}
 use Rattle.std.specs.Str.{IsUtf8}
 use Rattle.std.specs.Str.Parse.{ParsesUnsigned}
 use Rattle.std.specs.Result.{result_ok}

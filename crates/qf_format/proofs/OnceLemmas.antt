@@ -10,7 +10,7 @@ use Rattle.mail_base.specs.Limits.{IsId}
 use Rattle.mail_base.specs.Names.{digits, id_text}
 use Rattle.mail_base.specs.declared.control.State.{State}
 use Rattle.mail_base.specs.declared.control.State.TheVariants.{Queued, Sent, Failed, Returned, Dead}
-use Rattle.qf_format.specs.Parts.{IsSmall, parent_text}
+use Rattle.qf_format.specs.inner.Parts.{IsSmall, parent_text}
 use Rattle.qf_format.specs.Spelling.{cause, state_text}
 use Rattle.qf_format.specs.Valid.{IsCause, IsParent, IsRevision, IsState}
 use Rattle.qf_format.proofs.ApartLemmas.{Once}

@@ -5,8 +5,8 @@ use Rattle.std.specs.Int.{w64, w128}
 use Rattle.std.specs.Fmt.{decimal, signed_decimal}
 use Rattle.qf_format.specs.declared.part.Order.{Order}
 use Rattle.qf_format.specs.declared.stop.Stop.{Stop}
-use Rattle.qf_format.specs.Parts.{IsOrder, IsSmall, order_text}
-use Rattle.qf_format.specs.Reading.{Front, Stops, Anything}
+use Rattle.qf_format.specs.inner.Parts.{IsOrder, IsSmall, order_text}
+use Rattle.qf_format.specs.inner.Reading.{Front, Stops, Anything}
 use Rattle.qf_format.specs.Spelling.{line}
 use Rattle.qf_format.proofs.ReadLemmas.{both, BothFormed, front_then, Retold, front_as}
 use Rattle.qf_format.proofs.ListLemmas.{stop_first, stop_second, stop_as}

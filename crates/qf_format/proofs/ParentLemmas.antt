@@ -12,8 +12,8 @@ use Rattle.mail_base.specs.Texts.{IsLine}
 use Rattle.mail_base.specs.declared.control.Parent.{Parent}
 use Rattle.qf_format.specs.declared.stop.Stop.{Stop}
 use Rattle.qf_format.specs.declared.stop.Stop.TheVariants.{Outside, Memory}
-use Rattle.qf_format.specs.Reading.{Front, NoFront, Stops, Whole, NoWhole, Anything}
-use Rattle.qf_format.specs.Parts.{At, NotAt, IsParentOrNone, parent_text}
+use Rattle.qf_format.specs.inner.Reading.{Front, NoFront, Stops, Whole, NoWhole, Anything}
+use Rattle.qf_format.specs.inner.Parts.{At, NotAt, IsParentOrNone, parent_text}
 use Rattle.qf_format.specs.Spelling.{line, parent_line}
 use Rattle.qf_format.specs.Valid.{IsParent, IsRevision}
 use Rattle.qf_format.proofs.FieldLemmas.{Without, IsFirst, split_once, first_at, none_in}

@@ -6,8 +6,8 @@ use Rattle.mail_base.specs.Texts.{IsLine}
 use Rattle.mail_base.specs.declared.control.Parent.{Parent}
 use Rattle.qf_format.specs.declared.part.Place.{Place}
 use Rattle.qf_format.specs.declared.stop.Stop.{Stop}
-use Rattle.qf_format.specs.Parts.{IsParentOrNone, IsPlace, NotAt, place_text}
-use Rattle.qf_format.specs.Reading.{Front, Stops, Anything}
+use Rattle.qf_format.specs.inner.Parts.{IsParentOrNone, IsPlace, NotAt, place_text}
+use Rattle.qf_format.specs.inner.Reading.{Front, Stops, Anything}
 use Rattle.qf_format.specs.Spelling.{line, parent_line}
 use Rattle.qf_format.specs.Valid.{IsRevision}
 use Rattle.qf_format.proofs.ReadLemmas.{both, BothFormed, front_then, Retold, front_as}

@@ -1,6 +1,6 @@
 -- Readers one after the other, and what they read within each other.
 use Rattle.std.proofs.Common.{◌≡◌, ℕ, List, ◌++◌, sym, ap, subst, ◌∙◌, append_assoc}
-use Rattle.qf_format.specs.Reading.{Front, NoFront, Whole, NoWhole}
+use Rattle.qf_format.specs.inner.Reading.{Front, NoFront, Whole, NoWhole}
 
 -- ---- one after the other
 

@@ -8,8 +8,8 @@ use Rattle.mail_base.specs.Texts.{IsAddress}
 use Rattle.mail_base.specs.declared.control.Row.{Row}
 use Rattle.mail_base.specs.declared.control.State.{State}
 use Rattle.qf_format.specs.declared.stop.Stop.{Stop}
-use Rattle.qf_format.specs.Reading.{Front, NoFront, Stops, Anything}
-use Rattle.qf_format.specs.Parts.{address_line, At, NotAt, EachRow}
+use Rattle.qf_format.specs.inner.Reading.{Front, NoFront, Stops, Anything}
+use Rattle.qf_format.specs.inner.Parts.{address_line, At, NotAt, EachRow}
 use Rattle.qf_format.specs.Spelling.{line, row_lines, state_text}
 use Rattle.qf_format.specs.Valid.{AreRows, IsRow, IsState}
 use Rattle.qf_format.proofs.ReadLemmas.{both, BothFormed, front_then, Retold, front_as}

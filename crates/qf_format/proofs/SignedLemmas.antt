@@ -16,7 +16,7 @@ use Rattle.std.proofs.lemmas.Str.Parse.{parse_gives, numerals_by_value, tells_di
 use Rattle.std.proofs.Math.Nat.{pow-suc}
 use Rattle.mail_base.specs.Limits.{IsId}
 use Rattle.mail_base.specs.Names.{digits}
-use Rattle.qf_format.specs.Reading.{Whole, NoWhole, Spells}
+use Rattle.qf_format.specs.inner.Reading.{Whole, NoWhole, Spells}
 use Rattle.qf_format.proofs.Numbers.{first_digit}
 
 -- what a call says of the number below 0 of a magnitude

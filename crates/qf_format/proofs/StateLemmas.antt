@@ -6,7 +6,7 @@ use Rattle.std.proofs.lemmas.List.Elements.{All-weaker}
 use Rattle.mail_base.specs.Notes.{IsNote, is_status}
 use Rattle.mail_base.specs.declared.control.State.{State}
 use Rattle.mail_base.specs.declared.control.State.TheVariants.{Queued, Sent, Failed, Returned, Dead}
-use Rattle.qf_format.specs.Reading.{Whole, NoWhole}
+use Rattle.qf_format.specs.inner.Reading.{Whole, NoWhole}
 use Rattle.mail_base.specs.Names.{id_text}
 use Rattle.qf_format.specs.Spelling.{cause, state_text}
 use Rattle.qf_format.specs.Valid.{IsCause, IsState}

@@ -16,8 +16,8 @@ use Rattle.mail_base.specs.declared.control.State.{State}
 use Rattle.mail_base.specs.declared.control.State.TheVariants.{Queued, Sent, Failed, Returned, Dead}
 use Rattle.qf_format.specs.declared.stop.Stop.{Stop}
 use Rattle.qf_format.specs.declared.stop.Stop.TheVariants.{Outside, Memory}
-use Rattle.qf_format.specs.Parts.{IsSmall}
-use Rattle.qf_format.specs.Reading.{Stops, Anything}
+use Rattle.qf_format.specs.inner.Parts.{IsSmall}
+use Rattle.qf_format.specs.inner.Reading.{Stops, Anything}
 use Rattle.qf_format.specs.Spelling.{cause, state_text}
 use Rattle.qf_format.specs.Valid.{IsCause, IsState, IsRevision}
 use Rattle.qf_format.proofs.ReadLemmas.{none_around}

@@ -1,6 +1,5 @@
-pub mod Parts
-pub mod Reading
 pub mod Room
 pub mod Sheets
 pub mod Spelling
 pub mod Valid
+pub mod inner

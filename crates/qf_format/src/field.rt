@@ -1,6 +1,6 @@
 ghost use Rattle.std.specs.Prelude.{◌≡◌, ◌≢◌, ◌+◌, ◌<◌, ◌++◌, List, ℕ, IfNone, IfSome, drop, length, slice_index, take};
 ghost use Rattle.mail_base.specs.Texts.{IsLine};
-ghost use Rattle.qf_format.specs.Reading.{Reads, Anything};
+ghost use Rattle.qf_format.specs.inner.Reading.{Reads, Anything};
 ghost use Rattle.qf_format.specs.Spelling.{line};
 
 use crate::stop::Stop;

@@ -1,8 +1,8 @@
 ghost use Rattle.std.specs.Prelude.{◌≡◌, ◌+◌, ◌<◌, ◌++◌, ◌↔◌, IsTrue, ℕ, Option, None, Some, drop, length, slice_index, take};
 ghost use Rattle.std.specs.List.{flat_map};
 ghost use Rattle.mail_base.specs.Texts.{IsHeader};
-ghost use Rattle.qf_format.specs.Reading.{Reads};
-ghost use Rattle.qf_format.specs.Parts.{At, EachHeader, NotBlank, IsHeaderEnd};
+ghost use Rattle.qf_format.specs.inner.Reading.{Reads};
+ghost use Rattle.qf_format.specs.inner.Parts.{At, EachHeader, NotBlank, IsHeaderEnd};
 ghost use Rattle.qf_format.specs.Spelling.{header_lines};
 
 use crate::field::{after_tag, byte_at, first_byte, split_end};

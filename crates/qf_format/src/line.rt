@@ -2,8 +2,8 @@ ghost use Rattle.std.specs.Prelude.{◌≡◌, ◌<◌, ◌↔◌, ◌++◌, IsT
 ghost use Rattle.std.specs.Int.{w64, w128};
 ghost use Rattle.std.specs.Fmt.{decimal, signed_decimal};
 ghost use Rattle.mail_base.specs.Texts.{IsBracketed};
-ghost use Rattle.qf_format.specs.Reading.{Reads, Spells, Anything};
-ghost use Rattle.qf_format.specs.Parts.{At, NotAt, HasBrackets, IsMarked, IsSmall, AnyMarks, AnyBool, IsParentOrNone, letter_first, parent_text};
+ghost use Rattle.qf_format.specs.inner.Reading.{Reads, Spells, Anything};
+ghost use Rattle.qf_format.specs.inner.Parts.{At, NotAt, HasBrackets, IsMarked, IsSmall, AnyMarks, AnyBool, IsParentOrNone, letter_first, parent_text};
 ghost use Rattle.qf_format.specs.Spelling.{eight_line, letters, line, marks_line, parent_line};
 ghost use Rattle.qf_format.specs.Valid.{IsParent, IsRevision};
 

@@ -3,8 +3,8 @@ ghost use Rattle.std.specs.Int.{w64, w128};
 ghost use Rattle.std.specs.Fmt.{decimal, signed_decimal};
 ghost use Rattle.mail_base.specs.Limits.{IsId};
 ghost use Rattle.mail_base.specs.Names.{digits, id_text};
-ghost use Rattle.qf_format.specs.Reading.{Spells};
-ghost use Rattle.qf_format.specs.Parts.{IsPlain, IsSmall};
+ghost use Rattle.qf_format.specs.inner.Reading.{Spells};
+ghost use Rattle.qf_format.specs.inner.Parts.{IsPlain, IsSmall};
 ghost use Rattle.qf_format.specs.Valid.{IsRevision};
 
 use crate::field::{after_tag, first_byte};

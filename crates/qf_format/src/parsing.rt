@@ -1,7 +1,7 @@
 ghost use Rattle.std.specs.Prelude.{◌≡◌, ◌≢◌, ◌↔◌, ◌++◌, IsTrue, IfOk, IfSome, IfNone, None, Some, codes};
 ghost use Rattle.mail_base.specs.declared.control.Control.{Control};
-ghost use Rattle.qf_format.specs.Reading.{Reads, Anything};
-ghost use Rattle.qf_format.specs.Parts.{IsEnvelope, IsOrder, IsPlace, Parses, envelope_text, order_text, place_text};
+ghost use Rattle.qf_format.specs.inner.Reading.{Reads, Anything};
+ghost use Rattle.qf_format.specs.inner.Parts.{IsEnvelope, IsOrder, IsPlace, Parses, envelope_text, order_text, place_text};
 ghost use Rattle.qf_format.specs.Spelling.{kept_lines, line, spelled};
 ghost use Rattle.qf_format.specs.Valid.{AreKept, IsValid};
 

@@ -1,8 +1,8 @@
 ghost use Rattle.std.specs.Prelude.{◌≡◌, ◌++◌, ◌<◌, Bool, List, ℕ, codes, length};
 ghost use Rattle.std.specs.List.{flat_map};
 ghost use Rattle.mail_base.specs.Texts.{IsAddress};
-ghost use Rattle.qf_format.specs.Reading.{Reads, Anything};
-ghost use Rattle.qf_format.specs.Parts.{NotAt, EachRow, address_line};
+ghost use Rattle.qf_format.specs.inner.Reading.{Reads, Anything};
+ghost use Rattle.qf_format.specs.inner.Parts.{NotAt, EachRow, address_line};
 ghost use Rattle.qf_format.specs.Spelling.{line, row_lines, state_text, flags};
 ghost use Rattle.qf_format.specs.Valid.{AreRows, IsRow, IsState};
 

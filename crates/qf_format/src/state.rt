@@ -1,7 +1,7 @@
 ghost use Rattle.std.specs.Prelude.{◌≡◌, ◌++◌, [], ℕ, List, Option, None, Some, IfSome};
 ghost use Rattle.mail_base.specs.Notes.{IsNote};
-ghost use Rattle.qf_format.specs.Reading.{Spells};
-ghost use Rattle.qf_format.specs.Parts.{queued_text};
+ghost use Rattle.qf_format.specs.inner.Reading.{Spells};
+ghost use Rattle.qf_format.specs.inner.Parts.{queued_text};
 ghost use Rattle.qf_format.specs.Spelling.{cause, state_text};
 ghost use Rattle.qf_format.specs.Valid.{IsCause, IsState};
 

@@ -1,15 +1,15 @@
 -- The first rules of buckets, and the first of all.
-use Rattle.std.proofs.Common.{◌≡◌, ◌⊎◌, inl, inr, ℕ, ◌+◌, ◌<◌, ◌≤◌, List, [], ◌∷◌, ◌++◌, length, take, get_or, Bool, true, false, refl, sym, ap, ◌∙◌, subst, arith, Some, None, zero, suc, Option}
+use Rattle.std.proofs.Common.{◌≡◌, inl, inr, ℕ, ◌+◌, ◌<◌, ◌≤◌, List, [], ◌∷◌, ◌++◌, length, take, get_or, Bool, true, false, refl, sym, ap, ◌∙◌, subst, arith, Some, None, zero, suc, Option}
 use Rattle.std.specs.Prelude.{cond, filter, slice_get, nat_le, nat_lt, ◌||◌}
 use Rattle.std.specs.List.{find, list_any}
-use Rattle.std.proofs.lemmas.Bool.{cases_order, cond-true, cond-false, ltb-true, ltb-false, leb-true, leb-false, le-leb, lt-leb, or_parts, or_from, true≢false}
+use Rattle.std.proofs.lemmas.Bool.{cases_order, cond-true, cond-false, ltb-true, ltb-false, leb-true, leb-false, le-leb, lt-leb, or_from}
 use Rattle.std.proofs.lemmas.List.Folds.{list_any-append}
 use Rattle.std.proofs.Math.Seq.{take-suc}
 use Rattle.mail_base.specs.declared.token.Token.{Token}
 use Rattle.mail_base.specs.declared.rule.Rule.{Rule}
 use Rattle.mail_base.specs.declared.rule.Numbered.{Numbered}
 use Rattle.mail_base.specs.Candidates.{has_anchor, is_free, is_candidate, numbered_from, anchored, free, IsNext}
-use Rattle.rule_index.specs.Firsts.{earlier, is_from, IsAscending}
+use Rattle.rule_index.specs.inner.Firsts.{earlier, is_from, IsAscending}
 
 -- of the rules that stand from a number on, the first that passes, at or above another number
 abbrev pub IsFirst : (Rule → Bool) → ℕ → List Rule → ℕ → Option Numbered → Type 0

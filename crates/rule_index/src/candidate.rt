@@ -3,7 +3,7 @@ ghost use Rattle.std.specs.List.{find};
 ghost use Rattle.std.specs.Option.{option_copied};
 ghost use Rattle.mail_base.specs.declared.rule.Rule.{Rule};
 ghost use Rattle.mail_base.specs.Candidates.{is_candidate, IsNext};
-ghost use Rattle.rule_index.specs.Firsts.{earlier, is_from, IsAscending};
+ghost use Rattle.rule_index.specs.inner.Firsts.{earlier, is_from, IsAscending};
 
 use mail_base::{Numbered, Rule, RuleSet, Seq, Token};
 

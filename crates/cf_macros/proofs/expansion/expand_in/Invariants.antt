@@ -1,6 +1,6 @@
 use Rattle.std.proofs.Common.{◌≡◌, ◌≤◌, ◌-◌, false, None}
 use Rattle.cf_macros.specs.Expansion.{value_in}
-use Rattle.cf_macros.specs.Runs.{comes_to}
+use Rattle.cf_macros.specs.inner.Runs.{comes_to}
 use Rattle.cf_macros.proofs.expansion.expand_in.Given as goal
 
 abbrev pub invariant-references : goal.invariant-references

@@ -1,5 +1,5 @@
 use Rattle.std.proofs.Common.{◌∙◌, ◌+◌, length, length-drop, arith, sym, ap}
-use Rattle.cf_macros.specs.Insides.{past, rest_at}
+use Rattle.cf_macros.specs.inner.Insides.{past, rest_at}
 use Rattle.cf_macros.proofs.ReadingLemmas.{scan-step, scan-unclosed, scan-end, few-ends}
 use Rattle.cf_macros.proofs.scan.behind_end.Goals as goal
 

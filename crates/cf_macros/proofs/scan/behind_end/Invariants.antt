@@ -1,5 +1,5 @@
 use Rattle.std.proofs.Common.{length, ◌-◌, ◌≡◌, ◌≤◌, ◌+◌}
-use Rattle.cf_macros.specs.Insides.{past, rest_at}
+use Rattle.cf_macros.specs.inner.Insides.{past, rest_at}
 use Rattle.cf_macros.proofs.scan.behind_end.Given as goal
 
 -- what is still to pass from here was to pass from the start

@@ -1,5 +1,5 @@
 use Rattle.std.proofs.Common.{length, ◌-◌, ◌≤◌}
-use Rattle.cf_macros.specs.Insides.{rest_at}
+use Rattle.cf_macros.specs.inner.Insides.{rest_at}
 use Rattle.cf_macros.proofs.ReadingLemmas.{SameBehind}
 use Rattle.cf_macros.proofs.scan.find_mark.Given as goal
 

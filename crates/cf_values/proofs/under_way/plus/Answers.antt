@@ -1,6 +1,6 @@
 use Rattle.std.proofs.Common.{◌≡◌, ◌*◌, ap, arith}
 use Rattle.cf_values.specs.Times.{seconds}
-use Rattle.cf_values.specs.Stages.{capped}
+use Rattle.cf_values.specs.inner.Stages.{capped}
 use Rattle.cf_values.proofs.under_way.plus.Goals as goal
 
 pub returns : goal.returns

@@ -1,5 +1,5 @@
 use Rattle.std.proofs.Common.{ℕ, ◌<◌}
-use Rattle.qf_format.specs.Parts.{EndsAt}
+use Rattle.qf_format.specs.inner.Parts.{EndsAt}
 use Rattle.qf_format.proofs.header.header_end.Given as goal
 
 abbrev pub invariant-loop-at : goal.invariant-loop-at

@@ -1,6 +1,6 @@
 use Rattle.std.proofs.Common.{length}
 use Rattle.mail_base.specs.Texts.{IsHeader}
-use Rattle.qf_format.specs.Parts.{At}
+use Rattle.qf_format.specs.inner.Parts.{At}
 use Rattle.qf_format.specs.Spelling.{header_lines}
 use Rattle.qf_format.proofs.ListLemmas.{ReadSoFar}
 use Rattle.qf_format.proofs.header.headers_of.Given as goal

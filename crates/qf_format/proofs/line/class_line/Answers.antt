@@ -5,7 +5,7 @@ use Rattle.std.specs.Fmt.{signed_decimal}
 use Rattle.std.proofs.lemmas.Result.{err_from_is_err_and}
 use Rattle.std.proofs.lemmas.Int.{to_z-of_z}
 use Rattle.mail_base.specs.Texts.{IsLine}
-use Rattle.qf_format.specs.Reading.{Anything}
+use Rattle.qf_format.specs.inner.Reading.{Anything}
 use Rattle.qf_format.specs.Spelling.{line}
 use Rattle.qf_format.proofs.ReadLemmas.{within, none_within}
 use Rattle.qf_format.proofs.TextLemmas.{class_line, stops_within}

@@ -2,8 +2,8 @@ use Rattle.std.proofs.Common.{◌++◌}
 use Rattle.std.specs.Fmt.{decimal}
 use Rattle.std.proofs.lemmas.Result.{err_from_is_err_and}
 use Rattle.mail_base.specs.Texts.{IsLine}
-use Rattle.qf_format.specs.Parts.{IsSmall}
-use Rattle.qf_format.specs.Reading.{Anything}
+use Rattle.qf_format.specs.inner.Parts.{IsSmall}
+use Rattle.qf_format.specs.inner.Reading.{Anything}
 use Rattle.qf_format.specs.Spelling.{line}
 use Rattle.qf_format.proofs.ReadLemmas.{within, none_within}
 use Rattle.qf_format.proofs.TextLemmas.{small_line, stops_within}

@@ -1,5 +1,5 @@
 use Rattle.std.proofs.Common.{length}
-use Rattle.qf_format.specs.Parts.{NotAt}
+use Rattle.qf_format.specs.inner.Parts.{NotAt}
 use Rattle.qf_format.specs.Spelling.{row_lines}
 use Rattle.qf_format.specs.Valid.{IsRow}
 use Rattle.qf_format.proofs.ListLemmas.{ReadSoFar}

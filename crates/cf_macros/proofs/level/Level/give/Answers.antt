@@ -1,6 +1,6 @@
 use Rattle.std.proofs.Common.{refl}
 use Rattle.std.proofs.lemmas.Result.{err_from_is_err_and}
-use Rattle.cf_macros.specs.Insides.{inside, rest_at}
+use Rattle.cf_macros.specs.inner.Insides.{inside, rest_at}
 use Rattle.cf_macros.proofs.StackLemmas.{goes-give, stops-refusal}
 use Rattle.cf_macros.proofs.level.Level.give.Goals as goal
 

@@ -1,5 +1,5 @@
 use Rattle.std.proofs.Common.{◌≡◌, ◌-◌, length, None, false}
-use Rattle.cf_macros.specs.Levels.{Goes}
+use Rattle.cf_macros.specs.inner.Levels.{Goes}
 use Rattle.cf_macros.proofs.level.Level.read.Given as goal
 
 abbrev pub invariant-constructs : goal.invariant-constructs

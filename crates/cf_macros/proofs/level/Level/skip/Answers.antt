@@ -1,6 +1,6 @@
 use Rattle.std.proofs.Common.{◌+◌, ◌-◌, Some}
-use Rattle.cf_macros.specs.Insides.{rest_at}
-use Rattle.cf_macros.specs.Levels.{level_rest}
+use Rattle.cf_macros.specs.inner.Insides.{rest_at}
+use Rattle.cf_macros.specs.inner.Levels.{level_rest}
 use Rattle.cf_macros.proofs.ReadingLemmas.{behind-of-past}
 use Rattle.cf_macros.proofs.StepLemmas.{goes-at, inside-else}
 use Rattle.cf_macros.proofs.level.Level.skip.Goals as goal

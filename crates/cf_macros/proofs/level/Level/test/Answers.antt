@@ -1,5 +1,5 @@
 use Rattle.std.proofs.Common.{refl, arith, ◌+◌}
-use Rattle.cf_macros.specs.Insides.{rest_at, is_closed}
+use Rattle.cf_macros.specs.inner.Insides.{rest_at, is_closed}
 use Rattle.cf_macros.specs.Readings.{behind_end}
 use Rattle.cf_macros.proofs.StepLemmas.{goes-test, stops-unclosed, there}
 use Rattle.cf_macros.proofs.level.Level.test.Goals as goal

@@ -1,6 +1,6 @@
 use Rattle.std.proofs.Common.{◌∙◌, refl, arith, ap, unwrap_or, []}
 use Rattle.mail_base.specs.Catalogs.{value_at}
-use Rattle.cf_macros.specs.Runs.{left}
+use Rattle.cf_macros.specs.inner.Runs.{left}
 use Rattle.cf_macros.proofs.RunLemmas.{too-deep, too-many, follows, is-new}
 use Rattle.cf_macros.proofs.run.Run.follow.Goals as goal
 

@@ -1,5 +1,5 @@
 use Rattle.std.proofs.Common.{◌∙◌, sym, ap, append-nil, take, ◌-◌}
-use Rattle.cf_macros.specs.Levels.{is_silent}
+use Rattle.cf_macros.specs.inner.Levels.{is_silent}
 use Rattle.cf_macros.proofs.RunLemmas.{run-ends, run-resumes, none-goes, none-end}
 use Rattle.cf_macros.proofs.run.Run.next.Goals as goal
 

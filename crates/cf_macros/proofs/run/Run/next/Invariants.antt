@@ -1,6 +1,6 @@
 use Rattle.std.proofs.Common.{◌≡◌, false, None}
 use Rattle.std.specs.Vec.{vec_len}
-use Rattle.cf_macros.specs.Runs.{Continues}
+use Rattle.cf_macros.specs.inner.Runs.{Continues}
 use Rattle.cf_macros.proofs.run.Run.next.Given as goal
 
 abbrev pub invariant-levels : goal.invariant-levels

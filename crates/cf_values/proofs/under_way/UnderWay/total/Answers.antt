@@ -2,7 +2,7 @@ use Rattle.std.proofs.Common.{◌≡◌, ◌+◌, ◌*◌, ap, ◌∙◌}
 use Rattle.std.specs.Prelude.{unwrap_or, sum_by}
 use Rattle.cf_values.specs.Numbers.{value}
 use Rattle.cf_values.specs.Times.{pair_seconds, seconds}
-use Rattle.cf_values.specs.Stages.{capped}
+use Rattle.cf_values.specs.inner.Stages.{capped}
 use Rattle.cf_values.proofs.StandLemmas.{capped-plus, count_or_none}
 use Rattle.cf_values.proofs.under_way.UnderWay.total.Goals as goal
 

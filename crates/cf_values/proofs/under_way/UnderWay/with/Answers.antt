@@ -1,6 +1,6 @@
 use Rattle.std.proofs.Common.{◌≡◌, ◌+◌, ◌*◌, ap, ◌∙◌, arith}
 use Rattle.std.specs.Prelude.{unwrap_or}
-use Rattle.cf_values.specs.Stages.{capped}
+use Rattle.cf_values.specs.inner.Stages.{capped}
 use Rattle.cf_values.proofs.StandLemmas.{stands_digit, stands_letter, stuck_other, stuck_bare}
 use Rattle.cf_values.proofs.under_way.UnderWay.with.Goals as goal
 

@@ -8,7 +8,7 @@ use Rattle.std.specs.List.{flat_map}
 use Rattle.mail_base.specs.declared.control.Control.{Control}
 use Rattle.qf_format.specs.declared.stop.Stop.{Stop}
 use Rattle.qf_format.specs.declared.stop.Stop.TheVariants.{Outside, Memory}
-use Rattle.qf_format.specs.Reading.{Whole, NoWhole}
+use Rattle.qf_format.specs.inner.Reading.{Whole, NoWhole}
 use Rattle.mail_base.specs.declared.control.Parent.{Parent}
 use Rattle.mail_base.specs.declared.control.Row.{Row}
 use Rattle.qf_format.specs.declared.part.Place.{Place}

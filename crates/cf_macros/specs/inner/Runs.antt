@@ -3,7 +3,7 @@ use Rattle.std.specs.Prelude.{ℕ, List, Option, None, Some, Result, Ok, Err, �
 use Rattle.cf_macros.specs.declared.fault.ExpandFault.{ExpandFault}
 use Rattle.cf_macros.specs.declared.fault.ExpandFault.TheVariants.{Unclosed, Deep, Large, NoMemory}
 use Rattle.cf_macros.specs.declared.run.Run.{Run}
-use Rattle.cf_macros.specs.Levels.{state}
+use Rattle.cf_macros.specs.inner.Levels.{state}
 
 -- the references that may still be followed
 unfoldable pub left : ℕ → ℕ

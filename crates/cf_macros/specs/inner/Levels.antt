@@ -7,7 +7,7 @@ use Rattle.cf_macros.specs.declared.level.Given.{Given}
 use Rattle.cf_macros.specs.declared.scope.Scope.{Scope}
 use Rattle.cf_macros.specs.Readings.{Reading}
 use Rattle.cf_macros.specs.Expansion.{Act, Gives, silent, gives_any, followed, outcome}
-use Rattle.cf_macros.specs.Insides.{rest_at, is_closed, inside, inside_other}
+use Rattle.cf_macros.specs.inner.Insides.{rest_at, is_closed, inside, inside_other}
 
 -- what the levels above have given, and their acts from here on
 pub record Above : Type 0 where

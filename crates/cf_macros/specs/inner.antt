@@ -1,0 +1,4 @@
+pub mod Found
+pub mod Insides
+pub mod Levels
+pub mod Runs
