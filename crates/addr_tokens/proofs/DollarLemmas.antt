@@ -9,8 +9,9 @@ use Rattle.addr_tokens.specs.declared.construct.Construct as form
 use Rattle.addr_tokens.specs.declared.construct.Construct.TheVariants as construct
 use Rattle.addr_tokens.specs.declared.front.Front.TheVariants as front
 use Rattle.addr_tokens.specs.Pieces.{Alphabet, Single, Letter, Braced, Dollar, Operator, is_construct, is_naming, is_letter, is_listed, is_doubled, means, undoubled}
-use Rattle.addr_tokens.specs.Reader.{first_of, first_word, past_word, begins_dollar, first_at_dollar, first_dollar, first_named, first_braced, in_braces, with_byte}
-use Rattle.addr_tokens.specs.Views.{construct_read, braces_read, construct_in, size_behind, front_read}
+use Rattle.addr_tokens.specs.Reader.{first_of, first_word, past_word, begins_dollar, first_dollar, first_named, first_braced, in_braces, with_byte}
+use Rattle.addr_tokens.specs.inner.Fronts.{first_at_dollar}
+use Rattle.addr_tokens.specs.inner.Views.{construct_read, braces_read, construct_in, size_behind, front_read}
 
 pub none_is : (alphabet : Alphabet) (place : ℕ) (text : List ℕ) → length text ≡ 0 → first_dollar alphabet place text ≡ Err (BadDollar place)
 none_is alphabet place text none = ap (first_dollar alphabet place) (nil_from_length text none)

@@ -3,7 +3,7 @@ use Rattle.std.proofs.Common.{◌≡◌, ℕ, false, List, [], ◌∷◌, ◌++�
 use Rattle.std.proofs.lemmas.List.{append-nil}
 use Rattle.mail_base.specs.declared.token.Token.{Token}
 use Rattle.addr_tokens.specs.Joins.{joined, between, token_bytes, is_string}
-use Rattle.addr_tokens.specs.Reader.{joined_on}
+use Rattle.addr_tokens.specs.inner.Joining.{joined_on}
 
 joined_next : (blank : Option ℕ) (token : Token) (tokens : List Token) → token_bytes token ++ joined_on (is_string token) blank tokens ≡ joined blank (token ∷ tokens)
 joined_next blank token [] = append-nil (token_bytes token)

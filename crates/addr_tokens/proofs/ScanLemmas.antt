@@ -12,7 +12,7 @@ use Rattle.addr_tokens.specs.declared.front.Front.{Front}
 use Rattle.addr_tokens.specs.declared.front.Front.TheVariants as front
 use Rattle.addr_tokens.specs.declared.construct.Construct.TheVariants as construct
 use Rattle.addr_tokens.specs.Pieces.{Alphabet, alphabet_of, Piece, bytes_of, given_by, is_side, is_listed, is_construct_in, Construct, Single, Letter, Braced}
-use Rattle.addr_tokens.specs.Views.{piece_of, size_of, Suits}
+use Rattle.addr_tokens.specs.inner.Views.{piece_of, size_of, Suits}
 use Rattle.addr_tokens.specs.Reader.{Answer, first_of, note_angle, with_lexemes, judge_on, judge_end, judged, gathered, outcome_on, outcome_of, reading_of}
 use Rattle.addr_tokens.proofs.ReadingLemmas.{reading_more, reading_stop}
 use Rattle.addr_tokens.proofs.OutcomeLemmas.{lexemes_of_answer, fault_of_answer}

@@ -3,7 +3,8 @@ use Rattle.std.proofs.Common.{◌≡◌, ℕ, zero, suc, ◌+◌, ◌-◌, ◌<�
 use Rattle.std.proofs.lemmas.Bool.{cond-true, cond-false, eq-eqb, ne_eqb, and_parts, not-true, false≢true}
 use Rattle.std.proofs.lemmas.List.{drop_more, nil_from_length}
 use Rattle.addr_tokens.specs.Pieces.{Alphabet, is_word_byte, is_special, is_listed, is_doubled, is_dollar, means}
-use Rattle.addr_tokens.specs.Reader.{is_lone, is_asked, takes_next, begins_dollar, past_word, past_comment}
+use Rattle.addr_tokens.specs.Reader.{takes_next, begins_dollar, past_word, past_comment}
+use Rattle.addr_tokens.specs.inner.Tables.{is_lone, is_asked}
 use Rattle.mail_base.specs.Whites.{is_white}
 use Rattle.addr_tokens.proofs.WordLemmas.{special_parts}
 

@@ -5,7 +5,7 @@ use Rattle.std.proofs.lemmas.Bool.{cases_eq, cases_lt, eq-eqb, eqb-true, ne_eqb,
 use Rattle.std.proofs.lemmas.List.{get_or-set_same, get_or-set_other, drop_more}
 use Rattle.mail_base.specs.Whites.{is_white}
 use Rattle.addr_tokens.specs.Pieces.{is_special}
-use Rattle.addr_tokens.specs.Reader.{is_lone, is_asked}
+use Rattle.addr_tokens.specs.inner.Tables.{is_lone, is_asked}
 
 -- one more byte is listed
 pub listed_more : (listed : List Bool) (bytes : List ℕ) (i b : ℕ) → b < length listed → i < length bytes

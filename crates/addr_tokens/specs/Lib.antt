@@ -2,4 +2,4 @@ pub mod Pieces
 pub mod Scans
 pub mod Joins
 pub mod Reader
-pub mod Views
+pub mod inner

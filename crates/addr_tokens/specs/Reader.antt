@@ -1,5 +1,5 @@
 -- How a text is read from the left: the lexemes or the fault that `outcome_of` computes are those that Pieces and Scans say, by a law.
-use Rattle.std.specs.Prelude.{◌≡◌, ℕ, zero, suc, ◌+◌, ◌-◌, ◌<◌, Bool, true, false, not, ◌&&◌, ◌||◌, ◌==◌, nat_le, List, [], ◌∷◌, ◌++◌, length, take, slice_index, slice_index_or, Option, Some, None, Result, Ok, Err, if◌then◌else◌}
+use Rattle.std.specs.Prelude.{ℕ, zero, suc, ◌+◌, ◌-◌, Bool, true, false, ◌&&◌, ◌||◌, ◌==◌, nat_le, List, [], ◌∷◌, ◌++◌, length, take, slice_index, Option, Some, None, Result, Ok, Err, if◌then◌else◌}
 use Rattle.mail_base.specs.declared.token.Token.{Token}
 use Rattle.addr_tokens.specs.declared.lexeme.Dollars.{Dollars}
 use Rattle.addr_tokens.specs.declared.lexeme.Lexeme.{Lexeme}
@@ -8,9 +8,8 @@ use Rattle.std.specs.List.{flat_map}
 use Rattle.addr_tokens.specs.declared.fault.ScanFault.{ScanFault}
 use Rattle.addr_tokens.specs.declared.fault.ScanFault.TheVariants.{Unbalanced, BadQuote, BadDollar, Long}
 use Rattle.mail_base.specs.Whites.{is_white}
-use Rattle.addr_tokens.specs.Pieces.{Alphabet, Single, Letter, Braced, Piece, White, Comment, Quotation, Operator, Dollar, Run, bytes_of, given_by, is_control, is_special, is_listed, is_word_byte, means, is_dollar, is_doubled, is_construct, is_naming, is_letter}
+use Rattle.addr_tokens.specs.Pieces.{Alphabet, Single, Letter, Braced, Piece, White, Comment, Quotation, Operator, Dollar, Run, bytes_of, given_by, is_control, is_listed, is_word_byte, is_dollar, is_doubled, is_construct, is_naming, is_letter}
 use Rattle.addr_tokens.specs.Scans.{most_tokens}
-use Rattle.addr_tokens.specs.Joins.{token_bytes, is_string, blank_bytes}
 
 -- where a quote or a comment ends: what is behind it, nowhere, or at a bad byte that is followed by one byte less than so many
 pub data Ending : Type 0 where
@@ -96,14 +95,6 @@ first_named place b (c ∷ cs) = if c == 123 then first_braced place b (in_brace
 abbrev pub first_dollar : Alphabet → ℕ → List ℕ → First
 first_dollar alphabet place [] = Err (BadDollar place)
 first_dollar alphabet place (b ∷ bs) = if is_construct alphabet (Single b) then Ok (Dollar (Single b), bs) else if is_naming b then first_named place b bs else Err (BadDollar place)
-
--- the same of a text that begins with a dollar sign
-abbrev pub first_at_dollar : Alphabet → ℕ → List ℕ → First
-first_at_dollar alphabet place bs =
-    if begins_dollar bs && is_doubled alphabet then first_word place (36 ∷ bs) (past_word alphabet false (36 ∷ bs))
-    else if means alphabet.dollars bs then first_dollar alphabet place bs
-    else if is_listed alphabet 36 then Ok (Operator 36, bs)
-    else first_word place (36 ∷ bs) (past_word alphabet false (36 ∷ bs))
 
 -- the first piece of a text that has a byte, and what is behind it; or the fault
 abbrev pub first_of : Alphabet → ℕ → ℕ → List ℕ → First
@@ -202,29 +193,3 @@ tokens_among (Err fault) = Err fault
 -- where each lexeme is a token
 abbrev pub tokens_or_fault : Alphabet → Bool → List ℕ → Result (List Token) ScanFault
 tokens_or_fault alphabet angles text = tokens_among (outcome_of alphabet angles text)
-
--- the blank that stands before a token, where a Word or a Quoted token stands before it or doesn't
-abbrev pub joined_on : Bool → Option ℕ → List Token → List ℕ
-joined_on after blank [] = []
-joined_on after blank (token ∷ tokens) = (if after && is_string token then blank_bytes blank else []) ++ (token_bytes token ++ joined_on (is_string token) blank tokens)
-
--- a table says of each byte whether it is an operator
-pub record IsTable (alphabet : Alphabet) (listed : List Bool) (dollars : Dollars) : Type 0 where
-  pub at : (b : ℕ) → b < 256 → slice_index_or listed b false ≡ is_listed alphabet b
-  pub means : dollars ≡ alphabet.dollars
-
--- a byte that stands in a word whatever is behind it, where it is listed or isn't
-abbrev pub is_lone : Bool → ℕ → Bool
-is_lone listed b = not (is_white b) && not (is_special b) && not listed && not (b == 36)
-
--- another byte: all but a backslash and a dollar sign end a word whatever is behind them
-abbrev pub is_asked : Bool → ℕ → Bool
-is_asked listed b = is_white b || (is_special b || (listed || b == 36))
-
--- a byte that isn't in the second table is one, by the first, of operators
-abbrev pub AreLone : List Bool → List Bool → Type 0
-AreLone listed asked = (b : ℕ) → b < 256 → slice_index_or asked b false ≡ false → is_lone (slice_index_or listed b false) b ≡ true
-
--- a byte that is in it is the other
-abbrev pub AreAsked : List Bool → List Bool → Type 0
-AreAsked listed asked = (b : ℕ) → b < 256 → slice_index_or asked b false ≡ true → is_asked (slice_index_or listed b false) b ≡ true

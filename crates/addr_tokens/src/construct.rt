@@ -2,8 +2,8 @@ ghost use Rattle.std.specs.Prelude.{◌≡◌, ◌≤◌, ◌<◌, ◌+◌, ◌^
 ghost use Rattle.addr_tokens.specs.Pieces as spec;
 ghost use Rattle.addr_tokens.specs.Pieces.{Alphabet};
 ghost use Rattle.addr_tokens.specs.Reader as reader;
-ghost use Rattle.addr_tokens.specs.Reader.{IsTable};
-ghost use Rattle.addr_tokens.specs.Views.{construct_read, braces_read, size_behind};
+ghost use Rattle.addr_tokens.specs.inner.Tables.{IsTable};
+ghost use Rattle.addr_tokens.specs.inner.Views.{construct_read, braces_read, size_behind};
 
 use crate::ScanFault;
 use crate::table::Table;

@@ -1,7 +1,8 @@
 ghost use Rattle.std.specs.Prelude.{◌≡◌, ◌<◌, ◌≤◌, ℕ, List, [], false, true, length, drop};
 ghost use Rattle.addr_tokens.specs.Pieces.{Alphabet};
-ghost use Rattle.addr_tokens.specs.Reader.{IsTable, past_word, past_quote, past_comment};
-ghost use Rattle.addr_tokens.specs.Views.{ending_in, IsWithin};
+ghost use Rattle.addr_tokens.specs.Reader.{past_word, past_quote, past_comment};
+ghost use Rattle.addr_tokens.specs.inner.Tables.{IsTable};
+ghost use Rattle.addr_tokens.specs.inner.Views.{ending_in, IsWithin};
 
 use crate::table::{Table, is_control};
 

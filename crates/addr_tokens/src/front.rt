@@ -2,8 +2,9 @@ ghost use Rattle.mail_base.specs.Whites.{is_white};
 ghost use Rattle.std.specs.Prelude.{◌≡◌, ◌≢◌, ◌+◌, ◌^◌, ◌<◌, ◌≤◌, ℕ, List, false, length, drop, slice_index, IfOk};
 ghost use Rattle.addr_tokens.specs.Reader as reader;
 ghost use Rattle.addr_tokens.specs.Pieces.{Alphabet};
-ghost use Rattle.addr_tokens.specs.Reader.{IsTable};
-ghost use Rattle.addr_tokens.specs.Views.{front_read, size_of};
+ghost use Rattle.addr_tokens.specs.inner.Fronts.{first_at_dollar};
+ghost use Rattle.addr_tokens.specs.inner.Tables.{IsTable};
+ghost use Rattle.addr_tokens.specs.inner.Views.{front_read, size_of};
 
 use crate::ScanFault;
 use crate::construct::{Construct, construct_of};
@@ -90,7 +91,7 @@ fn dollar_of(table: &Table, text: &[u8], place: u64) -> Result<Front, ScanFault>
     ensures some { IfOk result (λ front. 0 < size_of front) }
     ensures within { IfOk result (λ front. size_of front ≤ length text.now) }
     ensures read { (alphabet : Alphabet) → IsTable alphabet table.now.listed table.now.dollars
-        → reader.first_at_dollar alphabet place (drop 1 text.now) ≡ front_read text.now result }
+        → first_at_dollar alphabet place (drop 1 text.now) ≡ front_read text.now result }
 {
     let after = &text[1..];
     if table.is_doubled(after) {

@@ -4,7 +4,7 @@ ghost use Rattle.addr_tokens.specs.declared.fault.ScanFault.TheVariants.{NoMemor
 ghost use Rattle.addr_tokens.specs.Pieces.{given_by};
 ghost use Rattle.addr_tokens.specs.Scans.{most_tokens};
 ghost use Rattle.addr_tokens.specs.Reader.{Answer, note_angle, close_angle, judge_end, with_lexemes, gathered};
-ghost use Rattle.addr_tokens.specs.Views.{piece_of, size_of, Suits};
+ghost use Rattle.addr_tokens.specs.inner.Views.{piece_of, size_of, Suits};
 
 use crate::ScanFault;
 use crate::front::Front;

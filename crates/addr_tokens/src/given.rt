@@ -7,7 +7,7 @@ ghost use Rattle.addr_tokens.specs.declared.lexeme.Lexeme.{Lexeme as TheLexeme};
 ghost use Rattle.addr_tokens.specs.declared.lexeme.Lexeme.TheVariants.{Token as Plain};
 ghost use Rattle.addr_tokens.specs.Pieces as spec;
 ghost use Rattle.addr_tokens.specs.Pieces.{given_by, is_side, mark_of};
-ghost use Rattle.addr_tokens.specs.Views.{piece_of, size_of, size_behind, construct_in, Suits, seen_in, token_at, lexeme_at};
+ghost use Rattle.addr_tokens.specs.inner.Views.{piece_of, size_of, size_behind, construct_in, Suits, seen_in, token_at, lexeme_at};
 
 use crate::construct::Construct;
 use crate::front::Front;

@@ -3,7 +3,8 @@ ghost use Rattle.std.specs.List.{list_any};
 ghost use Rattle.addr_tokens.specs.Pieces as spec;
 ghost use Rattle.addr_tokens.specs.Pieces.{Alphabet, alphabet_of};
 ghost use Rattle.addr_tokens.specs.Reader as reader;
-ghost use Rattle.addr_tokens.specs.Reader.{IsTable, AreLone, AreAsked};
+ghost use Rattle.addr_tokens.specs.inner.Tables.{IsTable, AreLone, AreAsked};
+ghost use Rattle.addr_tokens.specs.inner.Tables as tables;
 
 use crate::lexeme::Dollars;
 use mail_base::is_white;
@@ -64,9 +65,9 @@ impl Table {
     /// Whether a byte stands in a word whatever is behind it.
     pub(crate) fn is_lone(&self, byte: u8) -> bool
         ensures lone { (alphabet : Alphabet) → IsTable alphabet self.now.listed self.now.dollars
-            → result ≡ true → reader.is_lone (spec.is_listed alphabet byte) byte ≡ true }
+            → result ≡ true → tables.is_lone (spec.is_listed alphabet byte) byte ≡ true }
         ensures asked { (alphabet : Alphabet) → IsTable alphabet self.now.listed self.now.dollars
-            → result ≡ false → reader.is_asked (spec.is_listed alphabet byte) byte ≡ true }
+            → result ≡ false → tables.is_asked (spec.is_listed alphabet byte) byte ≡ true }
     {
         !self.asked[usize::from(byte)]
     }

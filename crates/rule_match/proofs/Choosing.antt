@@ -8,7 +8,7 @@ use Rattle.std.proofs.lemmas.List.{drop-drop, length-drop}
 use Rattle.mail_base.specs.declared.token.Token.{Token}
 use Rattle.rule_match.specs.Wants.{Want, Anything, Something, Single, Nothing, Phrase, NoPhrase, These, meets, is_none}
 use Rattle.rule_match.specs.Choices.{Fits, IsAtMost, Chosen}
-use Rattle.rule_match.specs.Steps.{is_choosing, has_phrases, width, front_stands, IsFirst, IsNext}
+use Rattle.rule_match.specs.inner.Steps.{is_choosing, has_phrases, width, front_stands, IsFirst, IsNext}
 use Rattle.rule_match.proofs.Fitting.{or_none, fits_fixed, fits_stands, stands_parts, takes_width}
 
 -- two lists that are at most one another are the same

@@ -4,7 +4,7 @@ use Rattle.std.proofs.lemmas.Bool.{cases_lt, cases_eq, both_ways}
 use Rattle.mail_base.specs.declared.token.Token.{Token}
 use Rattle.rule_match.specs.Wants.{Want, meets}
 use Rattle.rule_match.specs.Choices.{Fits, Chosen}
-use Rattle.rule_match.specs.Steps.{IsNext}
+use Rattle.rule_match.specs.inner.Steps.{IsNext}
 use Rattle.rule_match.proofs.Choosing.{choice_more}
 
 abbrev pub Decided : List Want → List Token → Type 0

@@ -12,7 +12,7 @@ use Rattle.mail_base.specs.declared.rule.Item.TheVariants.{Any, More, One, Empty
 use Rattle.mail_base.specs.Tokens.{same_token, same_tokens}
 use Rattle.rule_match.specs.Wants.{Want, Anything, Something, Single, Nothing, Phrase, NoPhrase, These, want, wants, lists_after, meets, is_none, is_single}
 use Rattle.rule_match.specs.Choices.{Fits}
-use Rattle.rule_match.specs.Steps.{is_choosing, has_phrases, width, front_stands, is_free, is_class, width_of, front_width}
+use Rattle.rule_match.specs.inner.Steps.{is_choosing, has_phrases, width, front_stands, is_free, is_class, width_of, front_width}
 
 -- an `or` of two is false where both are
 pub or_none : (x y : Bool) → (x || y) ≡ false → (x ≡ false) × (y ≡ false)

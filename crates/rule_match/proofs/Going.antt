@@ -12,7 +12,7 @@ use Rattle.rule_match.specs.declared.cuts.Cut.{Cut}
 use Rattle.rule_match.specs.Wants.{Want, want, wants, lists_after, meets}
 use Rattle.rule_match.specs.Choices.{Fits, Chosen}
 use Rattle.rule_match.specs.Kept.{is_binding, kept_cuts, IsChoice}
-use Rattle.rule_match.specs.Steps.{IsNext}
+use Rattle.rule_match.specs.inner.Steps.{IsNext}
 use Rattle.rule_match.proofs.Choosing.{choice_more, choice_none}
 use Rattle.rule_match.proofs.Keeping.{kept_meta, kept_other}
 

@@ -12,7 +12,7 @@ use Rattle.rule_match.specs.declared.cuts.Cut.{Cut}
 use Rattle.rule_match.specs.Wants.{want, wants, lists_after}
 use Rattle.rule_match.specs.Choices.{Fits}
 use Rattle.rule_match.specs.Kept.{is_binding, kept_cuts, lengths_of, bound_pieces, bound_piece}
-use Rattle.rule_match.specs.Steps.{piece_behind, AreWithin}
+use Rattle.rule_match.specs.inner.Steps.{piece_behind, AreWithin}
 use Rattle.rule_match.proofs.Fitting.{fits_fixed}
 
 -- what isn't written with `$` takes one token

@@ -22,8 +22,8 @@ use Rattle.mail_base.specs.Metas.{is_meta}
 use Rattle.mail_base.specs.Tokens.{same_token}
 use Rattle.rule_match.specs.Wants.{want, wants, lists_after, Want, Anything, Something, Single, Nothing, Phrase, NoPhrase, These, meets, is_none}
 use Rattle.rule_match.specs.Choices.{Fits}
-use Rattle.rule_match.specs.Steps.{is_choosing, is_free, width, IsNext}
-use Rattle.rule_match.specs.Rows.{has, starts_fixed, IsRow, IsLater, IsStart, IsLeast, AreRows, fixed, choosing}
+use Rattle.rule_match.specs.inner.Steps.{is_choosing, is_free, width, IsNext}
+use Rattle.rule_match.specs.inner.Rows.{has, starts_fixed, IsRow, IsLater, IsStart, IsLeast, AreRows, fixed, choosing}
 use Rattle.rule_match.proofs.Fitting.{or_none, takes_width}
 use Rattle.rule_match.proofs.Choosing.{some_is, is_some as piece_is_some}
 use Rattle.rule_match.proofs.Going.{count_meta}

@@ -1,5 +1,4 @@
 pub mod Choices
 pub mod Kept
-pub mod Rows
-pub mod Steps
 pub mod Wants
+pub mod inner

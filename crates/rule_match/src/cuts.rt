@@ -5,7 +5,7 @@ ghost use Rattle.mail_base.specs.declared.token.Token.{Token};
 ghost use Rattle.rule_match.specs.declared.cuts.Cut.{Cut};
 ghost use Rattle.rule_match.specs.Choices.{Fits};
 ghost use Rattle.rule_match.specs.Kept.{kept_cuts, bound_piece};
-ghost use Rattle.rule_match.specs.Steps.{piece_behind, AreWithin};
+ghost use Rattle.rule_match.specs.inner.Steps.{piece_behind, AreWithin};
 ghost use Rattle.rule_match.specs.Wants.{wants};
 
 use arrayvec::ArrayVec;

@@ -6,7 +6,7 @@ ghost use Rattle.mail_base.specs.declared.classes.Classes.{Classes};
 ghost use Rattle.mail_base.specs.declared.token.Token.{Token};
 ghost use Rattle.rule_match.specs.Choices.{Fits};
 ghost use Rattle.rule_match.specs.Kept.{IsChoice};
-ghost use Rattle.rule_match.specs.Steps.{front_stands, front_width, is_class, is_free, IsFirst, IsNext};
+ghost use Rattle.rule_match.specs.inner.Steps.{front_stands, front_width, is_class, is_free, IsFirst, IsNext};
 ghost use Rattle.rule_match.specs.Wants.{want, wants, lists_after};
 
 use crate::cuts::{Cut, Cuts};

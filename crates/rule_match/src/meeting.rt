@@ -1,7 +1,7 @@
 ghost use Rattle.std.specs.Prelude.{◌≡◌, ◌≤◌, length, take, drop};
 ghost use Rattle.std.specs.List.{list_any};
 ghost use Rattle.rule_match.specs.Kept.{is_binding};
-ghost use Rattle.rule_match.specs.Steps.{is_free, is_class, width_of};
+ghost use Rattle.rule_match.specs.inner.Steps.{is_free, is_class, width_of};
 ghost use Rattle.rule_match.specs.Wants.{want, meets, first_list, lists_after};
 
 use mail_base::{Classes, Item, Seq, Token};

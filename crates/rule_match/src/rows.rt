@@ -3,8 +3,8 @@ ghost use Rattle.mail_base.specs.Candidates.{is_late};
 ghost use Rattle.mail_base.specs.Catalogs.{value_at, members_of};
 ghost use Rattle.mail_base.specs.Metas.{is_meta};
 ghost use Rattle.rule_match.specs.Choices.{Fits};
-ghost use Rattle.rule_match.specs.Rows.{IsRow, IsLater, IsStart, IsLeast, AreRows, starts_fixed};
-ghost use Rattle.rule_match.specs.Steps.{is_free, IsNext};
+ghost use Rattle.rule_match.specs.inner.Rows.{IsRow, IsLater, IsStart, IsLeast, AreRows, starts_fixed};
+ghost use Rattle.rule_match.specs.inner.Steps.{is_free, IsNext};
 ghost use Rattle.rule_match.specs.Wants.{Want, Phrase, want, wants, meets};
 ghost use Rattle.mail_base.specs.declared.token.Token.{Token};
 

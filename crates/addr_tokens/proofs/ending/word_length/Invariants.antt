@@ -1,6 +1,7 @@
 use Rattle.std.proofs.Common.{◌≡◌, ◌-◌, ◌≤◌, false, length, drop}
 use Rattle.addr_tokens.specs.Pieces.{Alphabet}
-use Rattle.addr_tokens.specs.Reader.{IsTable, past_word}
+use Rattle.addr_tokens.specs.Reader.{past_word}
+use Rattle.addr_tokens.specs.inner.Tables.{IsTable}
 use Rattle.addr_tokens.proofs.ending.word_length.Given as goal
 
 abbrev pub invariant-bytes : goal.invariant-bytes

@@ -1,6 +1,6 @@
 use Rattle.std.proofs.Common.{◌≤◌, ◌++◌, length, sym, ◌∙◌, ap, arith}
 use Rattle.std.proofs.lemmas.List.{append-nil, drop_all}
-use Rattle.addr_tokens.specs.Reader.{joined_on}
+use Rattle.addr_tokens.specs.inner.Joining.{joined_on}
 use Rattle.addr_tokens.proofs.JoinLemmas.{joined_from_left}
 use Rattle.addr_tokens.proofs.joining.join.Goals as goal
 

@@ -1,5 +1,5 @@
 use Rattle.std.proofs.Common.{◌≡◌, ◌++◌, false, drop}
-use Rattle.addr_tokens.specs.Reader.{joined_on}
+use Rattle.addr_tokens.specs.inner.Joining.{joined_on}
 use Rattle.addr_tokens.proofs.joining.join.Given as goal
 
 abbrev pub invariant-tokens : goal.invariant-tokens

@@ -1,6 +1,6 @@
 use Rattle.std.proofs.Common.{◌-◌, length, map, reverse}
 use Rattle.addr_tokens.specs.Pieces.{alphabet_of}
-use Rattle.addr_tokens.specs.Reader.{IsTable}
+use Rattle.addr_tokens.specs.inner.Tables.{IsTable}
 use Rattle.addr_tokens.proofs.ScanLemmas.{At}
 use Rattle.addr_tokens.proofs.scan.scan.Given as goal
 

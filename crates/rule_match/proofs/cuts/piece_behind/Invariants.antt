@@ -1,5 +1,5 @@
 use Rattle.std.proofs.Common.{◌≡◌, length}
-use Rattle.rule_match.specs.Steps.{piece_behind, AreWithin}
+use Rattle.rule_match.specs.inner.Steps.{piece_behind, AreWithin}
 use Rattle.rule_match.proofs.cuts.piece_behind.Given as goal
 
 -- the cuts that are left have the piece

@@ -2,7 +2,7 @@ use Rattle.std.proofs.Common.{◌≡◌, ◌+◌, ◌∷◌, drop, rules, refl, 
 use Rattle.std.proofs.lemmas.Bool.{eqb-true, eqb-false}
 use Rattle.std.proofs.lemmas.List.{nil_from_length, drop-drop}
 use Rattle.rule_match.specs.Wants.{want, wants, lists_after}
-use Rattle.rule_match.specs.Rows.{AreRows}
+use Rattle.rule_match.specs.inner.Rows.{AreRows}
 use Rattle.rule_match.specs.Kept.{IsChoice}
 use Rattle.rule_match.proofs.Going.{goes_meta, goes_other, goes_end, goes_over, goes_stuck}
 use Rattle.rule_match.proofs.matcher.find_by_rows.Goals as goal

@@ -1,6 +1,6 @@
 use Rattle.std.proofs.Common.{◌≡◌, length, drop}
 use Rattle.rule_match.specs.Wants.{wants}
-use Rattle.rule_match.specs.Rows.{AreRows}
+use Rattle.rule_match.specs.inner.Rows.{AreRows}
 use Rattle.rule_match.proofs.Going.{Goes}
 use Rattle.rule_match.proofs.matcher.find_by_rows.Given as goal
 

@@ -1,7 +1,7 @@
 use Rattle.std.proofs.Common.{sym, ◌∙◌}
 use Rattle.std.proofs.lemmas.Bool.{both_ways}
 use Rattle.rule_match.specs.Wants.{wants}
-use Rattle.rule_match.specs.Steps.{front_stands}
+use Rattle.rule_match.specs.inner.Steps.{front_stands}
 use Rattle.rule_match.proofs.Fitting.{fits_stands}
 use Rattle.rule_match.proofs.matcher.find_phrases.Goals as goal
 

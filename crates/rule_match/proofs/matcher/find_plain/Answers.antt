@@ -2,7 +2,7 @@ use Rattle.std.proofs.Common.{rules, sym, ◌∙◌, ap, subst}
 use Rattle.std.proofs.lemmas.Bool.{eqb-true, eqb-false}
 use Rattle.std.proofs.lemmas.List.{nil_from_length}
 use Rattle.std.specs.List.{list_any}
-use Rattle.rule_match.specs.Steps.{is_class}
+use Rattle.rule_match.specs.inner.Steps.{is_class}
 use Rattle.rule_match.specs.Kept.{IsChoice}
 use Rattle.rule_match.proofs.Fitting.{or_none}
 use Rattle.rule_match.proofs.Going.{goes_meta, goes_other, goes_end, goes_over, goes_stuck}

@@ -1,6 +1,6 @@
 use Rattle.std.proofs.Common.{◌≡◌, false, length}
 use Rattle.std.specs.List.{list_any}
-use Rattle.rule_match.specs.Steps.{is_class}
+use Rattle.rule_match.specs.inner.Steps.{is_class}
 use Rattle.rule_match.proofs.Going.{Goes}
 use Rattle.rule_match.proofs.matcher.find_plain.Given as goal
 

@@ -1,6 +1,6 @@
 use Rattle.std.proofs.Common.{◌≡◌, ◌+◌, ◌≤◌, drop}
 use Rattle.std.specs.List.{list_any}
-use Rattle.rule_match.specs.Steps.{front_width, is_free}
+use Rattle.rule_match.specs.inner.Steps.{front_width, is_free}
 use Rattle.rule_match.proofs.matcher.front_width.Given as goal
 
 -- what is left of the room, and what the items that are left take

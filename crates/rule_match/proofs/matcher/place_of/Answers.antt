@@ -1,7 +1,7 @@
 use Rattle.std.proofs.Common.{◌≡◌, ◌+◌, ◌-◌, length, arith, ◌∙◌, sym, subst}
 use Rattle.std.proofs.lemmas.Grind.{common_steps}
 use Rattle.rule_match.specs.Wants.{wants}
-use Rattle.rule_match.specs.Steps.{front_width, IsFirst}
+use Rattle.rule_match.specs.inner.Steps.{front_width, IsFirst}
 use Rattle.rule_match.proofs.Fitting.{choosing_any, class_any, fits_front, fits_whole}
 use Rattle.rule_match.proofs.Choosing.{place_fixed, no_place_wide, no_place, place_free}
 use Rattle.rule_match.proofs.matcher.place_of.Goals as goal

@@ -1,6 +1,6 @@
 use Rattle.std.proofs.Common.{◌≡◌, ℕ, ◌<◌, ◌≤◌, drop, false}
 use Rattle.rule_match.specs.Wants.{wants}
-use Rattle.rule_match.specs.Steps.{front_stands}
+use Rattle.rule_match.specs.inner.Steps.{front_stands}
 use Rattle.rule_match.proofs.matcher.place_of.Given as goal
 
 -- the front of what follows stands at no earlier place

@@ -2,7 +2,7 @@ use Rattle.std.proofs.Common.{sym, ◌∙◌, ap, subst}
 use Rattle.std.specs.Prelude.{◌||◌}
 use Rattle.mail_base.specs.Catalogs.{value_at, members_of}
 use Rattle.rule_match.specs.Wants.{Phrase, want}
-use Rattle.rule_match.specs.Rows.{has, IsStart}
+use Rattle.rule_match.specs.inner.Rows.{has, IsStart}
 use Rattle.rule_match.proofs.Fitting.{choosing_is, other_fixed}
 use Rattle.rule_match.proofs.Rowing.{start_any, start_more, start_none, start_found, start_fixed}
 use Rattle.rule_match.proofs.rows.is_start.Goals as goal

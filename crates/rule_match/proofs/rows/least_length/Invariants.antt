@@ -1,6 +1,6 @@
 use Rattle.std.proofs.Common.{◌≡◌, ℕ, ◌+◌, ◌<◌, take, true}
 use Rattle.rule_match.specs.Wants.{want, meets}
-use Rattle.rule_match.specs.Rows.{has}
+use Rattle.rule_match.specs.inner.Rows.{has}
 use Rattle.rule_match.proofs.rows.least_length.Given as goal
 
 -- no shorter piece is a match up to a place whose bit is set

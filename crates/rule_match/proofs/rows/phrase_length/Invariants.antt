@@ -1,7 +1,7 @@
 use Rattle.std.proofs.Common.{◌≡◌, ℕ, ◌+◌, ◌<◌, take, true}
 use Rattle.mail_base.specs.Catalogs.{value_at, members_of}
 use Rattle.rule_match.specs.Wants.{Phrase, meets}
-use Rattle.rule_match.specs.Rows.{has}
+use Rattle.rule_match.specs.inner.Rows.{has}
 use Rattle.rule_match.proofs.rows.phrase_length.Given as goal
 
 -- no shorter piece is a phrase up to a place whose bit is set

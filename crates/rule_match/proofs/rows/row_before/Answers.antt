@@ -1,6 +1,6 @@
 use Rattle.std.proofs.Common.{◌≡◌, ◌+◌, ◌-◌, ◌≤◌, ◌||◌, length, drop, arith, sym, ◌∙◌, ap, subst}
 use Rattle.rule_match.specs.Wants.{want}
-use Rattle.rule_match.specs.Rows.{has, IsLater, IsStart}
+use Rattle.rule_match.specs.inner.Rows.{has, IsLater, IsStart}
 use Rattle.rule_match.proofs.Rowing.{IsSetIf, set_bits, keep_bits, starts_now, fresh_now, later_now, row_more}
 use Rattle.rule_match.proofs.rows.row_before.Goals as goal
 use Rattle.rule_match.proofs.rows.row_before.Goals.{then-is_start, else-is_start}

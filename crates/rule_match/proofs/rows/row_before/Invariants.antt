@@ -1,6 +1,6 @@
 use Rattle.std.proofs.Common.{◌≡◌, ℕ, ◌+◌, ◌<◌, ◌≤◌, length, drop, false}
 use Rattle.rule_match.specs.Wants.{want}
-use Rattle.rule_match.specs.Rows.{has, IsLater, IsStart}
+use Rattle.rule_match.specs.inner.Rows.{has, IsLater, IsStart}
 use Rattle.rule_match.proofs.rows.row_before.Given as goal
 
 -- the bits from the end on are right, and those before it are clear

@@ -5,8 +5,8 @@ use Rattle.mail_base.specs.declared.token.Token.{Token}
 use Rattle.mail_base.specs.Candidates.{is_late}
 use Rattle.mail_base.specs.Metas.{is_meta}
 use Rattle.rule_match.specs.Wants.{want, wants, lists_after}
-use Rattle.rule_match.specs.Rows.{IsRow, AreRows, no_item, fixed, choosing}
-use Rattle.rule_match.specs.Steps.{is_choosing}
+use Rattle.rule_match.specs.inner.Rows.{IsRow, AreRows, no_item, fixed, choosing}
+use Rattle.rule_match.specs.inner.Steps.{is_choosing}
 use Rattle.rule_match.proofs.Fitting.{choosing_is}
 use Rattle.rule_match.proofs.Rowing.{row_first, free_meta, count_last, count_before, lists_last, lists_next}
 use Rattle.rule_match.proofs.rows.rows_of.Goals as goal

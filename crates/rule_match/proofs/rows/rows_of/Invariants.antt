@@ -4,7 +4,7 @@ use Rattle.mail_base.specs.declared.rule.Item.{Item}
 use Rattle.mail_base.specs.Candidates.{is_late}
 use Rattle.mail_base.specs.Metas.{is_meta}
 use Rattle.rule_match.specs.Wants.{wants}
-use Rattle.rule_match.specs.Rows.{IsRow, AreRows}
+use Rattle.rule_match.specs.inner.Rows.{IsRow, AreRows}
 use Rattle.rule_match.proofs.rows.rows_of.Given as goal
 
 -- the row and the rows are those of the items that are done, and the lists from this place on are theirs

@@ -4,7 +4,7 @@ use Rattle.std.specs.Int.{bit_at}
 use Rattle.mail_base.specs.declared.token.Token.{Token}
 use Rattle.rule_match.specs.Wants.{Want, meets}
 use Rattle.rule_match.specs.Choices.{Fits}
-use Rattle.rule_match.specs.Steps.{is_choosing, width}
+use Rattle.rule_match.specs.inner.Steps.{is_choosing, width}
 
 -- the bit of a place
 unfoldable pub has : List ℕ → ℕ → Bool
