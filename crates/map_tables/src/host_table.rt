@@ -58,8 +58,8 @@ impl HostTable {
         })
     }
 
-    /// The first line that has a name, without ASCII case. It takes no memory, and its time is that of
-    /// the name, however many lines there are.
+    /// The first line that has a name, without ASCII case. It takes no memory. It is found by the name's
+    /// hash; names whose hashes meet stand in one list, which is walked, and no clause bounds its length.
     pub(crate) fn line_of(&self, name: &Text) -> Option<&HostLine>
         ensures { option_copied result ≡ line_of name.now self.now }
     {

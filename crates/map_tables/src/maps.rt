@@ -100,8 +100,8 @@ impl Maps {
         }
     }
 
-    /// The address of a host, by any of its names without ASCII case. It takes no memory, and its time
-    /// is that of the name, however many hosts there are.
+    /// The address of a host, by any of its names without ASCII case. It takes no memory. It is found by
+    /// the name's hash; names whose hashes meet stand in one list, which is walked.
     pub fn host(&self, name: &Text) -> Option<&Text>
         ensures { option_copied result ≡ host_address name.now self.now.hosts }
     {

@@ -118,6 +118,7 @@ fn run_rules(
     ensures settled { OnOk result (values.new.after ≡ values.new.macros) }
     ensures work { IfOk result (λ ran. (start.work ≤ ran.work) × (ran.work ≤ 10000)) }
 {
+    // Only its range is used: a set has fewer than 2^32 rules, so that `number + 1` is within its type.
     let _count = set.count();
     let mut from: u32 = 0;
     let mut times: u32 = 0;
