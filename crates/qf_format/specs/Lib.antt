@@ -1,4 +1,5 @@
 pub mod Room
+pub mod Saying
 pub mod Sheets
 pub mod Spelling
 pub mod Valid

@@ -1,9 +1,10 @@
-ghost use Rattle.std.specs.Prelude.{◌≡◌, ◌≢◌, ◌↔◌, ◌++◌, IsTrue, IfOk, IfSome, IfNone, None, Some, codes};
+ghost use Rattle.std.specs.Prelude.{◌≡◌, ◌↔◌, ◌++◌, IsTrue, IfOk, IfSome, IfNone, None, Some, codes};
 ghost use Rattle.mail_base.specs.declared.control.Control.{Control};
 ghost use Rattle.qf_format.specs.inner.Reading.{Reads, Anything};
 ghost use Rattle.qf_format.specs.inner.Parts.{IsEnvelope, IsOrder, IsPlace, Parses, envelope_text, order_text, place_text};
-ghost use Rattle.qf_format.specs.Spelling.{kept_lines, line, spelled};
-ghost use Rattle.qf_format.specs.Valid.{AreKept, IsValid};
+ghost use Rattle.qf_format.specs.Saying.{Says};
+ghost use Rattle.qf_format.specs.Spelling.{kept_lines, line};
+ghost use Rattle.qf_format.specs.Valid.{AreKept};
 
 use crate::field::text_field;
 use crate::header::headers_of;
@@ -16,11 +17,11 @@ use crate::stop::Stop;
 use mail_base::{Control, Kept, NoMemory, Text};
 use std::alloc::Global;
 
-/// The control that the bytes are the control text of, or `None` exactly where they are none.
+/// The control that the bytes say, or `None` exactly where they say none.
 pub fn parse(bytes: &Text) -> Result<Option<Control>, NoMemory>
-    ensures some { IfOk result (λ r. IfSome r (λ c. IsValid c × (spelled c ≡ bytes.now))) }
-    ensures exact { (c : Control) → IsValid c → spelled c ≡ bytes.now → IfOk result (λ r. r ≡ Some c) }
-    ensures none { IfOk result (λ r. IfNone r ((c : Control) → IsValid c → spelled c ≢ bytes.now)) }
+    ensures some { IfOk result (λ r. IfSome r (Says bytes.now)) }
+    ensures exact { (c : Control) → Says bytes.now c → IfOk result (λ r. r ≡ Some c) }
+    ensures none { IfOk result (λ r. IfNone r ((c : Control) → Says bytes.now c → ⊥)) }
 {
     match control_of(bytes.allocator(), bytes.bytes()) {
         Ok(control) => Ok(Some(control)),
