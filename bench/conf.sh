@@ -1,6 +1,6 @@
 #!/bin/bash
 # Milliseconds to read a configuration of 100,000 and of 200,000 lines of all letters, and the greatest memory of each;
-# and milliseconds to read each configuration that is given as an argument, with what is read of it. Where Sendmail's own program is
+# milliseconds of a reading where it is read six times; and milliseconds to read each configuration that is given as an argument, with what is read of it. Where Sendmail's own program is
 # installed, its start over the same file in address test mode, with an empty input, is measured too. The program
 # is crates/bench. This is no part of the gate.
 . "$(dirname "$0")/bench.sh"
@@ -14,6 +14,8 @@ for lines in 100000 200000; do
     base=$(cat "$work/peak")
     read=$(held "$lines" 1)
     echo "$lines lines: $(((read - made) / 1000000)) milliseconds, $(($(cat "$work/peak") - base)) KiB beside the text and the program: $(cat "$work/answer")"
+    six=$(held "$lines" 6)
+    echo "$lines lines: $(((six - made) / 6000000)) milliseconds a reading, of six"
 done
 for file in "$@"; do
     once=$(held "$(realpath "$file")" 1)
