@@ -1,6 +1,6 @@
 -- The search for the match that is taken, item by item: whatever is taken of the rest completes what is taken of all.
 use Rattle.std.proofs.Common.{◌≡◌, ℕ, ◌+◌, ◌<◌, ◌≤◌, ◌⊎◌, inl, inr, List, [], ◌∷◌, ◌++◌, length, take, drop, true, false, cond, zero-add, refl, sym, ◌∙◌, ap, subst, arith}
-use Rattle.std.specs.Prelude.{count_by}
+use Rattle.std.specs.Prelude.{count_by, Option, Some, None, IfSome}
 use Rattle.std.proofs.lemmas.Bool.{cases_lt}
 use Rattle.std.proofs.lemmas.List.Sums.{sum_by-cons}
 use Rattle.std.proofs.lemmas.List.{length-drop, append_assoc, length-append, append-nil}
@@ -21,6 +21,11 @@ pub record Goes (classes : Classes) (late : List (List Token)) (items : List Ite
   pub none : ((lengths : List ℕ) → Fits (wants classes lists rest) left lengths → ⊥) → (lengths : List ℕ) → Fits (wants classes late items) tokens lengths → ⊥
   pub room : length kept + count_by is_meta rest ≤ 20
   pub place : start + length left ≡ length tokens
+
+-- what stands for whatever is found stands beside what is said of it
+pub some_with : {X : Type 0} (P : X → Type 0) (Q : Type 0) (o : Option X) → IfSome o P → Q → IfSome o (λ x. P x × Q)
+some_with P Q None h q = tt
+some_with P Q (Some x) h q = (h, q)
 
 -- before the first item
 pub goes_first : (classes : Classes) (late : List (List Token)) (items : List Item) (tokens : List Token) (kept : List Cut) → kept ≡ [] → count_by is_meta items ≤ 20 → Goes classes late items tokens late items tokens kept 0

@@ -2,28 +2,26 @@
 use Rattle.std.proofs.Common.{◌≡◌, ◌≢◌, ℕ, ◌+◌, ◌-◌, ◌*◌, ◌/◌, ◌%◌, ◌^◌, ◌<◌, ◌≤◌, inl, inr, List, [], ◌∷◌, ◌++◌, length, take, drop, get_or, set, replicate, Bool, true, false, refl, sym, ◌∙◌, ap, subst, arith, eq-eqb, eqb-true, max, cond, add-zero}
 use Rattle.std.specs.Prelude.{◌==◌, ◌||◌, ◌&&◌, nat_le, not, bit_or, bit_and, Option, Some, None, IfSome, IfNone, count_by}
 use Rattle.std.specs.Option.{is_some, option_to_list}
-use Rattle.std.specs.List.{list_any}
 use Rattle.std.specs.Cmp.Lexicographic.{as_long}
 use Rattle.std.specs.Int.{bit_at}
 use Rattle.std.proofs.Math.Nat.{le-max_left, le-max_right}
-use Rattle.std.proofs.lemmas.Bool.{cases_eq, cases_lt, ne_eqb, both_ways, and_parts, and_from, or_cases, or_right, leb-true, le-leb}
+use Rattle.std.proofs.lemmas.Bool.{cases_eq, cases_lt, ne_eqb, both_ways, and_parts, and_from, or_cases, leb-true, le-leb}
 use Rattle.std.proofs.lemmas.Nat.{mod_below, one_shl}
 use Rattle.std.proofs.lemmas.List.Sums.{sum_by-append, sum_by-cons}
 use Rattle.std.proofs.lemmas.List.{drop-drop, length-drop, length-take-le, drop_all, same_from_push, length_push, get_or-replicate, get_or_past, length-replicate, get_or-set_same, get_or-set_other}
 use Rattle.std.proofs.lemmas.Nat.Bits.{shr_and_one, bit_at_or, bit_at-zero, bit_at-pow_same, bit_at-pow_other}
 use Rattle.mail_base.specs.declared.token.Token.{Token}
 use Rattle.mail_base.specs.declared.class.Member.{Member}
-use Rattle.mail_base.specs.declared.classes.Classes.{Classes}
 use Rattle.mail_base.specs.declared.rule.Item.{Item}
 use Rattle.mail_base.specs.declared.rule.Item.TheVariants.{Any, More, One, Empty, InClass, NotInClass, Exact, Late}
 use Rattle.mail_base.specs.Candidates.{is_late}
 use Rattle.mail_base.specs.Classes.{is_phrase, is_cut_into, phrase_length, longest_from, longest_phrase}
 use Rattle.mail_base.specs.Metas.{is_meta}
 use Rattle.mail_base.specs.Tokens.{same_token}
-use Rattle.rule_match.specs.Wants.{want, wants, lists_after, Want, Anything, Something, Single, Nothing, Phrase, NoPhrase, These, meets, is_none}
+use Rattle.rule_match.specs.Wants.{want, wants, lists_after, Want, Anything, Something, Phrase, meets, is_none}
 use Rattle.rule_match.specs.Choices.{Fits}
 use Rattle.rule_match.specs.inner.Steps.{is_choosing, is_free, width, IsNext}
-use Rattle.rule_match.specs.inner.Rows.{has, starts_fixed, IsRow, IsLater, IsStart, IsLeast, AreRows, fixed, choosing}
+use Rattle.rule_match.specs.inner.Rows.{has, starts_fixed, IsRow, IsLater, IsStart, IsLeast, AreRows, StandRows, fixed, choosing}
 use Rattle.rule_match.proofs.Fitting.{or_none, takes_width}
 use Rattle.rule_match.proofs.Choosing.{some_is, is_some as piece_is_some}
 use Rattle.rule_match.proofs.Going.{count_meta}
@@ -399,3 +397,33 @@ no_phrase_found members left place row most bound none = record {
       let few = bound n short le in
       none n (omega arith) met set;
 }
+
+-- what is found by the rows of the items that are left
+module _ {size : ℕ} {all : List Want} (want : Want) (rest : List Want) {left : List Token} {start : ℕ} {old : List (List ℕ)} (stand : StandRows size all left start old) (is : all ≡ want ∷ rest) where
+  rows : AreRows stand.tokens (want ∷ rest) old
+  rows = subst (λ ws. AreRows stand.tokens ws old) is stand.are
+
+  -- with what else stays so
+  pub stand_some : {Stays : Type 0} → Stays → (o : Option ℕ) (new : List (List ℕ)) → Takes want left start o old new → IfSome o (λ n. IsNext want rest left n × (Stays × StandRows size rest (drop n left) (start + n) new))
+  stand_some so None new h = tt
+  stand_some so (Some n) new h =
+      let both = h stand.tokens rest stand.left_are stand.within rows in
+      let few = both.0.within in
+      let place = stand.within in
+      let size_is = ap length stand.left_are ∙ length-drop start stand.tokens in (
+        both.0,
+        (
+          so,
+          record {
+            tokens = stand.tokens;
+            are = both.1;
+            left_are = ap (drop n) stand.left_are ∙ drop-drop n start stand.tokens;
+            within = omega arith;
+            short = stand.short;
+          },
+        ),
+      )
+
+  pub stand_none : (o : Option ℕ) → TakesNone want left start o old → IfNone o ((n : ℕ) (later : List ℕ) → Fits (want ∷ rest) left (n ∷ later) → ⊥)
+  stand_none None h = h stand.tokens rest stand.left_are stand.within rows
+  stand_none (Some n) h = tt

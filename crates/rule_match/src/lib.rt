@@ -8,6 +8,7 @@ mod meeting;
 mod row;
 mod rows;
 mod trial;
+mod walk;
 
 pub use cuts::{Cut, Cuts};
 pub use law::{each_choice, one_choice, put_in};

@@ -9,11 +9,11 @@ ghost use Rattle.rule_match.specs.Kept.{IsChoice};
 ghost use Rattle.rule_match.specs.inner.Steps.{front_stands, front_width, is_class, is_free, IsFirst, IsNext};
 ghost use Rattle.rule_match.specs.Wants.{want, wants, lists_after};
 
-use crate::cuts::{Cut, Cuts};
-use crate::meeting::{any_class, is_binding, is_free, is_met, lists_after, parted, width};
-use crate::rows::{fixed_length, next_length, rows_of};
+use crate::cuts::Cuts;
+use crate::meeting::{any_class, is_free, is_met, lists_after, parted, width};
+use crate::rows::{ByRows, fixed_length, rows_of};
 use crate::trial::least;
-use arrayvec::ArrayVec;
+use crate::walk::{Lengths, found_by};
 use mail_base::{Classes, Item, Pattern, Seq, Token};
 
 /// The match that a rule takes, or `None` exactly where nothing matches. It takes no memory.
@@ -68,6 +68,27 @@ fn ends_otherwise(items: &[Item], tokens: &[Token]) -> bool
     token != last
 }
 
+/// By the items up to the next of several possible lengths, where none is a phrase of a class.
+#[derive(Clone, Copy)]
+struct ByFronts;
+
+impl Lengths for ByFronts {
+    ghost serves = { λ fronts classes lists items left start. list_any is_class items ≡ false };
+
+    fn next(
+        &mut self,
+        classes: &Classes,
+        late: &[Seq<Token>],
+        item: &Item,
+        others: &[Seq<Token>],
+        after: &[Item],
+        left: &[Token],
+        _start: usize,
+    ) -> Option<usize> {
+        length_of(classes, late, item, others, after, left)
+    }
+}
+
 /// The same where none of the items is a phrase of a class.
 ///
 /// Each `$*` and `$+` is tried at growing lengths until the items up to the next of them meet the
@@ -84,32 +105,8 @@ fn find_plain(
     ensures some { IfSome result (λ cuts. IsChoice classes.now late.now pattern.now tokens.now cuts) }
     ensures none { IfNone result ((lengths : List ℕ) → Fits (wants classes.now late.now pattern.now) tokens.now lengths → ⊥) }
 {
-    let mut kept: ArrayVec<Cut, 20> = ArrayVec::new();
-    let mut lists = late;
-    let mut items = pattern;
-    let mut left = tokens;
-    let mut start = 0;
-    while let Some((item, after)) = items.split_first() {
-        let others = lists_after(item, lists);
-        let length = length_of(classes, lists, item, others, after, left)?;
-        if item.is_meta() {
-            let binds = is_binding(item);
-            kept.push(Cut {
-                start,
-                length,
-                binds,
-            });
-        }
-        start += length;
-        left = parted(left, length).1;
-        lists = others;
-        items = after;
-    }
-    if left.is_empty() {
-        Some(Cuts::of(kept))
-    } else {
-        None
-    }
+    let mut lengths = ByFronts;
+    found_by(&mut lengths, classes, late, pattern, tokens)
 }
 
 /// The same for any items: by rows of bits, or by trial where these are too short for the tokens.
@@ -151,32 +148,10 @@ fn find_by_rows<const W: usize>(
     ensures some { IfSome result (λ cuts. IsChoice classes.now late.now pattern.now tokens.now cuts) }
     ensures none { IfNone result ((lengths : List ℕ) → Fits (wants classes.now late.now pattern.now) tokens.now lengths → ⊥) }
 {
-    let mut kept: ArrayVec<Cut, 20> = ArrayVec::new();
-    let mut rows = rows_of::<W>(classes, late, pattern, tokens);
-    let mut lists = late;
-    let mut items = pattern;
-    let mut left = tokens;
-    let mut start = 0;
-    while let Some((item, after)) = items.split_first() {
-        let length = next_length(classes, lists, item, left, start, &mut rows)?;
-        if item.is_meta() {
-            let binds = is_binding(item);
-            kept.push(Cut {
-                start,
-                length,
-                binds,
-            });
-        }
-        start += length;
-        left = parted(left, length).1;
-        lists = lists_after(item, lists);
-        items = after;
-    }
-    if left.is_empty() {
-        Some(Cuts::of(kept))
-    } else {
-        None
-    }
+    let mut lengths = ByRows {
+        rows: rows_of::<W>(classes, late, pattern, tokens),
+    };
+    found_by(&mut lengths, classes, late, pattern, tokens)
 }
 
 /// What the first item takes of the tokens that are left, in the match that is taken, if there is

@@ -3,13 +3,14 @@ ghost use Rattle.mail_base.specs.Candidates.{is_late};
 ghost use Rattle.mail_base.specs.Catalogs.{value_at, members_of};
 ghost use Rattle.mail_base.specs.Metas.{is_meta};
 ghost use Rattle.rule_match.specs.Choices.{Fits};
-ghost use Rattle.rule_match.specs.inner.Rows.{IsRow, IsLater, IsStart, IsLeast, AreRows, starts_fixed};
+ghost use Rattle.rule_match.specs.inner.Rows.{IsRow, IsLater, IsStart, IsLeast, AreRows, StandRows, starts_fixed};
 ghost use Rattle.rule_match.specs.inner.Steps.{is_free, IsNext};
 ghost use Rattle.rule_match.specs.Wants.{Want, Phrase, want, wants, meets};
 ghost use Rattle.mail_base.specs.declared.token.Token.{Token};
 
 use crate::meeting::{is_free, is_met, parted, width};
 use crate::row::Row;
+use crate::walk::Lengths;
 use arrayvec::ArrayVec;
 use mail_base::{Classes, Item, Seq, Text, Token};
 
@@ -147,9 +148,33 @@ fn phrase_length<const W: usize>(
     None
 }
 
+/// By the rows behind the items that are left.
+#[derive(Drop)]
+pub struct ByRows<const W: usize> {
+    pub rows: ArrayVec<Row<W>, 20>,
+}
+
+impl<const W: usize> Lengths for ByRows<W> {
+    ghost serves = { λ by classes lists items left start.
+        (W ≤ 32) × StandRows (64 * W) (wants classes lists items) left start by.rows.items };
+
+    fn next(
+        &mut self,
+        classes: &Classes,
+        late: &[Seq<Token>],
+        item: &Item,
+        _others: &[Seq<Token>],
+        _after: &[Item],
+        left: &[Token],
+        start: usize,
+    ) -> Option<usize> {
+        next_length(classes, late, item, left, start, &mut self.rows)
+    }
+}
+
 /// What the first item takes of the tokens that are left, in the match that is taken, if there is
 /// any. The last of the rows is dropped where it is the item's.
-pub fn next_length<const W: usize>(
+fn next_length<const W: usize>(
     classes: &Classes,
     late: &[Seq<Token>],
     item: &Item,

@@ -1,5 +1,5 @@
 -- Rows of bits, one bit for each place of the tokens; only private contracts cite it.
-use Rattle.std.specs.Prelude.{◌≡◌, ℕ, ◌+◌, ◌/◌, ◌%◌, ◌≤◌, ◌==◌, List, [], ◌∷◌, ◌++◌, length, take, drop, Bool, true, false, slice_index, nat_le, ◌&&◌}
+use Rattle.std.specs.Prelude.{◌≡◌, ℕ, ◌+◌, ◌/◌, ◌%◌, ◌≤◌, ◌<◌, ◌==◌, List, [], ◌∷◌, ◌++◌, length, take, drop, Bool, true, false, slice_index, nat_le, ◌&&◌}
 use Rattle.std.specs.Int.{bit_at}
 use Rattle.mail_base.specs.declared.token.Token.{Token}
 use Rattle.rule_match.specs.Wants.{Want, meets}
@@ -41,3 +41,11 @@ pub data AreRows (tokens : List Token) : List Want → List (List ℕ) → Type 
   no_item : AreRows tokens [] []
   fixed : (want : Want) (wants : List Want) (rows : List (List ℕ)) → is_choosing want ≡ false → AreRows tokens wants rows → AreRows tokens (want ∷ wants) rows
   choosing : (want : Want) (wants : List Want) (row : List ℕ) (rows all : List (List ℕ)) → is_choosing want ≡ true → IsRow tokens wants row → AreRows tokens wants rows → all ≡ rows ++ row ∷ [] → AreRows tokens (want ∷ wants) all
+
+-- the rows are those of the items, for the tokens that are left behind so many of fewer than a number
+pub record StandRows (size : ℕ) (wants : List Want) (left : List Token) (start : ℕ) (rows : List (List ℕ)) : Type 0 where
+  pub tokens : List Token
+  pub are : AreRows tokens wants rows
+  pub left_are : left ≡ drop start tokens
+  pub within : start ≤ length tokens
+  pub short : length tokens < size

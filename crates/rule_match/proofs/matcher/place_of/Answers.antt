@@ -1,4 +1,4 @@
-use Rattle.std.proofs.Common.{◌≡◌, ◌+◌, ◌-◌, length, arith, ◌∙◌, sym, subst}
+use Rattle.std.proofs.Common.{◌-◌, length, arith, ◌∙◌, sym, subst}
 use Rattle.std.proofs.lemmas.Grind.{common_steps}
 use Rattle.rule_match.specs.Wants.{wants}
 use Rattle.rule_match.specs.inner.Steps.{front_width, IsFirst}

@@ -1,6 +1,5 @@
-use Rattle.std.proofs.Common.{◌≡◌, false, arith, sym, ◌∙◌, ap}
+use Rattle.std.proofs.Common.{arith, sym, ◌∙◌, ap}
 use Rattle.rule_match.specs.Wants.{want, meets}
-use Rattle.rule_match.specs.inner.Steps.{is_choosing}
 use Rattle.rule_match.proofs.Fitting.{choosing_is, width_is}
 use Rattle.rule_match.proofs.Choosing.{next_fixed, no_next_fixed, no_room_fixed}
 use Rattle.rule_match.proofs.rows.fixed_length.Goals as goal

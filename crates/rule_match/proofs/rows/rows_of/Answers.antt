@@ -1,8 +1,7 @@
-use Rattle.std.proofs.Common.{◌≡◌, List, ◌+◌, [], ◌∷◌, ◌++◌, true, false, length, drop, arith, sym, ◌∙◌, ap, subst}
+use Rattle.std.proofs.Common.{◌≡◌, List, [], ◌∷◌, ◌++◌, true, false, length, drop, arith, sym, ◌∙◌, ap, subst}
 use Rattle.std.specs.Prelude.{count_by}
 use Rattle.std.proofs.lemmas.List.{append-nil, append_assoc, length_push, take_rest}
 use Rattle.mail_base.specs.declared.token.Token.{Token}
-use Rattle.mail_base.specs.Candidates.{is_late}
 use Rattle.mail_base.specs.Metas.{is_meta}
 use Rattle.rule_match.specs.Wants.{want, wants, lists_after}
 use Rattle.rule_match.specs.inner.Rows.{IsRow, AreRows, no_item, fixed, choosing}
