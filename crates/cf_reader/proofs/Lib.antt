@@ -11,7 +11,6 @@ mod SideExamples
 mod RuleExamples
 mod ValueLemmas
 mod FinishLemmas
-mod ReadingLemmas
+pub mod ReadingLemmas
 mod TakeLemmas
-mod RunLemmas
 mod ScanLemmas

@@ -9,7 +9,7 @@ use Rattle.addr_tokens.specs.Scans.{most_tokens}
 use Rattle.cf_macros.specs.Readings.{reading}
 use Rattle.cf_macros.specs.Expansion.{value_in, followed}
 use Rattle.cf_reader.specs.declared.fault.Fault.{Fault}
-use Rattle.cf_reader.specs.declared.fault.Fault.TheVariants.{NoTab, BadPattern, TooManyMetas, BadReference, NotYet}
+use Rattle.cf_reader.specs.declared.fault.Fault.TheVariants.{NoTab, BadPattern, TooManyMetas, BadReference}
 use Rattle.cf_reader.specs.Rules.{fault_of_rule, rule_of}
 
 abbrev fault : List ℕ → Option Fault
@@ -27,11 +27,11 @@ pub each_fault :
     (fault (codes "$*") ≡ Some NoTab) × (fault (codes "\t$1") ≡ Some NoTab)
     × (fault (codes "\"x\ty") ≡ Some BadPattern) × (fault (codes "x\t$*") ≡ Some BadPattern)
     × (fault (codes "$-\t$2") ≡ Some BadReference) × (fault (codes "$-\t$0") ≡ Some BadReference) × (fault (codes "$@\t$1") ≡ Some BadReference)
-    × (fault (codes "$=w\t$1") ≡ Some NotYet) × (fault (codes "$-\t$#x") ≡ Some NotYet) × (fault (codes "$-\t$&x") ≡ Some NotYet)
+    × (fault (codes "$=w\t$1") ≡ None) × (fault (codes "$-\t$#x") ≡ None) × (fault (codes "$-\t$&x") ≡ None)
 unfolding value_in followed reading most_tokens
 each_fault = (refl, refl, refl, refl, refl, refl, refl, refl, refl, refl)
 
-pub many_metas : (fault (codes "$@$@$@$@$@$@$@$@$@$@$@$@$@$@$@$@$@$@$@$@\tx") ≡ Some NotYet) × (fault (codes "$@$@$@$@$@$@$@$@$@$@$@$@$@$@$@$@$@$@$@$@$:\tx") ≡ Some TooManyMetas)
+pub many_metas : (fault (codes "$@$@$@$@$@$@$@$@$@$@$@$@$@$@$@$@$@$@$@$@\tx") ≡ None) × (fault (codes "$@$@$@$@$@$@$@$@$@$@$@$@$@$@$@$@$@$@$@$@$:\tx") ≡ Some TooManyMetas)
 unfolding value_in followed reading most_tokens
 many_metas = (refl, refl)
 

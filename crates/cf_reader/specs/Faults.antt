@@ -4,7 +4,7 @@ use Rattle.std.specs.Prelude.{ℕ, Bool, true, false, not, ◌==◌, List, [], �
 use Rattle.std.specs.List.{list_any}
 use Rattle.mail_edge.specs.Seen.{FileMap}
 use Rattle.cf_reader.specs.declared.fault.Fault.{Fault}
-use Rattle.cf_reader.specs.declared.fault.Fault.TheVariants.{UnknownLine, NoTab, BadPattern, TooManyMetas, BadReference, UnknownMailerField, NoPath, DuplicateGroup, BadOption, BadMap, BadHeader, OperatorsLate, NoSuchFile, NotYet}
+use Rattle.cf_reader.specs.declared.fault.Fault.TheVariants.{UnknownLine, NoTab, BadPattern, TooManyMetas, BadReference, UnknownMailerField, NoPath, DuplicateGroup, BadOption, BadMap, BadHeader, OperatorsLate, NoSuchFile}
 use Rattle.cf_reader.specs.declared.state.State.{State}
 use Rattle.cf_reader.specs.ClassLines.{is_bad_class, lacks_file}
 use Rattle.cf_reader.specs.Fields.{line_name, line_fields}
@@ -16,7 +16,7 @@ use Rattle.cf_reader.specs.MapLines.{is_bad_map}
 use Rattle.cf_reader.specs.OptionLines.{is_bad_option, is_late}
 use Rattle.cf_reader.specs.PrecedenceLines.{is_bad_precedence}
 use Rattle.cf_reader.specs.Reads.{first_fault}
-use Rattle.cf_reader.specs.Rules.{Halves, halves_of, lacks_tab, is_bad_pattern, has_many_metas, refers_badly, is_not_yet}
+use Rattle.cf_reader.specs.Rules.{Halves, halves_of, lacks_tab, is_bad_pattern, has_many_metas, refers_badly}
 
 -- ---- letters
 
@@ -61,7 +61,6 @@ fault_table files state line =
     ∷ (BadHeader, on ((72, is_bad_header) ∷ []) line)
     ∷ (OperatorsLate, on ((79, is_late state.has_rules) ∷ []) line)
     ∷ (NoSuchFile, on ((70, lacks_file files) ∷ []) line)
-    ∷ (NotYet, on ((82, λ text. is_not_yet (sides state text)) ∷ []) line)
     ∷ []
 
 -- the first fault of a line behind the lines of a state, over these files

@@ -11,7 +11,6 @@ pub mod HeaderLines
 pub mod Places
 pub mod MapLines
 pub mod Sides
-pub mod NotYet
 pub mod Rules
 pub mod Fields
 pub mod Values

@@ -8,10 +8,9 @@ use Rattle.mail_base.specs.declared.rule.Template.{Template}
 use Rattle.mail_base.specs.declared.rule.Rule.{Rule}
 use Rattle.addr_tokens.specs.declared.lexeme.Lexeme.{Lexeme}
 use Rattle.cf_reader.specs.declared.fault.Fault.{Fault}
-use Rattle.cf_reader.specs.declared.fault.Fault.TheVariants.{NoTab, BadPattern, TooManyMetas, BadReference, NotYet}
+use Rattle.cf_reader.specs.declared.fault.Fault.TheVariants.{NoTab, BadPattern, TooManyMetas, BadReference}
 use Rattle.cf_reader.specs.Reads.{first_fault}
 use Rattle.cf_reader.specs.Sides.{is_tab, left_of, right_of, lexemes_in, items_of, template_of, is_binding, is_bad_reference}
-use Rattle.cf_reader.specs.NotYet.{is_later_rule}
 
 -- no tab, or nothing before it
 abbrev pub lacks_tab : List ℕ → Bool
@@ -48,12 +47,9 @@ has_many_metas halves = nat_lt 20 (count_by is_meta (rule_in halves).left)
 abbrev pub refers_badly : Halves → Bool
 refers_badly halves = list_any (is_bad_reference (count_by is_binding (unwrap_or halves.left []))) (unwrap_or halves.right [])
 
-abbrev pub is_not_yet : Halves → Bool
-is_not_yet halves = is_later_rule (rule_in halves)
-
 -- the faults of two sides, in order
 abbrev pub faults_in : Halves → List (Fault × Bool)
-faults_in halves = (BadPattern, is_bad_pattern halves) ∷ (TooManyMetas, has_many_metas halves) ∷ (BadReference, refers_badly halves) ∷ (NotYet, is_not_yet halves) ∷ []
+faults_in halves = (BadPattern, is_bad_pattern halves) ∷ (TooManyMetas, has_many_metas halves) ∷ (BadReference, refers_badly halves) ∷ []
 
 abbrev pub halves_of : List ℕ → List (List ℕ × List ℕ) → List ℕ → Halves
 halves_of line macros operators = sides (lexemes_in macros operators (left_of line)) (lexemes_in macros operators (right_of line))

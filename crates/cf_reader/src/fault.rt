@@ -47,9 +47,6 @@ pub enum Fault {
     /// An F line without `-o` names a file that isn't there.
     #[error("NoSuchFile")]
     NoSuchFile,
-    /// A side of a rule holds a construct that isn't run yet.
-    #[error("NotYet")]
-    NotYet,
 }
 
 /// Why no configuration was read.

@@ -23,7 +23,6 @@ mod mailer_line;
 mod map_line;
 mod map_lines;
 mod name;
-mod not_yet;
 mod option_line;
 mod option_value;
 mod pieces;

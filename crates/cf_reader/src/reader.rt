@@ -1,8 +1,7 @@
-ghost use Rattle.std.specs.Prelude.{◌≡◌, ◌<◌, ◌^◌, length, false, IfOk, IfSome, OnOk};
+ghost use Rattle.std.specs.Prelude.{◌≡◌, ◌<◌, ◌^◌, length, IfSome};
 ghost use Rattle.cf_reader.specs.Configuration.{configuration};
 ghost use Rattle.cf_reader.specs.Faults.{fault};
 ghost use Rattle.cf_reader.specs.Letters.{after_line, ignored};
-ghost use Rattle.cf_reader.specs.NotYet.{holds_later};
 ghost use Rattle.cf_reader.specs.Reads.{Asks, Gives, is_files_fault, is_failed};
 ghost use Rattle.cf_reader.specs.inner.Steps as spec;
 ghost use Rattle.cf_reader.specs.inner.Steps.{Goes, Seeks, Steps, fault_at, fault_of_other};
@@ -21,7 +20,6 @@ pub fn read<F: Files>(alloc: Global, text: &Text, files: &mut F) -> Result<Confi
     requires { length text.now < 2 ^ 32 }
     ensures told { IfSome (F.seen files.old).map (λ map. Gives result (configuration map text.now)) }
     ensures asks { Asks (F.seen files.old) (F.seen files.new) (is_failed result) }
-    ensures runs { IfOk result (λ config. holds_later config.book ≡ false) }
 {
     let lines = logical_lines(alloc, text.bytes())?;
     let mut state = State::new(alloc)?;
@@ -40,7 +38,6 @@ fn step<F: Files>(
 ) -> Result<(), CfFault>
     ensures told { IfSome (F.seen files.old).map (λ map. Goes result line.now.number (fault map state.old line.now.text) (after_line map line.now state.old) state.new) }
     ensures asks { Asks (F.seen files.old) (F.seen files.new) (is_failed result) }
-    ensures runs { OnOk result (holds_later state.old.config.book ≡ false → holds_later state.new.config.book ≡ false) }
 {
     match state.take(alloc, files, line) {
         Ok(()) => Ok(()),
@@ -68,7 +65,6 @@ impl State {
     ) -> Result<(), LineStop>
         ensures told { IfSome (F.seen files.old).map (λ map. Seeks result (fault map self.old line.now.text) (after_line map line.now self.old) self.new) }
         ensures asks { Asks (F.seen files.old) (F.seen files.new) (is_files_fault result) }
-        ensures runs { OnOk result (holds_later self.old.config.book ≡ false → holds_later self.new.config.book ≡ false) }
     {
         let Some((letter, text)) = line.text.bytes().split_first() else {
             return Err(LineStop::Refused(Fault::UnknownLine));

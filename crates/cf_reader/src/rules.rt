@@ -4,15 +4,13 @@ ghost use Rattle.std.specs.List.{prefix_len};
 ghost use Rattle.cf_macros.specs.Expansion.{rule_value};
 ghost use Rattle.cf_reader.specs.Reads.{Reads, first_fault};
 ghost use Rattle.cf_reader.specs.Sides as sides;
-ghost use Rattle.cf_reader.specs.NotYet.{is_later_rule};
-ghost use Rattle.cf_reader.specs.declared.fault.Fault.TheVariants.{TooManyMetas, BadReference, NotYet};
+ghost use Rattle.cf_reader.specs.declared.fault.Fault.TheVariants.{TooManyMetas, BadReference};
 ghost use Rattle.mail_base.specs.Metas.{is_meta};
 ghost use Rattle.cf_reader.specs.Rules as spec;
 ghost use Rattle.cf_reader.specs.inner.Making.{Makes, stop_of_expansion, stop_of_scan};
 
 use crate::fault::{Fault, LineStop};
 use crate::left_sides::{binding_count, items_of};
-use crate::not_yet::is_later_rule;
 use crate::right_sides::{refers_badly, template_of};
 use addr_tokens::{Lexeme, ScanFault, computed, lexemes};
 use bstr::ByteSlice;
@@ -59,15 +57,12 @@ fn joined(items: Seq<Item>, right: Template) -> Result<Rule, LineStop>
     }
 }
 
-// The rule, unless a reference of it is bad or it isn't run yet.
+// The rule, unless a reference of it is bad.
 fn judged(rule: Rule, refers_badly: bool) -> Result<Rule, LineStop>
-    ensures { Reads result (first_fault ((BadReference, refers_badly) ∷ (NotYet, is_later_rule rule) ∷ [])) rule }
+    ensures { Reads result (first_fault ((BadReference, refers_badly) ∷ [])) rule }
 {
     if refers_badly {
         return Err(LineStop::Refused(Fault::BadReference));
-    }
-    if is_later_rule(&rule) {
-        return Err(LineStop::Refused(Fault::NotYet));
     }
     Ok(rule)
 }

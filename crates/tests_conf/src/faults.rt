@@ -78,12 +78,12 @@ static ONE_LINE: [Row; 77] = [
     (b"R$*\t$1\nO OperatorChars=.", "", b"line 2: OperatorsLate"),
     (b"Fw /none", "", b"line 1: NoSuchFile"),
     (b"Fw-o /none", "", b""),
-    (b"R$=w\t$1", "", b"line 1: NotYet"),
-    (b"R$@\tx", "", b"line 1: NotYet"),
-    (b"R$*\t$>3 $1", "", b"line 1: NotYet"),
-    (b"R$*\t$[ $1 $]", "", b"line 1: NotYet"),
-    (b"R$*\t$(a $1 $)", "", b"line 1: NotYet"),
-    (b"R$*\t$&x", "", b"line 1: NotYet"),
+    (b"R$=w\t$1", "", b""),
+    (b"R$@\tx", "", b""),
+    (b"R$*\t$>3 $1", "", b""),
+    (b"R$*\t$[ $1 $]", "", b""),
+    (b"R$*\t$(a $1 $)", "", b""),
+    (b"R$*\t$&x", "", b""),
 ];
 
 // Of two faults of one line the first in their order comes, and of two lines the first.

@@ -1,7 +1,7 @@
 // What stands in a configuration, as texts.
 use mail_base::{
-    Classes, Go, Group, HeaderLine, Item, Mailer, MapClass, MapLine, Member, NoMemory, Options,
-    Piece, Precedence, Rule, RuleSet, Step, Text, Token,
+    Classes, Go, Group, HeaderLine, Item, Mailer, MapClass, MapLine, Mark, Member, NoMemory,
+    Options, Piece, Precedence, Rule, RuleSet, Seq, Step, Text, Token,
 };
 
 /// Puts a number.
@@ -53,7 +53,17 @@ fn put_token(out: &mut Text, token: &Token) -> Result<(), NoMemory> {
         Token::Word(text) => put_word(out, text.bytes()),
         Token::Quoted(text) => put_word(out, text.bytes()),
         Token::Op(byte) => put_word(out, &[*byte]),
-        Token::Sign(_) => put_word(out, b"$|"),
+        Token::Sign(mark) => put_mark(out, *mark),
+    }
+}
+
+fn put_mark(out: &mut Text, mark: Mark) -> Result<(), NoMemory> {
+    match mark {
+        Mark::Alt => put_word(out, b"$|"),
+        Mark::Mailer => put_word(out, b"$#"),
+        Mark::Host => put_word(out, b"$@"),
+        Mark::User => put_word(out, b"$:"),
+        Mark::End => put_word(out, b"$."),
     }
 }
 
@@ -225,19 +235,77 @@ fn put_item(out: &mut Text, item: &Item) -> Result<(), NoMemory> {
         Item::Any => put_word(out, b"$*"),
         Item::More => put_word(out, b"$+"),
         Item::One => put_word(out, b"$-"),
+        Item::Empty => put_word(out, b"$@"),
         Item::Exact(token) => put_token(out, token),
-        _ => put_word(out, b"?"),
+        Item::InClass(name) => put_name(out, b"$=", name),
+        Item::NotInClass(name) => put_name(out, b"$~", name),
+        Item::Late(name) => put_name(out, b"$&", name),
     }
 }
 
-fn put_step(out: &mut Text, step: &Step) -> Result<(), NoMemory> {
-    match step {
-        Step::Plain(Piece::Give(token)) => put_token(out, token),
-        Step::Plain(Piece::Cut(number)) => {
+// A sign, and a name in braces.
+fn put_name(out: &mut Text, sign: &[u8], name: &Text) -> Result<(), NoMemory> {
+    put_word(out, sign)?;
+    out.push(b'{')?;
+    out.extend(name.bytes())?;
+    out.push(b'}')
+}
+
+fn put_piece(out: &mut Text, piece: &Piece) -> Result<(), NoMemory> {
+    match piece {
+        Piece::Give(token) => put_token(out, token),
+        Piece::Cut(number) => {
             out.extend(b" $")?;
             put_number(out, *number as u64)
         }
-        _ => put_word(out, b"?"),
+        Piece::Late(name) => put_name(out, b"$&", name),
+    }
+}
+
+fn put_pieces(out: &mut Text, pieces: &[Piece]) -> Result<(), NoMemory> {
+    for piece in pieces {
+        put_piece(out, piece)?;
+    }
+    Ok(())
+}
+
+// Arguments, each behind a semicolon.
+fn put_args(out: &mut Text, args: &[Seq<Piece>]) -> Result<(), NoMemory> {
+    for arg in args {
+        out.push(b';')?;
+        put_pieces(out, arg.items())?;
+    }
+    Ok(())
+}
+
+// A default, behind a colon.
+fn put_fallback(out: &mut Text, fallback: &Option<Seq<Piece>>) -> Result<(), NoMemory> {
+    let Some(pieces) = fallback else {
+        return Ok(());
+    };
+    out.push(b':')?;
+    put_pieces(out, pieces.items())
+}
+
+// A look-up: its map, its key, its arguments and its default.
+fn put_step(out: &mut Text, step: &Step) -> Result<(), NoMemory> {
+    match step {
+        Step::Plain(piece) => put_piece(out, piece),
+        Step::Call => put_word(out, b"$>"),
+        Step::Lookup {
+            name,
+            key,
+            args,
+            fallback,
+        } => {
+            put_word(out, b"(")?;
+            out.extend(name.bytes())?;
+            out.push(b'|')?;
+            put_pieces(out, key.items())?;
+            put_args(out, args.items())?;
+            put_fallback(out, fallback)?;
+            out.push(b')')
+        }
     }
 }
 

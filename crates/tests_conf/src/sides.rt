@@ -50,29 +50,34 @@ static PATTERNS: [Row; 37] = [
     ),
 ];
 
-static LATER: [Row; 18] = [
-    (b"R$~[ : $+\t$2", "", b"line 1: NotYet"),
-    (b"R$&{x y}\t", "", b"line 1: NotYet"),
-    (b"R$#\tx", "", b"line 1: NotYet"),
-    (b"R$| $*\t$1", "", b"line 1: NotYet"),
-    (b"R$:\tx", "", b"line 1: NotYet"),
-    (b"Rx $.\tx", "", b"line 1: NotYet"),
-    (b"R$*\t$# local $: $1", "", b"line 1: NotYet"),
-    (b"R$*\t$@ $:", "", b"line 1: NotYet"),
-    (b"R$*\tx $@ y", "", b"line 1: NotYet"),
-    (b"R$*\t$|", "", b"line 1: NotYet"),
-    (b"R$*\t$[ $]", "", b"line 1: NotYet"),
-    (b"R$*\t$(a $)", "", b"line 1: NotYet"),
+// The constructs of both sides, as rules have them.
+static CONSTRUCTS: [Row; 18] = [
+    (b"R$~[ : $+\t$2", "R0", b" $~{[} : $+ -> $2;"),
+    (b"R$&{x y}\t", "R0", b" $&{x y} ->;"),
+    (b"R$#\tx", "R0", b" $# -> x;"),
+    (b"R$| $*\t$1", "R0", b" $| $* -> $1;"),
+    (b"R$:\tx", "R0", b" $: -> x;"),
+    (b"Rx $.\tx", "R0", b" x $. -> x;"),
+    (b"R$*\t$# local $: $1", "R0", b" $* -> $# local $: $1;"),
+    (b"R$*\t$@ $:", "R0", b" $* -> $@ $:;"),
+    (b"R$*\tx $@ y", "R0", b" $* -> x $@ y;"),
+    (b"R$*\t$|", "R0", b" $* -> $|;"),
+    (b"R$*\t$[ $]", "R0", b" $* -> (host|);"),
+    (b"R$*\t$(a $)", "R0", b" $* -> (a|);"),
     (
         b"R$*\t$(\"a\" $# $@ $@ $| $: $@ $: $.$)",
-        "",
-        b"line 1: NotYet",
+        "R0",
+        b" $* -> (\"a\"| $#;; $|: $@ $: $.);",
     ),
-    (b"R$*\t$(@ $1$)$[$1$]", "", b"line 1: NotYet"),
-    (b"R$*\t$>$1", "", b"line 1: NotYet"),
-    (b"R$*\t$>3 $>4 $1", "", b"line 1: NotYet"),
-    (b"Dx$&y\nR$x\ty", "", b"line 2: NotYet"),
-    (b"Dx$*\nR$x\t$1 $>3", "", b"line 2: NotYet"),
+    (
+        b"R$=w\t$(@ $1$)$[$1$]",
+        "R0",
+        b" $={w} -> (@| $1) (host| $1);",
+    ),
+    (b"R$@\t$>$&x", "R0", b" $@ -> $> $&{x};"),
+    (b"R$*\t$>3 $>4 $1", "R0", b" $* -> $> 3 $> 4 $1;"),
+    (b"Dx$&y\nR$x\ty", "R0", b" $&{y} -> y;"),
+    (b"Dx$*\nR$x\t$1 $>3", "R0", b" $* -> $1 $> 3;"),
 ];
 
 static RULES: [Row; 9] = [
@@ -102,8 +107,8 @@ fn sides_are_refused_where_a_construct_cannot_stand(rt: HostRuntime) -> Result<(
 }
 
 #[test]
-fn what_is_not_run_yet_comes_last(rt: HostRuntime) -> Result<(), Fail> {
-    assert_eq!(rt; wrong(rt.alloc(), &LATER)?, None);
+fn sides_hold_each_construct(rt: HostRuntime) -> Result<(), Fail> {
+    assert_eq!(rt; wrong(rt.alloc(), &CONSTRUCTS)?, None);
     Ok(())
 }
 

@@ -10,7 +10,7 @@ static WORDS: [(WordFault, &str); 3] = [
     (WordFault::NoMemory, "no memory"),
 ];
 
-static LINES: [(Fault, &str); 14] = [
+static LINES: [(Fault, &str); 13] = [
     (Fault::UnknownLine, "UnknownLine"),
     (Fault::NoTab, "NoTab"),
     (Fault::BadPattern, "BadPattern"),
@@ -24,7 +24,6 @@ static LINES: [(Fault, &str); 14] = [
     (Fault::BadHeader, "BadHeader"),
     (Fault::OperatorsLate, "OperatorsLate"),
     (Fault::NoSuchFile, "NoSuchFile"),
-    (Fault::NotYet, "NotYet"),
 ];
 
 fn says(alloc: Global, fault: &impl Display, text: &str) -> Result<bool, Fail> {

@@ -162,8 +162,8 @@ const ROWS: &[Row] = &[
         ..REFUSED
     },
     Row {
-        config: b"S1\n\nDx\nR$=w\t$1\n",
-        place: b"line 4 NotYet",
+        config: b"S1\n\nDx\nR$=w\t$(a $1\n",
+        place: b"line 4 BadPattern",
         ..REFUSED
     },
     Row {

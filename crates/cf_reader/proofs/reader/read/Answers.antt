@@ -1,10 +1,7 @@
 use Rattle.std.proofs.Common.{◌≡◌, ◌∙◌, ap}
 use Rattle.std.proofs.lemmas.Result.{err_from_is_err_and}
-use Rattle.mail_base.specs.declared.config.Config.{Config}
-use Rattle.cf_reader.specs.declared.state.State.{State}
 use Rattle.cf_reader.specs.Configuration.{configuration, read_lines}
 use Rattle.cf_reader.specs.LogicalLines.{logical_lines}
-use Rattle.cf_reader.specs.NotYet.{holds_later}
 use Rattle.cf_reader.proofs.ReadingLemmas.{if_all, asks_none, asks_join, read_stops, read_on}
 use Rattle.cf_reader.proofs.reader.read.Goals as goal
 
@@ -13,7 +10,6 @@ loop-line-init g c =
     let lines : c.items-line-items.result.now ≡ logical_lines c.args.text.now = c.items-line-items.ensures ∙ c.in_ok-lines.ensures ∙ ap logical_lines c.bytes.ensures in record {
       rest = if_all {P = λ map. read_lines map c.in_ok-state.state c.items-line-items.result.now ≡ configuration map c.args.text.now} (g.F.Files.seen c.args.files.now).map (λ map i. read_lines map (c.in_ok-state.ensures i) (lines i));
       asks = asks_none (g.F.Files.seen c.args.files.now);
-      runs = ap (λ (s : State). holds_later s.config.book) c.in_ok-state.ensures;
     }
 
 pub returns-in_err-step-clause-told : goal.returns-in_err-step-clause-told
@@ -28,8 +24,4 @@ loop-line-preserved g c = record {
       read_on (g.F.Files.seen c.args.files.now) (g.F.Files.seen c.loop-line.files) c.loop-line.state c.step.new.state c.items-line-items.result.now c.loop-line.line-index c.line-item.result (λ map. configuration map c.args.text.now)
       c.loop-line-test.true c.line-item.is c.loop-line.invariant.asks c.loop-line.invariant.rest c.in_ok-step.ensures.told;
   asks = asks_join (g.F.Files.seen c.args.files.now) (g.F.Files.seen c.loop-line.files) (g.F.Files.seen c.step.new.files) _ c.loop-line.invariant.asks c.in_ok-step.ensures.asks;
-  runs = c.in_ok-step.ensures.runs c.loop-line.invariant.runs;
 }
-
-pub returns-clause-runs : goal.returns-clause-runs
-returns-clause-runs g c = ap (λ (config : Config). holds_later config.book) c.in_ok-finish.ensures ∙ c.loop-line.invariant.runs
