@@ -7,7 +7,6 @@ use Rattle.smtp_lines.specs.declared.line.Line.{Line}
 use Rattle.smtp_lines.specs.declared.line.Line.TheVariants.{Data, DataEnd}
 use Rattle.smtp_receive.specs.Dialogue.{Heard, Exchange, Answer, Greets, Grants, Closes, Gives, Takes as Passes, answer_to}
 use Rattle.smtp_receive.specs.Replies.{shown_host}
-use Rattle.smtp_receive.specs.Splits.{is_large_block, is_too_large}
 use Rattle.smtp_receive.proofs.Examples.{peer, helo, mail, rcpt, data_line, subject, body, quit, message, begun, given, granted, taken as whole}
 use Rattle.spool_store.specs.Tables.{Table, after, start}
 use Rattle.mail_core.specs.declared.serving.Site.{Site}
@@ -80,7 +79,7 @@ closing = Sends 1 (codes "221 2.0.0 localhost closing connection\r\n") true ∷ 
 -- the whole session, in one piece
 plain_piece : Comes site 5 start guest (data_choices ++ kept ∷ kept ∷ []) stored_now (given_lines ++ input DataEnd false ∷ input quit false ∷ []) (plain quit Closes ∷ plain DataEnd (Gives message) ∷ whole)
     (given_effects ++ Commits (accept_of site 5 message) ∷ Sends 1 (codes "250 2.0.0 w000000000001 Message accepted for delivery\r\n") true ∷ closing) Leaves
-unfolding digits is_too_large is_large_block most_command most_message most_headers most_path most_local_part most_domain shown_host last_id
+unfolding digits most_command most_message most_headers most_path most_local_part most_domain shown_host last_id
 plain_piece =
     let dot = comes_more site 5 start guest _ start _ _ _ DataEnd up_to_the_dot refl (Gives message) true refl refl in
     comes_more site 5 start guest _ stored_now _ _ _ quit dot refl Closes true refl refl
@@ -180,7 +179,7 @@ line_of bytes more table heard before effects t line answer within next left is 
 
 by_bytes_to_the_dot : Bytes (codes "HELO c.example\r\nMAIL FROM:<bob@c.example>\r\nRCPT TO:<ann@mx.example>\r\nDATA\r\nSubject: hi\r\n\r\nhello\r\n.\r\n") stored_now (given_lines ++ input DataEnd false ∷ []) (plain DataEnd (Gives message) ∷ whole)
     (first_effects ++ given_effects ++ Commits (accept_of site 5 message) ∷ Sends 1 (codes "250 2.0.0 w000000000001 Message accepted for delivery\r\n") true ∷ [])
-unfolding digits is_too_large is_large_block most_command most_message most_headers most_path most_local_part most_domain shown_host last_id
+unfolding digits most_command most_message most_headers most_path most_local_part most_domain shown_host last_id
 by_bytes_to_the_dot =
     let one = line_of [] (codes "HELO c.example\r") start [] [] first_effects opening helo Greets refl refl refl refl refl refl in
     let two = line_of _ (codes "MAIL FROM:<bob@c.example>\r") start _ _ _ one mail sender_ok refl refl refl refl refl refl in

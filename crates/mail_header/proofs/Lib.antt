@@ -1,8 +1,8 @@
 mod FoundLemmas
 mod GatherLemmas
-mod GrammarLemmas
+pub mod GrammarLemmas
 mod MadeLemmas
 mod SearchLemmas
-mod SizeLemmas
-mod SplitLemmas
+pub mod SizeLemmas
+pub mod SplitLemmas
 mod WholeLemmas

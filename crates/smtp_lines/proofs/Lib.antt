@@ -1,4 +1,4 @@
-mod CommandLemmas
+pub mod CommandLemmas
 pub mod EndLemmas
 mod FoundLemmas
 pub mod GivenLemmas

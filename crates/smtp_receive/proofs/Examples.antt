@@ -8,7 +8,6 @@ use Rattle.smtp_lines.specs.declared.line.Line.TheVariants.{Command, Data, DataE
 use Rattle.smtp_receive.specs.declared.received.Received.{Received}
 use Rattle.smtp_receive.specs.declared.reply.Reply.TheVariants.{NeedRcpt, RecipientOk, SenderOk}
 use Rattle.smtp_receive.specs.Dialogue.{Answer, Says, Greets, Grants, Closes, Gives, Takes, Exchange, Heard, answer_heard, dialogue, exchanges, with_heard}
-use Rattle.smtp_receive.specs.Splits.{is_large_block, is_too_large}
 
 abbrev pub peer : List ℕ
 peer = codes "10.0.0.1"
@@ -91,7 +90,7 @@ abbrev pub taken : List Exchange
 taken = exchange body (Some Takes) ∷ exchange (Data []) (Some Takes) ∷ granted
 
 pub ends : answer_heard peer taken (heard DataEnd) ≡ Some (Gives message)
-unfolding is_too_large is_large_block most_message most_headers most_path most_local_part
+unfolding most_message most_headers most_path most_local_part
 ends = refl
 
 plain_session : dialogue peer (begun ++ heard (Data []) ∷ heard body ∷ heard DataEnd ∷ heard quit ∷ [])

@@ -1,12 +1,11 @@
 -- The messages of a session have their forms.
-use Rattle.std.proofs.Common.{◌≡◌, ℕ, zero, suc, ◌+◌, ◌-◌, ◌≤◌, Bool, true, false, cond, not, ◌&&◌, ◌==◌, List, [], ◌∷◌, ◌++◌, length, take, drop, Option, Some, None, is_some, Result, Ok, Err, IfOk, refl, sym, ap, subst, ◌∙◌, ⊎_elim, inl, inr, unwrap_or, codes, arith}
+use Rattle.std.proofs.Common.{◌≡◌, ℕ, zero, suc, ◌+◌, ◌-◌, Bool, true, false, cond, ◌&&◌, ◌||◌, ◌==◌, List, [], ◌∷◌, ◌++◌, length, drop, Option, Some, None, is_some, Result, Ok, Err, IfOk, refl, sym, ap, subst, ◌∙◌, ⊎_elim, inl, inr, unwrap_or, codes, arith}
 use Rattle.std.specs.Prelude.{All, IfSome, slice_index, nat_lt}
-use Rattle.std.specs.Str.{str_eq_ignore_ascii_case}
-use Rattle.std.specs.List.{list_any, list_all, AllByRecursion, prefix_len, suffix_len, position_or_len}
+use Rattle.std.specs.List.{list_any, list_all, AllByRecursion, prefix_len, suffix_len, position_or_len, after_first}
 use Rattle.std.proofs.lemmas.Bool.{false≢true, cond_both, or_parts, or_cases, and_parts, eqb-true, ltb-false}
 use Rattle.std.proofs.lemmas.List.{get_or_push, length_push}
 use Rattle.std.proofs.lemmas.List.Elements.{All-nil, All-cons, All-head, All-tail, All-push, All-take, All-drop, All-weaker, All-from_recursion}
-use Rattle.mail_base.specs.Limits.{most_message}
+use Rattle.mail_base.specs.Limits.{most_message, most_headers}
 use Rattle.mail_base.specs.Texts.{is_blank, IsLine, IsBracketed, IsBlank, IsHeader, crlf}
 use Rattle.smtp_lines.specs.declared.line.Line.{Line}
 use Rattle.smtp_lines.specs.declared.line.Line.TheVariants.{Command, TooLong, Data as DataLine, DataEnd}
@@ -14,15 +13,19 @@ use Rattle.smtp_lines.specs.Stream.{verb_of}
 use Rattle.mail_base.specs.declared.message.Kept.{Kept}
 use Rattle.smtp_receive.specs.declared.received.Received.{Received}
 use Rattle.smtp_receive.specs.declared.reply.Reply.TheVariants.{SenderOk, RecipientOk, MessageTooLarge, HeaderTooLarge}
-use Rattle.smtp_receive.specs.declared.command.Verb.{Verb}
-use Rattle.smtp_receive.specs.declared.command.Verb.TheVariants.{Helo, Mail, Rcpt, Data, Quit}
-use Rattle.smtp_receive.specs.declared.command.LineFault.{LineFault}
-use Rattle.smtp_receive.specs.declared.command.LineFault.TheVariants.{BadByte, ArgumentNeeded, NoArgument, Syntax, PathTooLong, Parameter}
-use Rattle.smtp_receive.specs.PathEnds.{path_end, parts_at, angle_parts}
-use Rattle.smtp_receive.specs.Paths.{Parts}
-use Rattle.smtp_receive.specs.Commands.{Order, Greet, From, To, Begin, End, order_of, order_by, ordered, lone_order, is_bad_byte, argument_of, without_blanks, path_after, path_parts, word_end, checked, without_route, has_route, is_colon, is_parted, is_too_long, is_nothing, verb_named}
-use Rattle.smtp_receive.specs.Splits.{is_plain, is_name_byte, is_header, is_header_by, is_continuation, belongs, block_of, goes_on, joined, headers_in, headers_of, body_of, size_of, is_too_large, is_large_block}
-use Rattle.smtp_receive.specs.Dialogue.{Answer, Says, Greets, Grants, Closes, Gives, Takes, Exchange, Heard, bracketed, ends, sender_by, recipient_by, helo_by, sender_told, recipient_told, helo_told, latest, sender_in, recipient_in, lines_in, helo_in, path_from, path_to, argument_in, asked, order_in, or_else, command_answer, message_answer, end_answer, answer_to, exchanges}
+use Rattle.mail_base.specs.declared.command.Verb.{Verb}
+use Rattle.mail_base.specs.declared.command.Verb.TheVariants.{Helo, Mail, Rcpt}
+use Rattle.mail_base.specs.declared.command.LineFault.{LineFault}
+use Rattle.mail_base.specs.declared.command.LineFault.TheVariants.{Parameter}
+use Rattle.smtp_lines.specs.Paths.{HasPath, IsWritten, in_angles, bare, has_route, is_colon, without_route}
+use Rattle.smtp_lines.specs.Commands.{Order, Greet as HasGreet, Extend, From as HasFrom, To as HasTo, Begin as HasBegin, Reset, Wait, End as HasEnd, Verify, Expand, Explain, is_bad_byte, argument_of, without_blanks, Says as HasVerb, IsCommand, helo, ehlo, mail, rcpt, data_, rset, noop, quit, vrfy, expn, help, IsRead}
+use Rattle.smtp_lines.specs.inner.Reading.{order_of}
+use Rattle.smtp_lines.proofs.CommandLemmas.{order_read}
+use Rattle.mail_header.specs.Headers.{is_plain, is_name_byte, is_header, is_header_by, is_continuation}
+use Rattle.mail_header.specs.Gatherings.{is_above}
+use Rattle.mail_header.specs.inner.Lines.{belongs, block_of, goes_on, joined, headers_in, headers_of, body_of, size_of}
+use Rattle.smtp_receive.specs.Requests.{Request, Greet, From, To, Begin, End, is_served, request_in, request_by, request_of}
+use Rattle.smtp_receive.specs.Dialogue.{Answer, Says, Greets, Grants, Closes, Gives, Takes, Exchange, Heard, bracketed, ends, sender_by, recipient_by, helo_by, sender_told, recipient_told, helo_told, latest, sender_in, recipient_in, lines_in, helo_in, path_from, path_to, argument_in, asked, read_in, or_else, command_answer, message_answer, end_answer, answer_to, exchanges}
 use Rattle.smtp_receive.specs.Sessions.{answer_of}
 use Rattle.smtp_receive.specs.Forms.{IsFormed}
 
@@ -46,80 +49,91 @@ argument_line text line =
     let rest : List ℕ = without_blanks back in
     All-take NotLf (length rest - suffix_len is_blank rest) rest (All-drop NotLf (prefix_len is_blank back) back (All-drop NotLf (length (verb_of text)) text line))
 
-angle_line : (text : List ℕ) (o : Option ℕ) → IsLine text → IfSome (parts_at text o) (λ parts. IsLine parts.front)
-angle_line text None line = tt
-angle_line text (Some n) line = All-take NotLf n text line
+front_of : (one other : List ℕ) → IsLine (one ++ other) → IsLine one
+front_of [] other line = All-nil NotLf
+front_of (b ∷ one) other line = All-cons NotLf b one (All-head NotLf b (one ++ other) line) (front_of one other (All-tail NotLf b (one ++ other) line))
 
-front_line : (text : List ℕ) → IsLine text → IfSome (path_parts text) (λ parts. IsLine parts.front)
-front_line [] line = tt
-front_line (b ∷ text) line =
-    let whole : Parts = record { front = take (word_end (b ∷ text)) (b ∷ text); back = drop (word_end (b ∷ text)) (b ∷ text) } in
-    cond_both (b == 60) (angle_parts text) (Some whole) (λ o. IfSome o (λ parts. IsLine parts.front))
-    (λ angle. angle_line text (path_end text 0) (All-tail NotLf b text line))
-    (λ none. All-take NotLf (word_end (b ∷ text)) (b ∷ text) line)
+back_of : (one other : List ℕ) → IsLine (one ++ other) → IsLine other
+back_of [] other line = line
+back_of (b ∷ one) other line = back_of one other (All-tail NotLf b (one ++ other) line)
+
+inside_line : (written inside : List ℕ) → IsWritten written inside → IsLine written → IsLine inside
+inside_line _ _ (in_angles inside is) line = front_of inside (62 ∷ []) (All-tail NotLf 60 (inside ++ 62 ∷ []) line)
+inside_line _ _ (bare b more other blank) line = line
 
 route_line : (path : List ℕ) → IsLine path → IsLine (without_route path)
 route_line path line =
-    cond_both (has_route path (position_or_len is_colon path)) (drop (position_or_len is_colon path + 1) path) path IsLine
+    cond_both (has_route path (position_or_len is_colon path)) (after_first is_colon path) path IsLine
     (λ route. All-drop NotLf (position_or_len is_colon path + 1) path line)
     (λ none. line)
 
-checked_line : (verb : Verb) (o : Option Parts) → IfSome o (λ parts. IsLine parts.front) → IfOk (checked verb o) IsLine
-checked_line verb None line = tt
-checked_line verb (Some parts) line =
-    let path : List ℕ = without_route parts.front in
-    let whole : Result (List ℕ) LineFault = cond (is_nothing parts.back) (Ok path) (Err (Parameter verb)) in
-    let short : Result (List ℕ) LineFault = cond (is_too_long path) (Err (PathTooLong verb)) whole in
-    cond_both (not (is_parted parts.back)) (Err (Syntax verb)) short (λ r. IfOk r IsLine) (λ h. tt)
-    (λ h. cond_both (is_too_long path) (Err (PathTooLong verb)) whole (λ r. IfOk r IsLine) (λ h. tt)
-    (λ h. cond_both (is_nothing parts.back) (Ok path) (Err (Parameter verb)) (λ r. IfOk r IsLine) (λ h. route_line parts.front line) (λ h. tt)))
+path_line : (keyword argument path rest : List ℕ) → HasPath keyword argument path rest → IsLine argument → IsLine path
+path_line keyword argument path rest has line =
+    let whole : IsLine (has.word ++ (has.gap ++ (has.written ++ rest))) = subst IsLine has.whole line in
+    let behind = back_of has.gap (has.written ++ rest) (back_of has.word (has.gap ++ (has.written ++ rest)) whole) in
+    subst IsLine (sym has.unrouted) (route_line has.inside (inside_line has.written has.inside has.is (front_of has.written rest behind)))
 
-after_line : (verb : Verb) (keyword argument : List ℕ) → IsLine argument → IfOk (path_after verb keyword argument) IsLine
-after_line verb keyword argument line =
-    let rest : List ℕ = drop (length keyword) argument in
-    cond_both (str_eq_ignore_ascii_case (take (length keyword) argument) keyword) (checked verb (path_parts (without_blanks rest))) (Err (Syntax verb)) (λ r. IfOk r IsLine)
-    (λ met. checked_line verb (path_parts (without_blanks rest)) (front_line (without_blanks rest) (All-drop NotLf (prefix_len is_blank rest) rest (All-drop NotLf (length keyword) argument line))))
-    (λ unmet. tt)
+says_line : (text : List ℕ) (verb : Verb) (argument : List ℕ) → HasVerb text verb argument → IsLine argument
+says_line text verb argument says = subst IsLine (sym says.argument_is) (argument_line text (good_line text says.clean))
 
 -- the text of an order is of one line
 abbrev OrderLine : Order → Type 0
-OrderLine (Greet argument) = IsLine argument
-OrderLine (From path) = IsLine path
-OrderLine (To path) = IsLine path
-OrderLine Begin = Unit {0}
-OrderLine End = Unit {0}
+OrderLine (HasGreet argument) = IsLine argument
+OrderLine (HasFrom path size eight) = IsLine path
+OrderLine (HasTo path) = IsLine path
+OrderLine _ = Unit {0}
 
-from_line : (r : Result (List ℕ) LineFault) → IfOk r IsLine → IfOk (ordered From r) OrderLine
-from_line (Ok path) line = line
-from_line (Err fault) line = tt
+command_line : (text : List ℕ) (order : Order) → IsCommand text order → OrderLine order
+command_line text _ (helo argument says some) = says_line text Helo argument says
+command_line text _ (ehlo argument says some) = tt
+command_line text _ (mail argument path rest size eight says has short given) = path_line (codes "FROM:") argument path rest has (says_line text Mail argument says)
+command_line text _ (rcpt argument path says has short) = path_line (codes "TO:") argument path [] has (says_line text Rcpt argument says)
+command_line text _ (data_ says) = tt
+command_line text _ (rset says) = tt
+command_line text _ (noop argument says) = tt
+command_line text _ (quit says) = tt
+command_line text _ (vrfy argument says some) = tt
+command_line text _ (expn argument says) = tt
+command_line text _ (help argument says) = tt
 
-to_line : (r : Result (List ℕ) LineFault) → IfOk r IsLine → IfOk (ordered To r) OrderLine
-to_line (Ok path) line = line
-to_line (Err fault) line = tt
-
-lone_line : (order : Order) (argument : List ℕ) → OrderLine order → IfOk (lone_order order argument) OrderLine
-lone_line order argument line = cond_both (is_nothing argument) (Ok order) (Err NoArgument) (λ r. IfOk r OrderLine) (λ h. line) (λ h. tt)
-
-verb_line : (verb : Option Verb) (argument : List ℕ) → IsLine argument → IfOk (order_by verb argument) OrderLine
-verb_line None argument line = tt
-verb_line (Some Helo) argument line = cond_both (is_nothing argument) (Err ArgumentNeeded) (Ok (Greet argument)) (λ r. IfOk r OrderLine) (λ h. tt) (λ h. line)
-verb_line (Some Mail) argument line = from_line (path_after Mail (codes "FROM:") argument) (after_line Mail (codes "FROM:") argument line)
-verb_line (Some Rcpt) argument line = to_line (path_after Rcpt (codes "TO:") argument) (after_line Rcpt (codes "TO:") argument line)
-verb_line (Some Data) argument line = lone_line Begin argument tt
-verb_line (Some Quit) argument line = lone_line End argument tt
+read_line : (text : List ℕ) (r : Result Order LineFault) → IsRead text r → IfOk r OrderLine
+read_line text (Ok order) is = command_line text order is
+read_line text (Err fault) is = tt
 
 order_line : (text : List ℕ) → IfOk (order_of text) OrderLine
-order_line text =
-    cond_both (list_any is_bad_byte text) (Err BadByte) (order_by (verb_named (verb_of text)) (argument_of text)) (λ r. IfOk r OrderLine)
-    (λ bad. tt)
-    (λ good. verb_line (verb_named (verb_of text)) (argument_of text) (argument_line text (good_line text good)))
+order_line text = read_line text (order_of text) (order_read text)
 
-in_line : (r : Result Order LineFault) → IfOk r OrderLine → IfSome (order_in r) OrderLine
-in_line (Ok order) line = line
+-- the text of a request is of one line
+abbrev RequestLine : Request → Type 0
+RequestLine (Greet argument) = IsLine argument
+RequestLine (From path) = IsLine path
+RequestLine (To path) = IsLine path
+RequestLine Begin = Unit {0}
+RequestLine End = Unit {0}
+
+asks_line : (order : Order) → OrderLine order → IfOk (request_in order) RequestLine
+asks_line (HasGreet argument) line = line
+asks_line (Extend argument) line = tt
+asks_line (HasFrom path size eight) line = cond_both (is_some size || eight) (Err (Parameter Mail)) (Ok (From path)) (λ r. IfOk r RequestLine) (λ h. tt) (λ h. line)
+asks_line (HasTo path) line = line
+asks_line HasBegin line = tt
+asks_line Reset line = tt
+asks_line Wait line = tt
+asks_line HasEnd line = tt
+asks_line Verify line = tt
+asks_line Expand line = tt
+asks_line Explain line = tt
+
+request_line : (served : Bool) (r : Result Order LineFault) → IfOk r OrderLine → IfOk (request_by served r) RequestLine
+request_line served (Ok order) line = asks_line order line
+request_line served (Err fault) line = tt
+
+in_line : (r : Result Request LineFault) → IfOk r RequestLine → IfSome (read_in r) RequestLine
+in_line (Ok request) line = line
 in_line (Err fault) line = tt
 
-asked_line : (line : Line) → IfSome (asked line) OrderLine
-asked_line (Command text) = in_line (order_of text) (order_line text)
+asked_line : (line : Line) → IfSome (asked line) RequestLine
+asked_line (Command text) = in_line (request_of text) (request_line (is_served text) (order_of text) (order_line text))
 asked_line TooLong = tt
 asked_line (DataLine text) = tt
 asked_line DataEnd = tt
@@ -133,29 +147,29 @@ brackets_form path line = record {
   closes = get_or_push (60 ∷ path) 62 0 (length (bracketed path) - 1) (omega (arith, length_push (60 ∷ path) 62));
 }
 
-path_form : (order : Option Order) → IfSome order OrderLine → IfSome (path_from order) IsBracketed
+path_form : (request : Option Request) → IfSome request RequestLine → IfSome (path_from request) IsBracketed
 path_form (Some (From path)) line = brackets_form path line
 path_form _ line = tt
 
-to_form : (order : Option Order) → IfSome order OrderLine → IfSome (path_to order) IsBracketed
+to_form : (request : Option Request) → IfSome request RequestLine → IfSome (path_to request) IsBracketed
 to_form (Some (To path)) line = brackets_form path line
 to_form _ line = tt
 
-argument_form : (order : Option Order) → IfSome order OrderLine → IfSome (argument_in order) IsLine
+argument_form : (request : Option Request) → IfSome request RequestLine → IfSome (argument_in request) IsLine
 argument_form (Some (Greet argument)) line = line
 argument_form _ line = tt
 
-sender_form : (answer : Option Answer) (order : Option Order) → IfSome order OrderLine → IfSome (sender_by answer order) IsBracketed
-sender_form (Some (Says SenderOk)) order line = path_form order line
-sender_form _ order line = tt
+sender_form : (answer : Option Answer) (request : Option Request) → IfSome request RequestLine → IfSome (sender_by answer request) IsBracketed
+sender_form (Some (Says SenderOk)) request line = path_form request line
+sender_form _ request line = tt
 
-recipient_form : (answer : Option Answer) (order : Option Order) → IfSome order OrderLine → IfSome (recipient_by answer order) IsBracketed
-recipient_form (Some (Says RecipientOk)) order line = to_form order line
-recipient_form _ order line = tt
+recipient_form : (answer : Option Answer) (request : Option Request) → IfSome request RequestLine → IfSome (recipient_by answer request) IsBracketed
+recipient_form (Some (Says RecipientOk)) request line = to_form request line
+recipient_form _ request line = tt
 
-greeted_form : (answer : Option Answer) (order : Option Order) → IfSome order OrderLine → IfSome (helo_by answer order) IsLine
-greeted_form (Some Greets) order line = argument_form order line
-greeted_form _ order line = tt
+greeted_form : (answer : Option Answer) (request : Option Request) → IfSome request RequestLine → IfSome (helo_by answer request) IsLine
+greeted_form (Some Greets) request line = argument_form request line
+greeted_form _ request line = tt
 
 either_form : (P : List ℕ → Type 0) (told earlier : Option (List ℕ)) → IfSome told P → IfSome earlier P → IfSome (or_else told earlier) P
 either_form P (Some told) earlier one other = one
@@ -268,10 +282,6 @@ headers_form lines =
 
 -- ---- messages
 
-small_size : (size : ℕ) → is_too_large size ≡ false → size ≤ most_message
-unfolding is_too_large
-small_size size small = ltb-false most_message size small
-
 -- the message of an answer, if it gives one, is formed
 abbrev AnswerFormed : List ℕ → Answer → Type 0
 AnswerFormed peer (Says reply) = Unit {0}
@@ -281,7 +291,7 @@ AnswerFormed peer Closes = Unit {0}
 AnswerFormed peer (Gives message) = IsFormed message peer
 AnswerFormed peer Takes = Unit {0}
 
-command_formed : (peer : List ℕ) (given full : Bool) (order : Result Order LineFault) → AnswerFormed peer (command_answer given full order)
+command_formed : (peer : List ℕ) (given full : Bool) (request : Result Request LineFault) → AnswerFormed peer (command_answer given full request)
 command_formed peer given full (Err fault) = tt
 command_formed peer given full (Ok (Greet argument)) = tt
 command_formed peer given full (Ok (From path)) = tt
@@ -290,31 +300,31 @@ command_formed peer given true (Ok Begin) = tt
 command_formed peer given false (Ok Begin) = tt
 command_formed peer given full (Ok End) = tt
 
-message_formed : (peer helo sender recipient : List ℕ) (lines : List (List ℕ)) → IsLine helo → IsBracketed sender → IsBracketed recipient
-    → AnswerFormed peer (message_answer (record { protocol = codes "SMTP"; helo = helo; client = peer }) sender recipient lines)
-message_formed peer helo sender recipient lines helo_form sender_form recipient_form =
-    let kept : Kept = record { protocol = codes "SMTP"; helo = helo; client = peer } in
+message_formed : (peer greeting sender recipient : List ℕ) (lines : List (List ℕ)) → IsLine greeting → IsBracketed sender → IsBracketed recipient
+    → AnswerFormed peer (message_answer (record { protocol = codes "SMTP"; helo = greeting; client = peer }) sender recipient lines)
+message_formed peer greeting sender recipient lines helo_form sender_form recipient_form =
+    let kept : Kept = record { protocol = codes "SMTP"; helo = greeting; client = peer } in
     let message : Received = record { sender = sender; recipient = recipient; headers = headers_of lines; body = body_of lines; size = size_of lines; kept = kept } in
-    let whole : Answer = cond (is_large_block (size_of (block_of false lines))) (Says HeaderTooLarge) (Gives message) in
-    cond_both (is_too_large (size_of lines)) (Says MessageTooLarge) whole (AnswerFormed peer) (λ h. tt)
-    (λ small. cond_both (is_large_block (size_of (block_of false lines))) (Says HeaderTooLarge) (Gives message) (AnswerFormed peer) (λ h. tt)
+    let whole : Answer = cond (is_above most_headers (size_of (block_of false lines))) (Says HeaderTooLarge) (Gives message) in
+    cond_both (is_above most_message (size_of lines)) (Says MessageTooLarge) whole (AnswerFormed peer) (λ h. tt)
+    (λ small. cond_both (is_above most_headers (size_of (block_of false lines))) (Says HeaderTooLarge) (Gives message) (AnswerFormed peer) (λ h. tt)
     (λ h. record {
       sender_form = sender_form;
       recipient_form = recipient_form;
       headers_form = headers_form lines;
-      size_range = small_size (size_of lines) small;
+      size_range = ltb-false most_message (size_of lines) small;
       protocol_is = refl;
       helo_form = helo_form;
       client_is = refl;
     }))
 
-end_formed : (peer helo : List ℕ) (sender recipient : Option (List ℕ)) (lines : Option (List (List ℕ))) → IsLine helo → IfSome sender IsBracketed → IfSome recipient IsBracketed
-    → AnswerFormed peer (end_answer (record { protocol = codes "SMTP"; helo = helo; client = peer }) sender recipient lines)
-end_formed peer helo (Some sender) (Some recipient) (Some lines) helo_form sender_form recipient_form = message_formed peer helo sender recipient lines helo_form sender_form recipient_form
-end_formed peer helo _ _ _ helo_form sender_form recipient_form = tt
+end_formed : (peer greeting : List ℕ) (sender recipient : Option (List ℕ)) (lines : Option (List (List ℕ))) → IsLine greeting → IfSome sender IsBracketed → IfSome recipient IsBracketed
+    → AnswerFormed peer (end_answer (record { protocol = codes "SMTP"; helo = greeting; client = peer }) sender recipient lines)
+end_formed peer greeting (Some sender) (Some recipient) (Some lines) helo_form sender_form recipient_form = message_formed peer greeting sender recipient lines helo_form sender_form recipient_form
+end_formed peer greeting _ _ _ helo_form sender_form recipient_form = tt
 
 answer_formed : (peer : List ℕ) (before : List Exchange) (line : Line) → AnswerFormed peer (answer_to peer before line)
-answer_formed peer before (Command text) = command_formed peer (is_some (sender_in before)) (is_some (recipient_in before)) (order_of text)
+answer_formed peer before (Command text) = command_formed peer (is_some (sender_in before)) (is_some (recipient_in before)) (request_of text)
 answer_formed peer before TooLong = tt
 answer_formed peer before (DataLine text) = tt
 answer_formed peer before DataEnd =

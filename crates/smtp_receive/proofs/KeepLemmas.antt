@@ -1,4 +1,5 @@
 -- What a session keeps after one exchange more.
+use Rattle.std.specs.Prelude.{IfSome}
 use Rattle.std.proofs.Common.{◌≡◌, ℕ, Bool, true, false, List, [], ◌∷◌, ◌++◌, Option, Some, None, is_some, not, ◌&&◌, cond, Result, Ok, Err, IfOk, OnOk, OnErr, refl, sym, ap, subst, ◌∙◌, ⊎_elim, unwrap_or, reverse, codes}
 use Rattle.std.proofs.lemmas.Bool.{false≢true, cases_Bool, cond-true, cond-false, cond_both}
 use Rattle.std.proofs.lemmas.List.{reverse-append, reverse-reverse}
@@ -7,24 +8,26 @@ use Rattle.smtp_lines.specs.declared.line.Line.{Line}
 use Rattle.smtp_lines.specs.declared.line.Line.TheVariants.{Command, TooLong, Data as DataLine, DataEnd}
 use Rattle.mail_base.specs.declared.message.Kept.{Kept}
 use Rattle.smtp_receive.specs.declared.session.Session.{Session}
-use Rattle.smtp_receive.specs.declared.gathered.Gathered.{Gathered}
+use Rattle.mail_header.specs.declared.gathered.Gathered.{Gathered}
+use Rattle.mail_header.specs.Gatherings.{Gathers, IsSmall, is_above, unless}
+use Rattle.mail_header.specs.inner.Lines.{headers_of, body_of, block_of, size_of}
+use Rattle.mail_header.proofs.SizeLemmas.{gathers_small}
+use Rattle.mail_header.proofs.SplitLemmas.{exact_size, same_above}
+use Rattle.mail_base.specs.Limits.{most_message, most_headers}
 use Rattle.smtp_receive.specs.declared.received.Did.{Did}
 use Rattle.smtp_receive.specs.declared.received.Did.TheVariants.{Reply as Replied, Message, Taken, Bye}
 use Rattle.smtp_receive.specs.declared.reply.Reply.{Reply}
 use Rattle.smtp_receive.specs.declared.reply.Reply.TheVariants.{LineTooLong, SenderGiven, NeedRcpt, SyntaxError, PathTooLong, ParameterNotKnown, SenderOk, RecipientOk, MessageTooLarge, HeaderTooLarge}
-use Rattle.smtp_receive.specs.declared.command.Verb.{Verb}
-use Rattle.smtp_receive.specs.declared.command.Verb.TheVariants.{Helo, Mail, Rcpt, Data, Quit}
-use Rattle.smtp_receive.specs.declared.command.LineFault.{LineFault}
-use Rattle.smtp_receive.specs.declared.command.LineFault.TheVariants.{BadByte as HasBadByte, Unknown, ArgumentNeeded as LacksArgument, NoArgument as HasArgument, Syntax, PathTooLong as HasLongPath, Parameter}
-use Rattle.smtp_receive.specs.Commands.{Order, Greet, From, To, Begin, End, order_of}
+use Rattle.mail_base.specs.declared.command.Verb.{Verb}
+use Rattle.mail_base.specs.declared.command.Verb.TheVariants.{Helo, Ehlo, Mail, Rcpt, Data, Rset, Noop, Quit, Vrfy, Expn, Help}
+use Rattle.mail_base.specs.declared.command.LineFault.{LineFault}
+use Rattle.mail_base.specs.declared.command.LineFault.TheVariants.{BadByte as HasBadByte, Unknown, ArgumentNeeded as LacksArgument, NoArgument as HasArgument, Syntax, PathTooLong as HasLongPath, Parameter}
+use Rattle.smtp_receive.specs.Requests.{Request, Greet, From, To, Begin, End, request_of}
 use Rattle.smtp_receive.specs.Replies.{text_of, hello_text, closing_text, shown_host}
-use Rattle.smtp_receive.specs.Splits.{headers_of, body_of, block_of, size_of, is_too_large, is_large_block}
-use Rattle.smtp_receive.specs.Dialogue.{Answer, Says, Greets, Grants, Closes, Gives, Takes, Exchange, Heard, bracketed, ends, sender_by, recipient_by, sender_in, recipient_in, lines_in, helo_in, kept_in, helo_by, with_text, path_from, path_to, argument_in, asked, order_in, or_else, is_dropped, mail_reply, rcpt_reply, to_reply, data_answer, path_reply, fault_reply, command_answer, message_answer, end_answer, answer_to, answer_heard, exchange_of, with_heard, exchanges, dialogue, did_of}
-use Rattle.smtp_receive.specs.declared.gathered.End.{End as Ending}
-use Rattle.smtp_receive.specs.declared.gathered.End.TheVariants.{Nothing, Refused, Whole}
-use Rattle.smtp_receive.specs.Sessions.{Gathers, Holds, Keeps, Goes, BeginsMessage, Stands, takes_recipient, answer_of, unless, IsBounded, is_data, ending_of, end_of, received_of, given_by}
-use Rattle.smtp_receive.proofs.SizeLemmas.{keeps_bounded}
-use Rattle.smtp_receive.proofs.SplitLemmas.{exact_size, same_too_large, same_large_block}
+use Rattle.smtp_receive.specs.Dialogue.{Answer, Says, Greets, Grants, Closes, Gives, Takes, Exchange, Heard, bracketed, ends, sender_by, recipient_by, sender_in, recipient_in, lines_in, helo_in, kept_in, helo_by, with_text, path_from, path_to, argument_in, asked, read_in, or_else, is_dropped, mail_reply, rcpt_reply, to_reply, data_answer, path_reply, fault_reply, command_answer, message_answer, end_answer, answer_to, answer_heard, exchange_of, with_heard, exchanges, dialogue, did_of}
+use Rattle.smtp_receive.specs.declared.ending.End.{End as Ending}
+use Rattle.smtp_receive.specs.declared.ending.End.TheVariants.{Nothing, Refused, Whole}
+use Rattle.smtp_receive.specs.Sessions.{Holds, Keeps, Goes, BeginsMessage, Stands, takes_recipient, answer_of, IsBounded, is_data, ending_of, end_of, received_of, given_by}
 
 -- nothing that a session keeps is told by what came since
 pub keep_same : (s : Session) (host peer : List ℕ) (before after : List Exchange) → Keeps s host peer before
@@ -45,13 +48,13 @@ tells SenderOk = true
 tells RecipientOk = true
 tells _ = false
 
-no_sender : (reply : Reply) (order : Option Order) → tells reply ≡ false → sender_by (Some (Says reply)) order ≡ None
-no_sender SenderOk order h = absurd (false≢true (sym h))
-no_sender _ order h = refl
+no_sender : (reply : Reply) (request : Option Request) → tells reply ≡ false → sender_by (Some (Says reply)) request ≡ None
+no_sender SenderOk request h = absurd (false≢true (sym h))
+no_sender _ request h = refl
 
-no_recipient : (reply : Reply) (order : Option Order) → tells reply ≡ false → recipient_by (Some (Says reply)) order ≡ None
-no_recipient RecipientOk order h = absurd (false≢true (sym h))
-no_recipient _ order h = refl
+no_recipient : (reply : Reply) (request : Option Request) → tells reply ≡ false → recipient_by (Some (Says reply)) request ≡ None
+no_recipient RecipientOk request h = absurd (false≢true (sym h))
+no_recipient _ request h = refl
 
 pub quiet : (s : Session) (host peer : List ℕ) (before : List Exchange) (text : List ℕ) (reply : Reply) → tells reply ≡ false → Keeps s host peer before
     → Keeps s host peer (record { line = Command text; answer = Some (Says reply) } ∷ before)
@@ -68,17 +71,17 @@ goes_by n host peer before line did answer is did_is keeps = record {
   keeps = subst (λ a. Keeps n host peer (record { line = line; answer = Some a } ∷ before)) (sym is) keeps;
 }
 
--- the answer to a command of that order, by what the session keeps
-answer_is : (s : Session) (host peer : List ℕ) (before : List Exchange) (text : List ℕ) (order : Result Order LineFault) → Keeps s host peer before → order_of text ≡ order
-    → answer_to peer before (Command text) ≡ command_answer (is_some s.sender) (is_some s.recipient) order
-answer_is s host peer before text order k is =
+-- the answer to a command of that request, by what the session keeps
+answer_is : (s : Session) (host peer : List ℕ) (before : List Exchange) (text : List ℕ) (request : Result Request LineFault) → Keeps s host peer before → request_of text ≡ request
+    → answer_to peer before (Command text) ≡ command_answer (is_some s.sender) (is_some s.recipient) request
+answer_is s host peer before text request k is =
     ap (command_answer (is_some (sender_in before)) (is_some (recipient_in before))) is
-    ∙ ap (λ o. command_answer (is_some o) (is_some (recipient_in before)) order) (sym k.sender_is)
-    ∙ ap (λ o. command_answer (is_some s.sender) (is_some o) order) (sym k.recipient_is)
+    ∙ ap (λ o. command_answer (is_some o) (is_some (recipient_in before)) request) (sym k.sender_is)
+    ∙ ap (λ o. command_answer (is_some s.sender) (is_some o) request) (sym k.recipient_is)
 
 -- ---- HELO
 
-pub goes_helo : (s n : Session) (host peer : List ℕ) (before : List Exchange) (text argument : List ℕ) (did : Did) → Keeps s host peer before → order_of text ≡ Ok (Greet argument)
+pub goes_helo : (s n : Session) (host peer : List ℕ) (before : List Exchange) (text argument : List ℕ) (did : Did) → Keeps s host peer before → request_of text ≡ Ok (Greet argument)
     → did ≡ Replied (hello_text s.host) → n ≡ record s { helo = argument; sender = None; recipient = None; message = None } → Goes n host peer before (Command text) did
 goes_helo s n host peer before text argument did k is did_is new =
     goes_by n host peer before (Command text) did Greets (answer_is s host peer before text (Ok (Greet argument)) k is)
@@ -87,7 +90,7 @@ goes_helo s n host peer before text argument did k is did_is new =
     (record {
       host_is = k.host_is;
       peer_is = k.peer_is;
-      helo_is = sym (ap (λ o. unwrap_or (argument_in (order_in o)) (helo_in before)) is);
+      helo_is = sym (ap (λ o. unwrap_or (argument_in (read_in o)) (helo_in before)) is);
       sender_is = refl;
       recipient_is = refl;
       message_is = tt;
@@ -95,18 +98,18 @@ goes_helo s n host peer before text argument did k is did_is new =
 
 -- ---- MAIL
 
-keep_mail : (s : Session) (host peer : List ℕ) (before : List Exchange) (text path : List ℕ) → Keeps s host peer before → order_of text ≡ Ok (From path)
+keep_mail : (s : Session) (host peer : List ℕ) (before : List Exchange) (text path : List ℕ) → Keeps s host peer before → request_of text ≡ Ok (From path)
     → Keeps (record s { sender = Some (bracketed path) }) host peer (record { line = Command text; answer = Some (Says SenderOk) } ∷ before)
 keep_mail s host peer before text path k is = record {
   host_is = k.host_is;
   peer_is = k.peer_is;
   helo_is = k.helo_is;
-  sender_is = sym (ap (λ o. or_else (path_from (order_in o)) (sender_in before)) is);
+  sender_is = sym (ap (λ o. or_else (path_from (read_in o)) (sender_in before)) is);
   recipient_is = k.recipient_is;
   message_is = k.message_is;
 }
 
-pub goes_mail : (s n : Session) (host peer : List ℕ) (before : List Exchange) (text path : List ℕ) (did : Did) → Keeps s host peer before → order_of text ≡ Ok (From path)
+pub goes_mail : (s n : Session) (host peer : List ℕ) (before : List Exchange) (text path : List ℕ) (did : Did) → Keeps s host peer before → request_of text ≡ Ok (From path)
     → did ≡ Replied (text_of (mail_reply (is_some s.sender) SenderOk)) → (is_some s.sender ≡ true → n ≡ s)
     → (is_some s.sender ≡ false → n ≡ record s { sender = Some (bracketed path) }) → Goes n host peer before (Command text) did
 goes_mail s n host peer before text path did k is did_is given new =
@@ -136,18 +139,18 @@ rcpt_no (Some sender) recipient [] h = refl
 rcpt_no (Some sender) (Some recipient) (b ∷ path) h = refl
 rcpt_no (Some sender) None (b ∷ path) h = absurd (false≢true (sym h))
 
-keep_rcpt : (s : Session) (host peer : List ℕ) (before : List Exchange) (text path : List ℕ) → Keeps s host peer before → order_of text ≡ Ok (To path)
+keep_rcpt : (s : Session) (host peer : List ℕ) (before : List Exchange) (text path : List ℕ) → Keeps s host peer before → request_of text ≡ Ok (To path)
     → Keeps (record s { recipient = Some (bracketed path) }) host peer (record { line = Command text; answer = Some (Says RecipientOk) } ∷ before)
 keep_rcpt s host peer before text path k is = record {
   host_is = k.host_is;
   peer_is = k.peer_is;
   helo_is = k.helo_is;
   sender_is = k.sender_is;
-  recipient_is = sym (ap (λ o. or_else (path_to (order_in o)) (recipient_in before)) is);
+  recipient_is = sym (ap (λ o. or_else (path_to (read_in o)) (recipient_in before)) is);
   message_is = k.message_is;
 }
 
-pub goes_rcpt : (s n : Session) (host peer : List ℕ) (before : List Exchange) (text path : List ℕ) (did : Did) → Keeps s host peer before → order_of text ≡ Ok (To path)
+pub goes_rcpt : (s n : Session) (host peer : List ℕ) (before : List Exchange) (text path : List ℕ) (did : Did) → Keeps s host peer before → request_of text ≡ Ok (To path)
     → did ≡ Replied (text_of (rcpt_reply (is_some s.sender) (to_reply path (is_some s.recipient)))) → (takes_recipient s.sender s.recipient path ≡ false → n ≡ s)
     → (takes_recipient s.sender s.recipient path ≡ true → n ≡ record s { recipient = Some (bracketed path) }) → Goes n host peer before (Command text) did
 goes_rcpt s n host peer before text path did k is did_is refused new =
@@ -178,7 +181,7 @@ keep_begin s n host peer before text k b =
       message_is = b.begins;
     })
 
-pub goes_begin : (s n : Session) (host peer : List ℕ) (before : List Exchange) (text : List ℕ) (did : Did) → Keeps s host peer before → order_of text ≡ Ok Begin
+pub goes_begin : (s n : Session) (host peer : List ℕ) (before : List Exchange) (text : List ℕ) (did : Did) → Keeps s host peer before → request_of text ≡ Ok Begin
     → did ≡ did_of s.host (data_answer (is_some s.recipient)) → (is_some s.recipient ≡ false → n ≡ s) → (is_some s.recipient ≡ true → BeginsMessage s n)
     → Goes n host peer before (Command text) did
 goes_begin s n host peer before text did k is did_is refused new =
@@ -194,7 +197,7 @@ goes_begin s n host peer before text did k is did_is refused new =
 
 -- ---- QUIT, and commands that have a fault
 
-pub goes_quit : (s : Session) (host peer : List ℕ) (before : List Exchange) (text : List ℕ) (did : Did) → Keeps s host peer before → order_of text ≡ Ok End
+pub goes_quit : (s : Session) (host peer : List ℕ) (before : List Exchange) (text : List ℕ) (did : Did) → Keeps s host peer before → request_of text ≡ Ok End
     → did ≡ Bye (closing_text s.host) → Goes s host peer before (Command text) did
 goes_quit s host peer before text did k is did_is =
     goes_by s host peer before (Command text) did Closes (answer_is s host peer before text (Ok End) k is) (did_is ∙ ap (λ h. Bye (closing_text h)) k.host_is)
@@ -202,12 +205,18 @@ goes_quit s host peer before text did k is did_is =
 
 path_quiet : (verb : Verb) (given : Bool) (reply : Reply) → tells reply ≡ false → tells (path_reply verb given reply) ≡ false
 path_quiet Helo given reply h = h
+path_quiet Ehlo given reply h = h
 path_quiet Mail true reply h = refl
 path_quiet Mail false reply h = h
 path_quiet Rcpt true reply h = h
 path_quiet Rcpt false reply h = refl
 path_quiet Data given reply h = h
+path_quiet Rset given reply h = h
+path_quiet Noop given reply h = h
 path_quiet Quit given reply h = h
+path_quiet Vrfy given reply h = h
+path_quiet Expn given reply h = h
+path_quiet Help given reply h = h
 
 fault_quiet : (given : Bool) (fault : LineFault) → tells (fault_reply given fault) ≡ false
 fault_quiet given HasBadByte = refl
@@ -218,7 +227,7 @@ fault_quiet given (Syntax verb) = path_quiet verb given SyntaxError refl
 fault_quiet given (HasLongPath verb) = path_quiet verb given PathTooLong refl
 fault_quiet given (Parameter verb) = path_quiet verb given ParameterNotKnown refl
 
-pub goes_fault : (s : Session) (host peer : List ℕ) (before : List Exchange) (text : List ℕ) (fault : LineFault) (did : Did) → Keeps s host peer before → order_of text ≡ Err fault
+pub goes_fault : (s : Session) (host peer : List ℕ) (before : List Exchange) (text : List ℕ) (fault : LineFault) (did : Did) → Keeps s host peer before → request_of text ≡ Err fault
     → did ≡ Replied (text_of (fault_reply (is_some s.sender) fault)) → Goes s host peer before (Command text) did
 goes_fault s host peer before text fault did k is did_is =
     goes_by s host peer before (Command text) did (Says (fault_reply (is_some s.sender) fault)) (answer_is s host peer before text (Err fault) k is)
@@ -320,28 +329,28 @@ stands_reset s n host peer heard line k kept new =
 
 -- ---- the message
 
-pub message_large : (kept : Kept) (sender recipient : List ℕ) (g : Gathered) (lines : List (List ℕ)) → Gathers g lines → is_too_large g.size ≡ true
+pub message_large : (kept : Kept) (sender recipient : List ℕ) (g : Gathered) (lines : List (List ℕ)) → Gathers g most_message lines → is_above most_message g.size ≡ true
     → message_answer kept sender recipient lines ≡ Says MessageTooLarge
 message_large kept sender recipient g lines gathers large =
-    cond-true (is_too_large (size_of lines)) _ _ (sym (same_too_large (size_of lines)) ∙ sym (ap is_too_large gathers.size) ∙ large)
+    cond-true (is_above most_message (size_of lines)) _ _ (sym (same_above most_message (size_of lines)) ∙ sym (ap (is_above most_message) gathers.size) ∙ large)
 
-within : (g : Gathered) (lines : List (List ℕ)) → Gathers g lines → is_too_large g.size ≡ false → is_too_large (size_of lines) ≡ false
-within g lines gathers small = sym (same_too_large (size_of lines)) ∙ sym (ap is_too_large gathers.size) ∙ small
+within : (g : Gathered) (lines : List (List ℕ)) → Gathers g most_message lines → is_above most_message g.size ≡ false → is_above most_message (size_of lines) ≡ false
+within g lines gathers small = sym (same_above most_message (size_of lines)) ∙ sym (ap (is_above most_message) gathers.size) ∙ small
 
-pub message_block : (kept : Kept) (sender recipient : List ℕ) (g : Gathered) (lines : List (List ℕ)) → Gathers g lines → is_too_large g.size ≡ false → is_large_block g.block ≡ true
+pub message_block : (kept : Kept) (sender recipient : List ℕ) (g : Gathered) (lines : List (List ℕ)) → Gathers g most_message lines → is_above most_message g.size ≡ false → is_above most_headers g.block ≡ true
     → message_answer kept sender recipient lines ≡ Says HeaderTooLarge
 message_block kept sender recipient g lines gathers small large =
     let split = gathers.split small in
-    cond-false (is_too_large (size_of lines)) _ _ (within g lines gathers small)
-    ∙ cond-true (is_large_block (size_of (block_of false lines))) _ _ (sym (same_large_block (size_of (block_of false lines))) ∙ sym (ap is_large_block split.block) ∙ large)
+    cond-false (is_above most_message (size_of lines)) _ _ (within g lines gathers small)
+    ∙ cond-true (is_above most_headers (size_of (block_of false lines))) _ _ (sym (same_above most_headers (size_of (block_of false lines))) ∙ sym (ap (is_above most_headers) split.block) ∙ large)
 
-pub message_whole : (kept : Kept) (sender recipient : List ℕ) (g : Gathered) (lines : List (List ℕ)) → Gathers g lines → is_too_large g.size ≡ false → is_large_block g.block ≡ false
+pub message_whole : (kept : Kept) (sender recipient : List ℕ) (g : Gathered) (lines : List (List ℕ)) → Gathers g most_message lines → is_above most_message g.size ≡ false → is_above most_headers g.block ≡ false
     → message_answer kept sender recipient lines ≡ Gives (received_of g sender recipient kept)
 message_whole kept sender recipient g lines gathers small small_block =
     let split = gathers.split small in
-    let exact = exact_size (size_of lines) (sym (ap is_too_large gathers.size) ∙ small) in
-    cond-false (is_too_large (size_of lines)) _ _ (within g lines gathers small)
-    ∙ cond-false (is_large_block (size_of (block_of false lines))) _ _ (sym (same_large_block (size_of (block_of false lines))) ∙ sym (ap is_large_block split.block) ∙ small_block)
+    let exact = exact_size most_message (size_of lines) (sym (ap (is_above most_message) gathers.size) ∙ small) in
+    cond-false (is_above most_message (size_of lines)) _ _ (within g lines gathers small)
+    ∙ cond-false (is_above most_headers (size_of (block_of false lines))) _ _ (sym (same_above most_headers (size_of (block_of false lines))) ∙ sym (ap (is_above most_headers) split.block) ∙ small_block)
     ∙ ap (λ h. Gives (record { sender = sender; recipient = recipient; headers = h; body = body_of lines; size = size_of lines; kept = kept })) (sym (split.headers ∙ ap (λ b. unless b (headers_of lines)) small_block))
     ∙ ap (λ b. Gives (record { sender = sender; recipient = recipient; headers = g.headers; body = b; size = size_of lines; kept = kept })) (sym split.body)
     ∙ ap (λ n. Gives (record { sender = sender; recipient = recipient; headers = g.headers; body = g.body; size = n; kept = kept })) (sym exact ∙ sym gathers.size)
@@ -352,14 +361,14 @@ EndTells host Nothing answer given = answer ≡ Takes
 EndTells host (Refused reply) answer given = answer ≡ Says reply
 EndTells host Whole answer given = did_of host answer ≡ given
 
-message_tells : (host : List ℕ) (kept : Kept) (sender recipient : List ℕ) (g : Gathered) (lines : List (List ℕ)) → Gathers g lines
+message_tells : (host : List ℕ) (kept : Kept) (sender recipient : List ℕ) (g : Gathered) (lines : List (List ℕ)) → Gathers g most_message lines
     → EndTells host (ending_of g) (message_answer kept sender recipient lines) (Message (received_of g sender recipient kept))
 message_tells host kept sender recipient g lines gathers =
     let P : Ending → Type 0 = λ e. EndTells host e (message_answer kept sender recipient lines) (Message (received_of g sender recipient kept)) in
-    let block : Ending = cond (is_large_block g.block) (Refused HeaderTooLarge) Whole in
-    cond_both (is_too_large g.size) (Refused MessageTooLarge) block P
+    let block : Ending = cond (is_above most_headers g.block) (Refused HeaderTooLarge) Whole in
+    cond_both (is_above most_message g.size) (Refused MessageTooLarge) block P
     (λ large. message_large kept sender recipient g lines gathers large)
-    (λ small. cond_both (is_large_block g.block) (Refused HeaderTooLarge) Whole P
+    (λ small. cond_both (is_above most_headers g.block) (Refused HeaderTooLarge) Whole P
     (λ large. message_block kept sender recipient g lines gathers small large)
     (λ within. ap (did_of host) (message_whole kept sender recipient g lines gathers small within)))
 
@@ -372,37 +381,48 @@ end_tells host kept (Some sender) (Some recipient) None (Some lines) h = absurd 
 end_tells host kept (Some sender) (Some recipient) (Some g) None h = absurd h
 end_tells host kept (Some sender) (Some recipient) (Some g) (Some lines) h = message_tells host kept sender recipient g lines h
 
+-- ---- what is kept is small
+
+holds_small : (m : Option Gathered) (lines : Option (List (List ℕ))) → Holds m lines → IfSome m (λ g. IsSmall g most_message)
+holds_small None lines h = tt
+holds_small (Some g) None h = absurd h
+holds_small (Some g) (Some lines) h = gathers_small g most_message lines h
+
+-- a session that keeps what it has of its lines keeps no more than a message may have
+keeps_bounded : (s : Session) (host peer : List ℕ) (before : List Exchange) → Keeps s host peer before → IsBounded s
+keeps_bounded s host peer before k = holds_small s.message (lines_in before) k.message_is
+
 -- ---- the same of a result
 
-pub helo_goes : {E : Type 0} (r : Result Did E) (s n : Session) (host peer : List ℕ) (before : List Exchange) (text argument : List ℕ) → Keeps s host peer before → order_of text ≡ Ok (Greet argument)
+pub helo_goes : {E : Type 0} (r : Result Did E) (s n : Session) (host peer : List ℕ) (before : List Exchange) (text argument : List ℕ) → Keeps s host peer before → request_of text ≡ Ok (Greet argument)
     → IfOk r (λ did. did ≡ Replied (hello_text s.host)) → IfOk r (λ _. n ≡ record s { helo = argument; sender = None; recipient = None; message = None }) → IfOk r (λ did. Goes n host peer before (Command text) did)
 helo_goes (Err e) s n host peer before text argument k is did new = tt
 helo_goes (Ok d) s n host peer before text argument k is did new = goes_helo s n host peer before text argument d k is did new
 
-pub mail_goes : {E : Type 0} (r : Result Did E) (s n : Session) (host peer : List ℕ) (before : List Exchange) (text path : List ℕ) → Keeps s host peer before → order_of text ≡ Ok (From path)
+pub mail_goes : {E : Type 0} (r : Result Did E) (s n : Session) (host peer : List ℕ) (before : List Exchange) (text path : List ℕ) → Keeps s host peer before → request_of text ≡ Ok (From path)
     → IfOk r (λ did. did ≡ Replied (text_of (mail_reply (is_some s.sender) SenderOk))) → IfOk r (λ _. is_some s.sender ≡ true → n ≡ s)
     → IfOk r (λ _. is_some s.sender ≡ false → n ≡ record s { sender = Some (bracketed path) }) → IfOk r (λ did. Goes n host peer before (Command text) did)
 mail_goes (Err e) s n host peer before text path k is did given new = tt
 mail_goes (Ok d) s n host peer before text path k is did given new = goes_mail s n host peer before text path d k is did given new
 
-pub rcpt_goes : {E : Type 0} (r : Result Did E) (s n : Session) (host peer : List ℕ) (before : List Exchange) (text path : List ℕ) → Keeps s host peer before → order_of text ≡ Ok (To path)
+pub rcpt_goes : {E : Type 0} (r : Result Did E) (s n : Session) (host peer : List ℕ) (before : List Exchange) (text path : List ℕ) → Keeps s host peer before → request_of text ≡ Ok (To path)
     → IfOk r (λ did. did ≡ Replied (text_of (rcpt_reply (is_some s.sender) (to_reply path (is_some s.recipient))))) → IfOk r (λ _. takes_recipient s.sender s.recipient path ≡ false → n ≡ s)
     → IfOk r (λ _. takes_recipient s.sender s.recipient path ≡ true → n ≡ record s { recipient = Some (bracketed path) }) → IfOk r (λ did. Goes n host peer before (Command text) did)
 rcpt_goes (Err e) s n host peer before text path k is did refused new = tt
 rcpt_goes (Ok d) s n host peer before text path k is did refused new = goes_rcpt s n host peer before text path d k is did refused new
 
-pub begin_goes : {E : Type 0} (r : Result Did E) (s n : Session) (host peer : List ℕ) (before : List Exchange) (text : List ℕ) → Keeps s host peer before → order_of text ≡ Ok Begin
+pub begin_goes : {E : Type 0} (r : Result Did E) (s n : Session) (host peer : List ℕ) (before : List Exchange) (text : List ℕ) → Keeps s host peer before → request_of text ≡ Ok Begin
     → IfOk r (λ did. did ≡ did_of s.host (data_answer (is_some s.recipient))) → IfOk r (λ _. is_some s.recipient ≡ false → n ≡ s)
     → IfOk r (λ _. is_some s.recipient ≡ true → BeginsMessage s n) → IfOk r (λ did. Goes n host peer before (Command text) did)
 begin_goes (Err e) s n host peer before text k is did refused new = tt
 begin_goes (Ok d) s n host peer before text k is did refused new = goes_begin s n host peer before text d k is did refused new
 
-pub quit_goes : {E : Type 0} (r : Result Did E) (s : Session) (host peer : List ℕ) (before : List Exchange) (text : List ℕ) → Keeps s host peer before → order_of text ≡ Ok End
+pub quit_goes : {E : Type 0} (r : Result Did E) (s : Session) (host peer : List ℕ) (before : List Exchange) (text : List ℕ) → Keeps s host peer before → request_of text ≡ Ok End
     → IfOk r (λ did. did ≡ Bye (closing_text s.host)) → IfOk r (λ did. Goes s host peer before (Command text) did)
 quit_goes (Err e) s host peer before text k is did = tt
 quit_goes (Ok d) s host peer before text k is did = goes_quit s host peer before text d k is did
 
-pub fault_goes : {E : Type 0} (r : Result Did E) (s : Session) (host peer : List ℕ) (before : List Exchange) (text : List ℕ) (fault : LineFault) (reply : Reply) → Keeps s host peer before → order_of text ≡ Err fault
+pub fault_goes : {E : Type 0} (r : Result Did E) (s : Session) (host peer : List ℕ) (before : List Exchange) (text : List ℕ) (fault : LineFault) (reply : Reply) → Keeps s host peer before → request_of text ≡ Err fault
     → reply ≡ fault_reply (is_some s.sender) fault → IfOk r (λ did. did ≡ Replied (text_of reply)) → IfOk r (λ did. Goes s host peer before (Command text) did)
 fault_goes (Err e) s host peer before text fault reply k is reply_is did = tt
 fault_goes (Ok d) s host peer before text fault reply k is reply_is did = goes_fault s host peer before text fault d k is (did ∙ ap (λ x. Replied (text_of x)) reply_is)
@@ -434,11 +454,11 @@ still (Err e) s = refl
 
 -- ---- lines of a message
 
-holds_some : (g n : Gathered) (text : List ℕ) → ((all : List (List ℕ)) → Gathers g all → Gathers n (all ++ text ∷ [])) → (lines : Option (List (List ℕ))) → Holds (Some g) lines → Holds (Some n) (with_text (DataLine text) lines)
+holds_some : (g n : Gathered) (text : List ℕ) → ((all : List (List ℕ)) → Gathers g most_message all → Gathers n most_message (all ++ text ∷ [])) → (lines : Option (List (List ℕ))) → Holds (Some g) lines → Holds (Some n) (with_text (DataLine text) lines)
 holds_some g n text more None h = h
 holds_some g n text more (Some all) h = more all h
 
-pub holds_more : {T E : Type 0} (r : Result T E) (m : Option Gathered) (g n : Gathered) (text : List ℕ) → m ≡ Some g → OnOk r ((all : List (List ℕ)) → Gathers g all → Gathers n (all ++ text ∷ []))
+pub holds_more : {T E : Type 0} (r : Result T E) (m : Option Gathered) (g n : Gathered) (text : List ℕ) → m ≡ Some g → OnOk r ((all : List (List ℕ)) → Gathers g most_message all → Gathers n most_message (all ++ text ∷ []))
     → OnOk r ((lines : Option (List (List ℕ))) → Holds m lines → Holds (Some n) (with_text (DataLine text) lines))
 holds_more (Err e) m g n text is more = tt
 holds_more (Ok u) m g n text is more = λ lines h. holds_some g n text more lines (subst (λ x. Holds x lines) is h)

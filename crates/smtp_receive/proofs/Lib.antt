@@ -1,11 +1,7 @@
-pub mod PathLemmas
-pub mod PathStepLemmas
-pub mod SplitLemmas
-pub mod SizeLemmas
 pub mod KeepLemmas
 pub mod ReplyLemmas
 pub mod FormLemmas
 pub mod FinalLemmas
 pub mod ToldLemmas
-pub mod FoundLemmas
 pub mod Examples
+pub mod SplitLemmas

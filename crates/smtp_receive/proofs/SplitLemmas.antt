@@ -1,321 +1,44 @@
--- The split of lines with one line more.
-use Rattle.std.proofs.Common.{◌≡◌, ℕ, ◌+◌, ◌≤◌, ◌<◌, min, Bool, true, false, cond, List, [], ◌∷◌, ◌++◌, length, refl, sym, ap, subst, ◌∙◌, arith, append_assoc, append-nil, ⊎_elim, ◌==◌, Result, Ok, Err, OnOk}
-use Rattle.std.specs.List.{flat_map}
-use Rattle.std.proofs.lemmas.Bool.{cond-true, cond-false, false≢true, cases_Bool, cases_lt, eqb-true, ltb-false, lt-ltb, le-ltb}
-use Rattle.std.proofs.lemmas.List.Concat.{flat_map-append}
-use Rattle.std.proofs.lemmas.List.Sums.{sum_by_push}
+-- A message is split as the text of its lines is.
+use Rattle.std.proofs.Common.{◌≡◌, ℕ, false, cond, List, Option, Some, None, subst, sym, ap, ◌∙◌}
+use Rattle.std.proofs.lemmas.Bool.{cond_both}
 use Rattle.mail_base.specs.Limits.{most_message, most_headers}
-use Rattle.mail_base.specs.Texts.{crlf}
-use Rattle.smtp_receive.specs.Splits.{belongs, block_of, rest_of, is_continuation, goes_on, joined, headers_in, headers_of, without_empty, with_end, body_of, size_of, is_too_large, is_large_block}
-use Rattle.smtp_receive.specs.declared.gathered.Gathered.{Gathered}
-use Rattle.smtp_receive.specs.Sessions.{counted, is_some_line, onto_last, header_added, unless, AddsHeader, IsSplit, Gathers}
+use Rattle.mail_base.specs.declared.message.Kept.{Kept}
+use Rattle.mail_header.specs.Gatherings.{is_above}
+use Rattle.mail_header.specs.Headers.{AreLines, text_of}
+use Rattle.mail_header.specs.inner.Lines.{headers_of, body_of, block_of, size_of}
+use Rattle.mail_header.proofs.GrammarLemmas.{split_of_lines}
+use Rattle.smtp_lines.specs.declared.line.Line.{Line}
+use Rattle.smtp_lines.specs.declared.line.Line.TheVariants.{DataEnd}
+use Rattle.smtp_receive.specs.declared.received.Received.{Received}
+use Rattle.smtp_receive.specs.declared.reply.Reply.TheVariants.{MessageTooLarge, HeaderTooLarge}
+use Rattle.smtp_receive.specs.Dialogue.{Answer, Says, Gives, Exchange, Heard, answer_to, end_answer, exchanges, kept_in, lines_in, message_answer, recipient_in, sender_in}
+use Rattle.smtp_receive.specs.Sessions.{answer_of}
+use Rattle.smtp_receive.specs.Forms.{IsSplitOf}
+use Rattle.smtp_receive.proofs.ToldLemmas.{gift_at_end}
 
--- ---- sizes
+-- the message of an answer, if it gives one, is split so
+abbrev AnswerSplit : List ℕ → Answer → Type 0
+AnswerSplit text (Gives message) = IsSplitOf message text
+AnswerSplit text _ = Unit {0}
 
-pub size_more : (lines : List (List ℕ)) (line : List ℕ) → size_of (lines ++ line ∷ []) ≡ size_of lines + (length line + 2)
-size_more lines line = sum_by_push (λ l. length l + 2) lines line
+message_split : (kept : Kept) (sender recipient : List ℕ) (lines : List (List ℕ)) → AreLines lines → AnswerSplit (text_of lines) (message_answer kept sender recipient lines)
+message_split kept sender recipient lines are =
+    let message : Received = record { sender = sender; recipient = recipient; headers = headers_of lines; body = body_of lines; size = size_of lines; kept = kept } in
+    let whole : Answer = cond (is_above most_headers (size_of (block_of false lines))) (Says HeaderTooLarge) (Gives message) in
+    cond_both (is_above most_message (size_of lines)) (Says MessageTooLarge) whole (AnswerSplit (text_of lines)) (λ h. tt)
+    (λ h. cond_both (is_above most_headers (size_of (block_of false lines))) (Says HeaderTooLarge) (Gives message) (AnswerSplit (text_of lines)) (λ h. tt)
+    (λ h. record { block = size_of (block_of false lines); split = split_of_lines lines are }))
 
-pub counted_more : (size length : ℕ) → counted (counted size + length + 2) ≡ counted (size + (length + 2))
-unfolding counted
-counted_more size length = omega arith
+end_split : (kept : Kept) (sender recipient : Option (List ℕ)) (lines : List (List ℕ)) → AreLines lines → AnswerSplit (text_of lines) (end_answer kept sender recipient (Some lines))
+end_split kept (Some sender) (Some recipient) lines are = message_split kept sender recipient lines are
+end_split kept None recipient lines are = tt
+end_split kept (Some sender) None lines are = tt
 
-pub counted_size : (lines : List (List ℕ)) (line : List ℕ) (size : ℕ) → size ≡ counted (size_of lines) → counted (size + length line + 2) ≡ counted (size_of (lines ++ line ∷ []))
-counted_size lines line size is =
-    ap (λ n. counted (n + length line + 2)) is ∙ counted_more (size_of lines) (length line) ∙ sym (ap counted (size_more lines line))
-
--- ---- the header block
-
--- whether the block has begun after lines
-abbrev pub begun_by : Bool → List (List ℕ) → Bool
-begun_by begun [] = begun
-begun_by begun (line ∷ lines) = true
-
-begun_true : (lines : List (List ℕ)) → begun_by true lines ≡ true
-begun_true [] = refl
-begun_true (line ∷ lines) = refl
-
-pub block_more : (begun : Bool) (lines : List (List ℕ)) (line : List ℕ) → is_some_line (rest_of begun lines) ≡ true → block_of begun (lines ++ line ∷ []) ≡ block_of begun lines
-block_more begun [] line h = absurd (false≢true h)
-block_more begun (l ∷ lines) line h =
-    elim (belongs begun l) as (λ b. is_some_line (cond b (rest_of true lines) (l ∷ lines)) ≡ true → cond b (l ∷ block_of true (lines ++ line ∷ [])) [] ≡ cond b (l ∷ block_of true lines) [])
-    [ true ↦ λ some. ap (λ t. l ∷ t) (block_more true lines line some) | false ↦ λ some. refl ] h
-
-pub rest_more : (begun : Bool) (lines : List (List ℕ)) (line : List ℕ) → is_some_line (rest_of begun lines) ≡ true → rest_of begun (lines ++ line ∷ []) ≡ rest_of begun lines ++ line ∷ []
-rest_more begun [] line h = absurd (false≢true h)
-rest_more begun (l ∷ lines) line h =
-    elim (belongs begun l) as (λ b. is_some_line (cond b (rest_of true lines) (l ∷ lines)) ≡ true → cond b (rest_of true (lines ++ line ∷ [])) (l ∷ (lines ++ line ∷ [])) ≡ cond b (rest_of true lines) (l ∷ lines) ++ line ∷ [])
-    [ true ↦ λ some. rest_more true lines line some | false ↦ λ some. refl ] h
-
-pub block_all : (begun : Bool) (lines : List (List ℕ)) → is_some_line (rest_of begun lines) ≡ false → block_of begun lines ≡ lines
-block_all begun [] h = refl
-block_all begun (l ∷ lines) h =
-    elim (belongs begun l) as (λ b. is_some_line (cond b (rest_of true lines) (l ∷ lines)) ≡ false → cond b (l ∷ block_of true lines) [] ≡ l ∷ lines)
-    [ true ↦ λ none. ap (λ t. l ∷ t) (block_all true lines none) | false ↦ λ none. absurd (false≢true (sym none)) ] h
-
--- a line that belongs to the block, and one that doesn't, where no line after the block has come
-pub block_yes : (begun : Bool) (lines : List (List ℕ)) (line : List ℕ) → is_some_line (rest_of begun lines) ≡ false → belongs (begun_by begun lines) line ≡ true → block_of begun (lines ++ line ∷ []) ≡ block_of begun lines ++ line ∷ []
-block_yes begun [] line h met = cond-true (belongs begun line) (line ∷ []) [] met
-block_yes begun (l ∷ lines) line h met =
-    let inner = ap (λ b. belongs b line) (begun_true lines) ∙ met in
-    elim (belongs begun l) as (λ b. is_some_line (cond b (rest_of true lines) (l ∷ lines)) ≡ false → cond b (l ∷ block_of true (lines ++ line ∷ [])) [] ≡ cond b (l ∷ block_of true lines) [] ++ line ∷ [])
-    [ true ↦ λ none. ap (λ t. l ∷ t) (block_yes true lines line none inner) | false ↦ λ none. absurd (false≢true (sym none)) ] h
-
-pub rest_yes : (begun : Bool) (lines : List (List ℕ)) (line : List ℕ) → is_some_line (rest_of begun lines) ≡ false → belongs (begun_by begun lines) line ≡ true → rest_of begun (lines ++ line ∷ []) ≡ []
-rest_yes begun [] line h met = cond-true (belongs begun line) [] (line ∷ []) met
-rest_yes begun (l ∷ lines) line h met =
-    let inner = ap (λ b. belongs b line) (begun_true lines) ∙ met in
-    elim (belongs begun l) as (λ b. is_some_line (cond b (rest_of true lines) (l ∷ lines)) ≡ false → cond b (rest_of true (lines ++ line ∷ [])) (l ∷ (lines ++ line ∷ [])) ≡ [])
-    [ true ↦ λ none. rest_yes true lines line none inner | false ↦ λ none. absurd (false≢true (sym none)) ] h
-
-pub block_no : (begun : Bool) (lines : List (List ℕ)) (line : List ℕ) → is_some_line (rest_of begun lines) ≡ false → belongs (begun_by begun lines) line ≡ false → block_of begun (lines ++ line ∷ []) ≡ block_of begun lines
-block_no begun [] line h unmet = cond-false (belongs begun line) (line ∷ []) [] unmet
-block_no begun (l ∷ lines) line h unmet =
-    let inner = ap (λ b. belongs b line) (begun_true lines) ∙ unmet in
-    elim (belongs begun l) as (λ b. is_some_line (cond b (rest_of true lines) (l ∷ lines)) ≡ false → cond b (l ∷ block_of true (lines ++ line ∷ [])) [] ≡ cond b (l ∷ block_of true lines) [])
-    [ true ↦ λ none. ap (λ t. l ∷ t) (block_no true lines line none inner) | false ↦ λ none. absurd (false≢true (sym none)) ] h
-
-pub rest_no : (begun : Bool) (lines : List (List ℕ)) (line : List ℕ) → is_some_line (rest_of begun lines) ≡ false → belongs (begun_by begun lines) line ≡ false → rest_of begun (lines ++ line ∷ []) ≡ line ∷ []
-rest_no begun [] line h unmet = cond-false (belongs begun line) [] (line ∷ []) unmet
-rest_no begun (l ∷ lines) line h unmet =
-    let inner = ap (λ b. belongs b line) (begun_true lines) ∙ unmet in
-    elim (belongs begun l) as (λ b. is_some_line (cond b (rest_of true lines) (l ∷ lines)) ≡ false → cond b (rest_of true (lines ++ line ∷ [])) (l ∷ (lines ++ line ∷ [])) ≡ line ∷ [])
-    [ true ↦ λ none. rest_no true lines line none inner | false ↦ λ none. absurd (false≢true (sym none)) ] h
-
-no_lines : (lines : List (List ℕ)) → is_some_line lines ≡ false → lines ≡ []
-no_lines [] h = refl
-no_lines (line ∷ lines) h = absurd (false≢true (sym h))
-
--- ---- headers
-
-joined_some : (line : List ℕ) (on : Bool) (headers : List (List ℕ)) → is_some_line (joined line on headers) ≡ true
-joined_some line false headers = refl
-joined_some line true [] = refl
-joined_some line true (header ∷ headers) = refl
-
-headers_some : (line : List ℕ) (lines : List (List ℕ)) → is_some_line (headers_in (line ∷ lines)) ≡ true
-headers_some line lines = joined_some line (goes_on lines) (headers_in lines)
-
-joined_push : (line : List ℕ) (on : Bool) (headers : List (List ℕ)) (last : List ℕ) → is_some_line headers ≡ true → joined line on (headers ++ last ∷ []) ≡ joined line on headers ++ last ∷ []
-joined_push line on [] last h = absurd (false≢true h)
-joined_push line false (header ∷ headers) last h = refl
-joined_push line true (header ∷ headers) last h = refl
-
-joined_onto : (line : List ℕ) (on : Bool) (headers : List (List ℕ)) (last : List ℕ) → is_some_line headers ≡ true → joined line on (onto_last last headers) ≡ onto_last last (joined line on headers)
-joined_onto line on [] last h = absurd (false≢true h)
-joined_onto line false (header ∷ []) last h = refl
-joined_onto line true (header ∷ []) last h = ap (λ t. t ∷ []) (sym (append_assoc line (crlf ++ header) (crlf ++ last)))
-joined_onto line false (header ∷ next ∷ headers) last h = refl
-joined_onto line true (header ∷ next ∷ headers) last h = refl
-
-pub headers_push : (lines : List (List ℕ)) (line : List ℕ) → is_continuation line ≡ false → headers_in (lines ++ line ∷ []) ≡ headers_in lines ++ line ∷ []
-headers_push [] line unmet = refl
-headers_push (l ∷ []) line unmet = ap (λ b. joined l b (line ∷ [])) unmet
-headers_push (l ∷ m ∷ lines) line unmet =
-    ap (joined l (is_continuation m)) (headers_push (m ∷ lines) line unmet)
-    ∙ joined_push l (is_continuation m) (headers_in (m ∷ lines)) line (headers_some m lines)
-
-pub headers_onto : (lines : List (List ℕ)) (line : List ℕ) → is_continuation line ≡ true → headers_in (lines ++ line ∷ []) ≡ onto_last line (headers_in lines)
-headers_onto [] line met = refl
-headers_onto (l ∷ []) line met = ap (λ b. joined l b (line ∷ [])) met
-headers_onto (l ∷ m ∷ lines) line met =
-    ap (joined l (is_continuation m)) (headers_onto (m ∷ lines) line met)
-    ∙ joined_onto l (is_continuation m) (headers_in (m ∷ lines)) line (headers_some m lines)
-
-pub headers_added : (lines : List (List ℕ)) (line : List ℕ) → headers_in (lines ++ line ∷ []) ≡ header_added line (headers_in lines)
-headers_added lines line =
-    ⊎_elim
-    (λ met. headers_onto lines line met ∙ sym (cond-true (is_continuation line) (onto_last line (headers_in lines)) (headers_in lines ++ line ∷ []) met))
-    (λ unmet. headers_push lines line unmet ∙ sym (cond-false (is_continuation line) (onto_last line (headers_in lines)) (headers_in lines ++ line ∷ []) unmet))
-    (cases_Bool (is_continuation line))
-
-pub onto_last_push : (line header : List ℕ) (headers : List (List ℕ)) → onto_last line (headers ++ header ∷ []) ≡ headers ++ (header ++ (crlf ++ line)) ∷ []
-onto_last_push line header [] = refl
-onto_last_push line header (h ∷ []) = refl
-onto_last_push line header (h ∷ next ∷ headers) = ap (λ t. h ∷ t) (onto_last_push line header (next ∷ headers))
-
-some_begun : (lines : List (List ℕ)) → is_some_line lines ≡ begun_by false lines
-some_begun [] = refl
-some_begun (line ∷ lines) = refl
-
-some_push : (lines : List (List ℕ)) (line : List ℕ) → is_some_line (lines ++ line ∷ []) ≡ true
-some_push [] line = refl
-some_push (l ∷ lines) line = refl
-
--- the block has begun where it has a line
-pub begun_is : (lines : List (List ℕ)) → is_some_line (rest_of false lines) ≡ false → is_some_line (block_of false lines) ≡ begun_by false lines
-begun_is lines none = ap is_some_line (block_all false lines none) ∙ some_begun lines
-
--- ---- the body
-
-without_empty_push : (lines : List (List ℕ)) (line : List ℕ) → is_some_line lines ≡ true → without_empty (lines ++ line ∷ []) ≡ without_empty lines ++ line ∷ []
-without_empty_push [] line h = absurd (false≢true h)
-without_empty_push ([] ∷ lines) line h = refl
-without_empty_push ((b ∷ l) ∷ lines) line h = refl
-
-pub body_more : (lines : List (List ℕ)) (line : List ℕ) → is_some_line (rest_of false lines) ≡ true → body_of (lines ++ line ∷ []) ≡ body_of lines ++ with_end line
-body_more lines line some =
-    ap (λ r. flat_map with_end (without_empty r)) (rest_more false lines line some)
-    ∙ ap (flat_map with_end) (without_empty_push (rest_of false lines) line some)
-    ∙ flat_map-append with_end (without_empty (rest_of false lines)) (line ∷ [])
-    ∙ ap (λ t. body_of lines ++ t) (append-nil (with_end line))
-
-body_none : (lines : List (List ℕ)) → is_some_line (rest_of false lines) ≡ false → body_of lines ≡ []
-body_none lines none = ap (λ r. flat_map with_end (without_empty r)) (no_lines (rest_of false lines) none)
-
-pub body_yes : (lines : List (List ℕ)) (line : List ℕ) → is_some_line (rest_of false lines) ≡ false → belongs (begun_by false lines) line ≡ true → body_of (lines ++ line ∷ []) ≡ body_of lines
-body_yes lines line none met = ap (λ r. flat_map with_end (without_empty r)) (rest_yes false lines line none met) ∙ sym (body_none lines none)
-
-pub body_empty : (lines : List (List ℕ)) → is_some_line (rest_of false lines) ≡ false → belongs (begun_by false lines) [] ≡ false → body_of (lines ++ [] ∷ []) ≡ body_of lines
-body_empty lines none unmet = ap (λ r. flat_map with_end (without_empty r)) (rest_no false lines [] none unmet) ∙ sym (body_none lines none)
-
-pub body_first : (lines : List (List ℕ)) (b : ℕ) (line : List ℕ) → is_some_line (rest_of false lines) ≡ false → belongs (begun_by false lines) (b ∷ line) ≡ false → body_of (lines ++ (b ∷ line) ∷ []) ≡ body_of lines ++ with_end (b ∷ line)
-body_first lines b line none unmet =
-    ap (λ r. flat_map with_end (without_empty r)) (rest_no false lines (b ∷ line) none unmet)
-    ∙ append-nil (with_end (b ∷ line))
-    ∙ sym (ap (λ t. t ++ with_end (b ∷ line)) (body_none lines none))
-
--- ---- limits
-
-pub earlier_size : (size length : ℕ) → is_too_large (counted (size + length + 2)) ≡ false → is_too_large size ≡ false
-unfolding is_too_large counted
-earlier_size size length h =
-    let most = ltb-false most_message (min (size + length + 2) (most_message + 1)) h in
-    let le : size ≤ most_message = omega arith in
-    le-ltb most_message size le
-
-pub exact_size : (size : ℕ) → is_too_large (counted size) ≡ false → counted size ≡ size
-unfolding is_too_large counted
-exact_size size h =
-    let most = ltb-false most_message (min size (most_message + 1)) h in
-    omega arith
-
-pub same_too_large : (size : ℕ) → is_too_large (counted size) ≡ is_too_large size
-unfolding is_too_large counted
-same_too_large size =
-    ⊎_elim
-    (λ (above : most_message < size). lt-ltb most_message (min size (most_message + 1)) (omega arith) ∙ sym (lt-ltb most_message size above))
-    (λ (within : size ≤ most_message). le-ltb most_message (min size (most_message + 1)) (omega arith) ∙ sym (le-ltb most_message size within))
-    (cases_lt most_message size)
-
-pub same_large_block : (size : ℕ) → is_large_block (counted size) ≡ is_large_block size
-unfolding is_large_block counted most_message most_headers
-same_large_block size =
-    ⊎_elim
-    (λ (above : most_headers < size). lt-ltb most_headers (min size (most_message + 1)) (omega arith) ∙ sym (lt-ltb most_headers size above))
-    (λ (within : size ≤ most_headers). le-ltb most_headers (min size (most_message + 1)) (omega arith) ∙ sym (le-ltb most_headers size within))
-    (cases_lt most_headers size)
-
-pub earlier_block : (size length : ℕ) → is_large_block (counted (size + length + 2)) ≡ false → is_large_block size ≡ false
-unfolding is_large_block counted most_message most_headers
-earlier_block size length h =
-    let most = ltb-false most_headers (min (size + length + 2) (most_message + 1)) h in
-    let le : size ≤ most_headers = omega arith in
-    le-ltb most_headers size le
-
--- ---- what is kept, with one line more
-
-unless_none : (is : Bool) → unless is [] ≡ []
-unless_none true = refl
-unless_none false = refl
-
--- headers that were given up stay so
-unless_more : (was is : Bool) (line : List ℕ) (old headers : List (List ℕ)) → (is ≡ false → was ≡ false) → old ≡ unless was headers → unless is (header_added line old) ≡ unless is (header_added line headers)
-unless_more was true line old headers earlier kept = refl
-unless_more was false line old headers earlier kept = ap (header_added line) (kept ∙ ap (λ b. unless b headers) (earlier refl))
-
-moved_split : (g : Gathered) (size : ℕ) (lines : List (List ℕ)) → IsSplit g lines → IsSplit (record g { size = size }) lines
-moved_split g size lines is = record { headers = is.headers; has_header = is.has_header; block = is.block; body = is.body; has_body = is.has_body }
-
-pub gathers_none : (g : Gathered) → g.size ≡ 0 → g.block ≡ 0 → g.headers ≡ [] → g.has_header ≡ false → g.body ≡ [] → g.has_body ≡ false → Gathers g []
-unfolding counted most_message
-gathers_none g size block headers has_header body has_body = record {
-  size = size;
-  split = λ small. record { headers = headers ∙ sym (unless_none (is_large_block g.block)); has_header = has_header; block = block; body = body; has_body = has_body };
-  gone = λ large. record { headers = headers; body = body };
-}
-
--- the lines are too large
-pub gathers_large : (g n : Gathered) (size : ℕ) (line : List ℕ) (lines : List (List ℕ)) → n ≡ record g { size = size; headers = []; body = [] } → size ≡ counted (g.size + length line + 2) → is_too_large size ≡ true → Gathers g lines
-    → Gathers n (lines ++ line ∷ [])
-gathers_large g n size line lines new counted_is large is =
-    subst (λ x. Gathers x (lines ++ line ∷ [])) (sym new)
-    (record { size = counted_is ∙ counted_size lines line g.size is.size; split = λ small. absurd (false≢true (sym small ∙ large)); gone = λ more. record { headers = refl; body = refl } })
-
--- they aren't
-pub gathers_split : (g m : Gathered) (size : ℕ) (line : List ℕ) (lines : List (List ℕ)) → size ≡ counted (g.size + length line + 2) → is_too_large size ≡ false
-    → (IsSplit g lines → IsSplit m (lines ++ line ∷ [])) → Gathers g lines → Gathers (record m { size = size }) (lines ++ line ∷ [])
-gathers_split g m size line lines counted_is small split is = record {
-  size = counted_is ∙ counted_size lines line g.size is.size;
-  split = λ within. moved_split m size (lines ++ line ∷ []) (split (is.split (earlier_size g.size (length line) (sym (ap is_too_large counted_is) ∙ small))));
-  gone = λ large. absurd (false≢true (sym small ∙ large));
-}
-
-body_added : (g : Gathered) (line : List ℕ) (lines : List (List ℕ)) → g.has_body ≡ true → IsSplit g lines → IsSplit (record g { body = g.body ++ with_end line; has_body = true }) (lines ++ line ∷ [])
-body_added g line lines has is =
-    let some : is_some_line (rest_of false lines) ≡ true = sym is.has_body ∙ has in
-    let block : block_of false (lines ++ line ∷ []) ≡ block_of false lines = block_more false lines line some in
-    record {
-      headers = is.headers ∙ sym (ap (λ b. unless (is_large_block g.block) (headers_in b)) block);
-      has_header = is.has_header ∙ sym (ap is_some_line block);
-      block = is.block ∙ sym (ap (λ b. counted (size_of b)) block);
-      body = ap (λ b. b ++ with_end line) is.body ∙ sym (body_more lines line some);
-      has_body = sym (ap is_some_line (rest_more false lines line some) ∙ some_push (rest_of false lines) line);
-    }
-
-pub split_body : {T E : Type 0} (r : Result T E) (g n : Gathered) (line : List ℕ) → g.has_body ≡ true → OnOk r (n ≡ record g { body = g.body ++ with_end line; has_body = true })
-    → OnOk r ((lines : List (List ℕ)) → IsSplit g lines → IsSplit n (lines ++ line ∷ []))
-split_body (Err e) g n line has new = tt
-split_body (Ok u) g n line has new = λ lines is. subst (λ x. IsSplit x (lines ++ line ∷ [])) (sym new) (body_added g line lines has is)
-
-header_added_to : (g n : Gathered) (line : List ℕ) (lines : List (List ℕ)) → g.has_body ≡ false → belongs g.has_header line ≡ true → AddsHeader g n line → IsSplit g lines → IsSplit n (lines ++ line ∷ [])
-header_added_to g n line lines has met adds is =
-    let none : is_some_line (rest_of false lines) ≡ false = sym is.has_body ∙ has in
-    let belongs_is : belongs (begun_by false lines) line ≡ true = sym (ap (λ b. belongs b line) (is.has_header ∙ begun_is lines none)) ∙ met in
-    let block : block_of false (lines ++ line ∷ []) ≡ block_of false lines ++ line ∷ [] = block_yes false lines line none belongs_is in
-    record {
-      headers = adds.headers
-          ∙ unless_more (is_large_block g.block) (is_large_block n.block) line g.headers (headers_of lines) (λ small. earlier_block g.block (length line) (sym (ap is_large_block adds.block) ∙ small)) is.headers
-          ∙ ap (unless (is_large_block n.block)) (sym (headers_added (block_of false lines) line) ∙ sym (ap headers_in block));
-      has_header = adds.has_header ∙ sym (ap is_some_line block ∙ some_push (block_of false lines) line);
-      block = adds.block ∙ counted_size (block_of false lines) line g.block is.block ∙ sym (ap (λ b. counted (size_of b)) block);
-      body = adds.body ∙ is.body ∙ sym (body_yes lines line none belongs_is);
-      has_body = adds.has_body ∙ has ∙ sym (ap is_some_line (rest_yes false lines line none belongs_is));
-    }
-
-pub split_header : {T E : Type 0} (r : Result T E) (g n : Gathered) (line : List ℕ) → g.has_body ≡ false → belongs g.has_header line ≡ true → OnOk r (AddsHeader g n line)
-    → OnOk r ((lines : List (List ℕ)) → IsSplit g lines → IsSplit n (lines ++ line ∷ []))
-split_header (Err e) g n line has met adds = tt
-split_header (Ok u) g n line has met adds = λ lines is. header_added_to g n line lines has met adds is
-
--- the first line after the header block
-body_begun : (g : Gathered) (body line : List ℕ) (lines : List (List ℕ)) → g.has_body ≡ false → belongs g.has_header line ≡ false
-    → (belongs (begun_by false lines) line ≡ false → is_some_line (rest_of false lines) ≡ false → body ≡ body_of (lines ++ line ∷ [])) → IsSplit g lines → IsSplit (record g { body = body; has_body = true }) (lines ++ line ∷ [])
-body_begun g body line lines has unmet body_is is =
-    let none : is_some_line (rest_of false lines) ≡ false = sym is.has_body ∙ has in
-    let belongs_not : belongs (begun_by false lines) line ≡ false = sym (ap (λ b. belongs b line) (is.has_header ∙ begun_is lines none)) ∙ unmet in
-    let block : block_of false (lines ++ line ∷ []) ≡ block_of false lines = block_no false lines line none belongs_not in
-    record {
-      headers = is.headers ∙ sym (ap (λ b. unless (is_large_block g.block) (headers_in b)) block);
-      has_header = is.has_header ∙ sym (ap is_some_line block);
-      block = is.block ∙ sym (ap (λ b. counted (size_of b)) block);
-      body = body_is belongs_not none;
-      has_body = sym (ap is_some_line (rest_no false lines line none belongs_not));
-    }
-
--- it is empty
-pub split_empty : (g n : Gathered) (line : List ℕ) → g.has_body ≡ false → belongs g.has_header line ≡ false → (length line == 0) ≡ true → n ≡ record g { has_body = true }
-    → (lines : List (List ℕ)) → IsSplit g lines → IsSplit n (lines ++ line ∷ [])
-split_empty g n [] has unmet empty new lines is =
-    subst (λ x. IsSplit x (lines ++ [] ∷ [])) (sym new)
-    (body_begun g g.body [] lines has unmet (λ not_in none. is.body ∙ sym (body_empty lines none not_in)) is)
-split_empty g n (b ∷ line) has unmet empty new lines is = let e = eqb-true (length (b ∷ line)) 0 empty in absurd (omega arith)
-
--- it is not
-pub split_first : {T E : Type 0} (r : Result T E) (g n : Gathered) (line : List ℕ) → g.has_body ≡ false → belongs g.has_header line ≡ false → (length line == 0) ≡ false
-    → OnOk r (n ≡ record g { body = g.body ++ with_end line; has_body = true }) → OnOk r ((lines : List (List ℕ)) → IsSplit g lines → IsSplit n (lines ++ line ∷ []))
-split_first (Err e) g n line has unmet some new = tt
-split_first (Ok u) g n [] has unmet some new = absurd (false≢true (sym some))
-split_first (Ok u) g n (b ∷ line) has unmet some new = λ lines is.
-    subst (λ x. IsSplit x (lines ++ (b ∷ line) ∷ [])) (sym new)
-    (body_begun g (g.body ++ with_end (b ∷ line)) (b ∷ line) lines has unmet
-    (λ not_in none. ap (λ t. t ++ with_end (b ∷ line)) is.body ∙ sym (body_first lines b line none not_in)) is)
+pub given_split : (peer : List ℕ) (heard : List Heard) (line : Line) (message : Received) (lines : List (List ℕ)) → answer_of peer heard line ≡ Gives message → lines_in (exchanges peer heard) ≡ Some lines
+    → AreLines lines → IsSplitOf message (text_of lines)
+given_split peer heard line message lines gives is are =
+    let before : List Exchange = exchanges peer heard in
+    let end : line ≡ DataEnd = gift_at_end peer before line message gives in
+    let at_end : answer_to peer before DataEnd ≡ Gives message = ap (answer_to peer before) (sym end) ∙ gives in
+    let here : end_answer (kept_in peer before) (sender_in before) (recipient_in before) (Some lines) ≡ Gives message = ap (end_answer (kept_in peer before) (sender_in before) (recipient_in before)) (sym is) ∙ at_end in
+    subst (AnswerSplit (text_of lines)) here (end_split (kept_in peer before) (sender_in before) (recipient_in before) lines are)

@@ -5,11 +5,11 @@ use Rattle.mail_base.specs.declared.message.Kept.{Kept}
 use Rattle.smtp_lines.specs.declared.line.Line.{Line}
 use Rattle.smtp_lines.specs.declared.line.Line.TheVariants.{Command, TooLong, Data, DataEnd}
 use Rattle.smtp_receive.specs.declared.received.Received.{Received}
-use Rattle.smtp_receive.specs.declared.command.LineFault.{LineFault}
-use Rattle.smtp_receive.specs.Commands.{Order, Greet, From, To, Begin, End, order_of}
+use Rattle.mail_base.specs.declared.command.LineFault.{LineFault}
+use Rattle.smtp_receive.specs.Requests.{Request, Greet, From, To, Begin, End, request_of}
 use Rattle.smtp_receive.specs.Dialogue.{Exchange, Gives, answer_to, command_answer, end_answer, is_dropped, kept_in, lines_in, sender_in, recipient_in}
 
-no_gift : (given full : Bool) (order : Result Order LineFault) (message : Received) → command_answer given full order ≡ Gives message → ⊥
+no_gift : (given full : Bool) (request : Result Request LineFault) (message : Received) → command_answer given full request ≡ Gives message → ⊥
 no_gift given full (Err fault) message e = cc e
 no_gift given full (Ok (Greet argument)) message e = cc e
 no_gift given full (Ok (From path)) message e = cc e
@@ -19,7 +19,7 @@ no_gift given false (Ok Begin) message e = cc e
 no_gift given full (Ok End) message e = cc e
 
 pub gift_at_end : (peer : List ℕ) (before : List Exchange) (line : Line) (message : Received) → answer_to peer before line ≡ Gives message → line ≡ DataEnd
-gift_at_end peer before (Command text) message e = absurd (no_gift (is_some (sender_in before)) (is_some (recipient_in before)) (order_of text) message e)
+gift_at_end peer before (Command text) message e = absurd (no_gift (is_some (sender_in before)) (is_some (recipient_in before)) (request_of text) message e)
 gift_at_end peer before TooLong message e = absurd (cc e)
 gift_at_end peer before (Data text) message e = absurd (cc e)
 gift_at_end peer before DataEnd message e = refl

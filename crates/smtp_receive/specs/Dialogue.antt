@@ -8,13 +8,16 @@ use Rattle.smtp_receive.specs.declared.received.Did.{Did}
 use Rattle.smtp_receive.specs.declared.received.Did.TheVariants.{Reply as Replied, Granted, Message, Taken, Bye}
 use Rattle.smtp_receive.specs.declared.reply.Reply.{Reply}
 use Rattle.smtp_receive.specs.declared.reply.Reply.TheVariants.{LineTooLong, BadByte, Unrecognized, ArgumentNeeded, NoArgument, SenderGiven, NeedMail, NeedRcpt, SyntaxError, PathTooLong, ParameterNotKnown, UserRequired, TooManyRecipients, SenderOk, RecipientOk, MessageTooLarge, HeaderTooLarge}
-use Rattle.smtp_receive.specs.declared.command.Verb.{Verb}
-use Rattle.smtp_receive.specs.declared.command.Verb.TheVariants.{Helo, Mail, Rcpt, Data, Quit}
-use Rattle.smtp_receive.specs.declared.command.LineFault.{LineFault}
-use Rattle.smtp_receive.specs.declared.command.LineFault.TheVariants.{BadByte as HasBadByte, Unknown, ArgumentNeeded as LacksArgument, NoArgument as HasArgument, Syntax, PathTooLong as HasLongPath, Parameter}
-use Rattle.smtp_receive.specs.Commands.{Order, Greet, From, To, Begin, End, order_of, is_nothing}
+use Rattle.mail_base.specs.declared.command.Verb.{Verb}
+use Rattle.mail_base.specs.declared.command.Verb.TheVariants.{Helo, Ehlo, Mail, Rcpt, Data, Rset, Noop, Quit, Vrfy, Expn, Help}
+use Rattle.mail_base.specs.declared.command.LineFault.{LineFault}
+use Rattle.mail_base.specs.declared.command.LineFault.TheVariants.{BadByte as HasBadByte, Unknown, ArgumentNeeded as LacksArgument, NoArgument as HasArgument, Syntax, PathTooLong as HasLongPath, Parameter}
+use Rattle.mail_base.specs.Limits.{most_message, most_headers}
+use Rattle.mail_header.specs.Gatherings.{is_above}
+use Rattle.mail_header.specs.inner.Lines.{headers_of, body_of, block_of, size_of}
+use Rattle.smtp_lines.specs.inner.Reading.{is_nothing}
+use Rattle.smtp_receive.specs.Requests.{Request, Greet, From, To, Begin, End, request_of}
 use Rattle.smtp_receive.specs.Replies.{text_of, grant_text, hello_text, closing_text}
-use Rattle.smtp_receive.specs.Splits.{headers_of, body_of, block_of, size_of, is_too_large, is_large_block}
 
 -- how a line is answered: with words, 250 to HELO, 354, 221 to QUIT, a message, or no reply
 pub data Answer : Type 0 where
@@ -35,14 +38,14 @@ pub record Heard : Type 0 where
   pub line : Line
   pub short : Bool
 
--- the order that was read, if there was one
-abbrev pub order_in : Result Order LineFault → Option Order
-order_in (Ok order) = Some order
-order_in (Err fault) = None
+-- the request that was read, if there was one
+abbrev pub read_in : Result Request LineFault → Option Request
+read_in (Ok request) = Some request
+read_in (Err fault) = None
 
 -- what a line asks for, if it is a command
-abbrev pub asked : Line → Option Order
-asked (Command text) = order_in (order_of text)
+abbrev pub asked : Line → Option Request
+asked (Command text) = read_in (request_of text)
 asked TooLong = None
 asked (DataLine text) = None
 asked DataEnd = None
@@ -67,29 +70,29 @@ ends_by _ = false
 abbrev pub ends : Exchange → Bool
 ends e = is_data_end e.line || ends_by e.answer
 
-abbrev pub path_from : Option Order → Option (List ℕ)
+abbrev pub path_from : Option Request → Option (List ℕ)
 path_from (Some (From path)) = Some (bracketed path)
 path_from _ = None
 
-abbrev pub path_to : Option Order → Option (List ℕ)
+abbrev pub path_to : Option Request → Option (List ℕ)
 path_to (Some (To path)) = Some (bracketed path)
 path_to _ = None
 
-abbrev pub argument_in : Option Order → Option (List ℕ)
+abbrev pub argument_in : Option Request → Option (List ℕ)
 argument_in (Some (Greet argument)) = Some argument
 argument_in _ = None
 
-abbrev pub sender_by : Option Answer → Option Order → Option (List ℕ)
-sender_by (Some (Says SenderOk)) order = path_from order
-sender_by _ order = None
+abbrev pub sender_by : Option Answer → Option Request → Option (List ℕ)
+sender_by (Some (Says SenderOk)) request = path_from request
+sender_by _ request = None
 
-abbrev pub recipient_by : Option Answer → Option Order → Option (List ℕ)
-recipient_by (Some (Says RecipientOk)) order = path_to order
-recipient_by _ order = None
+abbrev pub recipient_by : Option Answer → Option Request → Option (List ℕ)
+recipient_by (Some (Says RecipientOk)) request = path_to request
+recipient_by _ request = None
 
-abbrev pub helo_by : Option Answer → Option Order → Option (List ℕ)
-helo_by (Some Greets) order = argument_in order
-helo_by _ order = None
+abbrev pub helo_by : Option Answer → Option Request → Option (List ℕ)
+helo_by (Some Greets) request = argument_in request
+helo_by _ request = None
 
 -- the sender of a MAIL that is accepted
 abbrev pub sender_told : Exchange → Option (List ℕ)
@@ -176,8 +179,14 @@ abbrev pub path_reply : Verb → Bool → Reply → Reply
 path_reply Mail given reply = mail_reply given reply
 path_reply Rcpt given reply = rcpt_reply given reply
 path_reply Helo given reply = reply
+path_reply Ehlo given reply = reply
 path_reply Data given reply = reply
+path_reply Rset given reply = reply
+path_reply Noop given reply = reply
 path_reply Quit given reply = reply
+path_reply Vrfy given reply = reply
+path_reply Expn given reply = reply
+path_reply Help given reply = reply
 
 -- the reply to a command that has a fault, by whether there is a sender
 abbrev pub fault_reply : Bool → LineFault → Reply
@@ -190,7 +199,7 @@ fault_reply given (HasLongPath verb) = path_reply verb given PathTooLong
 fault_reply given (Parameter verb) = path_reply verb given ParameterNotKnown
 
 -- the answer to a command, by whether there are a sender and a recipient
-abbrev pub command_answer : Bool → Bool → Result Order LineFault → Answer
+abbrev pub command_answer : Bool → Bool → Result Request LineFault → Answer
 command_answer given full (Err fault) = Says (fault_reply given fault)
 command_answer given full (Ok (Greet argument)) = Greets
 command_answer given full (Ok (From path)) = Says (mail_reply given SenderOk)
@@ -201,8 +210,8 @@ command_answer given full (Ok End) = Closes
 -- the answer to the end of a message of these lines
 abbrev pub message_answer : Kept → List ℕ → List ℕ → List (List ℕ) → Answer
 message_answer kept sender recipient lines =
-    if is_too_large (size_of lines) then Says MessageTooLarge
-    else if is_large_block (size_of (block_of false lines)) then Says HeaderTooLarge
+    if is_above most_message (size_of lines) then Says MessageTooLarge
+    else if is_above most_headers (size_of (block_of false lines)) then Says HeaderTooLarge
     else Gives (record { sender = sender; recipient = recipient; headers = headers_of lines; body = body_of lines; size = size_of lines; kept = kept })
 
 -- the same where a message may be under way; the end of data that were dropped gets no reply
@@ -212,7 +221,7 @@ end_answer kept _ _ _ = Takes
 
 -- the answer to a line after what came before it
 abbrev pub answer_to : List ℕ → List Exchange → Line → Answer
-answer_to peer before (Command text) = command_answer (is_some (sender_in before)) (is_some (recipient_in before)) (order_of text)
+answer_to peer before (Command text) = command_answer (is_some (sender_in before)) (is_some (recipient_in before)) (request_of text)
 answer_to peer before TooLong = Says LineTooLong
 answer_to peer before (DataLine text) = Takes
 answer_to peer before DataEnd = end_answer (kept_in peer before) (sender_in before) (recipient_in before) (lines_in before)

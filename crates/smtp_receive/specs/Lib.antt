@@ -1,8 +1,5 @@
-pub mod Paths
-pub mod PathEnds
-pub mod Commands
+pub mod Requests
 pub mod Replies
-pub mod Splits
 pub mod Dialogue
 pub mod Sessions
 pub mod Forms

@@ -1,7 +1,6 @@
 -- What a session keeps of its lines, and what it stands for.
-use Rattle.std.specs.Prelude.{◌≡◌, ◌≤◌, ℕ, ◌+◌, length, Bool, true, false, not, ◌&&◌, is_some, List, [], ◌∷◌, ◌++◌, Option, Some, None, IfSome, min, if◌then◌else◌}
+use Rattle.std.specs.Prelude.{◌≡◌, ℕ, Bool, true, false, not, ◌&&◌, is_some, List, [], ◌∷◌, Option, Some, None, IfSome, if◌then◌else◌}
 use Rattle.mail_base.specs.Limits.{most_message, most_headers}
-use Rattle.mail_base.specs.Texts.{crlf}
 use Rattle.mail_base.specs.declared.message.Kept.{Kept}
 use Rattle.smtp_lines.specs.declared.line.Line.{Line}
 use Rattle.smtp_lines.specs.declared.line.Line.TheVariants.{Command, TooLong, Data as DataLine, DataEnd}
@@ -9,72 +8,21 @@ use Rattle.smtp_receive.specs.declared.received.Received.{Received}
 use Rattle.smtp_receive.specs.declared.received.Did.{Did}
 use Rattle.smtp_receive.specs.declared.received.Did.TheVariants.{Message, Taken}
 use Rattle.smtp_receive.specs.declared.reply.Reply.TheVariants.{MessageTooLarge, HeaderTooLarge}
-use Rattle.smtp_receive.specs.declared.gathered.End.{End}
-use Rattle.smtp_receive.specs.declared.gathered.End.TheVariants.{Nothing, Refused, Whole}
-use Rattle.smtp_receive.specs.declared.gathered.Gathered.{Gathered}
+use Rattle.smtp_receive.specs.declared.ending.End.{End}
+use Rattle.smtp_receive.specs.declared.ending.End.TheVariants.{Nothing, Refused, Whole}
+use Rattle.mail_header.specs.declared.gathered.Gathered.{Gathered}
+use Rattle.mail_header.specs.Gatherings.{Gathers, IsSmall, is_above}
+use Rattle.smtp_lines.specs.inner.Reading.{is_nothing}
 use Rattle.smtp_receive.specs.declared.session.Session.{Session}
-use Rattle.smtp_receive.specs.Commands.{is_nothing}
 use Rattle.smtp_receive.specs.Replies.{shown_host}
-use Rattle.smtp_receive.specs.Splits.{headers_of, body_of, block_of, rest_of, size_of, is_too_large, is_large_block, is_continuation}
 use Rattle.smtp_receive.specs.Dialogue.{Heard, Exchange, Answer, exchanges, answer_to, did_of, sender_in, recipient_in, lines_in, helo_in}
 
--- a size that counts no further once it is too large
-unfoldable pub counted : ℕ → ℕ
-counted size = min size (most_message + 1)
-
-abbrev pub is_some_line : List (List ℕ) → Bool
-is_some_line [] = false
-is_some_line (line ∷ lines) = true
-
--- a line put onto the last header, or alone
-abbrev pub onto_last : List ℕ → List (List ℕ) → List (List ℕ)
-onto_last line [] = line ∷ []
-onto_last line (header ∷ []) = (header ++ (crlf ++ line)) ∷ []
-onto_last line (header ∷ next ∷ headers) = header ∷ onto_last line (next ∷ headers)
-
--- the headers with one more line of the header block
-abbrev pub header_added : List ℕ → List (List ℕ) → List (List ℕ)
-header_added line headers = if is_continuation line then onto_last line headers else headers ++ line ∷ []
-
--- headers, unless they are above their limit
-abbrev pub unless : Bool → List (List ℕ) → List (List ℕ)
-unless true headers = []
-unless false headers = headers
-
--- a line of the header block was added, and the rest stays
-pub record AddsHeader (old new : Gathered) (line : List ℕ) : Type 0 where
-  pub size : new.size ≡ old.size
-  pub block : new.block ≡ counted (old.block + length line + 2)
-  pub headers : new.headers ≡ unless (is_large_block new.block) (header_added line old.headers)
-  pub has_header : new.has_header ≡ true
-  pub body : new.body ≡ old.body
-  pub has_body : new.has_body ≡ old.has_body
-
--- what is kept is the split of the lines, without headers above their limit
-pub record IsSplit (g : Gathered) (lines : List (List ℕ)) : Type 0 where
-  pub headers : g.headers ≡ unless (is_large_block g.block) (headers_of lines)
-  pub has_header : g.has_header ≡ is_some_line (block_of false lines)
-  pub block : g.block ≡ counted (size_of (block_of false lines))
-  pub body : g.body ≡ body_of lines
-  pub has_body : g.has_body ≡ is_some_line (rest_of false lines)
-
--- no byte of the lines is kept
-pub record IsGone (g : Gathered) : Type 0 where
-  pub headers : g.headers ≡ []
-  pub body : g.body ≡ []
-
--- what is kept of the lines of a message: their split, or nothing where they are too large
-pub record Gathers (g : Gathered) (lines : List (List ℕ)) : Type 0 where
-  pub size : g.size ≡ counted (size_of lines)
-  pub split : is_too_large g.size ≡ false → IsSplit g lines
-  pub gone : is_too_large g.size ≡ true → IsGone g
-
--- the same where a message may be under way
+-- what is kept of the message under way, where one may be
 abbrev pub Holds : Option Gathered → Option (List (List ℕ)) → Type 0
 Holds None None = Unit
 Holds None (Some lines) = ⊥
 Holds (Some g) None = ⊥
-Holds (Some g) (Some lines) = Gathers g lines
+Holds (Some g) (Some lines) = Gathers g most_message lines
 
 -- what a session keeps after some exchanges
 pub record Keeps (s : Session) (host peer : List ℕ) (before : List Exchange) : Type 0 where
@@ -109,8 +57,8 @@ is_data DataEnd = true
 -- what the end of data comes to after the lines of a message
 abbrev pub ending_of : Gathered → End
 ending_of g =
-    if is_too_large g.size then Refused MessageTooLarge
-    else if is_large_block g.block then Refused HeaderTooLarge
+    if is_above most_message g.size then Refused MessageTooLarge
+    else if is_above most_headers g.block then Refused HeaderTooLarge
     else Whole
 
 -- the same where a message may be under way
@@ -135,11 +83,6 @@ answer_of peer heard line = answer_to peer (exchanges peer heard) line
 abbrev pub Stands : Session → List ℕ → List ℕ → List Heard → Type 0
 Stands s host peer heard = Keeps s host peer (exchanges peer heard)
 
--- the bytes that are kept of a message are within its limits: those of its headers, each with two bytes for its end, and these with those of its body
-pub record IsSmall (g : Gathered) : Type 0 where
-  pub headers : size_of g.headers ≤ most_headers
-  pub all : size_of g.headers + length g.body ≤ most_message
-
--- the same of a session, which may have a message under way
+-- the bytes that a session keeps of a message under way are within its limits
 abbrev pub IsBounded : Session → Type 0
-IsBounded s = IfSome s.message IsSmall
+IsBounded s = IfSome s.message (λ g. IsSmall g most_message)

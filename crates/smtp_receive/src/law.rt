@@ -3,9 +3,10 @@ ghost use Rattle.mail_base.specs.Limits.{IsId};
 ghost use Rattle.smtp_lines.specs.declared.line.Line.{Line};
 ghost use Rattle.smtp_receive.specs.declared.received.Received.{Received};
 ghost use Rattle.smtp_receive.specs.Replies.{greeting_text, stored_text, out_of_memory_text, too_many_sessions_text};
-ghost use Rattle.smtp_receive.specs.Dialogue.{Answer, Gives, Heard, dialogue, did_of, exchange_of};
+ghost use Rattle.mail_header.specs.Headers.{AreLines, text_of};
+ghost use Rattle.smtp_receive.specs.Dialogue.{Answer, Gives, Heard, dialogue, did_of, exchange_of, exchanges, lines_in};
 ghost use Rattle.smtp_receive.specs.Sessions.{answer_of};
-ghost use Rattle.smtp_receive.specs.Forms.{IsFormed};
+ghost use Rattle.smtp_receive.specs.Forms.{IsFormed, IsSplitOf};
 ghost use Rattle.smtp_receive.specs.Finals.{IsFinal, text_told};
 
 /// A dialogue goes on by one exchange a line, which answers the line by the dialogue before it.
@@ -18,6 +19,13 @@ pub fn one_exchange_a_line()
 pub fn messages_have_forms()
     ensures { (peer : List ℕ) (heard : List Heard) (line : Line) (message : Received)
         → answer_of peer heard line ≡ Gives message → IsFormed message peer }
+{}
+
+/// A message that is given has the headers and the body of its lines' text, where no line has an end inside.
+pub fn messages_are_split()
+    ensures { (peer : List ℕ) (heard : List Heard) (line : Line) (message : Received) (lines : List (List ℕ))
+        → answer_of peer heard line ≡ Gives message → lines_in (exchanges peer heard) ≡ Some lines
+        → AreLines lines → IsSplitOf message (text_of lines) }
 {}
 
 /// Of all that is replied, the reply to a message that is stored is alone in saying so, whatever the host is.

@@ -1,4 +1,4 @@
-ghost use Rattle.std.specs.Prelude.{◌≡◌, ◌++◌, IfOk};
+ghost use Rattle.std.specs.Prelude.{◌≡◌, ◌++◌, take, IfOk};
 ghost use Rattle.mail_base.specs.Texts.{crlf};
 ghost use Rattle.smtp_receive.specs.Replies.{words_of, text_of, grant_text, out_of_memory_text, too_many_sessions_text};
 
@@ -104,4 +104,16 @@ pub(crate) fn host_text(
     text.extend(back)?;
     text.extend(b"\r\n")?;
     Ok(text)
+}
+
+/// The first bytes of a text, or all where it has fewer.
+#[tactic(auto, using(crate::proofs::ReplyLemmas::take_short))]
+pub(crate) fn first(bytes: &[u8], most: usize) -> &[u8]
+    ensures { result.now ≡ take most bytes.now }
+{
+    if bytes.len() > most {
+        &bytes[..most]
+    } else {
+        bytes
+    }
 }

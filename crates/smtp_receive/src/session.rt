@@ -4,11 +4,14 @@ ghost use Rattle.smtp_receive.specs.Dialogue.{Heard, Exchange, did_of, answer_to
 ghost use Rattle.smtp_receive.specs.Replies.{text_of, hello_text, closing_text, greeting_text, stored_text, shown_host};
 ghost use Rattle.smtp_receive.specs.Sessions.{Stands, Keeps, Goes, Holds, BeginsMessage, IsBounded, answer_of, takes_recipient, is_data, end_of, given_by};
 
-use crate::command::{Command, LineFault, Verb, read_command};
-use crate::gathered::{End, Gathered};
+use crate::ending::{End, ending, received};
 use crate::received::Did;
-use crate::reply::{Reply, grant, host_text};
-use mail_base::{Id, Kept, Kind, MOST_DOMAIN, NoMemory, Text, TryCopy};
+use crate::reply::{Reply, first, grant, host_text};
+use crate::request::{Request, read_request};
+use mail_base::{
+    Id, Kept, Kind, LineFault, MOST_DOMAIN, MOST_MESSAGE, NoMemory, Text, TryCopy, Verb,
+};
+use mail_header::Gathering;
 use smtp_lines::Line;
 use std::alloc::Global;
 
@@ -25,7 +28,7 @@ pub struct Session {
     helo: Text,
     sender: Option<Text>,
     recipient: Option<Text>,
-    message: Option<Gathered>,
+    message: Option<Gathering>,
 }
 
 impl Session {
@@ -126,12 +129,12 @@ impl Session {
             → IfOk result (λ did. Goes self.new host peer before (Line.Command line.now) did) }
         ensures err { OnErr result (self.new ≡ self.old) }
     {
-        match read_command(line) {
-            Ok(Command::Helo(argument)) => self.helo(argument),
-            Ok(Command::Mail(path)) => self.mail(path),
-            Ok(Command::Rcpt(path)) => self.rcpt(path),
-            Ok(Command::Data) => self.begin_data(),
-            Ok(Command::Quit) => self.quit(),
+        match read_request(line) {
+            Ok(Request::Helo(argument)) => self.helo(argument),
+            Ok(Request::Mail(path)) => self.mail(path),
+            Ok(Request::Rcpt(path)) => self.rcpt(path),
+            Ok(Request::Data) => self.begin_data(),
+            Ok(Request::Quit) => self.quit(),
             Err(fault) => self.say(fault_reply(self.sender.is_some(), fault)),
         }
     }
@@ -196,7 +199,7 @@ impl Session {
             return self.say(Reply::NeedRcpt);
         }
         let reply = grant(self.host.allocator())?;
-        self.message = Some(Gathered::new(self.host.allocator()));
+        self.message = Some(Gathering::new(self.host.allocator()));
         Ok(Did::Granted(reply))
     }
 
@@ -243,7 +246,7 @@ impl Session {
         ensures { result ≡ end_of self.now.sender self.now.recipient self.now.message }
     {
         match (&self.sender, &self.recipient, &self.message) {
-            (Some(_), Some(_), Some(message)) => message.ending(),
+            (Some(_), Some(_), Some(message)) => ending(message),
             _ => End::Nothing,
         }
     }
@@ -258,7 +261,7 @@ impl Session {
         let message = self.message.take();
         match (sender, recipient, message) {
             (Some(sender), Some(recipient), Some(message)) => {
-                Did::Message(message.received(sender, recipient, kept))
+                Did::Message(received(message, sender, recipient, kept))
             }
             _ => Did::Taken,
         }
@@ -281,17 +284,6 @@ fn shown(host: &[u8]) -> &[u8]
     ensures { result.now ≡ shown_host host.now }
 {
     first(host, MOST_DOMAIN)
-}
-
-#[tactic(auto, using(crate::proofs::ReplyLemmas::take_short))]
-fn first(bytes: &[u8], most: usize) -> &[u8]
-    ensures { result.now ≡ take most bytes.now }
-{
-    if bytes.len() > most {
-        &bytes[..most]
-    } else {
-        bytes
-    }
 }
 
 fn bracketed(alloc: Global, path: &[u8]) -> Result<Text, NoMemory>
@@ -329,14 +321,15 @@ fn path_reply(verb: Verb, given: bool, reply: Reply) -> Reply
     }
 }
 
-fn add_line(message: &mut Option<Gathered>, line: &[u8]) -> Result<(), NoMemory>
+#[tactic(auto, unfolding(mail_base::specs::Limits::most_message))]
+fn add_line(message: &mut Option<Gathering>, line: &[u8]) -> Result<(), NoMemory>
     ensures ok { OnOk result ((lines : Option (List (List ℕ))) → Holds message.old lines
         → Holds message.new (with_text (Line.Data line.now) lines)) }
     ensures silent { message.old ≡ None → IsOk result }
     ensures err { OnErr result (message.new ≡ message.old) }
 {
     match message {
-        Some(gathered) => gathered.add(line),
+        Some(gathering) => gathering.add(line, MOST_MESSAGE),
         None => Ok(()),
     }
 }

@@ -1,8 +1,0 @@
-use Rattle.smtp_receive.proofs.FoundLemmas.{before_at, no_at}
-use Rattle.smtp_receive.proofs.path.local_part.Goals as goal
-
-pub returns-in-Some : goal.returns-in-Some
-returns-in-Some c = before_at c.args.path.now c.in-Some.at c.in-Some.ensures
-
-pub returns-in-None : goal.returns-in-None
-returns-in-None c = no_at c.args.path.now c.in-None.ensures
