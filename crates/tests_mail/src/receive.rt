@@ -83,7 +83,7 @@ fn show_kept(said: &mut Text, kept: &Kept) -> Result<(), NoMemory> {
 type Row = (&'static [u8], &'static [u8]);
 
 /// A stream, and what is said to it.
-static SESSIONS: [Row; 20] = [
+static SESSIONS: [Row; 28] = [
     (
         b"HELO c.example\r\nMAIL FROM:<bob@c.example>\r\nRCPT TO:<ann@mx.example>\r\nDATA\r\nSubject: hi\r\n\r\nhello\r\n.\r\nQUIT\r\n",
         b"250 localhost Hello\r\n250 2.1.0 Sender ok\r\n250 2.1.5 Recipient ok\r\n354 Enter mail, end with \".\" on a line by itself\r\n+++<bob@c.example><ann@mx.example>{Subject: hi}[hello\r\n] SMTP c.example 10.0.0.1\r\n250 2.0.0 w000000000001 Message accepted for delivery\r\n221 2.0.0 localhost closing connection\r\n",
@@ -91,6 +91,17 @@ static SESSIONS: [Row; 20] = [
     (b"NOOP\r\n", b"500 5.5.1 Command unrecognized\r\n"),
     (b"EHLO a\r\n", b"500 5.5.1 Command unrecognized\r\n"),
     (b"\r\n", b"500 5.5.1 Command unrecognized\r\n"),
+    (b"EHLO\r\n", b"500 5.5.1 Command unrecognized\r\n"),
+    (b"vrfy \r\n", b"500 5.5.1 Command unrecognized\r\n"),
+    (b"RSET now\r\n", b"500 5.5.1 Command unrecognized\r\n"),
+    (b"Help\r\n", b"500 5.5.1 Command unrecognized\r\n"),
+    (b"QUITE\r\n", b"500 5.5.1 Command unrecognized\r\n"),
+    (b"EXPN \x7f\r\n", b"500 5.5.2 Bad byte in line\r\n"),
+    (
+        b"MAIL FROM:<a> BODY=8BITMIME\r\n",
+        b"555 5.5.4 Parameter not known\r\n",
+    ),
+    (b"MAIL FROM:<a> body=7bit\r\n", b"250 2.1.0 Sender ok\r\n"),
     (b"HELO \t\r\n", b"501 5.5.4 Argument needed\r\n"),
     (b"quit now\r\n", b"501 5.5.4 No argument allowed\r\n"),
     (b"DATA x\r\n", b"501 5.5.4 No argument allowed\r\n"),
