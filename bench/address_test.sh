@@ -1,31 +1,41 @@
 #!/bin/bash
-# Milliseconds that address test mode takes for 20,000, 40,000 and 80,000 lines over sets of 1, 300 and 600 rules of which
-# the last one fits, the best of three runs; with the lines per second of that run, and the greatest memory in KiB. It is
-# no part of the gate.
+# Lines per second that address test mode answers, and its greatest memory: over sets of 1, 300 and 3,000 rules of
+# different anchors, and, by `3,0 user@host.example`, over each configuration that is an argument. Where THEIRS names a
+# command that is Sendmail's own program, it answers the same lines over these in the same run. This is no part of the gate.
 set -euo pipefail
+files=()
+for file in "$@"; do files+=("$(realpath "$file")"); done
 cd "$(dirname "$0")/.."
 work=$(mktemp -d)
 trap 'rm -rf "$work"' EXIT
 
-(cd crates/sendmail && rt run < /dev/null -- --version > "$work/built")
+(cd crates/sendmail && rt run < /dev/null -- --version > "$work/built") || true
 program=$(find "$PWD/crates/sendmail/out" -type f -perm -u+x -name sendmail | head -1)
 
-for rules in 1 300 600; do
+# What a command takes to answer the lines of a file: seconds of the clock, and KiB.
+measured() {
+    local lines=$1 name=$2 begun
+    shift 2
+    begun=$(date +%s%N)
+    /usr/bin/time -f %M -o "$work/peak" "$@" < "$lines" > "$work/answers"
+    local taken=$(($(date +%s%N) - begun)) count
+    count=$(wc -l < "$lines")
+    echo "$name: $((count * 1000000000 / taken)) lines per second, $(tail -1 "$work/peak") KiB at most"
+}
+
+for count in 1 300 3000; do
     {
         echo S5
-        for number in $(seq $((rules - 1))); do printf 'Rnever%s . $*\t$@ $1\n' "$number"; done
+        for number in $(seq $((count - 1))); do printf 'Rnever%s . $*\t$@ $1\n' "$number"; done
         printf 'R$-:$+\t$@ $2 @ $1\n'
-    } > "$work/$rules.cf"
-    for count in 20000 40000 80000; do
-        for _ in $(seq "$count"); do echo '5 UCBARPA:eric'; done > "$work/lines"
-        best=
-        for _ in 1 2 3; do
-            begun=$(date +%s%N)
-            /usr/bin/time -f %M -o "$work/peak" "$program" -bt "-C$work/$rules.cf" < "$work/lines" > "$work/answers"
-            took=$(($(date +%s%N) - begun))
-            [ "$(wc -l < "$work/answers")" = "$count" ]
-            [ "$best" ] && [ "$best" -le "$took" ] || best=$took
-        done
-        echo "$rules rules, $count lines: $((best / 1000000)) milliseconds, $((count * 1000000000 / best)) lines per second, $(cat "$work/peak") KiB at most"
-    done
+    } > "$work/$count.cf"
+    for _ in $(seq 20000); do echo '5 UCBARPA:eric'; done > "$work/lines"
+    measured "$work/lines" "$count rules" "$program" -bt "-C$work/$count.cf"
+done
+for _ in $(seq 20000); do echo '3,0 user@host.example'; done > "$work/lines"
+for file in ${files[@]+"${files[@]}"}; do
+    measured "$work/lines" "$file" "$program" -bt "-C$file"
+    if [ -n "${THEIRS:-}" ]; then
+        measured "$work/lines" "$file by Sendmail's own program" $THEIRS -bt -C "$file"
+    fi
 done
