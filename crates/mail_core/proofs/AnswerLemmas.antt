@@ -1,5 +1,5 @@
 -- What a session says to a line, as the dialogue has it.
-use Rattle.std.proofs.Common.{◌≡◌, ℕ, List, [], ◌∷◌, ◌++◌, Bool, true, false, Option, Some, refl, sym, ◌∙◌, ap}
+use Rattle.std.proofs.Common.{◌≡◌, ℕ, List, [], ◌∷◌, ◌++◌, Bool, true, false, Option, Some, None, refl, sym, ◌∙◌, ap}
 use Rattle.std.specs.List.{flat_map}
 use Rattle.std.specs.Prelude.{reverse}
 use Rattle.std.proofs.lemmas.List.{append-nil, map-append, reverse-reverse}
@@ -12,7 +12,8 @@ use Rattle.smtp_receive.specs.Replies.{text_of, grant_text, shown_host}
 use Rattle.smtp_receive.proofs.KeepLemmas.{dialogue_more}
 use Rattle.mail_core.specs.declared.serving.Site.{Site}
 use Rattle.mail_core.specs.Guests.{Guest, grant_in, grants_of, with_line}
-use Rattle.mail_core.specs.Machine.{Did, says, closes, replies}
+use Rattle.mail_core.specs.Machine.{Did, says, closes, replies, is_answered}
+use Rattle.spool_store.specs.Tables.{Table}
 use Rattle.mail_core.specs.Standing.{line_in, lines_heard}
 
 -- ---- what is told, and the machine's reply
@@ -20,6 +21,7 @@ use Rattle.mail_core.specs.Standing.{line_in, lines_heard}
 -- what a reply in words comes to
 pub record IsReply (site : Site) (moment : ℕ) (answer : Answer) (text : List ℕ) (grant : Bool) : Type 0 where
   pub says_it : (d : Did) (whole : Bool) → replies site moment d answer whole ≡ says d text whole
+  pub answered : (table : Table) → is_answered table answer ≡ true
   pub grant_is : is_grant (Some answer) ≡ grant
 
 -- the same words
@@ -27,8 +29,8 @@ abbrev same_words : (d : Did) (one other : List ℕ) (whole : Bool) → one ≡ 
 same_words d one other whole e = ap (λ t. says d t whole) (sym e)
 
 pub reply_is : (site : Site) (moment : ℕ) (answer : Answer) (text : List ℕ) → Replied text ≡ did_of (shown_host site.host) answer → IsReply site moment answer text false
-reply_is site moment (Says reply) text e = record { says_it = λ d whole. same_words d text (text_of reply) whole (cc e); grant_is = refl }
-reply_is site moment Greets text e = record { says_it = λ d whole. same_words d text _ whole (cc e); grant_is = refl }
+reply_is site moment (Says reply) text e = record { says_it = λ d whole. same_words d text (text_of reply) whole (cc e); answered = λ table. refl; grant_is = refl }
+reply_is site moment Greets text e = record { says_it = λ d whole. same_words d text _ whole (cc e); answered = λ table. refl; grant_is = refl }
 reply_is site moment Grants text e = absurd (cc e)
 reply_is site moment Closes text e = absurd (cc e)
 reply_is site moment (Gives message) text e = absurd (cc e)
@@ -37,7 +39,7 @@ reply_is site moment Takes text e = absurd (cc e)
 pub grant_is : (site : Site) (moment : ℕ) (answer : Answer) (text : List ℕ) → Granted text ≡ did_of (shown_host site.host) answer → IsReply site moment answer text true
 grant_is site moment (Says reply) text e = absurd (cc e)
 grant_is site moment Greets text e = absurd (cc e)
-grant_is site moment Grants text e = record { says_it = λ d whole. same_words d text grant_text whole (cc e); grant_is = refl }
+grant_is site moment Grants text e = record { says_it = λ d whole. same_words d text grant_text whole (cc e); answered = λ table. refl; grant_is = refl }
 grant_is site moment Closes text e = absurd (cc e)
 grant_is site moment (Gives message) text e = absurd (cc e)
 grant_is site moment Takes text e = absurd (cc e)
@@ -50,9 +52,19 @@ bye_is site moment Closes text e = λ d whole. let same : text ≡ _ = cc e in a
 bye_is site moment (Gives message) text e = absurd (cc e)
 bye_is site moment Takes text e = absurd (cc e)
 
+-- the run goes on behind the last reply
+pub bye_on : (host : List ℕ) (answer : Answer) (text : List ℕ) → Bye text ≡ did_of host answer → (table : Table) → is_answered table answer ≡ true
+bye_on host (Says reply) text e table = refl
+bye_on host Greets text e table = refl
+bye_on host Grants text e table = refl
+bye_on host Closes text e table = refl
+bye_on host (Gives message) text e table = absurd (cc e)
+bye_on host Takes text e table = refl
+
 -- nothing is said
 pub record IsSilent (site : Site) (moment : ℕ) (answer : Answer) : Type 0 where
   pub says_none : (d : Did) (whole : Bool) → replies site moment d answer whole ≡ d
+  pub answered : (table : Table) → is_answered table answer ≡ true
   pub grant_is : is_grant (Some answer) ≡ false
 
 pub taken_is : (site : Site) (moment : ℕ) (answer : Answer) → Taken ≡ did_of (shown_host site.host) answer → IsSilent site moment answer
@@ -61,7 +73,7 @@ taken_is site moment Greets e = absurd (cc e)
 taken_is site moment Grants e = absurd (cc e)
 taken_is site moment Closes e = absurd (cc e)
 taken_is site moment (Gives message) e = absurd (cc e)
-taken_is site moment Takes e = record { says_none = λ d whole. refl; grant_is = refl }
+taken_is site moment Takes e = record { says_none = λ d whole. refl; answered = λ table. refl; grant_is = refl }
 
 pub message_is : (host : List ℕ) (answer : Answer) (message : Received) → Message message ≡ did_of host answer → answer ≡ Gives message
 message_is host (Says reply) message e = absurd (cc e)
@@ -75,14 +87,14 @@ message_is host Takes message e = absurd (cc e)
 
 -- the answer that stands in the dialogue, if one does
 abbrev pub answer_kept : Guest → Line → Bool → Option Answer
-answer_kept g line short = answer_heard g.peer (exchanges g.peer g.heard) (record { line = line; short = short })
+answer_kept g line short = answer_heard g.peer (exchanges g.peer g.heard) (record { line = line; short = short; id = None })
 
-pub lines_more : (g : Guest) (line : Line) (short : Bool) → lines_heard (with_line g line short) ≡ lines_heard g ++ line ∷ []
-lines_more g line short = map-append line_in g.heard (record { line = line; short = short } ∷ [])
+pub lines_more : (g : Guest) (line : Line) (short : Bool) (id : Option ℕ) → lines_heard (with_line g line short id) ≡ lines_heard g ++ line ∷ []
+lines_more g line short id = map-append line_in g.heard (record { line = line; short = short; id = id } ∷ [])
 
-pub grants_more : (g : Guest) (line : Line) (short : Bool) → grants_of (with_line g line short) ≡ grants_of g ++ grant_in (record { line = line; answer = answer_kept g line short })
-grants_more g line short =
-    let h : Heard = record { line = line; short = short } in
+pub grants_more : (g : Guest) (line : Line) (short : Bool) (id : Option ℕ) → grants_of (with_line g line short id) ≡ grants_of g ++ grant_in (record { line = line; answer = answer_kept g line short })
+grants_more g line short id =
+    let h : Heard = record { line = line; short = short; id = id } in
     let e : Exchange = record { line = line; answer = answer_kept g line short } in
     let es : List Exchange = exchanges g.peer g.heard in
     ap (λ q. flat_map grant_in q) (dialogue_more g.peer g.heard h)

@@ -16,7 +16,7 @@ use Rattle.spool_store.specs.Tables.{Table, after, start}
 use Rattle.mail_core.specs.declared.serving.Site.{Site}
 use Rattle.mail_core.specs.Effects.{Effect, Takes, Ticks, Commits, Sends, HangsUp, speech}
 use Rattle.mail_core.specs.Guests.{Guest, grant_in, guest_of, is_passed, next_line, with_bytes}
-use Rattle.mail_core.specs.Machine.{Choice, Normal, OutOfMemory, Way, GoesOn, Leaves, Did, way_of, replies, by_choice, heard_line, answered, settled, settled_by, fresh_start, all_answered, State, Step, still, Turn, at_moment, beginning, brought, moment_by, pieced, stepped, taken, followed, run}
+use Rattle.mail_core.specs.Machine.{Choice, Normal, OutOfMemory, Way, GoesOn, Leaves, Did, way_of, replies, by_choice, heard_line, id_by, is_answered, heard_where, answered, settled, settled_by, fresh_start, all_answered, State, Step, still, Turn, at_moment, beginning, brought, moment_by, pieced, stepped, taken, followed, run}
 use Rattle.mail_core.specs.Messages.{accept_of, is_spent}
 use Rattle.mail_core.proofs.MachineLemmas.{run_more}
 
@@ -39,8 +39,8 @@ lacked line = record { line = line; answer = None }
 abbrev pub with_lines : Guest → List Heard → Guest
 with_lines g heard = record g { heard = heard }
 
-abbrev pub input : Line → Bool → Heard
-input line short = record { line = line; short = short }
+abbrev pub input : Line → Bool → Option ℕ → Heard
+input line short id = record { line = line; short = short; id = id }
 
 module _ (site : Site) (moment : ℕ) where
   -- what is done at an answer that is sent whole or not
@@ -110,24 +110,33 @@ module _ (site : Site) (moment : ℕ) where
     heard_more : (h : Heard) → exchanges guest.peer (heard ++ h ∷ []) ≡ with_heard guest.peer before h
     heard_more h = fold_push (with_heard guest.peer) [] heard h ∙ ap (λ b. with_heard guest.peer b h) c.known
 
+    answered_now : (answer : Answer) → is_spent now ≡ false → is_answered now answer ≡ true
+    answered_now (Gives message) left = ap not left
+    answered_now (Says reply) left = refl
+    answered_now Greets left = refl
+    answered_now Grants left = refl
+    answered_now Closes left = refl
+    answered_now Passes left = refl
+
     -- a line got its answer
     pub comes_more : (answer : Answer) (whole : Bool) → is_spent now ≡ false → answer_to guest.peer before line ≡ answer
-        → Comes table guest (choices ++ Normal whole ∷ []) (table_by now answer) (heard ++ input line false ∷ []) (plain line answer ∷ before) (effects ++ effects_by guest.number now answer whole) (way_by answer whole)
+        → Comes table guest (choices ++ Normal whole ∷ []) (table_by now answer) (heard ++ input line false (id_by now answer) ∷ []) (plain line answer ∷ before) (effects ++ effects_by guest.number now answer whole) (way_by answer whole)
     comes_more answer whole left is = record {
-      may = (heard_line (so_far (table_by now answer) guest heard c.may (effects ++ effects_by guest.number now answer whole) (way_by answer whole)) line false).may_disconnect;
-      known = heard_more (input line false) ∙ ap (λ a. plain line a ∷ before) is;
+      may = (heard_line (so_far (table_by now answer) guest heard c.may (effects ++ effects_by guest.number now answer whole) (way_by answer whole)) line false (id_by now answer)).may_disconnect;
+      known = heard_more (input line false (id_by now answer)) ∙ ap (λ a. plain line a ∷ before) is;
       is = chosen (Normal whole)
-          ∙ ap (λ q. heard_line (replies site moment here (answer_to guest.peer q line) whole) line false) c.known
-          ∙ ap (λ q. heard_line (replies site moment here q whole) line false) is
-          ∙ ap (λ d. heard_line d line false) (replied answer whole left);
+          ∙ ap (λ q. heard_where (is_answered now (answer_to guest.peer q line)) (replies site moment here (answer_to guest.peer q line) whole) line false (id_by now (answer_to guest.peer q line))) c.known
+          ∙ ap (λ q. heard_where (is_answered now q) (replies site moment here q whole) line false (id_by now q)) is
+          ∙ ap (λ b. heard_where b (replies site moment here answer whole) line false (id_by now answer)) (answered_now answer left)
+          ∙ ap (λ d. heard_line d line false (id_by now answer)) (replied answer whole left);
     }
 
     -- 452 4.3.1 came in place of it
     pub comes_short : (whole : Bool) → is_dropped before line ≡ false
-        → Comes table guest (choices ++ OutOfMemory whole ∷ []) now (heard ++ input line true ∷ []) (lacked line ∷ before) (effects ++ speech guest.number out_of_memory_text whole) (way_of whole)
+        → Comes table guest (choices ++ OutOfMemory whole ∷ []) now (heard ++ input line true None ∷ []) (lacked line ∷ before) (effects ++ speech guest.number out_of_memory_text whole) (way_of whole)
     comes_short whole kept = record {
-      may = (heard_line (so_far now guest heard c.may (effects ++ speech guest.number out_of_memory_text whole) (way_of whole)) line true).may_disconnect;
-      known = heard_more (input line true) ∙ ap (λ b. record { line = line; answer = if not b then None else Some (answer_to guest.peer before line) } ∷ before) kept;
+      may = (heard_line (so_far now guest heard c.may (effects ++ speech guest.number out_of_memory_text whole) (way_of whole)) line true None).may_disconnect;
+      known = heard_more (input line true None) ∙ ap (λ b. record { line = line; answer = if not b then None else Some (answer_to guest.peer before line) } ∷ before) kept;
       is = chosen (OutOfMemory whole) ∙ cond-false (is_passed here.guest line) _ _ (ap (λ b. is_dropped b line) c.known ∙ kept);
     }
 
@@ -245,15 +254,15 @@ module _ (site : Site) (peer : List ℕ) (reading : ℕ) (latest : ℕ) (same : 
 
     -- it completes one, which gets its answer
     pub talks_line : (line : Line) (answer : Answer) → line_at (length heard) now (grants_by before) ≡ Some line → is_spent table ≡ false → answer_to peer before line ≡ answer
-        → way_by site latest answer true ≡ GoesOn → line_at (length (heard ++ input line false ∷ [])) now (grants_by (plain line answer ∷ before)) ≡ None
-        → Talks now (table_by site latest table answer) (heard ++ input line false ∷ []) (plain line answer ∷ before) (effects ++ answers_of (effects_by site latest 1 table answer true))
+        → way_by site latest answer true ≡ GoesOn → line_at (length (heard ++ input line false (id_by table answer) ∷ [])) now (grants_by (plain line answer ∷ before)) ≡ None
+        → Talks now (table_by site latest table answer) (heard ++ input line false (id_by table answer) ∷ []) (plain line answer ∷ before) (effects ++ answers_of (effects_by site latest 1 table answer true))
     talks_line line answer next left is on none =
         let c = comes_more site latest table (caller now heard) [] table heard before [] line (comes_none site latest table (caller now heard) before t.known) next answer true left is in
-        let went = subst (λ w. Comes site latest table (caller now heard) (Normal true ∷ []) (table_by site latest table answer) (heard ++ input line false ∷ []) (plain line answer ∷ before) (effects_by site latest 1 table answer true) w) on c in record {
+        let went = subst (λ w. Comes site latest table (caller now heard) (Normal true ∷ []) (table_by site latest table answer) (heard ++ input line false (id_by table answer) ∷ []) (plain line answer ∷ before) (effects_by site latest 1 table answer true) w) on c in record {
           turns = t.turns ++ byte_turn b (Normal true ∷ []) ∷ [];
           events = events_more (Normal true ∷ []);
           done = t.done ++ Takes (one b) ∷ Ticks reading ∷ effects_by site latest 1 table answer true;
-          is = turn_more (Normal true ∷ []) _ (all_kept site latest table (table_by site latest table answer) (caller now heard) (Normal true ∷ []) (heard ++ input line false ∷ []) (plain line answer ∷ before) (effects_by site latest 1 table answer true) went none);
+          is = turn_more (Normal true ∷ []) _ (all_kept site latest table (table_by site latest table answer) (caller now heard) (Normal true ∷ []) (heard ++ input line false (id_by table answer) ∷ []) (plain line answer ∷ before) (effects_by site latest 1 table answer true) went none);
           answers = answers_more (effects_by site latest 1 table answer true);
           known = went.known;
         }
@@ -263,10 +272,10 @@ module _ (site : Site) (peer : List ℕ) (reading : ℕ) (latest : ℕ) (same : 
         → (turns : List Turn) × (map (λ (q : Turn). q.event) turns ≡ Opens 1 peer ∷ map one now) × (answers_of (run site (beginning start) turns).effects ≡ effects ++ answers_of (effects_by site latest 1 table answer true))
     talks_last line answer next left is off =
         let c = comes_more site latest table (caller now heard) [] table heard before [] line (comes_none site latest table (caller now heard) before t.known) next answer true left is in
-        let went = subst (λ w. Comes site latest table (caller now heard) (Normal true ∷ []) (table_by site latest table answer) (heard ++ input line false ∷ []) (plain line answer ∷ before) (effects_by site latest 1 table answer true) w) off c in (
+        let went = subst (λ w. Comes site latest table (caller now heard) (Normal true ∷ []) (table_by site latest table answer) (heard ++ input line false (id_by table answer) ∷ []) (plain line answer ∷ before) (effects_by site latest 1 table answer true) w) off c in (
           t.turns ++ byte_turn b (Normal true ∷ []) ∷ [],
           events_more (Normal true ∷ []),
-          ap (λ (s : Step). answers_of s.effects) (turn_more (Normal true ∷ []) _ (all_left site latest table (table_by site latest table answer) (caller now heard) (Normal true ∷ []) (heard ++ input line false ∷ []) (plain line answer ∷ before) (effects_by site latest 1 table answer true) went))
+          ap (λ (s : Step). answers_of s.effects) (turn_more (Normal true ∷ []) _ (all_left site latest table (table_by site latest table answer) (caller now heard) (Normal true ∷ []) (heard ++ input line false (id_by table answer) ∷ []) (plain line answer ∷ before) (effects_by site latest 1 table answer true) went))
               ∙ answers_more (effects_by site latest 1 table answer true),
         )
 

@@ -12,7 +12,7 @@ use Rattle.spool_store.specs.Tables.{Table, after, start}
 use Rattle.mail_core.specs.declared.serving.Site.{Site}
 use Rattle.mail_core.specs.Effects.{Effect, Takes, Ticks, Commits, Sends, HangsUp}
 use Rattle.mail_core.specs.Guests.{Guest, newcomer}
-use Rattle.mail_core.specs.Machine.{Stopped, By, Choice, Normal, OutOfMemory, Replied, GoesOn, Leaves, State, Step, Turn, beginning, followed, last_moment, moment_by, most_guests, run}
+use Rattle.mail_core.specs.Machine.{Stopped, id_by, By, Choice, Normal, OutOfMemory, Replied, GoesOn, Leaves, State, Step, Turn, beginning, followed, last_moment, moment_by, most_guests, run}
 use Rattle.mail_core.specs.Messages.{accept_of, is_spent, last_id}
 use Rattle.mail_core.proofs.ExampleLemmas.{Comes, Talks, effects_by, all_left, answers_of, are_within, comes_more, comes_none, comes_short, grants_by, input, lacked, line_at, one, piece, piece_turn, plain, run_first, so_far, table_by, talks_last, talks_line, talks_within, way_by}
 
@@ -59,7 +59,7 @@ begins =
 
 -- the message, with its end
 abbrev given_lines : List Heard
-given_lines = begun ++ input (Data []) false ∷ input body false ∷ []
+given_lines = begun ++ input (Data []) false None ∷ input body false None ∷ []
 
 abbrev data_choices : List Choice
 data_choices = kept ∷ kept ∷ kept ∷ kept ∷ kept ∷ kept ∷ kept ∷ []
@@ -77,7 +77,7 @@ abbrev closing : List Effect
 closing = Sends 1 (codes "221 2.0.0 localhost closing connection\r\n") true ∷ HangsUp 1 ∷ []
 
 -- the whole session, in one piece
-plain_piece : Comes site 5 start guest (data_choices ++ kept ∷ kept ∷ []) stored_now (given_lines ++ input DataEnd false ∷ input quit false ∷ []) (plain quit Closes ∷ plain DataEnd (Gives message) ∷ whole)
+plain_piece : Comes site 5 start guest (data_choices ++ kept ∷ kept ∷ []) stored_now (given_lines ++ input DataEnd false (Some 1) ∷ input quit false None ∷ []) (plain quit Closes ∷ plain DataEnd (Gives message) ∷ whole)
     (given_effects ++ Commits (accept_of site 5 message) ∷ Sends 1 (codes "250 2.0.0 w000000000001 Message accepted for delivery\r\n") true ∷ closing) Leaves
 unfolding digits most_command most_message most_headers most_path most_local_part most_domain shown_host last_id
 plain_piece =
@@ -126,7 +126,7 @@ plain_session =
     session_by _ _ _ _ _ (stops ∷ []) (record { state = record (left_state stored_now) { over = Some (By Stopped) }; effects = Takes Stops ∷ Ticks 5 ∷ [] }) plain_piece refl
 
 -- 452 4.3.1 at the dot: nothing is stored, the transaction is over, and the session goes on
-lacking_piece : Comes site 5 start guest (data_choices ++ OutOfMemory true ∷ kept ∷ []) start (given_lines ++ input DataEnd true ∷ input quit false ∷ []) (plain quit Closes ∷ lacked DataEnd ∷ whole)
+lacking_piece : Comes site 5 start guest (data_choices ++ OutOfMemory true ∷ kept ∷ []) start (given_lines ++ input DataEnd true None ∷ input quit false None ∷ []) (plain quit Closes ∷ lacked DataEnd ∷ whole)
     (given_effects ++ Sends 1 (codes "452 4.3.1 Out of memory\r\n") true ∷ closing) Leaves
 unfolding most_command most_message most_path most_local_part most_domain shown_host last_id
 lacking_piece =
@@ -140,7 +140,7 @@ memory_is_wanting_at_the_dot : run site (beginning start) (opens ∷ piece 1 sen
 memory_is_wanting_at_the_dot = session_by _ _ _ _ _ [] (record { state = left_state start; effects = [] }) lacking_piece refl
 
 -- the reply to MAIL isn't sent whole: the session is hung up, and the rest of its piece is dropped
-lost_piece : Comes site 5 start guest (kept ∷ Normal false ∷ []) start (input helo false ∷ input mail false ∷ []) (plain mail sender_ok ∷ plain helo Greets ∷ [])
+lost_piece : Comes site 5 start guest (kept ∷ Normal false ∷ []) start (input helo false None ∷ input mail false None ∷ []) (plain mail sender_ok ∷ plain helo Greets ∷ [])
     (hello ++ Sends 1 (codes "250 2.1.0 Sender ok\r\n") false ∷ HangsUp 1 ∷ []) Leaves
 unfolding most_command most_message most_path most_local_part most_domain shown_host last_id
 lost_piece =
@@ -172,12 +172,12 @@ opening = record { turns = opens ∷ []; events = refl; done = greeting; is = re
 -- the bytes of a line, and the LF that ends it
 line_of : (bytes more : List ℕ) (table : Table) (heard : List Heard) (before : List Exchange) (effects : List Effect) → Bytes bytes table heard before effects → (line : Line) (answer : Answer) → are_within (length heard) (grants_by before) bytes more ≡ true
     → line_at (length heard) ((bytes ++ more) ++ 10 ∷ []) (grants_by before) ≡ Some line → is_spent table ≡ false → answer_to peer before line ≡ answer → way_by site 5 answer true ≡ GoesOn
-    → line_at (length (heard ++ input line false ∷ [])) ((bytes ++ more) ++ 10 ∷ []) (grants_by (plain line answer ∷ before)) ≡ None
-    → Bytes ((bytes ++ more) ++ 10 ∷ []) (table_by site 5 table answer) (heard ++ input line false ∷ []) (plain line answer ∷ before) (effects ++ answers_of (effects_by site 5 1 table answer true))
+    → line_at (length (heard ++ input line false (id_by table answer) ∷ [])) ((bytes ++ more) ++ 10 ∷ []) (grants_by (plain line answer ∷ before)) ≡ None
+    → Bytes ((bytes ++ more) ++ 10 ∷ []) (table_by site 5 table answer) (heard ++ input line false (id_by table answer) ∷ []) (plain line answer ∷ before) (effects ++ answers_of (effects_by site 5 1 table answer true))
 line_of bytes more table heard before effects t line answer within next left is on none =
     talks_line site peer 5 5 same_moment (bytes ++ more) table heard before effects (talks_within site peer 5 5 same_moment bytes more table heard before effects t within) 10 line answer next left is on none
 
-by_bytes_to_the_dot : Bytes (codes "HELO c.example\r\nMAIL FROM:<bob@c.example>\r\nRCPT TO:<ann@mx.example>\r\nDATA\r\nSubject: hi\r\n\r\nhello\r\n.\r\n") stored_now (given_lines ++ input DataEnd false ∷ []) (plain DataEnd (Gives message) ∷ whole)
+by_bytes_to_the_dot : Bytes (codes "HELO c.example\r\nMAIL FROM:<bob@c.example>\r\nRCPT TO:<ann@mx.example>\r\nDATA\r\nSubject: hi\r\n\r\nhello\r\n.\r\n") stored_now (given_lines ++ input DataEnd false (Some 1) ∷ []) (plain DataEnd (Gives message) ∷ whole)
     (first_effects ++ given_effects ++ Commits (accept_of site 5 message) ∷ Sends 1 (codes "250 2.0.0 w000000000001 Message accepted for delivery\r\n") true ∷ [])
 unfolding digits most_command most_message most_headers most_path most_local_part most_domain shown_host last_id
 by_bytes_to_the_dot =

@@ -1,6 +1,6 @@
 -- What is done for a line joins, and single sends are done.
 use Rattle.std.proofs.Common.{◌≡◌, ◌⊎◌, inl, inr, ℕ, ◌≤◌, List, [], ◌∷◌, ◌++◌, Bool, true, false, Result, Ok, Err, refl, sym, ◌∙◌, ap, subst, arith, append_assoc}
-use Rattle.std.specs.Prelude.{if◌then◌else◌}
+use Rattle.std.specs.Prelude.{Option, Some, None, not, if◌then◌else◌}
 use Rattle.std.proofs.lemmas.List.{append-nil}
 use Rattle.std.proofs.lemmas.Bool.{cond-false, false≢true}
 use Rattle.mail_base.specs.Histories.{Gains, Rose}
@@ -22,9 +22,10 @@ use Rattle.mail_core.specs.declared.serving.CoreStop.TheVariants as stops
 use Rattle.mail_core.specs.declared.serving.Site.{Site}
 use Rattle.mail_core.specs.Effects.{Commits, Sends, HangsUp, heard_of, readings_of, commands_of, speech}
 use Rattle.mail_core.specs.Causes.{HasCause, is_well}
-use Rattle.mail_core.specs.Going.{Does, begins_data, stays_open, way_after, is_onward}
-use Rattle.mail_core.specs.Machine.{Ending, Stopped, SpoolFault, IdsSpent, GoesOn, Leaves, Over, Finish, By, Did, way_of, does, says, closes, is_over, commits, accepts, fails, heard_line}
+use Rattle.mail_core.specs.Going.{Does, heard_chosen, begins_data, stays_open, way_after, is_onward}
+use Rattle.mail_core.specs.Machine.{Ending, Stopped, SpoolFault, IdsSpent, GoesOn, Leaves, Over, Finish, By, Did, way_of, does, says, closes, is_over, commits, accepts, fails, heard_line, heard_where, Choice, Normal, OutOfMemory, Disconnects, SpoolFails}
 use Rattle.mail_core.specs.Messages.{accept_of, is_spent}
+use Rattle.spool_store.specs.Tables.{Table}
 use Rattle.mail_core.specs.Seen.{Seen, seen, table_after, Ran}
 use Rattle.mail_core.specs.Standing.{dirs_of}
 use Rattle.mail_core.proofs.RanLemmas.{table_more, ran_join, ran_none, ran_floor, ran_done, ran_failed}
@@ -214,8 +215,29 @@ does_accepts site moment d message f g s t k fed way left moves later spoken tol
     (does_says site (commits site moment d message) f g t k (stored_text d.table.next) fed spoken told own))
 
 -- the line was heard besides
-pub does_heard : (site : Site) (d e : Did) (a b : Seen) (fed : Result Next CoreStop) (line : Line) (short : Bool) → Does site d e a b fed → Does site d (heard_line e line short) a b fed
-does_heard site d e a b fed line short h = record { more = h.more; effects = h.effects; table = h.table; number = h.number; ran = h.ran; way = h.way; cause = h.cause }
+pub does_heard : (site : Site) (d e : Did) (a b : Seen) (fed : Result Next CoreStop) (line : Line) (short : Bool) (id : Option ℕ) → Does site d e a b fed → Does site d (heard_line e line short id) a b fed
+does_heard site d e a b fed line short id h = record { more = h.more; effects = h.effects; table = h.table; number = h.number; ran = h.ran; way = h.way; cause = h.cause }
+
+pub does_where : (site : Site) (d e : Did) (a b : Seen) (fed : Result Next CoreStop) (line : Line) (id : Option ℕ) (answered : Bool) → Does site d e a b fed → Does site d (heard_where answered e line false id) a b fed
+does_where site d e a b fed line id true h = does_heard site d e a b fed line false id h
+does_where site d e a b fed line id false h = h
+
+-- the line of a message was heard besides, but where the run ended
+pub does_chosen : (site : Site) (d e : Did) (a b : Seen) (fed : Result Next CoreStop) (line : Line) (table : Table) (choice : Choice) → Does site d e a b fed → Does site d (heard_chosen table choice e line) a b fed
+does_chosen site d e a b fed line table (Normal whole) h = does_where site d e a b fed line (Some table.next) (not (is_spent table)) h
+does_chosen site d e a b fed line table (OutOfMemory whole) h = does_heard site d e a b fed line true None h
+does_chosen site d e a b fed line table Disconnects h = h
+does_chosen site d e a b fed line table SpoolFails h = h
+
+where_table : (answered : Bool) (d : Did) (line : Line) (id : Option ℕ) → (heard_where answered d line false id).table ≡ d.table
+where_table true d line id = refl
+where_table false d line id = refl
+
+pub chosen_table : (table : Table) (choice : Choice) (d : Did) (line : Line) → (heard_chosen table choice d line).table ≡ d.table
+chosen_table table (Normal whole) d line = where_table (not (is_spent table)) d line (Some table.next)
+chosen_table table (OutOfMemory whole) d line = refl
+chosen_table table Disconnects d line = refl
+chosen_table table SpoolFails d line = refl
 
 accepts_case : (b : Bool) (d x : Did) → x.guest ≡ d.guest → (if b then is_over d (By IdsSpent) else x).guest ≡ d.guest
 accepts_case true d x e = refl

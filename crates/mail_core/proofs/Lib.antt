@@ -11,3 +11,4 @@ pub mod MessageLemmas
 pub mod FeedLemmas
 pub mod ExampleLemmas
 pub mod Examples
+pub mod ToldLemmas

@@ -19,7 +19,7 @@ use Rattle.spool_store.specs.Tables.Command.{Accept}
 use Rattle.mail_core.specs.declared.serving.Site.{Site}
 use Rattle.mail_core.specs.Effects.{Effect, Takes, Ticks, Commits, Sends, HangsUp, speech}
 use Rattle.mail_core.specs.Guests.{Guest, is_passed, guest_of, is_here, next_line, with_bytes}
-use Rattle.mail_core.specs.Machine.{SpoolFault, IdsSpent, Opening, Replied, Dropped, Choice, Normal, OutOfMemory, Disconnects, SpoolFails, Choices, Way, GoesOn, Leaves, Over, Finish, By, Cut, Did, way_of, does, says, closes, is_over, commits, accepts, replies, fails, heard_line, by_choice, goes_on, answered, settled_by, settled, fresh_start, all_answered, State, Step, still, most_guests, turned_away, welcomed, opened, brought, pieced, handled, Turn, at_moment, taken, stepped, followed, run}
+use Rattle.mail_core.specs.Machine.{SpoolFault, IdsSpent, Opening, Replied, Dropped, Choice, Normal, OutOfMemory, Disconnects, SpoolFails, Choices, Way, GoesOn, Leaves, Over, Finish, By, Cut, Did, way_of, does, says, closes, is_over, commits, accepts, replies, fails, heard_line, id_by, is_answered, heard_where, by_choice, goes_on, answered, settled_by, settled, fresh_start, all_answered, State, Step, still, most_guests, turned_away, welcomed, opened, brought, pieced, handled, Turn, at_moment, taken, stepped, followed, run}
 use Rattle.mail_core.specs.Messages.{accept_of, draft_of, is_spent, last_id}
 use Rattle.mail_core.specs.Runs.{HasEntry, IsAcked, AreAcked}
 use Rattle.mail_core.specs.Seen.{table_after}
@@ -207,8 +207,12 @@ fails_grows site moment d Grants = over_grows site d Cut
 fails_grows site moment d Ends = over_grows site d Cut
 fails_grows site moment d Passes = over_grows site d Cut
 
-line_grows : (site : Site) (d e : Did) (line : Line) (short : Bool) → Grows site d e → Grows site d (heard_line e line short)
-line_grows site d e line short h = record { more = h.more; effects = h.effects; leads = h.leads; number = h.number }
+line_grows : (site : Site) (d e : Did) (line : Line) (short : Bool) (id : Option ℕ) → Grows site d e → Grows site d (heard_line e line short id)
+line_grows site d e line short id h = record { more = h.more; effects = h.effects; leads = h.leads; number = h.number }
+
+where_grows : (site : Site) (d e : Did) (line : Line) (id : Option ℕ) (answered : Bool) → Grows site d e → Grows site d (heard_where answered e line false id)
+where_grows site d e line id true h = line_grows site d e line false id h
+where_grows site d e line id false h = h
 
 drop_grows : (site : Site) (d : Did) (may : Bool) → Grows site d (if may then does d (HangsUp d.guest.number ∷ []) Leaves else is_over d Cut)
 drop_grows site d true = drops_grows site d
@@ -222,13 +226,13 @@ short_grows site d e false h = h
 choice_grows : (site : Site) (moment : ℕ) (d : Did) (choice : Choice) (line : Option Line) → Grows site d (by_choice site moment d choice line)
 choice_grows site moment d (Normal whole) (Some line) =
     let answer = answer_of d.guest.peer d.guest.heard line in
-    line_grows site d (replies site moment d answer whole) line false (replies_grows site moment d answer whole)
+    where_grows site d (replies site moment d answer whole) line (id_by d.table answer) (is_answered d.table answer) (replies_grows site moment d answer whole)
 choice_grows site moment d (OutOfMemory whole) (Some line) =
-    short_grows site d (heard_line (says d out_of_memory_text whole) line true) (is_passed d.guest line)
-    (line_grows site d (says d out_of_memory_text whole) line true (lack_grows site d whole))
+    short_grows site d (heard_line (says d out_of_memory_text whole) line true None) (is_passed d.guest line)
+    (line_grows site d (says d out_of_memory_text whole) line true None (lack_grows site d whole))
 choice_grows site moment d SpoolFails (Some line) =
     let answer = answer_of d.guest.peer d.guest.heard line in
-    line_grows site d (fails site moment d answer) line false (fails_grows site moment d answer)
+    fails_grows site moment d answer
 choice_grows site moment d Disconnects (Some line) = drop_grows site d d.may_disconnect
 choice_grows site moment d Disconnects None = drop_grows site d d.may_disconnect
 choice_grows site moment d (Normal whole) None = over_grows site d Cut

@@ -1,5 +1,5 @@
 -- What is done for lines and pieces, by some choices of the machine.
-use Rattle.std.specs.Prelude.{Result, Ok, Err, is_ok, ◌≡◌, ℕ, List, [], ◌∷◌, ◌++◌, fold, Bool, true, false, Some, ◌≢◌, if◌then◌else◌}
+use Rattle.std.specs.Prelude.{Result, Ok, Err, is_ok, ◌≡◌, ℕ, List, [], ◌∷◌, ◌++◌, fold, Bool, true, false, not, Option, Some, None, ◌≢◌, if◌then◌else◌}
 use Rattle.link_edge.specs.declared.event.Event.{Event}
 use Rattle.smtp_lines.specs.declared.line.Line.{Line}
 use Rattle.smtp_lines.specs.declared.line.Line.TheVariants.{DataEnd}
@@ -17,8 +17,9 @@ use Rattle.mail_core.specs.declared.intake.Intake.{Intake}
 use Rattle.mail_core.specs.Effects.{Effect}
 use Rattle.mail_core.specs.Guests.{Guest, grants_of, has_bytes_left, with_bytes}
 use Rattle.mail_core.specs.declared.serving.Site.{Site}
+use Rattle.mail_core.specs.Messages.{is_spent}
 use Rattle.mail_core.specs.Causes.{HasCause, ending_by, is_well}
-use Rattle.mail_core.specs.Machine.{Ending, Choice, Normal, OutOfMemory, Disconnects, SpoolFails, Way, GoesOn, Leaves, Over, By, Cut, Did, is_over, says, accepts, fails, by_choice, answered, all_answered}
+use Rattle.mail_core.specs.Machine.{Ending, Choice, Normal, OutOfMemory, Disconnects, SpoolFails, Way, GoesOn, Leaves, Over, By, Cut, Did, is_over, says, accepts, fails, by_choice, heard_line, heard_where, answered, all_answered}
 use Rattle.mail_core.specs.Seen.{Seen, Ran, table_after}
 use Rattle.mail_core.specs.Standing.{dirs_of, Serves, Talks, Keeps, lines_heard}
 
@@ -99,10 +100,24 @@ is_short (OutOfMemory whole) = true
 is_short Disconnects = false
 is_short SpoolFails = false
 
+-- the line of a message is among those that were answered, but where the run ended at it
+abbrev pub heard_chosen : Table → Choice → Did → Line → Did
+heard_chosen table (Normal whole) d line = heard_where (not (is_spent table)) d line false (Some table.next)
+heard_chosen table (OutOfMemory whole) d line = heard_line d line true None
+heard_chosen table Disconnects d line = d
+heard_chosen table SpoolFails d line = d
+
+-- the id that a message got
+abbrev pub id_chosen : Table → Choice → Option ℕ
+id_chosen table (Normal whole) = Some table.next
+id_chosen table (OutOfMemory whole) = None
+id_chosen table Disconnects = None
+id_chosen table SpoolFails = None
+
 -- the session of a caller was reset after the end of data
 abbrev pub IsReset : Caller → Caller → Type 0
-IsReset old new = (host peer : List ℕ) (heard : List Heard) (a b : Bool) → Speaks old.session host peer (heard ++ record { line = DataEnd; short = a } ∷ [])
-    → Speaks new.session host peer (heard ++ record { line = DataEnd; short = b } ∷ [])
+IsReset old new = (host peer : List ℕ) (heard : List Heard) (a b : Bool) (i j : Option ℕ) → Speaks old.session host peer (heard ++ record { line = DataEnd; short = a; id = i } ∷ [])
+    → Speaks new.session host peer (heard ++ record { line = DataEnd; short = b; id = j } ∷ [])
 
 -- the session is as before, or was reset after 452 4.3.1
 abbrev pub IsAnswered : Bool → Caller → Caller → Type 0

@@ -6,7 +6,7 @@ use Rattle.smtp_lines.specs.declared.line.Mode.TheVariants.{Commands}
 use Rattle.smtp_lines.specs.Stream.{asks, reading_by, reading_of}
 use Rattle.smtp_receive.specs.Dialogue.{Heard, Exchange, dialogue, exchanges, is_dropped, is_grant}
 
--- an open session: its number, the peer's address, all bytes that were received, and the lines that were answered, each with whether 452 4.3.1 came to it
+-- an open session: its number, the peer's address, all bytes that were received, and the lines that were answered, each with whether 452 4.3.1 came to it and the id of its message
 pub record Guest : Type 0 where
   pub number : ℕ
   pub peer : List ℕ
@@ -48,9 +48,9 @@ is_passed g line = is_dropped (exchanges g.peer g.heard) line
 abbrev pub with_bytes : Guest → List ℕ → Guest
 with_bytes g bytes = record g { received = g.received ++ bytes }
 
--- one line more was answered
-abbrev pub with_line : Guest → Line → Bool → Guest
-with_line g line short = record g { heard = g.heard ++ record { line = line; short = short } ∷ [] }
+-- one line more was answered: whether 452 4.3.1 came to it, and the id that its message got, if it gave one that was taken in
+abbrev pub with_line : Guest → Line → Bool → Option ℕ → Guest
+with_line g line short id = record g { heard = g.heard ++ record { line = line; short = short; id = id } ∷ [] }
 
 abbrev pub has_number : ℕ → Guest → Bool
 has_number session g = nat_eq g.number session

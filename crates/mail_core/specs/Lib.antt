@@ -8,3 +8,4 @@ pub mod Standing
 pub mod Going
 pub mod Events
 pub mod Runs
+pub mod Told

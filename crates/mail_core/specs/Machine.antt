@@ -1,5 +1,5 @@
 -- The machine: what sessions, table and clock come to at each event. What it can't know are the choices at an event: whether a text could be sent, where memory was wanting, and that the spool failed (own; the replies are those of RFC 5321).
-use Rattle.std.specs.Prelude.{ℕ, nat_le, List, [], ◌∷◌, ◌++◌, length, fold, max, min, Option, Some, None, is_some, Bool, true, false, ◌&&◌, if◌then◌else◌}
+use Rattle.std.specs.Prelude.{ℕ, nat_le, List, [], ◌∷◌, ◌++◌, length, fold, max, min, Option, Some, None, is_some, Bool, true, false, not, ◌&&◌, if◌then◌else◌}
 use Rattle.link_edge.specs.declared.event.Event.{Event}
 use Rattle.link_edge.specs.declared.event.Event.TheVariants.{Opens, Brings, Closes, Rests, Stops}
 use Rattle.smtp_lines.specs.declared.line.Line.{Line}
@@ -103,14 +103,37 @@ fails site moment d (Gives message) = if is_spent d.table then is_over d (By Ids
 fails site moment d answer = is_over d Cut
 
 -- the line was answered; bytes that came after one that asks may be what want of memory keeps from being read
-abbrev pub heard_line : Did → Line → Bool → Did
-heard_line d line short = record d { guest = with_line d.guest line short; may_disconnect = asks line && has_bytes_left (with_line d.guest line short) }
+abbrev pub heard_line : Did → Line → Bool → Option ℕ → Did
+heard_line d line short id = record d { guest = with_line d.guest line short id; may_disconnect = asks line && has_bytes_left (with_line d.guest line short id) }
+
+-- the id that is given at an answer: a message that is taken in gets one
+abbrev pub id_by : Table → Answer → Option ℕ
+id_by table (Gives message) = Some table.next
+id_by table (Says reply) = None
+id_by table Greets = None
+id_by table Grants = None
+id_by table Ends = None
+id_by table Passes = None
+
+-- whether the run goes on behind an answer: a message needs an id
+abbrev pub is_answered : Table → Answer → Bool
+is_answered table (Gives message) = not (is_spent table)
+is_answered table (Says reply) = true
+is_answered table Greets = true
+is_answered table Grants = true
+is_answered table Ends = true
+is_answered table Passes = true
+
+-- the line is among those that were answered, but where the run ends at it
+abbrev pub heard_where : Bool → Did → Line → Bool → Option ℕ → Did
+heard_where true d line short id = heard_line d line short id
+heard_where false d line short id = d
 
 -- a line is answered by a choice; 452 4.3.1 comes to no line of data that is dropped. Want of memory for a piece, or for the bytes after a line that asks, drops them whole and ends the session
 abbrev pub by_choice : Site → ℕ → Did → Choice → Option Line → Did
-by_choice site moment d (Normal whole) (Some line) = heard_line (replies site moment d (answer_of d.guest.peer d.guest.heard line) whole) line false
-by_choice site moment d (OutOfMemory whole) (Some line) = if is_passed d.guest line then is_over d Cut else heard_line (says d out_of_memory_text whole) line true
-by_choice site moment d SpoolFails (Some line) = heard_line (fails site moment d (answer_of d.guest.peer d.guest.heard line)) line false
+by_choice site moment d (Normal whole) (Some line) = heard_where (is_answered d.table (answer_of d.guest.peer d.guest.heard line)) (replies site moment d (answer_of d.guest.peer d.guest.heard line) whole) line false (id_by d.table (answer_of d.guest.peer d.guest.heard line))
+by_choice site moment d (OutOfMemory whole) (Some line) = if is_passed d.guest line then is_over d Cut else heard_line (says d out_of_memory_text whole) line true None
+by_choice site moment d SpoolFails (Some line) = fails site moment d (answer_of d.guest.peer d.guest.heard line)
 by_choice site moment d Disconnects line = if d.may_disconnect then does d (HangsUp d.guest.number ∷ []) Leaves else is_over d Cut
 by_choice site moment d (Normal whole) None = is_over d Cut
 by_choice site moment d (OutOfMemory whole) None = is_over d Cut

@@ -1,4 +1,4 @@
-ghost use Rattle.std.specs.Prelude.{◌≡◌, ◌≢◌, ◌≤◌, ◌<◌, ◌⊎◌, ◌++◌, ◌∷◌, ◌^◌, [], List, ℕ, Bool, length, Some, None, Err, IfOk, IsErrOf, IsTrue, true, false, Contains};
+ghost use Rattle.std.specs.Prelude.{◌≡◌, ◌≢◌, ◌≤◌, ◌<◌, ◌⊎◌, ◌++◌, ◌∷◌, ◌^◌, [], List, ℕ, Bool, length, Option, Some, None, Err, IfOk, IsErrOf, IsTrue, true, false, Contains};
 ghost use Rattle.mail_base.specs.Histories.{Gains};
 ghost use Rattle.mail_base.specs.Limits.{IsId};
 ghost use Rattle.mail_base.specs.declared.fault.StoreFault.TheVariants.{IdsSpent as NoIdLeft, SpoolFault as SpoolBroke};
@@ -114,9 +114,10 @@ impl Intake {
         ensures lines { caller.new.lines ≡ caller.old.lines }
         ensures line { (host peer : List ℕ) (heard : List Heard) (line : AnyLine) → Speaks caller.old.session host peer heard
             → is_dropped (exchanges peer heard) line ≡ false
-            → Speaks caller.new.session host peer (heard ++ record { line = line; short = true } ∷ []) }
-        ensures ended { (host peer : List ℕ) (heard : List Heard) (a b : Bool) → Speaks caller.old.session host peer (heard ++ record { line = DataEnd; short = a } ∷ [])
-            → Speaks caller.new.session host peer (heard ++ record { line = DataEnd; short = b } ∷ []) }
+            → Speaks caller.new.session host peer (heard ++ record { line = line; short = true; id = None } ∷ []) }
+        ensures ended { (host peer : List ℕ) (heard : List Heard) (a b : Bool) (i j : Option ℕ)
+            → Speaks caller.old.session host peer (heard ++ record { line = DataEnd; short = a; id = i } ∷ [])
+            → Speaks caller.new.session host peer (heard ++ record { line = DataEnd; short = b; id = j } ∷ []) }
     {
         caller.session.reset();
         Intake::reply(floor, caller.number, &self.short)

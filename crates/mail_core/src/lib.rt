@@ -10,5 +10,8 @@ mod next;
 mod serving;
 mod speech;
 
-pub use law::{acknowledged_messages_are_in_the_table, the_table_is_that_of_the_commands};
+pub use law::{
+    acknowledged_messages_are_in_the_table, the_table_is_that_of_the_commands,
+    what_is_said_are_the_replies,
+};
 pub use serving::{Act, Core, CoreStop, Site};

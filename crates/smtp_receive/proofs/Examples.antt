@@ -13,11 +13,11 @@ abbrev pub peer : List ℕ
 peer = codes "10.0.0.1"
 
 abbrev pub heard : Line → Heard
-heard line = record { line = line; short = false }
+heard line = record { line = line; short = false; id = None }
 
 -- memory is wanting at a line
 abbrev short : Line → Heard
-short line = record { line = line; short = true }
+short line = record { line = line; short = true; id = None }
 
 abbrev exchange : Line → Option Answer → Exchange
 exchange line answer = record { line = line; answer = answer }

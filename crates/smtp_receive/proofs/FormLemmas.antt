@@ -25,7 +25,7 @@ use Rattle.mail_header.specs.Headers.{is_plain, is_name_byte, is_header, is_head
 use Rattle.mail_header.specs.Gatherings.{is_above}
 use Rattle.mail_header.specs.inner.Lines.{belongs, block_of, goes_on, joined, headers_in, headers_of, body_of, size_of}
 use Rattle.smtp_receive.specs.Requests.{Request, Greet, From, To, Begin, End, is_served, request_in, request_by, request_of}
-use Rattle.smtp_receive.specs.Dialogue.{Answer, Says, Greets, Grants, Closes, Gives, Takes, Exchange, Heard, bracketed, ends, sender_by, recipient_by, helo_by, sender_told, recipient_told, helo_told, latest, sender_in, recipient_in, lines_in, helo_in, path_from, path_to, argument_in, asked, read_in, or_else, command_answer, message_answer, end_answer, answer_to, exchanges}
+use Rattle.smtp_receive.specs.Dialogue.{Answer, Says, Greets, Grants, Closes, Gives, Takes, Exchange, Heard, bracketed, ends, sender_by, recipient_by, helo_by, sender_told, recipient_told, helo_told, Transaction, no_transaction, gone_on, transaction_in, sender_in, recipient_in, lines_in, helo_in, path_from, path_to, argument_in, asked, read_in, or_else, command_answer, message_answer, end_answer, answer_to, exchanges}
 use Rattle.smtp_receive.specs.Sessions.{answer_of}
 use Rattle.smtp_receive.specs.Forms.{IsFormed}
 
@@ -175,11 +175,18 @@ either_form : (P : List ℕ → Type 0) (told earlier : Option (List ℕ)) → I
 either_form P (Some told) earlier one other = one
 either_form P None earlier one other = other
 
-latest_form : (P : List ℕ → Type 0) (told : Exchange → Option (List ℕ)) → ((e : Exchange) → IfSome (told e) P) → (before : List Exchange) → IfSome (latest told before) P
-latest_form P told each [] = tt
-latest_form P told each (e ∷ before) =
-    cond_both (ends e) None (or_else (told e) (latest told before)) (λ o. IfSome o P) (λ h. tt)
-    (λ h. either_form P (told e) (latest told before) (each e) (latest_form P told each before))
+abbrev AreBracketed : Transaction → Type 0
+AreBracketed t = IfSome t.sender IsBracketed × IfSome t.recipient IsBracketed
+
+transaction_form : (before : List Exchange) → AreBracketed (transaction_in before)
+transaction_form [] = (tt, tt)
+transaction_form (e ∷ before) =
+    let earlier = transaction_form before in
+    cond_both (ends e) no_transaction (gone_on e (transaction_in before)) AreBracketed (λ h. (tt, tt))
+    (λ h. (
+      either_form IsBracketed (sender_told e) (sender_in before) (sender_form e.answer (asked e.line) (asked_line e.line)) earlier.0,
+      either_form IsBracketed (recipient_told e) (recipient_in before) (recipient_form e.answer (asked e.line) (asked_line e.line)) earlier.1,
+    ))
 
 or_earlier : (told : Option (List ℕ)) (earlier : List ℕ) → IfSome told IsLine → IsLine earlier → IsLine (unwrap_or told earlier)
 or_earlier (Some told) earlier one other = one
@@ -329,8 +336,7 @@ answer_formed peer before TooLong = tt
 answer_formed peer before (DataLine text) = tt
 answer_formed peer before DataEnd =
     end_formed peer (helo_in before) (sender_in before) (recipient_in before) (lines_in before) (helo_line before)
-    (latest_form IsBracketed sender_told (λ e. sender_form e.answer (asked e.line) (asked_line e.line)) before)
-    (latest_form IsBracketed recipient_told (λ e. recipient_form e.answer (asked e.line) (asked_line e.line)) before)
+    (transaction_form before).0 (transaction_form before).1
 
 -- a message that is given is formed
 pub given_formed : (peer : List ℕ) (heard : List Heard) (line : Line) (message : Received) → answer_of peer heard line ≡ Gives message → IsFormed message peer

@@ -1,8 +1,8 @@
 -- What a session keeps after one exchange more.
 use Rattle.std.specs.Prelude.{IfSome}
-use Rattle.std.proofs.Common.{◌≡◌, ℕ, Bool, true, false, List, [], ◌∷◌, ◌++◌, Option, Some, None, is_some, not, ◌&&◌, cond, Result, Ok, Err, IfOk, OnOk, OnErr, refl, sym, ap, subst, ◌∙◌, ⊎_elim, unwrap_or, reverse, codes}
+use Rattle.std.proofs.Common.{◌≡◌, ℕ, Bool, true, false, List, [], ◌∷◌, ◌++◌, Option, Some, None, is_some, not, ◌&&◌, cond, Result, Ok, Err, IfOk, OnOk, OnErr, refl, sym, ap, subst, ◌∙◌, ⊎_elim, unwrap_or, reverse, codes, fold, append_assoc}
 use Rattle.std.proofs.lemmas.Bool.{false≢true, cases_Bool, cond-true, cond-false, cond_both}
-use Rattle.std.proofs.lemmas.List.{reverse-append, reverse-reverse}
+use Rattle.std.proofs.lemmas.List.{append-nil, reverse-append, reverse-reverse}
 use Rattle.std.proofs.lemmas.List.Sums.{fold-append}
 use Rattle.smtp_lines.specs.declared.line.Line.{Line}
 use Rattle.smtp_lines.specs.declared.line.Line.TheVariants.{Command, TooLong, Data as DataLine, DataEnd}
@@ -24,7 +24,9 @@ use Rattle.mail_base.specs.declared.command.LineFault.{LineFault}
 use Rattle.mail_base.specs.declared.command.LineFault.TheVariants.{BadByte as HasBadByte, Unknown, ArgumentNeeded as LacksArgument, NoArgument as HasArgument, Syntax, PathTooLong as HasLongPath, Parameter}
 use Rattle.smtp_receive.specs.Requests.{Request, Greet, From, To, Begin, End, request_of}
 use Rattle.smtp_receive.specs.Replies.{text_of, hello_text, closing_text, shown_host}
-use Rattle.smtp_receive.specs.Dialogue.{Answer, Says, Greets, Grants, Closes, Gives, Takes, Exchange, Heard, bracketed, ends, sender_by, recipient_by, sender_in, recipient_in, lines_in, helo_in, kept_in, helo_by, with_text, path_from, path_to, argument_in, asked, read_in, or_else, is_dropped, mail_reply, rcpt_reply, to_reply, data_answer, path_reply, fault_reply, command_answer, message_answer, end_answer, answer_to, answer_heard, exchange_of, with_heard, exchanges, dialogue, did_of}
+use Rattle.smtp_receive.specs.Dialogue.{Answer, Says, Greets, Grants, Closes, Gives, Takes, Exchange, Heard, bracketed, ends, Transaction, no_transaction, gone_on, transaction_in, sender_by, recipient_by, sender_in, recipient_in, lines_in, helo_in, kept_in, helo_by, with_text, path_from, path_to, argument_in, asked, read_in, or_else, is_dropped, mail_reply, rcpt_reply, to_reply, data_answer, path_reply, fault_reply, command_answer, message_answer, end_answer, answer_to, answer_heard, exchange_of, with_heard, exchanges, dialogue, did_of, reply_by, replies_from, replies_to}
+use Rattle.smtp_lines.specs.Parameters.{listed}
+use Rattle.smtp_receive.specs.Finals.{text_told}
 use Rattle.smtp_receive.specs.declared.ending.End.{End as Ending}
 use Rattle.smtp_receive.specs.declared.ending.End.TheVariants.{Nothing, Refused, Whole}
 use Rattle.smtp_receive.specs.Sessions.{Holds, Keeps, Goes, BeginsMessage, Stands, takes_recipient, answer_of, IsBounded, is_data, ending_of, end_of, received_of, given_by}
@@ -290,21 +292,24 @@ kept_is s host peer before kept k is =
 pub heard_more : (peer : List ℕ) (heard : List Heard) (h : Heard) → exchanges peer (heard ++ h ∷ []) ≡ exchange_of peer (exchanges peer heard) h ∷ exchanges peer heard
 heard_more peer heard h = fold-append (with_heard peer) [] heard (h ∷ [])
 
-pub stands_more : (n : Session) (host peer : List ℕ) (heard : List Heard) (line : Line) (did : Did) → Goes n host peer (exchanges peer heard) line did
-    → Stands n host peer (heard ++ record { line = line; short = false } ∷ [])
-stands_more n host peer heard line did goes =
-    subst (λ es. Keeps n host peer es) (sym (heard_more peer heard (record { line = line; short = false }))) goes.keeps
+pub stands_more : (n : Session) (host peer : List ℕ) (heard : List Heard) (line : Line) (id : Option ℕ) (did : Did) → Goes n host peer (exchanges peer heard) line did
+    → Stands n host peer (heard ++ record { line = line; short = false; id = id } ∷ [])
+stands_more n host peer heard line id did goes =
+    subst (λ es. Keeps n host peer es) (sym (heard_more peer heard (record { line = line; short = false; id = id }))) goes.keeps
 
 -- want of memory ends the transaction
 lack_ends : (line : Line) → ends (record { line = line; answer = None }) ≡ true
 lack_ends DataEnd = refl
 lack_ends _ = refl
 
+ended : (before : List Exchange) (line : Line) → transaction_in (record { line = line; answer = None } ∷ before) ≡ no_transaction
+ended before line = cond-true (ends (record { line = line; answer = None })) no_transaction (gone_on (record { line = line; answer = None }) (transaction_in before)) (lack_ends line)
+
 no_lines : (before : List Exchange) (line : Line) → lines_in (record { line = line; answer = None } ∷ before) ≡ None
-no_lines before line = cond-true (ends (record { line = line; answer = None })) None (with_text line (lines_in before)) (lack_ends line)
+no_lines before line = ap (λ (t : Transaction). t.lines) (ended before line)
 
 -- it leaves no answer to a line that isn't dropped
-pub lacking : (peer : List ℕ) (before : List Exchange) (line : Line) → is_dropped before line ≡ false → answer_heard peer before (record { line = line; short = true }) ≡ None
+pub lacking : (peer : List ℕ) (before : List Exchange) (line : Line) → is_dropped before line ≡ false → answer_heard peer before (record { line = line; short = true; id = None }) ≡ None
 lacking peer before line kept = ap (λ b. cond (true && not b) None (Some (answer_to peer before line))) kept
 
 keep_reset : (s n : Session) (host peer : List ℕ) (before : List Exchange) (line : Line) → Keeps s host peer before → n ≡ record s { sender = None; recipient = None; message = None }
@@ -315,16 +320,16 @@ keep_reset s n host peer before line k new =
       host_is = k.host_is;
       peer_is = k.peer_is;
       helo_is = k.helo_is;
-      sender_is = sym (cond-true (ends (record { line = line; answer = None })) None (sender_in before) (lack_ends line));
-      recipient_is = sym (cond-true (ends (record { line = line; answer = None })) None (recipient_in before) (lack_ends line));
+      sender_is = sym (ap (λ (t : Transaction). t.sender) (ended before line));
+      recipient_is = sym (ap (λ (t : Transaction). t.recipient) (ended before line));
       message_is = subst (λ l. Holds None l) (sym (no_lines before line)) tt;
     })
 
 pub stands_reset : (s n : Session) (host peer : List ℕ) (heard : List Heard) (line : Line) → Stands s host peer heard → is_dropped (exchanges peer heard) line ≡ false → n ≡ record s { sender = None; recipient = None; message = None }
-    → Stands n host peer (heard ++ record { line = line; short = true } ∷ [])
+    → Stands n host peer (heard ++ record { line = line; short = true; id = None } ∷ [])
 stands_reset s n host peer heard line k kept new =
     let es : List Exchange = exchanges peer heard in
-    subst (λ all. Keeps n host peer all) (sym (heard_more peer heard (record { line = line; short = true })))
+    subst (λ all. Keeps n host peer all) (sym (heard_more peer heard (record { line = line; short = true; id = None })))
     (subst (λ a. Keeps n host peer (record { line = line; answer = a } ∷ es)) (sym (lacking peer es line kept)) (keep_reset s n host peer es line k new))
 
 -- ---- the message
@@ -437,10 +442,10 @@ pub line_did : {E : Type 0} (r : Result Did E) (n : Session) (host peer : List �
 line_did (Err e) n host peer heard line goes = tt
 line_did (Ok d) n host peer heard line goes = goes.did_is
 
-pub line_stands : {E : Type 0} (r : Result Did E) (n : Session) (host peer : List ℕ) (heard : List Heard) (line : Line) → IfOk r (λ did. Goes n host peer (exchanges peer heard) line did)
-    → IfOk r (λ _. Stands n host peer (heard ++ record { line = line; short = false } ∷ []))
-line_stands (Err e) n host peer heard line goes = tt
-line_stands (Ok d) n host peer heard line goes = stands_more n host peer heard line d goes
+pub line_stands : {E : Type 0} (r : Result Did E) (n : Session) (host peer : List ℕ) (heard : List Heard) (line : Line) (id : Option ℕ) → IfOk r (λ did. Goes n host peer (exchanges peer heard) line did)
+    → IfOk r (λ _. Stands n host peer (heard ++ record { line = line; short = false; id = id } ∷ []))
+line_stands (Err e) n host peer heard line id goes = tt
+line_stands (Ok d) n host peer heard line id goes = stands_more n host peer heard line id d goes
 
 pub line_bounded : {E : Type 0} (r : Result Did E) (n : Session) (host peer : List ℕ) (heard : List Heard) (line : Line) → IfOk r (λ did. Goes n host peer (exchanges peer heard) line did)
     → IfOk r (λ _. IsBounded n)
@@ -513,6 +518,29 @@ cleared s sender recipient message no_sender no_recipient no_message =
     ∙ ap (λ x. record s { sender = None; recipient = x; message = message }) no_recipient
     ∙ ap (λ x. record s { sender = None; recipient = None; message = x }) no_message
 
+-- ---- replies
+
+replies_from_more : (host peer : List ℕ) (before : List Exchange) (heard : List Heard) (next : Heard) → replies_from host peer before (heard ++ next ∷ [])
+    ≡ replies_from host peer before heard ++ listed (reply_by host (answer_heard peer (fold (with_heard peer) before heard) next) next.id)
+replies_from_more host peer before [] next = append-nil (listed (reply_by host (answer_heard peer before next) next.id))
+replies_from_more host peer before (h ∷ heard) next =
+    let told : List (List ℕ) = listed (reply_by host (answer_heard peer before h) h.id) in
+    let last : List (List ℕ) = listed (reply_by host (answer_heard peer (fold (with_heard peer) (with_heard peer before h) heard) next) next.id) in
+    ap (λ r. told ++ r) (replies_from_more host peer (with_heard peer before h) heard next)
+    ∙ sym (append_assoc told (replies_from host peer (with_heard peer before h) heard) last)
+
+pub replies_more : (host peer : List ℕ) (heard : List Heard) (next : Heard) → replies_to host peer (heard ++ next ∷ []) ≡ replies_to host peer heard ++ listed (reply_by host (answer_heard peer (exchanges peer heard) next) next.id)
+replies_more host peer heard next = replies_from_more host peer [] heard next
+
+-- what is done at an answer says its reply
+pub told_reply : (host : List ℕ) (answer : Answer) → text_told (did_of host answer) ≡ reply_by host (Some answer) None
+told_reply host (Says reply) = refl
+told_reply host Greets = refl
+told_reply host Grants = refl
+told_reply host Closes = refl
+told_reply host (Gives message) = refl
+told_reply host Takes = refl
+
 pub dialogue_more : (peer : List ℕ) (heard : List Heard) (next : Heard) → dialogue peer (heard ++ next ∷ []) ≡ dialogue peer heard ++ exchange_of peer (reverse (dialogue peer heard)) next ∷ []
 dialogue_more peer heard next =
     let es : List Exchange = exchanges peer heard in
@@ -521,12 +549,12 @@ dialogue_more peer heard next =
     ∙ ap (λ b. reverse es ++ exchange_of peer b next ∷ []) (sym (reverse-reverse es))
 
 -- the end of data, and whether it was and is answered by want of memory
-pub stands_ended : (s n : Session) (host peer : List ℕ) (heard : List Heard) (was is : Bool) → Stands s host peer (heard ++ record { line = DataEnd; short = was } ∷ [])
-    → n ≡ record s { sender = None; recipient = None; message = None } → Stands n host peer (heard ++ record { line = DataEnd; short = is } ∷ [])
-stands_ended s n host peer heard was is k new =
+pub stands_ended : (s n : Session) (host peer : List ℕ) (heard : List Heard) (was is : Bool) (got gets : Option ℕ) → Stands s host peer (heard ++ record { line = DataEnd; short = was; id = got } ∷ [])
+    → n ≡ record s { sender = None; recipient = None; message = None } → Stands n host peer (heard ++ record { line = DataEnd; short = is; id = gets } ∷ [])
+stands_ended s n host peer heard was is got gets k new =
     let es : List Exchange = exchanges peer heard in
-    let earlier : Heard = record { line = DataEnd; short = was } in
-    let last : Heard = record { line = DataEnd; short = is } in
+    let earlier : Heard = record { line = DataEnd; short = was; id = got } in
+    let last : Heard = record { line = DataEnd; short = is; id = gets } in
     subst (λ all. Keeps n host peer all) (sym (heard_more peer heard last))
     (keep_end s n host peer (exchange_of peer es earlier ∷ es) es (answer_heard peer es last)
     (subst (λ all. Keeps s host peer all) (heard_more peer heard earlier) k) (ap (λ o. unwrap_or o (helo_in es)) (helo_none (answer_heard peer es earlier))) new)

@@ -17,7 +17,8 @@ use Rattle.mail_header.specs.Gatherings.{is_above}
 use Rattle.mail_header.specs.inner.Lines.{headers_of, body_of, block_of, size_of}
 use Rattle.smtp_lines.specs.inner.Reading.{is_nothing}
 use Rattle.smtp_receive.specs.Requests.{Request, Greet, From, To, Begin, End, request_of}
-use Rattle.smtp_receive.specs.Replies.{text_of, grant_text, hello_text, closing_text}
+use Rattle.smtp_lines.specs.Parameters.{listed}
+use Rattle.smtp_receive.specs.Replies.{text_of, grant_text, hello_text, closing_text, stored_text, out_of_memory_text}
 
 -- how a line is answered: with words, 250 to HELO, 354, 221 to QUIT, a message, or no reply
 pub data Answer : Type 0 where
@@ -33,10 +34,11 @@ pub record Exchange : Type 0 where
   pub line : Line
   pub answer : Option Answer
 
--- a line, and whether 452 4.3.1 was replied to it for want of memory
+-- what a session is given: a line, whether 452 4.3.1 was replied to it for want of memory, and the id that its message got, if it gave one that was taken in
 pub record Heard : Type 0 where
   pub line : Line
   pub short : Bool
+  pub id : Option ℕ
 
 -- the request that was read, if there was one
 abbrev pub read_in : Result Request LineFault → Option Request
@@ -115,29 +117,43 @@ abbrev pub or_else : Option (List ℕ) → Option (List ℕ) → Option (List �
 or_else (Some told) earlier = Some told
 or_else None earlier = earlier
 
--- the latest that exchanges tell since a transaction ended last; here and below the latest exchange is first
-abbrev pub latest : (Exchange → Option (List ℕ)) → List Exchange → Option (List ℕ)
-latest told [] = None
-latest told (e ∷ before) = if ends e then None else or_else (told e) (latest told before)
-
--- the sender of the transaction under way
-abbrev pub sender_in : List Exchange → Option (List ℕ)
-sender_in before = latest sender_told before
-
--- its recipient: there is one at most
-abbrev pub recipient_in : List Exchange → Option (List ℕ)
-recipient_in before = latest recipient_told before
-
 abbrev pub with_text : Line → Option (List (List ℕ)) → Option (List (List ℕ))
 with_text (Command text) lines = lines
 with_text TooLong lines = lines
 with_text (DataLine text) lines = option_map (λ earlier. earlier ++ text ∷ []) lines
 with_text DataEnd lines = lines
 
--- the lines of the message under way, which are those since the 354; none where none is under way
+-- the transaction under way: the sender of a MAIL that is accepted, the recipient of an RCPT that is, of which there is one at most, and the lines since the 354
+pub record Transaction : Type 0 where
+  pub sender : Option (List ℕ)
+  pub recipient : Option (List ℕ)
+  pub lines : Option (List (List ℕ))
+
+abbrev pub no_transaction : Transaction
+no_transaction = record { sender = None; recipient = None; lines = None }
+
+-- what an exchange that doesn't end it makes of it
+abbrev pub gone_on : Exchange → Transaction → Transaction
+gone_on e t = record {
+  sender = or_else (sender_told e) t.sender;
+  recipient = or_else (recipient_told e) t.recipient;
+  lines = if is_grant e.answer then Some [] else with_text e.line t.lines;
+}
+
+-- the transaction under way after some exchanges; here and below the latest exchange is first
+abbrev pub transaction_in : List Exchange → Transaction
+transaction_in [] = no_transaction
+transaction_in (e ∷ before) = if ends e then no_transaction else gone_on e (transaction_in before)
+
+abbrev pub sender_in : List Exchange → Option (List ℕ)
+sender_in before = (transaction_in before).sender
+
+abbrev pub recipient_in : List Exchange → Option (List ℕ)
+recipient_in before = (transaction_in before).recipient
+
+-- the lines of the message under way, or None where none is under way
 abbrev pub lines_in : List Exchange → Option (List (List ℕ))
-lines_in [] = None
-lines_in (e ∷ before) = if ends e then None else if is_grant e.answer then Some [] else with_text e.line (lines_in before)
+lines_in before = (transaction_in before).lines
 
 -- whether a line is of data of which nothing is kept, since 452 4.3.1 ended the transaction: it gets no reply
 abbrev pub is_dropped : List Exchange → Line → Bool
@@ -252,3 +268,22 @@ did_of host Grants = Granted grant_text
 did_of host Closes = Bye (closing_text host)
 did_of host (Gives message) = Message message
 did_of host Takes = Taken
+
+-- the reply to a line, if it gets one: 452 4.3.1 where there was no memory for its answer; to a message its 250, where it got an id
+abbrev pub reply_by : List ℕ → Option Answer → Option ℕ → Option (List ℕ)
+reply_by host None id = Some out_of_memory_text
+reply_by host (Some (Says reply)) id = Some (text_of reply)
+reply_by host (Some Greets) id = Some (hello_text host)
+reply_by host (Some Grants) id = Some grant_text
+reply_by host (Some Closes) id = Some (closing_text host)
+reply_by host (Some (Gives message)) id = option_map stored_text id
+reply_by host (Some Takes) id = None
+
+-- the replies to what is given to a session behind some exchanges
+abbrev pub replies_from : List ℕ → List ℕ → List Exchange → List Heard → List (List ℕ)
+replies_from host peer before [] = []
+replies_from host peer before (next ∷ heard) = listed (reply_by host (answer_heard peer before next) next.id) ++ replies_from host peer (with_heard peer before next) heard
+
+-- the replies of a session behind its greeting
+abbrev pub replies_to : List ℕ → List ℕ → List Heard → List (List ℕ)
+replies_to host peer heard = replies_from host peer [] heard

@@ -1,10 +1,11 @@
-ghost use Rattle.std.specs.Prelude.{◌≡◌, ◌≤◌, ◌++◌, ◌∷◌, [], List, ℕ, Some, reverse};
+ghost use Rattle.std.specs.Prelude.{◌≡◌, ◌≤◌, ◌++◌, ◌∷◌, [], List, ℕ, None, Some, reverse};
 ghost use Rattle.mail_base.specs.Limits.{IsId};
 ghost use Rattle.smtp_lines.specs.declared.line.Line.{Line};
 ghost use Rattle.smtp_receive.specs.declared.received.Received.{Received};
 ghost use Rattle.smtp_receive.specs.Replies.{greeting_text, stored_text, out_of_memory_text, too_many_sessions_text};
 ghost use Rattle.mail_header.specs.Headers.{AreLines, text_of};
-ghost use Rattle.smtp_receive.specs.Dialogue.{Answer, Gives, Heard, dialogue, did_of, exchange_of, exchanges, lines_in};
+ghost use Rattle.smtp_receive.specs.Dialogue.{Answer, Gives, Heard, answer_heard, dialogue, did_of, exchange_of, exchanges, lines_in, replies_to, reply_by};
+ghost use Rattle.smtp_lines.specs.Parameters.{listed};
 ghost use Rattle.smtp_receive.specs.Sessions.{answer_of};
 ghost use Rattle.smtp_receive.specs.Forms.{IsFormed, IsSplitOf};
 ghost use Rattle.smtp_receive.specs.Finals.{IsFinal, text_told};
@@ -13,6 +14,14 @@ ghost use Rattle.smtp_receive.specs.Finals.{IsFinal, text_told};
 pub fn one_exchange_a_line()
     ensures { (peer : List ℕ) (heard : List Heard) (next : Heard) → dialogue peer (heard ++ next ∷ [])
         ≡ dialogue peer heard ++ exchange_of peer (reverse (dialogue peer heard)) next ∷ [] }
+{}
+
+/// Each line that a session is given adds its reply, if it gets one, to the session's replies. What is done at
+/// an answer says this reply; that of a message is said once it has its id.
+pub fn one_reply_a_line()
+    ensures more { (host peer : List ℕ) (heard : List Heard) (next : Heard) → replies_to host peer (heard ++ next ∷ [])
+        ≡ replies_to host peer heard ++ listed (reply_by host (answer_heard peer (exchanges peer heard) next) next.id) }
+    ensures told { (host : List ℕ) (answer : Answer) → text_told (did_of host answer) ≡ reply_by host (Some answer) None }
 {}
 
 /// A message that is given has its parts in their forms, whatever the lines are.

@@ -11,7 +11,7 @@ mod session;
 
 pub use law::{
     a_final_reply_tells_its_message, messages_are_split, messages_have_forms,
-    no_other_reply_is_final, one_exchange_a_line,
+    no_other_reply_is_final, one_exchange_a_line, one_reply_a_line,
 };
 pub use received::{Did, Received};
 pub use reply::{out_of_memory, too_many_sessions};

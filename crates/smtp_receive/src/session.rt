@@ -59,8 +59,8 @@ impl Session {
     pub fn line(&mut self, line: &Line) -> Result<Did, NoMemory>
         ensures did { (host peer : List ℕ) (heard : List Heard) → Stands self.old host peer heard
             → IfOk result (λ did. did ≡ did_of (shown_host host) (answer_of peer heard line.now)) }
-        ensures stands { (host peer : List ℕ) (heard : List Heard) → Stands self.old host peer heard
-            → IfOk result (λ _. Stands self.new host peer (heard ++ record { line = line.now; short = false } ∷ [])) }
+        ensures stands { (host peer : List ℕ) (heard : List Heard) (id : Option ℕ) → Stands self.old host peer heard
+            → IfOk result (λ _. Stands self.new host peer (heard ++ record { line = line.now; short = false; id = id } ∷ [])) }
         ensures silent { (host peer : List ℕ) (heard : List Heard) → Stands self.old host peer heard
             → is_dropped (exchanges peer heard) line.now ≡ true → result ≡ Ok Did.Taken }
         ensures bounded { (host peer : List ℕ) (heard : List Heard) → Stands self.old host peer heard
@@ -86,11 +86,11 @@ impl Session {
     pub fn reset(&mut self)
         ensures stands { (host peer : List ℕ) (heard : List Heard) (line : Line) → Stands self.old host peer heard
             → is_dropped (exchanges peer heard) line ≡ false
-            → Stands self.new host peer (heard ++ record { line = line; short = true } ∷ []) }
+            → Stands self.new host peer (heard ++ record { line = line; short = true; id = None } ∷ []) }
         // The same after the end of data whose message was given, also where 452 4.3.1 was replied in place of its 250.
-        ensures ended { (host peer : List ℕ) (heard : List Heard) (was is : Bool)
-            → Stands self.old host peer (heard ++ record { line = Line.DataEnd; short = was } ∷ [])
-            → Stands self.new host peer (heard ++ record { line = Line.DataEnd; short = is } ∷ []) }
+        ensures ended { (host peer : List ℕ) (heard : List Heard) (was is : Bool) (earlier later : Option ℕ)
+            → Stands self.old host peer (heard ++ record { line = Line.DataEnd; short = was; id = earlier } ∷ [])
+            → Stands self.new host peer (heard ++ record { line = Line.DataEnd; short = is; id = later } ∷ []) }
         ensures reset { self.new ≡ record self.old { sender = None; recipient = None; message = None } }
     {
         self.sender = None;

@@ -9,8 +9,8 @@ returns-clause-did c =
 
 pub returns-clause-stands : goal.returns-clause-stands
 returns-clause-stands c =
-    λ host peer heard k.
-    line_stands c.answer.result c.answer.new.self host peer heard c.args.line.now (c.answer.ensures.goes host peer (exchanges peer heard) k)
+    λ host peer heard id k.
+    line_stands c.answer.result c.answer.new.self host peer heard c.args.line.now id (c.answer.ensures.goes host peer (exchanges peer heard) k)
 
 pub returns-clause-silent : goal.returns-clause-silent
 returns-clause-silent c =

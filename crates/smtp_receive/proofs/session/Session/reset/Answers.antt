@@ -9,5 +9,5 @@ returns-clause-stands c =
 
 pub returns-clause-ended : goal.returns-clause-ended
 returns-clause-ended c =
-    λ host peer heard was is k.
-    stands_ended c.args.self.now (record c.args.self.now { sender = None; recipient = None; message = None }) host peer heard was is k refl
+    λ host peer heard was is earlier later k.
+    stands_ended c.args.self.now (record c.args.self.now { sender = None; recipient = None; message = None }) host peer heard was is earlier later k refl

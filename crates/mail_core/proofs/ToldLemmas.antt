@@ -1,0 +1,190 @@
+-- What is said to a session for a piece are the replies of its dialogue.
+use Rattle.std.proofs.Common.{◌≡◌, ℕ, List, [], ◌∷◌, ◌++◌, Bool, true, false, not, cond, Option, Some, None, refl, sym, ◌∙◌, ap, subst, append_assoc}
+use Rattle.std.specs.Prelude.{fold, option_map, if◌then◌else◌, nat_eq}
+use Rattle.std.proofs.lemmas.Bool.{eq-eqb}
+use Rattle.std.proofs.lemmas.Grind.{flat_map-append}
+use Rattle.std.proofs.lemmas.List.{append-nil}
+use Rattle.smtp_lines.specs.declared.line.Line.{Line}
+use Rattle.smtp_lines.specs.Parameters.{listed}
+use Rattle.smtp_receive.specs.declared.received.Received.{Received}
+use Rattle.smtp_receive.specs.Dialogue.{Answer, Says, Greets, Grants, Closes as Ends, Gives, Takes as Passes, Exchange, Heard, answer_heard, exchanges, reply_by}
+use Rattle.smtp_receive.specs.Replies.{text_of, grant_text, hello_text, closing_text, stored_text, shown_host, out_of_memory_text}
+use Rattle.smtp_receive.specs.Sessions.{answer_of}
+use Rattle.smtp_receive.proofs.KeepLemmas.{lacking, replies_more}
+use Rattle.spool_store.specs.Tables.{Table}
+use Rattle.mail_core.specs.declared.serving.Site.{Site}
+use Rattle.mail_core.specs.Effects.{Effect, Commits, Sends, HangsUp, speech}
+use Rattle.mail_core.specs.Guests.{Guest, is_passed, next_line, with_line}
+use Rattle.mail_core.specs.Machine.{Choice, Normal, OutOfMemory, Disconnects, SpoolFails, Ending, SpoolFault, IdsSpent, Finish, By, Cut, Way, GoesOn, Leaves, Over, Did, way_of, does, says, closes, is_over, commits, accepts, replies, fails, heard_line, heard_where, id_by, is_answered, by_choice, goes_on, answered, settled_by, settled, fresh_start, all_answered}
+use Rattle.mail_core.specs.Messages.{accept_of, is_spent}
+use Rattle.mail_core.specs.Told.{said_to, replies_of}
+
+same_number : (n : ℕ) → nat_eq n n ≡ true
+same_number n = eq-eqb n n refl
+
+-- what a text says
+said_once : (n : ℕ) (text : List ℕ) (whole : Bool) (later : List Effect) → said_to n (Sends n text whole ∷ later) ≡ text ∷ said_to n later
+said_once n text whole later = ap (λ b. (if b then text ∷ [] else []) ++ said_to n later) (same_number n)
+
+said_speech : (n : ℕ) (text : List ℕ) (whole : Bool) → said_to n (speech n text whole) ≡ text ∷ []
+said_speech n text true = said_once n text true []
+said_speech n text false = said_once n text false (HangsUp n ∷ [])
+
+said_more : (n : ℕ) (one other : List Effect) → said_to n (one ++ other) ≡ said_to n one ++ said_to n other
+said_more n one other = flat_map-append _ one other
+
+-- these texts were said besides, and no line was answered yet
+record Adds (d e : Did) (texts : List (List ℕ)) : Type 0 where
+  pub guest : e.guest ≡ d.guest
+  pub said : said_to d.guest.number e.effects ≡ said_to d.guest.number d.effects ++ texts
+
+adds_none : (d : Did) (way : Way) → Adds d (does d [] way) []
+adds_none d way = record { guest = refl; said = said_more d.guest.number d.effects [] }
+
+adds_still : (d : Did) → Adds d d []
+adds_still d = record { guest = refl; said = sym (append-nil (said_to d.guest.number d.effects)) }
+
+adds_says : (d : Did) (text : List ℕ) (whole : Bool) → Adds d (says d text whole) (text ∷ [])
+adds_says d text whole = record {
+  guest = refl;
+  said = said_more d.guest.number d.effects (speech d.guest.number text whole) ∙ ap (λ t. said_to d.guest.number d.effects ++ t) (said_speech d.guest.number text whole);
+}
+
+adds_closes : (d : Did) (text : List ℕ) (whole : Bool) → Adds d (closes d text whole) (text ∷ [])
+adds_closes d text whole = record {
+  guest = refl;
+  said = said_more d.guest.number d.effects (Sends d.guest.number text whole ∷ HangsUp d.guest.number ∷ [])
+      ∙ ap (λ t. said_to d.guest.number d.effects ++ t) (said_once d.guest.number text whole (HangsUp d.guest.number ∷ []));
+}
+
+module _ (site : Site) (moment : ℕ) where
+  commits_none : (d : Did) (message : Received) → said_to d.guest.number (commits site moment d message).effects ≡ said_to d.guest.number d.effects
+  commits_none d message = said_more d.guest.number d.effects (Commits (accept_of site moment message) ∷ []) ∙ append-nil (said_to d.guest.number d.effects)
+
+  adds_stored : (d : Did) (message : Received) (text : List ℕ) (whole : Bool) → Adds d (says (commits site moment d message) text whole) (text ∷ [])
+  adds_stored d message text whole =
+      let a = adds_says (commits site moment d message) text whole in
+      record { guest = refl; said = a.said ∙ ap (λ s. s ++ text ∷ []) (commits_none d message) }
+
+  adds_failed : (d : Did) (message : Received) → Adds d (is_over (commits site moment d message) (By SpoolFault)) []
+  adds_failed d message =
+      let a = adds_none (commits site moment d message) (Over (By SpoolFault)) in
+      record { guest = refl; said = a.said ∙ ap (λ s. s ++ []) (commits_none d message) }
+
+  -- ---- what was said since a piece began are the replies to what was answered since
+
+  record IsTold (g : Guest) (d : Did) : Type 0 where
+    pub number : d.guest.number ≡ g.number
+    pub told : replies_of site d.guest ≡ replies_of site g ++ said_to g.number d.effects
+
+  -- no line was answered, and nothing was said
+  told_none : (g : Guest) (d e : Did) → Adds d e [] → IsTold g d → IsTold g e
+  told_none g d e a t =
+      let said : said_to d.guest.number e.effects ≡ said_to d.guest.number d.effects = a.said ∙ append-nil (said_to d.guest.number d.effects) in
+      let here : said_to g.number e.effects ≡ said_to g.number d.effects = subst (λ n. said_to n e.effects ≡ said_to n d.effects) t.number said in
+      record {
+        number = ap (λ (x : Guest). x.number) a.guest ∙ t.number;
+        told = ap (replies_of site) a.guest ∙ t.told ∙ ap (λ s. replies_of site g ++ s) (sym here);
+      }
+
+  -- a line was answered, and its reply was said
+  told_line : (g : Guest) (d e : Did) (line : Line) (short : Bool) (id : Option ℕ) → Adds d e (listed (reply_by (shown_host site.host) (answer_heard d.guest.peer (exchanges d.guest.peer d.guest.heard) (record { line = line; short = short; id = id })) id))
+      → IsTold g d → IsTold g (heard_line e line short id)
+  told_line g d e line short id a t =
+      let host = shown_host site.host in
+      let reply : List (List ℕ) = listed (reply_by host (answer_heard d.guest.peer (exchanges d.guest.peer d.guest.heard) (record { line = line; short = short; id = id })) id) in
+      let here : said_to g.number e.effects ≡ said_to g.number d.effects ++ reply = subst (λ n. said_to n e.effects ≡ said_to n d.effects ++ reply) t.number a.said in
+      record {
+        number = ap (λ (x : Guest). x.number) a.guest ∙ t.number;
+        told = ap (λ x. replies_of site (with_line x line short id)) a.guest
+            ∙ replies_more host d.guest.peer d.guest.heard (record { line = line; short = short; id = id })
+            ∙ ap (λ r. r ++ reply) t.told
+            ∙ append_assoc (replies_of site g) (said_to g.number d.effects) reply
+            ∙ ap (λ s. replies_of site g ++ s) (sym here);
+      }
+
+  gives_told : (spent : Bool) (g : Guest) (d : Did) (line : Line) (message : Received) (whole : Bool) → answer_of d.guest.peer d.guest.heard line ≡ Gives message → IsTold g d
+      → IsTold g (heard_where (not spent) (if spent then is_over d (By IdsSpent) else says (commits site moment d message) (stored_text d.table.next) whole) line false (Some d.table.next))
+  gives_told true g d line message whole is t = told_none g d (is_over d (By IdsSpent)) (adds_none d (Over (By IdsSpent))) t
+  gives_told false g d line message whole is t =
+      told_line g d (says (commits site moment d message) (stored_text d.table.next) whole) line false (Some d.table.next)
+      (subst (λ a. Adds d (says (commits site moment d message) (stored_text d.table.next) whole) (listed (reply_by (shown_host site.host) (Some a) (Some d.table.next)))) (sym is) (adds_stored d message (stored_text d.table.next) whole)) t
+
+  normal_told : (g : Guest) (d : Did) (line : Line) (answer : Answer) (whole : Bool) → answer_of d.guest.peer d.guest.heard line ≡ answer → IsTold g d
+      → IsTold g (heard_where (is_answered d.table answer) (replies site moment d answer whole) line false (id_by d.table answer))
+  normal_told g d line (Gives message) whole is t = gives_told (is_spent d.table) g d line message whole is t
+  normal_told g d line (Says reply) whole is t =
+      told_line g d (says d (text_of reply) whole) line false None (subst (λ a. Adds d (says d (text_of reply) whole) (listed (reply_by (shown_host site.host) (Some a) None))) (sym is) (adds_says d (text_of reply) whole)) t
+  normal_told g d line Greets whole is t =
+      let text : List ℕ = hello_text (shown_host site.host) in
+      told_line g d (says d text whole) line false None (subst (λ a. Adds d (says d text whole) (listed (reply_by (shown_host site.host) (Some a) None))) (sym is) (adds_says d text whole)) t
+  normal_told g d line Grants whole is t =
+      told_line g d (says d grant_text whole) line false None (subst (λ a. Adds d (says d grant_text whole) (listed (reply_by (shown_host site.host) (Some a) None))) (sym is) (adds_says d grant_text whole)) t
+  normal_told g d line Ends whole is t =
+      let text : List ℕ = closing_text (shown_host site.host) in
+      told_line g d (closes d text whole) line false None (subst (λ a. Adds d (closes d text whole) (listed (reply_by (shown_host site.host) (Some a) None))) (sym is) (adds_closes d text whole)) t
+  normal_told g d line Passes whole is t =
+      told_line g d d line false None (subst (λ a. Adds d d (listed (reply_by (shown_host site.host) (Some a) None))) (sym is) (adds_still d)) t
+
+  failing_told : (spent : Bool) (g : Guest) (d : Did) (message : Received) → IsTold g d → IsTold g (if spent then is_over d (By IdsSpent) else is_over (commits site moment d message) (By SpoolFault))
+  failing_told true g d message t = told_none g d (is_over d (By IdsSpent)) (adds_none d (Over (By IdsSpent))) t
+  failing_told false g d message t = told_none g d (is_over (commits site moment d message) (By SpoolFault)) (adds_failed d message) t
+
+  over_told : (g : Guest) (d : Did) (finish : Finish) → IsTold g d → IsTold g (is_over d finish)
+  over_told g d finish t = told_none g d (is_over d finish) (adds_none d (Over finish)) t
+
+  fails_told : (g : Guest) (d : Did) (answer : Answer) → IsTold g d → IsTold g (fails site moment d answer)
+  fails_told g d (Gives message) t = failing_told (is_spent d.table) g d message t
+  fails_told g d (Says reply) t = over_told g d Cut t
+  fails_told g d Greets t = over_told g d Cut t
+  fails_told g d Grants t = over_told g d Cut t
+  fails_told g d Ends t = over_told g d Cut t
+  fails_told g d Passes t = over_told g d Cut t
+
+  short_told : (passed : Bool) (g : Guest) (d : Did) (line : Line) (whole : Bool) → is_passed d.guest line ≡ passed → IsTold g d → IsTold g (if passed then is_over d Cut else heard_line (says d out_of_memory_text whole) line true None)
+  short_told true g d line whole is t = over_told g d Cut t
+  short_told false g d line whole is t =
+      told_line g d (says d out_of_memory_text whole) line true None
+      (subst (λ a. Adds d (says d out_of_memory_text whole) (listed (reply_by (shown_host site.host) a None))) (sym (lacking d.guest.peer (exchanges d.guest.peer d.guest.heard) line is)) (adds_says d out_of_memory_text whole)) t
+
+  hang_none : (d : Did) → Adds d (does d (HangsUp d.guest.number ∷ []) Leaves) []
+  hang_none d = record { guest = refl; said = said_more d.guest.number d.effects (HangsUp d.guest.number ∷ []) }
+
+  drop_told : (may : Bool) (g : Guest) (d : Did) → IsTold g d → IsTold g (if may then does d (HangsUp d.guest.number ∷ []) Leaves else is_over d Cut)
+  drop_told true g d t = told_none g d (does d (HangsUp d.guest.number ∷ []) Leaves) (hang_none d) t
+  drop_told false g d t = over_told g d Cut t
+
+  choice_told : (g : Guest) (d : Did) (choice : Choice) (line : Option Line) → IsTold g d → IsTold g (by_choice site moment d choice line)
+  choice_told g d (Normal whole) (Some line) t = normal_told g d line (answer_of d.guest.peer d.guest.heard line) whole refl t
+  choice_told g d (OutOfMemory whole) (Some line) t = short_told (is_passed d.guest line) g d line whole refl t
+  choice_told g d SpoolFails (Some line) t = fails_told g d (answer_of d.guest.peer d.guest.heard line) t
+  choice_told g d Disconnects (Some line) t = drop_told d.may_disconnect g d t
+  choice_told g d Disconnects None t = drop_told d.may_disconnect g d t
+  choice_told g d (Normal whole) None t = over_told g d Cut t
+  choice_told g d (OutOfMemory whole) None t = over_told g d Cut t
+  choice_told g d SpoolFails None t = over_told g d Cut t
+
+  goes_told : (way : Way) (g : Guest) (d e : Did) → IsTold g d → IsTold g e → IsTold g (goes_on way d e)
+  goes_told GoesOn g d e t u = u
+  goes_told Leaves g d e t u = t
+  goes_told (Over finish) g d e t u = t
+
+  all_told : (g : Guest) (d : Did) (choices : List Choice) → IsTold g d → IsTold g (fold (answered site moment) d choices)
+  all_told g d [] t = t
+  all_told g d (choice ∷ choices) t =
+      all_told g (answered site moment d choice) choices (goes_told d.way g d (by_choice site moment d choice (next_line d.guest)) t (choice_told g d choice (next_line d.guest) t))
+
+  settled_told : (way : Way) (line : Option Line) (g : Guest) (d : Did) → IsTold g d → IsTold g (settled_by way line d)
+  settled_told GoesOn (Some line) g d t = over_told g d Cut t
+  settled_told GoesOn None g d t = t
+  settled_told Leaves line g d t = t
+  settled_told (Over finish) line g d t = t
+
+  fresh_told : (table : Table) (g : Guest) → IsTold g (fresh_start table g)
+  fresh_told table g = record { number = refl; told = sym (append-nil (replies_of site g)) }
+
+  pub piece_told : (table : Table) (g : Guest) (choices : List Choice) → replies_of site (all_answered site moment table g choices).guest ≡ replies_of site g ++ said_to g.number (all_answered site moment table g choices).effects
+  piece_told table g choices =
+      let d = fold (answered site moment) (fresh_start table g) choices in
+      let t = settled_told d.way (next_line d.guest) g d (all_told g (fresh_start table g) choices (fresh_told table g)) in
+      t.told
