@@ -21,3 +21,11 @@ mod Waiting
 mod Verdicts
 mod Samples
 mod Needed
+mod Writing
+mod Agreeing
+mod Keeping
+mod Finishing
+mod Shelving
+mod Replaces
+mod Opened
+mod Bodies

@@ -1,6 +1,6 @@
 -- Moves join, and a call is one.
-use Rattle.std.proofs.Common.{◌≡◌, inl, inr, ⊎_elim, Option, Some, None, Result, Ok, Err, refl, ap, subst}
-use Rattle.std.specs.Prelude.{IsOk}
+use Rattle.std.proofs.Common.{◌≡◌, inl, inr, ⊎_elim, Option, Some, None, Result, Ok, Err, refl, sym, ap, subst}
+use Rattle.std.specs.Prelude.{IsOk, IfSome}
 use Rattle.std.proofs.Math.Nat.{le_refl, le_trans}
 use Rattle.spool_disk.specs.Disk.{FileMap}
 use Rattle.spool_disk.specs.Spooled.{Spooled, Calls, Leads, Rests}
@@ -72,3 +72,75 @@ moves_none a P Q R to = record {
   images = λ f e p t x le left. inl left;
   kept = λ t x left. left;
 }
+
+becomes_to : (a b : Option FileMap) (P Q S : FileMap → Type 0) → ((f : FileMap) → Q f → S f) → Becomes a b P Q → Becomes a b P S
+becomes_to None None P Q S to h = tt
+becomes_to None (Some g) P Q S to h = absurd h
+becomes_to (Some f) None P Q S to h = absurd h
+becomes_to (Some f) (Some g) P Q S to h = λ p. to g (h p)
+
+-- with less promised
+pub moves_weaker : (a b : Spooled) (P Q R S T : FileMap → Type 0) → ((f : FileMap) → Q f → S f) → ((f : FileMap) → R f → T f) → Moves a b P Q R → Moves a b P S T
+moves_weaker a b P Q R S T to any h = record {
+  later = h.later;
+  now = becomes_to a.told b.told P Q S to h.now;
+  images = λ f e p t x le left. ⊎_elim (λ before. inl before) (λ r. inr (any x r)) (h.images f e p t x le left);
+  kept = h.kept;
+}
+
+-- what is so of each map that it may begin with
+becomes_from : (a b : Option FileMap) (P Q S T : FileMap → Type 0) → Becomes a b S T → ((f : FileMap) → a ≡ Some f → P f → Becomes a b (λ g. g ≡ f) Q) → Becomes a b P Q
+becomes_from None None P Q S T h k = tt
+becomes_from None (Some g) P Q S T h k = absurd h
+becomes_from (Some f) None P Q S T h k = absurd h
+becomes_from (Some f) (Some g) P Q S T h k = λ p. k f refl p refl
+
+pub moves_from : (a b : Spooled) (P Q R S T V : FileMap → Type 0) → Moves a b S T V → ((f : FileMap) → P f → Moves a b (λ g. g ≡ f) Q R) → Moves a b P Q R
+moves_from a b P Q R S T V h k = record {
+  later = h.later;
+  now = becomes_from a.told b.told P Q S T h.now (λ f e p. (k f p).now);
+  images = λ f e p t x le left. (k f p).images f e refl t x le left;
+  kept = h.kept;
+}
+
+becomes_at : (a b : Option FileMap) (f : FileMap) (P Q : FileMap → Type 0) → P f → Becomes a b P Q → Becomes a b (λ g. g ≡ f) Q
+becomes_at None None f P Q p h = tt
+becomes_at None (Some g) f P Q p h = absurd h
+becomes_at (Some d) None f P Q p h = absurd h
+becomes_at (Some d) (Some g) f P Q p h = λ e. h (subst P (sym e) p)
+
+pub moves_at : (a b : Spooled) (f : FileMap) (P Q R : FileMap → Type 0) → P f → Moves a b P Q R → Moves a b (λ g. g ≡ f) Q R
+moves_at a b f P Q R p h = record {
+  later = h.later;
+  now = becomes_at a.told b.told f P Q p h.now;
+  images = λ d e q t x le left. h.images d e (subst P (sym q) p) t x le left;
+  kept = h.kept;
+}
+
+-- by its answer
+pub ends_to : {T E : Type 0} (r : Result T E) (Q R S V : FileMap → Type 0) → ((f : FileMap) → Q f → S f) → ((f : FileMap) → R f → V f) → (f : FileMap) → Ends r Q R f → Ends r S V f
+ends_to (Ok x) Q R S V to any f h = to f h
+ends_to (Err e) Q R S V to any f h = any f h
+
+pub ends_same : {T E : Type 0} (r : Result T E) (Q : FileMap → Type 0) (f : FileMap) → Ends r Q Q f → Q f
+ends_same (Ok x) Q f h = h
+ends_same (Err e) Q f h = h
+
+-- the same where it is known that they are told
+pub moves_told : (a b : Spooled) (P Q R S T V : FileMap → Type 0) → Moves a b S T V → ((f : FileMap) → a.told ≡ Some f → P f → Moves a b (λ g. g ≡ f) Q R) → Moves a b P Q R
+moves_told a b P Q R S T V h k = record {
+  later = h.later;
+  now = becomes_from a.told b.told P Q S T h.now (λ f e p. (k f e p).now);
+  images = λ f e p t x le left. (k f e p).images f e refl t x le left;
+  kept = h.kept;
+}
+
+pub at_told : (o : Option FileMap) (P : FileMap → Type 0) → IfSome o P → (f : FileMap) → o ≡ Some f → P f
+at_told o P h f e = subst (λ (q : Option FileMap). IfSome q P) e h
+
+-- what the told files have come to
+pub told_now : (a b : Option FileMap) (Q : FileMap → Type 0) → Becomes a b (λ f. Unit {0}) Q → IfSome b Q
+told_now None None Q h = tt
+told_now None (Some g) Q h = absurd h
+told_now (Some f) None Q h = absurd h
+told_now (Some f) (Some g) Q h = h tt

@@ -5,7 +5,8 @@ use Rattle.mail_base.specs.declared.id.Kind.TheVariants.{Df, Qf, Sf}
 use Rattle.spool_disk.specs.Disk.{Place, FileMap, bytes_at}
 use Rattle.mail_base.specs.declared.control.Control.{Control}
 use Rattle.mail_base.specs.States.{NeedsBody}
-use Rattle.spool_store.specs.Queue.{Says, Spot, spot_place, body_place, IsSpot, IsControl, IsRead, HasTwin, IsUnder, IsStrange, unread, twice, upward, under, bodiless, reopened, IsLive, alone, child}
+use Rattle.qf_format.specs.Saying.{Says}
+use Rattle.spool_store.specs.Queue.{Spot, spot_place, body_place, IsSpot, IsControl, IsRead, HasTwin, IsUnder, IsStrange, unread, twice, upward, under, bodiless, reopened, IsLive, alone, child}
 use Rattle.qf_format.specs.Spelling.{spelled}
 use Rattle.spool_store.specs.Alike.{AreAlike}
 use Rattle.spool_store.specs.Settled.{IsTidy}

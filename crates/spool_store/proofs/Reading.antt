@@ -6,7 +6,8 @@ use Rattle.spool_disk.specs.Disk.{Place, FileMap}
 use Rattle.mail_base.specs.declared.control.Control.{Control}
 use Rattle.mail_base.proofs.FileNames.{same_kind, same_number}
 use Rattle.qf_format.proofs.LawLemmas.{spelled_once}
-use Rattle.spool_store.specs.Queue.{Says, Spot, spot_place, IsRead}
+use Rattle.qf_format.specs.Saying.{Says}
+use Rattle.spool_store.specs.Queue.{Spot, spot_place, IsRead}
 
 -- bytes say one control
 pub says_one : (bytes : List ℕ) (c d : Control) → Says bytes c → Says bytes d → c ≡ d

@@ -138,10 +138,10 @@ there_stays dirs f g s b qf there (gone e dead) = absurd (let z : Some b ≡ Non
 there_stays dirs f g s b qf there (moved m) = absurd (let z : Some b ≡ None = sym there.there ∙ m.gone in cc z)
 there_stays dirs f g s b qf there (came sf m) = absurd (let z : Qf ≡ Sf = sym qf ∙ sf in cc z)
 
-sf_spot : (dirs : List (List ℕ)) (s : Spot) → IsSpot dirs s → IsSpot dirs (as_kind Sf s)
+pub sf_spot : (dirs : List (List ℕ)) (s : Spot) → IsSpot dirs s → IsSpot dirs (as_kind Sf s)
 sf_spot dirs s spot = record { among = spot.among; kind = inr refl; within = spot.within }
 
-elsewhere : (dirs : List (List ℕ)) (f g h : FileMap) (s : Spot) (c : Control) → IsMove dirs f g h s c → (t : Spot) → IsSpot dirs t → t ≢ s → t ≢ as_kind Sf s → bytes_at h (spot_place t) ≡ bytes_at g (spot_place t)
+pub elsewhere : (dirs : List (List ℕ)) (f g h : FileMap) (s : Spot) (c : Control) → IsMove dirs f g h s c → (t : Spot) → IsSpot dirs t → t ≢ s → t ≢ as_kind Sf s → bytes_at h (spot_place t) ≡ bytes_at g (spot_place t)
 elsewhere dirs f g h s c m t spot ne nor = m.renamed.others (spot_place t) (apart_at dirs s t m.there.spot spot ne) (apart_at dirs (as_kind Sf s) t (sf_spot dirs s m.there.spot) spot nor)
 
 kind_apart : (s t : Spot) (k j : Kind) → s.kind ≡ k → t.kind ≡ j → k ≢ j → s ≢ t

@@ -5,7 +5,8 @@ use Rattle.std.specs.Ordering.{nat_cmp}
 use Rattle.std.proofs.lemmas.List.Elements.{All-weaker, All-map}
 use Rattle.mail_base.specs.declared.id.Kind.{Kind}
 use Rattle.mail_base.specs.declared.id.Kind.TheVariants.{Df, Sf}
-use Rattle.spool_store.specs.Queue.{at, IsOpen, Says, Spot, IsControl, IsRead, HasTwin, IsUnder, IsStrange, unread, twice, upward, under, bodiless, reopened, IsLive, alone, child}
+use Rattle.qf_format.specs.Saying.{Says}
+use Rattle.spool_store.specs.Queue.{at, IsOpen, Spot, IsControl, IsRead, HasTwin, IsUnder, IsStrange, unread, twice, upward, under, bodiless, reopened, IsLive, alone, child}
 use Rattle.spool_disk.specs.Disk.{FileMap, bytes_at}
 use Rattle.mail_base.specs.declared.control.Control.{Control}
 use Rattle.mail_base.specs.declared.control.Parent.{Parent}

@@ -10,3 +10,7 @@ pub mod Changes
 pub mod Tidying
 pub mod Writes
 pub mod Verdicts
+pub mod Parts
+pub mod Stores
+pub mod Keepers
+pub mod Finishing

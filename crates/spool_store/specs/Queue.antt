@@ -8,13 +8,7 @@ use Rattle.spool_disk.specs.Disk.{Place, FileMap, bytes_at}
 use Rattle.mail_base.specs.declared.control.Control.{Control}
 use Rattle.mail_base.specs.declared.control.Parent.{Parent}
 use Rattle.mail_base.specs.States.{is_finished, NeedsBody}
-use Rattle.qf_format.specs.Spelling.{spelled}
-use Rattle.qf_format.specs.Valid.{IsValid}
-
--- bytes say a control
-pub record Says (bytes : List ℕ) (c : Control) : Type 0 where
-  pub valid : IsValid c
-  pub text : bytes ≡ spelled c
+use Rattle.qf_format.specs.Saying.{Says}
 
 -- a row of it is still to be done
 abbrev pub IsOpen : Control → Type 0

@@ -1,8 +1,9 @@
 ghost use Rattle.std.specs.Prelude.{◌≡◌};
 ghost use Rattle.mail_base.specs.declared.fault.EdgeFault.TheVariants.{NoMemory as EdgeMemory, Failed as EdgeFailed};
+ghost use Rattle.mail_base.specs.declared.fault.StoreFault.TheVariants.{NoMemory as StoreMemory, SpoolFault as StoreSpool};
 ghost use Rattle.spool_store.specs.declared.fault.OpenFault.TheVariants.{NoMemory as Memory, SpoolFault as Spool};
 
-use mail_base::{EdgeFault, NoMemory};
+use mail_base::{EdgeFault, NoMemory, StoreFault};
 use thiserror::Error;
 
 /// A call of the spool failed, in this call or in an earlier one that left the store broken.
@@ -39,5 +40,16 @@ pub(crate) fn opening_fault(fault: EdgeFault) -> OpenFault
     match fault {
         EdgeFault::Failed => OpenFault::SpoolFault,
         EdgeFault::NoMemory => OpenFault::NoMemory,
+    }
+}
+
+// The same of a call of the store.
+pub(crate) fn store_fault(fault: EdgeFault) -> StoreFault
+    ensures memory { fault ≡ EdgeMemory → result ≡ StoreMemory }
+    ensures failed { fault ≡ EdgeFailed → result ≡ StoreSpool }
+{
+    match fault {
+        EdgeFault::Failed => StoreFault::SpoolFault,
+        EdgeFault::NoMemory => StoreFault::NoMemory,
     }
 }

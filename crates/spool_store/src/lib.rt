@@ -5,18 +5,31 @@
 mod change;
 mod fault;
 mod files;
+mod finishes;
+mod held;
+mod label;
 mod law;
 mod opening;
+mod part;
+mod parts;
+mod queue;
 mod queue_law;
+mod raises;
+mod room;
+mod shelf;
 mod store;
 
 pub use change::Change;
 pub use fault::{OpenFault, SpoolFault};
+pub use held::Held;
 pub use law::{a_clean_map_stands, commands_follow, new_entries_keep_soundness};
+pub use part::Part;
+pub use queue::Queue;
 pub use queue_law::{
     a_dead_child_may_come_alive, a_read_map_has_a_table, adding_leaves_strange, adding_settles,
     before_stands, commit_settles, files_alike, finish_settles, one_control, one_table,
     opening_settles, raised_alike, replace_settles, samples_settle, stages_follow, steps_tidy,
     tidied_settles, tidied_stands, verdicts_follow,
 };
+pub use room::Room;
 pub use store::Store;

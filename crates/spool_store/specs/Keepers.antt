@@ -1,0 +1,57 @@
+-- The store of parts: what is seen of it, and when its calls may be made (own).
+use Rattle.std.specs.Prelude.{◌≡◌, ◌≤◌, ℕ, ◌+◌, ◌-◌, ◌^◌, List, [], min, Option, None, Some, Contains, true}
+use Rattle.mail_base.specs.declared.control.Control.{Control}
+use Rattle.mail_base.specs.States.{is_finished}
+use Rattle.qf_format.specs.Room.{SameTexts, room_of}
+use Rattle.qf_format.specs.Sheets.{Sheet}
+use Rattle.qf_format.specs.Valid.{IsValid}
+use Rattle.spool_store.specs.Entries.{Stored, Table, with_control}
+use Rattle.spool_store.specs.Queue.{IsOpen}
+use Rattle.spool_store.specs.Stores.{StoreSeen}
+use Rattle.spool_store.specs.declared.held.Held.{Held}
+use Rattle.spool_store.specs.declared.queue.Queue.{Queue}
+
+-- all that is seen of a store
+abbrev pub seen : Queue → StoreSeen
+seen q = record { dirs = q.dirs; entries = q.shelf.items; strange = q.strange; next = q.next; broken = q.broken; room = q.shelf.room }
+
+-- the table of a queue that was never used
+abbrev pub unused : Table
+unused = record { entries = []; next = 1 }
+
+-- the bytes of a file, or none where it isn't there
+abbrev pub or_nothing : Option (List ℕ) → List ℕ
+or_nothing None = []
+or_nothing (Some bytes) = bytes
+
+-- a revision is raised by one, or stays at its last value
+abbrev pub raised : ℕ → ℕ
+raised revision = min (revision + 1) (2 ^ 64 - 1)
+
+-- a control may take the place of that of an entry: it says the same rows, raised by one, and has room
+pub record CanReplace (entries : List Held) (id : ℕ) (control : Control) (paper : Sheet) : Type 0 where
+  pub held : Held
+  pub among : Contains entries held
+  pub is : held.entry.id ≡ id
+  pub open_row : IsOpen held.entry.control
+  pub valid : IsValid control
+  pub texts : SameTexts held.entry.control control
+  pub parent : control.parent ≡ held.entry.control.parent
+  pub revision : control.revision ≡ raised held.entry.control.revision
+  pub empty : paper.bytes ≡ []
+  pub fits : room_of held.entry.control ≤ paper.room
+
+-- every row of the entry of an id is done
+pub record CanFinish (entries : List Held) (id : ℕ) : Type 0 where
+  pub held : Held
+  pub among : Contains entries held
+  pub is : held.entry.id ≡ id
+  pub done : is_finished held.entry.control ≡ true
+
+-- the table with another control of an entry
+abbrev pub after_replace : Table → ℕ → Control → Table
+after_replace table id c = record { entries = with_control id c table.entries; next = table.next }
+
+-- an entry with its new control; of its body nothing is said
+abbrev pub with_new : Held → Control → Stored
+with_new h c = record { id = h.entry.id; dir = h.entry.dir; control = c; body = [] }

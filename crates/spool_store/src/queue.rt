@@ -1,0 +1,212 @@
+ghost use Rattle.std.specs.Prelude.{◌≡◌, ◌⊎◌, ◌≤◌, ◌∷◌, [], IfOk, IfSome, IsErrOf, OnOk, OnErr, Contains, List, ℕ, true, false, Err, map};
+ghost use Rattle.mail_base.specs.Histories.{HasCause, Rose};
+ghost use Rattle.mail_base.specs.Names.{name_of};
+ghost use Rattle.mail_base.specs.States.{NeedsBody};
+ghost use Rattle.mail_base.specs.declared.control.Control.{Control};
+ghost use Rattle.mail_base.specs.declared.fault.StoreFault.TheVariants.{SpoolFault as Broke, IdsSpent as Spent};
+ghost use Rattle.mail_base.specs.declared.id.Kind.TheVariants.{Df};
+ghost use Rattle.qf_format.specs.Room.{room_of};
+ghost use Rattle.qf_format.specs.Spelling.{spelled};
+ghost use Rattle.spool_disk.specs.Disk.{FileMap, bytes_at};
+ghost use Rattle.spool_disk.specs.Spooled.{Reads};
+ghost use Rattle.spool_store.specs.Entries.{Stored, Table};
+ghost use Rattle.spool_store.specs.Keepers.{CanReplace, after_replace, or_nothing, seen, unused, with_new};
+ghost use Rattle.spool_store.specs.Moves.{Moves, Ends};
+ghost use Rattle.spool_store.specs.Parts.{CanRaise, IsEitherTable, IsUnderWay};
+ghost use Rattle.spool_store.specs.Settled.{IsSettled, StandsFor};
+ghost use Rattle.spool_store.specs.Standing.{IsUsed};
+ghost use Rattle.spool_store.specs.Stores.{Agrees, HasId, Holds, KeepsOthers, recontrolled};
+ghost use Rattle.spool_store.specs.Writes.{AreRaised};
+ghost use Rattle.spool_store.specs.declared.fault.OpenFault.TheVariants.{NotYet, SpoolFault as OpenBroke};
+ghost use Rattle.spool_store.specs.declared.held.Held.{Held};
+
+use crate::fault::store_fault;
+use crate::label::Label;
+use crate::opening::find_empty;
+use crate::raises::put_raised;
+use crate::shelf::Shelf;
+use crate::{Held, OpenFault, Room, SpoolFault};
+use mail_base::{Failed, Id, Kind, NoMemory, Seq, StoreFault, Stray, Text, TryCopy};
+use qf_format::{Paper, print_into, room};
+use spool_disk::Spool;
+use std::alloc::Global;
+
+/// The entries of a spool in order of id, whose commits may have several parts. It is broken exactly
+/// after a call that changes files and answered `SpoolFault`; then each call that takes the spool answers
+/// that and touches nothing, until the spool is opened again.
+#[derive(Drop)]
+pub struct Queue {
+    pub(crate) dirs: Seq<Text>,
+    pub(crate) shelf: Shelf,
+    pub(crate) strange: Seq<Stray>,
+    pub(crate) next: u64,
+    pub(crate) broken: bool,
+    pub(crate) from: Label,
+    pub(crate) to: Label,
+}
+
+impl Queue {
+    /// Opens a spool whose directories have no file yet. It changes nothing. `NotYet` comes exactly where
+    /// the listing of a directory has a name, in the order of the directories; a listing before it may
+    /// fail or find no memory.
+    pub fn open<D: Spool>(
+        alloc: Global,
+        spool: &mut D,
+        dirs: &Seq<Text>,
+    ) -> Result<Queue, OpenFault>
+        ensures store { IfOk result (λ q. seen q ≡ record { dirs = dirs.now; entries = []; strange = []; next = 1; broken = false; room = 0 }) }
+        ensures agrees { IfOk result (λ q. IfSome (D.seen spool.new).told (Agrees (seen q))) }
+        ensures stands { IfOk result (λ _. IfSome (D.seen spool.new).told (IsSettled dirs.now unused)) }
+        ensures used { IsErrOf result NotYet → IfSome (D.seen spool.old).told (IsUsed dirs.now) }
+        ensures untouched { Reads (D.seen spool.old) (D.seen spool.new) }
+        ensures later { (D.seen spool.old).faults ≤ (D.seen spool.new).faults }
+        ensures cause { IsErrOf result OpenBroke → Rose (D.seen spool.old).faults (D.seen spool.new).faults }
+        ensures calm { IsErrOf result OpenBroke ⊎ ((D.seen spool.new).faults ≡ (D.seen spool.old).faults) }
+    {
+        find_empty(alloc, spool, dirs)?;
+        let from = Label::new(alloc)?;
+        let to = Label::new(alloc)?;
+        Ok(Queue {
+            dirs: dirs.copy()?,
+            shelf: Shelf::new(alloc),
+            strange: Seq::new(alloc),
+            next: 1,
+            broken: false,
+            from,
+            to,
+        })
+    }
+
+    /// The entries in order of id. It takes no memory.
+    pub fn entries(&self) -> &[Held]
+        ensures { result.now ≡ (seen self.now).entries }
+    {
+        self.shelf.items()
+    }
+
+    /// The files that the store leaves alone. It takes no memory.
+    pub fn strange(&self) -> &[Stray]
+        ensures { result.now ≡ (seen self.now).strange }
+    {
+        self.strange.items()
+    }
+
+    /// The first free id. It takes no memory.
+    pub fn next(&self) -> u64
+        ensures { result ≡ (seen self.now).next }
+    {
+        self.next
+    }
+
+    /// A copy of the control of the entry of an id, with memory for what takes its place. Nothing is
+    /// written.
+    pub fn reserve(&self, id: &Id) -> Result<Room, NoMemory>
+        requires entry { HasId (seen self.now).entries id.now }
+        ensures id { IfOk result (λ r. r.id ≡ id.now) }
+        ensures control { IfOk result (λ r. (h : Held) → Contains (seen self.now).entries h → h.entry.id ≡ id.now → r.control ≡ h.entry.control) }
+        ensures paper { IfOk result (λ r. (r.paper.bytes ≡ []) × (room_of r.control ≤ r.paper.room)) }
+    {
+        let place = self.shelf.place(*id);
+        let control = self.shelf.items()[place].entry.control.copy()?;
+        let most = room(&control);
+        if most == u64::MAX {
+            return Err(NoMemory);
+        }
+        let paper = Paper::with_room(self.dirs.allocator(), most as usize)?;
+        Ok(Room {
+            control,
+            id: *id,
+            paper,
+        })
+    }
+
+    /// The body of the entry of an id, or no bytes where its file isn't there. A fault doesn't break the
+    /// store.
+    pub fn body<D: Spool>(&self, spool: &mut D, id: &Id) -> Result<Text, StoreFault>
+        requires entry { HasId (seen self.now).entries id.now }
+        ensures read { IfOk result (λ text. IfSome (D.seen spool.old).told (λ files. (h : Held) → Contains (seen self.now).entries h → h.entry.id ≡ id.now → text ≡ or_nothing (bytes_at files (h.entry.dir, name_of Df id.now)))) }
+        ensures bytes { IfOk result (λ text. IfSome (D.seen spool.old).told (λ files. (table : Table) (s : Stored) → StandsFor (seen self.now).dirs table files → Agrees (seen self.now) files → Contains table.entries s → s.id ≡ id.now → NeedsBody s.control → text ≡ s.body)) }
+        ensures untouched { Reads (D.seen spool.old) (D.seen spool.new) }
+        ensures broken { (seen self.now).broken ≡ true → (result ≡ Err Broke) × (spool.new ≡ spool.old) }
+        ensures never { IsErrOf result Spent → ⊥ }
+        ensures later { (D.seen spool.old).faults ≤ (D.seen spool.new).faults }
+        ensures cause { IsErrOf result Broke → ((seen self.now).broken ≡ true) ⊎ Rose (D.seen spool.old).faults (D.seen spool.new).faults }
+        ensures calm { IsErrOf result Broke ⊎ ((D.seen spool.new).faults ≡ (D.seen spool.old).faults) }
+    {
+        if self.broken {
+            return Err(StoreFault::SpoolFault);
+        }
+        let alloc = self.dirs.allocator();
+        let name = Text::of(alloc, id.name(Kind::Df).bytes())?;
+        let place = self.shelf.place(*id);
+        match spool.read(alloc, &self.shelf.items()[place].entry.dir, &name) {
+            Ok(Some(text)) => Ok(text),
+            Ok(None) => Ok(Text::new(alloc)),
+            Err(fault) => Err(store_fault(fault)),
+        }
+    }
+
+    /// Gives an entry the control of its room: it writes the text whole, and then the renaming decides. It
+    /// takes no memory.
+    pub fn replace<D: Spool>(&mut self, spool: &mut D, room: Room) -> Result<(), SpoolFault>
+        requires agrees { (seen self.old).broken ≡ false → IfSome (D.seen spool.old).told (Agrees (seen self.old)) }
+        requires can { CanReplace (seen self.old).entries room.id room.control room.paper }
+        ensures moves { (table : Table) → Holds (seen self.old) table → Moves
+            (D.seen spool.old)
+            (D.seen spool.new)
+            (StandsFor (seen self.old).dirs table)
+            (Ends result (IsSettled (seen self.old).dirs (after_replace table room.id room.control)) (IsEitherTable (seen self.old).dirs table (after_replace table room.id room.control)))
+            (IsEitherTable (seen self.old).dirs table (after_replace table room.id room.control)) }
+        ensures frame { (f : FileMap) → Moves (D.seen spool.old) (D.seen spool.new) (λ g. g ≡ f) (KeepsOthers (seen self.old).dirs f) (KeepsOthers (seen self.old).dirs f) }
+        ensures agrees { OnOk result (IfSome (D.seen spool.new).told (Agrees (seen self.new))) }
+        ensures ok { OnOk result (seen self.new ≡ record (seen self.old) { entries = map (recontrolled room.id room.control) (seen self.old).entries }) }
+        ensures err { OnErr result (seen self.new ≡ record (seen self.old) { broken = true }) }
+        ensures broken { (seen self.old).broken ≡ true → (result ≡ Err record {}) × (spool.new ≡ spool.old) }
+        ensures later { (D.seen spool.old).faults ≤ (D.seen spool.new).faults }
+        ensures calm { OnOk result ((D.seen spool.new).faults ≡ (D.seen spool.old).faults) }
+        ensures cause { OnErr result (((seen self.old).broken ≡ true) ⊎ Rose (D.seen spool.old).faults (D.seen spool.new).faults) }
+    {
+        if self.broken {
+            return Err(SpoolFault);
+        }
+        let (control, id, mut paper) = room.into_parts();
+        print_into(&control, &mut paper);
+        let text = paper.into_text();
+        match self.write_control(spool, id, &text) {
+            Ok(()) => {
+                self.shelf.set_control(id, control);
+                Ok(())
+            }
+            Err(_failed) => {
+                self.broken = true;
+                Err(SpoolFault)
+            }
+        }
+    }
+
+    // Writes the control text of an entry whole, and gives it its name.
+    fn write_control<D: Spool>(&mut self, spool: &mut D, id: Id, text: &Text) -> Result<(), Failed>
+        requires entry { HasId (seen self.old).entries id }
+        ensures same { seen self.new ≡ seen self.old }
+        ensures moves { (f : FileMap) (h : Held) (control : Control) → Contains (seen self.old).entries h → h.entry.id ≡ id → text.now ≡ spelled control → CanRaise f [] (with_new h control) → Moves
+            (D.seen spool.old)
+            (D.seen spool.new)
+            (λ g. g ≡ f)
+            (Ends result (AreRaised [] (with_new h control) f) (λ g. IsUnderWay (seen self.old).next (with_new h control ∷ []) [] f g ⊎ AreRaised [] (with_new h control) f g))
+            (λ g. IsUnderWay (seen self.old).next (with_new h control ∷ []) [] f g ⊎ AreRaised [] (with_new h control) f g) }
+        ensures cause { HasCause (D.seen spool.old).faults (D.seen spool.new).faults result }
+        ensures calm { OnOk result ((D.seen spool.new).faults ≡ (D.seen spool.old).faults) }
+    {
+        self.from.write(Kind::Tf, id);
+        self.to.write(Kind::Qf, id);
+        let place = self.shelf.place(id);
+        let items = self.shelf.items();
+        put_raised(
+            spool,
+            &items[place].entry.dir,
+            self.from.text(),
+            self.to.text(),
+            text,
+        )
+    }
+}
