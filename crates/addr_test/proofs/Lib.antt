@@ -1,0 +1,4 @@
+mod ListingLemmas
+mod PositionLemmas
+mod PrintingLemmas
+mod RunLemmas
