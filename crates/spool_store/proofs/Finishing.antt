@@ -67,7 +67,6 @@ drop_leads dirs f s c dir df done none in_dir is x g ended r =
         others = λ t spot ne nor. gone.others (spot_place t) (spot_apart dirs s t spot) ∙ ended.others t spot ne nor;
       };
       body = λ e. gone.gone;
-      kept = λ e. absurd (true≢false (sym e ∙ none));
     }
 
 pub drop_safe : (dirs : List (List ℕ)) (f : FileMap) (s : Spot) (c : Control) (dir df : List ℕ) → IsDone dirs f s c → needs_body c ≡ false → dir ≡ s.dir → df ≡ name_of Df s.id → (x g : FileMap) → HasEnded dirs f s x → IsSame x g ⊎ HasRemoved (dir, df) x g → IsTidied dirs f g

@@ -29,3 +29,4 @@ mod Shelving
 mod Replaces
 mod Opened
 mod Bodies
+mod Ended

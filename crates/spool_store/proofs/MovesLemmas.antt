@@ -4,7 +4,7 @@ use Rattle.std.specs.Prelude.{IsOk, IfSome}
 use Rattle.std.proofs.Math.Nat.{le_refl, le_trans}
 use Rattle.spool_disk.specs.Disk.{FileMap}
 use Rattle.spool_disk.specs.Spooled.{Spooled, Calls, Leads, Rests}
-use Rattle.spool_store.specs.Moves.{Moves, Becomes, Ends}
+use Rattle.spool_store.specs.Moves.{Moves, Becomes, Ends, IsRun}
 
 -- what is told stays where a call only reads
 pub leads_told : (a b : Option FileMap) → Leads a b Rests Rests (Unit {0}) → b ≡ a
@@ -144,3 +144,9 @@ told_now None None Q h = tt
 told_now None (Some g) Q h = absurd h
 told_now (Some f) None Q h = absurd h
 told_now (Some f) (Some g) Q h = h tt
+
+pub run_call : (a b : Spooled) (Image Done : FileMap → FileMap → Type 0) (well : Type 0) → Calls a b Image Done well → IsRun a b
+run_call a b Image Done well h = moves_by a b Image Done well (λ f. ⊥) (λ f. ⊥) (λ f. ⊥) h (λ f g p i. p) (λ f g p i d. p)
+
+pub run_join : (a b c : Spooled) → IsRun a b → IsRun b c → IsRun a c
+run_join a b c h k = moves_join a b c _ _ _ _ h k

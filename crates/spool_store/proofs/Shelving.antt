@@ -114,3 +114,8 @@ none_has items id has none = none has.among.0 has.held has.among.1 (ap (λ (q : 
 -- what is shown at the place of an id is its entry
 pub held_is : (items shown : List Held) (id place : ℕ) (d h : Held) → shown ≡ items → IsAscending items → IsPlaceOf items id place → Contains items h → h.entry.id ≡ id → get_or shown place d ≡ h
 held_is items shown id place d h same up at k has = ap (λ (q : List Held). get_or q place d) same ∙ one_held items id place h up at k has d
+
+pub only_held : (items : List Held) (id : ℕ) (one : Held) → IsAscending items → Contains items one → one.entry.id ≡ id → (h : Held) → Contains items h → h.entry.id ≡ id → h ≡ one
+only_held items id one up k is h m has =
+    let at : IsPlaceOf items id m.0 = record { within = m.1; has = λ d. ap (λ (q : Held). q.entry.id) (get_or_default items m.0 d h m.1 ∙ m.2) ∙ has } in
+    sym m.2 ∙ one_held items id m.0 one up at k is h

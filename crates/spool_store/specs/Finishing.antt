@@ -1,5 +1,5 @@
 -- What a finish makes of a map (own; sf is a finished entry's control file).
-use Rattle.std.specs.Prelude.{◌≡◌, ◌≢◌, ℕ, List, None, true, false}
+use Rattle.std.specs.Prelude.{◌≡◌, ◌≢◌, ℕ, List, None, false}
 use Rattle.mail_base.specs.States.{needs_body}
 use Rattle.mail_base.specs.declared.id.Kind.TheVariants.{Qf, Sf}
 use Rattle.mail_base.specs.declared.control.Control.{Control}
@@ -24,4 +24,3 @@ pub record HasEnded (dirs : List (List ℕ)) (f : FileMap) (s : Spot) (g : FileM
 pub record HasFinished (dirs : List (List ℕ)) (f : FileMap) (s : Spot) (c : Control) (g : FileMap) : Type 0 where
   pub ended : HasEnded dirs f s g
   pub body : needs_body c ≡ false → bytes_at g (body_place s) ≡ None
-  pub kept : needs_body c ≡ true → bytes_at g (body_place s) ≡ bytes_at f (body_place s)

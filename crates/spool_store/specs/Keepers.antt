@@ -1,10 +1,13 @@
 -- The store of parts: what is seen of it, and when its calls may be made (own).
-use Rattle.std.specs.Prelude.{◌≡◌, ◌≤◌, ℕ, ◌+◌, ◌-◌, ◌^◌, List, [], min, Option, None, Some, Contains, true}
+use Rattle.std.specs.Prelude.{◌≡◌, ◌≤◌, ℕ, ◌+◌, ◌-◌, ◌^◌, List, [], min, Option, None, Some, Contains, IsSome, true, false}
 use Rattle.mail_base.specs.declared.control.Control.{Control}
-use Rattle.mail_base.specs.States.{is_finished}
+use Rattle.mail_base.specs.Names.{name_of}
+use Rattle.mail_base.specs.States.{is_finished, needs_body}
+use Rattle.mail_base.specs.declared.id.Kind.TheVariants.{Df, Qf, Sf}
 use Rattle.qf_format.specs.Room.{SameTexts, room_of}
 use Rattle.qf_format.specs.Sheets.{Sheet}
 use Rattle.qf_format.specs.Valid.{IsValid}
+use Rattle.spool_disk.specs.Disk.{FileMap, bytes_at}
 use Rattle.spool_store.specs.Entries.{Stored, Table, with_control}
 use Rattle.spool_store.specs.Queue.{IsOpen}
 use Rattle.spool_store.specs.Stores.{StoreSeen}
@@ -55,3 +58,9 @@ after_replace table id c = record { entries = with_control id c table.entries; n
 -- an entry with its new control; of its body nothing is said
 abbrev pub with_new : Held → Control → Stored
 with_new h c = record { id = h.entry.id; dir = h.entry.dir; control = c; body = [] }
+
+-- the control file of an entry has the name of a finished one's alone, and its body is there only where a row is dead
+pub record IsFiled (h : Held) (g : FileMap) : Type 0 where
+  pub queued : bytes_at g (h.entry.dir, name_of Qf h.entry.id) ≡ None
+  pub finished : IsSome (bytes_at g (h.entry.dir, name_of Sf h.entry.id))
+  pub body : needs_body h.entry.control ≡ false → bytes_at g (h.entry.dir, name_of Df h.entry.id) ≡ None

@@ -21,3 +21,7 @@ pub record Moves (old new : Spooled) (P Q R : FileMap → Type 0) : Type 0 where
 abbrev pub Ends : {T E : Type 0} → Result T E → (FileMap → Type 0) → (FileMap → Type 0) → FileMap → Type 0
 Ends (Ok x) Q R = Q
 Ends (Err e) Q R = R
+
+-- a run of calls, whatever they make of the files
+abbrev pub IsRun : Spooled → Spooled → Type 0
+IsRun old new = Moves old new (λ f. ⊥) (λ f. ⊥) (λ f. ⊥)

@@ -6,7 +6,7 @@ ghost use Rattle.mail_base.specs.declared.control.Control.{Control};
 ghost use Rattle.mail_base.specs.declared.id.Kind.TheVariants.{Df as BodyKind, Qf as ControlKind, Sf as FinishedKind};
 ghost use Rattle.spool_disk.specs.Disk.{FileMap, bytes_at};
 ghost use Rattle.spool_store.specs.Finishing.{HasEnded, HasFinished, IsDone};
-ghost use Rattle.spool_store.specs.Moves.{Moves, Ends};
+ghost use Rattle.spool_store.specs.Moves.{IsRun, Moves, Ends};
 ghost use Rattle.spool_store.specs.Queue.{Spot};
 ghost use Rattle.spool_store.specs.Tidying.{IsTidied};
 
@@ -23,6 +23,7 @@ pub(crate) fn end<D: Spool>(spool: &mut D, dir: &Text, qf: &Text, sf: &Text) -> 
         (λ g. g ≡ f)
         (Ends result (HasEnded dirs f s) (IsTidied dirs f))
         (IsTidied dirs f) }
+    ensures runs { IsRun (D.seen spool.old) (D.seen spool.new) }
     ensures cause { HasCause (D.seen spool.old).faults (D.seen spool.new).faults result }
     ensures calm { OnOk result ((D.seen spool.new).faults ≡ (D.seen spool.old).faults) }
 {
@@ -37,6 +38,7 @@ pub(crate) fn drop_body<D: Spool>(spool: &mut D, dir: &Text, df: &Text) -> Resul
         (HasEnded dirs f s)
         (Ends result (HasFinished dirs f s control) (IsTidied dirs f))
         (IsTidied dirs f) }
+    ensures runs { IsRun (D.seen spool.old) (D.seen spool.new) }
     ensures cause { HasCause (D.seen spool.old).faults (D.seen spool.new).faults result }
     ensures calm { OnOk result ((D.seen spool.new).faults ≡ (D.seen spool.old).faults) }
 {

@@ -10,17 +10,20 @@ ghost use Rattle.qf_format.specs.Spelling.{spelled};
 ghost use Rattle.spool_disk.specs.Disk.{FileMap, bytes_at};
 ghost use Rattle.spool_disk.specs.Spooled.{Reads};
 ghost use Rattle.spool_store.specs.Entries.{Stored, Table};
-ghost use Rattle.spool_store.specs.Keepers.{CanReplace, after_replace, or_nothing, seen, unused, with_new};
-ghost use Rattle.spool_store.specs.Moves.{Moves, Ends};
+ghost use Rattle.spool_store.specs.Keepers.{CanFinish, CanReplace, IsFiled, after_replace, or_nothing, seen, unused, with_new};
+ghost use Rattle.spool_store.specs.Finishing.{HasFinished, IsDone};
+ghost use Rattle.spool_store.specs.Moves.{IsRun, Moves, Ends};
 ghost use Rattle.spool_store.specs.Parts.{CanRaise, IsEitherTable, IsUnderWay};
 ghost use Rattle.spool_store.specs.Settled.{IsSettled, StandsFor};
 ghost use Rattle.spool_store.specs.Standing.{IsUsed};
-ghost use Rattle.spool_store.specs.Stores.{Agrees, HasId, Holds, KeepsOthers, recontrolled};
+ghost use Rattle.spool_store.specs.Stores.{Agrees, HasId, Holds, IsAscending, KeepsOthers, recontrolled, refinished, spot_at};
+ghost use Rattle.spool_store.specs.Tidying.{IsTidied};
 ghost use Rattle.spool_store.specs.Writes.{AreRaised};
 ghost use Rattle.spool_store.specs.declared.fault.OpenFault.TheVariants.{NotYet, SpoolFault as OpenBroke};
 ghost use Rattle.spool_store.specs.declared.held.Held.{Held};
 
 use crate::fault::store_fault;
+use crate::finishes::{drop_body, end};
 use crate::label::Label;
 use crate::opening::find_empty;
 use crate::raises::put_raised;
@@ -208,5 +211,87 @@ impl Queue {
             self.to.text(),
             text,
         )
+    }
+
+    /// Gives the control file of an entry whose rows are all done the name of a finished one's, and then
+    /// takes its body away unless a row is dead. An entry that has that name already stays as it is. It
+    /// takes no memory.
+    pub fn finish<D: Spool>(&mut self, spool: &mut D, id: &Id) -> Result<(), SpoolFault>
+        requires agrees { (seen self.old).broken ≡ false → IfSome (D.seen spool.old).told (Agrees (seen self.old)) }
+        requires can { CanFinish (seen self.old).entries id.now }
+        ensures moves { (f : FileMap) → Moves (D.seen spool.old) (D.seen spool.new) (λ g. g ≡ f) (IsTidied (seen self.old).dirs f) (IsTidied (seen self.old).dirs f) }
+        ensures stands { (table : Table) → Moves (D.seen spool.old) (D.seen spool.new) (StandsFor (seen self.old).dirs table) (StandsFor (seen self.old).dirs table) (StandsFor (seen self.old).dirs table) }
+        ensures frame { (f : FileMap) → Moves (D.seen spool.old) (D.seen spool.new) (λ g. g ≡ f) (KeepsOthers (seen self.old).dirs f) (KeepsOthers (seen self.old).dirs f) }
+        ensures files { OnOk result (IfSome (D.seen spool.new).told (λ g. (h : Held) → Contains (seen self.old).entries h → h.entry.id ≡ id.now → h.finished ≡ false → IsFiled h g)) }
+        ensures already { (h : Held) → Contains (seen self.old).entries h → h.entry.id ≡ id.now → h.finished ≡ true → spool.new ≡ spool.old }
+        ensures agrees { OnOk result (IfSome (D.seen spool.new).told (Agrees (seen self.new))) }
+        ensures ok { OnOk result (seen self.new ≡ record (seen self.old) { entries = map (refinished id.now) (seen self.old).entries }) }
+        ensures err { OnErr result (seen self.new ≡ record (seen self.old) { broken = true }) }
+        ensures broken { (seen self.old).broken ≡ true → (result ≡ Err record {}) × (spool.new ≡ spool.old) }
+        ensures later { (D.seen spool.old).faults ≤ (D.seen spool.new).faults }
+        ensures calm { OnOk result ((D.seen spool.new).faults ≡ (D.seen spool.old).faults) }
+        ensures cause { OnErr result (((seen self.old).broken ≡ true) ⊎ Rose (D.seen spool.old).faults (D.seen spool.new).faults) }
+    {
+        if self.broken {
+            return Err(SpoolFault);
+        }
+        if self.is_finished(*id) {
+            return Ok(());
+        }
+        match self.write_finished(spool, *id) {
+            Ok(()) => {
+                self.shelf.set_finished(*id);
+                Ok(())
+            }
+            Err(_failed) => {
+                self.broken = true;
+                Err(SpoolFault)
+            }
+        }
+    }
+
+    // Whether the control file of an entry has the name of a finished one's.
+    fn is_finished(&self, id: Id) -> bool
+        requires entry { HasId (seen self.now).entries id }
+        ensures is { (h : Held) → Contains (seen self.now).entries h → h.entry.id ≡ id → result ≡ h.finished }
+        ensures ascending { IsAscending (seen self.now).entries }
+    {
+        let place = self.shelf.place(id);
+        let items = self.shelf.items();
+        items[place].finished
+    }
+
+    // Renames the control file of an entry, and takes its body away unless it is wanted.
+    fn write_finished<D: Spool>(&mut self, spool: &mut D, id: Id) -> Result<(), Failed>
+        requires agrees { IfSome (D.seen spool.old).told (Agrees (seen self.old)) }
+        requires can { CanFinish (seen self.old).entries id }
+        requires queued { (h : Held) → Contains (seen self.old).entries h → h.entry.id ≡ id → h.finished ≡ false }
+        ensures same { seen self.new ≡ seen self.old }
+        ensures moves { (f : FileMap) (h : Held) → Contains (seen self.old).entries h → h.entry.id ≡ id → IsDone (seen self.old).dirs f (spot_at h) h.entry.control → Moves
+            (D.seen spool.old)
+            (D.seen spool.new)
+            (λ g. g ≡ f)
+            (Ends result (HasFinished (seen self.old).dirs f (spot_at h) h.entry.control) (IsTidied (seen self.old).dirs f))
+            (IsTidied (seen self.old).dirs f) }
+        ensures runs { IsRun (D.seen spool.old) (D.seen spool.new) }
+        ensures cause { HasCause (D.seen spool.old).faults (D.seen spool.new).faults result }
+        ensures calm { OnOk result ((D.seen spool.new).faults ≡ (D.seen spool.old).faults) }
+    {
+        self.from.write(Kind::Qf, id);
+        self.to.write(Kind::Sf, id);
+        let place = self.shelf.place(id);
+        let items = self.shelf.items();
+        end(
+            spool,
+            &items[place].entry.dir,
+            self.from.text(),
+            self.to.text(),
+        )?;
+        if items[place].entry.control.needs_body() {
+            return Ok(());
+        }
+        self.from.write(Kind::Df, id);
+        let items = self.shelf.items();
+        drop_body(spool, &items[place].entry.dir, self.from.text())
     }
 }
