@@ -1,0 +1,81 @@
+ghost use Rattle.std.specs.Prelude.{◌≡◌, ℕ, List, IfOk, IsTrue, ◌<◌, bytes_eq, length};
+ghost use Rattle.mail_base.specs.Drawing.{null_sender};
+ghost use Rattle.addr_route.specs.Senders.{Sends, ends_in_angle, unbracketed};
+
+use crate::fault::Refusal;
+use crate::law::one_sender;
+use crate::sets::sender_sets;
+use crate::through::passed;
+use addr_tokens::join;
+use mail_base::{Config, Macros, Mailer, NoMemory, Text};
+use map_tables::Maps;
+use std::alloc::Global;
+
+/// The sender that a mailer is given for the sender of a message (Sendmail Operation Guide, R and
+/// S: rewriting rules; M: define mailer): behind sets 3, 1, the mailer's own and set 4, without
+/// blanks. `<>` is the empty text, and an address whose rewriting is refused stays as it is
+/// without its brackets.
+pub fn sender_for(
+    alloc: Global,
+    config: &Config,
+    maps: &Maps,
+    macros: &Macros,
+    mailer: &Mailer,
+    sender: &Text,
+) -> Result<Text, NoMemory>
+    ensures sender { IfOk result (Sends config.now maps.now macros.now mailer.now sender.now) }
+    ensures only { (text : List ℕ) → Sends config.now maps.now macros.now mailer.now sender.now text → IfOk result (λ given. given ≡ text) }
+{
+    // A law: a mailer has one sender.
+    one_sender();
+    sent(alloc, config, maps, macros, mailer, sender)
+}
+
+fn sent(
+    alloc: Global,
+    config: &Config,
+    maps: &Maps,
+    macros: &Macros,
+    mailer: &Mailer,
+    sender: &Text,
+) -> Result<Text, NoMemory>
+    ensures { IfOk result (Sends config.now maps.now macros.now mailer.now sender.now) }
+{
+    if is_null(sender.bytes()) {
+        return Ok(Text::new(alloc));
+    }
+    let sets = sender_sets(alloc, mailer)?;
+    match passed(alloc, config, maps, macros, sets.items(), sender) {
+        Ok(tokens) => join(alloc, &tokens, None),
+        Err(Refusal::Because(_cause)) => Text::of(alloc, unbracketed(sender.bytes())),
+        Err(Refusal::NoMemory) => Err(NoMemory),
+    }
+}
+
+fn is_null(sender: &[u8]) -> bool
+    ensures { result ≡ bytes_eq sender.now null_sender }
+{
+    sender == b"<>".as_slice()
+}
+
+// An address without the angles around it.
+fn unbracketed(address: &[u8]) -> &[u8]
+    ensures { result.now ≡ unbracketed address.now }
+{
+    match address.split_first() {
+        Some((first, rest)) => {
+            if *first == b'<' && ends_in_angle(rest) {
+                return &rest[..rest.len() - 1];
+            }
+            address
+        }
+        None => address,
+    }
+}
+
+fn ends_in_angle(text: &[u8]) -> bool
+    ensures value { result ≡ ends_in_angle text.now }
+    ensures some { IsTrue result → 0 < length text.now }
+{
+    !text.is_empty() && text[text.len() - 1] == b'>'
+}
