@@ -12,3 +12,4 @@ pub mod FeedLemmas
 pub mod ExampleLemmas
 pub mod Examples
 pub mod ToldLemmas
+pub mod SpokenLemmas

@@ -1,13 +1,13 @@
 -- What is said to a session for a piece are the replies of its dialogue.
-use Rattle.std.proofs.Common.{◌≡◌, ℕ, List, [], ◌∷◌, ◌++◌, Bool, true, false, not, cond, Option, Some, None, refl, sym, ◌∙◌, ap, subst, append_assoc}
-use Rattle.std.specs.Prelude.{fold, option_map, if◌then◌else◌, nat_eq}
+use Rattle.std.proofs.Common.{◌≡◌, ℕ, List, [], ◌∷◌, ◌++◌, Bool, true, false, not, Option, Some, None, refl, sym, ◌∙◌, ap, subst, append_assoc}
+use Rattle.std.specs.Prelude.{fold, if◌then◌else◌, nat_eq}
 use Rattle.std.proofs.lemmas.Bool.{eq-eqb}
 use Rattle.std.proofs.lemmas.Grind.{flat_map-append}
 use Rattle.std.proofs.lemmas.List.{append-nil}
 use Rattle.smtp_lines.specs.declared.line.Line.{Line}
 use Rattle.smtp_lines.specs.Parameters.{listed}
 use Rattle.smtp_receive.specs.declared.received.Received.{Received}
-use Rattle.smtp_receive.specs.Dialogue.{Answer, Says, Greets, Grants, Closes as Ends, Gives, Takes as Passes, Exchange, Heard, answer_heard, exchanges, reply_by}
+use Rattle.smtp_receive.specs.Dialogue.{Answer, Says, Greets, Grants, Closes as Ends, Gives, Takes as Passes, answer_heard, exchanges, reply_by}
 use Rattle.smtp_receive.specs.Replies.{text_of, grant_text, hello_text, closing_text, stored_text, shown_host, out_of_memory_text}
 use Rattle.smtp_receive.specs.Sessions.{answer_of}
 use Rattle.smtp_receive.proofs.KeepLemmas.{lacking, replies_more}
@@ -15,7 +15,7 @@ use Rattle.spool_store.specs.Tables.{Table}
 use Rattle.mail_core.specs.declared.serving.Site.{Site}
 use Rattle.mail_core.specs.Effects.{Effect, Commits, Sends, HangsUp, speech}
 use Rattle.mail_core.specs.Guests.{Guest, is_passed, next_line, with_line}
-use Rattle.mail_core.specs.Machine.{Choice, Normal, OutOfMemory, Disconnects, SpoolFails, Ending, SpoolFault, IdsSpent, Finish, By, Cut, Way, GoesOn, Leaves, Over, Did, way_of, does, says, closes, is_over, commits, accepts, replies, fails, heard_line, heard_where, id_by, is_answered, by_choice, goes_on, answered, settled_by, settled, fresh_start, all_answered}
+use Rattle.mail_core.specs.Machine.{Choice, Normal, OutOfMemory, Disconnects, SpoolFails, SpoolFault, IdsSpent, Finish, By, Cut, Way, GoesOn, Leaves, Over, Did, does, says, closes, is_over, commits, replies, fails, heard_line, heard_where, id_by, is_answered, by_choice, goes_on, answered, settled_by, fresh_start, all_answered}
 use Rattle.mail_core.specs.Messages.{accept_of, is_spent}
 use Rattle.mail_core.specs.Told.{said_to, replies_of}
 
@@ -30,24 +30,37 @@ said_speech : (n : ℕ) (text : List ℕ) (whole : Bool) → said_to n (speech n
 said_speech n text true = said_once n text true []
 said_speech n text false = said_once n text false (HangsUp n ∷ [])
 
-said_more : (n : ℕ) (one other : List Effect) → said_to n (one ++ other) ≡ said_to n one ++ said_to n other
+-- and to another session nothing
+said_other : (s n : ℕ) → nat_eq n s ≡ false → (text : List ℕ) (whole : Bool) (later : List Effect) → said_to s (Sends n text whole ∷ later) ≡ said_to s later
+said_other s n apart text whole later = ap (λ b. (if b then text ∷ [] else []) ++ said_to s later) apart
+
+pub speech_other : (s n : ℕ) → nat_eq n s ≡ false → (text : List ℕ) (whole : Bool) → said_to s (speech n text whole) ≡ []
+speech_other s n apart text true = said_other s n apart text true []
+speech_other s n apart text false = said_other s n apart text false (HangsUp n ∷ [])
+
+pub closing_other : (s n : ℕ) → nat_eq n s ≡ false → (text : List ℕ) (whole : Bool) → said_to s (Sends n text whole ∷ HangsUp n ∷ []) ≡ []
+closing_other s n apart text whole = said_other s n apart text whole (HangsUp n ∷ [])
+
+pub said_more : (n : ℕ) (one other : List Effect) → said_to n (one ++ other) ≡ said_to n one ++ said_to n other
 said_more n one other = flat_map-append _ one other
 
 -- these texts were said besides, and no line was answered yet
 record Adds (d e : Did) (texts : List (List ℕ)) : Type 0 where
   pub guest : e.guest ≡ d.guest
   pub said : said_to d.guest.number e.effects ≡ said_to d.guest.number d.effects ++ texts
+  pub apart : (s : ℕ) → nat_eq d.guest.number s ≡ false → said_to s e.effects ≡ said_to s d.effects
 
 adds_none : (d : Did) (way : Way) → Adds d (does d [] way) []
-adds_none d way = record { guest = refl; said = said_more d.guest.number d.effects [] }
+adds_none d way = record { guest = refl; said = said_more d.guest.number d.effects []; apart = λ s h. said_more s d.effects [] ∙ append-nil (said_to s d.effects) }
 
 adds_still : (d : Did) → Adds d d []
-adds_still d = record { guest = refl; said = sym (append-nil (said_to d.guest.number d.effects)) }
+adds_still d = record { guest = refl; said = sym (append-nil (said_to d.guest.number d.effects)); apart = λ s h. refl }
 
 adds_says : (d : Did) (text : List ℕ) (whole : Bool) → Adds d (says d text whole) (text ∷ [])
 adds_says d text whole = record {
   guest = refl;
   said = said_more d.guest.number d.effects (speech d.guest.number text whole) ∙ ap (λ t. said_to d.guest.number d.effects ++ t) (said_speech d.guest.number text whole);
+  apart = λ s h. said_more s d.effects (speech d.guest.number text whole) ∙ ap (λ t. said_to s d.effects ++ t) (speech_other s d.guest.number h text whole) ∙ append-nil (said_to s d.effects);
 }
 
 adds_closes : (d : Did) (text : List ℕ) (whole : Bool) → Adds d (closes d text whole) (text ∷ [])
@@ -55,27 +68,29 @@ adds_closes d text whole = record {
   guest = refl;
   said = said_more d.guest.number d.effects (Sends d.guest.number text whole ∷ HangsUp d.guest.number ∷ [])
       ∙ ap (λ t. said_to d.guest.number d.effects ++ t) (said_once d.guest.number text whole (HangsUp d.guest.number ∷ []));
+  apart = λ s h. said_more s d.effects (Sends d.guest.number text whole ∷ HangsUp d.guest.number ∷ []) ∙ ap (λ t. said_to s d.effects ++ t) (closing_other s d.guest.number h text whole) ∙ append-nil (said_to s d.effects);
 }
 
 module _ (site : Site) (moment : ℕ) where
-  commits_none : (d : Did) (message : Received) → said_to d.guest.number (commits site moment d message).effects ≡ said_to d.guest.number d.effects
-  commits_none d message = said_more d.guest.number d.effects (Commits (accept_of site moment message) ∷ []) ∙ append-nil (said_to d.guest.number d.effects)
+  commits_none : (s : ℕ) (d : Did) (message : Received) → said_to s (commits site moment d message).effects ≡ said_to s d.effects
+  commits_none s d message = said_more s d.effects (Commits (accept_of site moment message) ∷ []) ∙ append-nil (said_to s d.effects)
 
   adds_stored : (d : Did) (message : Received) (text : List ℕ) (whole : Bool) → Adds d (says (commits site moment d message) text whole) (text ∷ [])
   adds_stored d message text whole =
       let a = adds_says (commits site moment d message) text whole in
-      record { guest = refl; said = a.said ∙ ap (λ s. s ++ text ∷ []) (commits_none d message) }
+      record { guest = refl; said = a.said ∙ ap (λ s. s ++ text ∷ []) (commits_none d.guest.number d message); apart = λ s h. a.apart s h ∙ commits_none s d message }
 
   adds_failed : (d : Did) (message : Received) → Adds d (is_over (commits site moment d message) (By SpoolFault)) []
   adds_failed d message =
       let a = adds_none (commits site moment d message) (Over (By SpoolFault)) in
-      record { guest = refl; said = a.said ∙ ap (λ s. s ++ []) (commits_none d message) }
+      record { guest = refl; said = a.said ∙ ap (λ s. s ++ []) (commits_none d.guest.number d message); apart = λ s h. a.apart s h ∙ commits_none s d message }
 
   -- ---- what was said since a piece began are the replies to what was answered since
 
-  record IsTold (g : Guest) (d : Did) : Type 0 where
+  pub record IsTold (g : Guest) (d : Did) : Type 0 where
     pub number : d.guest.number ≡ g.number
     pub told : replies_of site d.guest ≡ replies_of site g ++ said_to g.number d.effects
+    pub apart : (s : ℕ) → nat_eq g.number s ≡ false → said_to s d.effects ≡ []
 
   -- no line was answered, and nothing was said
   told_none : (g : Guest) (d e : Did) → Adds d e [] → IsTold g d → IsTold g e
@@ -85,6 +100,7 @@ module _ (site : Site) (moment : ℕ) where
       record {
         number = ap (λ (x : Guest). x.number) a.guest ∙ t.number;
         told = ap (replies_of site) a.guest ∙ t.told ∙ ap (λ s. replies_of site g ++ s) (sym here);
+        apart = λ s h. a.apart s (subst (λ n. nat_eq n s ≡ false) (sym t.number) h) ∙ t.apart s h;
       }
 
   -- a line was answered, and its reply was said
@@ -101,6 +117,7 @@ module _ (site : Site) (moment : ℕ) where
             ∙ ap (λ r. r ++ reply) t.told
             ∙ append_assoc (replies_of site g) (said_to g.number d.effects) reply
             ∙ ap (λ s. replies_of site g ++ s) (sym here);
+        apart = λ s h. a.apart s (subst (λ n. nat_eq n s ≡ false) (sym t.number) h) ∙ t.apart s h;
       }
 
   gives_told : (spent : Bool) (g : Guest) (d : Did) (line : Line) (message : Received) (whole : Bool) → answer_of d.guest.peer d.guest.heard line ≡ Gives message → IsTold g d
@@ -148,7 +165,7 @@ module _ (site : Site) (moment : ℕ) where
       (subst (λ a. Adds d (says d out_of_memory_text whole) (listed (reply_by (shown_host site.host) a None))) (sym (lacking d.guest.peer (exchanges d.guest.peer d.guest.heard) line is)) (adds_says d out_of_memory_text whole)) t
 
   hang_none : (d : Did) → Adds d (does d (HangsUp d.guest.number ∷ []) Leaves) []
-  hang_none d = record { guest = refl; said = said_more d.guest.number d.effects (HangsUp d.guest.number ∷ []) }
+  hang_none d = record { guest = refl; said = said_more d.guest.number d.effects (HangsUp d.guest.number ∷ []); apart = λ s h. said_more s d.effects (HangsUp d.guest.number ∷ []) ∙ append-nil (said_to s d.effects) }
 
   drop_told : (may : Bool) (g : Guest) (d : Did) → IsTold g d → IsTold g (if may then does d (HangsUp d.guest.number ∷ []) Leaves else is_over d Cut)
   drop_told true g d t = told_none g d (does d (HangsUp d.guest.number ∷ []) Leaves) (hang_none d) t
@@ -181,10 +198,12 @@ module _ (site : Site) (moment : ℕ) where
   settled_told (Over finish) line g d t = t
 
   fresh_told : (table : Table) (g : Guest) → IsTold g (fresh_start table g)
-  fresh_told table g = record { number = refl; told = sym (append-nil (replies_of site g)) }
+  fresh_told table g = record { number = refl; told = sym (append-nil (replies_of site g)); apart = λ s h. refl }
+
+  pub piece_all : (table : Table) (g : Guest) (choices : List Choice) → IsTold g (all_answered site moment table g choices)
+  piece_all table g choices =
+      let d = fold (answered site moment) (fresh_start table g) choices in
+      settled_told d.way (next_line d.guest) g d (all_told g (fresh_start table g) choices (fresh_told table g))
 
   pub piece_told : (table : Table) (g : Guest) (choices : List Choice) → replies_of site (all_answered site moment table g choices).guest ≡ replies_of site g ++ said_to g.number (all_answered site moment table g choices).effects
-  piece_told table g choices =
-      let d = fold (answered site moment) (fresh_start table g) choices in
-      let t = settled_told d.way (next_line d.guest) g d (all_told g (fresh_start table g) choices (fresh_told table g)) in
-      t.told
+  piece_told table g choices = (piece_all table g choices).told
