@@ -8,7 +8,8 @@ use Rattle.addr_tokens.specs.declared.fault.ScanFault.TheVariants.{BadDollar}
 use Rattle.addr_tokens.specs.declared.construct.Construct as form
 use Rattle.addr_tokens.specs.declared.construct.Construct.TheVariants as construct
 use Rattle.addr_tokens.specs.declared.front.Front.TheVariants as front
-use Rattle.addr_tokens.specs.Pieces.{Alphabet, Single, Letter, Braced, Dollar, Operator, is_construct, is_naming, is_letter, is_listed, is_doubled, means, undoubled}
+use Rattle.addr_tokens.specs.Pieces.{Alphabet, Single, Letter, Braced, Dollar, Operator, is_construct, is_naming, is_letter, is_listed, is_special, is_doubled, means, undoubled}
+use Rattle.addr_tokens.proofs.WordLemmas.{special_parts}
 use Rattle.addr_tokens.specs.Reader.{first_of, first_word, past_word, begins_dollar, first_dollar, first_named, first_braced, in_braces, with_byte}
 use Rattle.addr_tokens.specs.inner.Fronts.{first_at_dollar}
 use Rattle.addr_tokens.specs.inner.Views.{construct_read, braces_read, construct_in, size_behind, front_read}
@@ -92,13 +93,13 @@ brace_nowhere text i all = ap (λ x. with_front (take i text) (in_braces x)) (dr
 
 -- ---- at the front of a text
 
--- a byte that isn't special to the reader
-pub plain_is : (alphabet : Alphabet) (place b : ℕ) (bs : List ℕ) → is_white b ≡ false → (b ≡ 40 → ⊥) → (b ≡ 41 → ⊥) → (b ≡ 34 → ⊥) → (b ≡ 92 → ⊥) → (b ≡ 36 → ⊥)
+-- a byte that is neither white space nor special, and no dollar sign
+pub unmarked_is : (alphabet : Alphabet) (place b : ℕ) (bs : List ℕ) → is_white b ≡ false → is_special b ≡ false → (b == 36) ≡ false
     → first_of alphabet place b bs ≡ cond (is_listed alphabet b) (Ok (Operator b, bs)) (first_word place (b ∷ bs) (past_word alphabet false (b ∷ bs)))
-plain_is alphabet place b bs white opening closing quote slash dollar =
-    let d = ne_eqb b 36 dollar in
-    cond-false _ _ _ white ∙ cond-false _ _ _ (ne_eqb b 40 opening) ∙ cond-false _ _ _ (ne_eqb b 41 closing) ∙ cond-false _ _ _ (ne_eqb b 34 quote)
-    ∙ cond-false _ _ _ ((λ i. ne_eqb b 92 slash i || (d i && (begins_dollar bs && is_doubled alphabet))))
+unmarked_is alphabet place b bs white special d =
+    let p = special_parts b special in
+    cond-false _ _ _ white ∙ cond-false _ _ _ p.2 ∙ cond-false _ _ _ p.3 ∙ cond-false _ _ _ p.0
+    ∙ cond-false _ _ _ ((λ i. p.1 i || (d i && (begins_dollar bs && is_doubled alphabet))))
     ∙ cond-false _ _ _ (ap (λ t. t && means alphabet.dollars bs) d)
 
 module _ (alphabet : Alphabet) (place : ℕ) (text : List ℕ) (some : 0 < length text) (first : get_or text 0 0 ≡ 36) where

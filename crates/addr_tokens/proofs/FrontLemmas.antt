@@ -1,12 +1,11 @@
 -- A quoted string or a comment that is closed, as the piece at the front of a text.
-use Rattle.std.proofs.Common.{◌≡◌, ℕ, ◌+◌, ◌-◌, ◌≤◌, ◌<◌, true, false, List, ◌∷◌, length, take, drop, get_or, Ok, sym, ◌∙◌, ap, arith}
-use Rattle.std.proofs.lemmas.Bool.{cond-true, cond-false, ne_eqb}
+use Rattle.std.proofs.Common.{◌≡◌, ℕ, ◌+◌, ◌-◌, ◌≤◌, ◌<◌, ◌==◌, ◌||◌, Bool, true, false, List, ◌∷◌, length, take, drop, get_or, Ok, Err, refl, sym, ◌∙◌, ap, arith}
+use Rattle.std.proofs.lemmas.Bool.{cond-false, ne_eqb, eqb-true, false≢true}
 use Rattle.std.proofs.lemmas.List.{drop-drop, drop_more, length-drop}
-use Rattle.mail_base.specs.Whites.{is_white}
-use Rattle.addr_tokens.specs.Pieces.{Alphabet, Comment, Quotation, Operator, Run, is_listed}
+use Rattle.addr_tokens.specs.declared.fault.ScanFault.TheVariants.{Unbalanced}
+use Rattle.addr_tokens.specs.Pieces.{Alphabet, Comment, Quotation, Run, is_special}
 use Rattle.addr_tokens.specs.Reader.{Ending, Closed, first_of, first_word, first_comment, first_quote, front_of, past_word}
 use Rattle.addr_tokens.proofs.WordLemmas.{front_taken}
-use Rattle.addr_tokens.proofs.DollarLemmas.{plain_is}
 
 closed_at : (text part : List ℕ) (n : ℕ) (past : List ℕ → Ending) → part ≡ drop 1 text → Closed (drop n part) ≡ past part → past (drop 1 text) ≡ Closed (drop (n + 1) text)
 closed_at text part n past is ends =
@@ -40,13 +39,16 @@ module _ (alphabet : Alphabet) (place : ℕ) (text : List ℕ) (some : 0 < lengt
       ap (λ x. first_of alphabet place x (drop 1 text)) is
       ∙ ap (λ x. first_word place x (past_word alphabet false x)) (ap (λ b. b ∷ drop 1 text) (sym is) ∙ parts)
 
-  pub word_front : is_white (get_or text 0 0) ≡ false → (get_or text 0 0 ≡ 40 → ⊥) → (get_or text 0 0 ≡ 41 → ⊥) → (get_or text 0 0 ≡ 34 → ⊥) → (get_or text 0 0 ≡ 92 → ⊥) → (get_or text 0 0 ≡ 36 → ⊥)
-      → is_listed alphabet (get_or text 0 0) ≡ false → first_of alphabet place (get_or text 0 0) (drop 1 text) ≡ first_word place text (past_word alphabet false text)
-  word_front white opening closing quote slash dollar other =
-      plain_is alphabet place (get_or text 0 0) (drop 1 text) white opening closing quote slash dollar ∙ cond-false _ _ _ other
-      ∙ ap (λ x. first_word place x (past_word alphabet false x)) parts
+-- of the bytes that quote or comment and a dollar sign, the closing parenthesis is the one that is left
+closing_is : (q s o c d : Bool) → (q || s || o || c || d) ≡ true → q ≡ false → s ≡ false → o ≡ false → d ≡ false → c ≡ true
+closing_is q s o true d is quote slash opening dollar = refl
+closing_is true s o false d is quote slash opening dollar = absurd (false≢true (sym quote))
+closing_is false true o false d is quote slash opening dollar = absurd (false≢true (sym slash))
+closing_is false false true false d is quote slash opening dollar = absurd (false≢true (sym opening))
+closing_is false false false false true is quote slash opening dollar = absurd (false≢true (sym dollar))
+closing_is false false false false false is quote slash opening dollar = absurd (false≢true is)
 
-  pub listed_front : is_white (get_or text 0 0) ≡ false → (get_or text 0 0 ≡ 40 → ⊥) → (get_or text 0 0 ≡ 41 → ⊥) → (get_or text 0 0 ≡ 34 → ⊥) → (get_or text 0 0 ≡ 92 → ⊥) → (get_or text 0 0 ≡ 36 → ⊥)
-      → is_listed alphabet (get_or text 0 0) ≡ true → first_of alphabet place (get_or text 0 0) (drop 1 text) ≡ Ok (Operator (get_or text 0 0), drop 1 text)
-  listed_front white opening closing quote slash dollar is =
-      plain_is alphabet place (get_or text 0 0) (drop 1 text) white opening closing quote slash dollar ∙ cond-true _ _ _ is
+pub closing_front : (alphabet : Alphabet) (place b : ℕ) (bs : List ℕ) → (is_special b || b == 36) ≡ true → (b ≡ 34 → ⊥) → (b ≡ 92 → ⊥) → (b ≡ 40 → ⊥) → (b ≡ 36 → ⊥) → first_of alphabet place b bs ≡ Err (Unbalanced place)
+closing_front alphabet place b bs marked quote slash opening dollar =
+    let is : b ≡ 41 = eqb-true b 41 (closing_is (b == 34) (b == 92) (b == 40) (b == 41) (b == 36) marked (ne_eqb b 34 quote) (ne_eqb b 92 slash) (ne_eqb b 40 opening) (ne_eqb b 36 dollar)) in
+    ap (λ x. first_of alphabet place x bs) is

@@ -12,6 +12,7 @@ mod JudgeLemmas
 mod OutcomeLemmas
 mod PlainLemmas
 mod ScanLemmas
+mod TakeLemmas
 mod JoinLemmas
 mod GatherLemmas
 mod AgainLemmas

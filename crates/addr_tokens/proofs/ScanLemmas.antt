@@ -12,6 +12,7 @@ use Rattle.addr_tokens.specs.declared.front.Front.{Front}
 use Rattle.addr_tokens.specs.declared.front.Front.TheVariants as front
 use Rattle.addr_tokens.specs.declared.construct.Construct.TheVariants as construct
 use Rattle.addr_tokens.specs.Pieces.{Alphabet, alphabet_of, Piece, bytes_of, given_by, is_side, is_listed, is_construct_in, Construct, Single, Letter, Braced}
+use Rattle.addr_tokens.specs.inner.Scanning.{At}
 use Rattle.addr_tokens.specs.inner.Views.{piece_of, size_of, Suits}
 use Rattle.addr_tokens.specs.Reader.{Answer, first_of, note_angle, with_lexemes, judge_on, judge_end, judged, gathered, outcome_on, outcome_of, reading_of}
 use Rattle.addr_tokens.proofs.ReadingLemmas.{reading_more, reading_stop}
@@ -67,11 +68,6 @@ module _ (alphabet : Alphabet) (angles : Bool) (place : ℕ) (lefts rest : List 
 
     pub goes_on : (now : List ℕ) → note_angle angles place lefts piece ≡ Ok now → outcome_on alphabet angles place lefts rest ≡ with_lexemes (given_by alphabet.dollars piece) (outcome_on alphabet angles (place + length (bytes_of piece)) now after)
     goes_on now noted = more ∙ ap (judge_on (λ l. outcome_on alphabet angles (place + length (bytes_of piece)) l after) (given_by alphabet.dollars piece)) noted
-
--- how the scan goes on from a place, where the rest of the text begins
-pub record At (alphabet : Alphabet) (angles : Bool) (text : List ℕ) (checked : Bool) (place : ℕ) (lefts : List ℕ) (is_long : Bool) (lexemes : List Lexeme) : Type 0 where
-  pub within : place ≤ length text
-  pub outcome : gathered is_long lexemes (outcome_on alphabet checked place lefts (drop place text)) ≡ outcome_of alphabet angles text
 
 module _ (alphabet : Alphabet) (angles : Bool) (text : List ℕ) (checked : Bool) (place : ℕ) (lefts : List ℕ) (is_long : Bool) (lexemes : List Lexeme)
     (so : At alphabet angles text checked place lefts is_long lexemes) (part : List ℕ) (is : part ≡ drop place text) (more : place < length text) where

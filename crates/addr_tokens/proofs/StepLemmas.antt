@@ -9,7 +9,7 @@ use Rattle.mail_base.specs.Whites.{is_white}
 use Rattle.addr_tokens.proofs.WordLemmas.{special_parts}
 
 -- a byte that stands in a word whatever is behind it, before any text
-lone_parts : (alphabet : Alphabet) (b : ℕ) → is_lone (is_listed alphabet b) b ≡ true → (is_white b ≡ false) × (is_special b ≡ false) × (is_listed alphabet b ≡ false) × ((b == 36) ≡ false)
+pub lone_parts : (alphabet : Alphabet) (b : ℕ) → is_lone (is_listed alphabet b) b ≡ true → (is_white b ≡ false) × (is_special b ≡ false) × (is_listed alphabet b ≡ false) × ((b == 36) ≡ false)
 lone_parts alphabet b lone =
     let p = and_parts (not (is_white b) && not (is_special b) && not (is_listed alphabet b)) (not (b == 36)) lone in
     let q = and_parts (not (is_white b) && not (is_special b)) (not (is_listed alphabet b)) p.0 in

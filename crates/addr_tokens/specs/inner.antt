@@ -1,4 +1,5 @@
 pub mod Fronts
 pub mod Joining
+pub mod Scanning
 pub mod Tables
 pub mod Views

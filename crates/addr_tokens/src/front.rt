@@ -1,6 +1,6 @@
-ghost use Rattle.mail_base.specs.Whites.{is_white};
-ghost use Rattle.std.specs.Prelude.{◌≡◌, ◌≢◌, ◌+◌, ◌^◌, ◌<◌, ◌≤◌, ℕ, List, false, length, drop, slice_index, IfOk};
+ghost use Rattle.std.specs.Prelude.{◌≡◌, ◌+◌, ◌^◌, ◌<◌, ◌≤◌, ◌==◌, ◌||◌, ℕ, List, true, false, length, drop, slice_index, IfOk};
 ghost use Rattle.addr_tokens.specs.Reader as reader;
+ghost use Rattle.addr_tokens.specs.Pieces as spec;
 ghost use Rattle.addr_tokens.specs.Pieces.{Alphabet};
 ghost use Rattle.addr_tokens.specs.inner.Fronts.{first_at_dollar};
 ghost use Rattle.addr_tokens.specs.inner.Tables.{IsTable};
@@ -10,7 +10,6 @@ use crate::ScanFault;
 use crate::construct::{Construct, construct_of};
 use crate::ending::{Ending, comment_end, quote_end, word_length};
 use crate::table::Table;
-use mail_base::is_white;
 
 /// The piece that a text begins with, and how many bytes it has.
 #[derive(Clone, Copy)]
@@ -36,11 +35,12 @@ impl Front {
     }
 }
 
-/// The first piece of a text before which so many bytes stand.
-// Two scans call it, and a call costs them a third of their time.
-#[inline(always)]
-pub(crate) fn first_of(table: &Table, text: &[u8], place: u64) -> Result<Front, ScanFault>
+/// The first piece of a text before which so many bytes stand, where a byte begins it that quotes or
+/// comments, or a dollar sign.
+pub(crate) fn marked_of(table: &Table, text: &[u8], place: u64) -> Result<Front, ScanFault>
     requires some { 0 < length text.now }
+    requires marked { (spec.is_special (slice_index text.now 0) || slice_index text.now 0 == 36)
+        ≡ true }
     requires place { place + length text.now < 2 ^ 64 }
     ensures some { IfOk result (λ front. 0 < size_of front) }
     ensures within { IfOk result (λ front. size_of front ≤ length text.now) }
@@ -48,40 +48,14 @@ pub(crate) fn first_of(table: &Table, text: &[u8], place: u64) -> Result<Front, 
         → reader.first_of alphabet place (slice_index text.now 0) (drop 1 text.now)
         ≡ front_read text.now result }
 {
-    let byte = text[0];
-    if is_white(byte) {
-        return Ok(Front::White);
-    }
-    match byte {
+    match text[0] {
         b'(' => comment_of(text, place),
-        b')' => Err(ScanFault::Unbalanced(place)),
         b'"' => quotation_of(text, place),
         b'\\' => run_of(table, text, place),
         b'$' => dollar_of(table, text, place),
-        _ => plain_of(table, text, place),
+        // The one that is left is a closing parenthesis.
+        _ => Err(ScanFault::Unbalanced(place)),
     }
-}
-
-/// The same, where an operator or a word begins the text.
-fn plain_of(table: &Table, text: &[u8], place: u64) -> Result<Front, ScanFault>
-    requires some { 0 < length text.now }
-    requires white { is_white (slice_index text.now 0) ≡ false }
-    requires opening { slice_index text.now 0 ≢ 40 }
-    requires closing { slice_index text.now 0 ≢ 41 }
-    requires quote { slice_index text.now 0 ≢ 34 }
-    requires slash { slice_index text.now 0 ≢ 92 }
-    requires dollar { slice_index text.now 0 ≢ 36 }
-    ensures some { IfOk result (λ front. 0 < size_of front) }
-    ensures within { IfOk result (λ front. size_of front ≤ length text.now) }
-    ensures read { (alphabet : Alphabet) → IsTable alphabet table.now.listed table.now.dollars
-        → reader.first_of alphabet place (slice_index text.now 0) (drop 1 text.now)
-        ≡ front_read text.now result }
-{
-    let byte = text[0];
-    if table.is_listed(byte) {
-        return Ok(Front::Operator(byte));
-    }
-    run_of(table, text, place)
 }
 
 /// The same, where a dollar sign begins the text.

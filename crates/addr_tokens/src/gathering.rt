@@ -110,6 +110,8 @@ impl<T: Given> Gathering<T> {
     }
 
     /// Adds what the piece gives that a text begins with.
+    // Where the piece is told it need not be asked.
+    #[inline(always)]
     pub(crate) fn add(&mut self, front: Front, text: &[u8]) -> Result<(), NoMemory>
         requires { size_of front ≤ length text.now }
         ensures { OnOk result ((dollars : TheDollars) → T.serves dollars → Suits dollars front

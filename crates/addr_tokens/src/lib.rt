@@ -15,6 +15,7 @@ mod law;
 mod lexeme;
 mod scan;
 mod table;
+mod taking;
 
 pub use fault::ScanFault;
 pub use joining::join;

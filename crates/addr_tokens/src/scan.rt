@@ -4,11 +4,11 @@ ghost use Rattle.addr_tokens.specs.Pieces.{alphabet_of, plain};
 ghost use Rattle.addr_tokens.specs.Scans.{AreLexemes, AreTokens, ExplainsFault};
 
 use crate::ScanFault;
-use crate::front::first_of;
 use crate::gathering::{Angles, Gathering, answer_of};
 use crate::given::Given;
 use crate::lexeme::{Dollars, Lexeme};
 use crate::table::Table;
+use crate::taking::take_first;
 use mail_base::{Seq, Text, Token};
 use std::alloc::Global;
 
@@ -100,10 +100,7 @@ fn scan<T: Given>(
     let mut place = 0usize;
     'pieces: while place < text.len() {
         let rest = &text[place..];
-        let front = first_of(&table, rest, place as u64)?;
-        open.note(front, place as u64)?;
-        gathering.add(front, rest)?;
-        place += front.size();
+        place += take_first(&table, rest, place, &mut open, &mut gathering)?;
     }
     answer_of(&open, gathering)
 }

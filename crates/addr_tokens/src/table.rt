@@ -171,6 +171,13 @@ pub(crate) fn is_control(byte: u8) -> bool
     byte < b' ' || byte == 127
 }
 
+/// A byte that quotes or comments, or a dollar sign.
+pub(crate) fn is_marked(byte: u8) -> bool
+    ensures { result ≡ (spec.is_special byte || byte == 36) }
+{
+    is_special(byte) || byte == b'$'
+}
+
 fn is_special(byte: u8) -> bool
     ensures { result ≡ spec.is_special byte }
 {

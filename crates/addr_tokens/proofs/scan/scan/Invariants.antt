@@ -1,7 +1,7 @@
 use Rattle.std.proofs.Common.{◌-◌, length, map, reverse}
 use Rattle.addr_tokens.specs.Pieces.{alphabet_of}
 use Rattle.addr_tokens.specs.inner.Tables.{IsTable}
-use Rattle.addr_tokens.proofs.ScanLemmas.{At}
+use Rattle.addr_tokens.specs.inner.Scanning.{At}
 use Rattle.addr_tokens.proofs.scan.scan.Given as goal
 
 -- what was gathered, and what is left, give what the whole text gives
