@@ -11,6 +11,6 @@ mod SideExamples
 mod RuleExamples
 mod ValueLemmas
 mod FinishLemmas
-pub mod ReadingLemmas
+mod ReadingLemmas
 mod TakeLemmas
 mod ScanLemmas

@@ -9,6 +9,7 @@ use Rattle.mail_base.specs.declared.lines.MapClass.TheVariants.{Text as TextClas
 use Rattle.mail_base.specs.declared.lines.MapLine.{MapLine}
 use Rattle.map_tables.specs.Marks.{is_black, is_silent, without_margin}
 use Rattle.map_tables.specs.Words.{columns}
+use Rattle.map_tables.specs.declared.files.MapFile.{MapFile}
 use Rattle.map_tables.specs.declared.named.Named.{Named}
 use Rattle.map_tables.specs.declared.table.Table.{Table}
 
@@ -76,9 +77,13 @@ has_file _ = false
 abbrev pub file_of : MapLine → Option (List ℕ)
 file_of map = if has_file map.class then map.file else None
 
+-- the same, and whether it may be absent, as `-o` says
+abbrev pub wanted_of : MapLine → Option MapFile
+wanted_of map = option_map (λ file. record { name = file; optional = map.optional }) (file_of map)
+
 -- the files of the K lines in order, also of a line that a later one replaces, since a sequence may hold it
-abbrev pub wanted_files : List MapLine → List (List ℕ)
-wanted_files maps = filter_map file_of maps
+abbrev pub wanted_files : List MapLine → List MapFile
+wanted_files maps = filter_map wanted_of maps
 
 example : (word_pair (codes "k  v w") ≡ Some (codes "k", codes "v w")) × (word_pair (codes "k") ≡ Some (codes "k", [])) × (word_pair (codes "# k") ≡ None) × (word_pair (codes " \t") ≡ None)
 example = (refl, refl, refl, refl)

@@ -5,15 +5,27 @@ ghost use Rattle.map_tables.specs.Tables.{file_of, has_file, wanted_files};
 use mail_base::{Config, MapClass, MapLine, NoMemory, Seq, Text, TryCopy};
 use std::alloc::Global;
 
+/// A file of which a K line's table is made.
+#[derive(Drop)]
+pub struct MapFile {
+    pub name: Text,
+    /// `-o`: it may be absent.
+    pub optional: bool,
+}
+
 /// The files of the K lines whose tables are made of one, in order, also of a line that a later one
 /// replaces: a sequence may hold it.
-pub fn wanted(alloc: Global, config: &Config) -> Result<Seq<Text>, NoMemory>
+pub fn wanted(alloc: Global, config: &Config) -> Result<Seq<MapFile>, NoMemory>
     ensures { IfOk result (λ files. files ≡ wanted_files config.now.maps) }
 {
     let mut files = Seq::new(alloc);
     for map in config.maps.items() {
         if let Some(file) = file_of(map) {
-            files.push(file.copy()?)?;
+            let name = file.copy()?;
+            files.push(MapFile {
+                name,
+                optional: map.optional,
+            })?;
         }
     }
     Ok(files)

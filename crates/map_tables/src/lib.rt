@@ -19,7 +19,7 @@ mod quotes;
 mod table;
 mod texts;
 
-pub use files::wanted;
+pub use files::{MapFile, wanted};
 pub use found::{Found, MapFault};
 pub use hosts::HostLine;
 pub use law::{each_lookup_is_told, sequence_hands_on};

@@ -10,10 +10,9 @@ use Rattle.std.proofs.lemmas.Grind.{flat_map-append}
 use Rattle.std.proofs.lemmas.Bool.{false_from_ne_true, cond-true, cond-false, ne_eqb, eqb-true}
 use Rattle.std.proofs.Math.Seq.{split_at}
 use Rattle.memchr.specs.Find.{IsFirstByte, is_byte}
-use Rattle.mail_base.specs.declared.config.Config.{Config}
 use Rattle.sendmail_run.specs.declared.input.Partial.{Partial}
 use Rattle.cf_reader.specs.LogicalLines.{physical_lines}
-use Rattle.sendmail_run.specs.Printing.{Printed, Answers, is_quit}
+use Rattle.sendmail_run.specs.Printing.{Basis, Printed, Answers, is_quit}
 use Rattle.sendmail_run.specs.Testing.{ended, ended_lines, holds_quit}
 use Rattle.sendmail_run.specs.inner.Taking.{has_end, with_end, lines_of, Keeps, Cut, Stands, Quits, AnswersLast}
 
@@ -123,23 +122,23 @@ cut_end taken raws rest cut = record {
 
 -- ---- the text so far
 
-pub printed_more : (config : Config) (ls ms : List (List ℕ)) (t u : List ℕ) → Printed config ls t → list_any is_quit ls ≡ false → Printed config ms u → Printed config (ls ++ ms) (t ++ u)
-printed_more config [] ms t u is none h = subst (λ (q : List ℕ). Printed config ms (q ++ u)) (sym is) h
-printed_more config (l ∷ ls) ms t u is none h =
+pub printed_more : (basis : Basis) (ls ms : List (List ℕ)) (t u : List ℕ) → Printed basis ls t → list_any is_quit ls ≡ false → Printed basis ms u → Printed basis (ls ++ ms) (t ++ u)
+printed_more basis [] ms t u is none h = subst (λ (q : List ℕ). Printed basis ms (q ++ u)) (sym is) h
+printed_more basis (l ∷ ls) ms t u is none h =
     let parts = neither (is_quit l) (list_any is_quit ls) none in
     let first = match_no (is_quit l) _ _ parts.0 is in
-    no_match (is_quit l) _ _ parts.0 (first.0, first.1 ++ u, first.2, printed_more config ls ms first.1 u first.3 parts.1 h, ap (λ (q : List ℕ). q ++ u) first.4 ∙ append_assoc first.0 first.1 u)
+    no_match (is_quit l) _ _ parts.0 (first.0, first.1 ++ u, first.2, printed_more basis ls ms first.1 u first.3 parts.1 h, ap (λ (q : List ℕ). q ++ u) first.4 ∙ append_assoc first.0 first.1 u)
 
-printed_one : (config : Config) (l a : List ℕ) → is_quit l ≡ false → Answers config l a → Printed config (l ∷ []) a
-printed_one config l a other h = no_match (is_quit l) _ _ other (a, [], h, refl, sym (append-nil a))
+printed_one : (basis : Basis) (l a : List ℕ) → is_quit l ≡ false → Answers basis l a → Printed basis (l ∷ []) a
+printed_one basis l a other h = no_match (is_quit l) _ _ other (a, [], h, refl, sym (append-nil a))
 
 -- ---- where the answers stand
 
-pub stands_none : (config : Config) (partial : Partial) → Keeps partial [] → Stands config [] partial []
-stands_none config partial keeps = record { raws = []; rest = []; cut = record { whole = refl; each = refl; last = refl }; printed = refl; on = refl; keeps = keeps }
+pub stands_none : (basis : Basis) (partial : Partial) → Keeps partial [] → Stands basis [] partial []
+stands_none basis partial keeps = record { raws = []; rest = []; cut = record { whole = refl; each = refl; last = refl }; printed = refl; on = refl; keeps = keeps }
 
-pub stands_tail : (config : Config) (taken x text : List ℕ) (old new : Partial) → Stands config taken old text → has_end x ≡ false → ((rest : List ℕ) → Keeps old rest → Keeps new (rest ++ x)) → Stands config (taken ++ x) new text
-stands_tail config taken x text old new s none keeps = record {
+pub stands_tail : (basis : Basis) (taken x text : List ℕ) (old new : Partial) → Stands basis taken old text → has_end x ≡ false → ((rest : List ℕ) → Keeps old rest → Keeps new (rest ++ x)) → Stands basis (taken ++ x) new text
+stands_tail basis taken x text old new s none keeps = record {
   raws = s.raws;
   rest = s.rest ++ x;
   cut = cut_more taken s.raws s.rest x s.cut none;
@@ -148,27 +147,27 @@ stands_tail config taken x text old new s none keeps = record {
   keeps = keeps s.rest s.keeps;
 }
 
-pub stands_line : (config : Config) (taken text out0 out1 : List ℕ) (old new : Partial) → Stands config taken old (text ++ out0) → ((rest : List ℕ) → Keeps old rest → false ≡ is_quit (strip_carriage_return rest))
-    → ((rest : List ℕ) → Keeps old rest → (a : List ℕ) × Answers config (strip_carriage_return rest) a × (out1 ≡ out0 ++ a)) → Keeps new [] → Stands config (taken ++ 10 ∷ []) new (text ++ out1)
-stands_line config taken text out0 out1 old new s quit answer keeps =
+pub stands_line : (basis : Basis) (taken text out0 out1 : List ℕ) (old new : Partial) → Stands basis taken old (text ++ out0) → ((rest : List ℕ) → Keeps old rest → false ≡ is_quit (strip_carriage_return rest))
+    → ((rest : List ℕ) → Keeps old rest → (a : List ℕ) × Answers basis (strip_carriage_return rest) a × (out1 ≡ out0 ++ a)) → Keeps new [] → Stands basis (taken ++ 10 ∷ []) new (text ++ out1)
+stands_line basis taken text out0 out1 old new s quit answer keeps =
     let other : is_quit (strip_carriage_return s.rest) ≡ false = sym (quit s.rest s.keeps) in
     let a = answer s.rest s.keeps in
     let more : lines_of (s.raws ++ s.rest ∷ []) ≡ lines_of s.raws ++ strip_carriage_return s.rest ∷ [] = map-append strip_carriage_return s.raws (s.rest ∷ []) in
-    let printed : Printed config (lines_of s.raws ++ strip_carriage_return s.rest ∷ []) ((text ++ out0) ++ a.0) =
-    printed_more config (lines_of s.raws) (strip_carriage_return s.rest ∷ []) (text ++ out0) a.0 s.printed s.on (printed_one config (strip_carriage_return s.rest) a.0 other a.1) in
+    let printed : Printed basis (lines_of s.raws ++ strip_carriage_return s.rest ∷ []) ((text ++ out0) ++ a.0) =
+    printed_more basis (lines_of s.raws) (strip_carriage_return s.rest ∷ []) (text ++ out0) a.0 s.printed s.on (printed_one basis (strip_carriage_return s.rest) a.0 other a.1) in
     let whole : (text ++ out0) ++ a.0 ≡ text ++ out1 = append_assoc text out0 a.0 ∙ ap (λ (q : List ℕ). text ++ q) (sym a.2) in
     record {
       raws = s.raws ++ s.rest ∷ [];
       rest = [];
       cut = cut_end taken s.raws s.rest s.cut;
-      printed = subst (λ (q : List ℕ). Printed config (lines_of (s.raws ++ s.rest ∷ [])) q) whole (subst (λ (ls : List (List ℕ)). Printed config ls ((text ++ out0) ++ a.0)) (sym more) printed);
+      printed = subst (λ (q : List ℕ). Printed basis (lines_of (s.raws ++ s.rest ∷ [])) q) whole (subst (λ (ls : List (List ℕ)). Printed basis ls ((text ++ out0) ++ a.0)) (sym more) printed);
       on = ap (list_any is_quit) more ∙ none_joined is_quit (lines_of s.raws) (strip_carriage_return s.rest ∷ []) s.on (or_false (is_quit (strip_carriage_return s.rest)) false other refl);
       keeps = keeps;
     }
 
-pub stands_quit : (config : Config) (taken text : List ℕ) (old : Partial) (more : List ℕ) → Stands config taken old text → ((rest : List ℕ) → Keeps old rest → true ≡ is_quit (strip_carriage_return rest))
-    → Quits config ((taken ++ 10 ∷ []) ++ more) text
-stands_quit config taken text old more s quit =
+pub stands_quit : (basis : Basis) (taken text : List ℕ) (old : Partial) (more : List ℕ) → Stands basis taken old text → ((rest : List ℕ) → Keeps old rest → true ≡ is_quit (strip_carriage_return rest))
+    → Quits basis ((taken ++ 10 ∷ []) ++ more) text
+stands_quit basis taken text old more s quit =
     let yes : is_quit (strip_carriage_return s.rest) ≡ true = sym (quit s.rest s.keeps) in
     let q : List ℕ = strip_carriage_return s.rest in
     let raws : List (List ℕ) = s.raws ++ s.rest ∷ [] in
@@ -177,49 +176,49 @@ stands_quit config taken text old more s quit =
     let ls : lines_of raws ≡ lines_of s.raws ++ q ∷ [] = map-append strip_carriage_return s.raws (s.rest ∷ []) in
     let lines : physical_lines ((taken ++ 10 ∷ []) ++ more) ≡ lines_of s.raws ++ (q ∷ physical_lines more) =
     ap physical_lines flat ∙ lines_cut raws more cut.each ∙ ap (λ (x : List (List ℕ)). x ++ physical_lines more) ls ∙ append_assoc (lines_of s.raws) (q ∷ []) (physical_lines more) in
-    let printed : Printed config (lines_of s.raws ++ (q ∷ physical_lines more)) (text ++ []) =
-    printed_more config (lines_of s.raws) (q ∷ physical_lines more) text [] s.printed s.on (yes_match (is_quit q) _ _ yes refl) in
+    let printed : Printed basis (lines_of s.raws ++ (q ∷ physical_lines more)) (text ++ []) =
+    printed_more basis (lines_of s.raws) (q ∷ physical_lines more) text [] s.printed s.on (yes_match (is_quit q) _ _ yes refl) in
     let before : ended_lines ((taken ++ 10 ∷ []) ++ more) ≡ lines_of s.raws ++ (q ∷ ended_lines more) =
     ap ended_lines flat ∙ ended_lines_cut raws more cut.each ∙ ap (λ (x : List (List ℕ)). x ++ ended_lines more) ls ∙ append_assoc (lines_of s.raws) (q ∷ []) (ended_lines more) in
-    let printed_ended : Printed config (lines_of s.raws ++ (q ∷ ended_lines more)) (text ++ []) =
-    printed_more config (lines_of s.raws) (q ∷ ended_lines more) text [] s.printed s.on (yes_match (is_quit q) _ _ yes refl) in
+    let printed_ended : Printed basis (lines_of s.raws ++ (q ∷ ended_lines more)) (text ++ []) =
+    printed_more basis (lines_of s.raws) (q ∷ ended_lines more) text [] s.printed s.on (yes_match (is_quit q) _ _ yes refl) in
     let here : list_any is_quit (lines_of raws) ≡ true =
     ap (list_any is_quit) ls ∙ list_any-append is_quit (lines_of s.raws) (q ∷ []) ∙ or_right (list_any is_quit (lines_of s.raws)) (is_quit q || false) (or_left (is_quit q) false yes) in
     record {
-      printed = subst (λ (t : List ℕ). Printed config (physical_lines ((taken ++ 10 ∷ []) ++ more)) t) (append-nil text) (subst (λ (x : List (List ℕ)). Printed config x (text ++ [])) (sym lines) printed);
-      among = subst (λ (t : List ℕ). Printed config (ended_lines ((taken ++ 10 ∷ []) ++ more)) t) (append-nil text) (subst (λ (x : List (List ℕ)). Printed config x (text ++ [])) (sym before) printed_ended);
+      printed = subst (λ (t : List ℕ). Printed basis (physical_lines ((taken ++ 10 ∷ []) ++ more)) t) (append-nil text) (subst (λ (x : List (List ℕ)). Printed basis x (text ++ [])) (sym lines) printed);
+      among = subst (λ (t : List ℕ). Printed basis (ended_lines ((taken ++ 10 ∷ []) ++ more)) t) (append-nil text) (subst (λ (x : List (List ℕ)). Printed basis x (text ++ [])) (sym before) printed_ended);
       quit = ap (list_any is_quit) (ap ended_lines flat ∙ ended_lines_cut raws more cut.each) ∙ list_any-append is_quit (lines_of raws) (ended_lines more) ∙ or_left (list_any is_quit (lines_of raws)) (list_any is_quit (ended_lines more)) here;
     }
 
 -- the ended lines of what was taken
-stands_lines : (config : Config) (taken text : List ℕ) (partial : Partial) → (s : Stands config taken partial text) → ended_lines taken ≡ lines_of s.raws
-stands_lines config taken text partial s =
+stands_lines : (basis : Basis) (taken text : List ℕ) (partial : Partial) → (s : Stands basis taken partial text) → ended_lines taken ≡ lines_of s.raws
+stands_lines basis taken text partial s =
     ap ended_lines s.cut.whole ∙ ended_lines_cut s.raws s.rest s.cut.each ∙ ap (λ (q : List ℕ). lines_of s.raws ++ physical_lines q) (ended_none s.rest s.cut.last) ∙ append-nil (lines_of s.raws)
 
-pub stands_printed : (config : Config) (taken text : List ℕ) (partial : Partial) → Stands config taken partial text → Printed config (ended_lines taken) text
-stands_printed config taken text partial s = subst (λ (ls : List (List ℕ)). Printed config ls text) (sym (stands_lines config taken text partial s)) s.printed
+pub stands_printed : (basis : Basis) (taken text : List ℕ) (partial : Partial) → Stands basis taken partial text → Printed basis (ended_lines taken) text
+stands_printed basis taken text partial s = subst (λ (ls : List (List ℕ)). Printed basis ls text) (sym (stands_lines basis taken text partial s)) s.printed
 
-pub stands_on : (config : Config) (taken text : List ℕ) (partial : Partial) → Stands config taken partial text → holds_quit taken ≡ false
-stands_on config taken text partial s = ap (list_any is_quit) (stands_lines config taken text partial s) ∙ s.on
+pub stands_on : (basis : Basis) (taken text : List ℕ) (partial : Partial) → Stands basis taken partial text → holds_quit taken ≡ false
+stands_on basis taken text partial s = ap (list_any is_quit) (stands_lines basis taken text partial s) ∙ s.on
 
 -- the lines that are answered stand in front, whatever comes behind
-pub stands_front : (config : Config) (taken text : List ℕ) (partial : Partial) (more : List ℕ) → (s : Stands config taken partial text) → ended_lines (taken ++ more) ≡ lines_of s.raws ++ ended_lines (s.rest ++ more)
-stands_front config taken text partial more s =
+pub stands_front : (basis : Basis) (taken text : List ℕ) (partial : Partial) (more : List ℕ) → (s : Stands basis taken partial text) → ended_lines (taken ++ more) ≡ lines_of s.raws ++ ended_lines (s.rest ++ more)
+stands_front basis taken text partial more s =
     ap (λ (q : List ℕ). ended_lines (q ++ more)) s.cut.whole ∙ ap ended_lines (append_assoc (flat_map with_end s.raws) s.rest more) ∙ ended_lines_cut s.raws (s.rest ++ more) s.cut.each
 
 -- the last line
-last_printed : (config : Config) (rest a : List ℕ) → has_end rest ≡ false → AnswersLast config rest a → Printed config (physical_lines rest) a
-last_printed config [] a none h = h
-last_printed config (b ∷ bs) a none h = subst (λ (ls : List (List ℕ)). Printed config ls a) (sym (line_last b bs none)) (by (is_quit (b ∷ bs)) h) where
-  by : (quit : Bool) → MatchBool quit (a ≡ []) (Answers config (b ∷ bs) a) → MatchBool quit (a ≡ []) ((first : List ℕ) × (rest : List ℕ) × Answers config (b ∷ bs) first × (rest ≡ []) × (a ≡ first ++ rest))
+last_printed : (basis : Basis) (rest a : List ℕ) → has_end rest ≡ false → AnswersLast basis rest a → Printed basis (physical_lines rest) a
+last_printed basis [] a none h = h
+last_printed basis (b ∷ bs) a none h = subst (λ (ls : List (List ℕ)). Printed basis ls a) (sym (line_last b bs none)) (by (is_quit (b ∷ bs)) h) where
+  by : (quit : Bool) → MatchBool quit (a ≡ []) (Answers basis (b ∷ bs) a) → MatchBool quit (a ≡ []) ((first : List ℕ) × (rest : List ℕ) × Answers basis (b ∷ bs) first × (rest ≡ []) × (a ≡ first ++ rest))
   by true k = k
   by false k = (a, [], k, refl, sym (append-nil a))
 
-pub stands_last : (config : Config) (taken text a : List ℕ) (partial : Partial) → (s : Stands config taken partial text) → AnswersLast config s.rest a → Printed config (physical_lines taken) (text ++ a)
-stands_last config taken text a partial s h =
+pub stands_last : (basis : Basis) (taken text a : List ℕ) (partial : Partial) → (s : Stands basis taken partial text) → AnswersLast basis s.rest a → Printed basis (physical_lines taken) (text ++ a)
+stands_last basis taken text a partial s h =
     let lines : physical_lines taken ≡ lines_of s.raws ++ physical_lines s.rest = ap physical_lines s.cut.whole ∙ lines_cut s.raws s.rest s.cut.each in
-    subst (λ (ls : List (List ℕ)). Printed config ls (text ++ a)) (sym lines)
-    (printed_more config (lines_of s.raws) (physical_lines s.rest) text a s.printed s.on (last_printed config s.rest a s.cut.last h))
+    subst (λ (ls : List (List ℕ)). Printed basis ls (text ++ a)) (sym lines)
+    (printed_more basis (lines_of s.raws) (physical_lines s.rest) text a s.printed s.on (last_printed basis s.rest a s.cut.last h))
 
 -- ---- the first LF
 
@@ -244,33 +243,33 @@ cut_at text k found =
 regroup4 : (a b c d : List ℕ) → ((a ++ b) ++ c) ++ d ≡ a ++ (b ++ (c ++ d))
 regroup4 a b c d = simp append_assoc
 
-pub line_step : (config : Config) (bytes taken text front rest x after out0 out1 : List ℕ) (p0 p1 p2 : Partial) → bytes ≡ front ++ rest → Stands config (taken ++ front) p0 (text ++ out0)
+pub line_step : (basis : Basis) (bytes taken text front rest x after out0 out1 : List ℕ) (p0 p1 p2 : Partial) → bytes ≡ front ++ rest → Stands basis (taken ++ front) p0 (text ++ out0)
     → has_end x ≡ false → rest ≡ (x ++ 10 ∷ []) ++ after → ((r : List ℕ) → Keeps p0 r → Keeps p1 (r ++ x)) → ((r : List ℕ) → Keeps p1 r → false ≡ is_quit (strip_carriage_return r))
-    → ((r : List ℕ) → Keeps p1 r → (a : List ℕ) × Answers config (strip_carriage_return r) a × (out1 ≡ out0 ++ a)) → Keeps p2 []
-    → (more : List ℕ) × (bytes ≡ more ++ after) × Stands config (taken ++ more) p2 (text ++ out1)
-line_step config bytes taken text front rest x after out0 out1 p0 p1 p2 whole stands none split keeps quit answer fresh =
-    let tail = stands_tail config (taken ++ front) x (text ++ out0) p0 p1 stands none keeps in
-    let line = stands_line config ((taken ++ front) ++ x) text out0 out1 p1 p2 tail quit answer fresh in (
+    → ((r : List ℕ) → Keeps p1 r → (a : List ℕ) × Answers basis (strip_carriage_return r) a × (out1 ≡ out0 ++ a)) → Keeps p2 []
+    → (more : List ℕ) × (bytes ≡ more ++ after) × Stands basis (taken ++ more) p2 (text ++ out1)
+line_step basis bytes taken text front rest x after out0 out1 p0 p1 p2 whole stands none split keeps quit answer fresh =
+    let tail = stands_tail basis (taken ++ front) x (text ++ out0) p0 p1 stands none keeps in
+    let line = stands_line basis ((taken ++ front) ++ x) text out0 out1 p1 p2 tail quit answer fresh in (
       front ++ (x ++ 10 ∷ []),
       whole ∙ ap (λ (q : List ℕ). front ++ q) split ∙ sym (append_assoc front (x ++ 10 ∷ []) after),
-      subst (λ (t : List ℕ). Stands config t p2 (text ++ out1)) (regroup4 taken front x (10 ∷ [])) line,
+      subst (λ (t : List ℕ). Stands basis t p2 (text ++ out1)) (regroup4 taken front x (10 ∷ [])) line,
     )
 
-pub quit_step : (config : Config) (bytes taken text front rest x after out : List ℕ) (p0 p1 : Partial) → bytes ≡ front ++ rest → Stands config (taken ++ front) p0 (text ++ out)
+pub quit_step : (basis : Basis) (bytes taken text front rest x after out : List ℕ) (p0 p1 : Partial) → bytes ≡ front ++ rest → Stands basis (taken ++ front) p0 (text ++ out)
     → has_end x ≡ false → rest ≡ (x ++ 10 ∷ []) ++ after → ((r : List ℕ) → Keeps p0 r → Keeps p1 (r ++ x)) → ((r : List ℕ) → Keeps p1 r → true ≡ is_quit (strip_carriage_return r))
-    → Quits config (taken ++ bytes) (text ++ out)
-quit_step config bytes taken text front rest x after out p0 p1 whole stands none split keeps quit =
-    let tail = stands_tail config (taken ++ front) x (text ++ out) p0 p1 stands none keeps in
-    let quits = stands_quit config ((taken ++ front) ++ x) (text ++ out) p1 after tail quit in
+    → Quits basis (taken ++ bytes) (text ++ out)
+quit_step basis bytes taken text front rest x after out p0 p1 whole stands none split keeps quit =
+    let tail = stands_tail basis (taken ++ front) x (text ++ out) p0 p1 stands none keeps in
+    let quits = stands_quit basis ((taken ++ front) ++ x) (text ++ out) p1 after tail quit in
     let all : taken ++ bytes ≡ (((taken ++ front) ++ x) ++ 10 ∷ []) ++ after =
     ap (λ (q : List ℕ). taken ++ q) (whole ∙ ap (λ (q : List ℕ). front ++ q) split) ∙ sym (ap (λ (q : List ℕ). q ++ after) (regroup4 taken front x (10 ∷ [])) ∙ append_assoc taken (front ++ (x ++ 10 ∷ [])) after ∙ ap (λ (q : List ℕ). taken ++ q) (append_assoc front (x ++ 10 ∷ []) after)) in
-    subst (λ (t : List ℕ). Quits config t (text ++ out)) (sym all) quits
+    subst (λ (t : List ℕ). Quits basis t (text ++ out)) (sym all) quits
 
-pub tail_step : (config : Config) (bytes taken text front rest out : List ℕ) (p0 p1 : Partial) → bytes ≡ front ++ rest → Stands config (taken ++ front) p0 (text ++ out)
-    → has_end rest ≡ false → ((r : List ℕ) → Keeps p0 r → Keeps p1 (r ++ rest)) → Stands config (taken ++ bytes) p1 (text ++ out)
-tail_step config bytes taken text front rest out p0 p1 whole stands none keeps =
-    subst (λ (t : List ℕ). Stands config t p1 (text ++ out)) (append_assoc taken front rest ∙ ap (λ (q : List ℕ). taken ++ q) (sym whole))
-    (stands_tail config (taken ++ front) rest (text ++ out) p0 p1 stands none keeps)
+pub tail_step : (basis : Basis) (bytes taken text front rest out : List ℕ) (p0 p1 : Partial) → bytes ≡ front ++ rest → Stands basis (taken ++ front) p0 (text ++ out)
+    → has_end rest ≡ false → ((r : List ℕ) → Keeps p0 r → Keeps p1 (r ++ rest)) → Stands basis (taken ++ bytes) p1 (text ++ out)
+tail_step basis bytes taken text front rest out p0 p1 whole stands none keeps =
+    subst (λ (t : List ℕ). Stands basis t p1 (text ++ out)) (append_assoc taken front rest ∙ ap (λ (q : List ℕ). taken ++ q) (sym whole))
+    (stands_tail basis (taken ++ front) rest (text ++ out) p0 p1 stands none keeps)
 
 pub shorter : (rest x after : List ℕ) → rest ≡ (x ++ 10 ∷ []) ++ after → length after < length rest
 shorter rest x after e = omega (arith, ap length e, length-append (x ++ 10 ∷ []) after, length-append x (10 ∷ []))

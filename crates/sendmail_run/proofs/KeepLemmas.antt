@@ -9,8 +9,7 @@ use Rattle.std.specs.Str.Lines.{strip_carriage_return}
 use Rattle.std.proofs.lemmas.Bool.{false_from_ne_true, cond-true, cond-false, cond_both, ltb-true, lt-ltb}
 use Rattle.std.proofs.lemmas.List.{take_all, take-append-le, length-take-le}
 use Rattle.std.proofs.Math.Seq.{take-append-add}
-use Rattle.mail_base.specs.declared.config.Config.{Config}
-use Rattle.sendmail_run.specs.Printing.{Answers, AnswersForm, Form, Quiet, TooLong, is_quit, line_of}
+use Rattle.sendmail_run.specs.Printing.{Basis, Answers, AnswersForm, Form, Quiet, TooLong, is_quit, line_of}
 use Rattle.sendmail_run.specs.inner.Taking.{most_kept, cut_text, AnswersLast, Keeps}
 use Rattle.sendmail_run.proofs.EndedLemmas.{no_match}
 
@@ -86,23 +85,23 @@ strip_begins b c bs =
     (λ e. (take (length bs) (c ∷ bs), ap (λ (k : ℕ). take k (b ∷ c ∷ bs)) n, omega (arith, length-take-le (length bs) (c ∷ bs) (omega arith))))
     (λ e. (c ∷ bs, refl, omega arith))
 
-cut_begins : (config : Config) (b : ℕ) (tail text : List ℕ) → most_line < length (b ∷ tail) → text ≡ cond (eqb b 35) [] (line_of (codes "line too long")) → Answers config (b ∷ tail) text
-cut_begins config b tail text long is = by (eqb b 35) refl where
-  by : (q : Bool) → eqb b 35 ≡ q → Answers config (b ∷ tail) text
-  by true e = subst (λ (f : Form). AnswersForm f config (b ∷ tail) text) (sym (cond-true (eqb b 35) Quiet _ e)) (is ∙ cond-true (eqb b 35) [] _ e)
-  by false e = subst (λ (f : Form). AnswersForm f config (b ∷ tail) text) (sym (cond-false (eqb b 35) Quiet _ e ∙ cond-true (ltb most_line (length (b ∷ tail))) TooLong _ (lt-ltb most_line (length (b ∷ tail)) long))) (is ∙ cond-false (eqb b 35) [] _ e)
+cut_begins : (basis : Basis) (b : ℕ) (tail text : List ℕ) → most_line < length (b ∷ tail) → text ≡ cond (eqb b 35) [] (line_of (codes "line too long")) → Answers basis (b ∷ tail) text
+cut_begins basis b tail text long is = by (eqb b 35) refl where
+  by : (q : Bool) → eqb b 35 ≡ q → Answers basis (b ∷ tail) text
+  by true e = subst (λ (f : Form). AnswersForm f basis (b ∷ tail) text) (sym (cond-true (eqb b 35) Quiet _ e)) (is ∙ cond-true (eqb b 35) [] _ e)
+  by false e = subst (λ (f : Form). AnswersForm f basis (b ∷ tail) text) (sym (cond-false (eqb b 35) Quiet _ e ∙ cond-true (ltb most_line (length (b ∷ tail))) TooLong _ (lt-ltb most_line (length (b ∷ tail)) long))) (is ∙ cond-false (eqb b 35) [] _ e)
 
 front_text : (b : ℕ) (tail front : List ℕ) → front ≡ take most_kept (b ∷ tail) → cut_text front ≡ cond (eqb b 35) [] (line_of (codes "line too long"))
 unfolding most_kept most_line
 front_text b tail front is = ap cut_text is
 
-pub cut_answers : (config : Config) (rest front : List ℕ) → most_kept < length rest → front ≡ take most_kept rest → Answers config (strip_carriage_return rest) (cut_text front)
+pub cut_answers : (basis : Basis) (rest front : List ℕ) → most_kept < length rest → front ≡ take most_kept rest → Answers basis (strip_carriage_return rest) (cut_text front)
 unfolding most_kept
-cut_answers config [] front long is = absurd (omega arith)
-cut_answers config (b ∷ []) front long is = absurd (omega arith)
-cut_answers config (b ∷ c ∷ bs) front long is =
+cut_answers basis [] front long is = absurd (omega arith)
+cut_answers basis (b ∷ []) front long is = absurd (omega arith)
+cut_answers basis (b ∷ c ∷ bs) front long is =
     let s = strip_begins b c bs in
-    subst (λ (l : List ℕ). Answers config l (cut_text front)) (sym s.1) (cut_begins config b s.0 (cut_text front) (omega (arith, s.2)) (front_text b (c ∷ bs) front is))
+    subst (λ (l : List ℕ). Answers basis l (cut_text front)) (sym s.1) (cut_begins basis b s.0 (cut_text front) (omega (arith, s.2)) (front_text b (c ∷ bs) front is))
 
 no_quit : (l : List ℕ) → 5 < length l → is_quit l ≡ false
 no_quit l long = false_from_ne_true (is_quit l) (λ e.
@@ -118,18 +117,18 @@ cut_no_quit (b ∷ c ∷ bs) long =
     let s = strip_begins b c bs in
     no_quit (strip_carriage_return (b ∷ c ∷ bs)) (omega (arith, ap length s.1, s.2))
 
-pub cut_last : (config : Config) (rest front : List ℕ) → most_kept < length rest → front ≡ take most_kept rest → AnswersLast config rest (cut_text front)
+pub cut_last : (basis : Basis) (rest front : List ℕ) → most_kept < length rest → front ≡ take most_kept rest → AnswersLast basis rest (cut_text front)
 unfolding most_kept most_line
-cut_last config [] front long is = absurd (omega arith)
-cut_last config (b ∷ bs) front long is = no_match (is_quit (b ∷ bs)) _ _ (no_quit (b ∷ bs) (omega arith)) (cut_begins config b bs (cut_text front) (omega arith) (front_text b bs front is))
+cut_last basis [] front long is = absurd (omega arith)
+cut_last basis (b ∷ bs) front long is = no_match (is_quit (b ∷ bs)) _ _ (no_quit (b ∷ bs) (omega arith)) (cut_begins basis b bs (cut_text front) (omega arith) (front_text b bs front is))
 
-pub answer_of_cut : (config : Config) (partial : Partial) (front old new : List ℕ) (r : Result (Unit {0}) NoMemory) → OnOk r (new ≡ old ++ cut_text front) → front ≡ partial.front → ((rest : List ℕ) → Keeps partial rest → most_kept < length rest)
-    → OnOk r ((rest : List ℕ) → Keeps partial rest → (text : List ℕ) × Answers config (strip_carriage_return rest) text × (new ≡ old ++ text))
-answer_of_cut config partial front old new r h f long = on_ok r _ _ (λ (e : new ≡ old ++ cut_text front). λ rest k. (cut_text front, cut_answers config rest front (long rest k) (f ∙ k.front), e)) h
+pub answer_of_cut : (basis : Basis) (partial : Partial) (front old new : List ℕ) (r : Result (Unit {0}) NoMemory) → OnOk r (new ≡ old ++ cut_text front) → front ≡ partial.front → ((rest : List ℕ) → Keeps partial rest → most_kept < length rest)
+    → OnOk r ((rest : List ℕ) → Keeps partial rest → (text : List ℕ) × Answers basis (strip_carriage_return rest) text × (new ≡ old ++ text))
+answer_of_cut basis partial front old new r h f long = on_ok r _ _ (λ (e : new ≡ old ++ cut_text front). λ rest k. (cut_text front, cut_answers basis rest front (long rest k) (f ∙ k.front), e)) h
 
-pub last_of_cut : (config : Config) (partial : Partial) (front old new : List ℕ) (r : Result (Unit {0}) NoMemory) → OnOk r (new ≡ old ++ cut_text front) → front ≡ partial.front → ((rest : List ℕ) → Keeps partial rest → most_kept < length rest)
-    → OnOk r ((rest : List ℕ) → Keeps partial rest → (text : List ℕ) × AnswersLast config rest text × (new ≡ old ++ text))
-last_of_cut config partial front old new r h f long = on_ok r _ _ (λ (e : new ≡ old ++ cut_text front). λ rest k. (cut_text front, cut_last config rest front (long rest k) (f ∙ k.front), e)) h
+pub last_of_cut : (basis : Basis) (partial : Partial) (front old new : List ℕ) (r : Result (Unit {0}) NoMemory) → OnOk r (new ≡ old ++ cut_text front) → front ≡ partial.front → ((rest : List ℕ) → Keeps partial rest → most_kept < length rest)
+    → OnOk r ((rest : List ℕ) → Keeps partial rest → (text : List ℕ) × AnswersLast basis rest text × (new ≡ old ++ text))
+last_of_cut basis partial front old new r h f long = on_ok r _ _ (λ (e : new ≡ old ++ cut_text front). λ rest k. (cut_text front, cut_last basis rest front (long rest k) (f ∙ k.front), e)) h
 
 -- ---- after a take
 

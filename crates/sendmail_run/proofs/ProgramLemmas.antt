@@ -1,5 +1,5 @@
 -- How a whole run ends.
-use Rattle.std.proofs.Common.{◌≡◌, ℕ, ◌<◌, ◌≤◌, ◌^◌, List, length, Option, Some, None, Result, Ok, Err, refl, sym, ◌∙◌, ap, subst, arith, length-append, inl, inr, ⊎_elim}
+use Rattle.std.proofs.Common.{◌≡◌, ℕ, ◌<◌, ◌≤◌, ◌^◌, false, List, length, Option, Some, None, Result, Ok, Err, refl, sym, ◌∙◌, ap, subst, arith, length-append, inl, inr}
 use Rattle.std.proofs.Math.Nat.{le_refl}
 use Rattle.std.specs.Prelude.{IfSome}
 use Rattle.link_edge.specs.Heard.{Heard}
@@ -11,7 +11,7 @@ use Rattle.mail_core.specs.Machine.{SpoolFault}
 use Rattle.mail_core.specs.declared.serving.Site.{Site}
 use Rattle.mail_core.specs.Seen.{seen as core_seen}
 use Rattle.mail_edge.specs.Moves.{Loses}
-use Rattle.mail_edge.specs.Seen.{SourceSeen, SinkSeen, FilesSeen, FileMap, ClockSeen, text_of}
+use Rattle.mail_edge.specs.Seen.{SourceSeen, SinkSeen, FilesSeen, FileMap, ClockSeen}
 use Rattle.spool_disk.specs.Spooled.{Spooled}
 use Rattle.spool_store.specs.declared.fault.OpenFault.{OpenFault}
 use Rattle.spool_store.specs.declared.fault.OpenFault.TheVariants as open_faults
@@ -24,8 +24,13 @@ use Rattle.sendmail_run.specs.declared.command_line.WordFault.{WordFault}
 use Rattle.sendmail_run.specs.declared.command_line.WordFault.TheVariants as word_faults
 use Rattle.sendmail_run.specs.declared.fault.ConfigFault.{ConfigFault}
 use Rattle.sendmail_run.specs.declared.fault.ConfigFault.TheVariants as config_faults
+use Rattle.sendmail_run.specs.declared.fault.MapsFault.{MapsFault}
+use Rattle.sendmail_run.specs.declared.fault.MapsFault.TheVariants as maps_faults
 use Rattle.cf_reader.specs.declared.fault.CfFault.{CfFault}
 use Rattle.cf_reader.specs.declared.fault.CfFault.TheVariants as reasons
+use Rattle.cf_reader.specs.Reads.{Asks}
+use Rattle.map_tables.specs.declared.files.MapFile.{MapFile}
+use Rattle.map_tables.specs.Answers.{Loaded}
 use Rattle.sendmail_run.specs.declared.outcome.Outcome.{Outcome}
 use Rattle.sendmail_run.specs.declared.outcome.Outcome.TheVariants as outcomes
 use Rattle.sendmail_run.specs.declared.session_mode.SessionEnd.{SessionEnd}
@@ -33,9 +38,12 @@ use Rattle.sendmail_run.specs.declared.session_mode.SessionEnd.TheVariants as se
 use Rattle.sendmail_run.specs.Beginning.{Begins, Says, said_by}
 use Rattle.sendmail_run.specs.CommandLines.{Fails, IsCommandLine}
 use Rattle.sendmail_run.specs.Devices.{World, streams, streams_of, core_of, world}
-use Rattle.sendmail_run.specs.Outcomes.{of_config, of_opening, of_session, of_test, of_words}
+use Rattle.sendmail_run.specs.MapFiles.{GiveMaps, Loads, first_missing, maps_by, maps_of, unless_missing}
+use Rattle.sendmail_run.specs.inner.Loading.{Gives, is_files_fault}
+use Rattle.sendmail_run.specs.Outcomes.{of_config, of_maps, of_opening, of_session, of_test, of_words}
+use Rattle.sendmail_run.specs.Printing.{Basis, basis}
 use Rattle.sendmail_run.specs.Rises.{Counts, RisesOnlyAt}
-use Rattle.sendmail_run.specs.Runs.{Completes, Ends, EndsAtFile, EndsAtWords, EndsAtWork, HasServed, HasTested, IsReady, IsShort, IsQueueEmpty, IsSound, IsUntouched, IsWhole, NoneFailed, Stays, Works}
+use Rattle.sendmail_run.specs.Runs.{Completes, Ends, EndsAtFile, EndsAtWords, EndsAtWork, Finds, IsReady, IsShort, IsQueueEmpty, IsSound, IsUntouched, IsWhole, NoneFailed, Stays, Works}
 use Rattle.sendmail_run.specs.Serving.{IsServedOut, Serves, site_of}
 use Rattle.sendmail_run.specs.Testing.{IsLarge, Tests}
 use Rattle.sendmail_run.proofs.CommandLemmas.{one_mode, not_both}
@@ -61,11 +69,30 @@ ends_at_work : (words : List (List ℕ)) (before after : World) (mode : Mode) (j
 ends_at_work words before after mode job config outcome said does begins works =
     inr (inr (record { mode = mode; said = said; config = config; begins = begins; works = subst (λ (j : Job). Works j config before after outcome) (sym does) works }))
 
-pub ends_tested : (words : List (List ℕ)) (f0 f1 : FilesSeen) (i0 i1 : SourceSeen) (o0 o1 : SinkSeen) (l : Heard) (s : Spooled) (k : ClockSeen) (mode : Mode) (config : Config) (how : TestEnd) (outcome : Outcome) → outcome ≡ of_test how
-    → IsCommandLine words mode → mode.job ≡ Test → Begins mode.file f0 f1 (Ok config) → Tests config (streams i0 o0) (streams i1 o1) how → Ends words (world f0 i0 o0 l s k) (world f1 i1 o1 l s k) outcome
-ends_tested words f0 f1 i0 i1 o0 o1 l s k mode config how outcome told said does begins tests =
-    ends_at_work words (world f0 i0 o0 l s k) (world f1 i1 o1 l s k) mode Test config outcome said does begins
-    (record { how = how; told = told; tests = tests; alone = left_alone (core_seen l s k) })
+-- the maps, as they were asked for
+loads_here : (config : Config) (f0 f1 : FilesSeen) (result : Result Loaded MapsFault) → IfSome f0.map (λ map. Gives result (maps_by map config)) → Asks f0 f1 (is_files_fault result) → Loads config f0 f1 result
+loads_here config f0 f1 (Ok maps) told asks = told
+loads_here config f0 f1 (Err (maps_faults.NoFile name)) told asks = told
+loads_here config f0 f1 (Err maps_faults.FilesFault) told asks = asks.rose refl
+loads_here config f0 f1 (Err maps_faults.NoMemory) told asks = tt
+
+-- the same since the start, where the files were as then
+pub loads_since : (config : Config) (f0 f1 f2 : FilesSeen) (result : Result Loaded MapsFault) → f1.map ≡ f0.map → f1.faults ≡ f0.faults → IfSome f1.map (λ map. Gives result (maps_by map config)) → Asks f1 f2 (is_files_fault result) → Loads config f0 f2 result
+loads_since config f0 f1 f2 result map kept told asks =
+    let same : f1 ≡ f0 = λ i. record { map = map i; faults = kept i } in
+    subst (λ (f : FilesSeen). Loads config f f2 result) same (loads_here config f1 f2 result told asks)
+
+pub ends_at_maps : (words : List (List ℕ)) (f0 f1 f2 : FilesSeen) (i : SourceSeen) (o : SinkSeen) (l : Heard) (s : Spooled) (k : ClockSeen) (mode : Mode) (config : Config) (fault : MapsFault) (outcome : Outcome) → outcome ≡ of_maps fault
+    → IsCommandLine words mode → mode.job ≡ Test → Begins mode.file f0 f1 (Ok config) → Loads config f0 f2 (Err fault) → Ends words (world f0 i o l s k) (world f2 i o l s k) outcome
+ends_at_maps words f0 f1 f2 i o l s k mode config fault outcome told said does begins loads =
+    ends_at_work words (world f0 i o l s k) (world f2 i o l s k) mode Test config outcome said does begins
+    (inl (record { fault = fault; told = told; loads = loads; untouched = untouched f0 f2 i o l s k }))
+
+pub ends_tested : (words : List (List ℕ)) (f0 f1 f2 : FilesSeen) (i0 i1 : SourceSeen) (o0 o1 : SinkSeen) (l : Heard) (s : Spooled) (k : ClockSeen) (mode : Mode) (config : Config) (maps : Loaded) (how : TestEnd) (outcome : Outcome) → outcome ≡ of_test how
+    → IsCommandLine words mode → mode.job ≡ Test → Begins mode.file f0 f1 (Ok config) → Loads config f0 f2 (Ok maps) → Tests (basis config maps) (streams i0 o0) (streams i1 o1) how → Ends words (world f0 i0 o0 l s k) (world f2 i1 o1 l s k) outcome
+ends_tested words f0 f1 f2 i0 i1 o0 o1 l s k mode config maps how outcome told said does begins loads tests =
+    ends_at_work words (world f0 i0 o0 l s k) (world f2 i1 o1 l s k) mode Test config outcome said does begins
+    (inr (record { maps = maps; loads = loads; how = how; told = told; tests = tests; alone = left_alone (core_seen l s k) }))
 
 pub ends_served : (words : List (List ℕ)) (f0 f1 : FilesSeen) (i : SourceSeen) (o : SinkSeen) (l0 l1 : Heard) (s0 s1 : Spooled) (k0 k1 : ClockSeen) (mode : Mode) (config : Config) (how : SessionEnd) (outcome : Outcome) → outcome ≡ of_session how
     → IsCommandLine words mode → mode.job ≡ Session → Begins mode.file f0 f1 (Ok config) → Serves (site_of config) (core_seen l0 s0 k0) (core_seen l1 s1 k1) how → Ends words (world f0 i o l0 s0 k0) (world f1 i o l1 s1 k1) outcome
@@ -101,11 +128,23 @@ stays_at_file f0 f1 i o l s k outcome map files = record {
   spool = same_count outcomes.SpoolFault outcome s.faults;
 }
 
-pub stays_tested : (f0 f1 : FilesSeen) (i0 i1 : SourceSeen) (o0 o1 : SinkSeen) (l : Heard) (s : Spooled) (k : ClockSeen) (outcome : Outcome) → f1.map ≡ f0.map → f1.faults ≡ f0.faults
-    → f0.faults ≤ f1.faults → Counts outcomes.ReadFault outcome i0.faults i1.faults → Counts outcomes.WriteFault outcome o0.faults o1.faults → Stays (world f0 i0 o0 l s k) (world f1 i1 o1 l s k) outcome
-stays_tested f0 f1 i0 i1 o0 o1 l s k outcome map kept later input output = record {
-  map = map;
-  files = record { later = later; rises = inr kept };
+-- a count that rises in the files of maps
+maps_rise : (f0 f1 f2 : FilesSeen) (fault : MapsFault) → f1.faults ≡ f0.faults → Asks f1 f2 (is_files_fault {V = Loaded} (Err fault)) → RisesOnlyAt outcomes.FilesFault (of_maps fault) f0.faults f2.faults
+maps_rise f0 f1 f2 (maps_faults.NoFile name) kept asks = inr (asks.calm refl ∙ kept)
+maps_rise f0 f1 f2 maps_faults.FilesFault kept asks = inl refl
+maps_rise f0 f1 f2 maps_faults.NoMemory kept asks = inr (asks.calm refl ∙ kept)
+
+pub stays_at_maps : (f0 f1 f2 : FilesSeen) (i : SourceSeen) (o : SinkSeen) (l : Heard) (s : Spooled) (k : ClockSeen) (fault : MapsFault) (outcome : Outcome) → outcome ≡ of_maps fault → f1.map ≡ f0.map → f1.faults ≡ f0.faults
+    → f0.faults ≤ f1.faults → Asks f1 f2 (is_files_fault {V = Loaded} (Err fault)) → Stays (world f0 i o l s k) (world f2 i o l s k) outcome
+stays_at_maps f0 f1 f2 i o l s k fault outcome told map kept later asks =
+    stays_at_file f0 f2 i o l s k outcome (asks.fixed ∙ map)
+    (counts outcomes.FilesFault outcome (of_maps fault) f0.faults f2.faults told (omega (arith, later, asks.later)) (maps_rise f0 f1 f2 fault kept asks))
+
+pub stays_tested : (f0 f1 f2 : FilesSeen) (i0 i1 : SourceSeen) (o0 o1 : SinkSeen) (l : Heard) (s : Spooled) (k : ClockSeen) (outcome : Outcome) → f1.map ≡ f0.map → f1.faults ≡ f0.faults
+    → f0.faults ≤ f1.faults → Asks f1 f2 false → Counts outcomes.ReadFault outcome i0.faults i1.faults → Counts outcomes.WriteFault outcome o0.faults o1.faults → Stays (world f0 i0 o0 l s k) (world f2 i1 o1 l s k) outcome
+stays_tested f0 f1 f2 i0 i1 o0 o1 l s k outcome map kept later asks input output = record {
+  map = asks.fixed ∙ map;
+  files = record { later = omega (arith, later, asks.later); rises = inr (asks.calm refl ∙ kept) };
   input = input;
   output = output;
   floor = same_count outcomes.FloorFault outcome l.faults;
@@ -162,16 +201,34 @@ few_lost : (left : List ℕ) (after : Option (List ℕ)) (taken : List ℕ) → 
 few_lost left None taken h large few = h
 few_lost left (Some new) taken h large few = omega (arith, ap length h, length-append taken new, large, few)
 
-not_large : (config : Config) (before after : World) → IsShort before.input.left → IsLarge config (streams_of before) (streams_of after) → ⊥
-not_large config before after short is =
+not_large : (basis : Basis) (before after : World) → IsShort before.input.left → IsLarge basis (streams_of before) (streams_of after) → ⊥
+not_large basis before after short is =
     few_lost short.bytes after.input.left is.taken (subst (λ (o : Option (List ℕ)). Loses o after.input.left is.taken) short.told is.cut.takes) is.all short.few
 
-test_whole : (config : Config) (before after : World) (how : TestEnd) → IsShort before.input.left → NoneFailed Test before after → Tests config (streams_of before) (streams_of after) how → IsWhole Test (of_test how)
-test_whole config before after test_ends.Done short sound is = inl refl
-test_whole config before after test_ends.ReadFault short sound is = absurd (sound.0 is.rose)
-test_whole config before after test_ends.WriteFault short sound is = absurd (sound.1 is.1)
-test_whole config before after test_ends.InputLarge short sound is = absurd (not_large config before after short is)
-test_whole config before after test_ends.NoMemory short sound is = inr refl
+lines_whole : (basis : Basis) (before after : World) (how : TestEnd) → IsShort before.input.left → NoneFailed Test before after → Tests basis (streams_of before) (streams_of after) how → IsWhole Test (of_test how)
+lines_whole basis before after test_ends.Done short sound is = inl refl
+lines_whole basis before after test_ends.ReadFault short sound is = absurd (sound.0 is.rose)
+lines_whole basis before after test_ends.WriteFault short sound is = absurd (sound.1 is.1)
+lines_whole basis before after test_ends.InputLarge short sound is = absurd (not_large basis before after short is)
+lines_whole basis before after test_ends.NoMemory short sound is = inr refl
+
+-- files of which none is missing give maps
+none_missing : (files : FilesSeen) (map : FileMap) (config : Config) (name : List ℕ) → files.map ≡ Some map → first_missing map config ≡ None → GiveMaps files config (Err name) → ⊥
+none_missing files map config name told none gives =
+    let here : maps_by map config ≡ Err name = subst (λ (o : Option FileMap). IfSome o (λ m. maps_by m config ≡ Err name)) told gives in
+    let there : maps_by map config ≡ Ok (maps_of map config) = ap (λ (o : Option MapFile). unless_missing o (maps_of map config)) none in
+    let same : Err name ≡ Ok (maps_of map config) = sym here ∙ there in
+    cc same
+
+maps_whole : (config : Config) (before after : World) (map : FileMap) (fault : MapsFault) → before.files.map ≡ Some map → first_missing map config ≡ None → ¬ (Rose before.files.faults after.files.faults)
+    → Loads config before.files after.files (Err fault) → IsWhole Test (of_maps fault)
+maps_whole config before after map (maps_faults.NoFile name) told none sound is = absurd (none_missing before.files map config name told none is)
+maps_whole config before after map maps_faults.FilesFault told none sound is = absurd (sound is)
+maps_whole config before after map maps_faults.NoMemory told none sound is = inr refl
+
+test_whole : (config : Config) (before after : World) (map : FileMap) (outcome : Outcome) → before.files.map ≡ Some map → Finds Test config map before → IsSound Test before after → Works Test config before after outcome → IsWhole Test outcome
+test_whole config before after map outcome told finds sound (inl is) = subst (λ (o : Outcome). IsWhole Test o) (sym is.told) (maps_whole config before after map is.fault told finds.0 sound.files is.loads)
+test_whole config before after map outcome told finds sound (inr is) = subst (λ (o : Outcome). IsWhole Test o) (sym is.told) (lines_whole (basis config is.maps) before after is.how finds.1 sound.own is.tests)
 
 not_opened_whole : (config : Config) (before after : World) (fault : OpenFault) → IsQueueEmpty config before.spool.told → NoneFailed Session before after → Serves (site_of config) (core_of before) (core_of after) (session_ends.NotOpened fault) → IsWhole Session (of_opening fault)
 not_opened_whole config before after open_faults.SpoolFault empty sound is = absurd (sound.1 is.1)
@@ -189,9 +246,9 @@ session_whole config before after session_ends.Stopped empty sound is = inl refl
 session_whole config before after (session_ends.Over stop) empty sound is = over_whole (site_of config) before after stop sound is
 session_whole config before after (session_ends.TurnsSpent count) empty sound is = inr (inr (inr (ap (λ (n : ℕ). outcomes.TurnsSpent n) is.0)))
 
-work_whole : (words : List (List ℕ)) (config : Config) (before after : World) (job : Job) (outcome : Outcome) (ready : IsReady words before job) → ready.config ≡ config → NoneFailed job before after → Works job config before after outcome → IsWhole job outcome
-work_whole words config before after Test outcome ready same sound is = subst (λ (o : Outcome). IsWhole Test o) (sym is.told) (test_whole config before after is.how ready.finds sound is.tests)
-work_whole words config before after Session outcome ready same sound is = subst (λ (o : Outcome). IsWhole Session o) (sym is.told) (session_whole config before after is.how (subst (λ (c : Config). IsQueueEmpty c before.spool.told) same ready.finds) sound is.serves)
+work_whole : (words : List (List ℕ)) (config : Config) (before after : World) (job : Job) (outcome : Outcome) (ready : IsReady words before job) → ready.config ≡ config → IsSound job before after → Works job config before after outcome → IsWhole job outcome
+work_whole words config before after Test outcome ready same sound is = test_whole config before after ready.map outcome ready.told (subst (λ (c : Config). Finds Test c ready.map before) same ready.finds) sound is
+work_whole words config before after Session outcome ready same sound is = subst (λ (o : Outcome). IsWhole Session o) (sym is.told) (session_whole config before after is.how (subst (λ (c : Config). IsQueueEmpty c before.spool.told) same ready.finds) sound.own is.serves)
 
 -- what a run's end says of a run that is ready
 complete_at_words : (words : List (List ℕ)) (before after : World) (outcome : Outcome) → EndsAtWords words before after outcome → Completes words before after outcome
@@ -210,7 +267,7 @@ complete_at_work words before after outcome is = λ job ready sound.
     let works : Works job is.config before after outcome = subst (λ (j : Job). Works j is.config before after outcome) does is.works in
     let begins : Begins ready.mode.file before.files after.files (Ok is.config) = subst (λ (m : Mode). Begins m.file before.files after.files (Ok is.config)) same is.begins in
     let one : ready.config ≡ is.config = one_config before.files ready.map ready.mode.file ready.config is.config ready.told ready.read begins in
-    work_whole words is.config before after job outcome ready one sound.own works
+    work_whole words is.config before after job outcome ready one sound works
 
 -- however a run ends, it does the whole work of its mode where it is ready and no device fails
 pub completes : (words : List (List ℕ)) (before after : World) (outcome : Outcome) → Ends words before after outcome → Completes words before after outcome

@@ -8,6 +8,8 @@ use Rattle.sendmail_run.specs.declared.command_line.WordFault.{WordFault}
 use Rattle.sendmail_run.specs.declared.command_line.WordFault.TheVariants as word_faults
 use Rattle.sendmail_run.specs.declared.fault.ConfigFault.{ConfigFault}
 use Rattle.sendmail_run.specs.declared.fault.ConfigFault.TheVariants as config_faults
+use Rattle.sendmail_run.specs.declared.fault.MapsFault.{MapsFault}
+use Rattle.sendmail_run.specs.declared.fault.MapsFault.TheVariants as maps_faults
 use Rattle.sendmail_run.specs.declared.address_test.TestEnd.{TestEnd}
 use Rattle.sendmail_run.specs.declared.address_test.TestEnd.TheVariants as test_ends
 use Rattle.sendmail_run.specs.declared.session_mode.SessionEnd.{SessionEnd}
@@ -26,6 +28,12 @@ of_config (config_faults.NoFile name) = NoFile name
 of_config config_faults.FilesFault = FilesFault
 of_config (config_faults.Refused line fault) = ConfigLine line fault
 of_config config_faults.NoMemory = NoMemory
+
+-- maps that aren't loaded
+abbrev pub of_maps : MapsFault → Outcome
+of_maps (maps_faults.NoFile name) = NoFile name
+of_maps maps_faults.FilesFault = FilesFault
+of_maps maps_faults.NoMemory = NoMemory
 
 -- the end of address test mode
 abbrev pub of_test : TestEnd → Outcome

@@ -11,7 +11,7 @@ use Rattle.mail_base.specs.declared.token.Mark.TheVariants.{Alt, Mailer, Host, U
 use Rattle.mail_base.specs.declared.config.Config.{Config}
 use Rattle.ruleset_run.specs.declared.fault.RunFault.{RunFault}
 use Rattle.ruleset_run.specs.declared.fault.RunFault.TheVariants.{Loop, Work, Deep, Long, NoRuleset, MapClass, NoSuchMap, BadScan, NoMemory}
-use Rattle.map_tables.specs.Answers.{Loaded, loaded}
+use Rattle.map_tables.specs.Answers.{Loaded}
 use Rattle.ruleset_run.specs.Runs.{Outcome, RunsSet}
 use Rattle.ruleset_run.specs.Sites.{site_of}
 use Rattle.sendmail_run.specs.Tokens.{tokens_of, most_tokens}
@@ -104,38 +104,42 @@ form_of line =
     else if length (name_of line) == 0 then Unknown
     else Runs
 
--- the maps of a configuration without their files: no rule that is read asks a map yet
-abbrev pub maps_of : Config → Loaded
-maps_of config = loaded config.maps [] []
+-- what lines are answered by: the configuration, and its maps as they are loaded
+pub record Basis : Type 0 where
+  pub config : Config
+  pub maps : Loaded
+
+abbrev pub basis : Config → Loaded → Basis
+basis config maps = record { config = config; maps = maps }
 
 -- what a run of the set of a name on an address prints
-abbrev pub AnswersRun : Config → List ℕ → List Token → List ℕ → Type 0
-AnswersRun config name tokens text =
+abbrev pub AnswersRun : Basis → List ℕ → List Token → List ℕ → Type 0
+AnswersRun basis name tokens text =
     MatchBool (nat_lt most_tokens (length tokens)) (text ≡ line_of (codes "bad address: Long"))
-    ((outcome : Outcome) × RunsSet (site_of config (maps_of config)) config.macros name tokens outcome × (text ≡ outcome_text name outcome))
+    ((outcome : Outcome) × RunsSet (site_of basis.config basis.maps) basis.config.macros name tokens outcome × (text ≡ outcome_text name outcome))
 
-abbrev pub AnswersForm : Form → Config → List ℕ → List ℕ → Type 0
-AnswersForm Quiet config line text = text ≡ []
-AnswersForm TooLong config line text = text ≡ line_of (codes "line too long")
-AnswersForm Unread config line text = text ≡ line_of (codes "not yet")
-AnswersForm Unknown config line text = text ≡ line_of (codes "unknown line")
-AnswersForm Runs config line text = AnswersRun config (name_of line) (tokens_of config.options.operator_chars (address_of line)) text
+abbrev pub AnswersForm : Form → Basis → List ℕ → List ℕ → Type 0
+AnswersForm Quiet basis line text = text ≡ []
+AnswersForm TooLong basis line text = text ≡ line_of (codes "line too long")
+AnswersForm Unread basis line text = text ≡ line_of (codes "not yet")
+AnswersForm Unknown basis line text = text ≡ line_of (codes "unknown line")
+AnswersForm Runs basis line text = AnswersRun basis (name_of line) (tokens_of basis.config.options.operator_chars (address_of line)) text
 
 -- the text that a line of input is answered with
-abbrev pub Answers : Config → List ℕ → List ℕ → Type 0
-Answers config line text = AnswersForm (form_of line) config line text
+abbrev pub Answers : Basis → List ℕ → List ℕ → Type 0
+Answers basis line text = AnswersForm (form_of line) basis line text
 
 -- the line that ends the input
 abbrev pub is_quit : List ℕ → Bool
 is_quit line = bytes_eq line (codes "/quit")
 
 -- the texts that lines of input are answered with, up to `/quit`
-abbrev pub Printed : Config → List (List ℕ) → List ℕ → Type 0
-Printed config [] text = text ≡ []
-Printed config (line ∷ lines) text =
+abbrev pub Printed : Basis → List (List ℕ) → List ℕ → Type 0
+Printed basis [] text = text ≡ []
+Printed basis (line ∷ lines) text =
     MatchBool (is_quit line) (text ≡ [])
-    ((first : List ℕ) × (rest : List ℕ) × Answers config line first × Printed config lines rest × (text ≡ first ++ rest))
+    ((first : List ℕ) × (rest : List ℕ) × Answers basis line first × Printed basis lines rest × (text ≡ first ++ rest))
 
 -- what is printed for lines of input: the warnings first, and then the answers
-abbrev pub Prints : Config → List (List ℕ) → List ℕ → Type 0
-Prints config lines text = (answers : List ℕ) × Printed config lines answers × (text ≡ warnings_text config.warnings ++ answers)
+abbrev pub Prints : Basis → List (List ℕ) → List ℕ → Type 0
+Prints basis lines text = (answers : List ℕ) × Printed basis lines answers × (text ≡ warnings_text basis.config.warnings ++ answers)

@@ -1,8 +1,9 @@
 -- How a run ends, what stays as it was, and where the whole work of a mode is done (Sendmail Installation and Operation Guide, "Command Line Flags"; the outcomes are own).
-use Rattle.std.specs.Prelude.{◌≡◌, ℕ, ◌^◌, ◌<◌, List, length, Option, Some, Result, Ok, Err, ◌⊎◌}
+use Rattle.std.specs.Prelude.{◌≡◌, ℕ, ◌^◌, ◌<◌, List, length, Option, Some, None, Ok, Err, ◌⊎◌}
 use Rattle.mail_base.specs.declared.config.Config.{Config}
 use Rattle.mail_base.specs.Histories.{Rose}
 use Rattle.mail_edge.specs.Seen.{FileMap}
+use Rattle.map_tables.specs.Answers.{Loaded}
 use Rattle.spool_disk.specs.Disk.{FileMap as SpoolMap}
 use Rattle.spool_store.specs.Standing.{AreEmpty}
 use Rattle.mail_core.specs.Standing.{dirs_of}
@@ -12,13 +13,16 @@ use Rattle.sendmail_run.specs.declared.command_line.Job.TheVariants.{Test, Sessi
 use Rattle.sendmail_run.specs.declared.command_line.Mode.{Mode}
 use Rattle.sendmail_run.specs.declared.command_line.WordFault.{WordFault}
 use Rattle.sendmail_run.specs.declared.fault.ConfigFault.{ConfigFault}
+use Rattle.sendmail_run.specs.declared.fault.MapsFault.{MapsFault}
 use Rattle.sendmail_run.specs.declared.outcome.Outcome.{Outcome}
 use Rattle.sendmail_run.specs.declared.outcome.Outcome.TheVariants as ends
 use Rattle.sendmail_run.specs.declared.session_mode.SessionEnd.{SessionEnd}
 use Rattle.sendmail_run.specs.Beginning.{Begins, said_by}
 use Rattle.sendmail_run.specs.CommandLines.{Fails, IsCommandLine}
 use Rattle.sendmail_run.specs.Devices.{Streams, World, core_of, streams_of}
-use Rattle.sendmail_run.specs.Outcomes.{of_config, of_session, of_test, of_words}
+use Rattle.sendmail_run.specs.MapFiles.{Loads, first_missing}
+use Rattle.sendmail_run.specs.Outcomes.{of_config, of_maps, of_session, of_test, of_words}
+use Rattle.sendmail_run.specs.Printing.{basis}
 use Rattle.sendmail_run.specs.Rises.{Counts}
 use Rattle.sendmail_run.specs.Serving.{IsLeftAlone, Serves, site_of}
 use Rattle.sendmail_run.specs.Testing.{Tests}
@@ -52,11 +56,20 @@ pub record EndsAtFile (words : List (List ℕ)) (before after : World) (outcome 
   pub begins : Begins mode.file before.files after.files (Err fault)
   pub untouched : IsUntouched before after
 
--- address test mode did its work, and left floor, spool and clock alone
+-- the files of the configuration's maps gave none
+pub record EndsAtMaps (config : Config) (before after : World) (outcome : Outcome) : Type 0 where
+  pub fault : MapsFault
+  pub told : outcome ≡ of_maps fault
+  pub loads : Loads config before.files after.files (Err fault)
+  pub untouched : IsUntouched before after
+
+-- address test mode loaded the maps, did its work with them, and left floor, spool and clock alone
 pub record HasTested (config : Config) (before after : World) (outcome : Outcome) : Type 0 where
+  pub maps : Loaded
+  pub loads : Loads config before.files after.files (Ok maps)
   pub how : TestEnd
   pub told : outcome ≡ of_test how
-  pub tests : Tests config (streams_of before) (streams_of after) how
+  pub tests : Tests (basis config maps) (streams_of before) (streams_of after) how
   pub alone : IsLeftAlone (core_of before) (core_of after)
 
 -- session mode did its work, and left the input and the output alone
@@ -68,7 +81,7 @@ pub record HasServed (config : Config) (before after : World) (outcome : Outcome
 
 -- how the work of a mode ends
 abbrev pub Works : Job → Config → World → World → Outcome → Type 0
-Works Test config before after outcome = HasTested config before after outcome
+Works Test config before after outcome = EndsAtMaps config before after outcome ⊎ HasTested config before after outcome
 Works Session config before after outcome = HasServed config before after outcome
 
 -- the words were taken, the file that they name is a configuration, and the mode's work was done
@@ -108,10 +121,10 @@ pub record IsQueueEmpty (config : Config) (files : Option SpoolMap) : Type 0 whe
   pub told : files ≡ Some map
   pub empty : AreEmpty (dirs_of (site_of config)) map
 
--- what a mode wants of its devices under a configuration
-abbrev pub Finds : Job → Config → World → Type 0
-Finds Test config before = IsShort before.input.left
-Finds Session config before = IsQueueEmpty config before.spool.told
+-- what a mode wants of its devices under a configuration, over these files
+abbrev pub Finds : Job → Config → FileMap → World → Type 0
+Finds Test config files before = (first_missing files config ≡ None) × IsShort before.input.left
+Finds Session config files before = IsQueueEmpty config before.spool.told
 
 -- the words say this mode, they, the file and its lines are all taken, of files that are told, and the mode finds what it wants
 pub record IsReady (words : List (List ℕ)) (before : World) (job : Job) : Type 0 where
@@ -122,7 +135,7 @@ pub record IsReady (words : List (List ℕ)) (before : World) (job : Job) : Type
   pub told : before.files.map ≡ Some map
   pub config : Config
   pub read : said_by map mode.file ≡ Some (Ok config)
-  pub finds : Finds job config before
+  pub finds : Finds job config map before
 
 -- no device of a mode failed; a send may have
 abbrev pub NoneFailed : Job → World → World → Type 0

@@ -4,7 +4,7 @@ ghost use Rattle.mail_edge.specs.Moves.{Loses, GainsPart};
 ghost use Rattle.mail_edge.specs.Seen.{SourceSeen};
 ghost use Rattle.sendmail_run.specs.Devices.{Streams, streams};
 ghost use Rattle.sendmail_run.specs.Outcomes.{of_test};
-ghost use Rattle.sendmail_run.specs.Printing.{maps_of};
+ghost use Rattle.sendmail_run.specs.Printing.{basis};
 ghost use Rattle.sendmail_run.specs.Rises.{RisesOnlyAt};
 ghost use Rattle.sendmail_run.specs.inner.Taking.{Answered, At, RisesOnlyIn, Stands, Went, has_end};
 ghost use Rattle.sendmail_run.specs.Testing.{Tests};
@@ -41,29 +41,20 @@ pub enum TestEnd {
 pub fn address_test<I: Source, O: Sink>(
     alloc: Global,
     config: &Config,
+    maps: &Maps,
     input: &mut I,
     output: &mut O,
 ) -> TestEnd
-    ensures tests { Tests config.now (streams (I.seen input.old) (O.seen output.old)) (streams (I.seen input.new) (O.seen output.new)) result }
+    ensures tests { Tests (basis config.now maps.now) (streams (I.seen input.old) (O.seen output.old)) (streams (I.seen input.new) (O.seen output.new)) result }
     ensures input { (I.seen input.old).faults ≤ (I.seen input.new).faults }
     ensures output { (O.seen output.old).faults ≤ (O.seen output.new).faults }
     ensures read { RisesOnlyAt ReadFault (of_test result) (I.seen input.old).faults (I.seen input.new).faults }
     ensures written { RisesOnlyAt WriteFault (of_test result) (O.seen output.old).faults (O.seen output.new).faults }
 {
-    let Ok(maps) = unfilled(alloc, config) else {
-        return TestEnd::NoMemory;
-    };
     let Ok(mut buffer) = zeros(alloc, MOST_PIECE) else {
         return TestEnd::NoMemory;
     };
-    answer_all(alloc, config, &maps, input, output, &mut buffer)
-}
-
-// The maps of a configuration before their files are read: no rule asks one yet.
-fn unfilled(alloc: Global, config: &Config) -> Result<Maps, NoMemory>
-    ensures { IfOk result (λ maps. maps ≡ maps_of config.now) }
-{
-    Maps::load(alloc, config, &Seq::new(alloc), &Text::new(alloc))
+    answer_all(alloc, config, maps, input, output, &mut buffer)
 }
 
 // Gives the warnings and answers each line, taking as many bytes at once as the buffer holds.
@@ -75,9 +66,8 @@ fn answer_all<I: Source, O: Sink>(
     output: &mut O,
     buffer: &mut [u8],
 ) -> TestEnd
-    requires maps { maps.now ≡ maps_of config.now }
     requires buffer { 0 < length buffer.old }
-    ensures tests { Tests config.now (streams (I.seen input.old) (O.seen output.old)) (streams (I.seen input.new) (O.seen output.new)) result }
+    ensures tests { Tests (basis config.now maps.now) (streams (I.seen input.old) (O.seen output.old)) (streams (I.seen input.new) (O.seen output.new)) result }
     ensures input { (I.seen input.old).faults ≤ (I.seen input.new).faults }
     ensures output { (O.seen output.old).faults ≤ (O.seen output.new).faults }
     ensures read { RisesOnlyAt ReadFault (of_test result) (I.seen input.old).faults (I.seen input.new).faults }
@@ -139,8 +129,7 @@ fn answer_piece<O: Sink>(
     bytes: &[u8],
     output: &mut O,
 ) -> Step
-    requires { maps.now ≡ maps_of config.now }
-    ensures went { (before : Streams) (input : SourceSeen) (taken : List ℕ) → At config.now before (streams input (O.seen output.old)) (taken ++ bytes.now) taken partial.old → Went config.now before (streams input (O.seen output.new)) (taken ++ bytes.now) partial.new result }
+    ensures went { (before : Streams) (input : SourceSeen) (taken : List ℕ) → At (basis config.now maps.now) before (streams input (O.seen output.old)) (taken ++ bytes.now) taken partial.old → Went (basis config.now maps.now) before (streams input (O.seen output.new)) (taken ++ bytes.now) partial.new result }
     ensures later { (O.seen output.old).faults ≤ (O.seen output.new).faults }
     ensures rises { RisesOnlyIn result (O.seen output.old).faults (O.seen output.new).faults }
 {
@@ -186,8 +175,7 @@ fn answer_lines(
     partial: &mut Partial,
     bytes: &[u8],
 ) -> Result<Answers, NoMemory>
-    requires { maps.now ≡ maps_of config.now }
-    ensures { IfOk result (λ answers. (taken text : List ℕ) → Stands config.now taken partial.old text → Answered config.now (taken ++ bytes.now) partial.new (text ++ answers.text) answers.is_quit) }
+    ensures { IfOk result (λ answers. (taken text : List ℕ) → Stands (basis config.now maps.now) taken partial.old text → Answered (basis config.now maps.now) (taken ++ bytes.now) partial.new (text ++ answers.text) answers.is_quit) }
 {
     let mut text = Text::new(alloc);
     let mut rest = bytes;
@@ -228,8 +216,7 @@ fn end<O: Sink>(
     partial: &Partial,
     output: &mut O,
 ) -> TestEnd
-    requires { maps.now ≡ maps_of config.now }
-    ensures tests { (before : Streams) (input : SourceSeen) (taken : List ℕ) → IfSome input.left (λ left. left ≡ []) → length taken < 2 ^ 32 → At config.now before (streams input (O.seen output.old)) taken taken partial.now → Tests config.now before (streams input (O.seen output.new)) result }
+    ensures tests { (before : Streams) (input : SourceSeen) (taken : List ℕ) → IfSome input.left (λ left. left ≡ []) → length taken < 2 ^ 32 → At (basis config.now maps.now) before (streams input (O.seen output.old)) taken taken partial.now → Tests (basis config.now maps.now) before (streams input (O.seen output.new)) result }
     ensures later { (O.seen output.old).faults ≤ (O.seen output.new).faults }
     ensures rises { RisesOnlyAt WriteFault (of_test result) (O.seen output.old).faults (O.seen output.new).faults }
 {

@@ -2,7 +2,7 @@ ghost use Rattle.std.specs.Prelude.{◌≡◌, ◌≤◌, ◌++◌, List, ℕ, l
 ghost use Rattle.std.specs.List.{list_any, position_or_len};
 ghost use Rattle.mail_base.specs.Whites.{is_white};
 ghost use Rattle.sendmail_run.specs.Tokens.{tokens_of};
-ghost use Rattle.sendmail_run.specs.Printing.{Answers, AnswersRun, spaced, line_of, maps_of};
+ghost use Rattle.sendmail_run.specs.Printing.{Answers, AnswersRun, basis, spaced, line_of};
 ghost use Rattle.sendmail_run.specs.Printing as spec;
 
 use crate::tokens;
@@ -23,8 +23,7 @@ pub fn answer(
     line: &[u8],
     out: &mut Text,
 ) -> Result<(), NoMemory>
-    requires { maps.now ≡ maps_of config.now }
-    ensures { OnOk result ((text : List ℕ) × Answers config.now line.now text × (out.new ≡ out.old ++ text)) }
+    ensures { OnOk result ((text : List ℕ) × Answers (basis config.now maps.now) line.now text × (out.new ≡ out.old ++ text)) }
 {
     if is_quiet(line) {
         return Ok(());
@@ -50,8 +49,7 @@ fn answer_run(
     address: &[u8],
     out: &mut Text,
 ) -> Result<(), NoMemory>
-    requires { maps.now ≡ maps_of config.now }
-    ensures { OnOk result ((text : List ℕ) × AnswersRun config.now name.now (tokens_of config.now.options.operator_chars address.now) text × (out.new ≡ out.old ++ text)) }
+    ensures { OnOk result ((text : List ℕ) × AnswersRun (basis config.now maps.now) name.now (tokens_of config.now.options.operator_chars address.now) text × (out.new ≡ out.old ++ text)) }
 {
     let tokens = tokens::tokens_of(alloc, config.options.operator_chars.bytes(), address)?;
     if tokens.len() > MOST_TOKENS {

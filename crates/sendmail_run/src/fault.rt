@@ -1,5 +1,8 @@
+ghost use Rattle.std.specs.Prelude.{◌≡◌};
+ghost use Rattle.sendmail_run.specs.declared.fault.MapsFault.TheVariants as maps;
+
 use cf_reader::Fault;
-use mail_base::Text;
+use mail_base::{NoMemory, Text};
 
 /// Why the file that the words name gives no configuration.
 #[derive(Drop)]
@@ -11,4 +14,22 @@ pub enum ConfigFault {
     /// The first line that is refused, by its number from 1, and its first fault.
     Refused { line: u32, fault: Fault },
     NoMemory,
+}
+
+/// Why the files of maps give none.
+#[derive(Drop)]
+pub enum MapsFault {
+    /// A K line without `-o` names a file that isn't there.
+    NoFile(Text),
+    /// One of them could not be read.
+    FilesFault,
+    NoMemory,
+}
+
+impl From<NoMemory> for MapsFault {
+    ghost from_gives = { λ _ e. e ≡ maps.NoMemory };
+
+    fn from(_error: NoMemory) -> MapsFault {
+        MapsFault::NoMemory
+    }
 }

@@ -1,6 +1,6 @@
 ghost use Rattle.std.specs.Prelude.{◌≡◌, ◌<◌, ◌++◌, MatchOption, List, [], ℕ, length, OnOk, OnErr, false};
 ghost use Rattle.std.specs.Str.Lines.{strip_carriage_return};
-ghost use Rattle.sendmail_run.specs.Printing.{Answers, maps_of};
+ghost use Rattle.sendmail_run.specs.Printing.{Answers, basis};
 ghost use Rattle.sendmail_run.specs.Printing as spec;
 ghost use Rattle.sendmail_run.specs.inner.Taking.{Keeps, AnswersLast, cut_text, most_kept};
 
@@ -72,8 +72,7 @@ impl Partial {
         maps: &Maps,
         out: &mut Text,
     ) -> Result<(), NoMemory>
-        requires { maps.now ≡ maps_of config.now }
-        ensures { OnOk result ((rest : List ℕ) → Keeps self.now rest → (text : List ℕ) × Answers config.now (strip_carriage_return rest) text × (out.new ≡ out.old ++ text)) }
+        ensures { OnOk result ((rest : List ℕ) → Keeps self.now rest → (text : List ℕ) × Answers (basis config.now maps.now) (strip_carriage_return rest) text × (out.new ≡ out.old ++ text)) }
     {
         match self.whole() {
             Some(line) => answer(alloc, config, maps, without_return(line), out),
@@ -89,8 +88,7 @@ impl Partial {
         maps: &Maps,
         out: &mut Text,
     ) -> Result<(), NoMemory>
-        requires { maps.now ≡ maps_of config.now }
-        ensures { OnOk result ((rest : List ℕ) → Keeps self.now rest → (text : List ℕ) × AnswersLast config.now rest text × (out.new ≡ out.old ++ text)) }
+        ensures { OnOk result ((rest : List ℕ) → Keeps self.now rest → (text : List ℕ) × AnswersLast (basis config.now maps.now) rest text × (out.new ≡ out.old ++ text)) }
     {
         match self.whole() {
             Some(line) if line == b"/quit".as_slice() => Ok(()),

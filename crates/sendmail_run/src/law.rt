@@ -1,9 +1,8 @@
 ghost use Rattle.std.specs.Prelude.{◌≡◌, ◌⊎◌, List, ℕ};
 ghost use Rattle.std.specs.List.{flat_map};
-ghost use Rattle.mail_base.specs.declared.config.Config.{Config};
 ghost use Rattle.sendmail_run.specs.declared.command_line.Mode.{Mode};
 ghost use Rattle.sendmail_run.specs.CommandLines.{IsCommandLine, IsRefusedAt};
-ghost use Rattle.sendmail_run.specs.Printing.{Printed};
+ghost use Rattle.sendmail_run.specs.Printing.{Basis, Printed};
 ghost use Rattle.sendmail_run.specs.Tokens.{Cutting, Cuts, token_of, tokens_of};
 
 use ruleset_run::{each_run_ends, one_outcome};
@@ -17,14 +16,14 @@ pub fn tokens_are_of_any_cutting()
 
 /// Lines have one printed text at most.
 pub fn one_text()
-    ensures { (config : Config) (lines : List (List ℕ)) (one another : List ℕ) → Printed config lines one → Printed config lines another → one ≡ another }
+    ensures { (basis : Basis) (lines : List (List ℕ)) (one another : List ℕ) → Printed basis lines one → Printed basis lines another → one ≡ another }
 {
     one_outcome();
 }
 
 /// Lines have a printed text.
 pub fn some_text()
-    ensures { (config : Config) (lines : List (List ℕ)) → (text : List ℕ) × Printed config lines text }
+    ensures { (basis : Basis) (lines : List (List ℕ)) → (text : List ℕ) × Printed basis lines text }
 {
     each_run_ends();
 }

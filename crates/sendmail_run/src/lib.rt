@@ -8,6 +8,7 @@ mod command_line;
 mod fault;
 mod input;
 mod law;
+mod maps;
 mod outcome;
 mod program;
 mod session_mode;

@@ -3,7 +3,7 @@ ghost use Rattle.sendmail_run.specs.Outcomes as spec;
 
 use crate::address_test::TestEnd;
 use crate::command_line::WordFault;
-use crate::fault::ConfigFault;
+use crate::fault::{ConfigFault, MapsFault};
 use crate::session_mode::SessionEnd;
 use cf_reader::Fault;
 use mail_base::Text;
@@ -17,7 +17,7 @@ pub enum Outcome {
     Done,
     /// The words are refused at this place, counted from 0; a word that is missing stands at their number.
     Usage(u32),
-    /// There is no file of this name.
+    /// There is no file of this name: that of the configuration, or that of a map without `-o`.
     NoFile(Text),
     NoMemory,
     /// A file could not be read.
@@ -84,6 +84,17 @@ impl Outcome {
             ConfigFault::FilesFault => Outcome::FilesFault,
             ConfigFault::Refused { line, fault } => Outcome::ConfigLine(line, fault),
             ConfigFault::NoMemory => Outcome::NoMemory,
+        }
+    }
+
+    /// That of a run that has no maps.
+    pub(crate) fn of_maps(fault: MapsFault) -> Outcome
+        ensures { result ≡ spec.of_maps fault }
+    {
+        match fault {
+            MapsFault::NoFile(name) => Outcome::NoFile(name),
+            MapsFault::FilesFault => Outcome::FilesFault,
+            MapsFault::NoMemory => Outcome::NoMemory,
         }
     }
 

@@ -9,6 +9,7 @@ ghost use Rattle.sendmail_run.specs.declared.outcome.Outcome.TheVariants.{FilesF
 use crate::address_test::address_test;
 use crate::command_line::{Job, words};
 use crate::fault::ConfigFault;
+use crate::maps::load_maps;
 use crate::outcome::Outcome;
 use crate::session_mode::session_mode;
 use cf_reader::{CfFault, read};
@@ -21,8 +22,8 @@ use std::alloc::Global;
 /// The whole program, over its words without the program's name, and its devices.
 ///
 /// The steps are taken in this order, and the first refusal ends the run: the words, the configuration
-/// file, its lines, and then in address test mode the lines of input, and in session mode those of
-/// [`session_mode`].
+/// file, its lines, and then in address test mode the files of maps in the order of K lines, the host table
+/// and the lines of input, and in session mode the steps of [`session_mode`].
 pub fn sendmail<F: Files, D: Spool, L: Floor, C: Clock, I: Source, O: Sink>(
     alloc: Global,
     arguments: &Seq<Text>,
@@ -92,7 +93,13 @@ fn run<F: Files, D: Spool, L: Floor, C: Clock, I: Source, O: Sink>(
         Err(fault) => return Outcome::of_config(fault),
     };
     match mode.job {
-        Job::Test => Outcome::of_test(address_test(alloc, &config, input, output)),
+        Job::Test => {
+            let maps = match load_maps(alloc, &config, files) {
+                Ok(maps) => maps,
+                Err(fault) => return Outcome::of_maps(fault),
+            };
+            Outcome::of_test(address_test(alloc, &config, &maps, input, output))
+        }
         Job::Session => Outcome::of_session(session_mode(alloc, &config, spool, floor, clock)),
     }
 }

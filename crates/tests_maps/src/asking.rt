@@ -4,7 +4,7 @@ use map_tables::{Found, MapFault, Maps, Named};
 use std::alloc::Global;
 use std::test::Fail;
 
-/// A K line: its name, its class and members, its flags `f` and `m`, its tag, its columns and separator,
+/// A K line: its name, its class and members, its flags `f`, `m` and `o`, its tag, its columns and separator,
 /// and its file.
 pub(crate) type Line = (
     &'static str,
@@ -63,7 +63,7 @@ fn map_of(alloc: Global, line: &Line) -> Result<MapLine, NoMemory> {
         class,
         keeps_case: line.3.contains('f'),
         match_only: line.3.contains('m'),
-        optional: false,
+        optional: line.3.contains('o'),
         key_column: line.5.0,
         value_column: line.5.1,
         separator: line.5.2,

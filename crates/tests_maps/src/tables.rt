@@ -93,19 +93,22 @@ fn tables_are_read_and_asked(rt: HostRuntime) -> Result<(), Fail> {
 
 static WANTED: [Line; 6] = [
     ("a", "text", &[], "", "", (0, 1, None), "/one"),
-    ("a", "hash", &[], "", "", (0, 1, None), "/two"),
+    ("a", "hash", &[], "o", "", (0, 1, None), "/two"),
     ("b", "null", &[], "", "", (0, 1, None), "/three"),
     ("c", "hash", &[], "", "", (0, 1, None), ""),
     ("d", "btree", &[], "", "", (0, 1, None), "/one"),
     ("e", "ldap", &[], "", "", (0, 1, None), "/four"),
 ];
 
-// The files that are wanted, one a line.
+// The files that are wanted, one a line, with `-o ` before one that may be absent.
 fn wanted_lines(alloc: Global) -> Result<Vec<u8>, NoMemory> {
     let config = config_of(alloc, &WANTED)?;
     let mut text = Vec::new(alloc);
     for file in wanted(alloc, &config)?.items() {
-        text.extend_from_slice(file.bytes())?;
+        if file.optional {
+            text.extend_from_slice(b"-o ")?;
+        }
+        text.extend_from_slice(file.name.bytes())?;
         text.push(b'\n')?;
     }
     Ok(text)
@@ -114,6 +117,6 @@ fn wanted_lines(alloc: Global) -> Result<Vec<u8>, NoMemory> {
 #[test]
 fn files_are_wanted_in_order(rt: HostRuntime) -> Result<(), Fail> {
     let files = wanted_lines(rt.alloc())?;
-    assert_eq!(rt; files.as_slice(), b"/one\n/two\n/one\n".as_slice());
+    assert_eq!(rt; files.as_slice(), b"/one\n-o /two\n/one\n".as_slice());
     Ok(())
 }

@@ -6,6 +6,15 @@ use std::test::Fail;
 /// The configuration that is read where a row has no other.
 pub(crate) const CONFIG: &[u8] = b"S5\nR$-:$+\t$@ $2 @ $1\n";
 
+/// The files that stand beside each configuration.
+static FILES: [(&str, &[u8]); 2] = [
+    ("/t", b"k v%1\nbad (\nfar here\n"),
+    (
+        "/hosts",
+        b"127.0.0.1 far.example far\n127.0.0.1 c.example\n",
+    ),
+];
+
 /// The words of a command line, which blanks part.
 pub(crate) fn words_of(alloc: Global, line: &[u8]) -> Result<Seq<Text>, NoMemory> {
     let mut words = Seq::new(alloc);
@@ -23,10 +32,13 @@ pub(crate) fn calls(alloc: Global, numbers: &[u64]) -> Result<Seq<u64>, NoMemory
     Ok(Seq::from_vec(Vec::from_slice(alloc, numbers).map_err(NoMemory::from)?))
 }
 
-/// Files that hold a configuration, and which of their calls are to fail.
+/// Files that hold a configuration and those beside it, and which of their calls are to fail.
 pub(crate) fn files_of(alloc: Global, config: &[u8], failing: &[u64]) -> Result<MemFiles, Fail> {
     let mut files = Seq::new(alloc);
     files.push((Text::of(alloc, b"row1.cf")?, Text::of(alloc, config)?))?;
+    for (name, text) in &FILES {
+        files.push((Text::of(alloc, name.as_bytes())?, Text::of(alloc, text)?))?;
+    }
     let sure = SureFiles::new(files).ok_or("a large text")?;
     Ok(MemFiles::new(sure, calls(alloc, failing)?))
 }

@@ -9,4 +9,6 @@ mod faults;
 #[cfg(test)]
 mod lines;
 #[cfg(test)]
+mod maps;
+#[cfg(test)]
 mod sessions;

@@ -237,6 +237,12 @@ const ROWS: &[Row] = &[
     },
     Row {
         files_fail: &[1],
+        status: 72,
+        text: b"",
+        ..TWO
+    },
+    Row {
+        files_fail: &[2],
         ..TWO
     },
     Row {
@@ -273,12 +279,12 @@ const ROWS: &[Row] = &[
     },
 ];
 
-// How a run ended, as a row says it.
+/// How a run ended, as a row says it.
 #[derive(Drop)]
-struct Ended {
-    status: u8,
-    text: Text,
-    place: Text,
+pub(crate) struct Ended {
+    pub status: u8,
+    pub text: Text,
+    pub place: Text,
 }
 
 // The place that an outcome tells.
@@ -327,8 +333,8 @@ impl Row {
     }
 }
 
-// How a run over these devices ends.
-fn ends<I: Source>(
+/// How a run over these devices ends.
+pub(crate) fn ends<I: Source>(
     alloc: Global,
     words: &[u8],
     files: &mut MemFiles,

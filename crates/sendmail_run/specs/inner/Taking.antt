@@ -3,12 +3,11 @@ use Rattle.std.specs.Prelude.{◌≡◌, ℕ, ◌+◌, ◌≤◌, ◌^◌, List,
 use Rattle.std.specs.List.{list_any, flat_map}
 use Rattle.std.specs.Str.Lines.{strip_carriage_return}
 use Rattle.mail_base.specs.Limits.{most_line}
-use Rattle.mail_base.specs.declared.config.Config.{Config}
 use Rattle.sendmail_run.specs.declared.input.Partial.{Partial}
 use Rattle.sendmail_run.specs.declared.address_test.Step.{Step}
 use Rattle.sendmail_run.specs.declared.address_test.Step.TheVariants.{On, Ended}
 use Rattle.sendmail_run.specs.declared.outcome.Outcome.TheVariants.{WriteFault}
-use Rattle.sendmail_run.specs.Printing.{Printed, Answers, is_quit, line_of, warnings_text}
+use Rattle.sendmail_run.specs.Printing.{Basis, Printed, Answers, is_quit, line_of, warnings_text}
 use Rattle.cf_reader.specs.LogicalLines.{physical_lines}
 use Rattle.sendmail_run.specs.Devices.{Streams}
 use Rattle.sendmail_run.specs.Outcomes.{of_test}
@@ -40,23 +39,23 @@ pub record Cut (taken : List ℕ) (raws : List (List ℕ)) (rest : List ℕ) : T
   pub last : has_end rest ≡ false
 
 -- the ended lines of what was taken are answered with the text, and the rest is kept
-pub record Stands (config : Config) (taken : List ℕ) (partial : Partial) (text : List ℕ) : Type 0 where
+pub record Stands (basis : Basis) (taken : List ℕ) (partial : Partial) (text : List ℕ) : Type 0 where
   pub raws : List (List ℕ)
   pub rest : List ℕ
   pub cut : Cut taken raws rest
-  pub printed : Printed config (lines_of raws) text
+  pub printed : Printed basis (lines_of raws) text
   pub on : list_any is_quit (lines_of raws) ≡ false
   pub keeps : Keeps partial rest
 
 -- the line `/quit` came, and the lines before it are answered with the text
-pub record Quits (config : Config) (taken : List ℕ) (text : List ℕ) : Type 0 where
-  pub printed : Printed config (physical_lines taken) text
-  pub among : Printed config (ended_lines taken) text
+pub record Quits (basis : Basis) (taken : List ℕ) (text : List ℕ) : Type 0 where
+  pub printed : Printed basis (physical_lines taken) text
+  pub among : Printed basis (ended_lines taken) text
   pub quit : holds_quit taken ≡ true
 
 -- the answer to the last line, which no LF ends: `/quit` prints nothing
-abbrev pub AnswersLast : Config → List ℕ → List ℕ → Type 0
-AnswersLast config line text = MatchBool (is_quit line) (text ≡ []) (Answers config line text)
+abbrev pub AnswersLast : Basis → List ℕ → List ℕ → Type 0
+AnswersLast basis line text = MatchBool (is_quit line) (text ≡ []) (Answers basis line text)
 
 -- the answer to a line that is too long, by its front
 abbrev pub cut_text : List ℕ → List ℕ
@@ -64,24 +63,24 @@ cut_text [] = line_of (codes "line too long")
 cut_text (b ∷ bs) = if b == 35 then [] else line_of (codes "line too long")
 
 -- the text holds the answers to the lines that bytes end, up to the line `/quit` where that is among them
-abbrev pub Answered : Config → List ℕ → Partial → List ℕ → Bool → Type 0
-Answered config taken partial text true = Quits config taken text
-Answered config taken partial text false = Stands config taken partial text
+abbrev pub Answered : Basis → List ℕ → Partial → List ℕ → Bool → Type 0
+Answered basis taken partial text true = Quits basis taken text
+Answered basis taken partial text false = Stands basis taken partial text
 
 -- all these bytes were taken since the start, and the warnings and the answers to the ended lines of a front of them were written
-pub record At (config : Config) (before now : Streams) (all taken : List ℕ) (partial : Partial) : Type 0 where
+pub record At (basis : Basis) (before now : Streams) (all taken : List ℕ) (partial : Partial) : Type 0 where
   pub few : length all ≤ 2 ^ 32
   pub text : List ℕ
   pub takes : Takes before now all
-  pub writes : Writes before now (warnings_text config.warnings ++ text)
-  pub stands : Stands config taken partial text
+  pub writes : Writes before now (warnings_text basis.config.warnings ++ text)
+  pub stands : Stands basis taken partial text
   pub input : before.input.faults ≤ now.input.faults
   pub output : before.output.faults ≤ now.output.faults
 
 -- a piece of the input was answered, or it ended the run
-abbrev pub Went : Config → Streams → Streams → List ℕ → Partial → Step → Type 0
-Went config before now all partial On = At config before now all all partial
-Went config before now all partial (Ended how) = Tests config before now how
+abbrev pub Went : Basis → Streams → Streams → List ℕ → Partial → Step → Type 0
+Went basis before now all partial On = At basis before now all all partial
+Went basis before now all partial (Ended how) = Tests basis before now how
 
 -- the output's count has risen only where its fault ended the run
 abbrev pub RisesOnlyIn : Step → ℕ → ℕ → Type 0
