@@ -30,3 +30,4 @@ mod Replaces
 mod Opened
 mod Bodies
 mod Ended
+mod Drafting

@@ -14,3 +14,4 @@ pub mod Parts
 pub mod Stores
 pub mod Keepers
 pub mod Finishing
+pub mod Parcels

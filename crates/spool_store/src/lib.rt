@@ -9,7 +9,9 @@ mod finishes;
 mod held;
 mod label;
 mod law;
+mod making;
 mod opening;
+mod parcel;
 mod part;
 mod parts;
 mod queue;
@@ -23,6 +25,7 @@ pub use change::Change;
 pub use fault::{OpenFault, SpoolFault};
 pub use held::Held;
 pub use law::{a_clean_map_stands, commands_follow, new_entries_keep_soundness};
+pub use parcel::Parcel;
 pub use part::Part;
 pub use queue::Queue;
 pub use queue_law::{

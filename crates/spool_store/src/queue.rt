@@ -1,4 +1,4 @@
-ghost use Rattle.std.specs.Prelude.{◌≡◌, ◌⊎◌, ◌≤◌, ◌∷◌, [], IfOk, IfSome, IsErrOf, OnOk, OnErr, Contains, List, ℕ, true, false, Err, map};
+ghost use Rattle.std.specs.Prelude.{◌≡◌, ◌⊎◌, ◌↔◌, ◌+◌, ◌<◌, ◌≤◌, ◌∷◌, [], length, IfOk, IfSome, IsErrOf, OnOk, OnErr, Contains, List, ℕ, true, false, Err, map};
 ghost use Rattle.mail_base.specs.Histories.{HasCause, Rose};
 ghost use Rattle.mail_base.specs.Names.{name_of};
 ghost use Rattle.mail_base.specs.States.{NeedsBody};
@@ -14,6 +14,7 @@ ghost use Rattle.spool_store.specs.Keepers.{CanFinish, CanReplace, IsFiled, afte
 ghost use Rattle.spool_store.specs.Finishing.{HasFinished, IsDone};
 ghost use Rattle.spool_store.specs.Moves.{IsRun, Moves, Ends};
 ghost use Rattle.spool_store.specs.Parts.{CanRaise, IsEitherTable, IsUnderWay};
+ghost use Rattle.spool_store.specs.Parcels.{CanPrepare, IsParcel};
 ghost use Rattle.spool_store.specs.Settled.{IsSettled, StandsFor};
 ghost use Rattle.spool_store.specs.Standing.{IsUsed};
 ghost use Rattle.spool_store.specs.Stores.{Agrees, HasId, Holds, IsAscending, KeepsOthers, recontrolled, refinished, spot_at};
@@ -25,11 +26,12 @@ ghost use Rattle.spool_store.specs.declared.held.Held.{Held};
 use crate::fault::store_fault;
 use crate::finishes::{drop_body, end};
 use crate::label::Label;
+use crate::making::{heirs, part_of};
 use crate::opening::find_empty;
 use crate::raises::put_raised;
 use crate::shelf::Shelf;
-use crate::{Held, OpenFault, Room, SpoolFault};
-use mail_base::{Failed, Id, Kind, NoMemory, Seq, StoreFault, Stray, Text, TryCopy};
+use crate::{Held, OpenFault, Parcel, Room, SpoolFault};
+use mail_base::{Draft, Failed, Id, Kind, NoMemory, Parent, Seq, StoreFault, Stray, Text, TryCopy};
 use qf_format::{Paper, print_into, room};
 use spool_disk::Spool;
 use std::alloc::Global;
@@ -293,5 +295,49 @@ impl Queue {
         self.from.write(Kind::Df, id);
         let items = self.shelf.items();
         drop_body(spool, &items[place].entry.dir, self.from.text())
+    }
+
+    /// Makes a new parent and its children ready to be committed under the first free ids. Nothing is
+    /// written. `IdsSpent` comes exactly where an id would pass [`Id::MOST`].
+    pub fn prepare(
+        &mut self,
+        children: &Seq<Draft>,
+        parent: &Draft,
+        body: Text,
+    ) -> Result<Parcel, StoreFault>
+        requires can { CanPrepare (seen self.old).dirs children.now parent.now }
+        ensures is { IfOk result (IsParcel (seen self.new) children.now parent.now body) }
+        ensures same { seen self.new ≡ record (seen self.old) { room = (seen self.new).room } }
+        ensures spent { IsErrOf result Spent ↔ (Id.MOST < (seen self.old).next + length children.now) }
+        ensures never { IsErrOf result Broke → ⊥ }
+    {
+        let count = children.len();
+        if self.next.saturating_add(count as u64) > Id::MOST {
+            return Err(StoreFault::IdsSpent);
+        }
+        self.shelf.reserve(count + 1)?;
+        Ok(self.parcel(children, parent, body)?)
+    }
+
+    // The parcel of new entries under the first free ids.
+    fn parcel(&self, children: &Seq<Draft>, parent: &Draft, body: Text) -> Result<Parcel, NoMemory>
+        requires can { CanPrepare (seen self.now).dirs children.now parent.now }
+        requires ids { (seen self.now).next + 1 + length children.now ≤ 1_000_000_000_000 }
+        requires room { length children.now + 1 ≤ (seen self.now).room }
+        ensures { IfOk result (IsParcel (seen self.now) children.now parent.now body) }
+    {
+        let alloc = self.dirs.allocator();
+        let id = Id::new(self.next);
+        let under = Parent {
+            id,
+            revision: parent.control.revision,
+        };
+        let children = heirs(alloc, self.next + 1, &under, children.items())?;
+        let parent = part_of(alloc, id, parent, None)?;
+        Ok(Parcel {
+            children,
+            parent,
+            body,
+        })
     }
 }
