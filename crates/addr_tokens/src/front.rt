@@ -37,6 +37,8 @@ impl Front {
 
 /// The first piece of a text before which so many bytes stand, where a byte begins it that quotes or
 /// comments, or a dollar sign.
+// One step of each scan calls it, and what it answers need not stand in memory there.
+#[inline(always)]
 pub(crate) fn marked_of(table: &Table, text: &[u8], place: u64) -> Result<Front, ScanFault>
     requires some { 0 < length text.now }
     requires marked { (spec.is_special (slice_index text.now 0) || slice_index text.now 0 == 36)
