@@ -81,7 +81,7 @@ drop_body dirs f g h dir id among within strange wanted tidied r =
     }
 
 -- a dead control file goes
-not_of_live : (dirs : List (List ℕ)) (f : FileMap) (s t : Spot) (c : Control) → IsDead dirs f s → IsLive dirs f t c → t.id ≡ s.id → ⊥
+pub not_of_live : (dirs : List (List ℕ)) (f : FileMap) (s t : Spot) (c : Control) → IsDead dirs f s → IsLive dirs f t c → t.id ≡ s.id → ⊥
 not_of_live dirs f s t c dead live i = let q : s ≡ t = one_spot dirs f t s c dead.bytes live dead.there (sym i) in dead.lost c (subst (λ (w : Spot). IsLive dirs f w c) (sym q) live)
 
 apart_at : (dirs : List (List ℕ)) (s t : Spot) → IsSpot dirs s → IsSpot dirs t → t ≢ s → spot_place t ≢ spot_place s

@@ -1,3 +1,4 @@
+pub mod inner
 pub mod Tables
 pub mod Standing
 pub mod Moves
@@ -15,3 +16,4 @@ pub mod Stores
 pub mod Keepers
 pub mod Finishing
 pub mod Parcels
+pub mod Openings

@@ -9,13 +9,10 @@ use Rattle.mail_base.specs.declared.control.Control.{Control}
 use Rattle.spool_store.specs.Queue.{IsOpen, Spot, body_place, IsRead, HasTwin, IsStrange, IsLive}
 use Rattle.mail_base.specs.States.{NeedsBody}
 use Rattle.spool_store.specs.Entries.{Stored, ids}
+use Rattle.spool_store.specs.declared.verdict.Verdict.{Verdict}
+use Rattle.spool_store.specs.declared.verdict.Verdict.TheVariants.{Strange, Dead, Live}
 use Rattle.spool_store.specs.Settled.{spot_of, HasRead}
 use Rattle.spool_store.specs.Tidying.{IsDead}
-
-pub data Verdict : Type 0 where
-  Strange : Verdict
-  Dead : Verdict
-  Live : (revision : ℕ) → Verdict
 
 -- a live control file of that revision
 pub record IsLiveAt (dirs : List (List ℕ)) (f : FileMap) (s : Spot) (revision : ℕ) : Type 0 where

@@ -7,24 +7,35 @@ mod fault;
 mod files;
 mod finishes;
 mod held;
+mod judged;
 mod label;
 mod law;
+mod listed;
+mod looked;
+mod looking;
 mod making;
+mod named;
+mod opened;
 mod opening;
 mod parcel;
 mod part;
 mod parts;
+mod plan;
 mod queue;
 mod queue_law;
 mod raises;
+mod recovery;
 mod room;
 mod shelf;
 mod store;
+mod swept;
+mod verdict;
 
 pub use change::Change;
 pub use fault::{OpenFault, SpoolFault};
 pub use held::Held;
 pub use law::{a_clean_map_stands, commands_follow, new_entries_keep_soundness};
+pub use opened::Opened;
 pub use parcel::Parcel;
 pub use part::Part;
 pub use queue::Queue;
@@ -34,5 +45,6 @@ pub use queue_law::{
     opening_settles, raised_alike, replace_settles, samples_settle, stages_follow, steps_tidy,
     tidied_settles, tidied_stands, verdicts_follow,
 };
+pub use recovery::recover;
 pub use room::Room;
 pub use store::Store;

@@ -1,5 +1,5 @@
 -- The directories have no file.
-use Rattle.spool_store.proofs.Opened.{opened_agrees, opened_settled, fresh_is}
+use Rattle.spool_store.proofs.FreshLemmas.{opened_agrees, opened_settled, fresh_is}
 use Rattle.spool_store.proofs.queue.Queue.open.Goals as goal
 
 pub returns-clause-agrees : goal.returns-clause-agrees

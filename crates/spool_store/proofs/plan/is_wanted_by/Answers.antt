@@ -1,0 +1,25 @@
+-- By the verdict.
+use Rattle.std.proofs.Common.{subst}
+use Rattle.spool_store.specs.Verdicts.{IsVerdict}
+use Rattle.spool_store.specs.inner.Finds.{spot_named}
+use Rattle.spool_store.specs.inner.Sweeps.{by_strange, by_live}
+use Rattle.spool_store.proofs.Carrying.{live_read}
+use Rattle.spool_store.proofs.PlanLemmas.{found_says, unwanted_dead, unwanted_live}
+use Rattle.spool_store.proofs.plan.is_wanted_by.Goals as goal
+
+pub returns-in-Strange-clause-yes : goal.returns-in-Strange-clause-yes
+returns-in-Strange-clause-yes c = λ f found i verdict e. by_strange (spot_named c.args.dirs.now c.args.x.now.named) i (subst (IsVerdict c.args.dirs.now f (spot_named c.args.dirs.now c.args.x.now.named)) c.in-Strange.is verdict)
+
+pub returns-in-Dead-clause-no : goal.returns-in-Dead-clause-no
+returns-in-Dead-clause-no c = λ f found i verdict e. unwanted_dead c.args.dirs.now f (spot_named c.args.dirs.now c.args.x.now.named) c.args.named.now (subst (IsVerdict c.args.dirs.now f (spot_named c.args.dirs.now c.args.x.now.named)) c.in-Dead.is verdict) i
+
+pub returns-in-Live-clause-yes : goal.returns-in-Live-clause-yes
+returns-in-Live-clause-yes c = λ f found i verdict e.
+    let live = subst (IsVerdict c.args.dirs.now f (spot_named c.args.dirs.now c.args.x.now.named)) c.in-Live.is verdict in
+    let wanted = c.wants.ensures.yes live.control (found_says c.args.dirs.now f c.args.x.now live.control found (live_read live.live)) e in
+    by_live (spot_named c.args.dirs.now c.args.x.now.named) live.control wanted.0 i live.live wanted.1
+
+pub returns-in-Live-clause-no : goal.returns-in-Live-clause-no
+returns-in-Live-clause-no c = λ f found i verdict e.
+    let live = subst (IsVerdict c.args.dirs.now f (spot_named c.args.dirs.now c.args.x.now.named)) c.in-Live.is verdict in
+    unwanted_live c.args.dirs.now f (spot_named c.args.dirs.now c.args.x.now.named) live.control c.args.named.now live.live i (c.wants.ensures.no live.control (found_says c.args.dirs.now f c.args.x.now live.control found (live_read live.live)) e)
