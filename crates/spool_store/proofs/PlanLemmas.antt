@@ -9,7 +9,8 @@ use Rattle.mail_base.specs.declared.control.Control.{Control}
 use Rattle.mail_base.specs.Limits.{IsId}
 use Rattle.mail_base.specs.States.{NeedsBody, is_finished}
 use Rattle.spool_disk.specs.Disk.{Place, FileMap, bytes_at}
-use Rattle.spool_store.specs.Queue.{at, IsOpen, Says, Spot, spot_place, IsControl, IsRead, HasTwin, IsStrange, twice, IsLive}
+use Rattle.qf_format.specs.Saying.{Says}
+use Rattle.spool_store.specs.Queue.{at, IsOpen, Spot, spot_place, IsControl, IsRead, HasTwin, IsStrange, twice, IsLive}
 use Rattle.spool_store.specs.Tidying.{IsTidied, IsTidiedBody, IsDead, IsSwept, as_kind}
 use Rattle.spool_store.specs.Verdicts.{IsVerdict}
 use Rattle.spool_store.specs.declared.named.Named.{Named}

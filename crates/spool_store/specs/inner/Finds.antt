@@ -8,7 +8,8 @@ use Rattle.mail_base.specs.declared.control.Stray.{Stray}
 use Rattle.mail_base.specs.Names.{name_of}
 use Rattle.mail_base.specs.Limits.{IsId}
 use Rattle.spool_disk.specs.Disk.{FileMap, bytes_at}
-use Rattle.spool_store.specs.Queue.{at, Says, Spot, spot_place, IsControl}
+use Rattle.qf_format.specs.Saying.{Says}
+use Rattle.spool_store.specs.Queue.{at, Spot, spot_place, IsControl}
 use Rattle.spool_store.specs.declared.named.Named.{Named}
 use Rattle.spool_store.specs.declared.named.Found.{Found}
 
