@@ -12,9 +12,16 @@ use Rattle.std.proofs.Math.Seq.{split_at}
 use Rattle.memchr.specs.Find.{IsFirstByte, is_byte}
 use Rattle.sendmail_run.specs.declared.input.Partial.{Partial}
 use Rattle.cf_reader.specs.LogicalLines.{physical_lines}
-use Rattle.sendmail_run.specs.Printing.{Basis, Printed, Answers, is_quit}
+use Rattle.addr_test.specs.declared.answers.Reply.{Reply}
+use Rattle.addr_test.specs.declared.answers.Reply.TheVariants.{Lines, Quit}
+use Rattle.addr_test.specs.Answers.{Answers, Says, config_after}
+use Rattle.addr_test.specs.Forms.{form_of, is_quit}
+use Rattle.addr_test.specs.Printing.{Printed}
+use Rattle.mail_base.specs.declared.config.Config.{Config}
+use Rattle.map_tables.specs.Answers.{Loaded}
+use Rattle.sendmail_run.specs.Printing.{Basis}
 use Rattle.sendmail_run.specs.Testing.{ended, ended_lines, holds_quit}
-use Rattle.sendmail_run.specs.inner.Taking.{has_end, with_end, lines_of, Keeps, Cut, Stands, Quits, AnswersLast}
+use Rattle.sendmail_run.specs.inner.Taking.{has_end, with_end, lines_of, Keeps, Cut, Stands, Quits}
 
 -- ---- tests
 
@@ -120,25 +127,55 @@ cut_end taken raws rest cut = record {
   last = refl;
 }
 
+-- ---- the answer to a line
+
+-- what is said of a line by whether it is `/quit`
+abbrev AnswersBy : Loaded → Config → List ℕ → Bool → Reply → Config → Type 0
+AnswersBy maps config line b reply after =
+    MatchBool b ((reply ≡ Quit) × (after ≡ config))
+    ((text : List ℕ) × Says maps config (form_of line) text × (reply ≡ Lines text) × (after ≡ config_after config (form_of line)))
+
+lines_by : (maps : Loaded) (config after : Config) (line text : List ℕ) (b : Bool) → AnswersBy maps config line b (Lines text) after → b ≡ false
+lines_by maps config after line text true h = absurd (cc (h.0))
+lines_by maps config after line text false h = refl
+
+-- a line that is answered with lines isn't `/quit`
+lines_on : (maps : Loaded) (config after : Config) (line text : List ℕ) → Answers maps config line (Lines text) after → is_quit line ≡ false
+lines_on maps config after line text h = lines_by maps config after line text (is_quit line) h
+
+quit_by : (maps : Loaded) (config after : Config) (line : List ℕ) (b : Bool) → AnswersBy maps config line b Quit after → (b ≡ true) × (after ≡ config)
+quit_by maps config after line true h = (refl, h.1)
+quit_by maps config after line false h = absurd (cc (h.2))
+
+-- a line that ends the input is `/quit`
+quit_off : (maps : Loaded) (config after : Config) (line : List ℕ) → Answers maps config line Quit after → (is_quit line ≡ true) × (after ≡ config)
+quit_off maps config after line h = quit_by maps config after line (is_quit line) h
+
 -- ---- the text so far
 
-pub printed_more : (basis : Basis) (ls ms : List (List ℕ)) (t u : List ℕ) → Printed basis ls t → list_any is_quit ls ≡ false → Printed basis ms u → Printed basis (ls ++ ms) (t ++ u)
-printed_more basis [] ms t u is none h = subst (λ (q : List ℕ). Printed basis ms (q ++ u)) (sym is) h
-printed_more basis (l ∷ ls) ms t u is none h =
+-- more lines behind lines of which none is `/quit`
+pub printed_more : (maps : Loaded) (ls ms : List (List ℕ)) (config middle last : Config) (t u : List ℕ) → Printed maps config ls t middle → list_any is_quit ls ≡ false → Printed maps middle ms u last → Printed maps config (ls ++ ms) (t ++ u) last
+printed_more maps [] ms config middle last t u is none h =
+    subst (λ (c : Config). Printed maps c ms (t ++ u) last) is.1 (subst (λ (q : List ℕ). Printed maps middle ms (q ++ u) last) (sym is.0) h)
+printed_more maps (l ∷ ls) ms config middle last t u is none h =
     let parts = neither (is_quit l) (list_any is_quit ls) none in
     let first = match_no (is_quit l) _ _ parts.0 is in
-    no_match (is_quit l) _ _ parts.0 (first.0, first.1 ++ u, first.2, printed_more basis ls ms first.1 u first.3 parts.1 h, ap (λ (q : List ℕ). q ++ u) first.4 ∙ append_assoc first.0 first.1 u)
+    no_match (is_quit l) _ _ parts.0 (first.0, first.1 ++ u, first.2, first.3, printed_more maps ls ms first.2 middle last first.1 u first.4 parts.1 h, ap (λ (q : List ℕ). q ++ u) first.5 ∙ append_assoc first.0 first.1 u)
 
-printed_one : (basis : Basis) (l a : List ℕ) → is_quit l ≡ false → Answers basis l a → Printed basis (l ∷ []) a
-printed_one basis l a other h = no_match (is_quit l) _ _ other (a, [], h, refl, sym (append-nil a))
+printed_one : (maps : Loaded) (config after : Config) (l a : List ℕ) → Answers maps config l (Lines a) after → Printed maps config (l ∷ []) a after
+printed_one maps config after l a h = no_match (is_quit l) _ _ (lines_on maps config after l a h) (a, [], after, h, (refl, refl), sym (append-nil a))
+
+-- nothing is printed from `/quit` on
+printed_quit : (maps : Loaded) (config : Config) (l : List ℕ) (ls : List (List ℕ)) → is_quit l ≡ true → Printed maps config (l ∷ ls) [] config
+printed_quit maps config l ls quit = yes_match (is_quit l) _ _ quit (refl, refl)
 
 -- ---- where the answers stand
 
-pub stands_none : (basis : Basis) (partial : Partial) → Keeps partial [] → Stands basis [] partial []
-stands_none basis partial keeps = record { raws = []; rest = []; cut = record { whole = refl; each = refl; last = refl }; printed = refl; on = refl; keeps = keeps }
+pub stands_none : (basis : Basis) (partial : Partial) → Keeps partial [] → Stands basis basis.config [] partial []
+stands_none basis partial keeps = record { raws = []; rest = []; cut = record { whole = refl; each = refl; last = refl }; printed = (refl, refl); on = refl; keeps = keeps }
 
-pub stands_tail : (basis : Basis) (taken x text : List ℕ) (old new : Partial) → Stands basis taken old text → has_end x ≡ false → ((rest : List ℕ) → Keeps old rest → Keeps new (rest ++ x)) → Stands basis (taken ++ x) new text
-stands_tail basis taken x text old new s none keeps = record {
+pub stands_tail : (basis : Basis) (current : Config) (taken x text : List ℕ) (old new : Partial) → Stands basis current taken old text → has_end x ≡ false → ((rest : List ℕ) → Keeps old rest → Keeps new (rest ++ x)) → Stands basis current (taken ++ x) new text
+stands_tail basis current taken x text old new s none keeps = record {
   raws = s.raws;
   rest = s.rest ++ x;
   cut = cut_more taken s.raws s.rest x s.cut none;
@@ -147,78 +184,99 @@ stands_tail basis taken x text old new s none keeps = record {
   keeps = keeps s.rest s.keeps;
 }
 
-pub stands_line : (basis : Basis) (taken text out0 out1 : List ℕ) (old new : Partial) → Stands basis taken old (text ++ out0) → ((rest : List ℕ) → Keeps old rest → false ≡ is_quit (strip_carriage_return rest))
-    → ((rest : List ℕ) → Keeps old rest → (a : List ℕ) × Answers basis (strip_carriage_return rest) a × (out1 ≡ out0 ++ a)) → Keeps new [] → Stands basis (taken ++ 10 ∷ []) new (text ++ out1)
-stands_line basis taken text out0 out1 old new s quit answer keeps =
-    let other : is_quit (strip_carriage_return s.rest) ≡ false = sym (quit s.rest s.keeps) in
-    let a = answer s.rest s.keeps in
+pub stands_line : (basis : Basis) (current after : Config) (taken text out0 out1 said : List ℕ) (old new : Partial) → Stands basis current taken old (text ++ out0)
+    → ((rest : List ℕ) → Keeps old rest → Answers basis.maps current (strip_carriage_return rest) (Lines said) after) → out1 ≡ out0 ++ said → Keeps new [] → Stands basis after (taken ++ 10 ∷ []) new (text ++ out1)
+stands_line basis current after taken text out0 out1 said old new s answer more_out keeps =
+    let answers = answer s.rest s.keeps in
+    let other : is_quit (strip_carriage_return s.rest) ≡ false = lines_on basis.maps current after (strip_carriage_return s.rest) said answers in
     let more : lines_of (s.raws ++ s.rest ∷ []) ≡ lines_of s.raws ++ strip_carriage_return s.rest ∷ [] = map-append strip_carriage_return s.raws (s.rest ∷ []) in
-    let printed : Printed basis (lines_of s.raws ++ strip_carriage_return s.rest ∷ []) ((text ++ out0) ++ a.0) =
-    printed_more basis (lines_of s.raws) (strip_carriage_return s.rest ∷ []) (text ++ out0) a.0 s.printed s.on (printed_one basis (strip_carriage_return s.rest) a.0 other a.1) in
-    let whole : (text ++ out0) ++ a.0 ≡ text ++ out1 = append_assoc text out0 a.0 ∙ ap (λ (q : List ℕ). text ++ q) (sym a.2) in
+    let printed : Printed basis.maps basis.config (lines_of s.raws ++ strip_carriage_return s.rest ∷ []) ((text ++ out0) ++ said) after =
+    printed_more basis.maps (lines_of s.raws) (strip_carriage_return s.rest ∷ []) basis.config current after (text ++ out0) said s.printed s.on (printed_one basis.maps current after (strip_carriage_return s.rest) said answers) in
+    let whole : (text ++ out0) ++ said ≡ text ++ out1 = append_assoc text out0 said ∙ ap (λ (q : List ℕ). text ++ q) (sym more_out) in
     record {
       raws = s.raws ++ s.rest ∷ [];
       rest = [];
       cut = cut_end taken s.raws s.rest s.cut;
-      printed = subst (λ (q : List ℕ). Printed basis (lines_of (s.raws ++ s.rest ∷ [])) q) whole (subst (λ (ls : List (List ℕ)). Printed basis ls ((text ++ out0) ++ a.0)) (sym more) printed);
+      printed = subst (λ (q : List ℕ). Printed basis.maps basis.config (lines_of (s.raws ++ s.rest ∷ [])) q after) whole
+          (subst (λ (ls : List (List ℕ)). Printed basis.maps basis.config ls ((text ++ out0) ++ said) after) (sym more) printed);
       on = ap (list_any is_quit) more ∙ none_joined is_quit (lines_of s.raws) (strip_carriage_return s.rest ∷ []) s.on (or_false (is_quit (strip_carriage_return s.rest)) false other refl);
       keeps = keeps;
     }
 
-pub stands_quit : (basis : Basis) (taken text : List ℕ) (old : Partial) (more : List ℕ) → Stands basis taken old text → ((rest : List ℕ) → Keeps old rest → true ≡ is_quit (strip_carriage_return rest))
-    → Quits basis ((taken ++ 10 ∷ []) ++ more) text
-stands_quit basis taken text old more s quit =
-    let yes : is_quit (strip_carriage_return s.rest) ≡ true = sym (quit s.rest s.keeps) in
+pub stands_quit : (basis : Basis) (current after : Config) (taken text : List ℕ) (old : Partial) (more : List ℕ) → Stands basis current taken old text
+    → ((rest : List ℕ) → Keeps old rest → Answers basis.maps current (strip_carriage_return rest) Quit after) → Quits basis ((taken ++ 10 ∷ []) ++ more) text
+stands_quit basis current after taken text old more s answer =
     let q : List ℕ = strip_carriage_return s.rest in
+    let yes : is_quit q ≡ true = (quit_off basis.maps current after q (answer s.rest s.keeps)).0 in
     let raws : List (List ℕ) = s.raws ++ s.rest ∷ [] in
     let cut = cut_end taken s.raws s.rest s.cut in
     let flat : (taken ++ 10 ∷ []) ++ more ≡ flat_map with_end raws ++ more = ap (λ (x : List ℕ). x ++ more) (cut.whole ∙ append-nil (flat_map with_end raws)) in
     let ls : lines_of raws ≡ lines_of s.raws ++ q ∷ [] = map-append strip_carriage_return s.raws (s.rest ∷ []) in
     let lines : physical_lines ((taken ++ 10 ∷ []) ++ more) ≡ lines_of s.raws ++ (q ∷ physical_lines more) =
     ap physical_lines flat ∙ lines_cut raws more cut.each ∙ ap (λ (x : List (List ℕ)). x ++ physical_lines more) ls ∙ append_assoc (lines_of s.raws) (q ∷ []) (physical_lines more) in
-    let printed : Printed basis (lines_of s.raws ++ (q ∷ physical_lines more)) (text ++ []) =
-    printed_more basis (lines_of s.raws) (q ∷ physical_lines more) text [] s.printed s.on (yes_match (is_quit q) _ _ yes refl) in
+    let printed : Printed basis.maps basis.config (lines_of s.raws ++ (q ∷ physical_lines more)) (text ++ []) current =
+    printed_more basis.maps (lines_of s.raws) (q ∷ physical_lines more) basis.config current current text [] s.printed s.on (printed_quit basis.maps current q (physical_lines more) yes) in
     let before : ended_lines ((taken ++ 10 ∷ []) ++ more) ≡ lines_of s.raws ++ (q ∷ ended_lines more) =
     ap ended_lines flat ∙ ended_lines_cut raws more cut.each ∙ ap (λ (x : List (List ℕ)). x ++ ended_lines more) ls ∙ append_assoc (lines_of s.raws) (q ∷ []) (ended_lines more) in
-    let printed_ended : Printed basis (lines_of s.raws ++ (q ∷ ended_lines more)) (text ++ []) =
-    printed_more basis (lines_of s.raws) (q ∷ ended_lines more) text [] s.printed s.on (yes_match (is_quit q) _ _ yes refl) in
+    let printed_ended : Printed basis.maps basis.config (lines_of s.raws ++ (q ∷ ended_lines more)) (text ++ []) current =
+    printed_more basis.maps (lines_of s.raws) (q ∷ ended_lines more) basis.config current current text [] s.printed s.on (printed_quit basis.maps current q (ended_lines more) yes) in
     let here : list_any is_quit (lines_of raws) ≡ true =
     ap (list_any is_quit) ls ∙ list_any-append is_quit (lines_of s.raws) (q ∷ []) ∙ or_right (list_any is_quit (lines_of s.raws)) (is_quit q || false) (or_left (is_quit q) false yes) in
     record {
-      printed = subst (λ (t : List ℕ). Printed basis (physical_lines ((taken ++ 10 ∷ []) ++ more)) t) (append-nil text) (subst (λ (x : List (List ℕ)). Printed basis x (text ++ [])) (sym lines) printed);
-      among = subst (λ (t : List ℕ). Printed basis (ended_lines ((taken ++ 10 ∷ []) ++ more)) t) (append-nil text) (subst (λ (x : List (List ℕ)). Printed basis x (text ++ [])) (sym before) printed_ended);
+      last = current;
+      printed = subst (λ (t : List ℕ). Printed basis.maps basis.config (physical_lines ((taken ++ 10 ∷ []) ++ more)) t current) (append-nil text)
+          (subst (λ (x : List (List ℕ)). Printed basis.maps basis.config x (text ++ []) current) (sym lines) printed);
+      among = subst (λ (t : List ℕ). Printed basis.maps basis.config (ended_lines ((taken ++ 10 ∷ []) ++ more)) t current) (append-nil text)
+          (subst (λ (x : List (List ℕ)). Printed basis.maps basis.config x (text ++ []) current) (sym before) printed_ended);
       quit = ap (list_any is_quit) (ap ended_lines flat ∙ ended_lines_cut raws more cut.each) ∙ list_any-append is_quit (lines_of raws) (ended_lines more) ∙ or_left (list_any is_quit (lines_of raws)) (list_any is_quit (ended_lines more)) here;
     }
 
 -- the ended lines of what was taken
-stands_lines : (basis : Basis) (taken text : List ℕ) (partial : Partial) → (s : Stands basis taken partial text) → ended_lines taken ≡ lines_of s.raws
-stands_lines basis taken text partial s =
+stands_lines : (basis : Basis) (current : Config) (taken text : List ℕ) (partial : Partial) → (s : Stands basis current taken partial text) → ended_lines taken ≡ lines_of s.raws
+stands_lines basis current taken text partial s =
     ap ended_lines s.cut.whole ∙ ended_lines_cut s.raws s.rest s.cut.each ∙ ap (λ (q : List ℕ). lines_of s.raws ++ physical_lines q) (ended_none s.rest s.cut.last) ∙ append-nil (lines_of s.raws)
 
-pub stands_printed : (basis : Basis) (taken text : List ℕ) (partial : Partial) → Stands basis taken partial text → Printed basis (ended_lines taken) text
-stands_printed basis taken text partial s = subst (λ (ls : List (List ℕ)). Printed basis ls text) (sym (stands_lines basis taken text partial s)) s.printed
+pub stands_printed : (basis : Basis) (current : Config) (taken text : List ℕ) (partial : Partial) → Stands basis current taken partial text → Printed basis.maps basis.config (ended_lines taken) text current
+stands_printed basis current taken text partial s = subst (λ (ls : List (List ℕ)). Printed basis.maps basis.config ls text current) (sym (stands_lines basis current taken text partial s)) s.printed
 
-pub stands_on : (basis : Basis) (taken text : List ℕ) (partial : Partial) → Stands basis taken partial text → holds_quit taken ≡ false
-stands_on basis taken text partial s = ap (list_any is_quit) (stands_lines basis taken text partial s) ∙ s.on
+pub stands_on : (basis : Basis) (current : Config) (taken text : List ℕ) (partial : Partial) → Stands basis current taken partial text → holds_quit taken ≡ false
+stands_on basis current taken text partial s = ap (list_any is_quit) (stands_lines basis current taken text partial s) ∙ s.on
 
 -- the lines that are answered stand in front, whatever comes behind
-pub stands_front : (basis : Basis) (taken text : List ℕ) (partial : Partial) (more : List ℕ) → (s : Stands basis taken partial text) → ended_lines (taken ++ more) ≡ lines_of s.raws ++ ended_lines (s.rest ++ more)
-stands_front basis taken text partial more s =
+pub stands_front : (basis : Basis) (current : Config) (taken text : List ℕ) (partial : Partial) (more : List ℕ) → (s : Stands basis current taken partial text) → ended_lines (taken ++ more) ≡ lines_of s.raws ++ ended_lines (s.rest ++ more)
+stands_front basis current taken text partial more s =
     ap (λ (q : List ℕ). ended_lines (q ++ more)) s.cut.whole ∙ ap ended_lines (append_assoc (flat_map with_end s.raws) s.rest more) ∙ ended_lines_cut s.raws (s.rest ++ more) s.cut.each
 
--- the last line
-last_printed : (basis : Basis) (rest a : List ℕ) → has_end rest ≡ false → AnswersLast basis rest a → Printed basis (physical_lines rest) a
-last_printed basis [] a none h = h
-last_printed basis (b ∷ bs) a none h = subst (λ (ls : List (List ℕ)). Printed basis ls a) (sym (line_last b bs none)) (by (is_quit (b ∷ bs)) h) where
-  by : (quit : Bool) → MatchBool quit (a ≡ []) (Answers basis (b ∷ bs) a) → MatchBool quit (a ≡ []) ((first : List ℕ) × (rest : List ℕ) × Answers basis (b ∷ bs) first × (rest ≡ []) × (a ≡ first ++ rest))
-  by true k = k
-  by false k = (a, [], k, refl, sym (append-nil a))
+-- the text of a reply
+abbrev pub text_of : Reply → List ℕ
+text_of (Lines text) = text
+text_of Quit = []
 
-pub stands_last : (basis : Basis) (taken text a : List ℕ) (partial : Partial) → (s : Stands basis taken partial text) → AnswersLast basis s.rest a → Printed basis (physical_lines taken) (text ++ a)
-stands_last basis taken text a partial s h =
+-- the last line
+last_by : (maps : Loaded) (config after : Config) (line : List ℕ) (reply : Reply) → Answers maps config line reply after → Printed maps config (line ∷ []) (text_of reply) after
+last_by maps config after line (Lines a) h = printed_one maps config after line a h
+last_by maps config after line Quit h =
+    let quit = quit_off maps config after line h in
+    subst (λ (c : Config). Printed maps config (line ∷ []) [] c) (sym quit.1) (printed_quit maps config line [] quit.0)
+
+same_lines : (one another : List ℕ) → Lines one ≡ Lines another → one ≡ another
+same_lines one another e = cc e
+
+-- the input's end is no line
+none_by : (maps : Loaded) (config after : Config) (reply : Reply) → Answers maps config [] reply after → Printed maps config [] (text_of reply) after
+none_by maps config after (Lines a) h = (same_lines a h.0 h.2 ∙ h.1, h.3)
+none_by maps config after Quit h = absurd (cc (h.2))
+
+last_printed : (maps : Loaded) (config after : Config) (rest : List ℕ) (reply : Reply) → has_end rest ≡ false → Answers maps config rest reply after → Printed maps config (physical_lines rest) (text_of reply) after
+last_printed maps config after [] reply none h = none_by maps config after reply h
+last_printed maps config after (b ∷ bs) reply none h = subst (λ (ls : List (List ℕ)). Printed maps config ls (text_of reply) after) (sym (line_last b bs none)) (last_by maps config after (b ∷ bs) reply h)
+
+pub stands_last : (basis : Basis) (current after : Config) (taken text : List ℕ) (reply : Reply) (partial : Partial) → (s : Stands basis current taken partial text) → Answers basis.maps current s.rest reply after
+    → Printed basis.maps basis.config (physical_lines taken) (text ++ text_of reply) after
+stands_last basis current after taken text reply partial s h =
     let lines : physical_lines taken ≡ lines_of s.raws ++ physical_lines s.rest = ap physical_lines s.cut.whole ∙ lines_cut s.raws s.rest s.cut.each in
-    subst (λ (ls : List (List ℕ)). Printed basis ls (text ++ a)) (sym lines)
-    (printed_more basis (lines_of s.raws) (physical_lines s.rest) text a s.printed s.on (last_printed basis s.rest a s.cut.last h))
+    subst (λ (ls : List (List ℕ)). Printed basis.maps basis.config ls (text ++ text_of reply) after) (sym lines)
+    (printed_more basis.maps (lines_of s.raws) (physical_lines s.rest) basis.config current after text (text_of reply) s.printed s.on (last_printed basis.maps current after s.rest reply s.cut.last h))
 
 -- ---- the first LF
 
@@ -243,33 +301,33 @@ cut_at text k found =
 regroup4 : (a b c d : List ℕ) → ((a ++ b) ++ c) ++ d ≡ a ++ (b ++ (c ++ d))
 regroup4 a b c d = simp append_assoc
 
-pub line_step : (basis : Basis) (bytes taken text front rest x after out0 out1 : List ℕ) (p0 p1 p2 : Partial) → bytes ≡ front ++ rest → Stands basis (taken ++ front) p0 (text ++ out0)
-    → has_end x ≡ false → rest ≡ (x ++ 10 ∷ []) ++ after → ((r : List ℕ) → Keeps p0 r → Keeps p1 (r ++ x)) → ((r : List ℕ) → Keeps p1 r → false ≡ is_quit (strip_carriage_return r))
-    → ((r : List ℕ) → Keeps p1 r → (a : List ℕ) × Answers basis (strip_carriage_return r) a × (out1 ≡ out0 ++ a)) → Keeps p2 []
-    → (more : List ℕ) × (bytes ≡ more ++ after) × Stands basis (taken ++ more) p2 (text ++ out1)
-line_step basis bytes taken text front rest x after out0 out1 p0 p1 p2 whole stands none split keeps quit answer fresh =
-    let tail = stands_tail basis (taken ++ front) x (text ++ out0) p0 p1 stands none keeps in
-    let line = stands_line basis ((taken ++ front) ++ x) text out0 out1 p1 p2 tail quit answer fresh in (
+pub line_step : (basis : Basis) (middle after : Config) (bytes taken text front rest x behind out0 out1 said : List ℕ) (reply : Reply) (p0 p1 p2 : Partial) → bytes ≡ front ++ rest → Stands basis middle (taken ++ front) p0 (text ++ out0)
+    → has_end x ≡ false → rest ≡ (x ++ 10 ∷ []) ++ behind → ((r : List ℕ) → Keeps p0 r → Keeps p1 (r ++ x))
+    → ((r : List ℕ) → Keeps p1 r → Answers basis.maps middle (strip_carriage_return r) reply after) → reply ≡ Lines said → out1 ≡ out0 ++ said → Keeps p2 []
+    → (more : List ℕ) × (bytes ≡ more ++ behind) × Stands basis after (taken ++ more) p2 (text ++ out1)
+line_step basis middle after bytes taken text front rest x behind out0 out1 said reply p0 p1 p2 whole stands none split keeps answer is more fresh =
+    let tail = stands_tail basis middle (taken ++ front) x (text ++ out0) p0 p1 stands none keeps in
+    let line = stands_line basis middle after ((taken ++ front) ++ x) text out0 out1 said p1 p2 tail (λ r k. subst (λ (a : Reply). Answers basis.maps middle (strip_carriage_return r) a after) is (answer r k)) more fresh in (
       front ++ (x ++ 10 ∷ []),
-      whole ∙ ap (λ (q : List ℕ). front ++ q) split ∙ sym (append_assoc front (x ++ 10 ∷ []) after),
-      subst (λ (t : List ℕ). Stands basis t p2 (text ++ out1)) (regroup4 taken front x (10 ∷ [])) line,
+      whole ∙ ap (λ (q : List ℕ). front ++ q) split ∙ sym (append_assoc front (x ++ 10 ∷ []) behind),
+      subst (λ (t : List ℕ). Stands basis after t p2 (text ++ out1)) (regroup4 taken front x (10 ∷ [])) line,
     )
 
-pub quit_step : (basis : Basis) (bytes taken text front rest x after out : List ℕ) (p0 p1 : Partial) → bytes ≡ front ++ rest → Stands basis (taken ++ front) p0 (text ++ out)
-    → has_end x ≡ false → rest ≡ (x ++ 10 ∷ []) ++ after → ((r : List ℕ) → Keeps p0 r → Keeps p1 (r ++ x)) → ((r : List ℕ) → Keeps p1 r → true ≡ is_quit (strip_carriage_return r))
-    → Quits basis (taken ++ bytes) (text ++ out)
-quit_step basis bytes taken text front rest x after out p0 p1 whole stands none split keeps quit =
-    let tail = stands_tail basis (taken ++ front) x (text ++ out) p0 p1 stands none keeps in
-    let quits = stands_quit basis ((taken ++ front) ++ x) (text ++ out) p1 after tail quit in
-    let all : taken ++ bytes ≡ (((taken ++ front) ++ x) ++ 10 ∷ []) ++ after =
-    ap (λ (q : List ℕ). taken ++ q) (whole ∙ ap (λ (q : List ℕ). front ++ q) split) ∙ sym (ap (λ (q : List ℕ). q ++ after) (regroup4 taken front x (10 ∷ [])) ∙ append_assoc taken (front ++ (x ++ 10 ∷ [])) after ∙ ap (λ (q : List ℕ). taken ++ q) (append_assoc front (x ++ 10 ∷ []) after)) in
+pub quit_step : (basis : Basis) (middle after : Config) (bytes taken text front rest x behind out : List ℕ) (reply : Reply) (p0 p1 : Partial) → bytes ≡ front ++ rest → Stands basis middle (taken ++ front) p0 (text ++ out)
+    → has_end x ≡ false → rest ≡ (x ++ 10 ∷ []) ++ behind → ((r : List ℕ) → Keeps p0 r → Keeps p1 (r ++ x))
+    → ((r : List ℕ) → Keeps p1 r → Answers basis.maps middle (strip_carriage_return r) reply after) → reply ≡ Quit → Quits basis (taken ++ bytes) (text ++ out)
+quit_step basis middle after bytes taken text front rest x behind out reply p0 p1 whole stands none split keeps answer is =
+    let tail = stands_tail basis middle (taken ++ front) x (text ++ out) p0 p1 stands none keeps in
+    let quits = stands_quit basis middle after ((taken ++ front) ++ x) (text ++ out) p1 behind tail (λ r k. subst (λ (a : Reply). Answers basis.maps middle (strip_carriage_return r) a after) is (answer r k)) in
+    let all : taken ++ bytes ≡ (((taken ++ front) ++ x) ++ 10 ∷ []) ++ behind =
+    ap (λ (q : List ℕ). taken ++ q) (whole ∙ ap (λ (q : List ℕ). front ++ q) split) ∙ sym (ap (λ (q : List ℕ). q ++ behind) (regroup4 taken front x (10 ∷ [])) ∙ append_assoc taken (front ++ (x ++ 10 ∷ [])) behind ∙ ap (λ (q : List ℕ). taken ++ q) (append_assoc front (x ++ 10 ∷ []) behind)) in
     subst (λ (t : List ℕ). Quits basis t (text ++ out)) (sym all) quits
 
-pub tail_step : (basis : Basis) (bytes taken text front rest out : List ℕ) (p0 p1 : Partial) → bytes ≡ front ++ rest → Stands basis (taken ++ front) p0 (text ++ out)
-    → has_end rest ≡ false → ((r : List ℕ) → Keeps p0 r → Keeps p1 (r ++ rest)) → Stands basis (taken ++ bytes) p1 (text ++ out)
-tail_step basis bytes taken text front rest out p0 p1 whole stands none keeps =
-    subst (λ (t : List ℕ). Stands basis t p1 (text ++ out)) (append_assoc taken front rest ∙ ap (λ (q : List ℕ). taken ++ q) (sym whole))
-    (stands_tail basis (taken ++ front) rest (text ++ out) p0 p1 stands none keeps)
+pub tail_step : (basis : Basis) (current : Config) (bytes taken text front rest out : List ℕ) (p0 p1 : Partial) → bytes ≡ front ++ rest → Stands basis current (taken ++ front) p0 (text ++ out)
+    → has_end rest ≡ false → ((r : List ℕ) → Keeps p0 r → Keeps p1 (r ++ rest)) → Stands basis current (taken ++ bytes) p1 (text ++ out)
+tail_step basis current bytes taken text front rest out p0 p1 whole stands none keeps =
+    subst (λ (t : List ℕ). Stands basis current t p1 (text ++ out)) (append_assoc taken front rest ∙ ap (λ (q : List ℕ). taken ++ q) (sym whole))
+    (stands_tail basis current (taken ++ front) rest (text ++ out) p0 p1 stands none keeps)
 
 pub shorter : (rest x after : List ℕ) → rest ≡ (x ++ 10 ∷ []) ++ after → length after < length rest
 shorter rest x after e = omega (arith, ap length e, length-append (x ++ 10 ∷ []) after, length-append x (10 ∷ []))

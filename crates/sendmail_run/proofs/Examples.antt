@@ -1,17 +1,9 @@
 -- Worked examples of the definitions.
-use Rattle.std.specs.Prelude.{◌≡◌, [], ◌∷◌, codes, refl}
+use Rattle.std.specs.Prelude.{[], ◌∷◌, codes, refl}
 use Rattle.std.proofs.Common.{inl, inr}
-use Rattle.mail_base.specs.Configs.{initial}
-use Rattle.mail_base.specs.declared.token.Token.TheVariants.{Word, Op}
 use Rattle.sendmail_run.specs.declared.command_line.Job.TheVariants.{Test, Session}
-use Rattle.sendmail_run.specs.Tokens.{tokens_of}
 use Rattle.sendmail_run.specs.CommandLines.{Does, Joined, Apart, IsCommandLine, IsRefusedAt}
 use Rattle.sendmail_run.proofs.CommandLemmas.{is_refused}
-
--- ---- tokens
-
-an_address : tokens_of initial.options.operator_chars (codes "eric@ UCB.arpa") ≡ Word (codes "eric") ∷ Op 64 ∷ Word (codes "UCB") ∷ Op 46 ∷ Word (codes "arpa") ∷ []
-an_address = refl
 
 -- ---- command lines
 

@@ -1,6 +1,6 @@
 -- What is kept of a line whose end hasn't come.
 use Rattle.std.proofs.Common.{◌≡◌, ℕ, suc, ◌+◌, ◌-◌, ◌<◌, ◌≤◌, List, [], ◌∷◌, ◌++◌, length, take, Bool, true, false, cond, refl, sym, ◌∙◌, ap, subst, arith, append-nil, length-append, eqb}
-use Rattle.std.specs.Prelude.{Result, Ok, Err, OnOk, codes, ltb}
+use Rattle.std.specs.Prelude.{Result, Ok, Err, IfOk, OnOk, codes, ltb}
 use Rattle.std.proofs.lemmas.Slice.Eq.{bytes_eq-Decides}
 use Rattle.mail_base.specs.Limits.{most_line}
 use Rattle.mail_base.specs.declared.fault.NoMemory.{NoMemory}
@@ -9,8 +9,14 @@ use Rattle.std.specs.Str.Lines.{strip_carriage_return}
 use Rattle.std.proofs.lemmas.Bool.{false_from_ne_true, cond-true, cond-false, cond_both, ltb-true, lt-ltb}
 use Rattle.std.proofs.lemmas.List.{take_all, take-append-le, length-take-le}
 use Rattle.std.proofs.Math.Seq.{take-append-add}
-use Rattle.sendmail_run.specs.Printing.{Basis, Answers, AnswersForm, Form, Quiet, TooLong, is_quit, line_of}
-use Rattle.sendmail_run.specs.inner.Taking.{most_kept, cut_text, AnswersLast, Keeps}
+use Rattle.addr_test.specs.declared.answers.Reply.{Reply}
+use Rattle.addr_test.specs.declared.answers.Reply.TheVariants.{Lines, Quit}
+use Rattle.addr_test.specs.Answers.{Answers, Says, config_after}
+use Rattle.addr_test.specs.Forms.{Form, Quiet, TooLong, form_of, is_quit}
+use Rattle.addr_test.specs.Texts.{line_of}
+use Rattle.mail_base.specs.declared.config.Config.{Config}
+use Rattle.map_tables.specs.Answers.{Loaded}
+use Rattle.sendmail_run.specs.inner.Taking.{most_kept, cut_text, Keeps}
 use Rattle.sendmail_run.proofs.EndedLemmas.{no_match}
 
 not_below : (m n : ℕ) → n ≤ m → ltb m n ≡ false
@@ -85,23 +91,21 @@ strip_begins b c bs =
     (λ e. (take (length bs) (c ∷ bs), ap (λ (k : ℕ). take k (b ∷ c ∷ bs)) n, omega (arith, length-take-le (length bs) (c ∷ bs) (omega arith))))
     (λ e. (c ∷ bs, refl, omega arith))
 
-cut_begins : (basis : Basis) (b : ℕ) (tail text : List ℕ) → most_line < length (b ∷ tail) → text ≡ cond (eqb b 35) [] (line_of (codes "line too long")) → Answers basis (b ∷ tail) text
-cut_begins basis b tail text long is = by (eqb b 35) refl where
-  by : (q : Bool) → eqb b 35 ≡ q → Answers basis (b ∷ tail) text
-  by true e = subst (λ (f : Form). AnswersForm f basis (b ∷ tail) text) (sym (cond-true (eqb b 35) Quiet _ e)) (is ∙ cond-true (eqb b 35) [] _ e)
-  by false e = subst (λ (f : Form). AnswersForm f basis (b ∷ tail) text) (sym (cond-false (eqb b 35) Quiet _ e ∙ cond-true (ltb most_line (length (b ∷ tail))) TooLong _ (lt-ltb most_line (length (b ∷ tail)) long))) (is ∙ cond-false (eqb b 35) [] _ e)
+-- a line of a form that prints a text and changes nothing
+says : (maps : Loaded) (config : Config) (line text : List ℕ) (form : Form) → is_quit line ≡ false → form_of line ≡ form → Says maps config form text → config_after config form ≡ config → Answers maps config line (Lines text) config
+says maps config line text form other is said same =
+    no_match (is_quit line) ((Lines text ≡ Quit) × (config ≡ config)) _ other
+    (text, subst (λ (f : Form). Says maps config f text) (sym is) said, refl, sym (ap (config_after config) is ∙ same))
+
+cut_begins : (maps : Loaded) (config : Config) (b : ℕ) (tail text : List ℕ) → is_quit (b ∷ tail) ≡ false → most_line < length (b ∷ tail) → text ≡ cond (eqb b 35) [] (line_of (codes "line too long")) → Answers maps config (b ∷ tail) (Lines text) config
+cut_begins maps config b tail text other long is = by (eqb b 35) refl where
+  by : (q : Bool) → eqb b 35 ≡ q → Answers maps config (b ∷ tail) (Lines text) config
+  by true e = says maps config (b ∷ tail) text Quiet other (cond-true (eqb b 35) Quiet _ e) (is ∙ cond-true (eqb b 35) [] _ e) refl
+  by false e = says maps config (b ∷ tail) text TooLong other (cond-false (eqb b 35) Quiet _ e ∙ cond-true (ltb most_line (length (b ∷ tail))) TooLong _ (lt-ltb most_line (length (b ∷ tail)) long)) (is ∙ cond-false (eqb b 35) [] _ e) refl
 
 front_text : (b : ℕ) (tail front : List ℕ) → front ≡ take most_kept (b ∷ tail) → cut_text front ≡ cond (eqb b 35) [] (line_of (codes "line too long"))
 unfolding most_kept most_line
 front_text b tail front is = ap cut_text is
-
-pub cut_answers : (basis : Basis) (rest front : List ℕ) → most_kept < length rest → front ≡ take most_kept rest → Answers basis (strip_carriage_return rest) (cut_text front)
-unfolding most_kept
-cut_answers basis [] front long is = absurd (omega arith)
-cut_answers basis (b ∷ []) front long is = absurd (omega arith)
-cut_answers basis (b ∷ c ∷ bs) front long is =
-    let s = strip_begins b c bs in
-    subst (λ (l : List ℕ). Answers basis l (cut_text front)) (sym s.1) (cut_begins basis b s.0 (cut_text front) (omega (arith, s.2)) (front_text b (c ∷ bs) front is))
 
 no_quit : (l : List ℕ) → 5 < length l → is_quit l ≡ false
 no_quit l long = false_from_ne_true (is_quit l) (λ e.
@@ -109,26 +113,45 @@ no_quit l long = false_from_ne_true (is_quit l) (λ e.
     let five : length (codes "/quit") ≡ 5 = refl in
     omega (arith, ap length same))
 
-pub cut_no_quit : (rest : List ℕ) → most_kept < length rest → is_quit (strip_carriage_return rest) ≡ false
+cut_answers : (maps : Loaded) (config : Config) (rest front : List ℕ) → most_kept < length rest → front ≡ take most_kept rest → Answers maps config (strip_carriage_return rest) (Lines (cut_text front)) config
 unfolding most_kept most_line
-cut_no_quit [] long = absurd (omega arith)
-cut_no_quit (b ∷ []) long = absurd (omega arith)
-cut_no_quit (b ∷ c ∷ bs) long =
+cut_answers maps config [] front long is = absurd (omega arith)
+cut_answers maps config (b ∷ []) front long is = absurd (omega arith)
+cut_answers maps config (b ∷ c ∷ bs) front long is =
     let s = strip_begins b c bs in
-    no_quit (strip_carriage_return (b ∷ c ∷ bs)) (omega (arith, ap length s.1, s.2))
+    subst (λ (l : List ℕ). Answers maps config l (Lines (cut_text front)) config) (sym s.1)
+    (cut_begins maps config b s.0 (cut_text front) (no_quit (b ∷ s.0) (omega (arith, s.2))) (omega (arith, s.2)) (front_text b (c ∷ bs) front is))
 
-pub cut_last : (basis : Basis) (rest front : List ℕ) → most_kept < length rest → front ≡ take most_kept rest → AnswersLast basis rest (cut_text front)
+cut_last : (maps : Loaded) (config : Config) (rest front : List ℕ) → most_kept < length rest → front ≡ take most_kept rest → Answers maps config rest (Lines (cut_text front)) config
 unfolding most_kept most_line
-cut_last basis [] front long is = absurd (omega arith)
-cut_last basis (b ∷ bs) front long is = no_match (is_quit (b ∷ bs)) _ _ (no_quit (b ∷ bs) (omega arith)) (cut_begins basis b bs (cut_text front) (omega arith) (front_text b bs front is))
+cut_last maps config [] front long is = absurd (omega arith)
+cut_last maps config (b ∷ bs) front long is = cut_begins maps config b bs (cut_text front) (no_quit (b ∷ bs) (omega arith)) (omega arith) (front_text b bs front is)
 
-pub answer_of_cut : (basis : Basis) (partial : Partial) (front old new : List ℕ) (r : Result (Unit {0}) NoMemory) → OnOk r (new ≡ old ++ cut_text front) → front ≡ partial.front → ((rest : List ℕ) → Keeps partial rest → most_kept < length rest)
-    → OnOk r ((rest : List ℕ) → Keeps partial rest → (text : List ℕ) × Answers basis (strip_carriage_return rest) text × (new ≡ old ++ text))
-answer_of_cut basis partial front old new r h f long = on_ok r _ _ (λ (e : new ≡ old ++ cut_text front). λ rest k. (cut_text front, cut_answers basis rest front (long rest k) (f ∙ k.front), e)) h
+if_ok : {T E : Type 0} (r : Result T E) (P Q : T → Type 0) → ((x : T) → P x → Q x) → IfOk r P → IfOk r Q
+if_ok (Ok x) P Q f h = f x h
+if_ok (Err e) P Q f h = h
 
-pub last_of_cut : (basis : Basis) (partial : Partial) (front old new : List ℕ) (r : Result (Unit {0}) NoMemory) → OnOk r (new ≡ old ++ cut_text front) → front ≡ partial.front → ((rest : List ℕ) → Keeps partial rest → most_kept < length rest)
-    → OnOk r ((rest : List ℕ) → Keeps partial rest → (text : List ℕ) × AnswersLast basis rest text × (new ≡ old ++ text))
-last_of_cut basis partial front old new r h f long = on_ok r _ _ (λ (e : new ≡ old ++ cut_text front). λ rest k. (cut_text front, cut_last basis rest front (long rest k) (f ∙ k.front), e)) h
+-- the answer to a line of which all is kept
+pub answer_of_whole : (maps : Loaded) (before after : Config) (partial : Partial) (kept line : List ℕ) (r : Result Reply NoMemory) → IfOk r (λ reply. Answers maps before line reply after) → line ≡ strip_carriage_return kept → ((rest : List ℕ) → Keeps partial rest → kept ≡ rest)
+    → IfOk r (λ reply. (rest : List ℕ) → Keeps partial rest → Answers maps before (strip_carriage_return rest) reply after)
+answer_of_whole maps before after partial kept line r h is all =
+    if_ok r _ _ (λ reply (a : Answers maps before line reply after). λ rest k. subst (λ (l : List ℕ). Answers maps before l reply after) (is ∙ ap strip_carriage_return (all rest k)) a) h
+
+pub last_of_whole : (maps : Loaded) (before after : Config) (partial : Partial) (line : List ℕ) (r : Result Reply NoMemory) → IfOk r (λ reply. Answers maps before line reply after) → ((rest : List ℕ) → Keeps partial rest → line ≡ rest)
+    → IfOk r (λ reply. (rest : List ℕ) → Keeps partial rest → Answers maps before rest reply after)
+last_of_whole maps before after partial line r h all =
+    if_ok r _ _ (λ reply (a : Answers maps before line reply after). λ rest k. subst (λ (l : List ℕ). Answers maps before l reply after) (all rest k) a) h
+
+-- the answer to a line of which a front is kept
+pub answer_of_cut : (maps : Loaded) (config : Config) (partial : Partial) (front : List ℕ) (r : Result Reply NoMemory) → IfOk r (λ reply. reply ≡ Lines (cut_text front)) → front ≡ partial.front → ((rest : List ℕ) → Keeps partial rest → most_kept < length rest)
+    → IfOk r (λ reply. (rest : List ℕ) → Keeps partial rest → Answers maps config (strip_carriage_return rest) reply config)
+answer_of_cut maps config partial front r h f long =
+    if_ok r _ _ (λ reply (e : reply ≡ Lines (cut_text front)). λ rest k. subst (λ (a : Reply). Answers maps config (strip_carriage_return rest) a config) (sym e) (cut_answers maps config rest front (long rest k) (f ∙ k.front))) h
+
+pub last_of_cut : (maps : Loaded) (config : Config) (partial : Partial) (front : List ℕ) (r : Result Reply NoMemory) → IfOk r (λ reply. reply ≡ Lines (cut_text front)) → front ≡ partial.front → ((rest : List ℕ) → Keeps partial rest → most_kept < length rest)
+    → IfOk r (λ reply. (rest : List ℕ) → Keeps partial rest → Answers maps config rest reply config)
+last_of_cut maps config partial front r h f long =
+    if_ok r _ _ (λ reply (e : reply ≡ Lines (cut_text front)). λ rest k. subst (λ (a : Reply). Answers maps config rest a config) (sym e) (cut_last maps config rest front (long rest k) (f ∙ k.front))) h
 
 -- ---- after a take
 

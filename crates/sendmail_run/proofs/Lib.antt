@@ -1,5 +1,4 @@
 mod CommandLemmas
-mod CuttingLemmas
 mod EndedLemmas
 mod Examples
 mod KeepLemmas
@@ -7,4 +6,3 @@ mod PrintingLemmas
 mod ProgramLemmas
 mod ServingLemmas
 mod TestLemmas
-mod TokenLemmas

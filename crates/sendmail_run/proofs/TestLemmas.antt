@@ -14,18 +14,23 @@ use Rattle.sendmail_run.specs.declared.input.Partial.{Partial}
 use Rattle.sendmail_run.specs.declared.outcome.Outcome.{Outcome}
 use Rattle.sendmail_run.specs.Devices.{Streams, streams}
 use Rattle.cf_reader.specs.LogicalLines.{physical_lines}
-use Rattle.sendmail_run.specs.Printing.{Basis, Printed, Prints, warnings_text}
+use Rattle.addr_test.specs.declared.answers.Reply.{Reply}
+use Rattle.addr_test.specs.declared.answers.Reply.TheVariants.{Lines, Quit}
+use Rattle.addr_test.specs.Answers.{Answers}
+use Rattle.addr_test.specs.Printing.{Printed}
+use Rattle.mail_base.specs.declared.config.Config.{Config}
+use Rattle.sendmail_run.specs.Printing.{Basis, Prints, warnings_text}
 use Rattle.sendmail_run.specs.Rises.{RisesOnlyAt}
-use Rattle.sendmail_run.specs.inner.Taking.{Keeps, Stands, Quits, At, Answered, AnswersLast, lines_of}
+use Rattle.sendmail_run.specs.inner.Taking.{Keeps, Stands, Quits, At, Answered, lines_of}
 use Rattle.sendmail_run.specs.Testing.{Tests, IsDone, IsCutOff, IsBroken, WritesFront, ended_lines}
-use Rattle.sendmail_run.proofs.EndedLemmas.{stands_none, stands_printed, stands_on, stands_front, stands_last}
+use Rattle.sendmail_run.proofs.EndedLemmas.{stands_none, stands_printed, stands_on, stands_front, stands_last, text_of}
 
 -- the warnings and then the answers are printed
 abbrev warned : Basis → List ℕ → List ℕ
 warned basis text = warnings_text basis.config.warnings ++ text
 
-prints : (basis : Basis) (lines : List (List ℕ)) (text : List ℕ) → Printed basis lines text → Prints basis lines (warned basis text)
-prints basis lines text printed = (text, printed, refl)
+prints : (basis : Basis) (lines : List (List ℕ)) (text : List ℕ) (last : Config) → Printed basis.maps basis.config lines text last → Prints basis lines (warned basis text)
+prints basis lines text last printed = (text, last, printed, refl)
 
 -- more is written behind the warnings
 gains_more : (basis : Basis) (a b c : Option (List ℕ)) (text answers : List ℕ) → Gains a b (warned basis text) → Gains b c answers → Gains a c (warned basis (text ++ answers))
@@ -35,7 +40,7 @@ part_more : (basis : Basis) (a b c : Option (List ℕ)) (text answers : List ℕ
 part_more basis a b c text answers h k = subst (λ (t : List ℕ). GainsPart a c t) (append_assoc (warnings_text basis.config.warnings) text answers) (part_join a b c (warned basis text) answers h k)
 
 -- before anything is taken, the warnings being written
-pub at_start : (basis : Basis) (i : SourceSeen) (o0 o1 : SinkSeen) (partial : Partial) (text : List ℕ) → text ≡ warnings_text basis.config.warnings → Gains o0.written o1.written text → o0.faults ≤ o1.faults → Keeps partial [] → At basis (streams i o0) (streams i o1) [] [] partial
+pub at_start : (basis : Basis) (i : SourceSeen) (o0 o1 : SinkSeen) (partial : Partial) (text : List ℕ) → text ≡ warnings_text basis.config.warnings → Gains o0.written o1.written text → o0.faults ≤ o1.faults → Keeps partial [] → At basis basis.config (streams i o0) (streams i o1) [] [] partial
 at_start basis i o0 o1 partial text is gains later keeps = record {
   few = omega arith;
   text = [];
@@ -52,7 +57,7 @@ broken_at_start basis i o0 o1 part = record {
   taken = [];
   few = omega arith;
   takes = loses_none i.left;
-  writes = record { first = []; later = []; lines = inl refl; text = warned basis []; printed = prints basis [] [] refl; written = part };
+  writes = record { first = []; later = []; lines = inl refl; text = warned basis []; printed = prints basis [] [] basis.config (refl, refl); written = part };
 }
 
 -- no memory before anything is taken
@@ -65,9 +70,9 @@ at_warning_fault basis i o0 o1 text is part rose =
     (broken_at_start basis i o0 o1 (subst (λ (t : List ℕ). GainsPart o0.written o1.written t) (is ∙ sym (append-nil (warnings_text basis.config.warnings))) part), rose)
 
 -- more is taken
-pub at_taken : (basis : Basis) (before : Streams) (i0 i1 : SourceSeen) (o : SinkSeen) (all taken bytes : List ℕ) (partial : Partial)
-    → At basis before (streams i0 o) all taken partial → Loses i0.left i1.left bytes → i0.faults ≤ i1.faults → length (all ++ bytes) ≤ 2 ^ 32 → At basis before (streams i1 o) (all ++ bytes) taken partial
-at_taken basis before i0 i1 o all taken bytes partial at loses later few = record {
+pub at_taken : (basis : Basis) (current : Config) (before : Streams) (i0 i1 : SourceSeen) (o : SinkSeen) (all taken bytes : List ℕ) (partial : Partial)
+    → At basis current before (streams i0 o) all taken partial → Loses i0.left i1.left bytes → i0.faults ≤ i1.faults → length (all ++ bytes) ≤ 2 ^ 32 → At basis current before (streams i1 o) (all ++ bytes) taken partial
+at_taken basis current before i0 i1 o all taken bytes partial at loses later few = record {
   few = few;
   text = at.text;
   takes = loses_join before.input.left i0.left i1.left all bytes at.takes loses;
@@ -78,138 +83,167 @@ at_taken basis before i0 i1 o all taken bytes partial at loses later few = recor
 }
 
 -- the ended lines are answered
-pub at_cut_off : (basis : Basis) (before : Streams) (i0 i1 : SourceSeen) (o : SinkSeen) (taken : List ℕ) (partial : Partial)
-    → At basis before (streams i0 o) taken taken partial → i1.left ≡ i0.left → IsCutOff basis before (streams i1 o) taken
-at_cut_off basis before i0 i1 o taken partial at same = record {
+pub at_cut_off : (basis : Basis) (current : Config) (before : Streams) (i0 i1 : SourceSeen) (o : SinkSeen) (taken : List ℕ) (partial : Partial)
+    → At basis current before (streams i0 o) taken taken partial → i1.left ≡ i0.left → IsCutOff basis before (streams i1 o) taken
+at_cut_off basis current before i0 i1 o taken partial at same = record {
   text = warned basis at.text;
   takes = subst (λ (left : Option (List ℕ)). Loses before.input.left left taken) (sym same) at.takes;
   writes = at.writes;
-  printed = prints basis (ended_lines taken) at.text (stands_printed basis taken at.text partial at.stands);
-  on = stands_on basis taken at.text partial at.stands;
+  printed = prints basis (ended_lines taken) at.text current (stands_printed basis current taken at.text partial at.stands);
+  on = stands_on basis current taken at.text partial at.stands;
 }
 
 -- no memory for the answers to a piece
-pub at_broken : (basis : Basis) (before : Streams) (i : SourceSeen) (o : SinkSeen) (taken more : List ℕ) (partial : Partial)
-    → At basis before (streams i o) (taken ++ more) taken partial → IsBroken basis before (streams i o)
-at_broken basis before i o taken more partial at = record {
+pub at_broken : (basis : Basis) (current : Config) (before : Streams) (i : SourceSeen) (o : SinkSeen) (taken more : List ℕ) (partial : Partial)
+    → At basis current before (streams i o) (taken ++ more) taken partial → IsBroken basis before (streams i o)
+at_broken basis current before i o taken more partial at = record {
   taken = taken ++ more;
   few = at.few;
   takes = at.takes;
   writes = record {
     first = lines_of at.stands.raws;
     later = ended_lines (at.stands.rest ++ more);
-    lines = inl (stands_front basis taken at.text partial more at.stands);
+    lines = inl (stands_front basis current taken at.text partial more at.stands);
     text = warned basis at.text;
-    printed = prints basis (lines_of at.stands.raws) at.text at.stands.printed;
+    printed = prints basis (lines_of at.stands.raws) at.text current at.stands.printed;
     written = part_whole before.output.written o.written (warned basis at.text) at.writes;
   };
 }
 
-pub at_broken_last : (basis : Basis) (before : Streams) (i : SourceSeen) (o : SinkSeen) (taken : List ℕ) (partial : Partial)
-    → At basis before (streams i o) taken taken partial → IsBroken basis before (streams i o)
-at_broken_last basis before i o taken partial at =
-    at_broken basis before i o taken [] partial (subst (λ (all : List ℕ). At basis before (streams i o) all taken partial) (sym (append-nil taken)) at)
+pub at_broken_last : (basis : Basis) (current : Config) (before : Streams) (i : SourceSeen) (o : SinkSeen) (taken : List ℕ) (partial : Partial)
+    → At basis current before (streams i o) taken taken partial → IsBroken basis before (streams i o)
+at_broken_last basis current before i o taken partial at =
+    at_broken basis current before i o taken [] partial (subst (λ (all : List ℕ). At basis current before (streams i o) all taken partial) (sym (append-nil taken)) at)
 
-front_of : (basis : Basis) (all : List ℕ) (before now : Streams) (partial : Partial) (whole : List ℕ) (quit : Bool) → Answered basis all partial whole quit → GainsPart before.output.written now.output.written (warned basis whole) → WritesFront basis all before now
-front_of basis all before now partial whole true quits part = record {
+front_of : (basis : Basis) (after : Config) (all : List ℕ) (before now : Streams) (partial : Partial) (whole : List ℕ) (quit : Bool) → Answered basis after all partial whole quit → GainsPart before.output.written now.output.written (warned basis whole) → WritesFront basis all before now
+front_of basis after all before now partial whole true quits part = record {
   first = ended_lines all;
   later = [];
   lines = inl (sym (append-nil (ended_lines all)));
   text = warned basis whole;
-  printed = prints basis (ended_lines all) whole quits.among;
+  printed = prints basis (ended_lines all) whole quits.last quits.among;
   written = part;
 }
-front_of basis all before now partial whole false stands part = record {
+front_of basis after all before now partial whole false stands part = record {
   first = ended_lines all;
   later = [];
   lines = inl (sym (append-nil (ended_lines all)));
   text = warned basis whole;
-  printed = prints basis (ended_lines all) whole (stands_printed basis all whole partial stands);
+  printed = prints basis (ended_lines all) whole after (stands_printed basis after all whole partial stands);
   written = part;
 }
 
 -- the answers to a piece broke off
-pub at_write_fault : (basis : Basis) (before : Streams) (i : SourceSeen) (o0 o1 : SinkSeen) (all taken : List ℕ) (old new : Partial) (answers : List ℕ) (quit : Bool)
-    → At basis before (streams i o0) all taken old → ((text : List ℕ) → Stands basis taken old text → Answered basis all new (text ++ answers) quit) → GainsPart o0.written o1.written answers → Rose o0.faults o1.faults → Tests basis before (streams i o1) ends.WriteFault
-at_write_fault basis before i o0 o1 all taken old new answers quit at answered part rose = (
+pub at_write_fault : (basis : Basis) (current after : Config) (before : Streams) (i : SourceSeen) (o0 o1 : SinkSeen) (all taken : List ℕ) (old new : Partial) (answers : List ℕ) (quit : Bool)
+    → At basis current before (streams i o0) all taken old → ((text : List ℕ) → Stands basis current taken old text → Answered basis after all new (text ++ answers) quit) → GainsPart o0.written o1.written answers → Rose o0.faults o1.faults → Tests basis before (streams i o1) ends.WriteFault
+at_write_fault basis current after before i o0 o1 all taken old new answers quit at answered part rose = (
   record {
     taken = all;
     few = at.few;
     takes = at.takes;
-    writes = front_of basis all before (streams i o1) new (at.text ++ answers) quit (answered at.text at.stands) (part_more basis before.output.written o0.written o1.written at.text answers at.writes part);
+    writes = front_of basis after all before (streams i o1) new (at.text ++ answers) quit (answered at.text at.stands) (part_more basis before.output.written o0.written o1.written at.text answers at.writes part);
   },
   rose_since before.output.faults o0.faults o1.faults at.output rose,
 )
 
 -- the line `/quit` came
-pub at_quit : (basis : Basis) (before : Streams) (i : SourceSeen) (o0 o1 : SinkSeen) (all taken : List ℕ) (old new : Partial) (answers : List ℕ) (quit : Bool)
-    → At basis before (streams i o0) all taken old → ((text : List ℕ) → Stands basis taken old text → Answered basis all new (text ++ answers) quit) → quit ≡ true → Gains o0.written o1.written answers → IsDone basis before (streams i o1)
-at_quit basis before i o0 o1 all taken old new answers quit at answered is gains =
-    let quits : Quits basis all (at.text ++ answers) = subst (λ (q : Bool). Answered basis all new (at.text ++ answers) q) is (answered at.text at.stands) in
-    record { taken = all; text = warned basis (at.text ++ answers); takes = at.takes; writes = gains_more basis before.output.written o0.written o1.written at.text answers at.writes gains; printed = prints basis (physical_lines all) (at.text ++ answers) quits.printed; over = inr (quits.quit, at.few) }
-
--- the piece was answered
-pub at_on : (basis : Basis) (before : Streams) (i : SourceSeen) (o0 o1 : SinkSeen) (all taken : List ℕ) (old new : Partial) (answers : List ℕ) (quit : Bool)
-    → At basis before (streams i o0) all taken old → ((text : List ℕ) → Stands basis taken old text → Answered basis all new (text ++ answers) quit) → quit ≡ false → Gains o0.written o1.written answers → o0.faults ≤ o1.faults → At basis before (streams i o1) all all new
-at_on basis before i o0 o1 all taken old new answers quit at answered is gains later =
-    let stands : Stands basis all new (at.text ++ answers) = subst (λ (q : Bool). Answered basis all new (at.text ++ answers) q) is (answered at.text at.stands) in
-    record { few = at.few; text = at.text ++ answers; takes = at.takes; writes = gains_more basis before.output.written o0.written o1.written at.text answers at.writes gains; stands = stands; input = at.input; output = omega (arith, at.output) }
-
--- the input came to its end
-pub at_end : (basis : Basis) (before : Streams) (i : SourceSeen) (o0 o1 : SinkSeen) (taken : List ℕ) (partial : Partial) (out : List ℕ) → IfSome i.left (λ left. left ≡ []) → length taken < 2 ^ 32
-    → At basis before (streams i o0) taken taken partial → ((rest : List ℕ) → Keeps partial rest → (a : List ℕ) × AnswersLast basis rest a × (out ≡ a)) → Gains o0.written o1.written out → IsDone basis before (streams i o1)
-at_end basis before i o0 o1 taken partial out over few at answer gains =
-    let a = answer at.stands.rest at.stands.keeps in
-    let last : AnswersLast basis at.stands.rest out = subst (λ (t : List ℕ). AnswersLast basis at.stands.rest t) (sym a.2) a.1 in
+pub at_quit : (basis : Basis) (current after : Config) (before : Streams) (i : SourceSeen) (o0 o1 : SinkSeen) (all taken : List ℕ) (old new : Partial) (answers : List ℕ) (quit : Bool)
+    → At basis current before (streams i o0) all taken old → ((text : List ℕ) → Stands basis current taken old text → Answered basis after all new (text ++ answers) quit) → quit ≡ true → Gains o0.written o1.written answers → IsDone basis before (streams i o1)
+at_quit basis current after before i o0 o1 all taken old new answers quit at answered is gains =
+    let quits : Quits basis all (at.text ++ answers) = subst (λ (q : Bool). Answered basis after all new (at.text ++ answers) q) is (answered at.text at.stands) in
     record {
-      taken = taken;
-      text = warned basis (at.text ++ out);
+      taken = all;
+      text = warned basis (at.text ++ answers);
       takes = at.takes;
-      writes = gains_more basis before.output.written o0.written o1.written at.text out at.writes gains;
-      printed = prints basis (physical_lines taken) (at.text ++ out) (stands_last basis taken at.text out partial at.stands last);
-      over = inl (over, few);
+      writes = gains_more basis before.output.written o0.written o1.written at.text answers at.writes gains;
+      printed = prints basis (physical_lines all) (at.text ++ answers) quits.last quits.printed;
+      over = inr (quits.quit, at.few);
     }
 
-pub at_end_fault : (basis : Basis) (before : Streams) (i : SourceSeen) (o0 o1 : SinkSeen) (taken : List ℕ) (partial : Partial) (out : List ℕ) → IfSome i.left (λ left. left ≡ [])
-    → At basis before (streams i o0) taken taken partial → ((rest : List ℕ) → Keeps partial rest → (a : List ℕ) × AnswersLast basis rest a × (out ≡ a)) → GainsPart o0.written o1.written out → Rose o0.faults o1.faults → Tests basis before (streams i o1) ends.WriteFault
-at_end_fault basis before i o0 o1 taken partial out over at answer part rose =
-    let a = answer at.stands.rest at.stands.keeps in
-    let last : AnswersLast basis at.stands.rest out = subst (λ (t : List ℕ). AnswersLast basis at.stands.rest t) (sym a.2) a.1 in (
-      record {
-        taken = taken;
-        few = at.few;
-        takes = at.takes;
-        writes = record {
-          first = physical_lines taken;
-          later = [];
-          lines = inr (over, sym (append-nil (physical_lines taken)));
-          text = warned basis (at.text ++ out);
-          printed = prints basis (physical_lines taken) (at.text ++ out) (stands_last basis taken at.text out partial at.stands last);
-          written = part_more basis before.output.written o0.written o1.written at.text out at.writes part;
-        };
-      },
-      rose_since before.output.faults o0.faults o1.faults at.output rose,
-    )
+-- the piece was answered
+pub at_on : (basis : Basis) (current after : Config) (before : Streams) (i : SourceSeen) (o0 o1 : SinkSeen) (all taken : List ℕ) (old new : Partial) (answers : List ℕ) (quit : Bool)
+    → At basis current before (streams i o0) all taken old → ((text : List ℕ) → Stands basis current taken old text → Answered basis after all new (text ++ answers) quit) → quit ≡ false → Gains o0.written o1.written answers → o0.faults ≤ o1.faults → At basis after before (streams i o1) all all new
+at_on basis current after before i o0 o1 all taken old new answers quit at answered is gains later =
+    let stands : Stands basis after all new (at.text ++ answers) = subst (λ (q : Bool). Answered basis after all new (at.text ++ answers) q) is (answered at.text at.stands) in
+    record {
+      few = at.few;
+      text = at.text ++ answers;
+      takes = at.takes;
+      writes = gains_more basis before.output.written o0.written o1.written at.text answers at.writes gains;
+      stands = stands;
+      input = at.input;
+      output = omega (arith, at.output);
+    }
 
-pub at_read_fault : (basis : Basis) (before : Streams) (i0 i1 : SourceSeen) (o : SinkSeen) (taken : List ℕ) (partial : Partial)
-    → At basis before (streams i0 o) taken taken partial → length taken < 2 ^ 32 → i1.left ≡ i0.left → Rose i0.faults i1.faults → Tests basis before (streams i1 o) ends.ReadFault
-at_read_fault basis before i0 i1 o taken partial at few same rose = record {
+-- all lines are printed with the reply to the last
+last_prints : (basis : Basis) (current after : Config) (before now : Streams) (taken : List ℕ) (partial : Partial) (reply : Reply) (out : List ℕ)
+    → (at : At basis current before now taken taken partial) → ((rest : List ℕ) → Keeps partial rest → Answers basis.maps current rest reply after) → text_of reply ≡ out → Prints basis (physical_lines taken) (warned basis (at.text ++ out))
+last_prints basis current after before now taken partial reply out at answer is =
+    prints basis (physical_lines taken) (at.text ++ out) after
+    (subst (λ (t : List ℕ). Printed basis.maps basis.config (physical_lines taken) (at.text ++ t) after) is (stands_last basis current after taken at.text reply partial at.stands (answer at.stands.rest at.stands.keeps)))
+
+-- the input came to its end
+pub at_end : (basis : Basis) (current after : Config) (before : Streams) (i : SourceSeen) (o0 o1 : SinkSeen) (taken : List ℕ) (partial : Partial) (reply : Reply) (out : List ℕ) → IfSome i.left (λ left. left ≡ []) → length taken < 2 ^ 32
+    → At basis current before (streams i o0) taken taken partial → ((rest : List ℕ) → Keeps partial rest → Answers basis.maps current rest reply after) → reply ≡ Lines out → Gains o0.written o1.written out → IsDone basis before (streams i o1)
+at_end basis current after before i o0 o1 taken partial reply out over few at answer is gains = record {
+  taken = taken;
+  text = warned basis (at.text ++ out);
+  takes = at.takes;
+  writes = gains_more basis before.output.written o0.written o1.written at.text out at.writes gains;
+  printed = last_prints basis current after before (streams i o0) taken partial reply out at answer (ap text_of is);
+  over = inl (over, few);
+}
+
+-- the input came to its end behind `/quit`
+pub at_end_quit : (basis : Basis) (current after : Config) (before : Streams) (i : SourceSeen) (o : SinkSeen) (taken : List ℕ) (partial : Partial) (reply : Reply) → IfSome i.left (λ left. left ≡ []) → length taken < 2 ^ 32
+    → At basis current before (streams i o) taken taken partial → ((rest : List ℕ) → Keeps partial rest → Answers basis.maps current rest reply after) → reply ≡ Quit → IsDone basis before (streams i o)
+at_end_quit basis current after before i o taken partial reply over few at answer is = record {
+  taken = taken;
+  text = warned basis (at.text ++ []);
+  takes = at.takes;
+  writes = subst (λ (t : List ℕ). Gains before.output.written o.written (warned basis t)) (sym (append-nil at.text)) at.writes;
+  printed = last_prints basis current after before (streams i o) taken partial reply [] at answer (ap text_of is);
+  over = inl (over, few);
+}
+
+pub at_end_fault : (basis : Basis) (current after : Config) (before : Streams) (i : SourceSeen) (o0 o1 : SinkSeen) (taken : List ℕ) (partial : Partial) (reply : Reply) (out : List ℕ) → IfSome i.left (λ left. left ≡ [])
+    → At basis current before (streams i o0) taken taken partial → ((rest : List ℕ) → Keeps partial rest → Answers basis.maps current rest reply after) → reply ≡ Lines out → GainsPart o0.written o1.written out → Rose o0.faults o1.faults → Tests basis before (streams i o1) ends.WriteFault
+at_end_fault basis current after before i o0 o1 taken partial reply out over at answer is part rose = (
+  record {
+    taken = taken;
+    few = at.few;
+    takes = at.takes;
+    writes = record {
+      first = physical_lines taken;
+      later = [];
+      lines = inr (over, sym (append-nil (physical_lines taken)));
+      text = warned basis (at.text ++ out);
+      printed = last_prints basis current after before (streams i o0) taken partial reply out at answer (ap text_of is);
+      written = part_more basis before.output.written o0.written o1.written at.text out at.writes part;
+    };
+  },
+  rose_since before.output.faults o0.faults o1.faults at.output rose,
+)
+
+pub at_read_fault : (basis : Basis) (current : Config) (before : Streams) (i0 i1 : SourceSeen) (o : SinkSeen) (taken : List ℕ) (partial : Partial)
+    → At basis current before (streams i0 o) taken taken partial → length taken < 2 ^ 32 → i1.left ≡ i0.left → Rose i0.faults i1.faults → Tests basis before (streams i1 o) ends.ReadFault
+at_read_fault basis current before i0 i1 o taken partial at few same rose = record {
   taken = taken;
   few = few;
-  cut = at_cut_off basis before i0 i1 o taken partial at same;
+  cut = at_cut_off basis current before i0 i1 o taken partial at same;
   rose = rose_since before.input.faults i0.faults i1.faults at.input rose;
 }
 
-pub at_large : (basis : Basis) (before : Streams) (i : SourceSeen) (o : SinkSeen) (taken : List ℕ) (partial : Partial)
-    → At basis before (streams i o) taken taken partial → length taken ≡ 4294967296 → Tests basis before (streams i o) ends.InputLarge
-at_large basis before i o taken partial at large = record { taken = taken; all = large; cut = at_cut_off basis before i i o taken partial at refl }
+pub at_large : (basis : Basis) (current : Config) (before : Streams) (i : SourceSeen) (o : SinkSeen) (taken : List ℕ) (partial : Partial)
+    → At basis current before (streams i o) taken taken partial → length taken ≡ 4294967296 → Tests basis before (streams i o) ends.InputLarge
+at_large basis current before i o taken partial at large = record { taken = taken; all = large; cut = at_cut_off basis current before i i o taken partial at refl }
 
 -- nothing comes at the end
-pub at_same : (basis : Basis) (before : Streams) (i0 i1 : SourceSeen) (o : SinkSeen) (taken bytes : List ℕ) (count : ℕ) (partial : Partial)
-    → At basis before (streams i0 o) taken taken partial → Loses i0.left i1.left (take count bytes) → count ≡ 0 → i0.faults ≤ i1.faults → At basis before (streams i1 o) taken taken partial
-at_same basis before i0 i1 o taken bytes count partial at loses none later =
+pub at_same : (basis : Basis) (current : Config) (before : Streams) (i0 i1 : SourceSeen) (o : SinkSeen) (taken bytes : List ℕ) (count : ℕ) (partial : Partial)
+    → At basis current before (streams i0 o) taken taken partial → Loses i0.left i1.left (take count bytes) → count ≡ 0 → i0.faults ≤ i1.faults → At basis current before (streams i1 o) taken taken partial
+at_same basis current before i0 i1 o taken bytes count partial at loses none later =
     let few : length (taken ++ []) ≤ 2 ^ 32 = subst (λ (all : List ℕ). length all ≤ 2 ^ 32) (sym (append-nil taken)) at.few in
-    subst (λ (all : List ℕ). At basis before (streams i1 o) all taken partial) (append-nil taken) (at_taken basis before i0 i1 o taken taken [] partial at (subst (λ (n : ℕ). Loses i0.left i1.left (take n bytes)) none loses) later few)
+    subst (λ (all : List ℕ). At basis current before (streams i1 o) all taken partial) (append-nil taken) (at_taken basis current before i0 i1 o taken taken [] partial at (subst (λ (n : ℕ). Loses i0.left i1.left (take n bytes)) none loses) later few)
 
 -- and nothing is left there
 pub left_none : (a b : Option (List ℕ)) (bytes : List ℕ) (count : ℕ) → Loses a b (take count bytes) → IfSome a (λ left. (count ≡ 0) ↔ (left ≡ [])) → count ≡ 0 → IfSome b (λ left. left ≡ [])

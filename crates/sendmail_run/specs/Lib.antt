@@ -1,4 +1,3 @@
-pub mod Tokens
 pub mod CommandLines
 pub mod Printing
 pub mod Devices

@@ -6,8 +6,9 @@ use Rattle.mail_edge.specs.Moves.{Loses, GainsPart}
 use Rattle.sendmail_run.specs.declared.address_test.TestEnd.{TestEnd}
 use Rattle.sendmail_run.specs.declared.address_test.TestEnd.TheVariants as ends
 use Rattle.sendmail_run.specs.Devices.{Streams}
+use Rattle.addr_test.specs.Forms.{is_quit}
 use Rattle.cf_reader.specs.LogicalLines.{physical_lines}
-use Rattle.sendmail_run.specs.Printing.{Basis, Prints, is_quit}
+use Rattle.sendmail_run.specs.Printing.{Basis, Prints}
 
 -- the front of a text up to and including its last LF (10)
 abbrev pub ended : List ℕ → List ℕ

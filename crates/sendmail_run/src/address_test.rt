@@ -13,6 +13,7 @@ ghost use Rattle.sendmail_run.specs.declared.outcome.Outcome.TheVariants.{ReadFa
 use crate::buffer::zeros;
 use crate::input::Partial;
 use crate::warning::warnings_of;
+use addr_test::Reply;
 use mail_base::{Config, Failed, MOST_PIECE, NoMemory, Seq, Text};
 use mail_edge::{Sink, Source};
 use map_tables::Maps;
@@ -37,15 +38,15 @@ pub enum TestEnd {
 }
 
 /// Gives the warnings of the configuration on the output, and then answers each line of input, up to
-/// the end of the input or the line `/quit`.
+/// the end of the input or the line `/quit`. A line may change the configuration for those behind it.
 pub fn address_test<I: Source, O: Sink>(
     alloc: Global,
-    config: &Config,
+    config: &mut Config,
     maps: &Maps,
     input: &mut I,
     output: &mut O,
 ) -> TestEnd
-    ensures tests { Tests (basis config.now maps.now) (streams (I.seen input.old) (O.seen output.old)) (streams (I.seen input.new) (O.seen output.new)) result }
+    ensures tests { Tests (basis config.old maps.now) (streams (I.seen input.old) (O.seen output.old)) (streams (I.seen input.new) (O.seen output.new)) result }
     ensures input { (I.seen input.old).faults ≤ (I.seen input.new).faults }
     ensures output { (O.seen output.old).faults ≤ (O.seen output.new).faults }
     ensures read { RisesOnlyAt ReadFault (of_test result) (I.seen input.old).faults (I.seen input.new).faults }
@@ -60,14 +61,14 @@ pub fn address_test<I: Source, O: Sink>(
 // Gives the warnings and answers each line, taking as many bytes at once as the buffer holds.
 fn answer_all<I: Source, O: Sink>(
     alloc: Global,
-    config: &Config,
+    config: &mut Config,
     maps: &Maps,
     input: &mut I,
     output: &mut O,
     buffer: &mut [u8],
 ) -> TestEnd
     requires buffer { 0 < length buffer.old }
-    ensures tests { Tests (basis config.now maps.now) (streams (I.seen input.old) (O.seen output.old)) (streams (I.seen input.new) (O.seen output.new)) result }
+    ensures tests { Tests (basis config.old maps.now) (streams (I.seen input.old) (O.seen output.old)) (streams (I.seen input.new) (O.seen output.new)) result }
     ensures input { (I.seen input.old).faults ≤ (I.seen input.new).faults }
     ensures output { (O.seen output.old).faults ≤ (O.seen output.new).faults }
     ensures read { RisesOnlyAt ReadFault (of_test result) (I.seen input.old).faults (I.seen input.new).faults }
@@ -123,13 +124,13 @@ enum Step {
 // Answers the lines that a piece of the input ends.
 fn answer_piece<O: Sink>(
     alloc: Global,
-    config: &Config,
+    config: &mut Config,
     maps: &Maps,
     partial: &mut Partial,
     bytes: &[u8],
     output: &mut O,
 ) -> Step
-    ensures went { (before : Streams) (input : SourceSeen) (taken : List ℕ) → At (basis config.now maps.now) before (streams input (O.seen output.old)) (taken ++ bytes.now) taken partial.old → Went (basis config.now maps.now) before (streams input (O.seen output.new)) (taken ++ bytes.now) partial.new result }
+    ensures went { (start : Config) (before : Streams) (input : SourceSeen) (taken : List ℕ) → At (basis start maps.now) config.old before (streams input (O.seen output.old)) (taken ++ bytes.now) taken partial.old → Went (basis start maps.now) config.new before (streams input (O.seen output.new)) (taken ++ bytes.now) partial.new result }
     ensures later { (O.seen output.old).faults ≤ (O.seen output.new).faults }
     ensures rises { RisesOnlyIn result (O.seen output.old).faults (O.seen output.new).faults }
 {
@@ -170,24 +171,28 @@ struct Answers {
 // Answers the lines that are ended, and keeps what came of the next.
 fn answer_lines(
     alloc: Global,
-    config: &Config,
+    config: &mut Config,
     maps: &Maps,
     partial: &mut Partial,
     bytes: &[u8],
 ) -> Result<Answers, NoMemory>
-    ensures { IfOk result (λ answers. (taken text : List ℕ) → Stands (basis config.now maps.now) taken partial.old text → Answered (basis config.now maps.now) (taken ++ bytes.now) partial.new (text ++ answers.text) answers.is_quit) }
+    ensures { IfOk result (λ answers. (start : Config) (taken text : List ℕ) → Stands (basis start maps.now) config.old taken partial.old text → Answered (basis start maps.now) config.new (taken ++ bytes.now) partial.new (text ++ answers.text) answers.is_quit) }
 {
     let mut text = Text::new(alloc);
     let mut rest = bytes;
     while let Some(parts) = split_end(rest) {
         partial.take(parts.0)?;
-        if partial.is_quit() {
-            return Ok(Answers {
-                text,
-                is_quit: true,
-            });
-        }
-        partial.answer(alloc, config, maps, &mut text)?;
+        let reply = partial.answer(alloc, config, maps)?;
+        let said = match reply {
+            Reply::Lines(said) => said,
+            Reply::Quit => {
+                return Ok(Answers {
+                    text,
+                    is_quit: true,
+                });
+            }
+        };
+        text.extend(said.bytes())?;
         partial.clear();
         rest = parts.1;
     }
@@ -211,18 +216,21 @@ fn split_end(text: &[u8]) -> Option<(&[u8], &[u8])>
 // Answers the last line, which the input's end ends.
 fn end<O: Sink>(
     alloc: Global,
-    config: &Config,
+    config: &mut Config,
     maps: &Maps,
     partial: &Partial,
     output: &mut O,
 ) -> TestEnd
-    ensures tests { (before : Streams) (input : SourceSeen) (taken : List ℕ) → IfSome input.left (λ left. left ≡ []) → length taken < 2 ^ 32 → At (basis config.now maps.now) before (streams input (O.seen output.old)) taken taken partial.now → Tests (basis config.now maps.now) before (streams input (O.seen output.new)) result }
+    ensures tests { (start : Config) (before : Streams) (input : SourceSeen) (taken : List ℕ) → IfSome input.left (λ left. left ≡ []) → length taken < 2 ^ 32 → At (basis start maps.now) config.old before (streams input (O.seen output.old)) taken taken partial.now → Tests (basis start maps.now) before (streams input (O.seen output.new)) result }
     ensures later { (O.seen output.old).faults ≤ (O.seen output.new).faults }
     ensures rises { RisesOnlyAt WriteFault (of_test result) (O.seen output.old).faults (O.seen output.new).faults }
 {
-    let mut text = Text::new(alloc);
-    let Ok(()) = partial.answer_last(alloc, config, maps, &mut text) else {
+    let Ok(reply) = partial.answer_last(alloc, config, maps) else {
         return TestEnd::NoMemory;
+    };
+    let text = match reply {
+        Reply::Lines(text) => text,
+        Reply::Quit => return TestEnd::Done,
     };
     match give(output, &text) {
         Ok(()) => TestEnd::Done,

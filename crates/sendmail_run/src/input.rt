@@ -1,10 +1,10 @@
-ghost use Rattle.std.specs.Prelude.{◌≡◌, ◌<◌, ◌++◌, MatchOption, List, [], ℕ, length, OnOk, OnErr, false};
+ghost use Rattle.std.specs.Prelude.{◌≡◌, ◌<◌, ◌++◌, MatchOption, List, [], ℕ, length, IfOk, OnOk, OnErr};
 ghost use Rattle.std.specs.Str.Lines.{strip_carriage_return};
-ghost use Rattle.sendmail_run.specs.Printing.{Answers, basis};
-ghost use Rattle.sendmail_run.specs.Printing as spec;
-ghost use Rattle.sendmail_run.specs.inner.Taking.{Keeps, AnswersLast, cut_text, most_kept};
+ghost use Rattle.addr_test.specs.Answers.{Answers};
+ghost use Rattle.addr_test.specs.declared.answers.Reply.TheVariants.{Lines};
+ghost use Rattle.sendmail_run.specs.inner.Taking.{Keeps, cut_text, most_kept};
 
-use crate::answers::answer;
+use addr_test::{Reply, answer};
 use mail_base::{Config, MOST_LINE, NoMemory, Text};
 use map_tables::Maps;
 use std::alloc::Global;
@@ -54,46 +54,28 @@ impl Partial {
         self.is_cut = false;
     }
 
-    /// Whether the line, which is ended now, is `/quit`.
-    pub fn is_quit(&self) -> bool
-        ensures { (rest : List ℕ) → Keeps self.now rest → result ≡ spec.is_quit (strip_carriage_return rest) }
+    /// Answers the line, which is ended now.
+    pub fn answer(&self, alloc: Global, config: &mut Config, maps: &Maps) -> Result<Reply, NoMemory>
+        ensures { IfOk result (λ reply. (rest : List ℕ) → Keeps self.now rest → Answers maps.now config.old (strip_carriage_return rest) reply config.new) }
     {
         match self.whole() {
-            Some(line) => without_return(line) == b"/quit".as_slice(),
-            None => false,
+            Some(line) => answer(alloc, without_return(line), config, maps),
+            None => answer_cut(alloc, self.front.bytes()),
         }
     }
 
-    /// Adds the answer to the line, which is ended now.
-    pub fn answer(
-        &self,
-        alloc: Global,
-        config: &Config,
-        maps: &Maps,
-        out: &mut Text,
-    ) -> Result<(), NoMemory>
-        ensures { OnOk result ((rest : List ℕ) → Keeps self.now rest → (text : List ℕ) × Answers (basis config.now maps.now) (strip_carriage_return rest) text × (out.new ≡ out.old ++ text)) }
-    {
-        match self.whole() {
-            Some(line) => answer(alloc, config, maps, without_return(line), out),
-            None => answer_cut(self.front.bytes(), out),
-        }
-    }
-
-    /// Adds the answer to the last line, which the end of the input ends. An empty one is no line.
+    /// Answers the last line, which the end of the input ends. An empty one is answered with nothing.
     pub fn answer_last(
         &self,
         alloc: Global,
-        config: &Config,
+        config: &mut Config,
         maps: &Maps,
-        out: &mut Text,
-    ) -> Result<(), NoMemory>
-        ensures { OnOk result ((rest : List ℕ) → Keeps self.now rest → (text : List ℕ) × AnswersLast (basis config.now maps.now) rest text × (out.new ≡ out.old ++ text)) }
+    ) -> Result<Reply, NoMemory>
+        ensures { IfOk result (λ reply. (rest : List ℕ) → Keeps self.now rest → Answers maps.now config.old rest reply config.new) }
     {
         match self.whole() {
-            Some(line) if line == b"/quit".as_slice() => Ok(()),
-            Some(line) => answer(alloc, config, maps, line, out),
-            None => answer_cut(self.front.bytes(), out),
+            Some(line) => answer(alloc, line, config, maps),
+            None => answer_cut(alloc, self.front.bytes()),
         }
     }
 
@@ -109,15 +91,15 @@ impl Partial {
     }
 }
 
-// Adds the answer to a line that is too long, of which this is the front.
-fn answer_cut(front: &[u8], out: &mut Text) -> Result<(), NoMemory>
-    ensures { OnOk result (out.new ≡ out.old ++ cut_text front.now) }
+// The answer to a line that is too long, of which this is the front.
+fn answer_cut(alloc: Global, front: &[u8]) -> Result<Reply, NoMemory>
+    ensures { IfOk result (λ reply. reply ≡ Lines (cut_text front.now)) }
 {
     if front.first() == Some(&b'#') {
-        Ok(())
-    } else {
-        out.extend(b"line too long\n")
+        return Ok(Reply::Lines(Text::new(alloc)));
     }
+    let text = Text::of(alloc, b"line too long\n")?;
+    Ok(Reply::Lines(text))
 }
 
 // A line before an LF, without the one CR that may stand at its end.

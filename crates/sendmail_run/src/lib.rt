@@ -2,7 +2,6 @@
 #![tactic(auto)]
 
 mod address_test;
-mod answers;
 mod buffer;
 mod command_line;
 mod fault;
@@ -13,11 +12,10 @@ mod outcome;
 mod program;
 mod session_mode;
 mod site;
-mod tokens;
 mod warning;
 
 pub use cf_reader::Fault;
 pub use command_line::{DEFAULT_FILE, Job, Mode, WordFault, words};
-pub use law::{one_text, some_text, tokens_are_of_any_cutting, words_are_taken_or_refused};
+pub use law::{one_text, some_text, words_are_taken_or_refused};
 pub use outcome::Outcome;
 pub use program::sendmail;

@@ -88,7 +88,7 @@ fn run<F: Files, D: Spool, L: Floor, C: Clock, I: Source, O: Sink>(
         Ok(mode) => mode,
         Err(fault) => return Outcome::of_words(fault),
     };
-    let config = match configuration(alloc, mode.file, files) {
+    let mut config = match configuration(alloc, mode.file, files) {
         Ok(config) => config,
         Err(fault) => return Outcome::of_config(fault),
     };
@@ -98,7 +98,7 @@ fn run<F: Files, D: Spool, L: Floor, C: Clock, I: Source, O: Sink>(
                 Ok(maps) => maps,
                 Err(fault) => return Outcome::of_maps(fault),
             };
-            Outcome::of_test(address_test(alloc, &config, &maps, input, output))
+            Outcome::of_test(address_test(alloc, &mut config, &maps, input, output))
         }
         Job::Session => Outcome::of_session(session_mode(alloc, &config, spool, floor, clock)),
     }

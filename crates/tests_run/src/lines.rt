@@ -85,6 +85,14 @@ const WARNED_ALONE: Row = Row {
     ..WARNED
 };
 
+// What a line sets and adds is seen by the lines behind it.
+const CHANGED: Row = Row {
+    config: b"Dxold\nCa b\nS1\nR$=a\t$@ yes\nR$*\t$@ $&x $1\n",
+    input: b"1 c\n.Dxnew\n1 c\n.Ca c\n1 c\n$x\n$=a\n",
+    text: b"1 returns: old c\n1 returns: new c\n1 returns: yes\nnew\nb\nc\n",
+    ..LINE
+};
+
 // Words that are refused.
 const BAD_WORDS: Row = Row {
     status: 64,
@@ -99,8 +107,38 @@ const ROWS: &[Row] = &[
     // Each form of a line is answered.
     Row {
         config: b"SA\r\n",
-        input: b"A\n\n# no\n9 a\n/map\n x\r\n/quit\nA b\n",
+        input: b"A\n\n# no\n9 a\n/parse a\n x\r\n/quit\nA b\n",
         text: b"A returns:\n9 error: NoRuleset\nnot yet\nunknown line\n",
+        ..LINE
+    },
+    // A list of sets, angles, and an address that can't be cut.
+    Row {
+        config: b"S3\nR$+@$+\t$@ $1 < @ $2 >\nS0\nR$* < @ $+ >\t$#smtp $@ $2 $: $1\n",
+        input: b"3,0 user@host.example\n0 ann < @ far >\n0 ann < @ far\n3,9,0 a@b\n",
+        text: b"3 returns: user < @ host . example >\n0 returns: $# smtp $@ host . example $: user\n0 returns: $# smtp $@ far $: ann\nbad address: Unbalanced 4\n3 returns: a < @ b >\n9 error: NoRuleset\n",
+        ..LINE
+    },
+    CHANGED,
+    Row {
+        by_bytes: true,
+        ..CHANGED
+    },
+    Row {
+        input: b".Dxnew\r\n$x\n.Dx",
+        text: b"new\n",
+        ..CHANGED
+    },
+    // What is shown, and a look-up in a map.
+    Row {
+        config: b"Kt text /t\nMlocal, P=/bin/mail, A=mail\nScanonify=3\nR$*\t$@ $1\n",
+        input: b"=S3\n=S9\n=M\n/map t K\n/map t z\n/map u k\n$z\n$=w",
+        text: b"3: 1 rules\n9: none\nlocal /bin/mail\nfound: v\nabsent\nerror: NoSuchMap\nundefined\nlocalhost\n",
+        ..LINE
+    },
+    // The input may end behind `/quit`, and nothing behind it is answered.
+    Row {
+        input: b"5 a:b\n/quit",
+        text: b"5 returns: b @ a\n",
         ..LINE
     },
     // An input may be cut anywhere.
@@ -457,6 +495,9 @@ fn a_line_may_be_too_long(rt: HostRuntime) -> Result<(), Fail> {
     let lines = long_lines(rt.alloc())?;
     let ended = ends_over(rt.alloc(), &mut SureSource::new(lines))?;
     assert_eq!(rt; ended.status, 0);
-    assert_eq!(rt; ended.text.bytes(), b"line too long\nnot yet\n".as_slice());
+    assert_eq!(rt;
+        ended.text.bytes(),
+        b"line too long\nunknown line\n".as_slice()
+    );
     Ok(())
 }

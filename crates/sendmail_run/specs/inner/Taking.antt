@@ -1,13 +1,17 @@
 -- Where the answers to the lines of input stand, as code has them.
-use Rattle.std.specs.Prelude.{◌≡◌, ℕ, ◌+◌, ◌≤◌, ◌^◌, List, [], ◌∷◌, ◌++◌, length, map, take, Bool, true, false, nat_lt, ◌==◌, if◌then◌else◌, codes, MatchBool}
+use Rattle.std.specs.Prelude.{◌≡◌, ℕ, ◌+◌, ◌≤◌, ◌^◌, List, [], ◌∷◌, ◌++◌, length, map, take, Bool, true, false, nat_lt, ◌==◌, if◌then◌else◌, codes}
 use Rattle.std.specs.List.{list_any, flat_map}
 use Rattle.std.specs.Str.Lines.{strip_carriage_return}
+use Rattle.addr_test.specs.Forms.{is_quit}
+use Rattle.addr_test.specs.Printing.{Printed}
+use Rattle.addr_test.specs.Texts.{line_of}
 use Rattle.mail_base.specs.Limits.{most_line}
+use Rattle.mail_base.specs.declared.config.Config.{Config}
 use Rattle.sendmail_run.specs.declared.input.Partial.{Partial}
 use Rattle.sendmail_run.specs.declared.address_test.Step.{Step}
 use Rattle.sendmail_run.specs.declared.address_test.Step.TheVariants.{On, Ended}
 use Rattle.sendmail_run.specs.declared.outcome.Outcome.TheVariants.{WriteFault}
-use Rattle.sendmail_run.specs.Printing.{Basis, Printed, Answers, is_quit, line_of, warnings_text}
+use Rattle.sendmail_run.specs.Printing.{Basis, warnings_text}
 use Rattle.cf_reader.specs.LogicalLines.{physical_lines}
 use Rattle.sendmail_run.specs.Devices.{Streams}
 use Rattle.sendmail_run.specs.Outcomes.{of_test}
@@ -38,24 +42,21 @@ pub record Cut (taken : List ℕ) (raws : List (List ℕ)) (rest : List ℕ) : T
   pub each : list_any has_end raws ≡ false
   pub last : has_end rest ≡ false
 
--- the ended lines of what was taken are answered with the text, and the rest is kept
-pub record Stands (basis : Basis) (taken : List ℕ) (partial : Partial) (text : List ℕ) : Type 0 where
+-- the ended lines of what was taken are answered with the text, and leave this configuration; the rest is kept
+pub record Stands (basis : Basis) (current : Config) (taken : List ℕ) (partial : Partial) (text : List ℕ) : Type 0 where
   pub raws : List (List ℕ)
   pub rest : List ℕ
   pub cut : Cut taken raws rest
-  pub printed : Printed basis (lines_of raws) text
+  pub printed : Printed basis.maps basis.config (lines_of raws) text current
   pub on : list_any is_quit (lines_of raws) ≡ false
   pub keeps : Keeps partial rest
 
 -- the line `/quit` came, and the lines before it are answered with the text
 pub record Quits (basis : Basis) (taken : List ℕ) (text : List ℕ) : Type 0 where
-  pub printed : Printed basis (physical_lines taken) text
-  pub among : Printed basis (ended_lines taken) text
+  pub last : Config
+  pub printed : Printed basis.maps basis.config (physical_lines taken) text last
+  pub among : Printed basis.maps basis.config (ended_lines taken) text last
   pub quit : holds_quit taken ≡ true
-
--- the answer to the last line, which no LF ends: `/quit` prints nothing
-abbrev pub AnswersLast : Basis → List ℕ → List ℕ → Type 0
-AnswersLast basis line text = MatchBool (is_quit line) (text ≡ []) (Answers basis line text)
 
 -- the answer to a line that is too long, by its front
 abbrev pub cut_text : List ℕ → List ℕ
@@ -63,24 +64,24 @@ cut_text [] = line_of (codes "line too long")
 cut_text (b ∷ bs) = if b == 35 then [] else line_of (codes "line too long")
 
 -- the text holds the answers to the lines that bytes end, up to the line `/quit` where that is among them
-abbrev pub Answered : Basis → List ℕ → Partial → List ℕ → Bool → Type 0
-Answered basis taken partial text true = Quits basis taken text
-Answered basis taken partial text false = Stands basis taken partial text
+abbrev pub Answered : Basis → Config → List ℕ → Partial → List ℕ → Bool → Type 0
+Answered basis current taken partial text true = Quits basis taken text
+Answered basis current taken partial text false = Stands basis current taken partial text
 
 -- all these bytes were taken since the start, and the warnings and the answers to the ended lines of a front of them were written
-pub record At (basis : Basis) (before now : Streams) (all taken : List ℕ) (partial : Partial) : Type 0 where
+pub record At (basis : Basis) (current : Config) (before now : Streams) (all taken : List ℕ) (partial : Partial) : Type 0 where
   pub few : length all ≤ 2 ^ 32
   pub text : List ℕ
   pub takes : Takes before now all
   pub writes : Writes before now (warnings_text basis.config.warnings ++ text)
-  pub stands : Stands basis taken partial text
+  pub stands : Stands basis current taken partial text
   pub input : before.input.faults ≤ now.input.faults
   pub output : before.output.faults ≤ now.output.faults
 
 -- a piece of the input was answered, or it ended the run
-abbrev pub Went : Basis → Streams → Streams → List ℕ → Partial → Step → Type 0
-Went basis before now all partial On = At basis before now all all partial
-Went basis before now all partial (Ended how) = Tests basis before now how
+abbrev pub Went : Basis → Config → Streams → Streams → List ℕ → Partial → Step → Type 0
+Went basis current before now all partial On = At basis current before now all all partial
+Went basis current before now all partial (Ended how) = Tests basis before now how
 
 -- the output's count has risen only where its fault ended the run
 abbrev pub RisesOnlyIn : Step → ℕ → ℕ → Type 0

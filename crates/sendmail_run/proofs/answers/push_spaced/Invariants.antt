@@ -1,6 +1,0 @@
-use Rattle.std.proofs.Common.{◌≡◌, ◌++◌, drop}
-use Rattle.sendmail_run.specs.Printing.{spaced}
-use Rattle.sendmail_run.proofs.answers.push_spaced.Given as goal
-
-abbrev pub invariant-loop-token : goal.invariant-loop-token
-invariant-loop-token l = l.out ++ spaced (drop l.token-index l.tokens) ≡ l.fn.out ++ spaced l.fn.tokens
