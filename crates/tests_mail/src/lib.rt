@@ -17,8 +17,6 @@ mod receive;
 #[cfg(test)]
 mod received;
 #[cfg(test)]
-mod recovered_maps;
-#[cfg(test)]
 mod replies;
 #[cfg(test)]
 mod store;
