@@ -110,7 +110,8 @@ def is_error(line):
 
 
 def compare(our_program, their_command, case, addresses):
-    with tempfile.TemporaryDirectory() as folder:
+    # Sendmail's own program reads no map in a folder that others can write.
+    with tempfile.TemporaryDirectory(dir=Path.home()) as folder:
         folder = Path(folder)
         folder.chmod(0o755)
         for name, content in case.files.items():
