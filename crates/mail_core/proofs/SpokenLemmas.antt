@@ -33,7 +33,7 @@ module _ (s : ℕ) where
   skipped : (g : Guest) (guests : List Guest) → has_number s g ≡ false → guest_of s (g ∷ guests) ≡ guest_of s guests
   skipped g guests other = cond-false (has_number s g) (Some g) (guest_of s guests) other
 
-  -- a number that isn't of this session
+  -- the guest of another number isn't the one of `s`
   apart_from : (n : ℕ) (g : Guest) → nat_eq n s ≡ false → has_number n g ≡ true → has_number s g ≡ false
   apart_from n g apart is = ap (λ k. nat_eq k s) (eqb-true g.number n is) ∙ apart
 

@@ -26,7 +26,7 @@ said_to session effects = flat_map (said_by session) effects
 abbrev pub replies_of : Site → Guest → List (List ℕ)
 replies_of site g = replies_to (shown_host site.host) g.peer g.heard
 
--- an event doesn't open this session
+-- an event opens no SMTP session of a number
 abbrev pub opens_none : ℕ → Event → Bool
 opens_none session (Opens number peer) = not (nat_eq number session)
 opens_none session (Brings number bytes) = true
