@@ -1,5 +1,5 @@
 -- A store agrees with the files after each write.
-use Rattle.std.proofs.Common.{◌≡◌, ◌≢◌, ⊎_elim, ℕ, ◌<◌, ◌≤◌, List, ◌++◌, map, Bool, sym, ◌∙◌, ap, subst, Contains, if◌then◌else◌, eq-eqb, ne_eqb}
+use Rattle.std.proofs.Common.{◌≡◌, ◌≢◌, ⊎_elim, ℕ, ◌<◌, ◌≤◌, List, ◌++◌, map, Bool, sym, ◌∙◌, ap, subst, Contains, IsSome, if◌then◌else◌, eq-eqb, ne_eqb}
 use Rattle.std.specs.Prelude.{All}
 use Rattle.std.proofs.lemmas.Bool.{cases_eq, cases_lt}
 use Rattle.std.proofs.lemmas.List.Elements.{All-weaker, All-map, All-append, All-contains_itself, All-contains, Contains-append_left, Contains-append_right}
@@ -12,7 +12,8 @@ use Rattle.spool_store.specs.Entries.{Stored, Table}
 use Rattle.spool_store.specs.Settled.{spot_of, StandsFor, IsTidy, IsSettled}
 use Rattle.spool_store.specs.Tidying.{IsForeign}
 use Rattle.spool_store.specs.Changes.{IsRaised, IsAdded, IsNew, IsPut, control, body, other}
-use Rattle.spool_store.specs.Stores.{spot_at, StoreSeen, HasHeld, IsStray, by_name, by_verdict, Agrees, Holds, recontrolled, entered}
+use Rattle.spool_store.specs.Openings.{IsStray, other_name, strange_file}
+use Rattle.spool_store.specs.Stores.{spot_at, StoreSeen, HasHeld, Agrees, Holds, recontrolled, entered}
 use Rattle.spool_store.specs.declared.held.Held.{Held}
 use Rattle.spool_store.proofs.Reading.{one_control}
 use Rattle.spool_store.proofs.Carrying.{live_read, live_alike, alike_back}
@@ -29,8 +30,10 @@ changed_other id c h ne = ap (λ (b : Bool). if b then record h { entry = record
 
 -- what is left alone
 pub strays_alike : (dirs : List (List ℕ)) (f g : FileMap) → ((s : Spot) → IsStrange dirs f s → IsStrange dirs g s) → ((place : Place) → IsForeign dirs place → bytes_at g place ≡ bytes_at f place) → (stray : Stray) → IsStray dirs f stray → IsStray dirs g stray
-strays_alike dirs f g strange same stray (by_name among foreign there) = by_name among foreign (λ e. there (sym (same (stray.dir, stray.name) foreign) ∙ e))
-strays_alike dirs f g strange same stray (by_verdict s is at_place) = by_verdict s (strange s is) at_place
+strays_alike dirs f g strange same stray (other_name among apart there) =
+    let foreign : IsForeign dirs (stray.dir, stray.name) = λ dir kind id d i e. apart kind id (ap (λ (p : Place). p.1) e) in
+    other_name among apart (subst IsSome (sym (same (stray.dir, stray.name) foreign)) there)
+strays_alike dirs f g strange same stray (strange_file s is dir name) = strange_file s (strange s is) dir name
 
 raised_foreign : (dirs : List (List ℕ)) (s : Spot) (old new : Control) (f g : FileMap) → IsRaised dirs s old new f g → (place : Place) → IsForeign dirs place → bytes_at g place ≡ bytes_at f place
 raised_foreign dirs s old new f g h place foreign =

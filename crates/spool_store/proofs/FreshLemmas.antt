@@ -1,5 +1,5 @@
 -- A store over directories without a file.
-use Rattle.std.proofs.Common.{◌≡◌, ℕ, List, [], Option, Some, None, false, sym, ◌∙◌, subst, arith}
+use Rattle.std.proofs.Common.{◌≡◌, ℕ, List, [], Option, Some, None, IsSome, false, true, sym, ◌∙◌, subst, arith}
 use Rattle.std.specs.Prelude.{IfSome}
 use Rattle.std.specs.List.Sorted.{IsStrictlySortedBy}
 use Rattle.std.proofs.lemmas.List.Elements.{All-nil}
@@ -10,10 +10,11 @@ use Rattle.mail_base.specs.Names.{name_of}
 use Rattle.spool_disk.specs.Disk.{FileMap}
 use Rattle.spool_disk.specs.Spooled.{Spooled, Reads}
 use Rattle.spool_store.specs.Keepers.{unused}
+use Rattle.spool_store.specs.Openings.{IsStray, other_name, strange_file}
 use Rattle.spool_store.specs.Queue.{Spot, spot_place, IsControl, IsLive}
 use Rattle.spool_store.specs.Settled.{HasFiles, IsTidy, IsNamed, in_name, as_parent, IsSettled}
 use Rattle.spool_store.specs.Standing.{AreEmpty}
-use Rattle.spool_store.specs.Stores.{StoreSeen, Shelved, spot_at, IsStray, by_name, by_verdict, Agrees}
+use Rattle.spool_store.specs.Stores.{StoreSeen, Shelved, spot_at, Agrees}
 use Rattle.spool_store.specs.declared.held.Held.{Held}
 use Rattle.spool_store.proofs.Carrying.{strange_control, live_read}
 use Rattle.spool_store.proofs.OpenLemmas.{reads_told}
@@ -40,8 +41,8 @@ empty_tidy dirs f empty = record {
 }
 
 no_stray : (dirs : List (List ℕ)) (f : FileMap) → AreEmpty dirs f → (stray : Stray) → IsStray dirs f stray → ⊥
-no_stray dirs f empty stray (by_name among foreign there) = there (empty (stray.dir, stray.name) among)
-no_stray dirs f empty stray (by_verdict s strange is) = let k = strange_control strange in no_control dirs f empty s k.0 k.1
+no_stray dirs f empty stray (other_name among apart there) = let none : false ≡ true = subst IsSome (empty (stray.dir, stray.name) among) there in absurd (cc none)
+no_stray dirs f empty stray (strange_file s strange dir name) = let k = strange_control strange in no_control dirs f empty s k.0 k.1
 
 empty_agrees : (dirs : List (List ℕ)) (f : FileMap) → AreEmpty dirs f → Agrees (fresh_store dirs) f
 unfolding fresh_store

@@ -1,5 +1,5 @@
 -- What a store knows of a map: its entries without their bodies, and the files that it leaves alone (own).
-use Rattle.std.specs.Prelude.{◌≡◌, ◌≢◌, ◌↔◌, ℕ, ◌<◌, List, map, length, Bool, true, false, None, Contains, All, AllPairs, eqb, if◌then◌else◌, get_or}
+use Rattle.std.specs.Prelude.{◌≡◌, ◌↔◌, ℕ, ◌<◌, List, map, length, Bool, true, false, Contains, All, AllPairs, eqb, if◌then◌else◌, get_or}
 use Rattle.std.specs.List.{AllZip}
 use Rattle.mail_base.specs.declared.id.Kind.{Kind}
 use Rattle.mail_base.specs.declared.id.Kind.TheVariants.{Df, Qf, Sf}
@@ -9,6 +9,7 @@ use Rattle.spool_disk.specs.Disk.{Place, FileMap, bytes_at}
 use Rattle.spool_store.specs.declared.held.Held.{Held}
 use Rattle.spool_store.specs.Queue.{at, Spot, spot_place, IsStrange, IsLive}
 use Rattle.spool_store.specs.Entries.{Stored, Table}
+use Rattle.spool_store.specs.Openings.{IsStray}
 use Rattle.spool_store.specs.Settled.{IsTidy}
 use Rattle.spool_store.specs.Tidying.{IsForeign}
 
@@ -58,14 +59,6 @@ pub record HasHeld (entries : List Held) (s : Spot) (c : Control) : Type 0 where
   pub among : Contains entries held
   pub spot : spot_at held ≡ s
   pub control : held.entry.control ≡ c
-
-abbrev pub stray_of : Place → Stray
-stray_of place = record { dir = place.0; name = place.1 }
-
--- why a file is left alone
-pub data IsStray (dirs : List (List ℕ)) (files : FileMap) (stray : Stray) : Type 0 where
-  by_name : Contains dirs stray.dir → IsForeign dirs (stray.dir, stray.name) → bytes_at files (stray.dir, stray.name) ≢ None → IsStray dirs files stray
-  by_verdict : (s : Spot) → IsStrange dirs files s → stray ≡ stray_of (spot_place s) → IsStray dirs files stray
 
 -- the store has what the files have, and no file is half done
 pub record Agrees (store : StoreSeen) (files : FileMap) : Type 0 where
