@@ -21,7 +21,7 @@ pub(crate) fn take_first<T: Given>(
     table: &Table,
     rest: &[u8],
     place: usize,
-    open: &mut Angles,
+    unclosed: &mut Angles,
     gathering: &mut Gathering<T>,
 ) -> Result<usize, ScanFault>
     requires some { 0 < length rest.now }
@@ -30,23 +30,23 @@ pub(crate) fn take_first<T: Given>(
     ensures goes { (alphabet : Alphabet) (angles : Bool) (text : List ℕ)
         → IsTable alphabet table.now.listed table.now.dollars → T.serves alphabet.dollars
         → rest.now ≡ drop place text → place < length text
-        → At alphabet angles text open.old.checked place (reverse open.old.places.items)
+        → At alphabet angles text unclosed.old.checked place (reverse unclosed.old.places.items)
         gathering.old.is_long (map T.seen gathering.old.given)
-        → Goes alphabet angles text open.new.checked place (reverse open.new.places.items)
+        → Goes alphabet angles text unclosed.new.checked place (reverse unclosed.new.places.items)
         gathering.new.is_long (map T.seen gathering.new.given) result }
 {
     let byte = rest[0];
     if table.is_lone(byte) {
         let size = word_length(table, &rest[1..]) + 1;
-        return take(Front::Run(size), rest, place, open, gathering);
+        return take(Front::Run(size), rest, place, unclosed, gathering);
     }
     if is_white(byte) {
-        return take(Front::White, rest, place, open, gathering);
+        return take(Front::White, rest, place, unclosed, gathering);
     }
     if !is_marked(byte) {
-        return take(Front::Operator(byte), rest, place, open, gathering);
+        return take(Front::Operator(byte), rest, place, unclosed, gathering);
     }
-    take_marked(table, rest, place, open, gathering)
+    take_marked(table, rest, place, unclosed, gathering)
 }
 
 /// The same, where a byte begins the rest that quotes or comments, or a dollar sign.
@@ -54,7 +54,7 @@ fn take_marked<T: Given>(
     table: &Table,
     rest: &[u8],
     place: usize,
-    open: &mut Angles,
+    unclosed: &mut Angles,
     gathering: &mut Gathering<T>,
 ) -> Result<usize, ScanFault>
     requires some { 0 < length rest.now }
@@ -65,13 +65,13 @@ fn take_marked<T: Given>(
     ensures goes { (alphabet : Alphabet) (angles : Bool) (text : List ℕ)
         → IsTable alphabet table.now.listed table.now.dollars → T.serves alphabet.dollars
         → rest.now ≡ drop place text → place < length text
-        → At alphabet angles text open.old.checked place (reverse open.old.places.items)
+        → At alphabet angles text unclosed.old.checked place (reverse unclosed.old.places.items)
         gathering.old.is_long (map T.seen gathering.old.given)
-        → Goes alphabet angles text open.new.checked place (reverse open.new.places.items)
+        → Goes alphabet angles text unclosed.new.checked place (reverse unclosed.new.places.items)
         gathering.new.is_long (map T.seen gathering.new.given) result }
 {
     let front = marked_of(table, rest, place as u64)?;
-    take(front, rest, place, open, gathering)
+    take(front, rest, place, unclosed, gathering)
 }
 
 /// The same of a piece that was told.
@@ -80,7 +80,7 @@ fn take<T: Given>(
     front: Front,
     rest: &[u8],
     place: usize,
-    open: &mut Angles,
+    unclosed: &mut Angles,
     gathering: &mut Gathering<T>,
 ) -> Result<usize, ScanFault>
     requires within { size_of front ≤ length rest.now }
@@ -89,12 +89,12 @@ fn take<T: Given>(
         → T.serves alphabet.dollars → rest.now ≡ drop place text → place < length text
         → reader.first_of alphabet place (slice_index rest.now 0) (drop 1 rest.now)
         ≡ Ok (piece_of front rest.now, drop (size_of front) rest.now)
-        → At alphabet angles text open.old.checked place (reverse open.old.places.items)
+        → At alphabet angles text unclosed.old.checked place (reverse unclosed.old.places.items)
         gathering.old.is_long (map T.seen gathering.old.given)
-        → Goes alphabet angles text open.new.checked place (reverse open.new.places.items)
+        → Goes alphabet angles text unclosed.new.checked place (reverse unclosed.new.places.items)
         gathering.new.is_long (map T.seen gathering.new.given) result }
 {
-    open.note(front, place as u64)?;
+    unclosed.note(front, place as u64)?;
     gathering.add(front, rest)?;
     Ok(front.size())
 }

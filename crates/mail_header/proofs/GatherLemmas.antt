@@ -5,7 +5,7 @@ use Rattle.mail_base.specs.declared.message.Split.{Split}
 use Rattle.mail_header.specs.Headers.{text_of, IsSplit, AreLines}
 use Rattle.mail_header.specs.declared.gathered.Gathered.{Gathered}
 use Rattle.mail_header.specs.Gatherings.{Gathers, is_above, unless}
-use Rattle.mail_header.specs.inner.Lines.{headers_of, body_of, block_of, size_of}
+use Rattle.mail_header.specs.Lines.{headers_of, body_of, block_of, size_of}
 use Rattle.mail_header.proofs.SplitLemmas.{exact_size, same_above}
 use Rattle.mail_header.proofs.GrammarLemmas.{split_of_lines, one_split}
 

@@ -6,7 +6,7 @@ use Rattle.std.proofs.lemmas.List.{append_assoc}
 use Rattle.mail_base.specs.Texts.{is_blank, crlf}
 use Rattle.mail_base.specs.declared.message.Split.{Split}
 use Rattle.mail_header.specs.Headers.{is_name_byte, is_plain, is_header, is_continuation, IsFolded, last_fold, one_fold, IsHeaderText, unfolded, folded, AreHeaders, no_headers, one_header, with_end, text_of, is_some_line, EndsHeaders, IsBody, behind_empty_line, at_once, IsSplit, has_crlf, AreLines, no_lines, one_line}
-use Rattle.mail_header.specs.inner.Lines.{belongs, block_of, rest_of, goes_on, joined, headers_in, headers_of, without_empty, body_of, size_of}
+use Rattle.mail_header.specs.Lines.{belongs, block_of, rest_of, goes_on, joined, headers_in, headers_of, without_empty, body_of, size_of}
 use Rattle.mail_header.proofs.SizeLemmas.{ended_size}
 
 -- ---- lines and their ends

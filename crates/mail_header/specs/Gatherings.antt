@@ -4,7 +4,7 @@ use Rattle.mail_base.specs.Limits.{most_headers}
 use Rattle.mail_base.specs.Texts.{crlf}
 use Rattle.mail_header.specs.declared.gathered.Gathered.{Gathered}
 use Rattle.mail_header.specs.Headers.{is_continuation, is_some_line, text_of}
-use Rattle.mail_header.specs.inner.Lines.{headers_of, body_of, block_of, rest_of, size_of}
+use Rattle.mail_header.specs.Lines.{headers_of, body_of, block_of, rest_of, size_of}
 
 -- a size that counts no further once it is above its limit
 unfoldable pub counted : ℕ → ℕ → ℕ

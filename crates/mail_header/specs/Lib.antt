@@ -1,5 +1,6 @@
 pub mod Fields
 pub mod Gatherings
 pub mod Headers
+pub mod Lines
 pub mod Made
 pub mod inner

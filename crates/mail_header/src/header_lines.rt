@@ -1,14 +1,14 @@
 ghost use Rattle.std.specs.Prelude.{◌≡◌, ◌≤◌, ◌&&◌, nat_lt, length, take};
 ghost use Rattle.std.specs.List.{list_all};
 ghost use Rattle.mail_header.specs.Headers as spec;
-ghost use Rattle.mail_header.specs.inner.Lines as inner;
+ghost use Rattle.mail_header.specs.Lines as lines;
 
 use bstr::ByteSlice;
 use mail_base::is_blank;
 
 /// Whether a line stands in the header block, by whether that has begun.
 pub(crate) fn belongs(begun: bool, line: &[u8]) -> bool
-    ensures { result ≡ inner.belongs begun line.now }
+    ensures { result ≡ lines.belongs begun line.now }
 {
     is_header(line) || (begun && is_continuation(line))
 }

@@ -13,7 +13,7 @@ use Rattle.smtp_lines.specs.Stream.{verb_of}
 use Rattle.smtp_lines.specs.Paths.{Parts, HasPath, is_too_long}
 use Rattle.smtp_lines.specs.Parameters.{AreGiven}
 use Rattle.smtp_lines.specs.Commands.{Order, Greet, Extend, From, To, Begin, Reset, End, Verify, is_bad_byte, name_of, IsNamed, argument_of, Says, needs_argument, stands_alone, keyword_of, IsCommand, helo, ehlo, mail, rcpt, data_, rset, noop, quit, vrfy, expn, help, HasFault, bad_byte, unknown, lacks_argument, has_argument, no_path, long_path, mail_parameter, rcpt_parameter, IsRead}
-use Rattle.smtp_lines.specs.inner.Reading.{verb_named, path_after, parameters_of, is_nothing, from_given, from_by, to_by, needed, alone, order_by, order_of}
+use Rattle.smtp_lines.specs.Reading.{verb_named, path_after, parameters_of, is_nothing, from_given, from_by, to_by, needed, alone, order_by, order_of}
 use Rattle.smtp_lines.proofs.ParameterLemmas.{same_lower, parameters_read, parameters_found}
 use Rattle.smtp_lines.proofs.GrammarLemmas.{path_after_found, PathRead, path_after_read}
 

@@ -11,7 +11,7 @@ use Rattle.mail_base.specs.declared.command.LineFault.{LineFault}
 use Rattle.mail_base.specs.declared.command.LineFault.TheVariants.{Syntax, PathTooLong}
 use Rattle.smtp_lines.specs.Paths.{Parts, EndsPath, IsWritten, in_angles, bare, is_parted, without_route, local_part, domain_of, is_at, is_too_long, HasPath}
 use Rattle.smtp_lines.specs.Commands.{without_blanks}
-use Rattle.smtp_lines.specs.inner.Reading.{word_end, path_parts, is_long, checked, path_after}
+use Rattle.smtp_lines.specs.Reading.{word_end, path_parts, is_long, checked, path_after}
 use Rattle.smtp_lines.proofs.PathLemmas.{parts_end, parts_found}
 use Rattle.smtp_lines.proofs.ParameterLemmas.{same_length}
 use Rattle.smtp_lines.proofs.WordLemmas.{is_solid, gap_cut, gap_found, word_solid, word_found, word_first}

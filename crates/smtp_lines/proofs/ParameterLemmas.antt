@@ -12,7 +12,7 @@ use Rattle.smtp_lines.specs.declared.parameter.Given.{Given}
 use Rattle.smtp_lines.specs.declared.parameter.Given.TheVariants.{Size, Body}
 use Rattle.smtp_lines.specs.declared.parameter.Parameters.{Parameters}
 use Rattle.smtp_lines.specs.Parameters.{is_some_text, words_of, IsSize, IsParameter, says_size, says_seven, says_eight, AreParameters, no_more, one_more, sizes_in, bodies_in, listed, AreGiven}
-use Rattle.smtp_lines.specs.inner.Reading.{size_of, as_size, given_by, with_given, with_words, no_parameters, parameters_of}
+use Rattle.smtp_lines.specs.Reading.{size_of, as_size, given_by, with_given, with_words, no_parameters, parameters_of}
 use Rattle.smtp_lines.proofs.WordLemmas.{words_none}
 
 -- texts that are equal without case have one form in small letters

@@ -4,8 +4,8 @@ use Rattle.std.specs.Prelude.{option_and_then}
 use Rattle.std.proofs.lemmas.Bool.{cond-true, cond-false, and_parts, and_from, not-true, not_from_false, eqb-true}
 use Rattle.std.proofs.lemmas.List.{append_assoc, length-append, take_at}
 use Rattle.smtp_lines.specs.Paths.{Parts, EndsPath, InQuotes, quote_nothing, quote_plain, quote_pair, InAngles, path_nothing, path_plain, path_quoted, is_quotable, is_path_byte}
-use Rattle.smtp_lines.specs.inner.PathEnds.{quote_length, path_end, parts_at}
-use Rattle.smtp_lines.specs.inner.Reading.{path_parts}
+use Rattle.smtp_lines.specs.PathEnds.{quote_length, path_end, parts_at}
+use Rattle.smtp_lines.specs.Reading.{path_parts}
 
 -- a quoted string with so many bytes behind its first double quote is at the front
 pub record ClosesQuote (text : List ℕ) (n : ℕ) : Type 0 where

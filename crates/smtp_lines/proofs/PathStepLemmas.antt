@@ -3,7 +3,7 @@ use Rattle.std.proofs.Common.{◌≡◌, ℕ, zero, suc, ◌+◌, ◌<◌, ◌�
 use Rattle.std.specs.Prelude.{option_and_then}
 use Rattle.std.proofs.lemmas.Bool.{cond-true, cond-false, eq-eqb, ne_eqb}
 use Rattle.std.proofs.lemmas.List.{drop_all, drop-drop, drop_more}
-use Rattle.smtp_lines.specs.inner.PathEnds.{quote_length, path_end}
+use Rattle.smtp_lines.specs.PathEnds.{quote_length, path_end}
 use Rattle.smtp_lines.proofs.PathLemmas.{length_plain, length_close, length_two}
 
 -- a place that is counted from a place

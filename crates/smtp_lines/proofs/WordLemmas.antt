@@ -11,7 +11,7 @@ use Rattle.smtp_lines.specs.declared.parameter.Parameters.{Parameters}
 use Rattle.smtp_lines.specs.Paths.{is_parted}
 use Rattle.smtp_lines.specs.Parameters.{is_some_text, words_of}
 use Rattle.smtp_lines.specs.Commands.{without_blanks}
-use Rattle.smtp_lines.specs.inner.Reading.{word_end, with_words, with_given, given_by}
+use Rattle.smtp_lines.specs.Reading.{word_end, with_words, with_given, given_by}
 
 -- ---- the words of a text
 

@@ -1,7 +1,9 @@
 pub mod Commands
 pub mod Parameters
+pub mod PathEnds
 pub mod Paths
 pub mod Reader
+pub mod Reading
 pub mod Replies
 pub mod Runs
 pub mod Stream

@@ -2,7 +2,7 @@ ghost use Rattle.std.specs.Prelude.{◌≡◌, ◌∷◌, ◌↔◌, List, ℕ, 
 ghost use Rattle.mail_base.specs.declared.command.LineFault.{LineFault};
 ghost use Rattle.smtp_lines.specs.Commands.{Order, IsRead};
 ghost use Rattle.smtp_lines.specs.Paths.{EndsPath, Parts};
-ghost use Rattle.smtp_lines.specs.inner.Reading.{path_parts, order_of};
+ghost use Rattle.smtp_lines.specs.Reading.{path_parts, order_of};
 
 /// Behind a `<` one path ends at most. `path_parts` gives that path and what is after it, and
 /// nothing exactly where none ends.

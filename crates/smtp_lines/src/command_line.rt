@@ -3,7 +3,7 @@ ghost use Rattle.std.specs.List.{prefix_len, suffix_len, list_any};
 ghost use Rattle.mail_base.specs.Texts.{is_blank};
 ghost use Rattle.smtp_lines.specs.Commands.{IsRead, as_read, as_order, is_bad_byte, without_blanks, stripped};
 ghost use Rattle.smtp_lines.specs.Paths.{is_parted};
-ghost use Rattle.smtp_lines.specs.inner.Reading as inner;
+ghost use Rattle.smtp_lines.specs.Reading as reading;
 
 use crate::parameter::parameters_of;
 use crate::path::{Parts, is_long, path_parts, without_route, word_end};
@@ -22,7 +22,7 @@ pub fn command(line: &[u8]) -> Result<Command<'_>, LineFault>
 }
 
 fn read_command(line: &[u8]) -> Result<Command<'_>, LineFault>
-    ensures { as_read result ≡ inner.order_of line.now }
+    ensures { as_read result ≡ reading.order_of line.now }
 {
     if has_bad_byte(line) {
         return Err(LineFault::BadByte);
@@ -48,7 +48,7 @@ fn is_bad_byte(byte: u8) -> bool
 }
 
 fn verb_named(word: &[u8]) -> Option<Verb>
-    ensures { result ≡ inner.verb_named word.now }
+    ensures { result ≡ reading.verb_named word.now }
 {
     if word.eq_ignore_ascii_case(b"HELO") {
         return Some(Verb::Helo);
@@ -118,7 +118,7 @@ fn last_end(text: &[u8]) -> usize
 }
 
 fn of_verb(verb: Verb, argument: &[u8]) -> Result<Command<'_>, LineFault>
-    ensures { as_read result ≡ inner.order_by (Some verb) argument.now }
+    ensures { as_read result ≡ reading.order_by (Some verb) argument.now }
 {
     match verb {
         Verb::Helo => needed(argument, Command::Helo(argument)),
@@ -137,7 +137,7 @@ fn of_verb(verb: Verb, argument: &[u8]) -> Result<Command<'_>, LineFault>
 
 /// A command that needs an argument.
 fn needed<'a>(argument: &[u8], command: Command<'a>) -> Result<Command<'a>, LineFault>
-    ensures { as_read result ≡ inner.needed (as_order command.entry) argument.now }
+    ensures { as_read result ≡ reading.needed (as_order command.entry) argument.now }
 {
     if argument.is_empty() {
         return Err(LineFault::ArgumentNeeded);
@@ -147,7 +147,7 @@ fn needed<'a>(argument: &[u8], command: Command<'a>) -> Result<Command<'a>, Line
 
 /// A command that has no argument.
 fn alone<'a>(argument: &[u8], command: Command<'a>) -> Result<Command<'a>, LineFault>
-    ensures { as_read result ≡ inner.alone (as_order command.entry) argument.now }
+    ensures { as_read result ≡ reading.alone (as_order command.entry) argument.now }
 {
     if argument.is_empty() {
         return Ok(command);
@@ -156,7 +156,7 @@ fn alone<'a>(argument: &[u8], command: Command<'a>) -> Result<Command<'a>, LineF
 }
 
 fn sender(argument: &[u8]) -> Result<Command<'_>, LineFault>
-    ensures { as_read result ≡ inner.order_by (Some Verb.Mail) argument.now }
+    ensures { as_read result ≡ reading.order_by (Some Verb.Mail) argument.now }
 {
     let parts = path_after(Verb::Mail, b"FROM:", argument)?;
     let path = parts.front;
@@ -171,7 +171,7 @@ fn sender(argument: &[u8]) -> Result<Command<'_>, LineFault>
 }
 
 fn recipient(argument: &[u8]) -> Result<Command<'_>, LineFault>
-    ensures { as_read result ≡ inner.order_by (Some Verb.Rcpt) argument.now }
+    ensures { as_read result ≡ reading.order_by (Some Verb.Rcpt) argument.now }
 {
     let parts = path_after(Verb::Rcpt, b"TO:", argument)?;
     let path = parts.front;
@@ -183,7 +183,7 @@ fn recipient(argument: &[u8]) -> Result<Command<'_>, LineFault>
 
 /// The path after a keyword, without its route, and what is after it.
 fn path_after<'a>(verb: Verb, keyword: &[u8], argument: &'a [u8]) -> Result<Parts<'a>, LineFault>
-    ensures { inner.as_parts result ≡ inner.path_after verb keyword.now argument.now }
+    ensures { reading.as_parts result ≡ reading.path_after verb keyword.now argument.now }
 {
     if argument.len() < keyword.len() {
         return Err(LineFault::Syntax(verb));
@@ -196,7 +196,7 @@ fn path_after<'a>(verb: Verb, keyword: &[u8], argument: &'a [u8]) -> Result<Part
 }
 
 fn checked(verb: Verb, text: &[u8]) -> Result<Parts<'_>, LineFault>
-    ensures { inner.as_parts result ≡ inner.checked verb (inner.path_parts text.now) }
+    ensures { reading.as_parts result ≡ reading.checked verb (reading.path_parts text.now) }
 {
     let Some(parts) = path_parts(text) else {
         return Err(LineFault::Syntax(verb));

@@ -1,5 +1,5 @@
 ghost use Rattle.std.specs.Prelude.{◌≡◌, Some};
-ghost use Rattle.smtp_lines.specs.inner.Reading as inner;
+ghost use Rattle.smtp_lines.specs.Reading as reading;
 
 use crate::digits::{are_digits, value_of};
 use crate::path::word_end;
@@ -25,7 +25,7 @@ pub(crate) struct Parameters {
 
 /// The parameters that a text has between blanks, or `None` where a word is none or comes twice.
 pub(crate) fn parameters_of(text: &[u8]) -> Option<Parameters>
-    ensures { result ≡ inner.parameters_of text.now }
+    ensures { result ≡ reading.parameters_of text.now }
 {
     let mut given = Parameters {
         size: None,
@@ -44,7 +44,7 @@ pub(crate) fn parameters_of(text: &[u8]) -> Option<Parameters>
 }
 
 fn with_given(earlier: Parameters, given: Option<Given>) -> Option<Parameters>
-    ensures { result ≡ inner.with_given earlier given }
+    ensures { result ≡ reading.with_given earlier given }
 {
     match given {
         None => None,
@@ -54,7 +54,7 @@ fn with_given(earlier: Parameters, given: Option<Given>) -> Option<Parameters>
 }
 
 fn with_size(earlier: Parameters, size: u128) -> Option<Parameters>
-    ensures { result ≡ inner.with_given earlier (Some (Given.Size size)) }
+    ensures { result ≡ reading.with_given earlier (Some (Given.Size size)) }
 {
     if earlier.size.is_some() {
         return None;
@@ -64,7 +64,7 @@ fn with_size(earlier: Parameters, size: u128) -> Option<Parameters>
 }
 
 fn with_body(earlier: Parameters, eight: bool) -> Option<Parameters>
-    ensures { result ≡ inner.with_given earlier (Some (Given.Body eight)) }
+    ensures { result ≡ reading.with_given earlier (Some (Given.Body eight)) }
 {
     if earlier.body.is_some() {
         return None;
@@ -74,7 +74,7 @@ fn with_body(earlier: Parameters, eight: bool) -> Option<Parameters>
 }
 
 fn given_by(word: &[u8]) -> Option<Given>
-    ensures { result ≡ inner.given_by word.now }
+    ensures { result ≡ reading.given_by word.now }
 {
     if word.eq_ignore_ascii_case(b"BODY=7BIT") {
         return Some(Given::Body(false));
@@ -94,7 +94,7 @@ fn given_by(word: &[u8]) -> Option<Given>
 }
 
 fn size_of(digits: &[u8]) -> Option<u128>
-    ensures { result ≡ inner.size_of digits.now }
+    ensures { result ≡ reading.size_of digits.now }
 {
     if digits.is_empty() {
         return None;

@@ -1,7 +1,7 @@
 ghost use Rattle.std.specs.Prelude.{◌≡◌, ◌≤◌, ◌<◌, length, IfSome, option_map};
 ghost use Rattle.smtp_lines.specs.Paths.{without_route, local_part};
-ghost use Rattle.smtp_lines.specs.inner.Reading as inner;
-ghost use Rattle.smtp_lines.specs.inner.PathEnds as ends;
+ghost use Rattle.smtp_lines.specs.Reading as reading;
+ghost use Rattle.smtp_lines.specs.PathEnds as ends;
 
 use bstr::ByteSlice;
 use mail_base::{MOST_LOCAL_PART, MOST_PATH};
@@ -15,7 +15,7 @@ pub(crate) struct Parts<'a> {
 
 /// The path at the front of a text, without its angles, or `None` where it doesn't end.
 pub(crate) fn path_parts(text: &[u8]) -> Option<Parts<'_>>
-    ensures { option_map inner.parts_of result ≡ inner.path_parts text.now }
+    ensures { option_map reading.parts_of result ≡ reading.path_parts text.now }
 {
     let (first, rest) = text.split_first()?;
     if *first == b'<' {
@@ -29,7 +29,7 @@ pub(crate) fn path_parts(text: &[u8]) -> Option<Parts<'_>>
 }
 
 fn angle_parts(text: &[u8]) -> Option<Parts<'_>>
-    ensures { option_map inner.parts_of result ≡ ends.angle_parts text.now }
+    ensures { option_map reading.parts_of result ≡ ends.angle_parts text.now }
 {
     let end = path_end(text)?;
     Some(Parts {
@@ -76,7 +76,7 @@ fn quote_length(text: &[u8]) -> Option<usize>
 
 /// How many bytes stand before the first blank.
 pub(crate) fn word_end(text: &[u8]) -> usize
-    ensures end { result ≡ inner.word_end text.now }
+    ensures end { result ≡ reading.word_end text.now }
     ensures within { result ≤ length text.now }
 {
     text.find_byteset(b" \t").unwrap_or(text.len())
@@ -99,7 +99,7 @@ pub(crate) fn without_route(path: &[u8]) -> &[u8]
 /// Whether the path with its angles, or its local part, is above its limit.
 #[tactic(auto, unfolding(mail_base::specs::Limits::most_path, mail_base::specs::Limits::most_local_part))]
 pub(crate) fn is_long(path: &[u8]) -> bool
-    ensures { result ≡ inner.is_long path.now }
+    ensures { result ≡ reading.is_long path.now }
 {
     path.len() + 2 > MOST_PATH || local_part(path).len() > MOST_LOCAL_PART
 }

@@ -19,11 +19,11 @@ use Rattle.mail_base.specs.declared.command.LineFault.{LineFault}
 use Rattle.mail_base.specs.declared.command.LineFault.TheVariants.{Parameter}
 use Rattle.smtp_lines.specs.Paths.{HasPath, IsWritten, in_angles, bare, has_route, is_colon, without_route}
 use Rattle.smtp_lines.specs.Commands.{Order, Greet as HasGreet, Extend, From as HasFrom, To as HasTo, Begin as HasBegin, Reset, Wait, End as HasEnd, Verify, Expand, Explain, is_bad_byte, argument_of, without_blanks, Says as HasVerb, IsCommand, helo, ehlo, mail, rcpt, data_, rset, noop, quit, vrfy, expn, help, IsRead}
-use Rattle.smtp_lines.specs.inner.Reading.{order_of}
+use Rattle.smtp_lines.specs.Reading.{order_of}
 use Rattle.smtp_lines.proofs.CommandLemmas.{order_read}
 use Rattle.mail_header.specs.Headers.{is_plain, is_name_byte, is_header, is_header_by, is_continuation}
 use Rattle.mail_header.specs.Gatherings.{is_above}
-use Rattle.mail_header.specs.inner.Lines.{belongs, block_of, goes_on, joined, headers_in, headers_of, body_of, size_of}
+use Rattle.mail_header.specs.Lines.{belongs, block_of, goes_on, joined, headers_in, headers_of, body_of, size_of}
 use Rattle.smtp_receive.specs.Requests.{Request, Greet, From, To, Begin, End, is_served, request_in, request_by, request_of}
 use Rattle.smtp_receive.specs.Dialogue.{Answer, Says, Greets, Grants, Closes, Gives, Takes, Exchange, Heard, bracketed, ends, sender_by, recipient_by, helo_by, sender_told, recipient_told, helo_told, Transaction, no_transaction, gone_on, transaction_in, sender_in, recipient_in, lines_in, helo_in, path_from, path_to, argument_in, asked, read_in, or_else, command_answer, message_answer, end_answer, answer_to, exchanges}
 use Rattle.smtp_receive.specs.Sessions.{answer_of}

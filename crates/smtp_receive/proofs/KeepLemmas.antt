@@ -10,7 +10,7 @@ use Rattle.mail_base.specs.declared.message.Kept.{Kept}
 use Rattle.smtp_receive.specs.declared.session.Session.{Session}
 use Rattle.mail_header.specs.declared.gathered.Gathered.{Gathered}
 use Rattle.mail_header.specs.Gatherings.{Gathers, IsSmall, is_above, unless}
-use Rattle.mail_header.specs.inner.Lines.{headers_of, body_of, block_of, size_of}
+use Rattle.mail_header.specs.Lines.{headers_of, body_of, block_of, size_of}
 use Rattle.mail_header.proofs.SizeLemmas.{gathers_small}
 use Rattle.mail_header.proofs.SplitLemmas.{exact_size, same_above}
 use Rattle.mail_base.specs.Limits.{most_message, most_headers}

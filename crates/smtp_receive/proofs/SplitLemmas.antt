@@ -5,7 +5,7 @@ use Rattle.mail_base.specs.Limits.{most_message, most_headers}
 use Rattle.mail_base.specs.declared.message.Kept.{Kept}
 use Rattle.mail_header.specs.Gatherings.{is_above}
 use Rattle.mail_header.specs.Headers.{AreLines, text_of}
-use Rattle.mail_header.specs.inner.Lines.{headers_of, body_of, block_of, size_of}
+use Rattle.mail_header.specs.Lines.{headers_of, body_of, block_of, size_of}
 use Rattle.mail_header.proofs.GrammarLemmas.{split_of_lines}
 use Rattle.smtp_lines.specs.declared.line.Line.{Line}
 use Rattle.smtp_lines.specs.declared.line.Line.TheVariants.{DataEnd}

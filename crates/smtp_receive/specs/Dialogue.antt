@@ -14,8 +14,8 @@ use Rattle.mail_base.specs.declared.command.LineFault.{LineFault}
 use Rattle.mail_base.specs.declared.command.LineFault.TheVariants.{BadByte as HasBadByte, Unknown, ArgumentNeeded as LacksArgument, NoArgument as HasArgument, Syntax, PathTooLong as HasLongPath, Parameter}
 use Rattle.mail_base.specs.Limits.{most_message, most_headers}
 use Rattle.mail_header.specs.Gatherings.{is_above}
-use Rattle.mail_header.specs.inner.Lines.{headers_of, body_of, block_of, size_of}
-use Rattle.smtp_lines.specs.inner.Reading.{is_nothing}
+use Rattle.mail_header.specs.Lines.{headers_of, body_of, block_of, size_of}
+use Rattle.smtp_lines.specs.Reading.{is_nothing}
 use Rattle.smtp_receive.specs.Requests.{Request, Greet, From, To, Begin, End, request_of}
 use Rattle.smtp_lines.specs.Parameters.{listed}
 use Rattle.smtp_receive.specs.Replies.{text_of, grant_text, hello_text, closing_text, stored_text, out_of_memory_text}

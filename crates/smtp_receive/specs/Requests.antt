@@ -5,7 +5,7 @@ use Rattle.mail_base.specs.declared.command.Verb.TheVariants.{Mail as VerbMail}
 use Rattle.mail_base.specs.declared.command.LineFault.{LineFault}
 use Rattle.mail_base.specs.declared.command.LineFault.TheVariants.{BadByte, Unknown, ArgumentNeeded, NoArgument, Syntax, PathTooLong, Parameter}
 use Rattle.smtp_lines.specs.Commands.{Order, Greet as HasGreet, Extend, From as HasFrom, To as HasTo, Begin as HasBegin, Reset, Wait, End as HasEnd, Verify, Expand, Explain}
-use Rattle.smtp_lines.specs.inner.Reading.{order_of}
+use Rattle.smtp_lines.specs.Reading.{order_of}
 use Rattle.smtp_receive.specs.declared.request.Request.{Request as Borrowed}
 use Rattle.smtp_receive.specs.declared.request.Request.TheVariants.{Helo, Mail, Rcpt, Data, Quit}
 

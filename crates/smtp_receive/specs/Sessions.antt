@@ -12,7 +12,7 @@ use Rattle.smtp_receive.specs.declared.ending.End.{End}
 use Rattle.smtp_receive.specs.declared.ending.End.TheVariants.{Nothing, Refused, Whole}
 use Rattle.mail_header.specs.declared.gathered.Gathered.{Gathered}
 use Rattle.mail_header.specs.Gatherings.{Gathers, IsSmall, is_above}
-use Rattle.smtp_lines.specs.inner.Reading.{is_nothing}
+use Rattle.smtp_lines.specs.Reading.{is_nothing}
 use Rattle.smtp_receive.specs.declared.session.Session.{Session}
 use Rattle.smtp_receive.specs.Replies.{shown_host}
 use Rattle.smtp_receive.specs.Dialogue.{Heard, Exchange, Answer, exchanges, answer_to, did_of, sender_in, recipient_in, lines_in, helo_in}

@@ -1,6 +1,6 @@
 ghost use Rattle.std.specs.Prelude.{◌≡◌, Option, ℕ};
 ghost use Rattle.smtp_lines.specs.Commands.{as_order, as_read};
-ghost use Rattle.smtp_lines.specs.inner.Reading.{order_of};
+ghost use Rattle.smtp_lines.specs.Reading.{order_of};
 ghost use Rattle.smtp_receive.specs.Requests as spec;
 
 use crate::reply::first;

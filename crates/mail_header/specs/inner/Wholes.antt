@@ -2,7 +2,7 @@
 use Rattle.std.specs.Prelude.{◌≡◌, ◌≤◌, ℕ, ◌+◌, Bool, true, false, List, ◌++◌, length, take, drop}
 use Rattle.mail_base.specs.Texts.{crlf}
 use Rattle.mail_header.specs.Headers.{is_header, is_continuation}
-use Rattle.mail_header.specs.inner.Lines.{belongs}
+use Rattle.mail_header.specs.Lines.{belongs}
 
 -- a text begins with a line of the header block, of so many bytes without its end
 pub record BeginsLine (begun : Bool) (text : List ℕ) (end : ℕ) : Type 0 where

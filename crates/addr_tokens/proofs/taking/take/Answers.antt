@@ -14,4 +14,4 @@ returns-clause-goes g c = λ alphabet angles text serves is more first so.
     let fits = suits alphabet angles text _ c.args.place _ _ _ so c.args.rest.now is more c.args.front c.requires.within first in
     let next = at_next alphabet angles text _ c.args.place _ _ _ so c.args.rest.now is more c.args.front c.requires.within first (reverse c.note.new.self.places.items) c.add.new.self.is_long (map g.T.Given.seen c.add.new.self.given) (c.in_ok-note.ensures.places _) (c.in_ok-add.ensures alphabet.dollars serves fits) in
     let P : Bool → ℕ → Type 0 = λ k n. At alphabet angles text k (c.args.place + n) (reverse c.note.new.self.places.items) c.add.new.self.is_long (map g.T.Given.seen c.add.new.self.given) in
-    subst (λ k. P k c.size.result) (sym c.in_ok-note.ensures.checked) (subst (P c.args.open.now.checked) (sym c.size.ensures) next)
+    subst (λ k. P k c.size.result) (sym c.in_ok-note.ensures.checked) (subst (P c.args.unclosed.now.checked) (sym c.size.ensures) next)

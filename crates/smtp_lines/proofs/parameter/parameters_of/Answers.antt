@@ -1,7 +1,7 @@
 use Rattle.std.proofs.Common.{◌+◌, ◌≤◌, ◌<◌, Some, length, take, drop, ap, ◌∙◌, arith}
 use Rattle.std.proofs.lemmas.List.{take_rest, length-drop}
 use Rattle.smtp_lines.specs.Parameters.{words_of}
-use Rattle.smtp_lines.specs.inner.Reading.{word_end, given_by, with_given, with_words}
+use Rattle.smtp_lines.specs.Reading.{word_end, given_by, with_given, with_words}
 use Rattle.smtp_lines.proofs.WordLemmas.{parameter_more, parameter_bad, parameter_skip}
 use Rattle.smtp_lines.proofs.parameter.parameters_of.Goals as goal
 use Rattle.smtp_lines.proofs.parameter.parameters_of.Goals.{then-end-gt0+in_ok-given, else-end-gt0}

@@ -1,6 +1,6 @@
 use Rattle.std.proofs.Common.{◌≡◌, ◌≤◌, ◌+◌, ◌-◌, Some, length, drop}
 use Rattle.smtp_lines.specs.Parameters.{words_of}
-use Rattle.smtp_lines.specs.inner.Reading.{with_words, parameters_of}
+use Rattle.smtp_lines.specs.Reading.{with_words, parameters_of}
 use Rattle.smtp_lines.proofs.parameter.parameters_of.Given as goal
 
 abbrev pub invariant-loop-place : goal.invariant-loop-place

@@ -1,6 +1,6 @@
 use Rattle.std.proofs.Common.{◌+◌, ◌≤◌, length, drop, sym, ap, ◌∙◌, arith}
 use Rattle.std.proofs.lemmas.List.{take_rest, length-drop}
-use Rattle.smtp_lines.specs.inner.PathEnds.{quote_length, path_end}
+use Rattle.smtp_lines.specs.PathEnds.{quote_length, path_end}
 use Rattle.smtp_lines.proofs.PathStepLemmas.{moved_zero, path_hit, path_step, path_quote, path_open, path_over}
 use Rattle.smtp_lines.proofs.path.path_end.Goals as goal
 

@@ -1,5 +1,5 @@
 use Rattle.std.proofs.Common.{◌≡◌, ◌≤◌, ◌-◌, length, drop}
-use Rattle.smtp_lines.specs.inner.PathEnds.{path_end}
+use Rattle.smtp_lines.specs.PathEnds.{path_end}
 use Rattle.smtp_lines.proofs.PathStepLemmas.{moved}
 use Rattle.smtp_lines.proofs.path.path_end.Given as goal
 

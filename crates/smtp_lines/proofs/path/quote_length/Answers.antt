@@ -1,5 +1,5 @@
 use Rattle.std.proofs.Common.{◌+◌, drop, sym, ◌∙◌, arith}
-use Rattle.smtp_lines.specs.inner.PathEnds.{quote_length}
+use Rattle.smtp_lines.specs.PathEnds.{quote_length}
 use Rattle.smtp_lines.proofs.PathStepLemmas.{moved, moved_zero, quote_hit, quote_step, quote_skip, quote_over}
 use Rattle.smtp_lines.proofs.path.quote_length.Goals as goal
 use Rattle.smtp_lines.proofs.path.quote_length.Goals.{then-byte-eq92, else-byte-eq92}

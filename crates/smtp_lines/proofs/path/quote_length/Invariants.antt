@@ -1,5 +1,5 @@
 use Rattle.std.proofs.Common.{◌≡◌, ◌≤◌, ◌+◌, ◌-◌, length, drop}
-use Rattle.smtp_lines.specs.inner.PathEnds.{quote_length}
+use Rattle.smtp_lines.specs.PathEnds.{quote_length}
 use Rattle.smtp_lines.proofs.PathStepLemmas.{moved}
 use Rattle.smtp_lines.proofs.path.quote_length.Given as goal
 

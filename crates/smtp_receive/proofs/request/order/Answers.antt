@@ -1,5 +1,5 @@
 use Rattle.smtp_lines.specs.Commands.{as_read}
-use Rattle.smtp_lines.specs.inner.Reading.{order_of}
+use Rattle.smtp_lines.specs.Reading.{order_of}
 use Rattle.smtp_lines.proofs.CommandLemmas.{one_read, order_read}
 use Rattle.smtp_receive.proofs.request.order.Goals as goal
 

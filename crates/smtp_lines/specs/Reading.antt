@@ -1,4 +1,5 @@
--- How a command line is computed. It need not be believed: the contract of `command` is by the grammar of Commands.
+-- How a command line is computed, by which the requests of a session go. The contract of `command` is by the grammar of
+-- Commands; the law `one_command` says that the two are one.
 use Rattle.std.specs.Prelude.{ℕ, ◌+◌, ◌==◌, nat_lt, ◌||◌, Bool, true, false, not, ◌&&◌, List, [], ◌∷◌, length, take, drop, Option, Some, None, Result, Ok, Err, unwrap_or, option_and_then, is_some, nat_le, if◌then◌else◌, codes}
 use Rattle.std.specs.List.{list_any, list_all, position_or_len}
 use Rattle.std.specs.Char.{is_ascii_digit}
@@ -18,7 +19,7 @@ use Rattle.smtp_lines.specs.Stream.{verb_of}
 use Rattle.smtp_lines.specs.Paths.{Parts, is_parted, without_route, local_part}
 use Rattle.smtp_lines.specs.Parameters.{words_of, is_some_text}
 use Rattle.smtp_lines.specs.Commands.{Order, Greet, Extend, From, To, Begin, Reset, Wait, End, Verify, Expand, Explain, is_bad_byte, without_blanks, argument_of}
-use Rattle.smtp_lines.specs.inner.PathEnds.{angle_parts}
+use Rattle.smtp_lines.specs.PathEnds.{angle_parts}
 
 -- the verb of a word, whatever its case
 abbrev pub verb_named : List ℕ → Option Verb

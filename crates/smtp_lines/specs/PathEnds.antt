@@ -1,4 +1,4 @@
--- How the end of a path is computed. It need not be believed: the law one_path says that it is where Paths has it.
+-- How the end of a path is computed. The law `one_path` says that it is where Paths has it.
 use Rattle.std.specs.Prelude.{ℕ, zero, suc, ◌+◌, ◌==◌, List, [], ◌∷◌, take, drop, Option, Some, None, option_map, option_and_then, if◌then◌else◌}
 use Rattle.smtp_lines.specs.Paths.{Parts}
 
