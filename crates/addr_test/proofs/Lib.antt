@@ -1,4 +1,3 @@
 mod ListingLemmas
-mod PositionLemmas
 mod PrintingLemmas
 mod RunLemmas

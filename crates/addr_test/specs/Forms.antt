@@ -1,8 +1,9 @@
 -- The forms of a line of address test mode (Sendmail Installation and Operation Guide, "Address Testing Mode"; where words and names end, and what isn't a form, is our own).
-use Rattle.std.specs.Prelude.{◌≡◌, ℕ, ◌+◌, List, [], ◌∷◌, length, take, drop, bytes_eq, Bool, ◌==◌, ◌&&◌, ◌||◌, not, nat_lt, if◌then◌else◌, Option, None, Some, position, codes, refl}
+use Rattle.std.specs.Prelude.{◌≡◌, ℕ, List, [], ◌∷◌, length, take, drop, bytes_eq, Bool, ◌==◌, ◌&&◌, ◌||◌, not, nat_lt, if◌then◌else◌, codes, refl}
 use Rattle.std.specs.List.{list_any, position_or_len, prefix_len, slice_split}
 use Rattle.mail_base.specs.Limits.{most_line}
 use Rattle.mail_base.specs.Whites.{is_white}
+use Rattle.cf_macros.specs.Names.{split_name}
 
 -- what a line asks for, where it isn't `/quit`
 pub data Form : Type 0 where
@@ -37,16 +38,6 @@ without_whites text = drop (prefix_len is_white text) text
 -- what stands before the first white space, and what stands behind that white space
 abbrev pub split_word : List ℕ → List ℕ × List ℕ
 split_word text = (take (position_or_len is_white text) text, without_whites (drop (position_or_len is_white text) text))
-
--- an open brace (123) is a name itself where nothing closes it
-abbrev pub braced_name : List ℕ → Option ℕ → List ℕ × List ℕ
-braced_name text None = (123 ∷ [], text)
-braced_name text (Some size) = (take size text, drop (size + 1) text)
-
--- the name of a macro or a class that a text begins with, one byte or a word in braces, and what is behind it; the empty text has the empty name
-abbrev pub split_name : List ℕ → List ℕ × List ℕ
-split_name [] = ([], [])
-split_name (b ∷ text) = if b == 123 then braced_name text (position (λ c. c == 125) text) else (b ∷ [], text)
 
 abbrev pub is_nothing : List ℕ → Bool
 is_nothing text = length text == 0
@@ -131,7 +122,6 @@ is_quit line = bytes_eq line (codes "/quit")
 
 example :
     (split_word (codes "3,0 \ta b") ≡ (codes "3,0", codes "a b"))
-    × (split_name (codes "{word}a}b") ≡ (codes "word", codes "a}b"))
     × (names_in (codes "3,canon") ≡ codes "3" ∷ codes "canon" ∷ [])
     × (form_by 47 (codes "map t a b") ≡ Lookup (codes "t") (codes "a b"))
     × (form_by 61 (codes "S3") ≡ Rules (codes "3"))
@@ -139,4 +129,4 @@ example :
     × (form_by 36 (codes "=wx") ≡ Unknown)
     × (form_by 46 (codes "Dx1") ≡ Defines (codes "x") (codes "1"))
     × (form_by 51 (codes ",,0 a") ≡ Unknown)
-example = (refl, refl, refl, refl, refl, refl, refl, refl, refl)
+example = (refl, refl, refl, refl, refl, refl, refl, refl)

@@ -2,11 +2,12 @@ ghost use Rattle.std.specs.Prelude.{◌≡◌, Some, IfOk, OnErr, OnOk};
 ghost use Rattle.mail_base.specs.Catalogs.{with_value};
 ghost use Rattle.map_tables.specs.Words.{words as spec_words};
 ghost use Rattle.addr_test.specs.Answers.{added, added_text};
-ghost use Rattle.addr_test.specs.Words.{class_words, words_in, words_or_none};
+ghost use Rattle.addr_tokens.specs.Members.{words_or_none};
+ghost use Rattle.addr_test.specs.Words.{class_words};
 
-use crate::members::{are_refused, members_of};
 use crate::printing::line_of;
 use crate::words::words;
+use addr_tokens::{any_refused, members};
 use cf_macros::{ExpandFault, expand};
 use mail_base::{Config, Macros, NoMemory, Seq, Text};
 use std::alloc::Global;
@@ -57,7 +58,7 @@ fn add_words(
     ensures err { OnErr result (config.new ≡ config.old) }
 {
     let class = Text::of(alloc, class)?;
-    let members = members_of(alloc, &config.options.operator_chars, words)?;
+    let members = members(alloc, &config.options.operator_chars, words)?;
     config.classes.extend(&class, members)?;
     Ok(Text::new(alloc))
 }
@@ -79,7 +80,7 @@ fn taken(alloc: Global, text: &Text) -> Result<Option<Seq<Text>>, NoMemory>
     ensures { IfOk result (λ words. words ≡ words_or_none (spec_words text.now)) }
 {
     let words = words(alloc, text.bytes())?;
-    if are_refused(alloc, words.items())? {
+    if any_refused(alloc, words.items())? {
         return Ok(None);
     }
     Ok(Some(words))

@@ -1,8 +1,10 @@
 ghost use Rattle.std.specs.Prelude.{◌≡◌};
+ghost use Rattle.cf_macros.specs.Names as names;
 ghost use Rattle.addr_test.specs.Forms as spec;
 ghost use Rattle.addr_test.specs.inner.Views.{seen};
 
-use crate::name::{split_name, split_word};
+use crate::name::split_word;
+use cf_macros::split_name;
 use mail_base::MOST_LINE;
 
 /// What a line asks for, where it isn't `/quit`. What it holds is borrowed from the line.
@@ -125,7 +127,7 @@ fn asked_form(text: &[u8]) -> Form<'_>
 }
 
 fn members_form(text: &[u8]) -> Form<'_>
-    ensures { seen result ≡ spec.members_form (spec.split_name text.now) }
+    ensures { seen result ≡ spec.members_form (names.split_name text.now) }
 {
     let (class, rest) = split_name(text);
     if !class.is_empty() && rest.is_empty() {
@@ -135,7 +137,7 @@ fn members_form(text: &[u8]) -> Form<'_>
 }
 
 fn value_form(text: &[u8]) -> Form<'_>
-    ensures { seen result ≡ spec.value_form (spec.split_name text.now) }
+    ensures { seen result ≡ spec.value_form (names.split_name text.now) }
 {
     let (name, rest) = split_name(text);
     if !name.is_empty() && rest.is_empty() {
@@ -160,7 +162,7 @@ fn change_form(text: &[u8]) -> Form<'_>
 }
 
 fn defines_form(text: &[u8]) -> Form<'_>
-    ensures { seen result ≡ spec.defines_form (spec.split_name text.now) }
+    ensures { seen result ≡ spec.defines_form (names.split_name text.now) }
 {
     let (name, value) = split_name(text);
     if name.is_empty() {
@@ -170,7 +172,7 @@ fn defines_form(text: &[u8]) -> Form<'_>
 }
 
 fn adds_form(text: &[u8]) -> Form<'_>
-    ensures { seen result ≡ spec.adds_form (spec.split_name text.now) }
+    ensures { seen result ≡ spec.adds_form (names.split_name text.now) }
 {
     let (class, words) = split_name(text);
     if class.is_empty() {

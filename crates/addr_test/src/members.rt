@@ -1,15 +1,10 @@
-ghost use Rattle.std.specs.Prelude.{◌≡◌, ◌++◌, [], false, map, IfOk, OnOk};
-ghost use Rattle.std.specs.List.{list_any};
-ghost use Rattle.mail_base.specs.Catalogs.{members_of, value_at};
-ghost use Rattle.addr_tokens.specs.Pieces.{plain};
-ghost use Rattle.addr_tokens.specs.Reader.{tokens_or_fault};
+ghost use Rattle.std.specs.Prelude.{◌≡◌, IfOk};
 ghost use Rattle.addr_test.specs.Answers.{ListsMembers};
 ghost use Rattle.addr_test.specs.Texts.{lines_text};
 ghost use Rattle.addr_test.specs.Words as spec;
 
 use crate::printing::push_line;
-use addr_tokens::{ScanFault, computed, tokens};
-use mail_base::{Classes, Config, Member, NoMemory, Seq, Text, Token, TryCopy};
+use mail_base::{Config, Member, NoMemory, Seq, Text, TryCopy};
 use std::alloc::Global;
 
 /// The members of a class in order, each on a line of its own.
@@ -50,63 +45,4 @@ fn lines_of(alloc: Global, texts: &[Text]) -> Result<Text, NoMemory>
         push_line(text.bytes(), &mut lines)?;
     }
     Ok(lines)
-}
-
-/// Whether one of the words can't be cut into tokens, under any operators.
-pub(crate) fn are_refused(alloc: Global, words: &[Text]) -> Result<bool, NoMemory>
-    ensures { IfOk result (λ refused. refused ≡ list_any spec.cannot_be_cut words.now) }
-{
-    for word in words {
-        if cannot_be_cut(alloc, word)? {
-            return Ok(true);
-        }
-    }
-    Ok(false)
-}
-
-fn cannot_be_cut(alloc: Global, word: &Text) -> Result<bool, NoMemory>
-    ensures { IfOk result (λ cannot. cannot ≡ spec.cannot_be_cut word.now) }
-{
-    computed();
-    match tokens(alloc, word, &Text::new(alloc), false) {
-        Ok(_) => Ok(false),
-        Err(ScanFault::Long) => Ok(false),
-        Err(ScanFault::NoMemory) => Err(NoMemory),
-        Err(_) => Ok(true),
-    }
-}
-
-/// The members that words are under these operators.
-pub(crate) fn members_of(
-    alloc: Global,
-    operators: &Text,
-    words: &[Text],
-) -> Result<Seq<Member>, NoMemory>
-    ensures { IfOk result (λ members. members ≡ map (spec.member_of operators.now) words.now) }
-{
-    let mut members = Seq::new(alloc);
-    for word in words {
-        members.push(member(alloc, operators, word)?)?;
-    }
-    Ok(members)
-}
-
-fn member(alloc: Global, operators: &Text, word: &Text) -> Result<Member, NoMemory>
-    ensures { IfOk result (λ member. member ≡ spec.member_of operators.now word.now) }
-{
-    let tokens = cut(alloc, operators, word)?;
-    let text = Text::of(alloc, word.bytes())?;
-    Ok(Member { text, tokens })
-}
-
-// The tokens of a word, or none where it can't be cut.
-fn cut(alloc: Global, operators: &Text, word: &Text) -> Result<Option<Seq<Token>>, NoMemory>
-    ensures { IfOk result (λ given. given ≡ spec.tokens_in (tokens_or_fault (plain operators.now) false word.now)) }
-{
-    computed();
-    match tokens(alloc, word, operators, false) {
-        Ok(tokens) => Ok(Some(tokens)),
-        Err(ScanFault::NoMemory) => Err(NoMemory),
-        Err(_) => Ok(None),
-    }
 }

@@ -1,9 +1,8 @@
 ghost use Rattle.std.specs.Prelude.{◌≡◌, ◌≤◌, length};
 ghost use Rattle.std.specs.List.{position_or_len, prefix_len};
 ghost use Rattle.mail_base.specs.Whites.{is_white};
-ghost use Rattle.addr_test.specs.Forms.{split_name, split_word, without_whites};
+ghost use Rattle.addr_test.specs.Forms.{split_word, without_whites};
 
-use bstr::ByteSlice;
 use mail_base::is_white;
 
 /// What stands before the first white space, and what stands behind that white space.
@@ -42,23 +41,4 @@ fn whites_length(text: &[u8]) -> usize
         }
     }
     text.len()
-}
-
-/// The name of a macro or a class that a text begins with, one byte or a word in braces, and what is
-/// behind it. The name of an empty text is empty, and an open brace that nothing closes is a name
-/// itself.
-#[tactic(auto, using(crate::proofs::PositionLemmas::position_found, crate::proofs::PositionLemmas::position_none, crate::proofs::PositionLemmas::behind_place))]
-pub(crate) fn split_name(text: &[u8]) -> (&[u8], &[u8])
-    ensures { (result.0.now, result.1.now) ≡ split_name text.now }
-{
-    let Some((first, rest)) = text.split_first() else {
-        return (&[], &[]);
-    };
-    if *first != b'{' {
-        return (&text[..1], rest);
-    }
-    match rest.find_byte(b'}') {
-        Some(size) => (&rest[..size], &rest[size + 1..]),
-        None => (&text[..1], rest),
-    }
 }

@@ -3,7 +3,8 @@ ghost use Rattle.std.specs.Fmt.{decimal};
 ghost use Rattle.addr_tokens.specs.Joins as joins;
 ghost use Rattle.addr_test.specs.Texts as spec;
 
-use mail_base::{Mark, NoMemory, Text, Token};
+use addr_tokens::push_token;
+use mail_base::{NoMemory, Text, Token};
 use std::alloc::Global;
 
 /// A text, on a line of its own.
@@ -47,29 +48,7 @@ fn push_spaced(tokens: &[Token], out: &mut Text) -> Result<(), NoMemory>
 {
     for token in tokens {
         out.push(b' ')?;
-        push_token(token, out)?;
+        push_token(out, token)?;
     }
     Ok(())
-}
-
-fn push_token(token: &Token, out: &mut Text) -> Result<(), NoMemory>
-    ensures { OnOk result (out.new ≡ out.old ++ joins.token_bytes token.now) }
-{
-    match token {
-        Token::Word(text) | Token::Quoted(text) => out.extend(text.bytes()),
-        Token::Op(byte) => out.push(*byte),
-        Token::Sign(mark) => out.extend(sign_bytes(*mark)),
-    }
-}
-
-fn sign_bytes(mark: Mark) -> &'static [u8]
-    ensures { result.now ≡ joins.sign_bytes mark }
-{
-    match mark {
-        Mark::Alt => b"$|",
-        Mark::Mailer => b"$#",
-        Mark::Host => b"$@",
-        Mark::User => b"$:",
-        Mark::End => b"$.",
-    }
 }

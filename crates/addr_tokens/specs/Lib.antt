@@ -1,5 +1,6 @@
 pub mod Pieces
 pub mod Scans
 pub mod Joins
+pub mod Members
 pub mod Reader
 pub mod inner

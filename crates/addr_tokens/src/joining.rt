@@ -1,4 +1,4 @@
-ghost use Rattle.std.specs.Prelude.{◌≡◌, ◌++◌, IfOk, OnOk};
+ghost use Rattle.std.specs.Prelude.{◌≡◌, ◌++◌, IfOk, OnErr, OnOk};
 ghost use Rattle.addr_tokens.specs.Joins as spec;
 
 use mail_base::{Mark, NoMemory, Seq, Text, Token};
@@ -37,8 +37,11 @@ fn push_blank(text: &mut Text, blank: Option<u8>) -> Result<(), NoMemory>
     }
 }
 
-fn push_token(text: &mut Text, token: &Token) -> Result<(), NoMemory>
-    ensures { OnOk result (text.new ≡ text.old ++ spec.token_bytes token.now) }
+/// Adds the bytes of a token at the end of a text, a sign as its two bytes. After want of memory the
+/// text is as before.
+pub fn push_token(text: &mut Text, token: &Token) -> Result<(), NoMemory>
+    ensures ok { OnOk result (text.new ≡ text.old ++ spec.token_bytes token.now) }
+    ensures err { OnErr result (text.new ≡ text.old) }
 {
     match token {
         Token::Word(bytes) | Token::Quoted(bytes) => text.extend(bytes.bytes()),

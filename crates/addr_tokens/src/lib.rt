@@ -1,6 +1,6 @@
 //! The tokens of an address: [`tokens`] cuts a text into its tokens, and [`join`] joins tokens to a
 //! text. [`typed_tokens`] reads an address that is typed, and [`lexemes`] a side of a rule, with
-//! its dollar signs. `specs/Pieces.antt` says what a cutting is, and `specs/Scans.antt` which fault
+//! its dollar signs; [`members`] cuts the words of a class. `specs/Pieces.antt` says what a cutting is, and `specs/Scans.antt` which fault
 //! is the first.
 #![tactic(auto)]
 
@@ -13,12 +13,14 @@ mod given;
 mod joining;
 mod law;
 mod lexeme;
+mod member;
 mod scan;
 mod table;
 mod taking;
 
 pub use fault::ScanFault;
-pub use joining::join;
+pub use joining::{join, push_token};
 pub use law::{computed, cut_again, lexemes_are_tokens, one_answer, one_cutting};
 pub use lexeme::{Dollars, Lexeme};
+pub use member::{any_refused, members};
 pub use scan::{lexemes, tokens, typed_tokens};

@@ -1,4 +1,5 @@
 pub mod DateLemmas
+pub mod PositionLemmas
 pub mod ReadingLemmas
 pub mod InsideLemmas
 pub mod RunLemmas

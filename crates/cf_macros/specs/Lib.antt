@@ -1,6 +1,7 @@
 pub mod Constructs
 pub mod Dates
 pub mod Expansion
+pub mod Names
 pub mod Readings
 pub mod Written
 pub mod inner

@@ -1,6 +1,6 @@
 //! The values of macros in a text, and the dates that macros have. `specs/Expansion.antt` says what
 //! [`expand`] gives and what [`expand_rule`] gives of a side of a rule, and `specs/Dates.antt` what
-//! [`date`] gives.
+//! [`date`] gives. [`split_name`] takes the name of a macro or a class from the front of a text.
 #![tactic(auto)]
 
 mod construct;
@@ -10,6 +10,7 @@ mod fault;
 mod form;
 mod law;
 mod level;
+mod name;
 mod run;
 mod scan;
 mod scope;
@@ -20,3 +21,4 @@ pub use expansion::{expand, expand_rule};
 pub use fault::ExpandFault;
 pub use form::Form;
 pub use law::{rule_values_by_first_construct, values_by_first_construct};
+pub use name::split_name;

@@ -1,5 +1,4 @@
 mod LineLemmas
-mod PositionLemmas
 mod SetLemmas
 mod FileLemmas
 mod PlaceLemmas

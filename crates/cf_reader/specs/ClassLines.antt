@@ -1,15 +1,11 @@
 -- C and F lines, which give words to a class (Sendmail Installation and Operation Guide, "C and F: Define Classes"; which words are refused is our own).
 use Rattle.std.specs.Prelude.{ℕ, Bool, true, false, not, ◌==◌, List, map, [], ◌∷◌, bytes_eq, codes, Option, Some, None, is_some, unwrap_or, Result, Ok, Err, if◌then◌else◌}
-use Rattle.std.specs.List.{list_any, flat_map, before_first}
+use Rattle.std.specs.List.{flat_map, before_first}
 use Rattle.std.specs.Str.Lines.{lines}
-use Rattle.mail_base.specs.declared.token.Token.{Token}
 use Rattle.mail_base.specs.declared.class.Member.{Member}
 use Rattle.mail_base.specs.Catalogs.{value_at, with_value, members_of}
 use Rattle.mail_base.specs.Classes.{with_members}
-use Rattle.addr_tokens.specs.declared.fault.ScanFault.{ScanFault}
-use Rattle.addr_tokens.specs.declared.fault.ScanFault.TheVariants.{Long}
-use Rattle.addr_tokens.specs.Pieces.{plain}
-use Rattle.addr_tokens.specs.Reader.{tokens_or_fault}
+use Rattle.addr_tokens.specs.Members.{member_of, words_or_none}
 use Rattle.cf_macros.specs.declared.fault.ExpandFault.{ExpandFault}
 use Rattle.cf_macros.specs.Expansion.{value}
 use Rattle.mail_edge.specs.Seen.{FileMap, text_of}
@@ -17,25 +13,11 @@ use Rattle.cf_reader.specs.declared.class_line.ClassLine.{ClassLine}
 use Rattle.cf_reader.specs.declared.file_line.Wanted.{Wanted}
 use Rattle.cf_reader.specs.declared.fault.Fault.{Fault}
 use Rattle.cf_reader.specs.declared.fault.Fault.TheVariants.{BadPattern, NoSuchFile}
-use Rattle.cf_reader.specs.Names.{split_name}
+use Rattle.cf_macros.specs.Names.{split_name}
 use Rattle.cf_reader.specs.Reads.{first_fault}
 use Rattle.cf_reader.specs.Words.{words_of}
 
 -- ---- C lines, by what follows the letter
-
--- a fault of a text whatever the operators are: only how many tokens it has depends on these
-abbrev pub is_fault_anyway : Result (List Token) ScanFault → Bool
-is_fault_anyway (Ok tokens) = false
-is_fault_anyway (Err Long) = false
-is_fault_anyway (Err fault) = true
-
--- a word that can't be cut into tokens under any operators
-abbrev pub cannot_be_cut : List ℕ → Bool
-cannot_be_cut word = is_fault_anyway (tokens_or_fault (plain []) false word)
-
--- these words, or nothing where one of them can't be cut
-abbrev pub words_or_none : List (List ℕ) → Option (List (List ℕ))
-words_or_none words = if list_any cannot_be_cut words then None else Some words
 
 -- what a text is expanded to, or nothing where it can't be expanded
 abbrev pub text_in : Result (List ℕ) ExpandFault → Option (List ℕ)
@@ -61,15 +43,6 @@ abbrev pub class_of : List ℕ → List (List ℕ × List ℕ) → ClassLine
 class_of text macros = record { class = (split_name text).0; words = unwrap_or (class_words text macros) [] }
 
 -- ---- members
-
--- the tokens of a text, or none where it can't be cut
-abbrev pub tokens_in : Result (List Token) ScanFault → Option (List Token)
-tokens_in (Ok tokens) = Some tokens
-tokens_in (Err fault) = None
-
--- a word as a member of its class, under these operators
-abbrev pub member_of : List ℕ → List ℕ → Member
-member_of operators word = record { text = word; tokens = tokens_in (tokens_or_fault (plain operators) false word) }
 
 -- the classes with the words of a line
 abbrev pub with_words : List ℕ → List (List ℕ × List Member) → ClassLine → List (List ℕ × List Member)

@@ -1,7 +1,7 @@
 -- D lines, which set a macro (Sendmail Installation and Operation Guide, "D: Define Macro").
 use Rattle.std.specs.Prelude.{◌≡◌, ℕ, List, [], ◌∷◌, codes, refl}
 use Rattle.mail_base.specs.Catalogs.{with_value}
-use Rattle.cf_reader.specs.Names.{split_name}
+use Rattle.cf_macros.specs.Names.{split_name}
 
 -- the macros behind a D line, by what follows the letter: all behind the name is the value, which isn't expanded until the macro is used
 abbrev pub with_macro : List ℕ → List (List ℕ × List ℕ) → List (List ℕ × List ℕ)

@@ -1,5 +1,4 @@
 pub mod Reads
-pub mod Names
 pub mod Words
 pub mod Cuts
 pub mod LogicalLines

@@ -1,16 +1,13 @@
-ghost use Rattle.std.specs.Prelude.{◌≡◌, IfOk};
-ghost use Rattle.std.specs.List.{list_any};
 ghost use Rattle.cf_macros.specs.Expansion.{value};
 ghost use Rattle.cf_reader.specs.declared.fault.Fault.TheVariants.{BadPattern};
-ghost use Rattle.cf_reader.specs.ClassLines.{cannot_be_cut, class_of, fault_of_class, text_in, words_in};
+ghost use Rattle.cf_reader.specs.ClassLines.{class_of, fault_of_class, text_in, words_in};
 ghost use Rattle.cf_reader.specs.Reads.{Reads, Opens};
 
-use crate::cutting::cannot_be_cut;
 use crate::fault::{Fault, LineStop};
-use crate::name::split_name;
 use crate::words::words;
-use cf_macros::{ExpandFault, expand};
-use mail_base::{Macros, NoMemory, Seq, Text};
+use addr_tokens::any_refused;
+use cf_macros::{ExpandFault, expand, split_name};
+use mail_base::{Macros, Seq, Text};
 use std::alloc::Global;
 
 /// The words that a C or F line gives to a class.
@@ -37,7 +34,7 @@ fn words_of(alloc: Global, text: &[u8], macros: &Macros) -> Result<Seq<Text>, Li
     let text = Text::of(alloc, text)?;
     let given = expanded(alloc, &text, macros)?;
     let words = words(alloc, given.bytes())?;
-    if are_refused(alloc, words.items())? {
+    if any_refused(alloc, words.items())? {
         return Err(LineStop::Refused(Fault::BadPattern));
     }
     Ok(words)
@@ -51,16 +48,4 @@ fn expanded(alloc: Global, text: &Text, macros: &Macros) -> Result<Text, LineSto
         Err(ExpandFault::NoMemory) => Err(LineStop::NoMemory),
         Err(_) => Err(LineStop::Refused(Fault::BadPattern)),
     }
-}
-
-// Whether one of the words can't be cut.
-fn are_refused(alloc: Global, words: &[Text]) -> Result<bool, NoMemory>
-    ensures { IfOk result (λ refused. refused ≡ list_any cannot_be_cut words.now) }
-{
-    for word in words {
-        if cannot_be_cut(alloc, word)? {
-            return Ok(true);
-        }
-    }
-    Ok(false)
 }

@@ -1,7 +1,7 @@
 ghost use Rattle.std.specs.Prelude.{◌≡◌, OnOk};
 ghost use Rattle.cf_reader.specs.DefineLines.{with_macro};
 
-use crate::name::split_name;
+use cf_macros::split_name;
 use mail_base::{Macros, NoMemory, Text};
 use std::alloc::Global;
 

@@ -1,12 +1,11 @@
-ghost use Rattle.std.specs.Prelude.{◌≡◌, map, slice_get, IfOk, OnOk};
-ghost use Rattle.cf_reader.specs.ClassLines.{member_of};
+ghost use Rattle.std.specs.Prelude.{◌≡◌, slice_get, IfOk, OnOk};
 ghost use Rattle.cf_reader.specs.Configuration as spec;
 ghost use Rattle.cf_reader.specs.inner.Steps.{with_group_at};
 
 use crate::class_line::ClassLine;
-use crate::cutting::member;
 use crate::state::State;
-use mail_base::{Catalog, Classes, Config, Group, Member, NoMemory, Seq, Text, TryCopy};
+use addr_tokens::members;
+use mail_base::{Catalog, Classes, Config, Group, NoMemory, Text, TryCopy};
 use std::alloc::Global;
 
 impl State {
@@ -28,20 +27,10 @@ fn classes_of(alloc: Global, operators: &Text, lines: &[ClassLine]) -> Result<Cl
 {
     let mut classes = Classes::new(alloc);
     for line in lines {
-        let members = members_of(alloc, operators, line.words.items())?;
+        let members = members(alloc, operators, line.words.items())?;
         classes.extend(&line.class, members)?;
     }
     Ok(classes)
-}
-
-fn members_of(alloc: Global, operators: &Text, words: &[Text]) -> Result<Seq<Member>, NoMemory>
-    ensures { IfOk result (λ members. members ≡ map (member_of operators.now) words.now) }
-{
-    let mut members = Seq::new(alloc);
-    for word in words {
-        members.push(member(alloc, operators, word)?)?;
-    }
-    Ok(members)
 }
 
 // The groups, each with a path.

@@ -5,7 +5,6 @@
 mod alias_paths;
 mod class_line;
 mod cuts;
-mod cutting;
 mod daemon_port;
 mod define_line;
 mod fault;
@@ -22,7 +21,6 @@ mod mailer_field;
 mod mailer_line;
 mod map_line;
 mod map_lines;
-mod name;
 mod option_line;
 mod option_value;
 mod pieces;

@@ -23,6 +23,6 @@ pub use files::{MapFile, wanted};
 pub use found::{Found, MapFault};
 pub use hosts::HostLine;
 pub use law::{each_lookup_is_told, sequence_hands_on};
-pub use maps::Maps;
+pub use maps::{Maps, macro_name};
 pub use named::Named;
 pub use table::{Table, first_line_counts};

@@ -150,8 +150,9 @@ fn set_macro(key: &Text, args: &Seq<Text>, macros: &mut Macros) -> Result<(), No
     }
 }
 
-// The word that a key has in braces, or else the key.
-fn macro_name(key: &[u8]) -> &[u8]
+/// The macro that a key of a map of class `macro` names: the word that it has in braces, or else the
+/// key.
+pub fn macro_name(key: &[u8]) -> &[u8]
     ensures { result.now ≡ macro_name key.now }
 {
     match key.split_first() {

@@ -1,12 +1,12 @@
-ghost use Rattle.std.specs.Prelude.{◌≡◌, ◌<◌, IfOk, IsTrue, OnOk, OnErr, fold, is_some, length, slice_get};
-ghost use Rattle.map_tables.specs.Answers.{TellsOr, ends_in_brace, macro_name, macros_after, map_answer, told};
+ghost use Rattle.std.specs.Prelude.{◌≡◌, ◌<◌, IfOk, OnOk, OnErr, fold, is_some, slice_get};
+ghost use Rattle.map_tables.specs.Answers.{TellsOr, macro_name, macros_after, map_answer, told};
 ghost use Rattle.ruleset_run.specs.Cutting as spec;
 ghost use Rattle.ruleset_run.specs.inner.Values.{current, is_changed, lates, probe_of, with_change, with_new};
 
 use addr_tokens::{ScanFault, computed, tokens};
 use cf_macros::{ExpandFault, expand};
 use mail_base::{Catalog, Macros, NoMemory, Seq, Text, Token, TryCopy};
-use map_tables::{Found, MapFault, Maps};
+use map_tables::{Found, MapFault, Maps, macro_name};
 use std::alloc::Global;
 use std::marker::Model;
 use std::mem;
@@ -223,28 +223,6 @@ fn cut(alloc: Global, text: &Text, operators: &Text) -> Result<Option<Seq<Token>
             _ => Ok(None),
         },
     }
-}
-
-// The word that a key has in braces, or else the key.
-fn macro_name(key: &[u8]) -> &[u8]
-    ensures { result.now ≡ macro_name key.now }
-{
-    match key.split_first() {
-        Some((first, rest)) => {
-            if *first == b'{' && ends_in_brace(rest) {
-                return &rest[..rest.len() - 1];
-            }
-            key
-        }
-        None => key,
-    }
-}
-
-fn ends_in_brace(text: &[u8]) -> bool
-    ensures value { result ≡ ends_in_brace text.now }
-    ensures some { IsTrue result → 0 < length text.now }
-{
-    !text.is_empty() && text[text.len() - 1] == b'}'
 }
 
 // Macros that show whether a look-up changes the one of this name.

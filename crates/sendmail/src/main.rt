@@ -44,13 +44,25 @@ use std::io::Write;
 use std::process::ExitCode;
 
 const HELP: &[u8] = b"usage: sendmail -bt|-bs [-C file]
+       sendmail --help|--version
 
   -bt      address test mode: answers each line of standard input
   -bs      serves one SMTP session on standard input and output
   -C file  reads this configuration instead of /etc/mail/sendmail.cf
 
-In address test mode a line of input is the name of a ruleset and an address;
-the line /quit ends.
+In address test mode a line of input is the name of a ruleset, or more of them
+with commas, and an address, or a command; the line /quit ends.
+
+The messages of -bs are put into the directory that QueueDirectory names in the
+configuration, by default /var/spool/mqueue. It must be there and be empty.
+
+The exit status is 0 when the work is done. Each other end has a line on
+standard error:
+  64 bad word            66 no file             69 floor fault
+  70 turns spent         71 no memory           72 files fault
+  73 write fault         74 read fault          75 spool fault
+  76 input too large     77 ids spent           78 configuration line
+  81 not yet (the queue holds a file)
 ";
 
 /// The most words whose places a `u32` can tell.

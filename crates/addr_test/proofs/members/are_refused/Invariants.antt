@@ -1,7 +1,0 @@
-use Rattle.std.proofs.Common.{◌≡◌, drop}
-use Rattle.std.specs.List.{list_any}
-use Rattle.addr_test.specs.Words.{cannot_be_cut}
-use Rattle.addr_test.proofs.members.are_refused.Given as goal
-
-abbrev pub invariant-loop-word : goal.invariant-loop-word
-invariant-loop-word l = list_any cannot_be_cut (drop l.word-index l.words) ≡ list_any cannot_be_cut l.fn.words
