@@ -9,12 +9,12 @@ use Rattle.mail_base.specs.declared.class.Member.{Member}
 use Rattle.addr_tokens.specs.Members.{member_of, words_or_none}
 use Rattle.cf_macros.specs.declared.fault.ExpandFault.{ExpandFault}
 use Rattle.cf_macros.specs.Expansion.{value}
-use Rattle.map_tables.specs.Words.{words}
+use Rattle.mail_base.specs.Words.{words_of}
 
 -- ---- the words of a text
 
 abbrev pub words_in : Result (List ℕ) ExpandFault → Option (List (List ℕ))
-words_in (Ok text) = words_or_none (words text)
+words_in (Ok text) = words_or_none (words_of text)
 words_in (Err fault) = None
 
 -- the words of a text once it is expanded, or nothing where it can't be expanded, or one of them can't be cut

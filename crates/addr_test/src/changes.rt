@@ -1,6 +1,6 @@
 ghost use Rattle.std.specs.Prelude.{◌≡◌, Some, IfOk, OnErr, OnOk};
 ghost use Rattle.mail_base.specs.Catalogs.{with_value};
-ghost use Rattle.map_tables.specs.Words.{words as spec_words};
+ghost use Rattle.mail_base.specs.Words.{words_of as all_words};
 ghost use Rattle.addr_test.specs.Answers.{added, added_text};
 ghost use Rattle.addr_tokens.specs.Members.{words_or_none};
 ghost use Rattle.addr_test.specs.Words.{class_words};
@@ -77,7 +77,7 @@ fn words_of(alloc: Global, text: &[u8], macros: &Macros) -> Result<Option<Seq<Te
 
 // The words of a text, or `None` where one of them can't be cut.
 fn taken(alloc: Global, text: &Text) -> Result<Option<Seq<Text>>, NoMemory>
-    ensures { IfOk result (λ words. words ≡ words_or_none (spec_words text.now)) }
+    ensures { IfOk result (λ words. words ≡ words_or_none (all_words text.now)) }
 {
     let words = words(alloc, text.bytes())?;
     if any_refused(alloc, words.items())? {

@@ -1,15 +1,15 @@
 ghost use Rattle.std.specs.Prelude.{◌≡◌, ◌++◌, map, IfOk};
 ghost use Rattle.addr_test.specs.Forms.{names_in};
-ghost use Rattle.map_tables.specs.Words.{words};
+ghost use Rattle.mail_base.specs.Words.{words_of};
 
-use mail_base::{NoMemory, Seq, Text, is_white};
+use mail_base::{NoMemory, Seq, Text};
 use std::alloc::Global;
 
 /// The words of a text, which stand between white space.
 pub(crate) fn words(alloc: Global, text: &[u8]) -> Result<Seq<Text>, NoMemory>
-    ensures { IfOk result (λ all. all ≡ words text.now) }
+    ensures { IfOk result (λ all. all ≡ words_of text.now) }
 {
-    let slices = word_slices(alloc, text)?;
+    let slices = mail_base::words(alloc, text)?;
     copies(alloc, slices.as_slice())
 }
 
@@ -29,16 +29,6 @@ fn copies(alloc: Global, slices: &[&[u8]]) -> Result<Seq<Text>, NoMemory>
         texts.push(Text::of(alloc, slice)?)?;
     }
     Ok(texts)
-}
-
-fn word_slices(alloc: Global, text: &[u8]) -> Result<Vec<&[u8]>, NoMemory>
-    ensures { IfOk result (λ slices. map (λ slice. slice.now) slices.items ≡ words text.now) }
-{
-    let slices = text
-        .split(|byte| is_white(*byte))
-        .filter(|word| !word.is_empty())
-        .collect(alloc)?;
-    Ok(slices)
 }
 
 fn name_slices(alloc: Global, sets: &[u8]) -> Result<Vec<&[u8]>, NoMemory>

@@ -15,7 +15,7 @@ use Rattle.cf_reader.specs.declared.fault.Fault.{Fault}
 use Rattle.cf_reader.specs.declared.fault.Fault.TheVariants.{BadPattern, NoSuchFile}
 use Rattle.cf_macros.specs.Names.{split_name}
 use Rattle.cf_reader.specs.Reads.{first_fault}
-use Rattle.cf_reader.specs.Words.{words_of}
+use Rattle.mail_base.specs.Words.{words_of}
 
 -- ---- C lines, by what follows the letter
 

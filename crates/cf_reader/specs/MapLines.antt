@@ -10,7 +10,7 @@ use Rattle.mail_base.specs.declared.lines.MapLine.{MapLine}
 use Rattle.cf_values.specs.Numbers.{number_value}
 use Rattle.cf_reader.specs.Places.{last_place}
 use Rattle.cf_reader.specs.Reads.{first_fault}
-use Rattle.cf_reader.specs.Words.{words_of}
+use Rattle.mail_base.specs.Words.{words_of}
 use Rattle.cf_reader.specs.declared.fault.Fault.{Fault}
 use Rattle.cf_reader.specs.declared.fault.Fault.TheVariants.{BadMap}
 

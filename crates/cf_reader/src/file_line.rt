@@ -4,16 +4,15 @@ ghost use Rattle.mail_edge.specs.Seen.{text_of};
 ghost use Rattle.cf_reader.specs.declared.fault.Fault.TheVariants.{NoSuchFile};
 ghost use Rattle.cf_reader.specs.ClassLines as spec;
 ghost use Rattle.cf_reader.specs.Reads.{Asks, Finds, Opens, is_files_fault};
-ghost use Rattle.cf_reader.specs.Words.{words_of};
+ghost use Rattle.mail_base.specs.Words.{words_of};
 ghost use Rattle.cf_reader.specs.inner.Steps.{IsRead, class_in};
 
 use crate::class_line::ClassLine;
 use crate::fault::{Fault, LineStop};
-use crate::logical::split_line;
 use crate::words::{push_words, words};
 use bstr::ByteSlice;
 use cf_macros::split_name;
-use mail_base::{EdgeFault, NoMemory, Seq, Text, TryCopy};
+use mail_base::{EdgeFault, NoMemory, Seq, Text, TryCopy, split_line};
 use mail_edge::Files;
 use std::alloc::Global;
 

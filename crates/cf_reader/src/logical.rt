@@ -1,12 +1,10 @@
 ghost use Rattle.std.specs.Prelude.{◌≡◌, ◌<◌, ◌^◌, ◌∷◌, length, IfOk};
 ghost use Rattle.std.specs.List.{take_while};
-ghost use Rattle.std.specs.Str.Lines.{strip_carriage_return};
 ghost use Rattle.cf_reader.specs.LogicalLines.{physical_lines};
 ghost use Rattle.cf_reader.specs.LogicalLines as spec;
 ghost use Rattle.cf_reader.specs.inner.Scans.{numbered_from, read_on};
 
-use bstr::ByteSlice;
-use mail_base::{NoMemory, Seq, Text};
+use mail_base::{NoMemory, Seq, Text, split_line};
 use std::alloc::Global;
 
 /// A logical line of a configuration file, and the number of its first physical line, from 1.
@@ -42,29 +40,6 @@ fn numbered_lines(alloc: Global, text: &[u8]) -> Result<Seq<Logical>, NoMemory>
         rest = after;
     }
     Ok(lines)
-}
-
-/// The first physical line, and what stands after it.
-pub fn split_line(text: &[u8]) -> (&[u8], &[u8])
-    requires { 0 < length text.now }
-    ensures lines { physical_lines text.now ≡ result.0.now ∷ physical_lines result.1.now }
-    ensures shorter { length result.1.now < length text.now }
-{
-    match text.find_byte(b'\n') {
-        Some(end) => (without_return(&text[..end]), &text[end + 1..]),
-        None => (text, &[]),
-    }
-}
-
-/// A line before an LF, without the one CR that may stand at its end.
-pub fn without_return(line: &[u8]) -> &[u8]
-    ensures { result.now ≡ strip_carriage_return line.now }
-{
-    if !line.is_empty() && line[line.len() - 1] == b'\r' {
-        &line[..line.len() - 1]
-    } else {
-        line
-    }
 }
 
 fn is_indented(line: &[u8]) -> bool

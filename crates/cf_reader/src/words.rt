@@ -1,6 +1,7 @@
-ghost use Rattle.std.specs.Prelude.{◌≡◌, ◌≤◌, ◌++◌, length, map, IfOk, OnOk};
+ghost use Rattle.std.specs.Prelude.{◌≡◌, ◌≤◌, ◌++◌, length, IfOk, OnOk};
 ghost use Rattle.std.specs.List.{prefix_len};
 ghost use Rattle.mail_base.specs.Whites.{is_white};
+ghost use Rattle.mail_base.specs.Words.{words_of};
 ghost use Rattle.cf_reader.specs.Words as spec;
 
 use mail_base::{NoMemory, Seq, Text, is_white};
@@ -32,7 +33,7 @@ fn whites_length(text: &[u8]) -> usize
 
 /// The words of a text, which stand between white space.
 pub(crate) fn words(alloc: Global, text: &[u8]) -> Result<Seq<Text>, NoMemory>
-    ensures { IfOk result (λ words. words ≡ spec.words_of text.now) }
+    ensures { IfOk result (λ words. words ≡ words_of text.now) }
 {
     let mut words = Seq::new(alloc);
     push_words(alloc, text, &mut words)?;
@@ -41,20 +42,10 @@ pub(crate) fn words(alloc: Global, text: &[u8]) -> Result<Seq<Text>, NoMemory>
 
 /// Adds the words of a text at the end.
 pub(crate) fn push_words(alloc: Global, text: &[u8], words: &mut Seq<Text>) -> Result<(), NoMemory>
-    ensures { OnOk result (words.new ≡ words.old ++ spec.words_of text.now) }
+    ensures { OnOk result (words.new ≡ words.old ++ words_of text.now) }
 {
-    for word in slices(alloc, text)?.as_slice() {
+    for word in mail_base::words(alloc, text)?.as_slice() {
         words.push(Text::of(alloc, word)?)?;
     }
     Ok(())
-}
-
-fn slices(alloc: Global, text: &[u8]) -> Result<Vec<&[u8]>, NoMemory>
-    ensures { IfOk result (λ words. map (λ word. word.now) words.items ≡ spec.words_of text.now) }
-{
-    let words = text
-        .split(|byte| is_white(*byte))
-        .filter(|word| !word.is_empty())
-        .collect(alloc)?;
-    Ok(words)
 }

@@ -19,4 +19,5 @@ pub mod States
 pub mod Texts
 pub mod Tokens
 pub mod Whites
+pub mod Words
 pub mod inner

@@ -4,7 +4,6 @@ mod DepthLemmas
 mod FileLemmas
 mod HostLemmas
 mod LawLemmas
-mod LineLemmas
 mod MemberLemmas
 mod ScanLemmas
 mod TableLemmas

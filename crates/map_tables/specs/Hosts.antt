@@ -3,7 +3,7 @@ use Rattle.std.specs.Prelude.{◌≡◌, ◌||◌, ◌==◌, ℕ, Bool, List, []
 use Rattle.std.specs.List.{before_first, find, filter_map, list_any}
 use Rattle.std.specs.Str.{str_eq_ignore_ascii_case}
 use Rattle.std.specs.Str.Lines.{lines}
-use Rattle.map_tables.specs.Words.{words}
+use Rattle.mail_base.specs.Words.{words_of}
 use Rattle.map_tables.specs.declared.hosts.HostLine.{HostLine}
 
 -- text from `#` (35) on says nothing
@@ -18,7 +18,7 @@ host_of (address ∷ name ∷ aliases) = Some (record { address = address; name 
 
 -- what a line of the table says
 abbrev pub host_line : List ℕ → Option HostLine
-host_line line = host_of (words (before_comment line))
+host_line line = host_of (words_of (before_comment line))
 
 -- what the lines of the table say
 abbrev pub host_lines : List ℕ → List HostLine

@@ -4,9 +4,8 @@ ghost use Rattle.std.specs.Option.{option_to_list};
 ghost use Rattle.std.specs.Str.{str_eq_ignore_ascii_case};
 ghost use Rattle.map_tables.specs.Hosts.{before_comment, has_name, host_line, host_lines, host_of};
 
-use crate::lines::{split_line, words};
 use bstr::ByteSlice;
-use mail_base::{NoMemory, Seq, Text};
+use mail_base::{NoMemory, Seq, Text, split_line, words};
 use std::alloc::Global;
 
 /// A line of the host table.

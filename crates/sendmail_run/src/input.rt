@@ -5,7 +5,7 @@ ghost use Rattle.addr_test.specs.declared.answers.Reply.TheVariants.{Lines};
 ghost use Rattle.sendmail_run.specs.inner.Taking.{Keeps, cut_text, most_kept};
 
 use addr_test::{Reply, answer};
-use mail_base::{Config, MOST_LINE, NoMemory, Text};
+use mail_base::{Config, MOST_LINE, NoMemory, Text, without_return};
 use map_tables::Maps;
 use std::alloc::Global;
 
@@ -100,15 +100,4 @@ fn answer_cut(alloc: Global, front: &[u8]) -> Result<Reply, NoMemory>
     }
     let text = Text::of(alloc, b"line too long\n")?;
     Ok(Reply::Lines(text))
-}
-
-// A line before an LF, without the one CR that may stand at its end.
-fn without_return(line: &[u8]) -> &[u8]
-    ensures { result.now ≡ strip_carriage_return line.now }
-{
-    if !line.is_empty() && line[line.len() - 1] == b'\r' {
-        &line[..line.len() - 1]
-    } else {
-        line
-    }
 }

@@ -1,4 +1,4 @@
-use Rattle.cf_reader.proofs.LineLemmas.{before_found, before_none}
+use Rattle.mail_base.proofs.LineLemmas.{before_found, before_none}
 use Rattle.cf_reader.proofs.file_line.before_sign.Goals as goal
 
 pub returns-in-Some : goal.returns-in-Some

@@ -1,4 +1,4 @@
-use Rattle.cf_reader.proofs.LineLemmas.{before_found, before_none}
+use Rattle.mail_base.proofs.LineLemmas.{before_found, before_none}
 use Rattle.cf_reader.proofs.rules.left_of.Goals as goal
 
 pub returns-in-Some : goal.returns-in-Some

@@ -1,4 +1,4 @@
-use Rattle.map_tables.proofs.LineLemmas.{before_found, before_none}
+use Rattle.mail_base.proofs.LineLemmas.{before_found, before_none}
 use Rattle.map_tables.proofs.hosts.before_comment.Goals as goal
 
 pub returns-in-Some : goal.returns-in-Some

@@ -1,16 +1,16 @@
 use Rattle.std.proofs.Common.{◌∙◌, ◌∷◌, ◌+◌, ℕ, List, drop, sym, ap}
 use Rattle.std.proofs.lemmas.List.{take_rest}
-use Rattle.cf_reader.specs.LogicalLines.{physical_lines}
-use Rattle.cf_reader.proofs.LineLemmas.{lines_first, lines_last}
-use Rattle.cf_reader.proofs.logical.split_line.Goals as goal
+use Rattle.std.specs.Str.Lines.{lines}
+use Rattle.mail_base.proofs.LineLemmas.{lines_first, lines_last}
+use Rattle.mail_base.proofs.cutting.split_line.Goals as goal
 
 pub returns-in-Some-clause-lines : goal.returns-in-Some-clause-lines
 returns-in-Some-clause-lines c =
     let text = c.args.text.now in
     let end = c.in-Some.end in
     lines_first text end c.in-Some.ensures
-    ∙ ap (λ (line : List ℕ). line ∷ physical_lines (drop (end + 1) text)) (sym c.without_return.ensures)
-    ∙ ap (λ (rest : List ℕ). c.without_return.result.now ∷ physical_lines rest) (sym (take_rest text (end + 1)))
+    ∙ ap (λ (line : List ℕ). line ∷ lines (drop (end + 1) text)) (sym c.without_return.ensures)
+    ∙ ap (λ (rest : List ℕ). c.without_return.result.now ∷ lines rest) (sym (take_rest text (end + 1)))
 
 pub returns-in-None-clause-lines : goal.returns-in-None-clause-lines
 returns-in-None-clause-lines c = lines_last c.args.text.now c.requires c.in-None.ensures

@@ -1,0 +1,42 @@
+ghost use Rattle.std.specs.Prelude.{◌≡◌, ◌<◌, ◌∷◌, length, map, IfOk};
+ghost use Rattle.std.specs.Str.Lines.{lines, strip_carriage_return};
+ghost use Rattle.mail_base.specs.Words.{words_of};
+
+use crate::{NoMemory, is_white};
+use bstr::ByteSlice;
+use std::alloc::Global;
+
+/// The first line of a text that isn't empty, and what stands after it. A line ends at an LF, before
+/// which one CR may stand, or where the text ends.
+pub fn split_line(text: &[u8]) -> (&[u8], &[u8])
+    requires { 0 < length text.now }
+    ensures lines { lines text.now ≡ result.0.now ∷ lines result.1.now }
+    ensures shorter { length result.1.now < length text.now }
+{
+    match text.find_byte(b'\n') {
+        Some(end) => (without_return(&text[..end]), &text[end + 1..]),
+        None => (text, &[]),
+    }
+}
+
+/// A line before an LF, without the one CR that may stand at its end.
+pub fn without_return(line: &[u8]) -> &[u8]
+    ensures { result.now ≡ strip_carriage_return line.now }
+{
+    if !line.is_empty() && line[line.len() - 1] == b'\r' {
+        &line[..line.len() - 1]
+    } else {
+        line
+    }
+}
+
+/// The words of a text, which stand between white space.
+pub fn words(alloc: Global, text: &[u8]) -> Result<Vec<&[u8]>, NoMemory>
+    ensures { IfOk result (λ words. map (λ word. word.now) words.items ≡ words_of text.now) }
+{
+    let words = text
+        .split(|byte| is_white(*byte))
+        .filter(|word| !word.is_empty())
+        .collect(alloc)?;
+    Ok(words)
+}
