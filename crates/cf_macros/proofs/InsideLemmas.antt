@@ -14,6 +14,7 @@ inside-put followed front first h (suc depth) (Last parts) = rw (h parts) (appen
 inside-put followed front first h (suc depth) (BeforeElse parts more) = rw (h parts) (append_assoc first (acts_of followed parts) _)
 inside-put followed front first h (suc depth) (BeforeEnd parts more) = rw (h parts) (append_assoc first (acts_of followed parts) _)
 
+-- what is put in front doesn't change whether the conditionals around are closed
 pub closed-put : (front : Parts → Parts) (depth : ℕ) (rest : Reading) → is_closed depth (put front rest) ≡ is_closed depth rest
 closed-put front zero rest = refl
 closed-put front (suc depth) (Last parts) = refl
@@ -25,6 +26,7 @@ pub closed-closing : (place : ℕ) (name : List ℕ) (inner : Reading) (after : 
 closed-closing place name inner None depth h = h
 closed-closing place name inner (Some after) depth h = sym (closed-put (Choose name (first_part inner) (second_part inner)) (suc depth) after) ∙ h
 
+-- a conditional's acts are its test's, and then those of the part that the test chose
 pub inside-choose : (followed : List ℕ → List Act) (place : ℕ) (name : List ℕ) (inner after : Reading) (depth : ℕ) → behind_end inner ≡ Some after →
     inside followed depth (closing place name inner (Some after)) ≡ silent (followed name) ++ (if gives_any (followed name) then inside followed (suc depth) inner else inside_other followed (suc depth) inner)
 inside-choose followed place name inner after depth e =

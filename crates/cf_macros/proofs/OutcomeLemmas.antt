@@ -43,6 +43,7 @@ more-bytes zero bytes (Follows ∷ acts) text e = absurd (cc)
 more-bytes (suc references) bytes (Follows ∷ acts) text e = more-bytes references bytes acts text e
 more-bytes references bytes (Fails fault ∷ acts) text e = absurd (cc)
 
+-- what acts come to they also come to with one reference more left
 pub more-references : (references bytes : ℕ) (acts : List Act) (text : List ℕ) → outcome references bytes acts ≡ Ok text → outcome (suc references) bytes acts ≡ Ok text
 more-references references bytes [] text e = e
 more-references references zero (Gives byte ∷ acts) text e = absurd (cc)
@@ -61,6 +62,7 @@ pub record Splits (references bytes : ℕ) (one other : List Act) (text : List �
   pub later : outcome references bytes other ≡ Ok back
   pub whole : text ≡ front ++ back
 
+-- acts in two lists that come to a text come to a part of it each
 pub splits : (references bytes : ℕ) (one other : List Act) (text : List ℕ) → outcome references bytes (one ++ other) ≡ Ok text → Splits references bytes one other text
 splits references bytes [] other text e = record { front = []; back = text; first = refl; later = e; whole = refl }
 splits references zero (Gives byte ∷ one) other text e = absurd (cc)
@@ -80,6 +82,7 @@ splits (suc references) bytes (Follows ∷ one) other text e =
     record { front = s.front; back = s.back; first = s.first; later = more-references references bytes other s.back s.later; whole = s.whole }
 splits references bytes (Fails fault ∷ one) other text e = absurd (cc)
 
+-- bytes that are given come to themselves
 pub outcome-given : (references bytes : ℕ) (given text : List ℕ) → outcome references bytes (map Gives given) ≡ Ok text → text ≡ given
 outcome-given references bytes [] text e = sym (ok_same [] text e)
 outcome-given references zero (byte ∷ given) text e = absurd (cc)
@@ -87,6 +90,7 @@ outcome-given references (suc bytes) (byte ∷ given) text e =
     let b = bytewise byte (outcome references bytes (map Gives given)) text e in
     b.whole ∙ ap (λ t. byte ∷ t) (outcome-given references bytes given b.later b.rest)
 
+-- the acts of a test come to no text
 pub outcome-silent : (references bytes : ℕ) (acts : List Act) (text : List ℕ) → outcome references bytes (silent acts) ≡ Ok text → text ≡ []
 outcome-silent references bytes [] text e = sym (ok_same [] text e)
 outcome-silent references bytes (Gives byte ∷ acts) text e = outcome-silent references bytes acts text e
@@ -94,10 +98,12 @@ outcome-silent zero bytes (Follows ∷ acts) text e = absurd (cc)
 outcome-silent (suc references) bytes (Follows ∷ acts) text e = outcome-silent references bytes acts text e
 outcome-silent references bytes (Fails fault ∷ acts) text e = absurd (cc)
 
+-- whether a text has a byte
 abbrev pub is_some_text : List ℕ → Bool
 is_some_text [] = false
 is_some_text (byte ∷ text) = true
 
+-- acts give something just if the text that they come to has a byte
 pub outcome-any : (references bytes : ℕ) (acts : List Act) (text : List ℕ) → outcome references bytes acts ≡ Ok text → gives_any acts ≡ is_some_text text
 outcome-any references bytes [] text e = ap is_some_text (ok_same [] text e)
 outcome-any references zero (Gives byte ∷ acts) text e = absurd (cc)
@@ -108,12 +114,14 @@ outcome-any references bytes (Fails fault ∷ acts) text e = absurd (cc)
 
 -- acts without a refusal
 
+-- no act refuses
 abbrev pub Clean : List Act → Type 0
 Clean [] = Unit {0}
 Clean (Gives byte ∷ acts) = Clean acts
 Clean (Follows ∷ acts) = Clean acts
 Clean (Fails fault ∷ acts) = ⊥
 
+-- acts that come to a text refuse nothing
 pub clean-ok : (references bytes : ℕ) (acts : List Act) (text : List ℕ) → outcome references bytes acts ≡ Ok text → Clean acts
 clean-ok references bytes [] text e = tt
 clean-ok references zero (Gives byte ∷ acts) text e = absurd (cc)
@@ -129,6 +137,7 @@ clean-both (Gives byte ∷ one) other c = clean-both one other c
 clean-both (Follows ∷ one) other c = clean-both one other c
 clean-both (Fails fault ∷ one) other c = absurd c
 
+-- acts that refuse nothing as a test refuse nothing
 pub clean-silent : (acts : List Act) → Clean (silent acts) → Clean acts
 clean-silent [] c = tt
 clean-silent (Gives byte ∷ acts) c = clean-silent acts c

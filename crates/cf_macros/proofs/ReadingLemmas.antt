@@ -109,10 +109,12 @@ scan-unclosed scope text front place (suc ends) found e h shows known some =
     ap (past (suc ends)) (rest-found scope text front place found e h shows)
     ∙ ap (λ k. past (suc ends) (before k place (piece found.kind found.text.now found.width) (rest_at scope text (place + found.width)))) known
 
+-- no `$.` comes at the end of a text
 pub scan-end : (scope : Scope) (text : List ℕ) (place ends : ℕ) → length text ≤ place → 1 ≤ ends → past ends (rest_at scope text place) ≡ None
 scan-end scope text place zero h some = absurd (omega arith)
 scan-end scope text place (suc ends) h some = ap (past (suc ends)) (rest-end scope text place h)
 
+-- a construct opens one conditional at most
 pub few-ends : (kind : Kind) (ends : ℕ) → ends_behind kind ends ≤ ends + 1
 few-ends Plain ends = omega arith
 few-ends Reference ends = omega arith
@@ -142,6 +144,7 @@ then-some : (rest : Option Reading) (after : Option Reading) → then_rest (past
 then-some None after e = e
 then-some (Some rest) after e = e
 
+-- what comes behind one `$.` is what comes behind the first
 pub behind-of-past : (rest : Reading) (after : Option Reading) → past 1 rest ≡ after → behind_end rest ≡ after
 behind-of-past rest after e = then-some (behind_end rest) after e
 
@@ -160,6 +163,7 @@ mark-behind scope text Else place passed found a b d e = absurd (b refl)
 mark-behind scope text End place passed found a b d e = absurd (d refl)
 mark-behind scope text Unclosed place passed found a b d e = absurd (a refl)
 
+-- a construct that was passed leaves what is behind the first part as it was
 pub mark-step : (scope : Scope) (text front : List ℕ) (place passed : ℕ) (found : Construct) → front ≡ drop place text → place < length text → Shows found (first_piece scope front) (length front) → (found.kind ≡ Unclosed → ⊥) → (found.kind ≡ Else → ⊥) → (found.kind ≡ End → ⊥) → IsBehind scope text found.kind (place + found.width) (Some passed) →
     SameBehind (rest_at scope text place) (rest_at scope text passed)
 mark-step scope text front place passed found e h shows a b d behind =
@@ -178,6 +182,7 @@ mark-open scope text Else place found b d e = absurd (b refl)
 mark-open scope text End place found b d e = absurd (d refl)
 mark-open scope text Unclosed place found b d e = record { second = refl; behind = refl }
 
+-- a conditional that nothing closes leaves nothing behind the first part
 pub mark-none : (scope : Scope) (text front : List ℕ) (place : ℕ) (found : Construct) → front ≡ drop place text → place < length text → Shows found (first_piece scope front) (length front) → (found.kind ≡ Else → ⊥) → (found.kind ≡ End → ⊥) → IsBehind scope text found.kind (place + found.width) None →
     SameBehind (rest_at scope text place) (Last Nothing)
 mark-none scope text front place found e h shows b d behind =
@@ -191,9 +196,11 @@ pub rest-kind : (scope : Scope) (text front : List ℕ) (place : ℕ) (found : C
 rest-kind scope text front place found kind e h shows k =
     rest-found scope text front place found e h shows ∙ ap (λ kind. before kind place (piece kind found.text.now found.width) (rest_at scope text (place + found.width))) k
 
+-- at the end of a text nothing is behind the first part
 pub same-end : (scope : Scope) (text : List ℕ) (place : ℕ) → length text ≤ place → SameBehind (rest_at scope text place) (Last Nothing)
 same-end scope text place h = rw (rest-end scope text place h) (record { second = refl; behind = refl })
 
+-- a construct that was passed ends further on, within the text
 pub behind-bounds : (scope : Scope) (text : List ℕ) (kind : Kind) (next passed : ℕ) → next ≤ length text → IsBehind scope text kind next (Some passed) → (next ≤ passed) × (passed ≤ length text)
 behind-bounds scope text Plain next passed h e = let f : next ≡ passed = cc in (omega arith, omega arith)
 behind-bounds scope text Reference next passed h e = let f : next ≡ passed = cc in (omega arith, omega arith)

@@ -25,10 +25,12 @@ top-end f level end =
     nothing zero = refl
     nothing (suc depth) = refl
 
+-- a level that goes on to no reference goes on to none by any name
 pub none-goes : (old : Level) (was : Given) (new : Level) (now : Given) (name : Option (Bor (List ℕ))) → is_some name ≡ false → Goes old was new now (option_copied name) → Goes old was new now None
 none-goes old was new now None e goes = goes
 none-goes old was new now (Some name) e goes = absurd (cc)
 
+-- a run whose last level is at its end has given its whole text
 pub run-ends : (start : Run) (below : List Level) (count : ℕ) (old level : Level) (was now : Given) →
     ((macros : List (List ℕ × List ℕ)) → state below macros (left count) was.text old None ≡ comes_to macros start None) →
     Goes old was level now None → is_silent below ≡ was.silent → below ≡ [] → IsAtEnd level → Finishes start now.text
@@ -40,6 +42,7 @@ run-ends start below count old level was now same goes silent empty end = record
       ∙ ap Ok (append-nil now.text);
 }
 
+-- a run whose top level is at its end comes to the same with the level below, resumed
 pub run-resumes : (start : Run) (below front : List Level) (outer : Level) (count : ℕ) (old level next : Level) (was now : Given) →
     ((macros : List (List ℕ × List ℕ)) → state below macros (left count) was.text old None ≡ comes_to macros start None) →
     Goes old was level now None → is_silent below ≡ was.silent → below ≡ front ++ outer ∷ [] → IsAtEnd level → Resumes outer level.gave next →
@@ -53,6 +56,7 @@ run-resumes start below front outer count old level next was now same goes silen
     ∙ goes.same below macros (left count) silent
     ∙ same macros
 
+-- a level that came to no reference is at its end
 pub none-end : (name : Option (Bor (List ℕ))) (level : Level) → is_some name ≡ false → IfNone name (IsAtEnd level) → IsAtEnd level
 none-end None level e end = end
 none-end (Some name) level e end = absurd (cc)
@@ -73,6 +77,7 @@ on-top : (below : List Level) (macros : List (List ℕ × List ℕ)) (references
 on-top below macros references given level name =
     ap (λ over. told given (outcome references (room given) over.acts)) (sym (stacked-append 10 macros below level (above false (followed level.scope (10 - length below) macros name))))
 
+-- a reference over ten levels that wait is refused as too deep
 pub too-deep : (below : List Level) (macros : List (List ℕ × List ℕ)) (references : ℕ) (given : List ℕ) (level : Level) (name : List ℕ) → 10 ≤ length below → state below macros references given level (Some name) ≡ Err Deep
 too-deep below macros references given level name h =
     on-top below macros references given level name
@@ -87,6 +92,7 @@ followed-first below macros references given level name less e =
     ∙ ap (λ acts. ending (below ++ level ∷ []) macros references given (above false acts)) (followed-suc level.scope (10 - length below) less macros name e)
     ∙ ap (λ over. told given (outcome references (room given) over.acts)) (stacked-follows 10 macros (below ++ level ∷ []) (above false reads))
 
+-- a reference after 10,000 others is refused as too large
 pub too-many : (below : List Level) (macros : List (List ℕ × List ℕ)) (count : ℕ) (given : List ℕ) (level : Level) (name : List ℕ) → length below < 10 → 10000 ≤ count → state below macros (left count) given level (Some name) ≡ Err Large
 unfolding left
 too-many below macros count given level name h many =
@@ -100,6 +106,7 @@ new-top f scope level text new =
     let at : level_rest level ≡ reading scope 0 0 text = ap (λ s. rest_at s level.text.now level.place) new.scoped ∙ ap (λ t. rest_at scope t level.place) new.same ∙ ap (rest_at scope text) new.place in
     rw (new.reads, new.gave, new.depth, at) refl
 
+-- a reference that is followed comes to the same as its macro's text on a level of its own
 pub follows : (below now : List Level) (macros : List (List ℕ × List ℕ)) (count next : ℕ) (given : List ℕ) (level later : Level) (name : List ℕ) → length below < 10 → count < 10000 → next ≡ count + 1 → now ≡ below ++ level ∷ [] → IsNew level.scope (unwrap_or (value_at name macros) []) later →
     state now macros (left next) given later None ≡ state below macros (left count) given level (Some name)
 unfolding left
@@ -114,6 +121,7 @@ follows below now macros count next given level later name h few counts joined n
     ∙ ap (λ now. ending now macros (10000 - next) given (above false reads)) joined
     ∙ sym (followed-first below macros (10000 - count) given level name (9 - length below) e ∙ ap (λ n. told given (outcome n (room given) (Follows ∷ (stacked 10 macros (below ++ level ∷ []) (above false reads)).acts))) one)
 
+-- a level that begins a text begins one that is equal to it
 pub is-new : (scope : Scope) (bytes text : List ℕ) (level : Level) → bytes ≡ text → IsNew scope bytes level → IsNew scope text level
 is-new scope bytes text level e new = record { same = new.same ∙ e; scoped = new.scoped; place = new.place; depth = new.depth; gave = new.gave; reads = new.reads }
 

@@ -12,6 +12,7 @@ use Rattle.cf_macros.specs.inner.Insides.{inside, inside_other}
 
 -- acts
 
+-- nothing given in front changes nothing
 pub told-none : (result : Result (List ℕ) ExpandFault) → told [] result ≡ result
 told-none (Ok text) = refl
 told-none (Err fault) = refl
@@ -24,6 +25,7 @@ pub told-again : (one other : List ℕ) (result : Result (List ℕ) ExpandFault)
 told-again one other (Ok text) = ap Ok (sym (append_assoc one other text))
 told-again one other (Err fault) = refl
 
+-- bytes that fit and are given first stand in front of what the other acts come to
 pub outcome-gives : (references bytes : ℕ) (given : List ℕ) (acts : List Act) → length given ≤ bytes → outcome references bytes (map Gives given ++ acts) ≡ told given (outcome references (bytes - length given) acts)
 outcome-gives references bytes [] acts h = let e : bytes - 0 ≡ bytes = omega arith in rw e (sym (told-none (outcome references bytes acts)))
 outcome-gives references zero (byte ∷ given) acts h = absurd (omega arith)
@@ -40,6 +42,7 @@ outcome-large references (suc bytes) (byte ∷ given) acts h = ap (with_byte byt
 
 -- stacks
 
+-- the level on top is the last of a stack, with the levels that are left there
 pub stacked-append : (levels : ℕ) (macros : List (List ℕ × List ℕ)) (below : List Level) (level : Level) (over : Above) →
     stacked levels macros (below ++ level ∷ []) over ≡ stacked levels macros below (under (followed level.scope (levels - length below) macros) level over)
 stacked-append levels macros [] level over = let e : levels - 0 ≡ levels = omega arith in rw e refl
@@ -111,6 +114,7 @@ waits-follows : (tests gave : Bool) (here there : List Act) (over : Above) → w
 waits-follows true gave here there over = refl
 waits-follows false gave here there over = refl
 
+-- a reference that is followed on top is so before all that waits for it
 pub stacked-follows : (levels : ℕ) (macros : List (List ℕ × List ℕ)) (below : List Level) (over : Above) → stacked levels macros below (following over) ≡ following (stacked levels macros below over)
 stacked-follows levels macros [] over = refl
 stacked-follows levels macros (level ∷ below) over =
@@ -131,6 +135,7 @@ stacked-refuses levels macros [] fault over h = h
 stacked-refuses levels macros (level ∷ below) fault over h =
     waits-refuses level.tests level.gave (inside (followed level.scope levels macros) level.depth (level_rest level)) (inside_other (followed level.scope levels macros) level.depth (level_rest level)) fault (stacked (levels - 1) macros below over) (stacked-refuses (levels - 1) macros below fault over h)
 
+-- a refusal on top is what the whole comes to
 pub ending-refuses : (below : List Level) (macros : List (List ℕ × List ℕ)) (references : ℕ) (given : List ℕ) (fault : ExpandFault) (over : Above) → Refuses fault over → ending below macros references given over ≡ Err fault
 ending-refuses below macros references given fault over h =
     ap (λ acts. told given (outcome references (room given) acts)) (stacked-refuses 10 macros below fault over h).acts
@@ -182,6 +187,7 @@ pub gives-top : (f : List ℕ → List Act) (old new : Level) (bytes : List ℕ)
 gives-top f old new [] o n g e = rw (o, n, g, e) refl
 gives-top f old new (byte ∷ bytes) o n g e = rw (o, n) (record { acts = e; given = g })
 
+-- a level whose next acts are the bytes that were given goes on behind them
 pub goes-give : (old new : Level) (was now : Given) (bytes : List ℕ) → IsGiven was bytes now → old.tests ≡ false → new.tests ≡ false → new.gave ≡ gave_after old.gave bytes → new.scope ≡ old.scope →
     ((f : List ℕ → List Act) → inside f old.depth (level_rest old) ≡ map Gives bytes ++ inside f new.depth (level_rest new)) → Goes old was new now None
 goes-give old new was now bytes given o n g s e = record {
@@ -202,6 +208,7 @@ stops-large old was bytes later over o e = record {
   stops = λ below macros references silent. ending-large below macros references was.text bytes (top (followed old.scope (10 - length below) macros) old None) (above (gave_after old.gave bytes) (later (followed old.scope (10 - length below) macros))) (gives-first (followed old.scope (10 - length below) macros) old bytes (later (followed old.scope (10 - length below) macros)) o (e (followed old.scope (10 - length below) macros))) (silent ∙ over.shown) over.large;
 }
 
+-- a level whose next bytes were kept out stops with that refusal
 pub stops-refusal : (old : Level) (was : Given) (bytes : List ℕ) (later : (List ℕ → List Act) → List Act) (fault : ExpandFault) → KeepsOut fault was bytes → old.tests ≡ false →
     ((f : List ℕ → List Act) → inside f old.depth (level_rest old) ≡ map Gives bytes ++ later f) → Stops fault old was
 stops-refusal old was bytes later (Unclosed place) refused o e = absurd refused

@@ -13,6 +13,7 @@ use Rattle.cf_macros.proofs.StackLemmas.{goes-same, stops-refused, Refuses}
 
 -- behind `$|`, inside a conditional
 
+-- inside a conditional, a `$|` is gone on from behind the conditional's end
 pub inside-else : (f : List ℕ → List Act) (depth : ℕ) (rest inner after : Reading) → 1 ≤ depth → rest ≡ BeforeElse Nothing inner → behind_end inner ≡ Some after → inside f depth rest ≡ inside f (depth - 1) after
 inside-else f zero rest inner after h e b = absurd (omega arith)
 inside-else f (suc depth) rest inner after h e b = let d : suc depth - 1 ≡ depth = omega arith in rw (e, d, b) refl
@@ -50,11 +51,13 @@ closed-bare depth rest d = rw d refl
 pub goes-alike : (old new : Level) (was : Given) → old.tests ≡ false → new.tests ≡ false → new.gave ≡ old.gave → new.scope ≡ old.scope → ((f : List ℕ → List Act) → inside f old.depth (level_rest old) ≡ inside f new.depth (level_rest new)) → Goes old was new was None
 goes-alike old new was o n g s e = goes-same old new was None s (λ f. rw (o, n, g, e f) refl)
 
+-- a level that reads a reference goes on to it
 pub goes-refer : (old new : Level) (was : Given) (name : List ℕ) → old.tests ≡ false → new.tests ≡ false → new.gave ≡ old.gave → new.scope ≡ old.scope → new.depth ≡ old.depth → level_rest old ≡ put (Refer name) (level_rest new) → Goes old was new was (Some name)
 goes-refer old new was name o n g s d e = goes-same old new was (Some name) s (λ f.
     let first : inside f old.depth (level_rest old) ≡ f name ++ inside f old.depth (level_rest new) = ap (inside f old.depth) e ∙ inside-put f (Refer name) (f name) (λ parts. refl) old.depth (level_rest new) in
     rw (o, n, g, d, first) refl)
 
+-- a level that reads a `$?x` with an end goes on to the macro as its test
 pub goes-test : (old new : Level) (was : Given) (name : List ℕ) (after : Reading) → old.tests ≡ false → new.tests ≡ true → new.gave ≡ old.gave → new.scope ≡ old.scope → new.depth ≡ suc old.depth → behind_end (level_rest new) ≡ Some after →
     level_rest old ≡ closing old.place name (level_rest new) (behind_end (level_rest new)) → Goes old was new was (Some name)
 goes-test old new was name after o n g s d b e = goes-same old new was (Some name) s (λ f.
@@ -66,9 +69,11 @@ refuses-broken : (f : List ℕ → List Act) (depth place : ℕ) → Refuses (Un
 refuses-broken f zero place = record { more = []; acts = refl }
 refuses-broken f (suc depth) place = record { more = []; acts = refl }
 
+-- a level whose rest is unclosed at a place stops with that place
 pub stops-broken : (old : Level) (was : Given) (place : ℕ) → old.tests ≡ false → level_rest old ≡ Last (Broken place) → StopsBy (Unclosed place) old was
 stops-broken old was place o e = stops-refused old was (Unclosed place) o (λ f. rw e (refuses-broken f old.depth place))
 
+-- a level that reads a `$?x` without an end stops with the place of the test
 pub stops-unclosed : (old : Level) (was : Given) (name : List ℕ) (inner : Reading) → old.tests ≡ false → level_rest old ≡ closing old.place name inner (behind_end inner) → behind_end inner ≡ None → StopsBy (Unclosed old.place) old was
 stops-unclosed old was name inner o e b = stops-broken old was old.place o (e ∙ ap (closing old.place name inner) b)
 
@@ -82,6 +87,7 @@ pub closed-inner : (depth place : ℕ) (name : List ℕ) (rest inner : Reading) 
 closed-inner zero place name rest inner h e c = absurd (omega arith)
 closed-inner (suc depth) place name rest inner h e c = closed-closing place name inner (behind_end inner) depth (sym (ap (is_closed (suc depth)) e) ∙ c)
 
+-- a level that reads bytes gives them as its next construct
 pub gives-next : (self : Level) (bytes : List ℕ) (next : ℕ) → level_rest self ≡ put (Bytes bytes) (rest_at self.scope self.text.now next) → self.place < next → next ≤ length self.text.now → GivesNext self bytes next
 gives-next self bytes next e place in_text = record {
   acts = λ f. ap (inside f self.depth) e ∙ inside-put f (Bytes bytes) (map Gives bytes) (λ parts. refl) self.depth (rest_at self.scope self.text.now next);
@@ -102,6 +108,7 @@ other-behind : (f : List ℕ → List Act) (depth : ℕ) (rest after : Reading) 
 other-behind f zero rest after h s b = absurd (omega arith)
 other-behind f (suc depth) rest after h s b = let d : suc depth - 1 ≡ depth = omega arith in rw (s, b, d) refl
 
+-- a test whose macro gave nothing, without another part, resumes behind its conditional
 pub resumes-behind : (outer new : Level) (gave : Bool) (place : ℕ) → outer.tests ≡ true → gave ≡ false → IsAt outer place (outer.depth - 1) new →
     second_part (level_rest outer) ≡ Nothing → behind_end (level_rest outer) ≡ Some (rest_at outer.scope outer.text.now place) → Resumes outer gave new
 resumes-behind outer new gave place t g at s b = record {

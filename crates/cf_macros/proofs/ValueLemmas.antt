@@ -26,6 +26,7 @@ cut scope macros front acts h all text given r e =
     let s = splits 10000 1048576 (acts f) (whole f (reading scope r.next 0 text)) given (ap (outcome 10000 1048576) (sym split) ∙ e) in
     record { front = s.front; first = s.first; rest = (s.back, outcome-anywhere scope f r.next 0 10000 1048576 text s.back s.later, s.whole) }
 
+-- a simple construct is read as what it is, and the text behind it
 pub simple_front : (scope : Scope) (simple : Simple) → IsSimple simple → (text : List ℕ) → ReadsAs scope 0 (simple_spelling simple ++ text) (front_of (kind_of scope simple) (text_of scope simple)) text
 simple_front scope simple is text = record { next = 0 + length (simple_spelling simple); reads = simple_reads scope simple is 0 text }
 
@@ -43,6 +44,7 @@ followed_value scope macros name given e =
     let acts : List Act = whole (followed scope 9 macros) rest in
     ap (outcome 10000 1048576) (deeper-text scope macros 9 rest (clean-ok 9999 1048576 acts given e)) ∙ more-references 9999 1048576 acts given e
 
+-- a text that begins with a reference has the macro's value and then that of the rest
 pub refers_to : (scope : Scope) (macros : List (List ℕ × List ℕ)) (name all text given : List ℕ) → ReadsAs scope 0 all (Refer name) text → value_in scope all macros ≡ Ok given →
     Joins (value_in scope (set_to macros name) macros) (value_in scope text macros) given
 refers_to scope macros name all text given r e =
@@ -70,6 +72,7 @@ unfolding value_in
 chosen_value scope macros shown other [] given is is_other e = ap (outcome 10000 1048576) (part_value scope (followed scope 10 macros) other is_other) ∙ e
 chosen_value scope macros shown other (byte ∷ test) given is is_other e = ap (outcome 10000 1048576) (part_value scope (followed scope 10 macros) shown is) ∙ e
 
+-- a text that begins with a conditional has the value of the chosen part and then that of the rest
 pub chooses : (scope : Scope) (macros : List (List ℕ × List ℕ)) (name : List ℕ) (shown other : Part) (all text given test : List ℕ) → IsPart shown → IsPart other →
     ReadsAs scope 0 all (Choose name (part_front scope shown Nothing) (part_front scope other Nothing)) text → value_in scope all macros ≡ Ok given → value_in scope (set_to macros name) macros ≡ Ok test →
     Joins (value_in scope (part_spelling (chosen test shown other)) macros) (value_in scope text macros) given
@@ -97,6 +100,7 @@ plain_acts scope f (byte ∷ text) place all =
     ∙ inside-put f (Bytes (byte ∷ [])) (Gives byte ∷ []) (λ parts. refl) zero (reading scope (place + 1) 0 text)
     ∙ ap (λ acts. Gives byte ∷ acts) (plain_acts scope f text (place + 1) (All-tail (λ byte. byte ≢ 36) byte text all))
 
+-- a text without a dollar sign, within the limit, is its own value
 pub plain_value : (scope : Scope) (macros : List (List ℕ × List ℕ)) (text : List ℕ) → All (λ byte. byte ≢ 36) text → length text ≤ 1048576 → value_in scope text macros ≡ Ok text
 unfolding value_in
 plain_value scope macros text all fits =

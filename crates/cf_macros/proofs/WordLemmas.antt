@@ -24,6 +24,7 @@ some-first (b ∷ text) (suc place) within here before =
     let one : 1 + place ≡ suc place = omega arith in
     cond-true _ _ _ (ap not other) ∙ ap (λ n. 1 + n) (some-first text place (omega arith) here (λ k low high. before (suc k) (omega arith) (omega arith))) ∙ one
 
+-- a search for `}` finds where the word in braces ends
 pub word_found : (text : List ℕ) (found : Option ℕ) → IsFirstByte (is_byte 125) text found → found ≡ position (λ other. other == 125) text
 word_found text None h =
     let all = none-first text h in

@@ -128,6 +128,7 @@ test_opens scope (Braced word) is = record {
 
 -- what a construct but a conditional puts in front
 
+-- what a simple construct is, by where it stands
 abbrev pub kind_of : Scope → Simple → Kind
 kind_of scope (Byte b) = Plain
 kind_of scope Doubled = Plain
@@ -136,6 +137,7 @@ kind_of Outside (Late name) = Reference
 kind_of Rule (Late name) = Plain
 kind_of scope (Alone b) = Plain
 
+-- the name of a simple construct, or the bytes that it stands for
 abbrev pub text_of : Scope → Simple → List ℕ
 text_of scope (Byte b) = b ∷ []
 text_of Outside Doubled = 36 ∷ []
@@ -145,6 +147,7 @@ text_of Outside (Late name) = name_of name
 text_of Rule (Late name) = 36 ∷ 38 ∷ name_spelling name
 text_of scope (Alone b) = 36 ∷ b ∷ []
 
+-- a construct of a kind, put before other parts
 abbrev pub front_of : Kind → List ℕ → Parts → Parts
 front_of Plain text parts = Bytes text parts
 front_of Reference text parts = Refer text parts
@@ -157,6 +160,7 @@ doubled_opens : (scope : Scope) → Opens scope (36 ∷ 36 ∷ []) Plain (text_o
 doubled_opens Outside = record { found = λ more. refl; some = omega arith }
 doubled_opens Rule = record { found = λ more. refl; some = omega arith }
 
+-- a simple construct as it is written is read as that construct, and then what follows
 pub simple_reads : (scope : Scope) (simple : Simple) → IsSimple simple → (place : ℕ) (more : List ℕ) →
     reading scope place 0 (simple_spelling simple ++ more) ≡ put (front_of (kind_of scope simple) (text_of scope simple)) (reading scope (place + length (simple_spelling simple)) 0 more)
 simple_reads scope (Byte b) is place more = read_first scope (b ∷ []) Plain (b ∷ []) (byte_opens scope b is) place more
@@ -168,6 +172,7 @@ simple_reads scope (Alone b) is place more = read_first scope (36 ∷ b ∷ []) 
 
 -- parts of conditionals
 
+-- a part of a conditional, put before other parts
 abbrev pub part_front : Scope → Part → Parts → Parts
 part_front scope Ends parts = parts
 part_front scope (One simple more) parts = front_of (kind_of scope simple) (text_of scope simple) (part_front scope more parts)
@@ -233,6 +238,7 @@ then_reads scope place text more last one other first rest =
 along : (scope : Scope) (place : ℕ) (text same : List ℕ) (front : Parts → Parts) (more : List ℕ) → text ≡ same → ReadsAs scope place same front more → ReadsAs scope place text front more
 along scope place text same front more e r = record { next = r.next; reads = ap (reading scope place 0) e ∙ r.reads }
 
+-- a part as it is written is read as its constructs, and then what follows
 pub part_reads : (scope : Scope) (part : Part) → IsPart part → (more : List ℕ) (place : ℕ) → ReadsAs scope place (part_spelling part ++ more) (part_front scope part) more
 part_reads scope Ends is more place = record { next = place; reads = put-none scope (reading scope place 0 more) }
 part_reads scope (One simple rest) is more place =
@@ -266,6 +272,7 @@ pub short_text : (scope : Scope) (name : Named) (shown : Part) (text : List ℕ)
     ReadsAs scope place (36 ∷ 63 ∷ (name_spelling name ++ (part_spelling shown ++ (36 ∷ 46 ∷ text)))) (Choose (name_of name) (part_front scope shown Nothing) Nothing) text
 short_text scope name shown text is_name is place = short_reads scope name is_name (part_front scope shown) (part_spelling shown ++ (36 ∷ 46 ∷ text)) text (part_reads scope shown is (36 ∷ 46 ∷ text)) place
 
+-- a conditional with both parts, as it is written, is read as that, and then what follows
 pub long_text : (scope : Scope) (name : Named) (shown other : Part) (text : List ℕ) → IsNamed name → IsPart shown → IsPart other → (place : ℕ) →
     ReadsAs scope place (36 ∷ 63 ∷ (name_spelling name ++ (part_spelling shown ++ (36 ∷ 124 ∷ (part_spelling other ++ (36 ∷ 46 ∷ text)))))) (Choose (name_of name) (part_front scope shown Nothing) (part_front scope other Nothing)) text
 long_text scope name shown other text is_name is is_other place =

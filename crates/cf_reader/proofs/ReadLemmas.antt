@@ -10,6 +10,7 @@ use Rattle.cf_reader.specs.Reads.{Reads, first_fault}
 use Rattle.cf_reader.specs.Sides.{left_of, right_of, lexemes_in}
 use Rattle.cf_reader.specs.Rules.{lacks_tab, sides, rule_in, faults_in, fault_of_rule, rule_of}
 
+-- a line with a tab, whose two sides were cut into lexemes, is read as its rule or its first fault
 pub rule_read : (line : List ℕ) (macros : List (List ℕ × List ℕ)) (operators : List ℕ) (left right : Option (List Lexeme)) (result : Result Rule LineStop) → lacks_tab line ≡ false
     → lexemes_in macros operators (left_of line) ≡ left → lexemes_in macros operators (right_of line) ≡ right
     → Reads result (first_fault (faults_in (sides left right))) (rule_in (sides left right)) → Reads result (fault_of_rule line macros operators) (rule_of line macros operators)

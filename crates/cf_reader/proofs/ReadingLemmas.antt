@@ -17,6 +17,7 @@ use Rattle.cf_reader.specs.inner.Steps.{Goes}
 
 -- ---- told files
 
+-- what holds of every file map holds of one that may be there
 pub if_all : {P : FileMap → Type 0} (files : Option FileMap) → ((map : FileMap) → P map) → IfSome files P
 if_all None h = tt
 if_all (Some map) h = h map
@@ -27,9 +28,11 @@ if_both (Some map) f h k = f map h k
 
 -- ---- asking files twice
 
+-- no question to the files changes nothing
 pub asks_none : (files : FilesSeen) → Asks files files false
 asks_none files = record { fixed = refl; later = omega arith; rose = λ f. absurd (cc f); calm = λ f. refl }
 
+-- questions one after the other are questions, if only the last one failed
 pub asks_join : (a b c : FilesSeen) (failed : Bool) → Asks a b false → Asks b c failed → Asks a c failed
 asks_join a b c failed ab bc =
     let same : b.faults ≡ a.faults = ab.calm refl in record {
@@ -60,6 +63,7 @@ line_goes_on map state new line lines meant goes rest =
 
 -- ---- the lines that are left
 
+-- where a line is refused, the reading of the whole ends with that fault
 pub read_stops : (first now : FilesSeen) (state new : State) (lines : List Logical) (k : ℕ) (line : Logical) (e : CfFault) (meant : FileMap → Result Config CfFault) → k < length lines → line ≡ get_or lines k line → Asks first now false
     → IfSome first.map (λ map. read_lines map state (drop k lines) ≡ meant map) → IfSome now.map (λ map. Goes (Err e) line.number (fault map state line.text) (after_line map line state) new)
     → IfSome first.map (λ map. Gives (Err e) (meant map))
@@ -69,6 +73,7 @@ read_stops first now state new lines k line e meant lt here asks rest goes =
     rest
     (subst (λ (m : Option FileMap). IfSome m (λ map. Goes (Err e) line.number (fault map state line.text) (after_line map line state) new)) asks.fixed goes)
 
+-- where a line is taken, the reading of the whole goes on behind it
 pub read_on : (first now : FilesSeen) (state new : State) (lines : List Logical) (k : ℕ) (line : Logical) (meant : FileMap → Result Config CfFault) → k < length lines → line ≡ get_or lines k line → Asks first now false
     → IfSome first.map (λ map. read_lines map state (drop k lines) ≡ meant map) → IfSome now.map (λ map. Goes (Ok tt) line.number (fault map state line.text) (after_line map line state) new)
     → IfSome first.map (λ map. read_lines map new (drop (k + 1) lines) ≡ meant map)

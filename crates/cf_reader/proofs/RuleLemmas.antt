@@ -252,6 +252,7 @@ module _ (first : Lexeme) (after : List Lexeme) (n : ℕ) (b : Lexeme) (opens : 
   pub none_bracket : bracketed first (take n after) b ≡ None → steps_in (first ∷ after) ≡ None
   none_bracket is = up_to ∙ ap (λ (o : Option Step). put o (steps_in (drop (suc n) after))) is
 
+-- an opening sign that nothing closes makes no right side
 pub none_unclosed : (first : Lexeme) (after : List Lexeme) (n : ℕ) → is_opening first ≡ true → n ≡ prefix_len is_plain after → slice_get after n ≡ None → steps_in (first ∷ after) ≡ None
 none_unclosed first after n opens size past = open_none first (rest_of after) opens (plain_all after (no_front after (subst (λ (k : ℕ). slice_get after k ≡ None) size past)))
 
@@ -283,6 +284,7 @@ module _ {V W : Type 0} where
   fails_on stops.FilesFault one other so fails = fails
   fails_on stops.NoMemory one other so fails = tt
 
+-- where the first step of a right side is refused, so is the right side
 pub first_fails : (stop : LineStop) (one : Option Step) (lexemes : List Lexeme) → (one ≡ None → steps_in lexemes ≡ None) → Makes {V = Step} (Err stop) one → IsFirst (Err stop) lexemes
 first_fails (stops.Refused fault) one lexemes so fails = (fails.0, so fails.1)
 first_fails stops.FilesFault one lexemes so fails = fails

@@ -19,7 +19,7 @@ parts_first x rest =
     subst (λ (q : List (List ℕ)). lines_of_parts (x ∷ q) ≡ strip_carriage_return x ∷ lines_of_parts q) (sym some.2) refl
 
 -- the first byte of a kind stands where the list before it ends
-pub first_place : (byte : ℕ) (text : List ℕ) (k : ℕ) → IsFirstByte (is_byte byte) text (Some k) → position_or_len (is_byte byte) text ≡ k
+first_place : (byte : ℕ) (text : List ℕ) (k : ℕ) → IsFirstByte (is_byte byte) text (Some k) → position_or_len (is_byte byte) text ≡ k
 first_place byte text k found =
     let low : k < length text = found.0.high in
     position_or_len_is (is_byte byte) text k 0 (omega arith) (λ j lt. false_from_ne_true _ (found.0.before j (omega arith) lt)) (λ lt. found.1)
@@ -42,11 +42,13 @@ lines_last text some none =
     let fails : All (λ (b : ℕ). is_byte 10 b ≡ false) text = λ k d lt. rw (get_or_default text k d 0 lt) (false_from_ne_true _ (none k (omega arith) lt)) in
     ap lines_of_parts (slice_split_none (is_byte 10) text fails) ∙ one_part text some
 
+-- the bytes before the byte that a search found are those before the first such byte
 pub before_found : (byte : ℕ) (text : List ℕ) (k : ℕ) → IsFirstByte (is_byte byte) text (Some k) → take k text ≡ before_first (is_byte byte) text
 before_found byte text k found = ap (λ (n : ℕ). take n text) (sym (first_place byte text k found))
 
 no_place : (byte : ℕ) (text : List ℕ) → IsFirstByte (is_byte byte) text None → position_or_len (is_byte byte) text ≡ length text
 no_place byte text none = position_or_len_is (is_byte byte) text (length text) 0 (omega arith) (λ j lt. false_from_ne_true _ (none j (omega arith) lt)) (λ lt. absurd (omega arith))
 
+-- where a search found no such byte, all bytes come before it
 pub before_none : (byte : ℕ) (text : List ℕ) → IsFirstByte (is_byte byte) text None → text ≡ before_first (is_byte byte) text
 before_none byte text none = sym (ap (λ (n : ℕ). take n text) (no_place byte text none) ∙ take_all (length text) text (omega arith))

@@ -22,6 +22,7 @@ Once {X} s v = (x y : X) → v x → v y → s x ≡ s y → x ≡ y
 
 -- ---- one after the other, and told of another type
 
+-- values that are told apart by their spellings are so one after the other too
 pub apart_then : {X Y : Type 0} (s : X → List ℕ) (v : X → Type 0) (f : List ℕ → Type 0) (t : Y → List ℕ) (w : Y → Type 0) (g : List ℕ → Type 0) → ((y : Y) (z : List ℕ) → w y → g z → f (t y ++ z)) → Apart s v f → Apart t w g → Apart (both s v f t w g) (BothFormed s v f t w g) g
 apart_then s v f t w g on a b x y r q h k m n e =
     let inner : s x.0 ++ (t x.1 ++ r) ≡ s y.0 ++ (t y.1 ++ q) = sym (append_assoc (s x.0) (t x.1) r) ∙ e ∙ append_assoc (s y.0) (t y.1) q in
@@ -29,6 +30,7 @@ apart_then s v f t w g on a b x y r q h k m n e =
     let two = b x.1 y.1 r q h.1 k.1 m n one.1 in
     (λ i. (one.0 i, two.0 i), two.1)
 
+-- values told as another type are told apart as those are
 pub apart_as : {X Y : Type 0} (s : X → List ℕ) (v : X → Type 0) (t : Y → List ℕ) (w : Y → Type 0) (to : X → Y) (from : Y → X) (f : List ℕ → Type 0) → Retold s v t w to from → Apart s v f → Apart t w f
 apart_as s v t w to from f o a x y r q h k m n e =
     let inner : s (from x) ++ r ≡ s (from y) ++ q = ap (λ (b : List ℕ). b ++ r) (sym (o.text_from x)) ∙ e ∙ ap (λ (b : List ℕ). b ++ q) (o.text_from y) in
@@ -37,11 +39,13 @@ apart_as s v t w to from f o a x y r q h k m n e =
 
 -- ---- a value within a text, and fewer values
 
+-- values with texts of their own are told apart within what frames their texts
 pub apart_within : {X : Type 0} (frame : List ℕ → List ℕ) (form : List ℕ → Type 0) (f : List ℕ → Type 0) (s : X → List ℕ) (v : X → Type 0) → ((x : X) → v x → form (s x)) → Apart frame form f → Once s v → Apart (λ x. frame (s x)) v f
 apart_within frame form f s v is_text a o x y r q h k m n e =
     let one = a (s x) (s y) r q (is_text x h) (is_text y k) m n e in
     (o x y h k one.0, one.1)
 
+-- fewer values are told apart as all are
 pub apart_fewer : {X : Type 0} (s : X → List ℕ) (v w : X → Type 0) (f : List ℕ → Type 0) → ((x : X) → w x → v x) → Apart s v f → Apart s w f
 apart_fewer s v w f weaker a x y r q h k m n e = a x y r q (weaker x h) (weaker y k) m n e
 
@@ -50,6 +54,7 @@ apart_fewer s v w f weaker a x y r q h k m n e = a x y r q (weaker x h) (weaker 
 line_parts : (tag x r : List ℕ) → line (tag ++ x) ++ r ≡ tag ++ (x ++ 10 ∷ r)
 line_parts tag x r = append_assoc (tag ++ x) (10 ∷ []) r ∙ append_assoc tag x (10 ∷ r)
 
+-- lines behind a tag are told apart by their bytes, whatever follows
 pub line_apart : (tag : List ℕ) → Apart (λ text. line (tag ++ text)) IsLine Anything
 line_apart tag x y r q h k m n e = split_once 10 x y r q h k (append_cancel_left tag (x ++ 10 ∷ r) (y ++ 10 ∷ q) (sym (line_parts tag x r) ∙ e ∙ line_parts tag y q))
 

@@ -24,12 +24,15 @@ none_respelled : (bytes : List ℕ) → NoWhole with_end IsValid bytes → NoWho
 unfolding spelled control_front
 none_respelled bytes h = h
 
+-- what stops the reader of all lines but the last stops that of a control text
 pub parse_stops : (bytes : List ℕ) (e : Stop) → Stops control_front IsValid (At 46) bytes e → Parses bytes (Err e)
 parse_stops bytes Outside h = none_respelled bytes (none_before_end control_front IsValid (At 46) end refl bytes h)
 parse_stops bytes Memory h = tt
 
+-- all lines with the dot's line as their rest are the text of the control that was read
 pub parse_whole : {c : Control} (bytes rest : List ℕ) → Front control_front IsValid (At 46) bytes c rest → rest ≡ end → Whole spelled IsValid bytes c
 parse_whole {c} bytes rest a e = respelled bytes c (whole_at_end control_front IsValid (At 46) end refl bytes c rest a e)
 
+-- where the rest isn't the dot's line and no more, the bytes are no control's text
 pub parse_past : {c : Control} (bytes rest : List ℕ) → Front control_front IsValid (At 46) bytes c rest → (rest ≡ end → ⊥) → NoWhole spelled IsValid bytes
 parse_past {c} bytes rest a e = none_respelled bytes (none_at_end control_front IsValid (At 46) end refl bytes c rest a e)

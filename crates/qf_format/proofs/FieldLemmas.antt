@@ -36,6 +36,7 @@ pub record IsFirst (c : ℕ) (bytes : List ℕ) (at : ℕ) : Type 0 where
   pub front : Without c (take at bytes)
   pub parts : bytes ≡ take at bytes ++ c ∷ drop (at + 1) bytes
 
+-- what a search for a byte found is where that separator stands first
 pub first_at : (c : ℕ) (bytes : List ℕ) (at : ℕ) → IsFirstByte (is_byte c) bytes (Some at) → IsFirst c bytes at
 first_at c bytes at h =
     let here : get_or bytes at 0 ≡ c = eqb-true (get_or bytes at 0) c h.1 in
@@ -48,6 +49,7 @@ first_at c bytes at h =
       parts = sym (take-append-drop at bytes) ∙ ap (λ (r : List ℕ). take at bytes ++ r) middle;
     }
 
+-- bytes in which a search found no separator aren't two texts around one
 pub none_in : (c : ℕ) (bytes x a : List ℕ) → IsFirstByte (is_byte c) bytes None → bytes ≡ x ++ c ∷ a → ⊥
 none_in c bytes x a h e =
     let long : length x < length bytes = omega (arith, ap length e, length-append x (c ∷ a)) in
@@ -56,16 +58,19 @@ none_in c bytes x a h e =
 
 -- ---- tags
 
+-- what a call leaves behind a tag goes on where the tag ends
 pub after_some : {R : Type 0} (now : R → List ℕ) (o : Option R) (tag bytes : List ℕ) → MatchOption o (pointwise nat_eq (take (length tag) bytes) tag ≡ false) (λ x. (pointwise nat_eq (take (length tag) bytes) tag ≡ true) × (now x ≡ drop (length tag) bytes) × (length (now x) + length tag ≡ length bytes)) → IfSome o (λ x. bytes ≡ tag ++ now x)
 after_some now None tag bytes h = tt
 after_some now (Some x) tag bytes h = sym (take-append-drop (length tag) bytes) ∙ (λ i. same_text (take (length tag) bytes) tag (sym h.0) i ++ sym h.1 i)
 
+-- where a call finds no tag, the bytes don't begin with it
 pub after_none : {R : Type 0} (now : R → List ℕ) (o : Option R) (tag bytes : List ℕ) → MatchOption o (pointwise nat_eq (take (length tag) bytes) tag ≡ false) (λ x. (pointwise nat_eq (take (length tag) bytes) tag ≡ true) × (now x ≡ drop (length tag) bytes) × (length (now x) + length tag ≡ length bytes)) → IfNone o ((rest : List ℕ) → bytes ≢ tag ++ rest)
 after_none now None tag bytes h = λ rest e. other_text (take (length tag) bytes) tag (sym h) (ap (take (length tag)) e ∙ take-append_seam tag rest)
 after_none now (Some x) tag bytes h = tt
 
 -- ---- lines
 
+-- the bytes before the first LF are the line at the front, and the rest stands behind that LF
 pub line_at : (bytes : List ℕ) (at : ℕ) → IsFirstByte (is_byte 10) bytes (Some at) → Front line IsLine Anything bytes (take at bytes) (drop (at + 1) bytes)
 line_at bytes at h =
     let f = first_at 10 bytes at h in
@@ -75,6 +80,7 @@ line_at bytes at h =
       only = λ y z k a e. split_once 10 y (take at bytes) z (drop (at + 1) bytes) k f.front (sym (append_assoc y (10 ∷ []) z) ∙ sym e ∙ f.parts);
     }
 
+-- without an LF there is no line at the front
 pub no_line : (bytes : List ℕ) → IsFirstByte (is_byte 10) bytes None → NoFront line IsLine Anything bytes
 no_line bytes h = record { none = λ y z k a e. none_in 10 bytes y z h (e ∙ append_assoc y (10 ∷ []) z) }
 
@@ -111,10 +117,12 @@ pub no_field : (tag bytes rest : List ℕ) → bytes ≡ tag ++ rest → NoFront
 no_field tag bytes rest e a =
     none_as (λ text. tag ++ line text) IsLine (λ text. line (tag ++ text)) IsLine (λ text. text) (λ text. text) Anything bytes (tagged tag) (none_behind line IsLine Anything tag bytes rest e a)
 
+-- bytes that don't begin with a tag begin with no line behind that tag
 pub no_tag : (tag bytes : List ℕ) → ((rest : List ℕ) → bytes ≢ tag ++ rest) → NoFront (λ text. line (tag ++ text)) IsLine Anything bytes
 no_tag tag bytes away =
     none_as (λ text. tag ++ line text) IsLine (λ text. line (tag ++ text)) IsLine (λ text. text) (λ text. text) Anything bytes (tagged tag) (none_without line IsLine Anything tag bytes away)
 
+-- a reader of a line, put behind a tag, reads the line with its tag
 pub reads_field : {R : Type 0} (value rest : R → List ℕ) (tag bytes after : List ℕ) (r : Result R Stop) → bytes ≡ tag ++ after → Reads value rest line IsLine Anything after r → Reads value rest (λ text. line (tag ++ text)) IsLine Anything bytes r
 reads_field value rest tag bytes after (Ok r) e a = field_at tag bytes after e (value r) (rest r) a
 reads_field value rest tag bytes after (Err Outside) e a = no_field tag bytes after e a

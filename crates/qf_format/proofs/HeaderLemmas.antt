@@ -89,6 +89,7 @@ same_cut text y z at e f l =
 tag_tail : (a b : List ℕ) → 72 ∷ a ≡ 72 ∷ b → a ≡ b
 tag_tail a b p = cc
 
+-- the text between an H and its first end is read as a header
 pub header_read : (bytes text : List ℕ) (at : ℕ) → bytes ≡ 72 ∷ text → IsHeaderEnd text (Some at) → Front header_lines IsHeader NotBlank bytes (take at text) (drop (at + 1) text)
 header_read bytes text at e h =
     let whole = header_parts text at h.0 h.1.0 in
@@ -107,6 +108,7 @@ header_read bytes text at e h =
           same_cut text y z at (parts text y z form free inner) whole len;
     }
 
+-- an H without an end behind it begins no header
 pub no_header_end : (bytes text : List ℕ) → bytes ≡ 72 ∷ text → IsHeaderEnd text None → NoFront header_lines IsHeader NotBlank bytes
 no_header_end bytes text e h = record {
   none = λ y z form free f.
@@ -130,19 +132,24 @@ header_on : (xs : List (List ℕ)) (z : List ℕ) → At 46 z → NotBlank (flat
 header_on [] z h = not_blank_at 46 z h (omega arith)
 header_on (x ∷ xs) z h = not_blank_at 72 (flat_map header_lines (x ∷ xs) ++ z) refl (omega arith)
 
+-- before any header was read, none was, and all bytes are the rest
 pub no_headers_yet : (bytes : List ℕ) → ReadSoFar header_lines IsHeader (At 46) bytes [] bytes
 no_headers_yet bytes = none_so_far header_lines IsHeader NotBlank (At 46) 72 header_begins header_ends header_on bytes
 
+-- one header more was read, and what stands behind it is the rest
 pub header_more : (bytes : List ℕ) (xs : List (List ℕ)) (rest x after : List ℕ) → ReadSoFar header_lines IsHeader (At 46) bytes xs rest → Front header_lines IsHeader NotBlank rest x after → ReadSoFar header_lines IsHeader (At 46) bytes (xs ++ x ∷ []) after
 header_more bytes = one_more header_lines IsHeader NotBlank (At 46) 72 header_begins header_ends header_on bytes
 
+-- where no H follows, the headers so far are all of them
 pub headers_read : (bytes : List ℕ) (xs : List (List ℕ)) (rest : List ℕ) → ReadSoFar header_lines IsHeader (At 46) bytes xs rest → NotAt 72 rest → Front (flat_map header_lines) EachHeader (At 46) bytes xs rest
 headers_read bytes = all_read header_lines IsHeader NotBlank (At 46) 72 header_begins header_ends header_on bytes
 
+-- where an H follows and no header can be read there, the headers can't be read
 pub header_stops : (bytes : List ℕ) (xs : List (List ℕ)) (rest : List ℕ) → ReadSoFar header_lines IsHeader (At 46) bytes xs rest → At 72 rest → (e : Stop) → Stops header_lines IsHeader NotBlank rest e → Stops (flat_map header_lines) EachHeader (At 46) bytes e
 header_stops bytes xs rest r h Outside n = stuck header_lines IsHeader NotBlank (At 46) 72 header_begins header_ends header_on bytes xs rest r h n
 header_stops bytes xs rest r h Memory n = tt
 
+-- a header takes bytes away
 pub header_shorter : (rest x after : List ℕ) → Front header_lines IsHeader NotBlank rest x after → length after < length rest
 header_shorter rest x after a = omega (arith, ap length a.parts, length-append (x ++ 10 ∷ []) after)
 
@@ -167,5 +174,6 @@ header_apart x y r q h k m n e =
     let two = same_cut text y q (length x) (inner ∙ append_assoc y (10 ∷ []) q) whole (ends_once x y r q h k m n inner) in
     (one.0 ∙ sym two.0, one.1 ∙ sym two.1)
 
+-- headers are told apart by their lines, if a dot follows
 pub headers_apart : Apart (flat_map header_lines) EachHeader (At 46)
 headers_apart = list_apart header_lines IsHeader NotBlank (At 46) 72 header_begins header_ends header_on header_apart

@@ -141,6 +141,7 @@ front_apart = Control.apart_all
     (rows_apart (row_apart addresses_apart states_apart))
     headers_apart
 
+-- controls with the same text are the same control
 pub spelled_once : Once spelled IsValid
 unfolding spelled control_front
 spelled_once x y h k e = (front_apart x y (line (codes ".")) (line (codes ".")) h k refl refl e).0

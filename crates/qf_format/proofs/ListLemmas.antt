@@ -78,14 +78,17 @@ module _ {X : Type 0} (s : X → List ℕ) (v w : X → Type 0) (f : List ℕ �
 
 -- ---- what stops a reader
 
+-- what stops the first reader stops both, one after the other
 pub stop_first : {X Y : Type 0} (s : X → List ℕ) (v : X → Type 0) (f : List ℕ → Type 0) (t : Y → List ℕ) (w : Y → Type 0) (g : List ℕ → Type 0) → ((y : Y) (z : List ℕ) → w y → g z → f (t y ++ z)) → (bytes : List ℕ) (e : Stop) → Stops s v f bytes e → Stops (both s v f t w g) (BothFormed s v f t w g) g bytes e
 stop_first s v f t w g on bytes Outside h = none_first s v f t w g on bytes h
 stop_first s v f t w g on bytes Memory h = tt
 
+-- what stops the second reader, behind what the first one read, stops both
 pub stop_second : {X Y : Type 0} (s : X → List ℕ) (v : X → Type 0) (f : List ℕ → Type 0) (t : Y → List ℕ) (w : Y → Type 0) (g : List ℕ → Type 0) → ((y : Y) (z : List ℕ) → w y → g z → f (t y ++ z)) → (bytes : List ℕ) (x : X) (rest : List ℕ) → Front s v f bytes x rest → (e : Stop) → Stops t w g rest e → Stops (both s v f t w g) (BothFormed s v f t w g) g bytes e
 stop_second s v f t w g on bytes x rest a Outside h = none_second s v f t w g on bytes x rest a h
 stop_second s v f t w g on bytes x rest a Memory h = tt
 
+-- what stops a reader stops one that tells the same as another type
 pub stop_as : {X Y : Type 0} (s : X → List ℕ) (v : X → Type 0) (t : Y → List ℕ) (w : Y → Type 0) (to : X → Y) (from : Y → X) (f : List ℕ → Type 0) (bytes : List ℕ) → Retold s v t w to from → (e : Stop) → Stops s v f bytes e → Stops t w f bytes e
 stop_as s v t w to from f bytes r Outside h = none_as s v t w to from f bytes r h
 stop_as s v t w to from f bytes r Memory h = tt

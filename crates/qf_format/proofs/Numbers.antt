@@ -29,6 +29,7 @@ decimal_small n h = decimal_digit n h
 pub decimal_more : (n : ℕ) → 10 ≤ n → n < 2 ^ 128 → decimal n ≡ decimal (n / 10) ++ (48 + n % 10) ∷ []
 decimal_more n low high = decimal_step_wide n low (omega arith)
 
+-- a number from 10 on has one digit more than a tenth of it
 pub length-decimal_more : (n : ℕ) → 10 ≤ n → n < 2 ^ 128 → length (decimal n) ≡ length (decimal (n / 10)) + 1
 length-decimal_more n low high = ap length (decimal_more n low high) ∙ length-append (decimal (n / 10)) ((48 + n % 10) ∷ [])
 
@@ -56,6 +57,7 @@ begins n h = decimal_by_steps_wide Begins begins_one begins_more n (omega arith)
 numeral : (n : ℕ) → n < 2 ^ 128 → IsNumeral 10 (decimal n) × (digits_value 10 (decimal n) ≡ n)
 numeral n h = decimal_is_IsNumeral_wide n (omega arith)
 
+-- the text of a number begins with a digit
 pub first_digit : (n : ℕ) → n < 2 ^ 128 → (48 ≤ get_or (decimal n) 0 0) × (get_or (decimal n) 0 0 ≤ 57)
 first_digit n h = digit_at (decimal n) 0 (numeral n h).0.1 (numeral n h).0.0
 
@@ -127,6 +129,7 @@ decimal_value ds num plain small = by_first (get_or ds 0 0) refl
 
 -- ---- reading
 
+-- digits without a plus or a needless zero are read as the number whose text they are
 pub reads_number : {E : Type 0} (bytes : List ℕ) (r : Result ℕ E) → IsPlain bytes → ParsesUnsigned 128 10 bytes r → Spells decimal (λ n. n < 2 ^ 128) bytes (result_ok r)
 reads_number {E} bytes (Ok n) plain h =
     let g = parse_plain (numerals_by_value (AllDigits 10) tells_digits) {E = E} 128 bytes (Ok n) h plain.0 in
@@ -141,8 +144,10 @@ reads_number {E} bytes (Err e) plain h = record { none = λ y k f. absurd (err_o
     err_ok : {D : Type 0} (d : D) (y : ℕ) → Err d ≡ Ok y → ⊥
     err_ok d y p = cc
 
+-- bytes with a plus or a needless zero in front are no number's text
 pub no_plain : (bytes : List ℕ) → (IsPlain bytes → ⊥) → NoWhole decimal (λ n. n < 2 ^ 128) bytes
 no_plain bytes h = record { none = λ y k e. h (subst IsPlain (sym e) (plain_decimal y k)) }
 
+-- bytes that aren't UTF-8 are no number's text
 pub no_text : (bytes : List ℕ) → (IsUtf8 bytes → ⊥) → NoWhole decimal (λ n. n < 2 ^ 128) bytes
 no_text bytes h = record { none = λ y k e. h (subst IsUtf8 (sym e) (IsUtf8-from_ascii (decimal y) (IsAscii-decimal_wide y (omega arith)))) }

@@ -25,9 +25,11 @@ use Rattle.qf_format.proofs.StateLemmas.{no_blank, cons_tail}
 wide_once : (x y : ℕ) → x < 2 ^ 128 → y < 2 ^ 128 → decimal x ≡ decimal y → x ≡ y
 wide_once x y h k e = sym (decimal_is_IsNumeral_wide x (omega arith)).1 ∙ ap (digits_value 10) e ∙ (decimal_is_IsNumeral_wide y (omega arith)).1
 
+-- numbers below 2 ^ 64 with the same digits are equal
 pub small_once : Once decimal IsSmall
 small_once x y h k e = wide_once x y (omega arith) (omega arith) e
 
+-- revisions with the same digits are equal
 pub revision_once : Once decimal IsRevision
 revision_once x y h k e = wide_once x y (omega (arith, h.most)) (omega (arith, k.most)) e
 
@@ -37,6 +39,7 @@ minus_apart x m h e =
     let is : 45 ≡ get_or (decimal m) 0 0 = ap (λ (bs : List ℕ). get_or bs 0 0) e in
     omega arith
 
+-- priorities with the same digits and sign are equal
 pub priority_once : Once signed_decimal (FitsSigned w128)
 priority_once (pos m) (pos n) h k e = ap pos (wide_once m n (omega (arith, ints)) (omega (arith, ints)) e)
 priority_once (pos m) (negsuc n) h k e = absurd (minus_apart (decimal (suc n)) m (omega (arith, ints)) (sym e))
@@ -48,6 +51,7 @@ priority_once (negsuc m) (negsuc n) h k e =
 wider : (z : ℤ) → FitsSigned w64 z → FitsSigned w128 z
 wider z h = record { sfits = omega (arith, ints) }
 
+-- classes with the same digits and sign are equal
 pub class_once : Once signed_decimal (FitsSigned w64)
 class_once x y h k e = priority_once x y (wider x h) (wider y k) e
 
@@ -58,6 +62,7 @@ id_once x y h k e =
 
 -- ---- parents
 
+-- parents with the same text are equal
 pub parent_once : Once parent_text IsParent
 parent_once x y h k e =
     let cut = split_once 32 (id_text x.id) (id_text y.id) (decimal x.revision) (decimal y.revision) (id_free x.id h.id) (id_free y.id k.id) e in
@@ -89,6 +94,7 @@ first_letter (Dead s m) = refl
 same_letter : (x y : State) → state_text x ≡ state_text y → letter_of x ≡ letter_of y
 same_letter x y e = sym (first_letter x) ∙ ap (λ (b : List ℕ). slice_index b 0) e ∙ first_letter y
 
+-- states with the same text are equal
 pub state_once : Once state_text IsState
 unfolding letter_of
 state_once (Queued None) (Queued None) h k e = refl

@@ -128,5 +128,6 @@ unfolding spelled room_of
 fits c v =
     simp length-append (omega (arith, place_len c v, order_len c v, sender_len c, kept_len c.kept, rows_len c.rows v.rows_form.each, headers_len c.headers))
 
+-- the text of a valid control with the texts of another is no longer than that one's room
 pub text_fits_room : (c other : Control) → SameTexts c other → IsValid other → length (spelled other) ≤ room_of c
 text_fits_room c other same v = omega (arith, fits other v, alike c other same)

@@ -36,6 +36,7 @@ below_only : (ds : List ℕ) (n : ℕ) → Whole decimal (λ n. n < 2 ^ 128) ds 
 below_only ds n w (pos m) h e = absurd (no_minus ds m (omega (arith, ints)) e)
 below_only ds n w (negsuc m) h e = (m, refl, w.only (suc m) (omega (arith, ints)) (tail ds (decimal (suc m)) e), omega (arith, ints))
 
+-- digits behind a minus are read as the number below 0 of that magnitude, if it fits i128
 pub below_zero : (bytes ds : List ℕ) (n : ℕ) (r : Option ℤ) → bytes ≡ 45 ∷ ds → Whole decimal (λ n. n < 2 ^ 128) ds n → IsNegative n r → Spells signed_decimal (FitsSigned w128) bytes r
 below_zero bytes ds n (Some z) e w h =
     let again : suc (n - 1) ≡ n = omega arith in
@@ -52,6 +53,7 @@ below_zero bytes ds n None e w h = record {
       elim h [ inl a ↦ omega (arith, o.2, a) | inr a ↦ omega (arith, o.2, o.3, a) ];
 }
 
+-- where no number stands behind a minus, the bytes spell no signed number
 pub none_below : (bytes ds : List ℕ) → bytes ≡ 45 ∷ ds → NoWhole decimal (λ n. n < 2 ^ 128) ds → NoWhole signed_decimal (FitsSigned w128) bytes
 none_below bytes ds e w = record { none = λ y k f. by_sign y k (sym e ∙ f) }
   where
@@ -66,6 +68,8 @@ pub record AreDigits (k n : ℕ) : Type 0 where
   pub value : digits_value 10 (digits k n) ≡ n
   pub len : length (digits k n) ≡ k
 
+-- k digits of a number below 10 ^ k are its k digits: each is a digit, and their value is the
+-- number
 pub are_digits : (k n : ℕ) → n < 10 ^ k → AreDigits k n
 unfolding digits
 are_digits zero n h = record { each = tt; value = omega arith; len = refl }
@@ -79,6 +83,7 @@ are_digits (suc k) n h =
       len = length-append (digits k (n / 10)) (d ∷ []) ∙ omega (arith, more.len);
     }
 
+-- a call that reads digits as a number reads an id's twelve digits as that id
 pub id_parses : {E : Type 0} (text : List ℕ) (r : Result ℕ E) → ParsesUnsigned 64 10 text r → (n : ℕ) → IsId n → text ≡ digits 12 n → result_ok r ≡ Some n
 id_parses {E} text r h n small e =
     let d = are_digits 12 n (omega arith) in
@@ -87,14 +92,17 @@ id_parses {E} text r h n small e =
     let len : 0 < length text = omega (arith, ap length e, d.len) in
     ap result_ok (parse_gives (numerals_by_value (AllDigits 10) tells_digits) {E = E} 64 text r h all len (omega (arith, value, small)) ∙ ap (λ (v : ℕ). Ok v) value)
 
+-- an id's twelve digits are UTF-8
 pub id_is_text : (text : List ℕ) (n : ℕ) → IsId n → text ≡ digits 12 n → IsUtf8 text
 id_is_text text n small e =
     let d = are_digits 12 n (omega arith) in
     subst IsUtf8 (sym e) (IsUtf8-from_ascii (digits 12 n) (IsAscii-from_digits (digits 12 n) d.each))
 
+-- a comparison of two texts byte by byte says whether they are equal
 pub told : (xs ys : List ℕ) (r : Bool) → r ≡ pointwise nat_eq xs ys → (IsTrue r → xs ≡ ys) × (xs ≡ ys → IsTrue r)
 told xs ys true h = (λ t. told_text xs ys true h, λ e. refl)
 told xs ys false h = (λ t. absurd cc, λ e. absurd (told_text xs ys false h e))
 
+-- a comparison with a name's bytes behind `qf` says whether the bytes are these
 pub named : (name bytes rest : List ℕ) (r : Bool) → name ≡ 113 ∷ 102 ∷ rest → r ≡ pointwise nat_eq bytes (take (length name - 2) (drop 2 name)) → (IsTrue r → bytes ≡ rest) × (bytes ≡ rest → IsTrue r)
 named name bytes rest r e h = told bytes rest r (h ∙ ap (pointwise nat_eq bytes) (take_rest name 2 ∙ ap (drop 2) e))

@@ -13,6 +13,7 @@ use Rattle.qf_format.specs.Valid.{IsCause, IsState}
 use Rattle.qf_format.proofs.FieldLemmas.{Without, IsFirst, split_once, first_at, none_in}
 use Rattle.qf_format.proofs.StatusLemmas.{IsStatusByte, status_in}
 
+-- lists that are equal with one item in front are equal
 pub cons_tail : (c : ℕ) (x y : List ℕ) → c ∷ x ≡ c ∷ y → x ≡ y
 cons_tail c x y e = cc
 
@@ -70,15 +71,19 @@ has_dead (Failed s m) rest k f = absurd (heads 68 70 rest (cause s m) (λ z. ome
 has_dead (Returned i) rest k f = absurd (heads 68 82 rest (32 ∷ id_text i) (λ z. omega arith) f)
 has_dead (Dead s m) rest k f = (s, m, refl, k)
 
+-- an F with a status and a note behind it is read as the state Failed
 pub failed_read : (bytes rest s m : List ℕ) → bytes ≡ 70 ∷ rest → Whole cause_text IsCauseOf rest (s, m) → Whole state_text IsState bytes (Failed s m)
 failed_read bytes rest s m e w = read_of 70 Failed (λ s m. refl) (λ s m h. h) has_failed bytes rest e s m w
 
+-- an F without a status and a note behind it is no state
 pub none_failed : (bytes rest : List ℕ) → bytes ≡ 70 ∷ rest → NoWhole cause_text IsCauseOf rest → NoWhole state_text IsState bytes
 none_failed bytes rest e w = none_of 70 Failed (λ s m. refl) (λ s m h. h) has_failed bytes rest e w
 
+-- a D with a status and a note behind it is read as the state Dead
 pub dead_read : (bytes rest s m : List ℕ) → bytes ≡ 68 ∷ rest → Whole cause_text IsCauseOf rest (s, m) → Whole state_text IsState bytes (Dead s m)
 dead_read bytes rest s m e w = read_of 68 Dead (λ s m. refl) (λ s m h. h) has_dead bytes rest e s m w
 
+-- a D without a status and a note behind it is no state
 pub none_dead : (bytes rest : List ℕ) → bytes ≡ 68 ∷ rest → NoWhole cause_text IsCauseOf rest → NoWhole state_text IsState bytes
 none_dead bytes rest e w = none_of 68 Dead (λ s m. refl) (λ s m h. h) has_dead bytes rest e w
 
@@ -87,6 +92,7 @@ none_dead bytes rest e w = none_of 68 Dead (λ s m. refl) (λ s m h. h) has_dead
 not_blank : (b : ℕ) → IsStatusByte b → b ≢ 32
 not_blank b h e = omega (arith, h.low, e)
 
+-- a status has no space
 pub no_blank : (s : List ℕ) → is_status s ≡ true → Without 32 s
 no_blank s h = All-weaker IsStatusByte (λ b. b ≢ 32) not_blank s (status_in s h).each
 
@@ -108,16 +114,20 @@ module _ (bytes rest : List ℕ) (at : ℕ) (e : bytes ≡ 32 ∷ rest) (first :
       cause_along : (a b c d : List ℕ) → a ≡ b → c ≡ d → IsCause a c → IsCause b d
       cause_along a b c d p q k = subst (λ x. IsCause x d) p (subst (λ x. IsCause a x) q k)
 
+-- behind a space, a status up to the next one and a note from there on are read as a cause
 pub cause_read : (bytes rest status note : List ℕ) (at : ℕ) → bytes ≡ 32 ∷ rest → IsFirstByte (is_byte 32) rest (Some at) → status ≡ take at rest → note ≡ drop (at + 1) rest → is_status status ≡ true → IsNote note → Whole cause_text IsCauseOf bytes (status, note)
 cause_read bytes rest status note at e h p q k l =
     let formed : IsCause (take at rest) (drop (at + 1) rest) = record { status_form = subst (λ x. is_status x ≡ true) p k; note_form = subst IsNote q l } in
     subst (λ x. Whole cause_text IsCauseOf bytes x) (λ i. (sym p i, sym q i)) (cause_read_at bytes rest at e (first_at 32 rest at h) formed)
 
+-- where what stands between two spaces is no status, the bytes are no cause
 pub no_status : (bytes rest status : List ℕ) (at : ℕ) → bytes ≡ 32 ∷ rest → IsFirstByte (is_byte 32) rest (Some at) → status ≡ take at rest → (is_status status ≡ true → ⊥) → NoWhole cause_text IsCauseOf bytes
 no_status bytes rest status at e h p k = none_cause_at bytes rest at e (first_at 32 rest at h) (λ c. k (subst (λ x. is_status x ≡ true) (sym p) c.status_form))
 
+-- where what stands behind the second space is no note, the bytes are no cause
 pub no_note : (bytes rest note : List ℕ) (at : ℕ) → bytes ≡ 32 ∷ rest → IsFirstByte (is_byte 32) rest (Some at) → note ≡ drop (at + 1) rest → (IsNote note → ⊥) → NoWhole cause_text IsCauseOf bytes
 no_note bytes rest note at e h q k = none_cause_at bytes rest at e (first_at 32 rest at h) (λ c. k (subst IsNote (sym q) c.note_form))
 
+-- without a second space the bytes are no cause
 pub no_second : (bytes rest : List ℕ) → bytes ≡ 32 ∷ rest → IsFirstByte (is_byte 32) rest None → NoWhole cause_text IsCauseOf bytes
 no_second bytes rest e h = record { none = λ p k f. none_in 32 rest p.0 p.1 h (cons_tail 32 rest (p.0 ++ 32 ∷ p.1) (sym e ∙ f)) }

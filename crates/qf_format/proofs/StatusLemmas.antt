@@ -54,6 +54,7 @@ groups_in (Some at) bs e h =
       each = subst (All IsStatusByte) whole each;
     }
 
+-- a status has at most nine bytes, all digits or dots
 pub status_in : (bs : List ℕ) → is_status bs ≡ true → AreFew 9 bs
 status_in [] h = absurd cc
 status_in (b ∷ []) h = absurd cc

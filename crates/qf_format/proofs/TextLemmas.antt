@@ -24,6 +24,7 @@ use Rattle.qf_format.proofs.ReadLemmas.{none_around}
 use Rattle.qf_format.proofs.SignedLemmas.{are_digits}
 use Rattle.qf_format.proofs.StatusLemmas.{IsStatusByte, status_in}
 
+-- a byte other than LF
 abbrev pub NotLf : ℕ → Type 0
 NotLf b = b ≢ 10
 
@@ -34,20 +35,25 @@ digits_line (d ∷ ds) h = let r = digit_from_value d h.0 in All-cons NotLf d ds
 pub decimal_line : (n : ℕ) → n < 2 ^ 128 → IsLine (decimal n)
 decimal_line n h = digits_line (decimal n) (decimal_is_IsNumeral_wide n (omega arith)).0.1
 
+-- the digits of a number below 2 ^ 64 have no LF
 pub small_line : (n : ℕ) → IsSmall n → IsLine (decimal n)
 small_line n h = decimal_line n (omega arith)
 
+-- a revision's text has no LF
 pub revision_line : (n : ℕ) → IsRevision n → IsLine (decimal n)
 revision_line n h = decimal_line n (omega (arith, h.most))
 
+-- a priority's text has no LF
 pub priority_line : (z : ℤ) → FitsSigned w128 z → IsLine (signed_decimal z)
 priority_line (pos n) h = decimal_line n (omega (arith, ints))
 priority_line (negsuc n) h = All-cons NotLf 45 (decimal (suc n)) (λ e. omega arith) (decimal_line (suc n) (omega (arith, ints)))
 
+-- a class's text has no LF
 pub class_line : (z : ℤ) → FitsSigned w64 z → IsLine (signed_decimal z)
 class_line (pos n) h = decimal_line n (omega (arith, ints))
 class_line (negsuc n) h = All-cons NotLf 45 (decimal (suc n)) (λ e. omega arith) (decimal_line (suc n) (omega (arith, ints)))
 
+-- an id's text has no LF
 pub id_line : (n : ℕ) → IsId n → IsLine (id_text n)
 id_line n h = All-cons NotLf 119 (digits 12 n) (λ e. omega arith) (digits_line (digits 12 n) (are_digits 12 n (omega arith)).each)
 
@@ -60,6 +66,7 @@ status_line s h = All-weaker IsStatusByte NotLf (λ b p e. omega (arith, p.low, 
 cause_line : (s n : List ℕ) → IsCause s n → IsLine (cause s n)
 cause_line s n h = All-cons NotLf 32 (s ++ 32 ∷ n) (λ e. omega arith) (All-append NotLf s (32 ∷ n) (status_line s h.status_form) (All-cons NotLf 32 n (λ e. omega arith) (note_line n h.note_form)))
 
+-- a state's text has no LF
 pub state_is_line : (s : State) → IsState s → IsLine (state_text s)
 state_is_line (Queued None) h = All-cons NotLf 81 [] (λ e. omega arith) (All-nil NotLf)
 state_is_line (Queued (Some n)) h = All-cons NotLf 81 (32 ∷ n) (λ e. omega arith) (All-cons NotLf 32 n (λ e. omega arith) (note_line n h))
