@@ -30,6 +30,7 @@ pub record Spoils (depth : ℕ) (text : List ℕ) (left : ℕ) : Type 0 where
   pub remains : Remains depth inside
   pub one : left ≡ 1
 
+-- where a comment of a depth ends, by what the reader of its end answers
 abbrev pub CommentEnds : ℕ → List ℕ → Ending → Type 0
 CommentEnds depth text (Closed rest) = Levels depth (λ more. more ≡ rest) text
 CommentEnds depth text Unclosed = Remains depth text

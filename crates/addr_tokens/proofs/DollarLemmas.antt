@@ -62,6 +62,7 @@ unbraced_is place b text part is none = ap (first_braced place b) (ap in_braces 
 
 -- ---- braces, byte by byte
 
+-- bytes put in front of the first part of a pair that may be there
 abbrev pub with_front : List ℕ → Option (List ℕ × List ℕ) → Option (List ℕ × List ℕ)
 with_front before None = None
 with_front before (Some parts) = Some (before ++ parts.0, parts.1)

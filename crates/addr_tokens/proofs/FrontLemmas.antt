@@ -48,6 +48,7 @@ closing_is false false true false d is quote slash opening dollar = absurd (fals
 closing_is false false false false true is quote slash opening dollar = absurd (false≢true (sym dollar))
 closing_is false false false false false is quote slash opening dollar = absurd (false≢true is)
 
+-- a closing parenthesis begins no piece: it is unbalanced where it stands
 pub closing_front : (alphabet : Alphabet) (place b : ℕ) (bs : List ℕ) → (is_special b || b == 36) ≡ true → (b ≡ 34 → ⊥) → (b ≡ 92 → ⊥) → (b ≡ 40 → ⊥) → (b ≡ 36 → ⊥) → first_of alphabet place b bs ≡ Err (Unbalanced place)
 closing_front alphabet place b bs marked quote slash opening dollar =
     let is : b ≡ 41 = eqb-true b 41 (closing_is (b == 34) (b == 92) (b == 40) (b == 41) (b == 36) marked (ne_eqb b 34 quote) (ne_eqb b 92 slash) (ne_eqb b 40 opening) (ne_eqb b 36 dollar)) in

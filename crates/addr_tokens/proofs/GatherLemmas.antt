@@ -6,6 +6,7 @@ use Rattle.addr_tokens.specs.declared.lexeme.Lexeme.{Lexeme}
 use Rattle.addr_tokens.specs.Scans.{most_tokens}
 use Rattle.addr_tokens.specs.Reader.{Answer, gathered, limited, with_lexemes}
 
+-- a text has at most 2,000 tokens
 pub most : most_tokens ≡ 2000
 unfolding most_tokens
 most = refl

@@ -9,6 +9,7 @@ joined_next : (blank : Option ℕ) (token : Token) (tokens : List Token) → tok
 joined_next blank token [] = append-nil (token_bytes token)
 joined_next blank token (next ∷ tokens) = ap (λ x. token_bytes token ++ (between blank token next ++ x)) (joined_next blank next tokens)
 
+-- tokens that are joined with nothing before them are joined as a whole
 pub joined_from_left : (blank : Option ℕ) (tokens : List Token) → joined_on false blank tokens ≡ joined blank tokens
 joined_from_left blank [] = refl
 joined_from_left blank (token ∷ tokens) = joined_next blank token tokens

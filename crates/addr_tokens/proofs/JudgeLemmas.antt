@@ -28,6 +28,7 @@ opened-none : (tokens : List Lexeme) → opened None tokens ≡ None
 opened-none [] = refl
 opened-none (token ∷ tokens) = refl
 
+-- open angle brackets are counted through two lists as through one
 pub opened-append : (n : Option ℕ) (one other : List Lexeme) → opened n (one ++ other) ≡ opened (opened n one) other
 opened-append n [] other = refl
 opened-append None (token ∷ one) other = sym (opened-none other)

@@ -46,6 +46,7 @@ plain_pieces alphabet (Dollar construct ∷ pieces) rest plain each =
     with_token (lexeme_of alphabet.dollars construct) (lexemes_of alphabet.dollars pieces) (construct_token alphabet.dollars (is_listed alphabet 36) construct plain each.0) (plain_pieces alphabet pieces rest plain each.1)
 plain_pieces alphabet (Run bytes ∷ pieces) rest plain each = ap (λ x. Plain (Word (text_in alphabet.dollars bytes)) ∷ x) (plain_pieces alphabet pieces rest plain each.1)
 
+-- where no side of a rule is cut, each lexeme is a plain token
 pub plain_lexemes : (alphabet : Alphabet) (angles : Bool) (text : List ℕ) (lexemes : List Lexeme) → is_side alphabet.dollars ≡ false → AreLexemes alphabet angles text lexemes → lexemes ≡ map Plain (flat_map token_in lexemes)
 plain_lexemes alphabet angles text lexemes plain a =
     sym a.lexemes_are ∙ plain_pieces alphabet a.pieces [] plain a.cut.each ∙ ap (λ x. map Plain (flat_map token_in x)) a.lexemes_are
@@ -64,8 +65,10 @@ tokens_by alphabet angles text (Ok lexemes) tokens plain means is =
     subst (AreLexemes alphabet angles text) all means
 tokens_by alphabet angles text (Err fault) tokens plain means is = absurd (no_ok (tokens_among (Err fault)) fault tokens refl is)
 
+-- the tokens that the cutting answers are those of the text
 pub tokens_of_answer : (alphabet : Alphabet) (angles : Bool) (text : List ℕ) (tokens : List Token) → is_side alphabet.dollars ≡ false → tokens_or_fault alphabet angles text ≡ Ok tokens → AreTokens alphabet angles text tokens
 tokens_of_answer alphabet angles text tokens plain is = tokens_by alphabet angles text (outcome_of alphabet angles text) tokens plain (answer_means alphabet angles text) is
 
+-- the tokens of a text are what the cutting answers
 pub tokens_answered : (alphabet : Alphabet) (angles : Bool) (text : List ℕ) (tokens : List Token) → AreTokens alphabet angles text tokens → tokens_or_fault alphabet angles text ≡ Ok tokens
 tokens_answered alphabet angles text tokens a = ap tokens_among (lexemes_answered alphabet angles text (map Plain tokens) a) ∙ ap Ok (token_in-map tokens)

@@ -17,6 +17,7 @@ pub data SpoilsQuote : List ℕ → ℕ → Type 0 where
   spoilt_byte : (inside : List ℕ) (b : ℕ) (after : List ℕ) → InQuotes inside → is_control b ≡ true → SpoilsQuote (inside ++ b ∷ after) (length (b ∷ after))
   spoilt_pair : (inside : List ℕ) (b : ℕ) (after : List ℕ) → InQuotes inside → is_control b ≡ true → SpoilsQuote (inside ++ 92 ∷ b ∷ after) (length (b ∷ after))
 
+-- where a quotation ends, by what the reader of its end answers
 abbrev pub QuoteEnds : List ℕ → Ending → Type 0
 QuoteEnds text (Closed rest) = ClosesQuote text rest
 QuoteEnds text Unclosed = InQuotes text

@@ -80,6 +80,7 @@ asked_low listed low b only is =
     ⊎_elim (λ (high : 32 < b). asked_listed (get_or listed b false) b (sym (only high) ∙ is))
     (λ (le : b ≤ 32). asked_white (get_or listed b false) b (or_left (nat_le b 32) _ (le-leb b 32 le))) (cases_lt 32 b)
 
+-- a byte marked in the second table is white, special, an operator or a dollar sign
 pub asked_byte_is : (listed low : List Bool) (b : ℕ) → (32 < b → get_or low b false ≡ get_or listed b false)
     → (get_or low b false || list_any (λ o. o == b) asked_beside) ≡ true → is_asked (get_or listed b false) b ≡ true
 asked_byte_is listed low b only is =

@@ -19,6 +19,7 @@ front_is front rest =
     let e : length (front ++ rest) - length rest ≡ length front = omega (arith, length-append front rest) in
     ap (λ n. take n (front ++ rest)) e ∙ take_at front rest (length front) refl
 
+-- the bytes before what is left of a text are its front
 pub front_taken : (text : List ℕ) (n : ℕ) → n ≤ length text → front_of text (drop n text) ≡ take n text
 front_taken text n within =
     let e : length text - length (drop n text) ≡ n = omega (arith, length-drop n text) in

@@ -210,7 +210,7 @@ name_more names book new place k name d lt here within made =
     ∙ set_twice book place s (with_names (drop (k + 1) names) s)
     ∙ ap (λ (ns : List (List ℕ)). set book place (with_names ns (get_or book place d))) (sym (next_name names k name lt here))
 
--- a rule set that is replaced leaves the book as long as it was
+-- a rule set put in a book's place stands within the new book
 pub name_within : (book new : List Ruled) (place : ℕ) (s : Ruled) → place < length book → new ≡ set book place s → place < length new
 name_within book new place s within made = let long : length new ≡ length book = ap length made ∙ length-set book place s in omega (arith, long, within)
 

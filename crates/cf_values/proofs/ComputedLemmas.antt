@@ -30,6 +30,7 @@ number_from : (d : ℕ) (digits : List ℕ) (n : ℕ) (test : Bool) → list_all
 number_from d digits n true e h = record { numeral = record { some = λ x. cc; digits = all-from (d ∷ digits) e }; number = ap (λ o. unwrap_or o 0) (sym h) }
 number_from d digits n false e h = absurd (cc)
 
+-- the number that is computed of a text is the one that it spells
 pub number_computed : (text : List ℕ) (n : ℕ) → (number_value text ≡ Some n) ↔ IsNumber text n
 number_computed [] n = (λ e. absurd (cc), λ is. absurd (is.numeral.some refl))
 number_computed (d ∷ digits) n = (
@@ -132,6 +133,7 @@ reads last digits (b ∷ text) n all e =
     reads-byte last digits b text n all (is_digit b) refl (rest_value last (digits ++ b ∷ []) text) (rest_value last [] text)
     (λ digits_more. reads last (digits ++ b ∷ []) text n digits_more) (λ m. reads last [] text m (All-nil IsDigit)) e
 
+-- the time that is computed of a text is the one that it spells
 pub time_computed : (unit : ℕ) (text : List ℕ) (n : ℕ) → (time_value unit text ≡ Some n) ↔ IsTime (last_unit unit) text n
 time_computed unit [] n = (λ e. absurd (cc), λ is. absurd (is.some refl))
 time_computed unit (b ∷ text) n = (

@@ -23,9 +23,11 @@ pub digit_behind : (front rest : List ℕ) (byte : ℕ) → All IsDigit (front +
 digit_behind [] rest byte all = All-head IsDigit byte rest all
 digit_behind (d ∷ front) rest byte all = digit_behind front rest byte (All-tail IsDigit d (front ++ byte ∷ rest) all)
 
+-- the byte `0` is a digit
 pub zero_digit : IsDigit 48
 zero_digit = (omega arith, omega arith)
 
+-- a text with a byte at its end isn't empty
 pub push_some : (front : List ℕ) (byte : ℕ) → front ++ byte ∷ [] ≡ [] → ⊥
 push_some [] byte e = cc
 push_some (d ∷ front) byte e = cc

@@ -9,6 +9,7 @@ use Rattle.cf_values.specs.Refusals.{Begins, IsFirstBad, IsRefused, empty, above
 use Rattle.cf_values.proofs.DigitLemmas.{value-push, digit_behind, zero_digit, push_some}
 use Rattle.cf_values.proofs.RefusalLemmas.{IsGrammar}
 
+-- a text spells one number at most, and none if it is empty
 pub numbers : IsGrammar IsNumber
 numbers = record {
   one = λ text n m a b. a.number ∙ sym b.number;

@@ -13,9 +13,11 @@ use Rattle.cf_values.specs.Numbers.{IsDigit, is_digit, IsNumeral}
 use Rattle.cf_values.specs.Times.{Pair, Time, IsProper, IsTime, letter, unit_of, pair_spelling, spelling, total}
 use Rattle.cf_values.specs.Refusals.{Begins}
 
+-- a digit passes the test for digits
 pub is_digit-true : (b : ℕ) → IsDigit b → is_digit b ≡ true
 is_digit-true b d = grind (arith, nat_tests)
 
+-- a byte that passes the test for digits is one
 pub is_digit-from : (b : ℕ) → is_digit b ≡ true → IsDigit b
 is_digit-from b e = (grind (arith, nat_tests), grind (arith, nat_tests))
 
@@ -25,6 +27,7 @@ is_digit-false b n = by (is_digit b) refl where
   by true e = absurd (n (grind (arith, nat_tests), grind (arith, nat_tests)))
   by false e = e
 
+-- a unit's letter names that unit
 pub unit_of-letter : (u : TimeUnit) → unit_of (letter u) ≡ Some u
 unit_of-letter Week = refl
 unit_of-letter Day = refl
@@ -32,6 +35,7 @@ unit_of-letter Hour = refl
 unit_of-letter Minute = refl
 unit_of-letter Second = refl
 
+-- no unit's letter is a digit
 pub letter_is_no_digit : (u : TimeUnit) → is_digit (letter u) ≡ false
 letter_is_no_digit Week = refl
 letter_is_no_digit Day = refl

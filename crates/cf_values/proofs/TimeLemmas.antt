@@ -10,6 +10,7 @@ use Rattle.cf_values.proofs.ParseLemmas.{one_time}
 use Rattle.cf_values.proofs.RefusalLemmas.{IsGrammar}
 use Rattle.cf_values.proofs.StandLemmas.{time_begins}
 
+-- a text spells one time at most, and none if it is empty
 pub times : (unit : TimeUnit) → IsGrammar (IsTime unit)
 times unit = record { one = one_time unit; some = λ n a. a.some refl }
 

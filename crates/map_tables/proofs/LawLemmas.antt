@@ -31,6 +31,7 @@ tells (Some (Sets value)) = refl
 tells (Some Lacks) = refl
 tells (Some Refuses) = refl
 
+-- what is told of an answer is never want of memory
 pub never_memory : (o : Option Answer) → told o ≢ Err NoMemory
 unfolding is_memory
 never_memory o same = false≢true (tells o ∙ ap is_memory same)

@@ -10,9 +10,11 @@ use Rattle.std.proofs.lemmas.List.Kept.{IsStrictlySortedBy-dedup, Contains-dedup
 use Rattle.std.proofs.lemmas.List.Sorted.{Contains-permutation, IsPermutation-sym}
 use Rattle.spool_disk.specs.Listings.{IsAscending, AreSameNames}
 
+-- an empty list contains nothing
 pub nothing_there : {X : Type 0} (y : X) → Contains [] y → ⊥
 nothing_there y h = omega (arith, h.1)
 
+-- a list of one item contains no other
 pub one_only : {X : Type 0} (x y : X) → Contains (x ∷ []) y → x ≡ y
 one_only x y h = ⊎_elim (λ k. absurd (nothing_there y k)) (λ e. e) (Contains-push_cases [] x y h)
 

@@ -17,6 +17,7 @@ alone p q file h k =
     let names = (bytes_decides p.1 file.name).0 (second_so (bytes_eq p.0 file.dir) (bytes_eq p.1 file.name) h) ∙ sym ((bytes_decides q.1 file.name).0 (second_so (bytes_eq q.0 file.dir) (bytes_eq q.1 file.name) k)) in
     λ i. (dirs i, names i)
 
+-- whether two places are equal, folder and name
 pub same_place : Place → Place → Bool
 same_place p q = bytes_eq p.0 q.0 && bytes_eq p.1 q.1
 
@@ -51,6 +52,7 @@ is_gone : (p : Place) (files : FileMap) → bytes_at (without_file p files) p �
 is_gone p [] = refl
 is_gone p (file ∷ files) = gone_step file (without_file p files) p (lies_at p file) refl (is_gone p files)
 
+-- a file added at another place leaves the bytes at this one
 pub pushed_elsewhere : (files : FileMap) (file : File) (p : Place) → lies_at p file ≡ false → bytes_at (files ++ file ∷ []) p ≡ bytes_at files p
 pushed_elsewhere [] file p h = ap (λ t. if t then Some file.bytes else None) h
 pushed_elsewhere (x ∷ files) file p h = ap (λ q. if lies_at p x then Some x.bytes else q) (pushed_elsewhere files file p h)
