@@ -111,6 +111,7 @@ calm rules e f l slots keeps i = record {
   few = i.few;
 }
 
+-- where each bucket is as before, the slots give the same rules in order
 pub calm_order : (rules : List Rule) (e f : List (Token × List Numbered)) (l : List Numbered) (slots : List Slot) → Keeps e f → IsIndex rules e l slots → in_order f l slots ≡ rules
 calm_order rules e f l slots keeps i = in_order_is rules f l slots (calm rules e f l slots keeps i)
 
@@ -221,6 +222,7 @@ bucket_there rule slot e l fits = go (anchor rule.left) fits
 
 -- ---- the index after a call
 
+-- where each bucket is as before, an index of what its slots give stays one
 pub still : (e f : List (Token × List Numbered)) (l : List Numbered) (slots : List Slot) → Keeps e f → IsIndex (in_order e l slots) e l slots → IsIndex (in_order f l slots) f l slots
 still e f l slots keeps i = subst (λ (rules : List Rule). IsIndex rules f l slots) (sym (calm_order (in_order e l slots) e f l slots keeps i)) (calm (in_order e l slots) e f l slots keeps i)
 
@@ -281,6 +283,7 @@ grows_at e place key bucket w last distinct was is looked = record {
   places = λ other ne. set_other e place other w ne;
 }
 
+-- the key that a search by a test found passes that test
 pub key_passes : {X : Type 0} (test : Token → Bool) (es : List (Token × X)) (key : Token) → Some key ≡ lookup_key test es → test key ≡ true
 key_passes test [] key h = absurd (cc h)
 key_passes test (x ∷ es) key h = at (λ k. key_passes test es key k) (test x.0) refl
@@ -309,6 +312,7 @@ last_entry e key = get_last e (key, [])
 
 -- ---- the answers of `put`
 
+-- a value that `put` has made longer by one, in its place, is the bucket there with one more
 pub put_ok : (r : Result (Unit {0}) NoMemory) (b : Option ℕ) (place : ℕ) (last : Numbered) (e : List (Token × List Numbered)) (l v w : List Numbered) → b ≡ Some place → slice_get (values_of e) place ≡ Some v → IsDistinct same_token (keys_of e)
     → ((key : Token) → slice_get e place ≡ Some (key, v) → (token : Token) → lookup (same_token token) (set_value_at e place w) ≡ cond (same_token key token) (Some w) (lookup (same_token token) e))
     → OnOk r (w ≡ v ++ last ∷ []) → OnOk r (Puts b last e l (set_value_at e place w) l)
@@ -317,11 +321,13 @@ put_ok (Ok x) b place last e l v w is at distinct looked more =
     subst (λ (c : Option ℕ). Puts c last e l (set_value_at e place w) l) (sym is) (grows_at e place k.0 v w last distinct k.1 more (looked k.0 k.1), refl)
 put_ok (Err x) b place last e l v w is at distinct looked more = tt
 
+-- a value that `put` left as it was, set in its place again, leaves all buckets as before
 pub put_err : (r : Result (Unit {0}) NoMemory) (place : ℕ) (e : List (Token × List Numbered)) (l v w : List Numbered) → slice_get (values_of e) place ≡ Some v → OnErr r (w ≡ v)
     → OnErr r ((set_value_at e place w ≡ e) × (l ≡ l))
 put_err (Ok x) place e l v w at same = tt
 put_err (Err x) place e l v w at same = let k = with_key e place v at in (set_same e place w v k.0 k.1 same, refl)
 
+-- an empty bucket that was put at the end stands at the place that was the number of them
 pub added : (e f : List (Token × List Numbered)) (key : Token) (place : ℕ) → f ≡ e ++ (key, []) ∷ [] → place ≡ length e → slice_get f place ≡ Some (key, [])
 added e f key place is at = ap (λ (es : List (Token × List Numbered)). slice_get es place) is ∙ ap (slice_get (e ++ (key, []) ∷ [])) at ∙ last_entry e key
 
@@ -347,12 +353,15 @@ none_there (x ∷ xs) [] k same is = absurd (cc same)
 none_there (x ∷ xs) (y ∷ ys) zero same is = absurd (cc is)
 none_there (x ∷ xs) (y ∷ ys) (suc k) same is = none_there xs ys k (cc same) is
 
+-- an index has as many slots as rules
 pub index_length : (rules : List Rule) (e : List (Token × List Numbered)) (l : List Numbered) (slots : List Slot) → IsIndex rules e l slots → length slots ≡ length rules
 index_length rules e l slots i = same_length (stored e l) Some slots (numbered_from 0 rules) i.places ∙ numbered_length 0 rules
 
+-- where there is no slot of a number, there is no rule of it
 pub no_slot : (rules : List Rule) (e : List (Token × List Numbered)) (l : List Numbered) (slots : List Slot) (k : ℕ) → IsIndex rules e l slots → slice_get slots k ≡ None → slice_get rules k ≡ None
 no_slot rules e l slots k i is = none_there slots rules k (index_length rules e l slots i) is
 
+-- what is stored in the slot of a number is the rule of that number
 pub some_slot : (rules : List Rule) (e : List (Token × List Numbered)) (l : List Numbered) (slots : List Slot) (k : ℕ) (slot : Slot) → IsIndex rules e l slots → slice_get slots k ≡ Some slot
     → (o : Option Numbered) → o ≡ stored e l slot → option_map (λ one. one.rule) o ≡ slice_get rules k
 some_slot rules e l slots k slot i is o was =
@@ -361,18 +370,22 @@ some_slot rules e l slots k slot i is o was =
 
 -- ---- the ways out of `push`
 
+-- what holds anyway holds after `NoMemory`
 pub on_err : {P : Type 0} (r : Result (Unit {0}) NoMemory) → P → OnErr r P
 on_err (Ok x) p = tt
 on_err (Err x) p = p
 
+-- what holds anyway holds after a call that found memory
 pub on_ok : {P : Type 0} (r : Result (Unit {0}) NoMemory) → P → OnOk r P
 on_ok (Ok x) p = p
 on_ok (Err x) p = tt
 
+-- what holds after `NoMemory` holds where the result is `NoMemory`
 pub failed : {P : Type 0} (r : Result (Unit {0}) NoMemory) → is_err r ≡ true → OnErr r P → P
 failed (Ok x) e h = absurd (true≢false (sym e))
 failed (Err x) e h = h
 
+-- what holds after a call that found memory holds where the result is no `NoMemory`
 pub worked : {P : Type 0} (r : Result (Unit {0}) NoMemory) → is_err r ≡ false → OnOk r P → P
 worked (Ok x) e h = h
 worked (Err x) e h = absurd (true≢false e)
@@ -381,6 +394,7 @@ worked (Err x) e h = absurd (true≢false e)
 pub still_slots : (e f : List (Token × List Numbered)) (l : List Numbered) (slots now : List Slot) → now ≡ slots → Keeps e f → IsIndex (in_order e l slots) e l slots → IsIndex (in_order f l now) f l now
 still_slots e f l slots now same keeps i = subst (λ (s : List Slot). IsIndex (in_order f l s) f l s) (sym same) (still e f l slots keeps i)
 
+-- the slots as they were, and buckets that say the same, give the same rules in order
 pub still_order : (e f : List (Token × List Numbered)) (l : List Numbered) (slots now : List Slot) → now ≡ slots → Keeps e f → IsIndex (in_order e l slots) e l slots → in_order f l now ≡ in_order e l slots
 still_order e f l slots now same keeps i = ap (in_order f l) same ∙ calm_order (in_order e l slots) e f l slots keeps i
 

@@ -45,6 +45,7 @@ module _ {V : Type 0} where
   value-with_other name other v [] h = let a = apart other name h in grind (arith, a)
   value-with_other name other v (e ∷ es) h = let a = apart other name h in let rest = value-with_other name other v es h in let same = (bytes_eq-Decides name e.0).0 in grind (arith, a, rest, same)
 
+  -- setting a name gives it the value, and each other name keeps its own
   pub with_value_sets : (name : List ℕ) (v : V) (es : List (List ℕ × V)) → SetsValue name (Some v) es (with_value name v es)
   with_value_sets name v es = record { value = value-with_value name v es; others = λ other h. value-with_other name other v es h }
 

@@ -1,19 +1,18 @@
 -- What a class keeps when members are put in.
-use Rattle.std.proofs.Common.{◌≡◌, ℕ, ◌≤◌, List, [], ◌∷◌, ◌++◌, Bool, true, false, ◌||◌, Vec, length, take, fold, refl, ap, sym, subst, append_assoc, ◌∙◌, arith, if◌then◌else◌}
+use Rattle.std.proofs.Common.{◌≡◌, ℕ, List, [], ◌∷◌, ◌++◌, Bool, true, false, ◌||◌, Vec, length, take, fold, refl, ap, sym, subst, append_assoc, ◌∙◌, if◌then◌else◌}
 use Rattle.std.specs.List.{list_any, IsDistinct, AllByRecursion}
 use Rattle.std.specs.Cmp.{IsEquivalence}
 use Rattle.std.specs.Cmp.Lexicographic.{pointwise, lists_equiv, nat_list_eq_equiv}
-use Rattle.std.proofs.Math.Seq.{take-append_seam, take-length}
 use Rattle.std.proofs.lemmas.List.Sums.{fold-append}
 use Rattle.std.specs.Prelude.{drop, max}
-use Rattle.std.proofs.lemmas.List.{append-nil, take-append-drop, take-take, length-take}
+use Rattle.std.proofs.lemmas.List.{append-nil, take-append-drop}
 use Rattle.std.proofs.lemmas.Map.Keys.{IsDistinct-head, IsDistinct-tail}
 use Rattle.std.proofs.lemmas.List.Folds.{list_any-append}
 use Rattle.std.proofs.Math.Bool.{or-false}
 use Rattle.indexmap.specs.IndexSet.{insert_key}
-use Rattle.mail_base.specs.Classes.{is_cut_into, is_phrase, longest_from, longest_phrase, phrase_length, same_member, with_members}
+use Rattle.mail_base.specs.Classes.{longest_from, longest_phrase, phrase_length, same_member, with_members}
 use Rattle.mail_base.specs.Tokens.{same_token, same_tokens}
-use Rattle.mail_base.specs.inner.Phrases.{HasPhrases, Keeps, is_among}
+use Rattle.mail_base.specs.inner.Phrases.{Keeps, is_among}
 use Rattle.mail_base.specs.inner.TokenLaws.{same_equiv}
 use Rattle.mail_base.specs.declared.class.Member.{Member}
 use Rattle.mail_base.specs.declared.token.Token.{Token}
@@ -23,24 +22,7 @@ or_true true = refl
 or_true false = refl
 
 module _ {K : Type 0} where
-  pub keeps_all : (xs : List K) → Keeps xs xs
-  keeps_all xs = take-length xs
-
-  -- what grew twice has grown
-  pub keeps_join : (xs ys zs : List K) → Keeps xs ys → Keeps ys zs → Keeps xs zs
-  keeps_join xs ys zs first later =
-      let less : length xs ≤ length ys = omega (arith, length-take (length xs) ys, ap length first) in
-      sym (take-take (length xs) (length ys) zs less) ∙ ap (λ (l : List K). take (length xs) l) later ∙ first
-
-  keeps_either : (b : Bool) (ks : List K) (k : K) → Keeps ks (if b then ks else ks ++ k ∷ [])
-  keeps_either true ks k = take-length ks
-  keeps_either false ks k = take-append_seam ks (k ∷ [])
-
   module _ (eq : K → K → Bool) where
-    -- what is there stands first when a key is put in
-    pub keeps_insert : (ks : List K) (k : K) → Keeps ks (insert_key eq ks k)
-    keeps_insert ks k = keeps_either (list_any (eq k) ks) ks k
-
     module _ (p : K → Bool) (alike : (x y : K) → eq x y ≡ true → p x ≡ p y) where
       any_alike : (k : K) (ks : List K) → list_any (eq k) ks ≡ true → p k ≡ true → list_any p ks ≡ true
       any_alike k [] found passes = found
@@ -91,16 +73,6 @@ among_insert {A} phrases phrase tokens =
     let e : IsEquivalence (pointwise same_token) = lists_equiv same_equiv in
     any-insert_key (λ (x y : Vec Token A). pointwise same_token x.items y.items) (λ (x : Vec Token A). same_tokens tokens x.items)
     (λ x y same. e.symm tokens x.items ∙ e.congr x.items y.items tokens same ∙ e.symm y.items tokens) phrases phrase
-
--- the phrases are those of the members, with one more of each
-pub indexed_put : {A : Type 0} (phrases more : List (Vec Token A)) (members : List Member) (member : Member) → ((t : List Token) → is_among more t ≡ (is_among phrases t || is_cut_into t member.tokens)) → HasPhrases phrases members → HasPhrases more (members ++ member ∷ [])
-indexed_put phrases more members member step has t =
-    let p : Member → Bool = λ m. is_cut_into t m.tokens in
-    step t ∙ ap (λ b. b || is_cut_into t member.tokens) (has t) ∙ ap (λ b. is_phrase t members || b) (sym (or-false (is_cut_into t member.tokens))) ∙ sym (list_any-append p members (member ∷ []))
-
--- a member that isn't there is put last
-pub put_last : (members : List Member) (member : Member) → list_any (same_member member) members ≡ false → insert_key same_member members member ≡ members ++ member ∷ []
-put_last members member new = ap (λ b. if b then members else members ++ member ∷ []) new
 
 -- the longest phrase of a class that grew is the longest of what it was and of what is new
 pub longest_grown : (old new : List Member) (least from : ℕ) → Keeps old new → from ≡ length old → least ≡ longest_phrase old → longest_from least (drop from new) ≡ longest_phrase new

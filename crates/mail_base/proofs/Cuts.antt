@@ -4,6 +4,7 @@ use Rattle.std.proofs.lemmas.List.{length-map}
 use Rattle.std.proofs.lemmas.List.Elements.{All-nil, All-cons}
 use Rattle.mail_base.specs.Notes.{IsLineByte, IsNote, blanked, noted}
 
+-- so many bytes of a list, where it has no more, are the whole list
 pub take_all : (n : ℕ) (xs : List ℕ) → length xs ≤ n → take n xs ≡ xs
 take_all zero [] h = refl
 take_all (suc n) [] h = refl
@@ -17,6 +18,7 @@ blanked_all : (xs : List ℕ) → All IsLineByte (map blanked xs)
 blanked_all [] = All-nil IsLineByte
 blanked_all (x ∷ xs) = All-cons IsLineByte (blanked x) (map blanked xs) (blanked_line x) (blanked_all xs)
 
+-- what a text that is not empty is cut to is a note
 pub noted_is_note : (xs : List ℕ) → 0 < length xs → IsNote (noted xs)
 noted_is_note xs h = record {
   some = omega (arith, length-map (take 512 xs) blanked, length-take 512 xs);

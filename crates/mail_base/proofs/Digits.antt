@@ -24,6 +24,7 @@ digits_more k n d h =
     let l : 0 < k + 1 = omega arith in
     digits_step (k + 1) (n * 10 + d) l ∙ (λ i. digits (s i) (q i) ++ (48 + r i) ∷ [])
 
+-- there are as many digits as are asked for
 pub length-digits : (k n : ℕ) → length (digits k n) ≡ k
 unfolding digits
 length-digits zero n = refl
@@ -40,10 +41,9 @@ digits_are_digits (suc k) n =
     let last : IsDigit (48 + n % 10) = (omega arith, omega arith) in
     All-push IsDigit (digits k (n / 10)) (48 + n % 10) (digits_are_digits k (n / 10)) last
 
+-- each byte of the twelve digits of a number is a digit
 pub in_digits : (xs : List ℕ) (i n : ℕ) → xs ≡ digits 12 n → i < 12 → (48 ≤ get_or xs i 0) × (get_or xs i 0 ≤ 57)
 unfolding IsDigit
 in_digits xs i n e h =
     let l : i < length (digits 12 n) = omega (arith, length-digits 12 n) in
     subst (λ (ys : List ℕ). IsDigit (get_or ys i 0)) (sym e) (All-get_or IsDigit (digits 12 n) i 0 l (digits_are_digits 12 n))
-
-pub ruleset steps = (digits_none, digits_step, length-digits)

@@ -33,9 +33,11 @@ digits_again Qf n = refl
 digits_again Tf n = refl
 digits_again Sf n = refl
 
+-- files of one name are of one kind
 pub same_kind : (k j : Kind) (n m : ℕ) → name_of k n ≡ name_of j m → k ≡ j
 same_kind k j n m e = sym (kind_again k n) ∙ ap (λ xs. read_kind (get_or xs 0 0)) e ∙ kind_again j m
 
+-- files of one name are of one id
 pub same_number : (k j : Kind) (n m : ℕ) → n ≤ 999_999_999_999 → m ≤ 999_999_999_999 → name_of k n ≡ name_of j m → n ≡ m
 same_number k j n m p q e =
     let a : n < 10 ^ 12 = omega arith in
