@@ -17,7 +17,8 @@ abbrev pub at_place : Option (Token × List Numbered) → ℕ → Option Numbere
 at_place None k = None
 at_place (Some entry) k = slice_get entry.1 k
 
-abbrev pub in_bucket : Option ℕ → ℕ → List (Token × List Numbered) → List Numbered → Option Numbered
+abbrev pub in_bucket : Option ℕ → ℕ → List (Token × List Numbered) → List Numbered
+    → Option Numbered
 in_bucket None k entries loose = slice_get loose k
 in_bucket (Some place) k entries loose = at_place (slice_get entries place) k
 
@@ -38,7 +39,8 @@ abbrev pub in_order : List (Token × List Numbered) → List Numbered → List S
 in_order entries loose slots = flat_map (λ slot. rule_in (stored entries loose slot)) slots
 
 -- the buckets are the index of these rules, and each slot has its rule
-pub record IsIndex (rules : List Rule) (entries : List (Token × List Numbered)) (loose : List Numbered) (slots : List Slot) : Type 0 where
+pub record IsIndex (rules : List Rule) (entries : List (Token × List Numbered))
+    (loose : List Numbered) (slots : List Slot) : Type 0 where
   pub each : (token : Token) → bucket_of token entries ≡ anchored token rules
   pub rest : loose ≡ free rules
   pub places : map (stored entries loose) slots ≡ map Some (numbered_from 0 rules)
@@ -48,7 +50,10 @@ pub record IsIndex (rules : List Rule) (entries : List (Token × List Numbered))
 
 -- the slot is the end of the bucket of this anchor
 abbrev pub IsEndOf : Token → Slot → List (Token × List Numbered) → Type 0
-IsEndOf anchor slot entries = (place : ℕ) × (key : Token) × (bucket : List Numbered) × (slot.bucket ≡ Some place) × (slice_get entries place ≡ Some (key, bucket)) × (same_token anchor key ≡ true) × (slot.place ≡ length bucket)
+IsEndOf anchor slot entries =
+    (place : ℕ) × (key : Token) × (bucket : List Numbered) × (slot.bucket ≡ Some place)
+    × (slice_get entries place ≡ Some (key, bucket)) × (same_token anchor key ≡ true)
+    × (slot.place ≡ length bucket)
 
 abbrev pub IsSlotAt : Option Token → Slot → List (Token × List Numbered) → List Numbered → Type 0
 IsSlotAt None slot entries loose = (slot.bucket ≡ None) × (slot.place ≡ length loose)
@@ -61,7 +66,8 @@ IsSlotFor rule slot entries loose = IsSlotAt (anchor rule.left) slot entries loo
 -- each bucket is as before
 pub record Keeps (old new : List (Token × List Numbered)) : Type 0 where
   pub each : (token : Token) → bucket_of token new ≡ bucket_of token old
-  pub places : (place : ℕ) (entry : Token × List Numbered) → slice_get old place ≡ Some entry → slice_get new place ≡ Some entry
+  pub places : (place : ℕ) (entry : Token × List Numbered) → slice_get old place ≡ Some entry
+      → slice_get new place ≡ Some entry
 
 -- there is such a bucket
 abbrev pub IsBucket : Option ℕ → List (Token × List Numbered) → Type 0
@@ -69,15 +75,19 @@ IsBucket None entries = Unit {0}
 IsBucket (Some place) entries = place < length entries
 
 -- the bucket at a place has one more at its end
-pub record Grows (place : ℕ) (one : Numbered) (old new : List (Token × List Numbered)) : Type 0 where
+pub record Grows (place : ℕ) (one : Numbered) (old new : List (Token × List Numbered))
+    : Type 0 where
   pub key : Token
   pub bucket : List Numbered
   pub was : slice_get old place ≡ Some (key, bucket)
   pub is : slice_get new place ≡ Some (key, bucket ++ one ∷ [])
-  pub same : (token : Token) → same_token key token ≡ true → (bucket_of token old ≡ bucket) × (bucket_of token new ≡ bucket ++ one ∷ [])
-  pub others : (token : Token) → same_token key token ≡ false → bucket_of token new ≡ bucket_of token old
+  pub same : (token : Token) → same_token key token ≡ true
+      → (bucket_of token old ≡ bucket) × (bucket_of token new ≡ bucket ++ one ∷ [])
+  pub others : (token : Token) → same_token key token ≡ false
+      → bucket_of token new ≡ bucket_of token old
   pub places : (other : ℕ) → (other ≡ place → ⊥) → slice_get new other ≡ slice_get old other
 
-abbrev pub Puts : Option ℕ → Numbered → List (Token × List Numbered) → List Numbered → List (Token × List Numbered) → List Numbered → Type 0
+abbrev pub Puts : Option ℕ → Numbered → List (Token × List Numbered) → List Numbered
+    → List (Token × List Numbered) → List Numbered → Type 0
 Puts None one old loose new more = (new ≡ old) × (more ≡ loose ++ one ∷ [])
 Puts (Some place) one old loose new more = Grows place one old new × (more ≡ loose)

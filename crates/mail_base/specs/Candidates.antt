@@ -30,9 +30,11 @@ abbrev pub or_else : Option Token → Option Token → Option Token
 or_else (Some token) other = Some token
 or_else None other = other
 
--- the anchor of a left side: its first word, or else its first token; none with a `$&x`, whose value may be one that can't be cut
+-- the anchor of a left side: its first word, or else its first token; none with a `$&x`, whose
+-- value may be one that can't be cut
 abbrev pub anchor : List Item → Option Token
-anchor items = if list_any is_late items then None else or_else (first_word items) (first_exact items)
+anchor items =
+    if list_any is_late items then None else or_else (first_word items) (first_exact items)
 
 abbrev pub is_none : Option Token → Bool
 is_none None = true
@@ -59,7 +61,8 @@ abbrev pub numbered_from : ℕ → List Rule → List Numbered
 numbered_from n [] = []
 numbered_from n (rule ∷ rules) = record { number = n; rule = rule } ∷ numbered_from (n + 1) rules
 
--- the index of rules: those with this anchor and those without one, each with its number, in ascending order
+-- the index of rules: those with this anchor and those without one, each with its number, in
+-- ascending order
 abbrev pub anchored : Token → List Rule → List Numbered
 anchored token rules = filter (λ one. has_anchor token one.rule) (numbered_from 0 rules)
 
@@ -67,8 +70,10 @@ abbrev pub free : List Rule → List Numbered
 free rules = filter (λ one. is_free one.rule) (numbered_from 0 rules)
 
 -- the least candidate from a number on, with its number
-pub record IsNext (rules : List Rule) (from : ℕ) (tokens : List Token) (number : ℕ) (rule : Rule) : Type 0 where
+pub record IsNext (rules : List Rule) (from : ℕ) (tokens : List Token) (number : ℕ) (rule : Rule)
+    : Type 0 where
   pub above : from ≤ number
   pub is : slice_get rules number ≡ Some rule
   pub candidate : is_candidate tokens rule ≡ true
-  pub first : (k : ℕ) (other : Rule) → from ≤ k → k < number → slice_get rules k ≡ Some other → is_candidate tokens other ≡ false
+  pub first : (k : ℕ) (other : Rule) → from ≤ k → k < number → slice_get rules k ≡ Some other
+      → is_candidate tokens other ≡ false

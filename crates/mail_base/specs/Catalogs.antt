@@ -1,4 +1,5 @@
--- Values by their names, as the list of their pairs in the order in which the names were first set.
+-- Values by their names, as the list of their pairs in the order in which the names were first
+-- set.
 use Rattle.std.specs.Prelude.{◌≡◌, ◌≢◌, ℕ, List, [], ◌∷◌, Option, None, Some, bytes_eq, codes, refl}
 use Rattle.std.specs.Map.{lookup, remove_entry}
 use Rattle.std.specs.Str.{str_eq_ignore_ascii_case}
@@ -22,7 +23,8 @@ module _ {V : Type 0} where
   without_name name pairs = remove_entry (bytes_eq name) pairs
 
   -- one name has that value, and each other name has the value that it had
-  pub record SetsValue (name : List ℕ) (wanted : Option V) (old new : List (List ℕ × V)) : Type 0 where
+  pub record SetsValue (name : List ℕ) (wanted : Option V) (old new : List (List ℕ × V))
+      : Type 0 where
     pub value : value_at name new ≡ wanted
     pub others : (other : List ℕ) → other ≢ name → value_at other new ≡ value_at other old
 
@@ -32,5 +34,7 @@ module _ {M : Type 0} where
   members_of None = []
   members_of (Some members) = members
 
-example : with_value {V = ℕ} (codes "a") 3 ((codes "a", 1) ∷ (codes "b", 2) ∷ []) ≡ (codes "a", 3) ∷ (codes "b", 2) ∷ []
+example :
+    with_value {V = ℕ} (codes "a") 3 ((codes "a", 1) ∷ (codes "b", 2) ∷ [])
+    ≡ (codes "a", 3) ∷ (codes "b", 2) ∷ []
 example = refl

@@ -12,7 +12,8 @@ same_member one another = bytes_eq one.text another.text
 
 -- one member more; a member that is there adds nothing
 abbrev pub with_member : List Member → Member → List Member
-with_member members member = if list_any (same_member member) members then members else members ++ member ∷ []
+with_member members member =
+    if list_any (same_member member) members then members else members ++ member ∷ []
 
 -- each of these in turn
 abbrev pub with_members : List Member → List Member → List Member
@@ -22,7 +23,8 @@ abbrev pub is_cut_into : List Token → Option (List Token) → Bool
 is_cut_into tokens None = false
 is_cut_into tokens (Some others) = same_tokens tokens others
 
--- whether the tokens are those of a member, without ascii case; a member that can't be cut is no phrase
+-- whether the tokens are those of a member, without ascii case; a member that can't be cut is no
+-- phrase
 abbrev pub is_phrase : List Token → List Member → Bool
 is_phrase tokens members = list_any (λ member. is_cut_into tokens member.tokens) members
 
@@ -33,7 +35,8 @@ phrase_length (Some tokens) = length tokens
 
 -- how many tokens the longest of these has, and at least so many
 abbrev pub longest_from : ℕ → List Member → ℕ
-longest_from least members = fold (λ most member. max most (phrase_length member.tokens)) least members
+longest_from least members =
+    fold (λ most member. max most (phrase_length member.tokens)) least members
 
 -- how many tokens the longest member of a class has
 abbrev pub longest_phrase : List Member → ℕ
@@ -45,6 +48,8 @@ ann = record { text = codes "ann"; tokens = Some (Word (codes "ann") ∷ []) }
 bob : Member
 bob = record { text = codes "bob"; tokens = None }
 
-example : (with_members (ann ∷ []) (bob ∷ ann ∷ bob ∷ []) ≡ ann ∷ bob ∷ []) × (longest_phrase (bob ∷ ann ∷ []) ≡ 1)
+example :
+    (with_members (ann ∷ []) (bob ∷ ann ∷ bob ∷ []) ≡ ann ∷ bob ∷ [])
+    × (longest_phrase (bob ∷ ann ∷ []) ≡ 1)
 unfolding ann bob
 example = (refl, refl)

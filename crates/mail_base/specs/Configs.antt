@@ -1,4 +1,5 @@
--- The configuration before any line is read (Sendmail Operation Guide, the configuration file; the values of w, j and v, and some defaults, are our own).
+-- The configuration before any line is read (Sendmail Operation Guide, the configuration file; the
+-- values of w, j and v, and some defaults, are our own).
 use Rattle.std.specs.Prelude.{ℕ, List, [], ◌∷◌, None, Some, false, codes}
 use Rattle.mail_base.specs.declared.class.Member.{Member}
 use Rattle.mail_base.specs.declared.config.Config.{Config}
@@ -10,7 +11,12 @@ use Rattle.mail_base.specs.declared.token.Token.TheVariants.{Word}
 
 -- the macros w, j, n and v
 abbrev pub first_macros : List (List ℕ × List ℕ)
-first_macros = (codes "w", codes "localhost") ∷ (codes "j", codes "localhost") ∷ (codes "n", codes "MAILER-DAEMON") ∷ (codes "v", codes "8") ∷ []
+first_macros =
+    (codes "w", codes "localhost")
+    ∷ (codes "j", codes "localhost")
+    ∷ (codes "n", codes "MAILER-DAEMON")
+    ∷ (codes "v", codes "8")
+    ∷ []
 
 -- the one member of class w
 abbrev pub local_host : Member
@@ -44,7 +50,14 @@ default_options = record {
 
 -- the group that is there from the start, in the queue directory
 abbrev pub main_group : Group
-main_group = record { name = codes "mqueue"; path = default_options.queue_directory; recipients = 0; runners = 1; interval = None; jobs = 0 }
+main_group = record {
+  name = codes "mqueue";
+  path = default_options.queue_directory;
+  recipients = 0;
+  runners = 1;
+  interval = None;
+  jobs = 0;
+}
 
 -- the map that is there from the start: a name that is found gets a dot
 abbrev pub host_map : MapLine

@@ -1,4 +1,5 @@
--- The rows of the receivers of returned mail (Sendmail Operation Guide, aliases; the limit of rows is our own).
+-- The rows of the receivers of returned mail (Sendmail Operation Guide, aliases; the limit of rows
+-- is our own).
 use Rattle.std.specs.Prelude.{◌≡◌, ℕ, ◌≤◌, List, length, All, codes}
 use Rattle.mail_base.specs.Limits.{most_rows}
 use Rattle.mail_base.specs.Texts.{IsAddress}

@@ -1,4 +1,5 @@
--- The limits of mail (RFC 5321, section 4.5.3; RFC 5322, section 2.1.1; which numbers, where these leave them open, is our own). Each number stands in `src/limits.rt`.
+-- The limits of mail (RFC 5321, section 4.5.3; RFC 5322, section 2.1.1; which numbers, where these
+-- leave them open, is our own). Each number stands in `src/limits.rt`.
 use Rattle.std.specs.Prelude.{ℕ, ◌≤◌, ◌==◌, min, if◌then◌else◌}
 use Rattle.mail_base.specs.declared.limits.TheConstants.{MOST_MESSAGE, MOST_HEADERS, MOST_COMMAND, MOST_PATH, MOST_LOCAL_PART, MOST_DOMAIN, MOST_RECIPIENTS, MOST_ROWS, MOST_SESSIONS, MOST_REPLY_LINES, MOST_REPLY_LINE, MOST_PIECE, MOST_LINE}
 use Rattle.mail_base.specs.declared.options.Options.{Options}
@@ -54,13 +55,19 @@ most_piece = MOST_PIECE
 unfoldable pub most_line : ℕ
 most_line = MOST_LINE
 
--- the bytes that a message may have under these options: MaxMessageSize counts where it is less, and 0 says nothing
+-- the bytes that a message may have under these options: MaxMessageSize counts where it is less,
+-- and 0 says nothing
 abbrev pub message_limit : Options → ℕ
-message_limit options = if options.max_message_size == 0 then most_message else min options.max_message_size most_message
+message_limit options =
+    if options.max_message_size == 0 then most_message
+    else min options.max_message_size most_message
 
--- the recipients that a message may have under these options: MaxRecipientsPerMessage counts unless it is 0
+-- the recipients that a message may have under these options: MaxRecipientsPerMessage counts
+-- unless it is 0
 abbrev pub recipient_limit : Options → ℕ
-recipient_limit options = if options.max_recipients_per_message == 0 then most_recipients else options.max_recipients_per_message
+recipient_limit options =
+    if options.max_recipients_per_message == 0 then most_recipients
+    else options.max_recipients_per_message
 
 -- a number of an id
 abbrev pub IsId : ℕ → Type 0

@@ -1,4 +1,5 @@
--- The items of a rule's left side that are written with a dollar sign (Sendmail Operation Guide, R and S: rewriting rules).
+-- The items of a rule's left side that are written with a dollar sign (Sendmail Operation Guide, R
+-- and S: rewriting rules).
 use Rattle.std.specs.Prelude.{Bool, true, false}
 use Rattle.mail_base.specs.declared.token.Token.{Token}
 use Rattle.mail_base.specs.declared.token.Token.TheVariants.{Sign}

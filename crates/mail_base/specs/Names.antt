@@ -1,4 +1,5 @@
--- The names of the queue's files: df, qf, tf or sf, a w, and the id's twelve digits (Sendmail Operation Guide, the queue; the form of the id is our own).
+-- The names of the queue's files: df, qf, tf or sf, a w, and the id's twelve digits (Sendmail
+-- Operation Guide, the queue; the form of the id is our own).
 use Rattle.std.specs.Prelude.{◌≡◌, ℕ, zero, suc, ◌+◌, ◌/◌, ◌%◌, List, [], ◌∷◌, ◌++◌, codes, refl}
 use Rattle.mail_base.specs.declared.id.Kind.{Kind}
 use Rattle.mail_base.specs.declared.id.Kind.TheVariants.{Df, Qf, Tf, Sf}

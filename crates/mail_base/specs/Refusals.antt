@@ -1,4 +1,5 @@
--- Refused addresses, as a reply says them (RFC 5321, section 4.2.1; RFC 3463), and the printed names of their causes (own).
+-- Refused addresses, as a reply says them (RFC 5321, section 4.2.1; RFC 3463), and the printed
+-- names of their causes (own).
 use Rattle.std.specs.Prelude.{ℕ, ◌<◌, ◌≤◌, List, IsTrue, codes, length}
 use Rattle.mail_base.specs.Notes.{is_status}
 use Rattle.mail_base.specs.Texts.{IsSaid}
@@ -6,7 +7,8 @@ use Rattle.mail_base.specs.declared.route.RouteError.{RouteError}
 use Rattle.mail_base.specs.declared.route.Cause.{Cause}
 use Rattle.mail_base.specs.declared.route.Cause.TheVariants.{Loop, Deep, Work, NoRuleset, MapClass, NoSuchMap, BadScan, Long, BadAddress, LongAddress, NotResolved, UnknownMailer, NoUser, FileMailer, ErrorMailer}
 
--- what a refusal says can stand in a reply that is no positive one: a code of 4 or 5 hundred, a status, and a text within one line
+-- what a refusal says can stand in a reply that is no positive one: a code of 4 or 5 hundred, a
+-- status, and a text within one line
 pub record IsRefusal (error : RouteError) : Type 0 where
   pub least : 400 ≤ error.code
   pub most : error.code ≤ 599
@@ -14,7 +16,8 @@ pub record IsRefusal (error : RouteError) : Type 0 where
   pub some : 0 < length error.text
   pub text_form : IsSaid error.text
 
--- the name that is printed for a cause: that of the variant, without what it holds; both limits of lists are `Long`
+-- the name that is printed for a cause: that of the variant, without what it holds; both limits of
+-- lists are `Long`
 abbrev pub cause_name : Cause → List ℕ
 cause_name Loop = codes "Loop"
 cause_name Deep = codes "Deep"

@@ -1,4 +1,5 @@
--- Rulesets, as their names and their rules in order (Sendmail Operation Guide, S: rewriting rulesets).
+-- Rulesets, as their names and their rules in order (Sendmail Operation Guide, S: rewriting
+-- rulesets).
 use Rattle.std.specs.Prelude.{◌≡◌, ℕ, List, [], ◌∷◌, ◌++◌, Bool, Some, position, codes, refl}
 use Rattle.std.specs.List.{list_any}
 use Rattle.std.specs.Str.{str_eq_ignore_ascii_case}

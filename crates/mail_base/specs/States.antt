@@ -1,4 +1,5 @@
--- The states of a row and of an entry (Sendmail Installation and Operation Guide, the queue; RFC 3461, section 6: a row is tried until it was sent, failed or was given up).
+-- The states of a row and of an entry (Sendmail Installation and Operation Guide, the queue; RFC
+-- 3461, section 6: a row is tried until it was sent, failed or was given up).
 use Rattle.std.specs.Prelude.{◌||◌, Bool, true, false, not, IsTrue}
 use Rattle.std.specs.List.{list_all, list_any}
 use Rattle.mail_base.specs.declared.control.Control.{Control}

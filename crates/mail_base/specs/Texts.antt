@@ -1,4 +1,5 @@
--- The forms of texts (RFC 5321, sections 2.3.8 and 4.1.2; RFC 5322, sections 2.1 and 2.2.3; that a line is any bytes but its end is our own).
+-- The forms of texts (RFC 5321, sections 2.3.8 and 4.1.2; RFC 5322, sections 2.1 and 2.2.3; that a
+-- line is any bytes but its end is our own).
 use Rattle.std.specs.Prelude.{◌≡◌, ◌≢◌, ◌⊎◌, ◌||◌, ◌==◌, ◌++◌, ℕ, ◌+◌, ◌-◌, ◌<◌, Bool, List, [], ◌∷◌, All, length, slice_index, codes, refl}
 use Rattle.std.specs.Str.Lines.{lines}
 use Rattle.mail_base.specs.Notes.{IsLineByte}

@@ -1,4 +1,5 @@
--- When two tokens are the same (Sendmail Installation and Operation Guide, R and S: rewriting rules).
+-- When two tokens are the same (Sendmail Installation and Operation Guide, R and S: rewriting
+-- rules).
 use Rattle.std.specs.Prelude.{List, [], ◌∷◌, Bool, true, false}
 use Rattle.std.specs.Cmp.Lexicographic.{pointwise}
 use Rattle.std.specs.Str.{str_eq_ignore_ascii_case}

@@ -11,8 +11,8 @@ use indexmap::IndexMap;
 use std::alloc::Global;
 use std::marker::Model;
 
-/// The rulesets, in the order in which they were added, and an index of their names, which are compared
-/// without ASCII case. A contract sees it as the list of the rulesets.
+/// The rulesets, in the order in which they were added, and an index of their names, which are
+/// compared without ASCII case. A contract sees it as the list of the rulesets.
 pub struct Book {
     sets: Vec<RuleSet>,
     /// The places of rulesets by the hashes of their names.
@@ -63,8 +63,8 @@ impl Book {
         &self.sets
     }
 
-    /// Where the first ruleset of a name stands, without ASCII case. It takes no memory, and its time is
-    /// that of the name, however many rulesets there are.
+    /// Where the first ruleset of a name stands, without ASCII case. It takes no memory, and its
+    /// time is that of the name, however many rulesets there are.
     pub fn place_of(&self, name: &Text) -> Option<usize>
         ensures { result ≡ position (is_named name.now) self.now }
     {
@@ -72,8 +72,8 @@ impl Book {
         earliest(&self.sets, name, found, self.others.items())
     }
 
-    /// The first ruleset of a name, without ASCII case. It takes no memory, and its time is that of the
-    /// name, however many rulesets there are.
+    /// The first ruleset of a name, without ASCII case. It takes no memory, and its time is that
+    /// of the name, however many rulesets there are.
     pub fn get(&self, name: &Text) -> Option<&RuleSet>
         ensures { option_copied result ≡ find (is_named name.now) self.now }
     {
@@ -93,7 +93,8 @@ impl Book {
     /// Adds a rule at the end of the ruleset at a place. After `NoMemory` the book is as before.
     pub fn push_rule(&mut self, place: usize, rule: Rule) -> Result<(), NoMemory>
         requires { place < length self.old }
-        ensures ok { OnOk result ((d : Ruled) → self.new ≡ set self.old place (with_rule (get_or self.old place d) rule)) }
+        ensures ok { OnOk result ((d : Ruled)
+            → self.new ≡ set self.old place (with_rule (get_or self.old place d) rule)) }
         ensures err { OnErr result (self.new ≡ self.old) }
     {
         self.sets[place].push(rule)
@@ -102,7 +103,8 @@ impl Book {
     /// Gives the ruleset at a place one name more. After `NoMemory` the book is as before.
     pub fn push_name(&mut self, place: usize, name: Text) -> Result<(), NoMemory>
         requires { place < length self.old }
-        ensures ok { OnOk result ((d : Ruled) → self.new ≡ set self.old place (with_name (get_or self.old place d) name)) }
+        ensures ok { OnOk result ((d : Ruled)
+            → self.new ≡ set self.old place (with_name (get_or self.old place d) name)) }
         ensures err { OnErr result (self.new ≡ self.old) }
     {
         hold(&mut self.index, &mut self.others, &name, place)?;
@@ -118,7 +120,9 @@ fn hold_all(
     place: usize,
 ) -> Result<(), NoMemory>
     ensures keeps { Keeps index.old.entries others.old index.new.entries others.new }
-    ensures held { OnOk result ((name : List ℕ) → list_any (λ given. str_eq_ignore_ascii_case given name) names.now ≡ true → is_held_for name place index.new.entries others.new ≡ true) }
+    ensures held { OnOk result ((name : List ℕ)
+        → list_any (λ given. str_eq_ignore_ascii_case given name) names.now ≡ true
+        → is_held_for name place index.new.entries others.new ≡ true) }
 {
     for name in names {
         hold(index, others, name, place)?;

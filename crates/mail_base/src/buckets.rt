@@ -28,7 +28,8 @@ impl Model for Buckets {
 
     ghost view = { λ b. in_order b.anchored.entries b.free b.slots };
 
-    ghost invariant = { λ b. IsIndex (in_order b.anchored.entries b.free b.slots) b.anchored.entries b.free b.slots };
+    ghost invariant = { λ b. IsIndex (in_order b.anchored.entries b.free b.slots)
+        b.anchored.entries b.free b.slots };
 }
 
 impl Buckets {
@@ -77,8 +78,8 @@ impl Buckets {
         }
     }
 
-    /// Adds a rule at the end. After `NoMemory` the rules are as before; it is answered after 2^32 - 1
-    /// rules too.
+    /// Adds a rule at the end. After `NoMemory` the rules are as before; it is answered after
+    /// 2^32 - 1 rules too.
     pub fn push(&mut self, rule: Rule) -> Result<(), NoMemory>
         ensures ok { OnOk result (self.new ≡ self.old ++ rule ∷ []) }
         ensures err { OnErr result (self.new ≡ self.old) }
@@ -155,8 +156,10 @@ fn put(
     one: Numbered,
 ) -> Result<(), NoMemory>
     requires { IsBucket bucket anchored.old.entries }
-    ensures ok { OnOk result (Puts bucket one anchored.old.entries free.old anchored.new.entries free.new) }
-    ensures err { OnErr result ((anchored.new.entries ≡ anchored.old.entries) × (free.new ≡ free.old)) }
+    ensures ok { OnOk result (Puts bucket one anchored.old.entries free.old
+        anchored.new.entries free.new) }
+    ensures err { OnErr result ((anchored.new.entries ≡ anchored.old.entries)
+        × (free.new ≡ free.old)) }
 {
     match bucket {
         None => free.push(one),

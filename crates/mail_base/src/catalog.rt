@@ -9,8 +9,8 @@ use indexmap::IndexMap;
 use std::alloc::Global;
 use std::marker::Model;
 
-/// Values by their names, which are compared byte by byte. A contract sees it as the list of its pairs
-/// in the order in which the names were first set.
+/// Values by their names, which are compared byte by byte. A contract sees it as the list of its
+/// pairs in the order in which the names were first set.
 pub struct Catalog<V> {
     entries: IndexMap<Text, V>,
 }
@@ -59,8 +59,8 @@ impl<V> Catalog<V> {
         self.entries.get(name)
     }
 
-    /// The value of the first name that is equal without ASCII case. It takes no memory, and looks at one
-    /// name after another.
+    /// The value of the first name that is equal without ASCII case. It takes no memory, and looks
+    /// at one name after another.
     pub fn get_like(&self, name: &Text) -> Option<&V>
         ensures { option_copied result ≡ value_like name.now self.now }
     {
@@ -95,8 +95,8 @@ impl<V> Catalog<V> {
 }
 
 impl<V: Drop> Catalog<V> {
-    /// Sets the value at a name: a name that is there keeps its place, and a new one goes last. After
-    /// `NoMemory` the catalog is as before.
+    /// Sets the value at a name: a name that is there keeps its place, and a new one goes last.
+    /// After `NoMemory` the catalog is as before.
     #[tactic(auto, using(crate::proofs::CatalogLemmas::with_value_sets))]
     pub fn set(&mut self, name: Text, value: V) -> Result<(), NoMemory>
         ensures ok { OnOk result (self.new ≡ with_value name value self.old) }

@@ -20,7 +20,8 @@ pub struct Member {
     pub tokens: Option<Seq<Token>>,
 }
 
-/// A class: its members, each once, and an index of their tokens. A contract sees it as the list of its members.
+/// A class: its members, each once, and an index of their tokens. A contract sees it as the list
+/// of its members.
 pub(crate) struct Class {
     members: IndexSet<Member>,
     phrases: IndexSet<Vec<Token>>,
@@ -50,7 +51,10 @@ impl Model for Class {
 
     ghost use Rattle.mail_base.specs.Classes.{longest_phrase};
 
-    ghost invariant = { λ c. record { phrases : HasPhrases c.phrases.keys c.members.keys; longest : c.longest ≡ longest_phrase c.members.keys } };
+    ghost invariant = { λ c. record {
+      phrases : HasPhrases c.phrases.keys c.members.keys;
+      longest : c.longest ≡ longest_phrase c.members.keys;
+    } };
 }
 
 impl PartialEq for Member {
@@ -159,7 +163,8 @@ fn put_all(
     ensures members_stay { Keeps members.old.keys members.new.keys }
     ensures phrases_stay { Keeps phrases.old.keys phrases.new.keys }
     ensures ok { OnOk result (members.new.keys ≡ with_members members.old.keys more) }
-    ensures indexed { OnOk result (HasPhrases phrases.old.keys members.old.keys → HasPhrases phrases.new.keys members.new.keys) }
+    ensures indexed { OnOk result (HasPhrases phrases.old.keys members.old.keys
+        → HasPhrases phrases.new.keys members.new.keys) }
 {
     for member in more.into_vec() {
         put(members, phrases, member)?;
@@ -176,7 +181,8 @@ fn put(
     ensures members_stay { Keeps members.old.keys members.new.keys }
     ensures phrases_stay { Keeps phrases.old.keys phrases.new.keys }
     ensures ok { OnOk result (members.new.keys ≡ with_member members.old.keys member) }
-    ensures indexed { OnOk result (HasPhrases phrases.old.keys members.old.keys → HasPhrases phrases.new.keys members.new.keys) }
+    ensures indexed { OnOk result (HasPhrases phrases.old.keys members.old.keys
+        → HasPhrases phrases.new.keys members.new.keys) }
 {
     if members.contains(&member) {
         return Ok(());
@@ -192,7 +198,9 @@ fn put_phrase(
     tokens: &Option<Seq<Token>>,
 ) -> Result<(), NoMemory>
     ensures phrases_stay { Keeps phrases.old.keys phrases.new.keys }
-    ensures indexed { OnOk result ((t : List Token) → is_among phrases.new.keys t ≡ (is_among phrases.old.keys t || is_cut_into t tokens.now)) }
+    ensures indexed { OnOk result ((t : List Token)
+        → is_among phrases.new.keys t
+        ≡ (is_among phrases.old.keys t || is_cut_into t tokens.now)) }
 {
     match tokens {
         None => Ok(()),

@@ -43,8 +43,8 @@ impl Classes {
         }
     }
 
-    /// Whether the tokens are those of a member of the class, without ASCII case. It takes no memory, and
-    /// its time is that of the tokens, however many members there are.
+    /// Whether the tokens are those of a member of the class, without ASCII case. It takes no
+    /// memory, and its time is that of the tokens, however many members there are.
     pub fn has_phrase(&self, name: &Text, tokens: &[Token]) -> bool
         ensures { result ≡ is_phrase tokens.now (members_of (value_at name.now self.now)) }
     {
@@ -54,8 +54,9 @@ impl Classes {
         }
     }
 
-    /// How many tokens the longest member of the class has, 0 where the class isn't there. No longer list
-    /// of tokens is a phrase of it. It takes no memory, and its time is that of the name.
+    /// How many tokens the longest member of the class has, 0 where the class isn't there. No
+    /// longer list of tokens is a phrase of it. It takes no memory, and its time is that of the
+    /// name.
     pub fn longest_phrase(&self, name: &Text) -> usize
         ensures { result ≡ longest_phrase (members_of (value_at name.now self.now)) }
     {
@@ -65,11 +66,12 @@ impl Classes {
         }
     }
 
-    /// Adds members to a class, in order: a member whose text is there already adds nothing. A class that
-    /// isn't there is named. All other classes stay. After `NoMemory` the classes are as before. Its time
-    /// is that of the members that are given.
+    /// Adds members to a class, in order: a member whose text is there already adds nothing. A
+    /// class that isn't there is named. All other classes stay. After `NoMemory` the classes are
+    /// as before. Its time is that of the members that are given.
     pub fn extend(&mut self, name: &Text, more: Seq<Member>) -> Result<(), NoMemory>
-        ensures ok { OnOk result (self.new ≡ with_value name.now (with_members (members_of (value_at name.now self.old)) more) self.old) }
+        ensures ok { OnOk result (self.new ≡ with_value name.now
+            (with_members (members_of (value_at name.now self.old)) more) self.old) }
         ensures err { OnErr result (self.new ≡ self.old) }
     {
         match self.classes.get_mut(name) {
@@ -80,7 +82,8 @@ impl Classes {
 
     // Names a class that isn't there.
     fn begin(&mut self, name: &Text, members: Seq<Member>) -> Result<(), NoMemory>
-        ensures ok { OnOk result (self.new ≡ with_value name.now (with_members [] members) self.old) }
+        ensures ok { OnOk result (self.new
+            ≡ with_value name.now (with_members [] members) self.old) }
         ensures err { OnErr result (self.new ≡ self.old) }
     {
         let mut class = Class::new(self.classes.allocator());

@@ -16,7 +16,8 @@ pub enum Verb {
     Help,
 }
 
-/// A command line as it was read (RFC 5321, section 4.1.1). What it holds is borrowed from the line.
+/// A command line as it was read (RFC 5321, section 4.1.1). What it holds is borrowed from the
+/// line.
 #[derive(Clone, Copy, Debug)]
 pub enum Command<'a> {
     /// `HELO` with its argument (section 4.1.1.1).

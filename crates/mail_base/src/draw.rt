@@ -31,7 +31,8 @@ pub trait Draws {
     fn draw(&mut self, alloc: Global, address: &Text) -> Result<Seq<Draw>, JudgeFault>
         requires { IsAddress address.now }
         ensures rows { IfOk result AreDrawn }
-        ensures told { HasAnswered (seen self.old) (seen self.new) (answers self.old) (answers self.new) address.now result }
+        ensures told { HasAnswered (seen self.old) (seen self.new)
+            (answers self.old) (answers self.new) address.now result }
         ensures one { TellsOne (seen self.old) (answers self.old) address.now }
         ensures cause { HasJudgeCause (seen self.old).faults (seen self.new).faults result };
 }

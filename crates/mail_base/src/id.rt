@@ -118,12 +118,13 @@ impl Id {
         Name { bytes }
     }
 
-    /// The kind and the id that a file's name has, or `None` exactly where it is no name of the four
-    /// kinds. It takes no memory.
+    /// The kind and the id that a file's name has, or `None` exactly where it is no name of the
+    /// four kinds. It takes no memory.
     pub fn of(name: &Text) -> Option<(Kind, Id)>
         ensures some { IfSome result (λ p. name.now ≡ name_of p.0 p.1) }
         ensures none { IfNone result ((k : Kind) (n : ℕ) → name.now ≢ name_of k n) }
-        ensures exact { (k : Kind) (n : ℕ) → n ≤ 999_999_999_999 → name.now ≡ name_of k n → result ≡ Some (k, n) }
+        ensures exact { (k : Kind) (n : ℕ) → n ≤ 999_999_999_999 → name.now ≡ name_of k n
+            → result ≡ Some (k, n) }
     {
         match parts(name) {
             Some((kind, number)) => Some((kind, Id { number })),

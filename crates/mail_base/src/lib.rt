@@ -1,6 +1,6 @@
-//! The types that every crate shares: texts and lists, tokens and rules, the configuration, mail, the
-//! queue, and faults. A contract sees a [`Text`] as its list of bytes and a [`Seq`] as the list of its
-//! items.
+//! The types that every crate shares: texts and lists, tokens and rules, the configuration, mail,
+//! the queue, and faults. A contract sees a [`Text`] as its list of bytes and a [`Seq`] as the
+//! list of its items.
 #![tactic(auto)]
 
 mod book;

@@ -6,8 +6,8 @@ use crate::{Catalog, NoMemory, Text, TryCopy};
 use std::alloc::Global;
 use std::marker::Model;
 
-/// The macros with their values, which are not expanded. A contract sees it as the list of their pairs
-/// in the order in which they were first set.
+/// The macros with their values, which are not expanded. A contract sees it as the list of their
+/// pairs in the order in which they were first set.
 #[derive(Drop)]
 pub struct Macros {
     values: Catalog<Text>,

@@ -6,7 +6,8 @@ use crate::{NoMemory, TryCopy};
 use arrayvec::ArrayVec;
 use std::marker::Model;
 
-/// What is noted of a row: one line of 1 to 512 bytes. A contract sees it as the list of its bytes.
+/// What is noted of a row: one line of 1 to 512 bytes. A contract sees it as the list of its
+/// bytes.
 #[derive(Drop)]
 pub struct Note {
     bytes: ArrayVec<u8, 512>,
@@ -42,8 +43,8 @@ impl Note {
         })
     }
 
-    /// A text as a note: CR and LF become blanks, and only the first 512 bytes stay. `None` exactly
-    /// where the text is empty.
+    /// A text as a note: CR and LF become blanks, and only the first 512 bytes stay. `None`
+    /// exactly where the text is empty.
     pub fn cut(text: &[u8]) -> Option<Note>
         ensures value { IfSome result (λ note. note ≡ noted text.now) }
         ensures some { IsSome result ↔ (0 < length text.now) }

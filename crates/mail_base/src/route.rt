@@ -65,8 +65,8 @@ pub enum Resolved {
 }
 
 impl Cause {
-    /// The name that is printed for the cause: that of the variant alone. A list that grew too long in a
-    /// run and an address with too many tokens are both `Long`.
+    /// The name that is printed for the cause: that of the variant alone. A list that grew too
+    /// long in a run and an address with too many tokens are both `Long`.
     pub fn name(&self) -> &'static [u8]
         ensures { result.now ≡ cause_name self.now }
     {

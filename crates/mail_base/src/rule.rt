@@ -29,8 +29,8 @@ pub enum Item {
     Late(Text),
 }
 
-/// A rule's left side, of which at most 20 items are written with `$`. A contract sees it as the list of its
-/// items.
+/// A rule's left side, of which at most 20 items are written with `$`. A contract sees it as the
+/// list of its items.
 #[derive(Drop)]
 pub struct Pattern {
     items: Seq<Item>,
@@ -105,8 +105,8 @@ pub struct Numbered {
     pub rule: Rule,
 }
 
-/// Where a rule stands: in the bucket of an anchor or, with `None`, among those without one, and at
-/// which place there.
+/// Where a rule stands: in the bucket of an anchor or, with `None`, among those without one, and
+/// at which place there.
 #[derive(Clone, Copy)]
 pub struct Slot {
     pub bucket: Option<usize>,
@@ -130,7 +130,8 @@ impl Pattern {
     /// The most items that may be written with `$`.
     pub const MOST_METAS: usize = 20;
 
-    /// The pattern of these items, or `None` exactly where more than 20 of them are written with `$`.
+    /// The pattern of these items, or `None` exactly where more than 20 of them are written with
+    /// `$`.
     pub fn of(items: Seq<Item>) -> Option<Pattern>
         ensures value { IfSome result (λ pattern. pattern ≡ items) }
         ensures few { IsSome result ↔ (count_by is_meta items ≤ 20) }
@@ -148,9 +149,9 @@ impl Pattern {
         self.items.items()
     }
 
-    /// The token that a list of tokens must hold to match: the first of these that is a word, or else
-    /// the first. `None` where no token stands for itself, and where the pattern has a `$&x`, whose value
-    /// may be one that can't be cut.
+    /// The token that a list of tokens must hold to match: the first of these that is a word, or
+    /// else the first. `None` where no token stands for itself, and where the pattern has a `$&x`,
+    /// whose value may be one that can't be cut.
     pub fn anchor(&self) -> Option<&Token>
         ensures { option_copied result ≡ anchor self.now }
     {
@@ -274,8 +275,8 @@ impl TryCopy for Rule {
     }
 }
 
-/// A ruleset: its names, which are compared without ASCII case, and its rules in order. It keeps the
-/// rules in buckets by anchor. A contract sees it as a record of the names and the rules.
+/// A ruleset: its names, which are compared without ASCII case, and its rules in order. It keeps
+/// the rules in buckets by anchor. A contract sees it as a record of the names and the rules.
 #[derive(Drop)]
 pub struct RuleSet {
     names: Seq<Text>,
@@ -339,19 +340,21 @@ impl RuleSet {
         self.rules.free()
     }
 
-    /// Adds a rule at the end. After `NoMemory` the ruleset is as before; it is answered after 2^32 - 1
-    /// rules too.
+    /// Adds a rule at the end. After `NoMemory` the ruleset is as before; it is answered after
+    /// 2^32 - 1 rules too.
     pub fn push(&mut self, rule: Rule) -> Result<(), NoMemory>
-        ensures ok { OnOk result (self.new ≡ record self.old { rules = self.old.rules ++ rule ∷ [] }) }
+        ensures ok { OnOk result (self.new
+            ≡ record self.old { rules = self.old.rules ++ rule ∷ [] }) }
         ensures err { OnErr result (self.new ≡ self.old) }
     {
         self.rules.push(rule)
     }
 
-    /// Adds a name at the end. After `NoMemory` the ruleset is as before. In a book a name is added by
-    /// the book, whose index has it then.
+    /// Adds a name at the end. After `NoMemory` the ruleset is as before. In a book a name is
+    /// added by the book, whose index has it then.
     pub(crate) fn push_name(&mut self, name: Text) -> Result<(), NoMemory>
-        ensures ok { OnOk result (self.new ≡ record self.old { names = self.old.names ++ name ∷ [] }) }
+        ensures ok { OnOk result (self.new
+            ≡ record self.old { names = self.old.names ++ name ∷ [] }) }
         ensures err { OnErr result (self.new ≡ self.old) }
     {
         self.names.push(name)

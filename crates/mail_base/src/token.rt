@@ -24,8 +24,8 @@ pub enum Mark {
     End,
 }
 
-/// A token of an address. Two tokens are equal where they are of one kind and their texts are equal
-/// without ASCII case, as rules compare them.
+/// A token of an address. Two tokens are equal where they are of one kind and their texts are
+/// equal without ASCII case, as rules compare them.
 #[derive(Debug, Drop)]
 pub enum Token {
     /// The longest run of bytes that are neither operators nor white space.
@@ -85,7 +85,8 @@ impl Hash for Token {
 
 // Feeds a kind, and bytes in small letters.
 fn hash_folded<H: Hasher>(kind: u8, bytes: &[u8], state: &mut H)
-    ensures { state.new ≡ fold H.write state.old (flat_map fed.u8 (kind ∷ str_to_ascii_lowercase bytes.now)) }
+    ensures { state.new
+        ≡ fold H.write state.old (flat_map fed.u8 (kind ∷ str_to_ascii_lowercase bytes.now)) }
 {
     state.write_u8(kind);
     for byte in bytes {

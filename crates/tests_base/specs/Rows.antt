@@ -5,7 +5,12 @@ use Rattle.mail_base.specs.declared.draw.Draw.{Draw}
 use Rattle.mail_base.specs.declared.route.Resolved.TheVariants.{Goes}
 
 abbrev pub row_of : List ℕ → Draw
-row_of address = record { address = address; sender = null_sender; primary = true; resolved = Goes (record { mailer = []; host = []; user = address }) }
+row_of address = record {
+  address = address;
+  sender = null_sender;
+  primary = true;
+  resolved = Goes (record { mailer = []; host = []; user = address });
+}
 
 abbrev pub rows_of : List ℕ → List Draw
 rows_of address = row_of address ∷ []

@@ -37,7 +37,8 @@ static PLACES: [(&[&[u8]], &[u8], Option<usize>); 9] = [
     (&[b"c$", b"ab"], b"AB", Some(1)),
 ];
 
-/// Whether a book and its copy find the name at that place, and have the ruleset that stands there.
+/// Whether a book and its copy find the name at that place, and have the ruleset that stands
+/// there.
 fn finds(book: &Book, name: &Text, place: Option<usize>) -> Result<bool, NoMemory> {
     let copied = book.copy()?;
     let there = book.get(name).is_some();

@@ -1,5 +1,5 @@
-//! Tests of the shared types, as tables. They stand apart from the library, which a check would else
-//! prove twice.
+//! Tests of the shared types, as tables. They stand apart from the library, which a check would
+//! else prove twice.
 #![tactic(auto)]
 
 #[cfg(test)]

@@ -2,8 +2,8 @@ use mail_base::{Item, Mark, NoMemory, Pattern, Seq, Text, Token, TryCopy};
 use std::alloc::Global;
 use std::test::Fail;
 
-/// The items of a left side, each by the letter that writes it here, and whether it is written with
-/// `$`.
+/// The items of a left side, each by the letter that writes it here, and whether it is written
+/// with `$`.
 static ITEMS: [(u8, bool); 10] = [
     (b'*', true),
     (b'+', true),

@@ -2,8 +2,8 @@ use mail_base::{Catalog, Classes, Macros, Mark, Member, NoMemory, Seq, Text, Tok
 use std::alloc::Global;
 use std::test::Fail;
 
-/// A text's front, a byte and a rest that are added, the text that comes out, and the same in small
-/// letters.
+/// A text's front, a byte and a rest that are added, the text that comes out, and the same in
+/// small letters.
 struct Growth {
     front: &'static [u8],
     byte: u8,

@@ -1,5 +1,5 @@
--- What stands behind a book: where the rulesets of a name stand, by a number that equal names have in
--- common.
+-- What stands behind a book: where the rulesets of a name stand, by a number that equal names have
+-- in common.
 use Rattle.std.specs.Prelude.{◌≡◌, ℕ, ◌+◌, ◌*◌, ◌%◌, ◌^◌, List, Bool, true, false, ◌||◌, ◌&&◌, Option, None, Some, fold, nat_eq, nat_lt, slice_get, if◌then◌else◌}
 use Rattle.std.specs.List.{list_any}
 use Rattle.std.specs.Map.{lookup}
@@ -24,11 +24,15 @@ is_held_for name place index others = is_held place (lookup (nat_eq (hash_of nam
 
 -- each ruleset is held for each of its names
 abbrev pub IsIndexed : List Ruled → List (ℕ × ℕ) → List ℕ → Type 0
-IsIndexed sets index others = (name : List ℕ) (place : ℕ) (set : Ruled) → slice_get sets place ≡ Some set → is_named name set ≡ true → is_held_for name place index others ≡ true
+IsIndexed sets index others =
+    (name : List ℕ) (place : ℕ) (set : Ruled) → slice_get sets place ≡ Some set
+    → is_named name set ≡ true → is_held_for name place index others ≡ true
 
 -- what was held stays held
 abbrev pub Keeps : List (ℕ × ℕ) → List ℕ → List (ℕ × ℕ) → List ℕ → Type 0
-Keeps index others now now_others = (name : List ℕ) (place : ℕ) → is_held_for name place index others ≡ true → is_held_for name place now now_others ≡ true
+Keeps index others now now_others =
+    (name : List ℕ) (place : ℕ) → is_held_for name place index others ≡ true
+    → is_held_for name place now now_others ≡ true
 
 abbrev pub is_named_at : List ℕ → Option Ruled → Bool
 is_named_at name None = false
@@ -40,7 +44,9 @@ is_before place (Some first) = nat_lt place first
 
 -- the place, where its ruleset has the name and stands before the first so far
 abbrev pub earlier : List ℕ → List Ruled → Option ℕ → ℕ → Option ℕ
-earlier name sets first place = if is_named_at name (slice_get sets place) && is_before place first then Some place else first
+earlier name sets first place =
+    if is_named_at name (slice_get sets place) && is_before place first then Some place
+    else first
 
 -- the place that was found, if its ruleset has the name
 abbrev pub found_at : List ℕ → List Ruled → Option ℕ → Option ℕ

@@ -12,7 +12,8 @@ is_among phrases tokens = list_any (λ phrase. same_tokens tokens phrase.items) 
 
 -- the phrases are those of the members
 abbrev pub HasPhrases : {A : Type 0} → List (Vec Token A) → List Member → Type 0
-HasPhrases phrases members = (tokens : List Token) → is_among phrases tokens ≡ is_phrase tokens members
+HasPhrases phrases members =
+    (tokens : List Token) → is_among phrases tokens ≡ is_phrase tokens members
 
 -- a list has grown at its end, or stayed
 abbrev pub Keeps : {K : Type 0} → List K → List K → Type 0

@@ -30,7 +30,8 @@ caseless (Sign mark) = 3 ∷ str_to_ascii_lowercase (mark_number mark ∷ [])
 abbrev pub fed_token : Token → HashWrites
 fed_token token = flat_map u8 (caseless token)
 
-same_sign : (one another : Mark) → same_mark one another ≡ bytes_eq (caseless (Sign one)) (caseless (Sign another))
+same_sign : (one another : Mark)
+    → same_mark one another ≡ bytes_eq (caseless (Sign one)) (caseless (Sign another))
 same_sign Alt Alt = refl
 same_sign Alt Mailer = refl
 same_sign Alt Host = refl
@@ -57,7 +58,9 @@ same_sign End Host = refl
 same_sign End User = refl
 same_sign End End = refl
 
-pub same_is : (one another : Token) → same_token one another ≡ bytes_eq (caseless one) (caseless another)
+-- two tokens are the same where their kinds and their bytes in small letters are
+pub same_is : (one another : Token)
+    → same_token one another ≡ bytes_eq (caseless one) (caseless another)
 same_is (Word x) (Word y) = refl
 same_is (Word x) (Quoted y) = refl
 same_is (Word x) (Op y) = refl
@@ -77,13 +80,16 @@ same_is (Sign x) (Sign y) = same_sign x y
 
 pub same_equiv : IsEquivalence same_token
 same_equiv =
-    let e : IsEquivalence (λ (x y : Token). bytes_eq (caseless x) (caseless y)) = on_equiv caseless nat_list_eq_equiv in
+    let e : IsEquivalence (λ (x y : Token). bytes_eq (caseless x) (caseless y)) =
+    on_equiv caseless nat_list_eq_equiv in
     record {
       refl = λ x. same_is x x ∙ e.refl x;
       symm = λ x y. same_is x y ∙ e.symm x y ∙ sym (same_is y x);
-      congr = λ x y z same. same_is x z ∙ e.congr x y z (sym (same_is x y) ∙ same) ∙ sym (same_is y z);
+      congr = λ x y z same.
+          same_is x z ∙ e.congr x y z (sym (same_is x y) ∙ same) ∙ sym (same_is y z);
     }
 
 -- the same tokens are hashed alike
 pub fed_alike : (x y : Token) → same_token x y ≡ true → fed_token x ≡ fed_token y
-fed_alike x y same = ap (flat_map u8) ((bytes_decides (caseless x) (caseless y)).0 (sym (same_is x y) ∙ same))
+fed_alike x y same =
+    ap (flat_map u8) ((bytes_decides (caseless x) (caseless y)).0 (sym (same_is x y) ∙ same))
