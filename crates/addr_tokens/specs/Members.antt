@@ -1,5 +1,5 @@
--- Words as members of a class, and which words can't be (Sendmail Installation and Operation Guide, "C and F: Define
--- Classes"; which words are refused is our own).
+-- Words as members of a class, and which words can't be (Sendmail Installation and Operation Guide,
+-- "C and F: Define Classes"; which words are refused is our own).
 use Rattle.std.specs.Prelude.{ℕ, Bool, true, false, List, [], Option, Some, None, Result, Ok, Err, if◌then◌else◌}
 use Rattle.std.specs.List.{list_any}
 use Rattle.mail_base.specs.declared.class.Member.{Member}

@@ -1,5 +1,5 @@
--- The words of a text (Sendmail Installation and Operation Guide, the configuration file; which bytes are white space is
--- our own).
+-- The words of a text (Sendmail Installation and Operation Guide, the configuration file; which
+-- bytes are white space is our own).
 use Rattle.std.specs.Prelude.{◌≡◌, ◌==◌, ℕ, not, List, [], ◌∷◌, length, filter, codes, refl}
 use Rattle.std.specs.List.{slice_split}
 use Rattle.mail_base.specs.Whites.{is_white}

@@ -1,5 +1,6 @@
--- How lines are split into headers and body, by which a session's messages go. The contract of `split` is by the grammar of
--- Headers; the law `messages_are_split` of a session says that the two are one.
+-- How lines are split into headers and body, by which a session's messages go. The contract of
+-- `split` is by the grammar of Headers; the law `messages_are_split` of a session says that the two
+-- are one.
 use Rattle.std.specs.Prelude.{ℕ, ◌+◌, Bool, true, false, ◌||◌, ◌&&◌, List, [], ◌∷◌, ◌++◌, length, sum_by, if◌then◌else◌}
 use Rattle.std.specs.List.{flat_map}
 use Rattle.mail_base.specs.Texts.{crlf}

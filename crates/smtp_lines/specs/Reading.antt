@@ -1,5 +1,5 @@
--- How a command line is computed, by which the requests of a session go. The contract of `command` is by the grammar of
--- Commands; the law `one_command` says that the two are one.
+-- How a command line is computed, by which the requests of a session go. The contract of `command`
+-- is by the grammar of Commands; the law `one_command` says that the two are one.
 use Rattle.std.specs.Prelude.{ℕ, ◌+◌, ◌==◌, nat_lt, ◌||◌, Bool, true, false, not, ◌&&◌, List, [], ◌∷◌, length, take, drop, Option, Some, None, Result, Ok, Err, unwrap_or, option_and_then, is_some, nat_le, if◌then◌else◌, codes}
 use Rattle.std.specs.List.{list_any, list_all, position_or_len}
 use Rattle.std.specs.Char.{is_ascii_digit}
