@@ -87,17 +87,17 @@ no_line bytes h = record { none = λ y z k a e. none_in 10 bytes y z h (e ∙ ap
 -- ---- lines behind a tag
 
 module _ {X : Type 0} (s : X → List ℕ) (v : X → Type 0) (f : List ℕ → Type 0) (tag bytes rest : List ℕ) (parts : bytes ≡ tag ++ rest) where
-  pub behind : (x : X) (after : List ℕ) → Front s v f rest x after → Front (λ y. tag ++ s y) v f bytes x after
+  behind : (x : X) (after : List ℕ) → Front s v f rest x after → Front (λ y. tag ++ s y) v f bytes x after
   behind x after a = record {
     is_formed = a.is_formed;
     parts = parts ∙ ap (λ (r : List ℕ). tag ++ r) a.parts ∙ sym (append_assoc tag (s x) after);
     only = λ y z h k e. a.only y z h k (append_cancel_left tag rest (s y ++ z) (sym parts ∙ e ∙ append_assoc tag (s y) z));
   }
 
-  pub none_behind : NoFront s v f rest → NoFront (λ y. tag ++ s y) v f bytes
+  none_behind : NoFront s v f rest → NoFront (λ y. tag ++ s y) v f bytes
   none_behind a = record { none = λ y z h k e. a.none y z h k (append_cancel_left tag rest (s y ++ z) (sym parts ∙ e ∙ append_assoc tag (s y) z)) }
 
-pub none_without : {X : Type 0} (s : X → List ℕ) (v : X → Type 0) (f : List ℕ → Type 0) (tag bytes : List ℕ) → ((rest : List ℕ) → bytes ≢ tag ++ rest) → NoFront (λ y. tag ++ s y) v f bytes
+none_without : {X : Type 0} (s : X → List ℕ) (v : X → Type 0) (f : List ℕ → Type 0) (tag bytes : List ℕ) → ((rest : List ℕ) → bytes ≢ tag ++ rest) → NoFront (λ y. tag ++ s y) v f bytes
 none_without s v f tag bytes away = record { none = λ y z h k e. away (s y ++ z) (e ∙ append_assoc tag (s y) z) }
 
 tagged : (tag : List ℕ) → Retold (λ text. tag ++ line text) IsLine (λ text. line (tag ++ text)) IsLine (λ text. text) (λ text. text)
@@ -109,11 +109,11 @@ tagged tag = record {
   form_from = λ y h. h;
 }
 
-pub field_at : (tag bytes rest : List ℕ) → bytes ≡ tag ++ rest → (x after : List ℕ) → Front line IsLine Anything rest x after → Front (λ text. line (tag ++ text)) IsLine Anything bytes x after
+field_at : (tag bytes rest : List ℕ) → bytes ≡ tag ++ rest → (x after : List ℕ) → Front line IsLine Anything rest x after → Front (λ text. line (tag ++ text)) IsLine Anything bytes x after
 field_at tag bytes rest e x after a =
     front_as (λ text. tag ++ line text) IsLine (λ text. line (tag ++ text)) IsLine (λ text. text) (λ text. text) Anything bytes x after (tagged tag) (behind line IsLine Anything tag bytes rest e x after a)
 
-pub no_field : (tag bytes rest : List ℕ) → bytes ≡ tag ++ rest → NoFront line IsLine Anything rest → NoFront (λ text. line (tag ++ text)) IsLine Anything bytes
+no_field : (tag bytes rest : List ℕ) → bytes ≡ tag ++ rest → NoFront line IsLine Anything rest → NoFront (λ text. line (tag ++ text)) IsLine Anything bytes
 no_field tag bytes rest e a =
     none_as (λ text. tag ++ line text) IsLine (λ text. line (tag ++ text)) IsLine (λ text. text) (λ text. text) Anything bytes (tagged tag) (none_behind line IsLine Anything tag bytes rest e a)
 

@@ -164,7 +164,7 @@ ends_once x y r q h k m n e = elim (cases_order (length y) (length x)) [
   ]
 ]
 
-pub header_apart : Apart header_lines IsHeader NotBlank
+header_apart : Apart header_lines IsHeader NotBlank
 header_apart x y r q h k m n e =
     let text : List ℕ = (x ++ 10 ∷ []) ++ r in
     let inner : text ≡ (y ++ 10 ∷ []) ++ q = tag_tail text ((y ++ 10 ∷ []) ++ q) e in

@@ -61,7 +61,7 @@ numeral n h = decimal_is_IsNumeral_wide n (omega arith)
 pub first_digit : (n : ℕ) → n < 2 ^ 128 → (48 ≤ get_or (decimal n) 0 0) × (get_or (decimal n) 0 0 ≤ 57)
 first_digit n h = digit_at (decimal n) 0 (numeral n h).0.1 (numeral n h).0.0
 
-pub plain_decimal : (n : ℕ) → n < 2 ^ 128 → IsPlain (decimal n)
+plain_decimal : (n : ℕ) → n < 2 ^ 128 → IsPlain (decimal n)
 plain_decimal n h =
     let b = begins n h in
     let d = first_digit n h in (
@@ -101,7 +101,7 @@ up ds all first small (suc j) l =
     (omega (arith, e, before.0), decimal_step_wide v (omega (arith, e, before.0)) (omega (arith, most, small)) ∙ (λ t. decimal (q t) ++ r t ∷ []) ∙ ap (λ (x : List ℕ). x ++ d ∷ []) before.1 ∙ sym (take-suc ds i 0 l))
 
 -- digits with no zero before others are what is written of their number
-pub decimal_value : (ds : List ℕ) → IsNumeral 10 ds → IsPlain ds → digits_value 10 ds < 2 ^ 128 → decimal (digits_value 10 ds) ≡ ds
+decimal_value : (ds : List ℕ) → IsNumeral 10 ds → IsPlain ds → digits_value 10 ds < 2 ^ 128 → decimal (digits_value 10 ds) ≡ ds
 decimal_value ds num plain small = by_first (get_or ds 0 0) refl
   where
     l : 0 < length ds

@@ -55,7 +55,7 @@ wider z h = record { sfits = omega (arith, ints) }
 pub class_once : Once signed_decimal (FitsSigned w64)
 class_once x y h k e = priority_once x y (wider x h) (wider y k) e
 
-pub id_once : Once id_text IsId
+id_once : Once id_text IsId
 id_once x y h k e =
     let same : digits 12 x ≡ digits 12 y = cons_tail 119 (digits 12 x) (digits 12 y) e in
     sym (are_digits 12 x (omega arith)).value ∙ ap (digits_value 10) same ∙ (are_digits 12 y (omega arith)).value

@@ -1,5 +1,5 @@
 -- Readers one after the other, and what they read within each other.
-use Rattle.std.proofs.Common.{◌≡◌, ℕ, List, ◌++◌, sym, ap, subst, ◌∙◌, append_assoc}
+use Rattle.std.proofs.Common.{◌≡◌, ℕ, List, ◌++◌, sym, ap, ◌∙◌, append_assoc}
 use Rattle.qf_format.specs.inner.Reading.{Front, NoFront, Whole, NoWhole}
 
 -- ---- one after the other
@@ -72,18 +72,6 @@ module _ {X : Type 0} (frame : List ℕ → List ℕ) (form : List ℕ → Type 
 
   pub none_within : (text rest : List ℕ) → Front frame form f bytes text rest → NoWhole s v text → NoFront framed v f bytes
   none_within text rest a b = record { none = λ y z h k e. let one = a.only (s y) z (is_text y h) k e in b.none y h (sym one.0) }
-
--- ---- fewer values
-
-module _ {X : Type 0} (s : X → List ℕ) (v w : X → Type 0) (weaker : (x : X) → w x → v x) (bytes : List ℕ) where
-  pub narrow : (x : X) → Whole s v bytes x → w x → Whole s w bytes x
-  narrow x a h = record { is_formed = h; is_spelled = a.is_spelled; only = λ y k e. a.only y (weaker y k) e }
-
-  pub narrow_away : (x : X) → Whole s v bytes x → (w x → ⊥) → NoWhole s w bytes
-  narrow_away x a h = record { none = λ y k e. h (subst w (a.only y (weaker y k) e) k) }
-
-  pub narrow_none : NoWhole s v bytes → NoWhole s w bytes
-  narrow_none a = record { none = λ y k e. a.none y (weaker y k) e }
 
 -- ---- the end
 

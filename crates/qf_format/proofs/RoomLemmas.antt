@@ -16,7 +16,7 @@ use Rattle.mail_base.specs.declared.control.Row.{Row}
 use Rattle.mail_base.specs.declared.control.State.{State}
 use Rattle.mail_base.specs.declared.control.State.TheVariants.{Queued, Sent, Failed, Returned, Dead}
 use Rattle.mail_base.specs.declared.message.Kept.{Kept}
-use Rattle.qf_format.specs.Spelling.{line, parent_line, letter, marks_line, eight_line, cause, state_text, flags, row_lines, header_lines, place_lines, order_lines, sender_lines, kept_lines, spelled}
+use Rattle.qf_format.specs.Spelling.{line, parent_line, marks_line, eight_line, cause, state_text, flags, row_lines, header_lines, place_lines, order_lines, sender_lines, kept_lines, spelled}
 use Rattle.qf_format.specs.Valid.{IsValid, IsRow, IsState, IsCause, IsParent}
 use Rattle.qf_format.proofs.StatusLemmas.{status_in}
 use Rattle.qf_format.specs.Room.{SameTexts, addresses, row_room, header_room, room_of}
@@ -46,10 +46,6 @@ id_len n = omega (arith, digits_len 12 n)
 parent_len : (p : Option Parent) → IfSome p IsParent → length (parent_line p) ≤ 36
 parent_len None h = omega arith
 parent_len (Some p) h = omega (arith, line_len (codes "p" ++ (id_text p.id ++ (codes " " ++ decimal p.revision))), length-append (id_text p.id) (codes " " ++ decimal p.revision), id_len p.id, number_len p.revision h.revision.most)
-
-letter_len : (b : Bool) (x : List ℕ) → length (letter b x) ≤ length x
-letter_len true x = omega arith
-letter_len false x = omega arith
 
 marks_len : (b d w : Bool) → length (marks_line (record { bounce = b; double = d; warned = w })) ≤ 5
 marks_len true true true = omega arith

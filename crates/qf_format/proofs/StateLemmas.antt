@@ -33,9 +33,6 @@ IsCauseOf p = IsCause p.0 p.1
 abbrev HasCause : ℕ → (List ℕ → List ℕ → State) → State → Type 0
 HasCause c make y = (s : List ℕ) × (m : List ℕ) × (y ≡ make s m) × IsCause s m
 
-pairs : (a b c d : List ℕ) → (a ≡ b) → (c ≡ d) → (make : List ℕ → List ℕ → State) → make a c ≡ make b d
-pairs a b c d e f make = λ i. make (e i) (f i)
-
 module _ (c : ℕ) (make : List ℕ → List ℕ → State) (text : (s m : List ℕ) → state_text (make s m) ≡ c ∷ cause s m) (form : (s m : List ℕ) → IsCause s m → IsState (make s m)) (has : (y : State) (rest : List ℕ) → IsState y → c ∷ rest ≡ state_text y → HasCause c make y) (bytes rest : List ℕ) (e : bytes ≡ c ∷ rest) where
   only_of : (y : State) → IsState y → bytes ≡ state_text y → (p : List ℕ × List ℕ) × (y ≡ make p.0 p.1) × IsCause p.0 p.1 × (rest ≡ cause p.0 p.1)
   only_of y k f =

@@ -32,7 +32,7 @@ digits_line : (ds : List ℕ) → AllDigits 10 ds → IsLine ds
 digits_line [] h = All-nil NotLf
 digits_line (d ∷ ds) h = let r = digit_from_value d h.0 in All-cons NotLf d ds (λ e. omega (arith, r.0, e)) (digits_line ds h.1)
 
-pub decimal_line : (n : ℕ) → n < 2 ^ 128 → IsLine (decimal n)
+decimal_line : (n : ℕ) → n < 2 ^ 128 → IsLine (decimal n)
 decimal_line n h = digits_line (decimal n) (decimal_is_IsNumeral_wide n (omega arith)).0.1
 
 -- the digits of a number below 2 ^ 64 have no LF

@@ -1,4 +1,5 @@
--- What a control file says, whatever the version of its text (Sendmail Installation and Operation Guide, "The queue": the V line tells the version; today there is one).
+-- What a control file says, whatever the version of its text (Sendmail Installation and Operation
+-- Guide, "The queue": the V line tells the version; today there is one).
 use Rattle.std.specs.Prelude.{◌≡◌, ℕ, List}
 use Rattle.mail_base.specs.declared.control.Control.{Control}
 use Rattle.qf_format.specs.Spelling.{spelled}

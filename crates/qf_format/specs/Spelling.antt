@@ -1,4 +1,6 @@
--- The control file of an entry of the queue (Sendmail Installation and Operation Guide, "The queue": the lines V, T, K, N, P, F, B, S, $, R, H and the dot; the lines v, p, g, c and e and the limits are our own).
+-- The control file of an entry of the queue (Sendmail Installation and Operation Guide, "The
+-- queue": the lines V, T, K, N, P, F, B, S, $, R, H and the dot; the lines v, p, g, c and e and the
+-- limits are our own).
 use Rattle.std.specs.Prelude.{ℕ, Bool, true, false, List, [], ◌∷◌, ◌++◌, Option, None, Some, codes, if◌then◌else◌, ◌||◌}
 use Rattle.std.specs.List.{flat_map}
 use Rattle.std.specs.Fmt.{decimal, signed_decimal}
@@ -18,20 +20,24 @@ line content = content ++ 10 ∷ []
 -- the entry that it is a child of
 abbrev pub parent_line : Option Parent → List ℕ
 parent_line None = []
-parent_line (Some parent) = line (codes "p" ++ (id_text parent.id ++ (codes " " ++ decimal parent.revision)))
+parent_line (Some parent) =
+    line (codes "p" ++ (id_text parent.id ++ (codes " " ++ decimal parent.revision)))
 
 -- a letter where it is set
 abbrev pub letter : Bool → List ℕ → List ℕ
 letter true text = text
 letter false text = []
 
--- the letters of what is marked: b for a bounce or a warning, d for a double bounce, w where a warning was sent
+-- the letters of what is marked: b for a bounce or a warning, d for a double bounce, w where a
+-- warning was sent
 abbrev pub letters : Marks → List ℕ
-letters marks = letter marks.bounce (codes "b") ++ letter marks.double (codes "d") ++ letter marks.warned (codes "w")
+letters marks = letter marks.bounce (codes "b") ++ letter marks.double (codes "d")
+    ++ letter marks.warned (codes "w")
 
 -- the letters' line, only where there are some
 abbrev pub marks_line : Marks → List ℕ
-marks_line marks = if marks.bounce || (marks.double || marks.warned) then line (codes "F" ++ letters marks) else []
+marks_line marks =
+    if marks.bounce || (marks.double || marks.warned) then line (codes "F" ++ letters marks) else []
 
 -- the line of a message that was declared as 8BITMIME
 abbrev pub eight_line : Bool → List ℕ
@@ -58,7 +64,8 @@ flags false = codes "FD"
 
 -- a recipient, with the line of its state
 unfoldable pub row_lines : Row → List ℕ
-row_lines row = line (codes "R" ++ (flags row.primary ++ (codes ":" ++ row.address))) ++ line (codes "e" ++ state_text row.state)
+row_lines row = line (codes "R" ++ (flags row.primary ++ (codes ":" ++ row.address)))
+    ++ line (codes "e" ++ state_text row.state)
 
 -- a header with its continuation lines
 abbrev pub header_lines : List ℕ → List ℕ
@@ -66,11 +73,13 @@ header_lines header = line (codes "H" ++ header)
 
 -- the version, the revision, the parent of a child, and the group
 unfoldable pub place_lines : Control → List ℕ
-place_lines c = line (codes "V1") ++ line (codes "v" ++ decimal c.revision) ++ parent_line c.parent ++ line (codes "g" ++ c.group)
+place_lines c = line (codes "V1") ++ line (codes "v" ++ decimal c.revision) ++ parent_line c.parent
+    ++ line (codes "g" ++ c.group)
 
 -- its creation, its last try and its tries, its priority and its class
 unfoldable pub order_lines : Control → List ℕ
-order_lines c = line (codes "T" ++ decimal c.created) ++ line (codes "K" ++ decimal c.last_try) ++ line (codes "N" ++ decimal c.tries)
+order_lines c = line (codes "T" ++ decimal c.created) ++ line (codes "K" ++ decimal c.last_try)
+    ++ line (codes "N" ++ decimal c.tries)
     ++ line (codes "P" ++ signed_decimal c.priority) ++ line (codes "c" ++ signed_decimal c.class)
 
 -- its marks, its body's type and its sender
@@ -79,7 +88,8 @@ sender_lines c = marks_line c.marks ++ eight_line c.eight ++ line (codes "S" ++ 
 
 -- the macros that are kept with it
 unfoldable pub kept_lines : Kept → List ℕ
-kept_lines kept = line (codes "$r" ++ kept.protocol) ++ line (codes "$s" ++ kept.helo) ++ line (codes "${client_addr}" ++ kept.client)
+kept_lines kept = line (codes "$r" ++ kept.protocol) ++ line (codes "$s" ++ kept.helo)
+    ++ line (codes "${client_addr}" ++ kept.client)
 
 -- the control text of an entry, version 1
 unfoldable pub spelled : Control → List ℕ

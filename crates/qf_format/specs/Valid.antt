@@ -1,4 +1,5 @@
--- Which controls have a text: the ranges and forms of their fields (Sendmail Installation and Operation Guide, "The queue"; the ranges are our own).
+-- Which controls have a text: the ranges and forms of their fields (Sendmail Installation and
+-- Operation Guide, "The queue"; the ranges are our own).
 use Rattle.std.specs.Prelude.{ℕ, ◌<◌, ◌≤◌, ◌^◌, List, IfSome, IsTrue, All, length, FitsSigned}
 use Rattle.std.specs.Int.{w64, w128}
 use Rattle.mail_base.specs.Limits.{IsId, most_rows}

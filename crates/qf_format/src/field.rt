@@ -39,7 +39,8 @@ pub(crate) fn after_tag<'a>(tag: &[u8], bytes: &'a [u8]) -> Option<&'a [u8]>
 
 // The text of the line at the front that begins with a tag, and what comes after the line.
 pub(crate) fn field<'a>(tag: &[u8], bytes: &'a [u8]) -> Result<(&'a [u8], &'a [u8]), Stop>
-    ensures { Reads (λ r. r.0.now) (λ r. r.1.now) (λ text. line (tag.now ++ text)) IsLine Anything bytes.now result }
+    ensures { Reads (λ r. r.0.now) (λ r. r.1.now) (λ text. line (tag.now ++ text)) IsLine
+        Anything bytes.now result }
 {
     match after_tag(tag, bytes) {
         Some(rest) => line_of(rest),
@@ -53,7 +54,8 @@ pub(crate) fn text_field<'a>(
     tag: &[u8],
     bytes: &'a [u8],
 ) -> Result<(Text, &'a [u8]), Stop>
-    ensures { Reads (λ r. r.0) (λ r. r.1.now) (λ text. line (tag.now ++ text)) IsLine Anything bytes.now result }
+    ensures { Reads (λ r. r.0) (λ r. r.1.now) (λ text. line (tag.now ++ text)) IsLine
+        Anything bytes.now result }
 {
     let (text, rest) = field(tag, bytes)?;
     Ok((Text::of(alloc, text)?, rest))

@@ -12,7 +12,8 @@ use std::alloc::Global;
 
 // The headers at the front, and what comes after them.
 pub(crate) fn headers_of(alloc: Global, bytes: &[u8]) -> Result<(Seq<Text>, &[u8]), Stop>
-    ensures { Reads (λ r. r.0) (λ r. r.1.now) (flat_map header_lines) EachHeader (At 46) bytes.now result }
+    ensures { Reads (λ r. r.0) (λ r. r.1.now) (flat_map header_lines) EachHeader
+        (At 46) bytes.now result }
 {
     let mut headers = Seq::new(alloc);
     let mut rest = bytes;

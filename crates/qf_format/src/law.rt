@@ -5,5 +5,6 @@ ghost use Rattle.qf_format.specs.Valid.{IsValid};
 
 /// No two valid controls have the same text.
 pub fn one_spelling()
-    ensures { (one another : Control) → IsValid one → IsValid another → spelled one ≡ spelled another → one ≡ another }
+    ensures { (one another : Control) → IsValid one → IsValid another
+        → spelled one ≡ spelled another → one ≡ another }
 {}

@@ -6,14 +6,17 @@ ghost use Rattle.qf_format.specs.Valid.{IsValid};
 
 use mail_base::{Control, Row, Text};
 
-/// A length, in bytes, that no control text passes while the group, the sender, the macros, the addresses
-/// and the headers stay, whatever becomes of the states, notes, numbers and flags. Where that is
-/// more than a `u64` holds, it is `u64::MAX`, and no such text can be had. It takes no memory.
+/// A length, in bytes, that no control text passes while the group, the sender, the macros, the
+/// addresses and the headers stay, whatever becomes of the states, notes, numbers and flags. Where
+/// that is more than a `u64` holds, it is `u64::MAX`, and no such text can be had. It takes no
+/// memory.
 #[tactic(auto, unfolding(crate::specs::Room::room_of))]
 pub fn room(control: &Control) -> u64
     ensures exact { result ≡ min (room_of control.now) (2 ^ 64 - 1) }
-    ensures alike { (other : Control) → SameTexts control.now other → room_of other ≡ room_of control.now }
-    ensures most { (other : Control) → SameTexts control.now other → IsValid other → length (spelled other) ≤ room_of control.now }
+    ensures alike { (other : Control) → SameTexts control.now other
+        → room_of other ≡ room_of control.now }
+    ensures most { (other : Control) → SameTexts control.now other → IsValid other
+        → length (spelled other) ≤ room_of control.now }
 {
     let texts = length_of(&control.group)
         .saturating_add(length_of(&control.sender))

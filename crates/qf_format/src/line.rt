@@ -16,7 +16,8 @@ use std::alloc::Global;
 
 // The line of a number below 2^64.
 pub(crate) fn number_line<'a>(tag: &[u8], bytes: &'a [u8]) -> Result<(u64, &'a [u8]), Stop>
-    ensures { Reads (λ r. r.0) (λ r. r.1.now) (λ n. line (tag.now ++ decimal n)) IsSmall Anything bytes.now result }
+    ensures { Reads (λ r. r.0) (λ r. r.1.now) (λ n. line (tag.now ++ decimal n)) IsSmall
+        Anything bytes.now result }
 {
     let (text, rest) = field(tag, bytes)?;
     match small_of(text) {
@@ -26,7 +27,8 @@ pub(crate) fn number_line<'a>(tag: &[u8], bytes: &'a [u8]) -> Result<(u64, &'a [
 }
 
 pub(crate) fn revision_line<'a>(tag: &[u8], bytes: &'a [u8]) -> Result<(u64, &'a [u8]), Stop>
-    ensures { Reads (λ r. r.0) (λ r. r.1.now) (λ n. line (tag.now ++ decimal n)) IsRevision Anything bytes.now result }
+    ensures { Reads (λ r. r.0) (λ r. r.1.now) (λ n. line (tag.now ++ decimal n)) IsRevision
+        Anything bytes.now result }
 {
     let (text, rest) = field(tag, bytes)?;
     match revision_of(text) {
@@ -36,7 +38,8 @@ pub(crate) fn revision_line<'a>(tag: &[u8], bytes: &'a [u8]) -> Result<(u64, &'a
 }
 
 pub(crate) fn priority_line<'a>(tag: &[u8], bytes: &'a [u8]) -> Result<(i128, &'a [u8]), Stop>
-    ensures { Reads (λ r. r.0) (λ r. r.1.now) (λ n. line (tag.now ++ signed_decimal n)) (FitsSigned w128) Anything bytes.now result }
+    ensures { Reads (λ r. r.0) (λ r. r.1.now) (λ n. line (tag.now ++ signed_decimal n))
+        (FitsSigned w128) Anything bytes.now result }
 {
     let (text, rest) = field(tag, bytes)?;
     match priority_of(text) {
@@ -46,7 +49,8 @@ pub(crate) fn priority_line<'a>(tag: &[u8], bytes: &'a [u8]) -> Result<(i128, &'
 }
 
 pub(crate) fn class_line<'a>(tag: &[u8], bytes: &'a [u8]) -> Result<(i64, &'a [u8]), Stop>
-    ensures { Reads (λ r. r.0) (λ r. r.1.now) (λ n. line (tag.now ++ signed_decimal n)) (FitsSigned w64) Anything bytes.now result }
+    ensures { Reads (λ r. r.0) (λ r. r.1.now) (λ n. line (tag.now ++ signed_decimal n))
+        (FitsSigned w64) Anything bytes.now result }
 {
     let (text, rest) = field(tag, bytes)?;
     match class_of(text) {
@@ -57,7 +61,8 @@ pub(crate) fn class_line<'a>(tag: &[u8], bytes: &'a [u8]) -> Result<(i64, &'a [u
 
 // The line of the entry's parent, if it is there.
 pub(crate) fn parent_of(bytes: &[u8]) -> Result<(Option<Parent>, &[u8]), Stop>
-    ensures { Reads (λ r. r.0) (λ r. r.1.now) parent_line IsParentOrNone (NotAt 112) bytes.now result }
+    ensures { Reads (λ r. r.0) (λ r. r.1.now) parent_line IsParentOrNone
+        (NotAt 112) bytes.now result }
 {
     if first_byte(bytes) != b'p' {
         return Ok((None, bytes));
@@ -144,7 +149,8 @@ pub(crate) fn eight_of(bytes: &[u8]) -> Result<(bool, &[u8]), Stop>
 }
 
 pub(crate) fn sender_of(alloc: Global, bytes: &[u8]) -> Result<(Text, &[u8]), Stop>
-    ensures { Reads (λ r. r.0) (λ r. r.1.now) (λ text. line (codes "S" ++ text)) IsBracketed Anything bytes.now result }
+    ensures { Reads (λ r. r.0) (λ r. r.1.now) (λ text. line (codes "S" ++ text)) IsBracketed
+        Anything bytes.now result }
 {
     let (sender, rest) = text_field(alloc, b"S", bytes)?;
     if !has_brackets(sender.bytes()) {

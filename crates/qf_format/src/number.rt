@@ -60,7 +60,8 @@ pub(crate) fn priority_of(bytes: &[u8]) -> Option<i128>
 
 // The number below 0 of that magnitude.
 fn negative(magnitude: u128) -> Option<i128>
-    ensures { MatchOption result ((magnitude ≡ 0) ⊎ (2 ^ 127 < magnitude)) (λ z. (0 < magnitude) × (magnitude ≤ 2 ^ 127) × (z ≡ negsuc (magnitude - 1))) }
+    ensures { MatchOption result ((magnitude ≡ 0) ⊎ (2 ^ 127 < magnitude))
+        (λ z. (0 < magnitude) × (magnitude ≤ 2 ^ 127) × (z ≡ negsuc (magnitude - 1))) }
 {
     if magnitude == 0 || magnitude > 1 << 127 {
         return None;

@@ -5,8 +5,8 @@ use mail_base::{NoMemory, Text};
 use std::alloc::Global;
 use std::marker::Model;
 
-/// Bytes with room that was reserved for them. A contract sees it as its bytes and its room, the most
-/// bytes that it takes.
+/// Bytes with room that was reserved for them. A contract sees it as its bytes and its room, the
+/// most bytes that it takes.
 #[derive(Drop)]
 pub struct Paper {
     bytes: Vec<u8>,

@@ -155,7 +155,8 @@ fn put_row(paper: &mut Paper, row: &Row)
 
 fn put_address(paper: &mut Paper, primary: bool, address: &[u8])
     requires { Fits paper.old (line (codes "R" ++ (flags primary ++ (codes ":" ++ address.now)))) }
-    ensures { paper.new ≡ with_more paper.old (line (codes "R" ++ (flags primary ++ (codes ":" ++ address.now)))) }
+    ensures { paper.new ≡ with_more paper.old (line (codes "R"
+        ++ (flags primary ++ (codes ":" ++ address.now)))) }
 {
     if primary {
         put_line(paper, b"RPFD:", address);

@@ -14,7 +14,8 @@ use std::alloc::Global;
 
 // The rows at the front, and what comes after them.
 pub(crate) fn rows_of(alloc: Global, bytes: &[u8]) -> Result<(Seq<Row>, &[u8]), Stop>
-    ensures { Reads (λ r. r.0) (λ r. r.1.now) (flat_map row_lines) AreRows (NotAt 82) bytes.now result }
+    ensures { Reads (λ r. r.0) (λ r. r.1.now) (flat_map row_lines) AreRows
+        (NotAt 82) bytes.now result }
 {
     let (rows, rest) = all_rows(alloc, bytes)?;
     if rows.is_empty() {
@@ -27,7 +28,8 @@ pub(crate) fn rows_of(alloc: Global, bytes: &[u8]) -> Result<(Seq<Row>, &[u8]), 
 }
 
 fn all_rows(alloc: Global, bytes: &[u8]) -> Result<(Seq<Row>, &[u8]), Stop>
-    ensures { Reads (λ r. r.0) (λ r. r.1.now) (flat_map row_lines) EachRow (NotAt 82) bytes.now result }
+    ensures { Reads (λ r. r.0) (λ r. r.1.now) (flat_map row_lines) EachRow
+        (NotAt 82) bytes.now result }
 {
     let mut rows = Seq::new(alloc);
     let mut rest = bytes;
@@ -56,7 +58,8 @@ fn row_of(alloc: Global, bytes: &[u8]) -> Result<(Row, &[u8]), Stop>
 
 // The address, and whether it is primary.
 fn address_of(alloc: Global, bytes: &[u8]) -> Result<((bool, Text), &[u8]), Stop>
-    ensures { Reads {X = Bool × List ℕ} (λ r. r.0) (λ r. r.1.now) (λ p. address_line p.0 p.1) (λ p. IsAddress p.1) Anything bytes.now result }
+    ensures { Reads {X = Bool × List ℕ} (λ r. r.0) (λ r. r.1.now) (λ p. address_line p.0 p.1)
+        (λ p. IsAddress p.1) Anything bytes.now result }
 {
     if after_tag(b"RPFD:", bytes).is_some() {
         let (address, rest) = address_behind(alloc, b"RPFD:", bytes)?;
@@ -67,7 +70,8 @@ fn address_of(alloc: Global, bytes: &[u8]) -> Result<((bool, Text), &[u8]), Stop
 }
 
 fn address_behind<'a>(alloc: Global, tag: &[u8], bytes: &'a [u8]) -> Result<(Text, &'a [u8]), Stop>
-    ensures { Reads (λ r. r.0) (λ r. r.1.now) (λ text. line (tag.now ++ text)) IsAddress Anything bytes.now result }
+    ensures { Reads (λ r. r.0) (λ r. r.1.now) (λ text. line (tag.now ++ text)) IsAddress
+        Anything bytes.now result }
 {
     let (address, rest) = text_field(alloc, tag, bytes)?;
     if address.is_empty() {
@@ -77,7 +81,8 @@ fn address_behind<'a>(alloc: Global, tag: &[u8], bytes: &'a [u8]) -> Result<(Tex
 }
 
 fn state_line(bytes: &[u8]) -> Result<(State, &[u8]), Stop>
-    ensures { Reads (λ r. r.0) (λ r. r.1.now) (λ s. line (codes "e" ++ state_text s)) IsState Anything bytes.now result }
+    ensures { Reads (λ r. r.0) (λ r. r.1.now) (λ s. line (codes "e" ++ state_text s)) IsState
+        Anything bytes.now result }
 {
     let (text, rest) = field(b"e", bytes)?;
     match state_of(text) {

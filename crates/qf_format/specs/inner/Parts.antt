@@ -1,4 +1,5 @@
--- The parts that a control text is read in, as they are spelled and formed; together they are the whole text (our own).
+-- The parts that a control text is read in, as they are spelled and formed; together they are the
+-- whole text (our own).
 use Rattle.std.specs.Prelude.{◌≡◌, ◌≢◌, ℕ, ◌+◌, ◌-◌, ◌<◌, ◌≤◌, ◌^◌, Bool, true, false, ◌∷◌, ◌==◌, if◌then◌else◌, List, [], ◌++◌, Option, None, Some, IfSome, All, FitsSigned, Result, Ok, Err, codes, length, slice_index, ◌||◌}
 use Rattle.std.specs.Int.{w64, w128}
 use Rattle.std.specs.Fmt.{decimal, signed_decimal}
@@ -38,7 +39,8 @@ abbrev pub IsMarked : Marks → Type 0
 IsMarked marks = (marks.bounce || (marks.double || marks.warned)) ≡ true
 
 unfoldable pub place_text : Place → List ℕ
-place_text p = line (codes "V1") ++ line (codes "v" ++ decimal p.revision) ++ parent_line p.parent ++ line (codes "g" ++ p.group)
+place_text p = line (codes "V1") ++ line (codes "v" ++ decimal p.revision) ++ parent_line p.parent
+    ++ line (codes "g" ++ p.group)
 
 pub record IsPlace (p : Place) : Type 0 where
   pub revision_range : IsRevision p.revision
@@ -46,7 +48,8 @@ pub record IsPlace (p : Place) : Type 0 where
   pub group_form : IsLine p.group
 
 unfoldable pub order_text : Order → List ℕ
-order_text o = line (codes "T" ++ decimal o.created) ++ line (codes "K" ++ decimal o.last_try) ++ line (codes "N" ++ decimal o.tries)
+order_text o = line (codes "T" ++ decimal o.created) ++ line (codes "K" ++ decimal o.last_try)
+    ++ line (codes "N" ++ decimal o.tries)
     ++ line (codes "P" ++ signed_decimal o.priority) ++ line (codes "c" ++ signed_decimal o.class)
 
 pub record IsOrder (o : Order) : Type 0 where
@@ -88,7 +91,8 @@ EndsAt text k = (slice_index text k ≡ 10) × ¬ (IsBlank (slice_index text (k 
 -- the first place at which a header ends, if there is one
 abbrev pub IsHeaderEnd : List ℕ → Option ℕ → Type 0
 IsHeaderEnd text None = (k : ℕ) → EndsAt text k → ⊥
-IsHeaderEnd text (Some at) = (at < length text) × EndsAt text at × ((k : ℕ) → k < at → EndsAt text k → ⊥)
+IsHeaderEnd text (Some at) =
+    (at < length text) × EndsAt text at × ((k : ℕ) → k < at → EndsAt text k → ⊥)
 
 abbrev pub IsParentOrNone : Option Parent → Type 0
 IsParentOrNone parent = IfSome parent IsParent
@@ -114,7 +118,8 @@ HasBrackets text = (slice_index text 0 ≡ 60) × (slice_index text (length text
 
 -- a control text without its last line
 unfoldable pub control_front : Control → List ℕ
-control_front c = place_lines c ++ order_lines c ++ sender_lines c ++ kept_lines c.kept ++ flat_map row_lines c.rows ++ flat_map header_lines c.headers
+control_front c = place_lines c ++ order_lines c ++ sender_lines c ++ kept_lines c.kept
+    ++ flat_map row_lines c.rows ++ flat_map header_lines c.headers
 
 -- the whole bytes are the text of a control, and of no other, or of none
 abbrev pub Parses : List ℕ → Result Control Stop → Type 0
