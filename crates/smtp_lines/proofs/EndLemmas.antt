@@ -5,7 +5,7 @@ use Rattle.std.proofs.lemmas.List.{take_more, take_all, length-take, get_or-take
 use Rattle.bstr.specs.Find.{OccursAt}
 use Rattle.smtp_lines.specs.declared.line.Mode.TheVariants.{Commands, Message}
 use Rattle.smtp_lines.specs.Stream.{has_end, ends_in_cr}
-use Rattle.smtp_lines.specs.Reader.{EndsAt}
+use Rattle.smtp_lines.specs.inner.Readings.{EndsAt}
 
 -- ---- LF
 

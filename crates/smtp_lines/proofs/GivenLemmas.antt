@@ -8,7 +8,7 @@ use Rattle.smtp_lines.specs.declared.line.Mode.{Mode}
 use Rattle.smtp_lines.specs.declared.line.Mode.TheVariants.{Commands}
 use Rattle.smtp_lines.specs.Stream.{Reads, nothing, plain, asked, asks, line_of, end_of, mode_after, granted_mode, Reading, with_line, parts_by, reading_by, reading_of}
 use Rattle.smtp_lines.specs.Reader.{asked_after, awaited, Reader, Stream, Stands, given, granted, refused, StandsFirst, HasGrants, Gives, OnlyLastAsks}
-use Rattle.smtp_lines.specs.Runs.{Follows}
+use Rattle.smtp_lines.specs.inner.Courses.{Follows}
 use Rattle.smtp_lines.proofs.ReadLemmas.{asked_after-push, not_nil}
 use Rattle.smtp_lines.proofs.ReadingLemmas.{cut-at, reads-length, follows_refused, stands-reading}
 

@@ -8,7 +8,7 @@ use Rattle.mail_base.specs.Limits.{most_message, most_command}
 use Rattle.smtp_lines.specs.declared.line.Line.TheVariants.{Command, TooLong, Data, DataEnd}
 use Rattle.smtp_lines.specs.declared.line.Mode.TheVariants.{Commands, Message}
 use Rattle.smtp_lines.specs.Stream.{command_line, message_line, without_dot, without_cr}
-use Rattle.smtp_lines.specs.Reader.{IsKept, enough}
+use Rattle.smtp_lines.specs.inner.Readings.{IsKept, enough}
 
 pub enough-commands : enough Commands ≡ most_command
 unfolding enough

@@ -7,7 +7,8 @@ use Rattle.smtp_lines.specs.declared.line.Line.TheVariants.{Command, TooLong, Da
 use Rattle.smtp_lines.specs.declared.line.Mode.{Mode}
 use Rattle.smtp_lines.specs.declared.line.Mode.TheVariants.{Commands}
 use Rattle.smtp_lines.specs.Stream.{Reads, nothing, plain, asked, has_end, ends_in_cr, end_of, line_of, asks, mode_after, granted_mode}
-use Rattle.smtp_lines.specs.Reader.{EndsAt, IsKept, enough, asked_after, ReadsOn}
+use Rattle.smtp_lines.specs.Reader.{asked_after}
+use Rattle.smtp_lines.specs.inner.Readings.{EndsAt, IsKept, enough, ReadsOn}
 
 longer_eq : (content end after more : List ℕ) → content ++ (end ++ (after ++ more)) ≡ (content ++ (end ++ after)) ++ more
 longer_eq content end after more = ap (λ x. content ++ x) (sym (append_assoc end after more)) ∙ sym (append_assoc content (end ++ after) more)

@@ -7,7 +7,7 @@ use Rattle.smtp_lines.specs.declared.line.Mode.{Mode}
 use Rattle.smtp_lines.specs.declared.line.Mode.TheVariants.{Commands, Message}
 use Rattle.smtp_lines.specs.Stream.{Reads, nothing, plain, asked, has_end, end_of, line_of, granted_mode, cut, longer, Reading, first_grant, with_line, parts_by, reading_by, reading_of}
 use Rattle.smtp_lines.specs.Reader.{awaited, mode_by, Reader, Stream, Stands}
-use Rattle.smtp_lines.specs.Runs.{Follows}
+use Rattle.smtp_lines.specs.inner.Courses.{Follows}
 
 cut-none : (mode : Mode) (bytes : List ℕ) → has_end mode bytes ≡ false → cut mode bytes ≡ None
 cut-none mode [] none = refl

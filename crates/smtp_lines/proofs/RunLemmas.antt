@@ -6,7 +6,8 @@ use Rattle.std.proofs.lemmas.List.{append-nil, take_more, take_all}
 use Rattle.smtp_lines.specs.declared.line.Line.{Line}
 use Rattle.smtp_lines.specs.Stream.{asks, first_grant}
 use Rattle.smtp_lines.specs.Reader.{asked_after, awaited, Reader, Stream, Stands, given, granted, refused}
-use Rattle.smtp_lines.specs.Runs.{Follows, granted_by, ReadSoFar}
+use Rattle.smtp_lines.specs.Runs.{granted_by}
+use Rattle.smtp_lines.specs.inner.Courses.{Follows, ReadSoFar}
 use Rattle.smtp_lines.proofs.ReadLemmas.{asked_after-push}
 use Rattle.smtp_lines.proofs.ReadingLemmas.{follows_more}
 use Rattle.smtp_lines.proofs.StandLemmas.{stands_granted, stands_refused}

@@ -7,7 +7,8 @@ use Rattle.smtp_lines.specs.declared.line.Line.{Line}
 use Rattle.smtp_lines.specs.declared.line.Mode.{Mode}
 use Rattle.smtp_lines.specs.declared.line.Mode.TheVariants.{Commands, Message}
 use Rattle.smtp_lines.specs.Stream.{has_end, Reads, nothing}
-use Rattle.smtp_lines.specs.Reader.{most_kept, awaited, mode_by, Under, Takes, Reader, Stream, Stands, fresh, empty_stream, received, given, granted, refused, refused_by}
+use Rattle.smtp_lines.specs.Reader.{most_kept, awaited, mode_by, Under, Reader, Stream, Stands, fresh, empty_stream, received, given, granted, refused, refused_by}
+use Rattle.smtp_lines.specs.inner.Readings.{Takes}
 use Rattle.smtp_lines.proofs.EndLemmas.{crlf_from_lf}
 use Rattle.smtp_lines.proofs.ReadLemmas.{reads_more, reads_join}
 

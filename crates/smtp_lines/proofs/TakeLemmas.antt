@@ -7,7 +7,8 @@ use Rattle.smtp_lines.specs.declared.line.Line.{Line}
 use Rattle.smtp_lines.specs.declared.line.Mode.{Mode}
 use Rattle.smtp_lines.specs.declared.line.Mode.TheVariants.{Commands, Message}
 use Rattle.smtp_lines.specs.Stream.{has_end, ends_in_cr, Reads}
-use Rattle.smtp_lines.specs.Reader.{enough, most_kept, cr_after, asked_after, awaited, mode_by, ReadsOn, Under, Holds, Takes}
+use Rattle.smtp_lines.specs.Reader.{most_kept, asked_after, awaited, mode_by, Under, Holds}
+use Rattle.smtp_lines.specs.inner.Readings.{enough, cr_after, ReadsOn, Takes}
 use Rattle.smtp_lines.proofs.LineLemmas.{take_joined}
 
 pub enough_kept : (mode : Mode) (may_turn : Bool) → enough mode ≤ most_kept mode may_turn

@@ -1,33 +1,11 @@
 -- What a reader of a stream keeps of it, and what it stands for.
-use Rattle.std.specs.Prelude.{◌≡◌, ℕ, ◌+◌, ◌≤◌, Bool, true, false, List, [], ◌∷◌, ◌++◌, take, drop, Option, Some, None}
+use Rattle.std.specs.Prelude.{◌≡◌, ℕ, ◌+◌, Bool, true, false, List, [], ◌∷◌, ◌++◌, take}
 use Rattle.std.specs.List.{list_any}
 use Rattle.mail_base.specs.Limits.{most_message, most_command}
 use Rattle.smtp_lines.specs.declared.line.Line.{Line}
 use Rattle.smtp_lines.specs.declared.line.Mode.{Mode}
 use Rattle.smtp_lines.specs.declared.line.Mode.TheVariants.{Commands, Message}
-use Rattle.smtp_lines.specs.Stream.{end_of, has_end, ends_in_cr, asks, granted_mode, Reads}
-
--- a line ends in the first n bytes after what was begun
-pub record EndsAt (mode : Mode) (begun bytes : List ℕ) (n : ℕ) : Type 0 where
-  pub content : List ℕ
-  pub whole : begun ++ take n bytes ≡ content ++ end_of mode
-  pub none : has_end mode content ≡ false
-
--- the first line end after what was begun, if there is one
-abbrev pub Ends : Mode → List ℕ → List ℕ → Option ℕ → Type 0
-Ends mode begun bytes None = has_end mode (begun ++ bytes) ≡ false
-Ends mode begun bytes (Some n) = EndsAt mode begun bytes n
-
--- how much of a line under way tells what it will be, whatever comes after it
-unfoldable pub enough : Mode → ℕ
-enough Commands = most_command
-enough Message = most_message + 3
-
--- what is kept of a line under way is all of it, or its front where that is enough
-pub record IsKept (mode : Mode) (begun kept : List ℕ) : Type 0 where
-  pub most : ℕ
-  pub enough : enough mode ≤ most
-  pub is : kept ≡ take most begun
+use Rattle.smtp_lines.specs.Stream.{has_end, ends_in_cr, asks, granted_mode, Reads}
 
 -- whether the last of the lines asks; where there is none, as before
 abbrev pub asked_after : Bool → List Line → Bool
@@ -44,24 +22,11 @@ abbrev pub mode_by : Bool → Bool → Mode → Mode
 mode_by true grant mode = granted_mode grant
 mode_by false grant mode = mode
 
--- the lines that end in the bytes after what was begun, up to one that asks
-pub record ReadsOn (mode : Mode) (begun bytes : List ℕ) (lines : List Line) (now : Mode) (used : ℕ) (asked : Bool) : Type 0 where
-  pub asks : asked ≡ asked_after false lines
-  pub commands : asked ≡ true → now ≡ Commands
-  pub none : lines ≡ [] → has_end mode (begun ++ bytes) ≡ false
-  pub some : (lines ≡ [] → ⊥) → (grant : Bool) → Reads mode (begun ++ bytes) (awaited asked grant) lines (mode_by asked grant now) (drop used bytes)
-  pub all : (lines ≡ [] → ⊥) → asked ≡ false → has_end now (drop used bytes) ≡ false
-
 -- how much is kept of a line under way; one that may become a message's is kept as such
 unfoldable pub most_kept : Mode → Bool → ℕ
 most_kept Commands false = most_command
 most_kept Commands true = most_message + 3
 most_kept Message may_turn = most_message + 3
-
--- whether a CR is last, where bytes come after what was there
-abbrev pub cr_after : Bool → List ℕ → Bool
-cr_after after_cr [] = after_cr
-cr_after after_cr (b ∷ bytes) = ends_in_cr (b ∷ bytes)
 
 -- what is kept of the line under way, how it is read, and whether the stream may be turned to a message
 pub record Under : Type 0 where
@@ -76,13 +41,6 @@ pub record Holds (u : Under) (begun : List ℕ) : Type 0 where
   pub kept : u.kept ≡ take (most_kept u.mode u.may_turn) begun
   pub cr : ends_in_cr begun ≡ u.after_cr
   pub commands : u.may_turn ≡ true → u.mode ≡ Commands
-
--- the lines that were taken from so many of the bytes, and what is kept then
-pub record Takes (old new : Under) (begun bytes : List ℕ) (lines : List Line) (used : ℕ) : Type 0 where
-  pub begun_now : List ℕ
-  pub holds : Holds new begun_now
-  pub none : lines ≡ [] → (new ≡ record old { kept = new.kept; after_cr = new.after_cr }) × (begun_now ++ drop used bytes ≡ begun ++ bytes)
-  pub some : (lines ≡ [] → ⊥) → (grant : Bool) → Reads old.mode (begun ++ bytes) (awaited new.may_turn grant) lines (mode_by new.may_turn grant new.mode) (begun_now ++ drop used bytes)
 
 -- what a reader holds: the line under way, and bytes that weren't read yet
 pub record Reader : Type 0 where

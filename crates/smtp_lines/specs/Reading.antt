@@ -14,7 +14,6 @@ use Rattle.mail_base.specs.declared.command.LineFault.TheVariants.{BadByte, Unkn
 use Rattle.smtp_lines.specs.declared.parameter.Given.{Given}
 use Rattle.smtp_lines.specs.declared.parameter.Given.TheVariants.{Size, Body}
 use Rattle.smtp_lines.specs.declared.parameter.Parameters.{Parameters}
-use Rattle.smtp_lines.specs.declared.path.Parts.{Parts as Borrowed}
 use Rattle.smtp_lines.specs.Stream.{verb_of}
 use Rattle.smtp_lines.specs.Paths.{Parts, is_parted, without_route, local_part}
 use Rattle.smtp_lines.specs.Parameters.{words_of, is_some_text}
@@ -141,11 +140,3 @@ order_by (Some Help) argument = Ok Explain
 -- what a command line asks for, or the first fault that it has
 abbrev pub order_of : List ℕ → Result Order LineFault
 order_of line = if list_any is_bad_byte line then Err BadByte else order_by (verb_named (verb_of line)) (argument_of line)
-
--- the parts that are borrowed of a text
-abbrev pub parts_of : Borrowed → Parts
-parts_of parts = record { front = parts.front.now; back = parts.back.now }
-
-abbrev pub as_parts : Result Borrowed LineFault → Result Parts LineFault
-as_parts (Ok parts) = Ok (parts_of parts)
-as_parts (Err fault) = Err fault

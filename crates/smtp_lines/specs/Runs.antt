@@ -1,25 +1,9 @@
 -- A run over a stream whose grants are known beforehand.
-use Rattle.std.specs.Prelude.{◌≡◌, ℕ, Bool, true, false, List, [], ◌∷◌, ◌++◌, drop}
-use Rattle.smtp_lines.specs.declared.line.Line.{Line}
+use Rattle.std.specs.Prelude.{Bool, true, false}
 use Rattle.smtp_lines.specs.declared.line.Mode.TheVariants.{Message}
-use Rattle.smtp_lines.specs.Stream.{first_grant}
-use Rattle.smtp_lines.specs.Reader.{Reader, Stream, Stands, awaited, refused_by}
-
--- these were answered by the grants, and the rest of the grants is left
-abbrev pub Follows : List Bool → List Bool → List Bool → Type 0
-Follows grants [] rest = rest ≡ grants
-Follows grants (grant ∷ answered) rest = (grant ≡ first_grant grants) × Follows (drop 1 grants) answered rest
+use Rattle.smtp_lines.specs.Reader.{Reader, refused_by}
 
 -- the reader after an answer
 abbrev pub granted_by : Bool → Reader → Reader
 granted_by true r = record r { under = record r.under { mode = Message; may_turn = false } }
 granted_by false r = refused_by r
-
--- the reader has given these lines of these bytes, and nothing is left unread
-pub record ReadSoFar (grants rest : List Bool) (r : Reader) (lines : List Line) (bytes : List ℕ) : Type 0 where
-  pub stream : Stream
-  pub stands : Stands r stream
-  pub follows : Follows grants (stream.granted ++ awaited r.under.may_turn false) rest
-  pub lines_are : stream.lines ≡ lines
-  pub bytes_are : stream.received ≡ bytes
-  pub all : r.left ≡ []

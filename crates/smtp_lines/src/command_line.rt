@@ -4,6 +4,7 @@ ghost use Rattle.mail_base.specs.Texts.{is_blank};
 ghost use Rattle.smtp_lines.specs.Commands.{IsRead, as_read, as_order, is_bad_byte, without_blanks, stripped};
 ghost use Rattle.smtp_lines.specs.Paths.{is_parted};
 ghost use Rattle.smtp_lines.specs.Reading as reading;
+ghost use Rattle.smtp_lines.specs.inner.Borrowed.{as_parts};
 
 use crate::parameter::parameters_of;
 use crate::path::{Parts, is_long, path_parts, without_route, word_end};
@@ -183,7 +184,7 @@ fn recipient(argument: &[u8]) -> Result<Command<'_>, LineFault>
 
 /// The path after a keyword, without its route, and what is after it.
 fn path_after<'a>(verb: Verb, keyword: &[u8], argument: &'a [u8]) -> Result<Parts<'a>, LineFault>
-    ensures { reading.as_parts result ≡ reading.path_after verb keyword.now argument.now }
+    ensures { as_parts result ≡ reading.path_after verb keyword.now argument.now }
 {
     if argument.len() < keyword.len() {
         return Err(LineFault::Syntax(verb));
@@ -196,7 +197,7 @@ fn path_after<'a>(verb: Verb, keyword: &[u8], argument: &'a [u8]) -> Result<Part
 }
 
 fn checked(verb: Verb, text: &[u8]) -> Result<Parts<'_>, LineFault>
-    ensures { reading.as_parts result ≡ reading.checked verb (reading.path_parts text.now) }
+    ensures { as_parts result ≡ reading.checked verb (reading.path_parts text.now) }
 {
     let Some(parts) = path_parts(text) else {
         return Err(LineFault::Syntax(verb));

@@ -1,6 +1,7 @@
 ghost use Rattle.std.specs.Prelude.{◌≡◌, ◌≤◌, ◌<◌, length, IfSome, option_map};
 ghost use Rattle.smtp_lines.specs.Paths.{without_route, local_part};
 ghost use Rattle.smtp_lines.specs.Reading as reading;
+ghost use Rattle.smtp_lines.specs.inner.Borrowed.{parts_of};
 ghost use Rattle.smtp_lines.specs.PathEnds as ends;
 
 use bstr::ByteSlice;
@@ -15,7 +16,7 @@ pub(crate) struct Parts<'a> {
 
 /// The path at the front of a text, without its angles, or `None` where it doesn't end.
 pub(crate) fn path_parts(text: &[u8]) -> Option<Parts<'_>>
-    ensures { option_map reading.parts_of result ≡ reading.path_parts text.now }
+    ensures { option_map parts_of result ≡ reading.path_parts text.now }
 {
     let (first, rest) = text.split_first()?;
     if *first == b'<' {
@@ -29,7 +30,7 @@ pub(crate) fn path_parts(text: &[u8]) -> Option<Parts<'_>>
 }
 
 fn angle_parts(text: &[u8]) -> Option<Parts<'_>>
-    ensures { option_map reading.parts_of result ≡ ends.angle_parts text.now }
+    ensures { option_map parts_of result ≡ ends.angle_parts text.now }
 {
     let end = path_end(text)?;
     Some(Parts {

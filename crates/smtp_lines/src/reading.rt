@@ -1,6 +1,7 @@
 ghost use Rattle.std.specs.Prelude.{◌≡◌, ◌≤◌, ◌<◌, ◌+◌, ℕ, List, ◌++◌, length, take, IfOk, IfSome, IsTrue, slice_index, ◌==◌, false};
 ghost use Rattle.smtp_lines.specs.Stream.{has_end, ends_in_cr, line_of, end_of, command_line, message_line};
-ghost use Rattle.smtp_lines.specs.Reader.{Ends, IsKept, ReadsOn, asked_after};
+ghost use Rattle.smtp_lines.specs.Reader.{asked_after};
+ghost use Rattle.smtp_lines.specs.inner.Readings.{Ends, IsKept, ReadsOn};
 
 use crate::line::{MOST_DATA, command_line, message_line, mode_after};
 use crate::{Line, Mode};

@@ -2,7 +2,8 @@ ghost use Rattle.std.specs.Prelude.{◌≡◌, ◌<◌, ◌++◌, [], ◌∷◌,
 ghost use Rattle.std.specs.List.{concat};
 ghost use Rattle.smtp_lines.specs.Stream.{Reads, has_end, reading_of, first_grant};
 ghost use Rattle.smtp_lines.specs.Reader.{Reader, Stream, Stands, given, granted, refused, asked_after, awaited, StandsFirst, HasGrants, Gives, OnlyLastAsks};
-ghost use Rattle.smtp_lines.specs.Runs.{ReadSoFar, granted_by};
+ghost use Rattle.smtp_lines.specs.Runs.{granted_by};
+ghost use Rattle.smtp_lines.specs.inner.Courses.{ReadSoFar};
 
 use crate::{Line, Lines, Mode};
 use mail_base::{NoMemory, Seq, Text};

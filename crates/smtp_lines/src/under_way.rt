@@ -1,7 +1,8 @@
 ghost use Rattle.std.specs.Prelude.{◌≡◌, ◌≤◌, ◌<◌, ◌+◌, ◌-◌, ℕ, List, [], ◌∷◌, ◌++◌, length, take, IfOk, OnOk, OnErr, IsTrue, false, true};
 ghost use Rattle.mail_base.specs.Limits.{most_command};
 ghost use Rattle.smtp_lines.specs.Stream.{ends_in_cr};
-ghost use Rattle.smtp_lines.specs.Reader.{asked_after, most_kept, cr_after, Under, Holds, Takes};
+ghost use Rattle.smtp_lines.specs.Reader.{asked_after, most_kept, Under, Holds};
+ghost use Rattle.smtp_lines.specs.inner.Readings.{cr_after, Takes};
 ghost use Rattle.smtp_lines.specs.Views.{under};
 
 use crate::line::{MOST_DATA, ends_in_cr};

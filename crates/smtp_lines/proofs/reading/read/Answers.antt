@@ -2,7 +2,8 @@ use Rattle.std.proofs.Common.{◌+◌, ◌-◌, ◌<◌, true, false, List, ◌�
 use Rattle.std.proofs.lemmas.List.{length-take, take_rest}
 use Rattle.smtp_lines.specs.declared.line.Line.{Line}
 use Rattle.smtp_lines.specs.declared.line.Mode.{Mode}
-use Rattle.smtp_lines.specs.Reader.{ReadsOn, asked_after}
+use Rattle.smtp_lines.specs.Reader.{asked_after}
+use Rattle.smtp_lines.specs.inner.Readings.{ReadsOn}
 use Rattle.smtp_lines.proofs.ReadLemmas.{asked_after-push, SoFar, so_far_start, so_far_line, asked_line, all_read}
 use Rattle.smtp_lines.proofs.reading.read.Goals as goal
 

@@ -1,6 +1,7 @@
 use Rattle.std.proofs.Common.{◌≡◌, ℕ, ◌-◌, ◌≤◌, false, List, length}
 use Rattle.smtp_lines.specs.Stream.{has_end, ends_in_cr}
-use Rattle.smtp_lines.specs.Reader.{IsKept, asked_after}
+use Rattle.smtp_lines.specs.Reader.{asked_after}
+use Rattle.smtp_lines.specs.inner.Readings.{IsKept}
 use Rattle.smtp_lines.proofs.ReadLemmas.{SoFar}
 use Rattle.smtp_lines.proofs.reading.read.Given as goal
 

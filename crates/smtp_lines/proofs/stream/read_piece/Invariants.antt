@@ -1,6 +1,6 @@
 use Rattle.std.proofs.Common.{◌≡◌, ◌+◌, ℕ, Bool, true, false, cond, List, [], ◌++◌, length}
 use Rattle.smtp_lines.specs.Reader.{asked_after}
-use Rattle.smtp_lines.specs.Runs.{ReadSoFar}
+use Rattle.smtp_lines.specs.inner.Courses.{ReadSoFar}
 use Rattle.smtp_lines.proofs.RunLemmas.{Answering}
 use Rattle.smtp_lines.proofs.stream.read_piece.Given as goal
 

@@ -2,7 +2,7 @@ use Rattle.std.proofs.Common.{◌++◌, List, ℕ, take, sym, ap, subst, ◌∙�
 use Rattle.std.specs.List.{concat}
 use Rattle.std.proofs.lemmas.List.{take_all}
 use Rattle.smtp_lines.specs.Stream.{reading_of}
-use Rattle.smtp_lines.specs.Runs.{ReadSoFar}
+use Rattle.smtp_lines.specs.inner.Courses.{ReadSoFar}
 use Rattle.smtp_lines.proofs.ReadingLemmas.{stands-reading}
 use Rattle.smtp_lines.proofs.RunLemmas.{concat-more}
 use Rattle.smtp_lines.proofs.stream.read_stream.Goals as goal

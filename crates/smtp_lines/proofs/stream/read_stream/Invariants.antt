@@ -1,6 +1,6 @@
 use Rattle.std.proofs.Common.{take}
 use Rattle.std.specs.List.{concat}
-use Rattle.smtp_lines.specs.Runs.{ReadSoFar}
+use Rattle.smtp_lines.specs.inner.Courses.{ReadSoFar}
 use Rattle.smtp_lines.proofs.stream.read_stream.Given as goal
 
 abbrev pub invariant-loop-piece : goal.invariant-loop-piece

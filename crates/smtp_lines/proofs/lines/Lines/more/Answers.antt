@@ -1,7 +1,8 @@
 use Rattle.std.proofs.Common.{◌≡◌, ◌+◌, List, ℕ, drop, ap, sym, subst, ◌∙◌}
 use Rattle.std.proofs.lemmas.List.{take_rest, drop-drop}
 use Rattle.smtp_lines.specs.Views.{under}
-use Rattle.smtp_lines.specs.Reader.{Reader, Stands, Takes, given}
+use Rattle.smtp_lines.specs.Reader.{Reader, Stands, given}
+use Rattle.smtp_lines.specs.inner.Readings.{Takes}
 use Rattle.smtp_lines.proofs.StandLemmas.{stands_given}
 use Rattle.smtp_lines.proofs.lines.Lines.more.Goals as goal
 

@@ -3,7 +3,8 @@ use Rattle.std.proofs.lemmas.Bool.{iff_false}
 use Rattle.std.proofs.lemmas.List.{take_rest, drop_all, append-nil}
 use Rattle.smtp_lines.specs.Stream.{has_end}
 use Rattle.smtp_lines.specs.Views.{under}
-use Rattle.smtp_lines.specs.Reader.{most_kept, IsKept, Under, ReadsOn}
+use Rattle.smtp_lines.specs.Reader.{most_kept, Under}
+use Rattle.smtp_lines.specs.inner.Readings.{IsKept, ReadsOn}
 use Rattle.smtp_lines.proofs.TakeLemmas.{enough_kept, takes_none, takes_some, asked_after-some}
 use Rattle.smtp_lines.proofs.under_way.Begun.take.Goals as goal
 
