@@ -1,12 +1,15 @@
 -- What a search for bytes answers, in std's words.
-use Rattle.std.proofs.Common.{◌≡◌, ℕ, ◌+◌, ◌-◌, ◌<◌, ◌==◌, Bool, true, false, not, ◌||◌, List, [], ◌∷◌, Option, Some, None, length, slice_index, refl, sym, ap, ◌∙◌, arith}
+use Rattle.std.proofs.Common.{◌≡◌, ℕ, ◌+◌, ◌-◌, ◌<◌, ◌==◌, Bool, true, false, not, ◌||◌, ◌&&◌, List, [], ◌∷◌, Option, Some, None, is_some, length, slice_index, refl, sym, ap, ◌∙◌, arith}
 use Rattle.std.specs.Prelude.{unwrap_or}
-use Rattle.std.specs.List.{prefix_len, suffix_len}
+use Rattle.std.specs.List.{list_all, prefix_len, suffix_len}
 use Rattle.std.proofs.lemmas.Bool.{false≢true}
-use Rattle.std.proofs.lemmas.List.Sums.{prefix_len_is, suffix_len_is}
+use Rattle.std.proofs.lemmas.List.Elements.{All-from_get_or}
+use Rattle.std.proofs.lemmas.List.Folds.{list_all_at}
+use Rattle.std.proofs.lemmas.List.Sums.{list_all-from_AllPass, prefix_len_is, suffix_len_is}
 use Rattle.bstr.specs.Find.{IsFirstByte, IsLastByte, is_byte}
 use Rattle.bstr.specs.Bytes.{is_in, not_in}
 use Rattle.mail_base.specs.Texts.{is_blank}
+use Rattle.mail_header.specs.Headers.{is_plain}
 
 -- a byte that the search passes over stays in the run, and one at which it stops doesn't
 kept : (found stays : Bool) → found ≡ not stays → (found ≡ true → ⊥) → stays ≡ true
@@ -44,6 +47,13 @@ module _ (test stays : ℕ → Bool) (turns : (b : ℕ) → test b ≡ not (stay
   pub back_none : IsLastByte test bytes None → suffix_len stays bytes ≡ length bytes
   back_none none = suffix_len_is stays bytes 0 0 (omega arith) (λ j le lt. kept _ _ (turns _) (none j le lt)) (λ some. absurd (omega arith)) ∙ omega arith
 
+  -- none is found exactly where all bytes stay
+  pub all_stay : (r : Option ℕ) (all : Bool) → IsFirstByte test bytes r → is_some r ≡ not all → all ≡ list_all stays bytes
+  all_stay None true none is = sym (list_all-from_AllPass stays bytes (All-from_get_or (λ b. stays b ≡ true) bytes 0 (λ i lt. kept _ _ (turns _) (none i (omega arith) lt))))
+  all_stay None false none is = absurd (false≢true is)
+  all_stay (Some k) true found is = absurd (false≢true (sym is))
+  all_stay (Some k) false found is = sym (list_all_at stays bytes k 0 found.0.high (ended _ _ (turns _) found.1))
+
 pub twice : (b : Bool) → b ≡ not (not b)
 twice true = refl
 twice false = refl
@@ -66,3 +76,13 @@ solid_found b = ap not (blanks_are b)
 
 pub byte_found : (byte b : ℕ) → is_byte byte b ≡ not (not (is_byte byte b))
 byte_found byte b = twice (is_byte byte b)
+
+in_ends : (b c : Bool) → (b || (c || false)) ≡ not (not b && not c)
+in_ends true c = refl
+in_ends false true = refl
+in_ends false false = refl
+
+-- the set of a CR and an LF
+pub ends_are : (b : ℕ) → is_in (13 ∷ 10 ∷ []) b ≡ not (is_plain b)
+unfolding is_in
+ends_are b = in_ends (b == 13) (b == 10)

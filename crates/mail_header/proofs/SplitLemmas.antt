@@ -9,7 +9,8 @@ use Rattle.mail_base.specs.Texts.{crlf}
 use Rattle.mail_header.specs.Headers.{is_continuation, is_some_line, with_end}
 use Rattle.mail_header.specs.Lines.{belongs, block_of, rest_of, goes_on, joined, headers_in, headers_of, without_empty, body_of, size_of}
 use Rattle.mail_header.specs.declared.gathered.Gathered.{Gathered}
-use Rattle.mail_header.specs.Gatherings.{counted, is_above, onto_last, header_added, unless, AddsHeader, KeepsSplit, Gathers}
+use Rattle.mail_header.specs.Gatherings.{counted, is_above, unless, KeepsSplit, Gathers}
+use Rattle.mail_header.specs.inner.Added.{onto_last, header_added, AddsHeader}
 
 -- ---- sizes
 

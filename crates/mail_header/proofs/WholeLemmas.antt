@@ -7,7 +7,7 @@ use Rattle.std.proofs.lemmas.List.Sums.{split_at_first, prefix_len_is}
 use Rattle.bstr.specs.Find.{IsFirstByte, is_byte}
 use Rattle.mail_base.specs.Texts.{crlf}
 use Rattle.mail_header.specs.Headers.{is_plain, is_header, is_continuation, IsFolded, last_fold, one_fold, IsHeaderText, unfolded, folded, AreHeaders, no_headers, one_header, with_end, text_of, is_some_line, IsBody, behind_empty_line, at_once, IsSplit, has_crlf}
-use Rattle.mail_header.specs.Gatherings.{onto_last, header_added}
+use Rattle.mail_header.specs.inner.Added.{onto_last, header_added}
 use Rattle.mail_header.specs.Lines.{belongs}
 use Rattle.mail_header.specs.inner.Wholes.{BeginsLine, NoLine}
 use Rattle.mail_header.proofs.GrammarLemmas.{first_crlf, header_plain, fold_plain, not_both}

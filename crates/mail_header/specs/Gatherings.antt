@@ -1,9 +1,8 @@
 -- What is kept of a message whose lines come one by one.
-use Rattle.std.specs.Prelude.{◌≡◌, ◌≤◌, ℕ, ◌+◌, nat_lt, length, Bool, true, false, List, [], ◌∷◌, ◌++◌, min, if◌then◌else◌}
+use Rattle.std.specs.Prelude.{◌≡◌, ◌≤◌, ℕ, ◌+◌, nat_lt, length, Bool, true, false, List, [], min}
 use Rattle.mail_base.specs.Limits.{most_headers}
-use Rattle.mail_base.specs.Texts.{crlf}
 use Rattle.mail_header.specs.declared.gathered.Gathered.{Gathered}
-use Rattle.mail_header.specs.Headers.{is_continuation, is_some_line, text_of}
+use Rattle.mail_header.specs.Headers.{is_some_line, text_of}
 use Rattle.mail_header.specs.Lines.{headers_of, body_of, block_of, rest_of, size_of}
 
 -- a size that counts no further once it is above its limit
@@ -14,29 +13,10 @@ counted limit size = min size (limit + 1)
 abbrev pub is_above : ℕ → ℕ → Bool
 is_above limit size = nat_lt limit size
 
--- a line put onto the last header, or alone
-abbrev pub onto_last : List ℕ → List (List ℕ) → List (List ℕ)
-onto_last line [] = line ∷ []
-onto_last line (header ∷ []) = (header ++ (crlf ++ line)) ∷ []
-onto_last line (header ∷ next ∷ headers) = header ∷ onto_last line (next ∷ headers)
-
--- the headers with one more line of the header block
-abbrev pub header_added : List ℕ → List (List ℕ) → List (List ℕ)
-header_added line headers = if is_continuation line then onto_last line headers else headers ++ line ∷ []
-
 -- headers, unless they are above their limit
 abbrev pub unless : Bool → List (List ℕ) → List (List ℕ)
 unless true headers = []
 unless false headers = headers
-
--- a line of the header block was added, and the rest stays
-pub record AddsHeader (old new : Gathered) (line : List ℕ) : Type 0 where
-  pub size : new.size ≡ old.size
-  pub block : new.block ≡ counted most_headers (old.block + length line + 2)
-  pub headers : new.headers ≡ unless (is_above most_headers new.block) (header_added line old.headers)
-  pub has_header : new.has_header ≡ true
-  pub body : new.body ≡ old.body
-  pub has_body : new.has_body ≡ old.has_body
 
 -- what is kept is the split of the lines, without headers above their limit
 pub record KeepsSplit (g : Gathered) (lines : List (List ℕ)) : Type 0 where

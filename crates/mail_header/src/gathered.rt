@@ -2,9 +2,11 @@ ghost use Rattle.std.specs.Prelude.{◌≡◌, ◌≤◌, ◌+◌, ◌++◌, ◌
 ghost use Rattle.mail_base.specs.declared.message.Split.{Split};
 ghost use Rattle.mail_base.specs.Limits.{most_message, most_headers};
 ghost use Rattle.mail_header.specs.Headers.{AreLines, IsSplit, text_of, with_end};
-ghost use Rattle.mail_header.specs.Gatherings.{Gathers, KeepsSplit, AddsHeader, IsSmall, counted, header_added, is_above, unless};
+ghost use Rattle.mail_header.specs.Gatherings.{Gathers, KeepsSplit, IsSmall, counted, is_above, unless};
+ghost use Rattle.mail_header.specs.inner.Added.{AddsHeader, header_added};
 
-use crate::grown::{add_header_line, extend_both};
+use crate::body::Body;
+use crate::grown::add_header_line;
 use crate::header_lines::belongs;
 use mail_base::{MOST_HEADERS, NoMemory, Seq, Split, Text};
 use std::alloc::Global;
@@ -19,7 +21,7 @@ pub(crate) struct Gathered {
     pub(crate) headers: Seq<Text>,
     /// Whether there is a header.
     pub(crate) has_header: bool,
-    pub(crate) body: Text,
+    pub(crate) body: Body,
     /// Whether a line after the header block has come.
     pub(crate) has_body: bool,
 }
@@ -34,7 +36,7 @@ impl Gathered {
             block: 0,
             headers: Seq::new(alloc),
             has_header: false,
-            body: Text::new(alloc),
+            body: Body::new(alloc),
             has_body: false,
         }
     }
@@ -62,7 +64,7 @@ impl Gathered {
         ensures { self.new ≡ record self.old { size = size; headers = []; body = [] } }
     {
         self.headers = Seq::new(self.headers.allocator());
-        self.body = Text::new(self.body.allocator());
+        self.body = Body::new(self.headers.allocator());
         self.size = size;
     }
 
@@ -89,7 +91,7 @@ impl Gathered {
             ≡ record self.old { body = self.old.body ++ with_end line.now; has_body = true }) }
         ensures err { OnErr result (self.new ≡ self.old) }
     {
-        extend_both(&mut self.body, line, b"\r\n")?;
+        self.body.add(line)?;
         self.has_body = true;
         Ok(())
     }
@@ -140,7 +142,7 @@ impl Gathered {
     {
         Split {
             headers: self.headers,
-            body: self.body,
+            body: self.body.into_text(),
             block: self.block,
         }
     }

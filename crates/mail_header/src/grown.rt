@@ -1,5 +1,5 @@
 ghost use Rattle.std.specs.Prelude.{◌≡◌, ◌<◌, ◌++◌, ◌∷◌, length, OnOk, OnErr};
-ghost use Rattle.mail_header.specs.Gatherings.{header_added, onto_last};
+ghost use Rattle.mail_header.specs.inner.Added.{header_added, onto_last};
 
 use crate::header_lines::is_continuation;
 use mail_base::{NoMemory, Seq, Text};
@@ -44,7 +44,7 @@ fn lengthen_last(headers: &mut Vec<Text>, line: &[u8]) -> Result<(), NoMemory>
 }
 
 /// Adds two texts at the end. After `NoMemory` it is as before.
-pub(crate) fn extend_both(text: &mut Text, first: &[u8], second: &[u8]) -> Result<(), NoMemory>
+fn extend_both(text: &mut Text, first: &[u8], second: &[u8]) -> Result<(), NoMemory>
     ensures ok { OnOk result (text.new ≡ text.old ++ (first.now ++ second.now)) }
     ensures err { OnErr result (text.new ≡ text.old) }
 {
@@ -54,7 +54,10 @@ pub(crate) fn extend_both(text: &mut Text, first: &[u8], second: &[u8]) -> Resul
     done
 }
 
-fn push_both(bytes: &mut Vec<u8>, first: &[u8], second: &[u8]) -> Result<(), NoMemory>
+/// Adds two texts at the end. It is put in where it is called, so that a known line end costs no
+/// call. After `NoMemory` all is as before.
+#[inline(always)]
+pub(crate) fn push_both(bytes: &mut Vec<u8>, first: &[u8], second: &[u8]) -> Result<(), NoMemory>
     ensures ok { OnOk result (bytes.new.items ≡ bytes.old.items ++ (first.now ++ second.now)) }
     ensures err { OnErr result (bytes.new.items ≡ bytes.old.items) }
 {

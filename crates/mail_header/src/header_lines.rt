@@ -54,11 +54,5 @@ fn is_name_byte(byte: u8) -> bool
 fn is_line(line: &[u8]) -> bool
     ensures { result ≡ list_all spec.is_plain line.now }
 {
-    line.iter().all(|byte| is_plain(*byte))
-}
-
-fn is_plain(byte: u8) -> bool
-    ensures { result ≡ spec.is_plain byte }
-{
-    byte != b'\r' && byte != b'\n'
+    line.find_byteset(b"\r\n").is_none()
 }

@@ -4,6 +4,7 @@
 //! receipt (`specs/Fields.antt`, `specs/Made.antt`).
 #![tactic(auto)]
 
+mod body;
 mod fields;
 mod gathered;
 mod gathering;

@@ -1,6 +1,6 @@
 use Rattle.std.proofs.Common.{◌≡◌, ◌+◌, ◌-◌, take, drop, sym, ap, subst, ◌∙◌, arith}
 use Rattle.std.proofs.lemmas.List.{take_rest}
-use Rattle.mail_header.specs.Gatherings.{header_added}
+use Rattle.mail_header.specs.inner.Added.{header_added}
 use Rattle.mail_header.specs.inner.Wholes.{BeginsLine}
 use Rattle.mail_header.proofs.WholeLemmas.{ReadsHeaders, reads_none, reads_more}
 use Rattle.mail_header.proofs.whole.split_text.Goals as goal

@@ -1,5 +1,6 @@
 use Rattle.std.proofs.Common.{refl, ap, ◌∙◌}
-use Rattle.mail_header.specs.Gatherings.{header_added, unless}
+use Rattle.mail_header.specs.Gatherings.{unless}
+use Rattle.mail_header.specs.inner.Added.{header_added}
 use Rattle.mail_header.proofs.gathered.Gathered.add_header.Goals as goal
 
 pub returns-clause-ok : goal.returns-clause-ok
