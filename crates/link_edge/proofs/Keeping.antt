@@ -9,7 +9,8 @@ use Rattle.link_edge.specs.declared.event.Event.TheVariants.{Opens, Brings, Clos
 use Rattle.link_edge.specs.declared.event.FloorEvent.{FloorEvent}
 use Rattle.link_edge.specs.declared.event.FloorEvent.TheVariants.{Took, Sent, Unsent, HungUp}
 use Rattle.link_edge.specs.Sessions.{open_after, sound_after, open_in, sound_in, is_among, opens}
-use Rattle.link_edge.specs.Tellings.{IsKept, is_quiet, is_opening}
+use Rattle.link_edge.specs.Tellings.{is_opening}
+use Rattle.link_edge.specs.inner.Kept.{IsKept, is_quiet}
 use Rattle.link_edge.proofs.Sessioning.{open_push, sound_push, count_push}
 
 -- the same history and sessions, with room that hasn't shrunk

@@ -9,7 +9,8 @@ use Rattle.link_edge.specs.declared.step.Step.{Step}
 use Rattle.link_edge.specs.declared.step.Step.TheVariants.{Open, Say, Close, Rest}
 use Rattle.link_edge.specs.declared.turn.Turn.{Turn}
 use Rattle.link_edge.specs.declared.turn.Turn.TheVariants.{Stop}
-use Rattle.link_edge.specs.Steps.{IsHeard, later_steps, next_event, rest_at, step_event, step_rest, unsaid, without_said}
+use Rattle.link_edge.specs.Steps.{IsHeard, later_steps, next_event, step_event, step_rest, unsaid, without_said}
+use Rattle.link_edge.specs.inner.Rests.{rest_at}
 
 -- the steps from a place on begin with the step there
 split_here : (steps : List Step) (at : ℕ) (step : Step) → slice_get steps at ≡ Some step → drop at steps ≡ step ∷ drop (at + 1) steps

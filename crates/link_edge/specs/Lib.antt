@@ -5,3 +5,4 @@ pub mod Single
 pub mod Steps
 pub mod Tellings
 pub mod Turns
+pub mod inner

@@ -1,5 +1,5 @@
 -- What the turns of a floor in memory bring of its steps (own).
-use Rattle.std.specs.Prelude.{◌≡◌, ℕ, List, [], ◌∷◌, ◌++◌, length, take, drop, Option, Some, None, Bool, false, not, ◌&&◌, nat_eq, nat_le, nat_lt, count_by, if◌then◌else◌}
+use Rattle.std.specs.Prelude.{◌≡◌, ℕ, List, [], ◌∷◌, ◌++◌, length, take, drop, Some, Bool, false, not, ◌&&◌, nat_eq, nat_le, nat_lt, count_by, if◌then◌else◌}
 use Rattle.std.specs.List.{list_any}
 use Rattle.link_edge.specs.declared.event.Event.TheVariants.{Opens, Brings, Closes, Rests, Stops}
 use Rattle.link_edge.specs.declared.event.FloorEvent.{FloorEvent}
@@ -63,11 +63,6 @@ without_said count Rest = Rest
 abbrev pub unsaid : ℕ → List Step → List Step
 unsaid count [] = []
 unsaid count (step ∷ steps) = without_said count step ∷ steps
-
--- what is left of a step of which so many bytes came, or which is done
-abbrev pub rest_at : Step → Option ℕ → List Step
-rest_at step None = []
-rest_at step (Some count) = without_said count step ∷ []
 
 -- whether a send to that session failed
 abbrev pub is_unsent : ℕ → FloorEvent → Bool

@@ -1,5 +1,6 @@
 ghost use Rattle.std.specs.Prelude.{◌≡◌, ◌≤◌, ◌&&◌, [], length, take, drop, min, not, nat_eq, nat_le, IfOk, OnErr};
-ghost use Rattle.link_edge.specs.Steps.{IsHeard, is_peer, rest_at, step_event, step_rest, without_said};
+ghost use Rattle.link_edge.specs.Steps.{IsHeard, is_peer, step_event, step_rest, without_said};
+ghost use Rattle.link_edge.specs.inner.Rests.{rest_at};
 ghost use Rattle.link_edge.specs.declared.event.Event.TheVariants.{Rests};
 ghost use Rattle.link_edge.specs.declared.event.FloorEvent.TheVariants.{Took};
 ghost use Rattle.link_edge.specs.declared.step.Step.TheVariants.{Open, Say, Close};

@@ -1,6 +1,7 @@
 ghost use Rattle.std.specs.Prelude.{◌≡◌, ◌≤◌, ◌<◌, ◌+◌, ◌++◌, ◌∷◌, [], true, List, ℕ, length, count_by, vec_capacity, IfOk, OnOk, OnErr};
 ghost use Rattle.link_edge.specs.Sessions.{is_open, is_sound, is_among, without, opens};
-ghost use Rattle.link_edge.specs.Tellings.{is_quiet, next_number};
+ghost use Rattle.link_edge.specs.Tellings.{next_number};
+ghost use Rattle.link_edge.specs.inner.Kept.{is_quiet};
 ghost use Rattle.link_edge.specs.declared.event.Event.TheVariants.{Opens, Closes};
 ghost use Rattle.link_edge.specs.declared.event.FloorEvent.TheVariants.{Took, Unsent, HungUp};
 
@@ -22,7 +23,7 @@ pub(crate) struct Telling {
 impl Model for Telling {
     ghost use Rattle.std.specs.Prelude.{List, vec_capacity};
     ghost use Rattle.link_edge.specs.declared.event.FloorEvent.{FloorEvent};
-    ghost use Rattle.link_edge.specs.Tellings.{IsKept};
+    ghost use Rattle.link_edge.specs.inner.Kept.{IsKept};
 
     ghost Value = { List FloorEvent };
 

@@ -2,7 +2,7 @@
 use Rattle.std.proofs.Common.{◌≡◌, ◌∙◌, Some, None, sym, ap, arith, slice_get, length}
 use Rattle.std.specs.Prelude.{option_copied}
 use Rattle.std.proofs.lemmas.Option.{slice_get_within}
-use Rattle.link_edge.specs.Steps.{rest_at}
+use Rattle.link_edge.specs.inner.Rests.{rest_at}
 use Rattle.link_edge.proofs.Stepping.{stop_here, none_later, heard_here, later_same, later_next}
 use Rattle.link_edge.proofs.script_floor.ScriptFloor.next.Goals as goal
 
