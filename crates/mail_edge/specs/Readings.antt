@@ -8,4 +8,5 @@ reading_at start step number = min (start + step * number) (2 ^ 64 - 1)
 -- the first readings, so many of them
 abbrev pub readings_of : ℕ → ℕ → ℕ → List ℕ
 readings_of start step zero = []
-readings_of start step (suc number) = readings_of start step number ++ reading_at start step number ∷ []
+readings_of start step (suc number) =
+    readings_of start step number ++ reading_at start step number ∷ []

@@ -7,8 +7,8 @@ pub trait Clock {
     /// All that is seen of it.
     ghost seen: { Self → ClockSeen };
 
-    /// The moment, in seconds since 1970. It can't fail and takes no memory. A reading is told as it was
-    /// given; what one counts as that is too late for a date is for the reader to say.
+    /// The moment, in seconds since 1970. It can't fail and takes no memory. A reading is told as
+    /// it was given; what one counts as that is too late for a date is for the reader to say.
     fn now(&mut self) -> u64
         requires { (seen self.old).readings < 2 ^ 64 - 1 }
         ensures told { Gains (seen self.old).told (seen self.new).told (result ∷ []) }

@@ -1,5 +1,5 @@
-//! The outside of the program: sources and sinks of bytes, files and a clock. Each counts its faults
-//! or readings and may tell its content, as the forms in memory do.
+//! The outside of the program: sources and sinks of bytes, files and a clock. Each counts its
+//! faults or readings and may tell its content, as the forms in memory do.
 #![tactic(auto)]
 
 mod clock;

@@ -9,8 +9,8 @@ use mail_base::{EdgeFault, NoMemory, Script, Seq, Text};
 use std::alloc::Global;
 use std::marker::Model;
 
-/// Files in memory, each with its name and its text. They never fail, and their count of faults is 0.
-/// A contract sees the list of the names and texts.
+/// Files in memory, each with its name and its text. They never fail, and their count of faults is
+/// 0. A contract sees the list of the names and texts.
 #[derive(Drop)]
 pub struct SureFiles {
     files: Seq<(Text, Text)>,
@@ -29,8 +29,8 @@ impl Model for SureFiles {
 }
 
 impl SureFiles {
-    /// Files of these names and texts, of which the first of each name counts. `None` exactly where a
-    /// text is longer than `LARGEST_FILE`. It takes no memory.
+    /// Files of these names and texts, of which the first of each name counts. `None` exactly where
+    /// a text is longer than `LARGEST_FILE`. It takes no memory.
     pub fn new(files: Seq<(Text, Text)>) -> Option<SureFiles>
         ensures made { IfSome result (λ made. made ≡ files) }
         ensures exactly { IsSome result ↔ All (λ file. length file.1 ≤ LARGEST_FILE) files }

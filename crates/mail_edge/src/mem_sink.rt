@@ -40,11 +40,16 @@ impl Sink for MemSink {
 
     fn give(&mut self, bytes: &[u8]) -> Result<(), Failed>
         ensures listed { is_listed self.old.script ≡ true → IsErr result }
-        ensures unlisted { OnErr result (is_listed self.old.script ≡ false → vec_capacity self.old.written < length self.old.written.items + length bytes.now) }
+        ensures unlisted { OnErr result
+            (is_listed self.old.script ≡ false
+            → vec_capacity self.old.written
+            < length self.old.written.items + length bytes.now) }
         ensures counted { self.new.script ≡ after_call self.old.script (is_err result) }
-        ensures written { OnOk result (self.new.written.items ≡ self.old.written.items ++ bytes.now) }
+        ensures written { OnOk result
+            (self.new.written.items ≡ self.old.written.items ++ bytes.now) }
         ensures kept { OnErr result (self.new.written.items ≡ self.old.written.items) }
-        ensures part { OnErr result (GainsPart (Some self.old.written.items) (Some self.new.written.items) bytes.now) }
+        ensures part { OnErr result
+            (GainsPart (Some self.old.written.items) (Some self.new.written.items) bytes.now) }
         ensures cause { HasCause self.old.script.faults self.new.script.faults result }
         ensures calm { OnOk result (self.new.script.faults ≡ self.old.script.faults) }
     {

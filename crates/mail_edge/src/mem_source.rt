@@ -55,7 +55,8 @@ pub struct MemSource {
 }
 
 impl MemSource {
-    /// A source of these bytes, and which of its calls, counted from 0, are to fail. It takes no memory.
+    /// A source of these bytes, and which of its calls, counted from 0, are to fail. It takes no
+    /// memory.
     pub fn new(bytes: Text, failing: Seq<u64>) -> MemSource
         ensures left { result.source ≡ bytes }
         ensures script { result.script ≡ record { failing = failing; calls = 0; faults = 0 } }
@@ -74,9 +75,11 @@ impl Source for MemSource {
         requires { 0 < length buf.old }
         ensures fails { is_err result ≡ is_listed self.old.script }
         ensures counted { self.new.script ≡ after_call self.old.script (is_err result) }
-        ensures answer { IfOk result (λ count. count ≡ min (length self.old.source) (length buf.old)) }
+        ensures answer { IfOk result
+            (λ count. count ≡ min (length self.old.source) (length buf.old)) }
         ensures bound { IfOk result (λ count. count ≤ length buf.new) }
-        ensures taken { IfOk result (λ count. self.old.source ≡ take count buf.new ++ self.new.source) }
+        ensures taken { IfOk result
+            (λ count. self.old.source ≡ take count buf.new ++ self.new.source) }
         ensures end { IfOk result (λ count. (count ≡ 0) ↔ (self.old.source ≡ [])) }
         ensures kept { OnErr result (self.new.source ≡ self.old.source) }
         ensures cause { HasCause self.old.script.faults self.new.script.faults result }
