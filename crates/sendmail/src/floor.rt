@@ -1,4 +1,5 @@
-// The program's floor: standard input and output, or a port. It tells nothing but how it was begun and its counts.
+// The program's floor: standard input and output, or a port. It tells nothing but how it was begun
+// and its counts.
 ghost use Rattle.std.specs.Prelude.{◌≡◌, ◌≤◌, IfOk, None, length};
 ghost use Rattle.link_edge.specs.Turns.{Fits};
 

@@ -9,9 +9,10 @@ use mail_edge::{MemFiles, SureFiles};
 use std::alloc::Global;
 use std::test::Fail;
 
-/// A configuration, a question, and its answer. Questions are `$x`, a macro; `=x`, a class, and `~x`, the length of its first member; `O`, `o` and `T`, the
-/// options by kind; `Mx`, a mailer; `Qx`, a group; `K`, `H`, `P` and `S`, all maps, headers, precedences and rulesets; `Rx`, the rules of a ruleset; `W`, the
-/// warnings. A refused configuration has one answer to all.
+/// A configuration, a question, and its answer. Questions are `$x`, a macro; `=x`, a class, and
+/// `~x`, the length of its first member; `O`, `o` and `T`, the options by kind; `Mx`, a mailer;
+/// `Qx`, a group; `K`, `H`, `P` and `S`, all maps, headers, precedences and rulesets; `Rx`, the
+/// rules of a ruleset; `W`, the warnings. A refused configuration has one answer to all.
 pub(crate) type Row = (&'static [u8], &'static str, &'static [u8]);
 
 /// The files that each configuration finds.
@@ -156,7 +157,8 @@ fn put_read(out: &mut Text, text: &Text, files: &mut MemFiles, question: &str) -
     }
 }
 
-/// What is answered of the configuration that is read of a text, with these calls of the files failing.
+/// What is answered of the configuration that is read of a text, with these calls of the files
+/// failing.
 pub(crate) fn answer(
     alloc: Global,
     text: &[u8],

@@ -1,4 +1,5 @@
-// Each fault of a line, each pair of neighbours in their order, and which of several lines is refused.
+// Each fault of a line, each pair of neighbours in their order, and which of several lines is
+// refused.
 use crate::asking::{Row, answer, wrong};
 use std::test::Fail;
 

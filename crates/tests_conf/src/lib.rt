@@ -1,5 +1,5 @@
-//! Tests of the reader of configurations, as tables of configurations and what is read of them. They stand apart
-//! from the library, which a check would else prove twice.
+//! Tests of the reader of configurations, as tables of configurations and what is read of them.
+//! They stand apart from the library, which a check would else prove twice.
 #![tactic(auto)]
 
 #[cfg(test)]

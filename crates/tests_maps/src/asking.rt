@@ -4,8 +4,8 @@ use map_tables::{Found, MapFault, Maps, Named};
 use std::alloc::Global;
 use std::test::Fail;
 
-/// A K line: its name, its class and members, its flags `f`, `m` and `o`, its tag, its columns and separator,
-/// and its file.
+/// A K line: its name, its class and members, its flags `f`, `m` and `o`, its tag, its columns and
+/// separator, and its file.
 pub(crate) type Line = (
     &'static str,
     &'static str,

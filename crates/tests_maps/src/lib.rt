@@ -1,4 +1,5 @@
-//! Tests of maps, as tables. They stand apart from the library, which a check would else prove twice.
+//! Tests of maps, as tables. They stand apart from the library, which a check would else prove
+//! twice.
 #![tactic(auto)]
 
 #[cfg(test)]

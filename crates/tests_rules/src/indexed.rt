@@ -5,8 +5,8 @@ use mail_base::{Go, NoMemory, RuleSet, Seq, Token, TryCopy};
 use rule_index::next;
 use std::alloc::Global;
 
-// Rules by number. Their anchors are the words a, b and A and, where no word stands, the first token;
-// `*` has none, and one with a `$&x` has none either.
+// Rules by number. Their anchors are the words a, b and A and, where no word stands, the first
+// token; `*` has none, and one with a `$&x` has none either.
 const RULES: &[Line] = &[
     ("a*", Go::Next, ""),
     ("*", Go::Next, ""),
@@ -143,8 +143,8 @@ fn grow(alloc: Global, set: &mut RuleSet) -> Result<(), Broken> {
 // In the set with two rules more.
 const GROWN: &[Candidate] = &[(5, "b", Some(7)), (5, "x", Some(8)), (8, "b", Some(8))];
 
-/// What is wrong of a set: a candidate, a walk, whether its copy keeps the rules, how many it has once it
-/// has grown, and a candidate then.
+/// What is wrong of a set: a candidate, a walk, whether its copy keeps the rules, how many it has
+/// once it has grown, and a candidate then.
 type Wrong = (Option<usize>, Option<usize>, bool, u32, Option<usize>);
 
 fn wrong_of(alloc: Global, set: &mut RuleSet) -> Result<Wrong, Broken> {

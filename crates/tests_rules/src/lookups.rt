@@ -98,7 +98,8 @@ const LOOK_UPS: &[Case] = &[
 ];
 
 const CALLS: &[Case] = &[
-    // Calls, from the right to the left; a name may be quoted, and each call takes all that follows.
+    // Calls, from the right to the left; a name may be quoted, and each call takes all that
+    // follows.
     (
         &[
             ("s", Lines(&[("*", Go::Return, ".>t1>u!")])),
@@ -188,8 +189,8 @@ const FAULTS: &[Case] = &[
             ("s", Signs("b"), End::BadScan),
         ],
     ),
-    // A `$&y` of the right side that can't be cut comes before each look-up, also where the default in which it stands isn't
-    // used, and look-ups come from the left to the right.
+    // A `$&y` of the right side that can't be cut comes before each look-up, also where the default
+    // in which it stands isn't used, and look-ups come from the left to the right.
     (
         &[
             ("s", Lines(&[("*", Go::Return, "{z1}%")])),

@@ -2,8 +2,8 @@ use cf_macros::{ExpandFault, Form, date, expand, expand_rule};
 use mail_base::{Macros, NoMemory, Text};
 use std::alloc::Global;
 
-// Eleven macros a to k, each of which names the next, ten o to y of which each names the next ten times,
-// and others.
+// Eleven macros a to k, each of which names the next, ten o to y of which each names the next ten
+// times, and others.
 const SETTINGS: &[(&str, &str)] = &[
     ("a", "$b"),
     ("b", "$c"),
@@ -212,8 +212,8 @@ const BOMBS: &[Case] = &[
     ("$?ox$.", Err(ExpandFault::Large)),
 ];
 
-/// A conditional; values by the first construct, what is refused in reading order, a macro bomb at its
-/// limit; sides, which keep their late macros and dollars, and what is refused of them.
+/// A conditional; values by the first construct, what is refused in reading order, a macro bomb at
+/// its limit; sides, which keep their late macros and dollars, and what is refused of them.
 const TABLES: &[Table] = &[
     (Call::Expand, None, WITHOUT),
     (Call::Expand, Some("1"), WITH),
@@ -232,7 +232,8 @@ fn texts_and_sides_by_the_first_construct(rt: HostRuntime) -> Result<(), NoMemor
     Ok(())
 }
 
-/// A text as its front, what stands so many times behind it, and its end, and how long is what it gives.
+/// A text as its front, what stands so many times behind it, and its end, and how long is what it
+/// gives.
 type Long = (
     &'static str,
     &'static str,
@@ -288,8 +289,8 @@ fn ten_thousand_references_and_a_mebibyte(rt: HostRuntime) -> Result<(), NoMemor
 /// A moment and its forms Mail, Unix and Short.
 type DateRow = (u64, &'static str, &'static str, &'static str);
 
-// Moments and their forms Mail, Unix and Short, as GNU date prints them by `date -u -d @MOMENT` with
-// `+%a, %-d %b %Y %H:%M:%S +0000`, `+%a %b %e %H:%M:%S %Y` and `+%Y%m%d%H%M`.
+// Moments and their forms Mail, Unix and Short, as GNU date prints them by `date -u -d @MOMENT`
+// with `+%a, %-d %b %Y %H:%M:%S +0000`, `+%a %b %e %H:%M:%S %Y` and `+%Y%m%d%H%M`.
 const MOMENTS: &[DateRow] = &[
     (
         0,

@@ -4,7 +4,7 @@ use mail_base::{Classes, Pattern, Seq, Token};
 use rule_match::{Cuts, find, find_by_trial, lists_wanted};
 use std::alloc::Global;
 
-// Where the part of each item begins, and how long it is.
+/// Where the part of each item begins, and how long it is.
 pub type Pairs = &'static [(usize, usize)];
 
 fn are_pairs(cuts: &Cuts, pairs: Pairs) -> bool {
@@ -24,7 +24,7 @@ fn is_wanted(found: &Option<Cuts>, wanted: Option<Pairs>) -> bool {
     }
 }
 
-// Whether the search and the trial of all lengths both take these cuts, or both none.
+/// Whether the search and the trial of all lengths both take these cuts, or both none.
 pub fn is_taken(
     pattern: &Pattern,
     tokens: &Seq<Token>,
@@ -88,8 +88,8 @@ fn takes_the_least_match(rt: HostRuntime) -> Result<(), Broken> {
     Ok(())
 }
 
-// Whether ten `$*` are seen to match no list of a's, which the trial of all lengths would not be done with
-// in years.
+// Whether ten `$*` are seen to match no list of a's, which the trial of all lengths would not be
+// done with in years.
 fn is_refused(alloc: Global, left: &str) -> Result<bool, Broken> {
     let pattern = pattern_of(alloc, left)?;
     let tokens = repeated(alloc, b'a', 200)?;

@@ -1,5 +1,5 @@
-// Matches of left sides with classes, `$@` and `$&x`. Items and tokens are written with a blank between two
-// of them, and items as in a configuration.
+// Matches of left sides with classes, `$@` and `$&x`. Items and tokens are written with a blank
+// between two of them, and items as in a configuration.
 use crate::matches::{Pairs, is_taken};
 use crate::signs::Broken;
 use mail_base::{Classes, Item, Member, NoMemory, Pattern, Seq, Text, Token};

@@ -53,7 +53,8 @@ fn widen(steps: &mut Seq<Step>) -> Result<(), NoMemory> {
     Ok(())
 }
 
-// A hundred applications take away what the 101st puts back, 99 times over; then as many more as asked.
+// A hundred applications take away what the 101st puts back, 99 times over; then as many more as
+// asked.
 fn add_rounds(rules: &mut Seq<Rule>, more: usize) -> Result<(), Broken> {
     for _ in 0..99 {
         add_lines(rules, &[SHORTER])?;
@@ -74,7 +75,7 @@ fn add(alloc: Global, book: &mut Book, name: &str, made: Rules) -> Result<(), Br
     Ok(book.push(set_of(name, &rules)?)?)
 }
 
-// Rulesets by their names.
+/// Rulesets by their names.
 pub type Sets<'a> = &'a [(&'static str, Rules)];
 
 fn add_sets(alloc: Global, config: &mut Config, sets: Sets) -> Result<(), Broken> {

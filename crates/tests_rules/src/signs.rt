@@ -17,8 +17,8 @@ impl From<NoMemory> for Broken {
     }
 }
 
-// A token is written as one byte: `.`, `:` and `@` are operators, `#` is `$#`, `"` is a Quoted token that is
-// `q`, and `'` one that is `"q"`.
+// A token is written as one byte: `.`, `:` and `@` are operators, `#` is `$#`, `"` is a Quoted
+// token that is `q`, and `'` one that is `"q"`.
 fn token_of(alloc: Global, sign: u8) -> Result<Token, NoMemory> {
     match sign {
         b'.' | b':' | b'@' => Ok(Token::Op(sign)),
@@ -37,7 +37,7 @@ pub fn tokens_of(alloc: Global, signs: &str) -> Result<Seq<Token>, NoMemory> {
     Ok(tokens)
 }
 
-// So many tokens of one sign.
+/// So many tokens of one sign.
 pub fn repeated(alloc: Global, sign: u8, count: usize) -> Result<Seq<Token>, NoMemory> {
     let mut tokens = Seq::new(alloc);
     for _ in 0..count {
@@ -46,8 +46,8 @@ pub fn repeated(alloc: Global, sign: u8, count: usize) -> Result<Seq<Token>, NoM
     Ok(tokens)
 }
 
-// Whether a token is the one that is written so. Tokens are equal without case: here their texts are to
-// be the same.
+// Whether a token is the one that is written so. Tokens are equal without case: here their texts
+// are to be the same.
 fn is_written(token: &Token, sign: u8) -> bool {
     match token {
         Token::Op(byte) => *byte == sign && matches!(sign, b'.' | b':' | b'@'),
@@ -77,8 +77,8 @@ pub fn are_all(tokens: &[Token], sign: u8, count: usize) -> bool {
     tokens.len() == count
 }
 
-// An item is written as a token, or as `*`, `+` or `-` for the one with `$` in front; `&` is a `$&x`, `%` a
-// `$&y`, `=` a `$=c` and `~` a `$~c`.
+// An item is written as a token, or as `*`, `+` or `-` for the one with `$` in front; `&` is a
+// `$&x`, `%` a `$&y`, `=` a `$=c` and `~` a `$~c`.
 fn item_of(alloc: Global, sign: u8) -> Result<Item, NoMemory> {
     match sign {
         b'*' => Ok(Item::Any),
@@ -104,7 +104,8 @@ pub fn pattern_of(alloc: Global, signs: &str) -> Result<Pattern, Broken> {
     Pattern::of(items_of(alloc, signs)?).ok_or(Broken::ManySigns)
 }
 
-// A piece is written as a token, as the digit of a `$1` to `$3`, or as `&` or `%` for a `$&x` or `$&y`.
+// A piece is written as a token, as the digit of a `$1` to `$3`, or as `&` or `%` for a `$&x` or
+// `$&y`.
 fn piece_of(alloc: Global, sign: u8) -> Result<Piece, NoMemory> {
     match sign {
         b'1' => Ok(Piece::Cut(1)),
@@ -141,8 +142,8 @@ struct Parts {
     fallback: Option<Seq<Piece>>,
 }
 
-// A part of a look-up has a mark in front: `-` an argument, `|` the default, and any other the key, of
-// whose map it is the name.
+// A part of a look-up has a mark in front: `-` an argument, `|` the default, and any other the key,
+// of whose map it is the name.
 fn add_part(parts: &mut Parts, signs: &[u8]) -> Result<(), NoMemory> {
     let alloc = parts.args.allocator();
     let Some((mark, rest)) = signs.split_first() else {
