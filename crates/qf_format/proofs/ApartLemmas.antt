@@ -67,6 +67,7 @@ module _ {X : Type 0} (s : X → List ℕ) (v : X → Type 0) (g f : List ℕ �
   not_both : (x : X) (xs : List X) (z r : List ℕ) → f r → flat_map s (x ∷ xs) ++ z ≡ r → ⊥
   not_both x xs z r m e = ends r m (subst (At letter) (sym (more_parts x xs z) ∙ e) (begins x (flat_map s xs ++ z)))
 
+  -- lists of items are told apart by their spellings, as items are
   pub list_apart : Apart (flat_map s) (All v) f
   list_apart [] [] r q h k m n e = (refl, e)
   list_apart [] (y ∷ ys) r q h k m n e = absurd (not_both y ys q r m (sym e))

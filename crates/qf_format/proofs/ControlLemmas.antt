@@ -177,28 +177,29 @@ lift1 : (bytes : List ℕ) (e : Stop) → Stops t1 w1 n1 bytes e → Stops contr
 lift1 bytes e h = lift2 bytes e (stop_first t1 w1 n1 s2 v2 n2 on2 bytes e h)
 
 -- where no place can be read, no control can
-pub stop1 : (bytes : List ℕ) (e : Stop) → Stops s1 v1 n1 bytes e → Stops control_front IsValid n6 bytes e
-stop1 = lift1
+pub stop-place : (bytes : List ℕ) (e : Stop) → Stops s1 v1 n1 bytes e → Stops control_front IsValid n6 bytes e
+stop-place = lift1
 
 -- where no order can be read behind the place, no control can
-pub stop2 : (bytes r1 : List ℕ) (x1 : Place) → Front s1 v1 n1 bytes x1 r1 → (e : Stop) → Stops s2 v2 n2 r1 e → Stops control_front IsValid n6 bytes e
-stop2 bytes r1 x1 h1 e n = lift2 bytes e (stop_second t1 w1 n1 s2 v2 n2 on2 bytes x1 r1 h1 e n)
+pub stop-order : (bytes r1 : List ℕ) (x1 : Place) → Front s1 v1 n1 bytes x1 r1 → (e : Stop) → Stops s2 v2 n2 r1 e → Stops control_front IsValid n6 bytes e
+stop-order bytes r1 x1 h1 e n = lift2 bytes e (stop_second t1 w1 n1 s2 v2 n2 on2 bytes x1 r1 h1 e n)
 
 -- where no envelope can be read behind the order, no control can
-pub stop3 : (bytes r1 r2 : List ℕ) (x1 : Place) (x2 : Order) → Front s1 v1 n1 bytes x1 r1 → Front s2 v2 n2 r1 x2 r2 → (e : Stop) → Stops s3 v3 n3 r2 e → Stops control_front IsValid n6 bytes e
-stop3 bytes r1 r2 x1 x2 h1 h2 e n = lift3 bytes e (stop_second t2 w2 n2 s3 v3 n3 on3 bytes (x1, x2) r2 (so_far2 bytes r1 r2 x1 x2 h1 h2) e n)
+pub stop-envelope : (bytes r1 r2 : List ℕ) (x1 : Place) (x2 : Order) → Front s1 v1 n1 bytes x1 r1 → Front s2 v2 n2 r1 x2 r2 → (e : Stop) → Stops s3 v3 n3 r2 e → Stops control_front IsValid n6 bytes e
+stop-envelope bytes r1 r2 x1 x2 h1 h2 e n = lift3 bytes e (stop_second t2 w2 n2 s3 v3 n3 on3 bytes (x1, x2) r2 (so_far2 bytes r1 r2 x1 x2 h1 h2) e n)
 
 -- where what is kept can't be read behind the envelope, no control can
-pub stop4 : (bytes r1 r2 r3 : List ℕ) (x1 : Place) (x2 : Order) (x3 : Envelope) → Front s1 v1 n1 bytes x1 r1 → Front s2 v2 n2 r1 x2 r2 → Front s3 v3 n3 r2 x3 r3 → (e : Stop) → Stops s4 v4 n4 r3 e → Stops control_front IsValid n6 bytes e
-stop4 bytes r1 r2 r3 x1 x2 x3 h1 h2 h3 e n = lift4 bytes e (stop_second t3 w3 n3 s4 v4 n4 on4 bytes ((x1, x2), x3) r3 (so_far3 bytes r1 r2 r3 x1 x2 x3 h1 h2 h3) e n)
+pub stop-kept : (bytes r1 r2 r3 : List ℕ) (x1 : Place) (x2 : Order) (x3 : Envelope) → Front s1 v1 n1 bytes x1 r1 → Front s2 v2 n2 r1 x2 r2 → Front s3 v3 n3 r2 x3 r3 → (e : Stop) → Stops s4 v4 n4 r3 e → Stops control_front IsValid n6 bytes e
+stop-kept bytes r1 r2 r3 x1 x2 x3 h1 h2 h3 e n = lift4 bytes e (stop_second t3 w3 n3 s4 v4 n4 on4 bytes ((x1, x2), x3) r3 (so_far3 bytes r1 r2 r3 x1 x2 x3 h1 h2 h3) e n)
 
 -- where no rows can be read behind what is kept, no control can
-pub stop5 : (bytes r1 r2 r3 r4 : List ℕ) (x1 : Place) (x2 : Order) (x3 : Envelope) (x4 : Kept) → Front s1 v1 n1 bytes x1 r1 → Front s2 v2 n2 r1 x2 r2 → Front s3 v3 n3 r2 x3 r3 → Front s4 v4 n4 r3 x4 r4 → (e : Stop) → Stops s5 v5 n5 r4 e → Stops control_front IsValid n6 bytes e
-stop5 bytes r1 r2 r3 r4 x1 x2 x3 x4 h1 h2 h3 h4 e n = lift5 bytes e (stop_second t4 w4 n4 s5 v5 n5 on5 bytes (((x1, x2), x3), x4) r4 (so_far4 bytes r1 r2 r3 r4 x1 x2 x3 x4 h1 h2 h3 h4) e n)
+pub stop-rows : (bytes r1 r2 r3 r4 : List ℕ) (x1 : Place) (x2 : Order) (x3 : Envelope) (x4 : Kept) → Front s1 v1 n1 bytes x1 r1 → Front s2 v2 n2 r1 x2 r2 → Front s3 v3 n3 r2 x3 r3 → Front s4 v4 n4 r3 x4 r4 → (e : Stop) → Stops s5 v5 n5 r4 e → Stops control_front IsValid n6 bytes e
+stop-rows bytes r1 r2 r3 r4 x1 x2 x3 x4 h1 h2 h3 h4 e n = lift5 bytes e (stop_second t4 w4 n4 s5 v5 n5 on5 bytes (((x1, x2), x3), x4) r4 (so_far4 bytes r1 r2 r3 r4 x1 x2 x3 x4 h1 h2 h3 h4) e n)
 
 -- where no headers can be read behind the rows, no control can
-pub stop6 : (bytes r1 r2 r3 r4 r5 : List ℕ) (x1 : Place) (x2 : Order) (x3 : Envelope) (x4 : Kept) (x5 : List Row) → Front s1 v1 n1 bytes x1 r1 → Front s2 v2 n2 r1 x2 r2 → Front s3 v3 n3 r2 x3 r3 → Front s4 v4 n4 r3 x4 r4 → Front s5 v5 n5 r4 x5 r5 → (e : Stop) → Stops s6 v6 n6 r5 e → Stops control_front IsValid n6 bytes e
-stop6 bytes r1 r2 r3 r4 r5 x1 x2 x3 x4 x5 h1 h2 h3 h4 h5 e n = lift6 bytes e (stop_second t5 w5 n5 s6 v6 n6 on6 bytes ((((x1, x2), x3), x4), x5) r5 (so_far5 bytes r1 r2 r3 r4 r5 x1 x2 x3 x4 x5 h1 h2 h3 h4 h5) e n)
+pub stop-headers : (bytes r1 r2 r3 r4 r5 : List ℕ) (x1 : Place) (x2 : Order) (x3 : Envelope) (x4 : Kept) (x5 : List Row) → Front s1 v1 n1 bytes x1 r1 → Front s2 v2 n2 r1 x2 r2 → Front s3 v3 n3 r2 x3 r3 → Front s4 v4 n4 r3 x4 r4 → Front s5 v5 n5 r4 x5 r5 → (e : Stop) → Stops s6 v6 n6 r5 e → Stops control_front IsValid n6 bytes e
+stop-headers bytes r1 r2 r3 r4 r5 x1 x2 x3 x4 x5 h1 h2 h3 h4 h5 e n = lift6 bytes e (stop_second t5 w5 n5 s6 v6 n6 on6 bytes ((((x1, x2), x3), x4), x5) r5 (so_far5 bytes r1 r2 r3 r4 r5 x1 x2 x3 x4 x5 h1 h2 h3 h4 h5) e n)
 
+-- controls are told apart by their texts, if their six parts are
 pub apart_all : Apart s1 v1 n1 → Apart s2 v2 n2 → Apart s3 v3 n3 → Apart s4 v4 n4 → Apart s5 v5 n5 → Apart s6 v6 n6 → Apart control_front IsValid n6
 apart_all a1 a2 a3 a4 a5 a6 = apart_as t6 w6 control_front IsValid made parted n6 retold (apart_then t5 w5 n5 s6 v6 n6 on6 (apart_then t4 w4 n4 s5 v5 n5 on5 (apart_then t3 w3 n3 s4 v4 n4 on4 (apart_then t2 w2 n2 s3 v3 n3 on3 (apart_then t1 w1 n1 s2 v2 n2 on2 a1 a2) a3) a4) a5) a6)

@@ -99,16 +99,17 @@ lift1 : (bytes : List ℕ) (e : Stop) → Stops t1 w1 n1 bytes e → Stops kept_
 lift1 bytes e h = lift2 bytes e (stop_first t1 w1 n1 s2 v2 n2 on2 bytes e h)
 
 -- where the protocol's line can't be read, neither can what is kept
-pub stop1 : (bytes : List ℕ) (e : Stop) → Stops s1 v1 n1 bytes e → Stops kept_lines AreKept n3 bytes e
-stop1 = lift1
+pub stop-protocol : (bytes : List ℕ) (e : Stop) → Stops s1 v1 n1 bytes e → Stops kept_lines AreKept n3 bytes e
+stop-protocol = lift1
 
 -- where the line of HELO can't be read behind the protocol's, neither can what is kept
-pub stop2 : (bytes r1 : List ℕ) (x1 : List ℕ) → Front s1 v1 n1 bytes x1 r1 → (e : Stop) → Stops s2 v2 n2 r1 e → Stops kept_lines AreKept n3 bytes e
-stop2 bytes r1 x1 h1 e n = lift2 bytes e (stop_second t1 w1 n1 s2 v2 n2 on2 bytes x1 r1 h1 e n)
+pub stop-helo : (bytes r1 : List ℕ) (x1 : List ℕ) → Front s1 v1 n1 bytes x1 r1 → (e : Stop) → Stops s2 v2 n2 r1 e → Stops kept_lines AreKept n3 bytes e
+stop-helo bytes r1 x1 h1 e n = lift2 bytes e (stop_second t1 w1 n1 s2 v2 n2 on2 bytes x1 r1 h1 e n)
 
 -- where the client's line can't be read behind that of HELO, neither can what is kept
-pub stop3 : (bytes r1 r2 : List ℕ) (x1 : List ℕ) (x2 : List ℕ) → Front s1 v1 n1 bytes x1 r1 → Front s2 v2 n2 r1 x2 r2 → (e : Stop) → Stops s3 v3 n3 r2 e → Stops kept_lines AreKept n3 bytes e
-stop3 bytes r1 r2 x1 x2 h1 h2 e n = lift3 bytes e (stop_second t2 w2 n2 s3 v3 n3 on3 bytes (x1, x2) r2 (so_far2 bytes r1 r2 x1 x2 h1 h2) e n)
+pub stop-client : (bytes r1 r2 : List ℕ) (x1 : List ℕ) (x2 : List ℕ) → Front s1 v1 n1 bytes x1 r1 → Front s2 v2 n2 r1 x2 r2 → (e : Stop) → Stops s3 v3 n3 r2 e → Stops kept_lines AreKept n3 bytes e
+stop-client bytes r1 r2 x1 x2 h1 h2 e n = lift3 bytes e (stop_second t2 w2 n2 s3 v3 n3 on3 bytes (x1, x2) r2 (so_far2 bytes r1 r2 x1 x2 h1 h2) e n)
 
+-- what is kept is told apart by its lines, as each of the three is
 pub apart_all : Apart s1 v1 n1 → Apart s2 v2 n2 → Apart s3 v3 n3 → Apart kept_lines AreKept n3
 apart_all a1 a2 a3 = apart_as t3 w3 kept_lines AreKept made parted n3 retold (apart_then t2 w2 n2 s3 v3 n3 on3 (apart_then t1 w1 n1 s2 v2 n2 on2 a1 a2) a3)

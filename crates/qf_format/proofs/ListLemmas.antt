@@ -18,6 +18,7 @@ pub record ReadSoFar {X : Type 0} (s : X → List ℕ) (v : X → Type 0) (f : L
   pub only : (ys : List X) (z : List ℕ) → All v ys → f z → bytes ≡ flat_map s ys ++ z → (zs : List X) × (ys ≡ xs ++ zs) × All v zs × (rest ≡ flat_map s zs ++ z)
 
 module _ {X : Type 0} (s : X → List ℕ) (v : X → Type 0) (g f : List ℕ → Type 0) (letter : ℕ) (begins : (x : X) (z : List ℕ) → At letter (s x ++ z)) (ends : (z : List ℕ) → f z → NotAt letter z) (goes_on : (xs : List X) (z : List ℕ) → f z → g (flat_map s xs ++ z)) (bytes : List ℕ) where
+  -- before any item was read, none was, and all bytes are the rest
   pub none_so_far : ReadSoFar s v f bytes [] bytes
   none_so_far = record { is_formed = All-nil v; parts = refl; only = λ ys z h k e. (ys, refl, h, e) }
 
@@ -33,6 +34,7 @@ module _ {X : Type 0} (s : X → List ℕ) (v : X → Type 0) (g f : List ℕ �
       let o = a.only y (flat_map s us ++ z) (All-head v y us h) (goes_on us z k) (e ∙ cons_parts y us z) in
       (us, ap (λ (w : X). w ∷ us) o.0, All-tail v y us h, sym o.1)
 
+  -- one item more was read, and what stands behind it is the rest
   pub one_more : (xs : List X) (rest : List ℕ) (x : X) (after : List ℕ) → ReadSoFar s v f bytes xs rest → Front s v g rest x after → ReadSoFar s v f bytes (xs ++ x ∷ []) after
   one_more xs rest x after r a = record {
     is_formed = All-push v xs x r.is_formed a.is_formed;
@@ -47,6 +49,7 @@ module _ {X : Type 0} (s : X → List ℕ) (v : X → Type 0) (g f : List ℕ �
   done_only rest h [] z e = (refl, sym e)
   done_only rest h (y ∷ us) z e = absurd (h (subst (At letter) (sym (e ∙ cons_parts y us z)) (begins y (flat_map s us ++ z))))
 
+  -- where the items' letter doesn't follow, those so far are all of them
   pub all_read : (xs : List X) (rest : List ℕ) → ReadSoFar s v f bytes xs rest → NotAt letter rest → Front (flat_map s) (All v) f bytes xs rest
   all_read xs rest r h = record {
     is_formed = r.is_formed;
@@ -61,18 +64,22 @@ module _ {X : Type 0} (s : X → List ℕ) (v : X → Type 0) (g f : List ℕ �
   stuck_only rest h n [] z k l e = ends z l (subst (At letter) e h)
   stuck_only rest h n (y ∷ us) z k l e = n.none y (flat_map s us ++ z) (All-head v y us k) (goes_on us z l) (e ∙ cons_parts y us z)
 
+  -- where the items' letter follows and no item can be read there, the list can't be read
   pub stuck : (xs : List X) (rest : List ℕ) → ReadSoFar s v f bytes xs rest → At letter rest → NoFront s v g rest → NoFront (flat_map s) (All v) f bytes
   stuck xs rest r h n = record { none = λ ys z k l e. let o = r.only ys z k l e in stuck_only rest h n o.0 z o.2 l o.3 }
 
 -- ---- fewer values at the front
 
 module _ {X : Type 0} (s : X → List ℕ) (v w : X → Type 0) (f : List ℕ → Type 0) (weaker : (x : X) → w x → v x) (bytes : List ℕ) where
+  -- a value that was read, and has the narrower form too, is read as one of that form
   pub front_narrow : (x : X) (rest : List ℕ) → Front s v f bytes x rest → w x → Front s w f bytes x rest
   front_narrow x rest a h = record { is_formed = h; parts = a.parts; only = λ y z k l e. a.only y z (weaker y k) l e }
 
+  -- a value that was read, and hasn't the narrower form, is none of that form
   pub front_away : (x : X) (rest : List ℕ) → Front s v f bytes x rest → (w x → ⊥) → NoFront s w f bytes
   front_away x rest a h = record { none = λ y z k l e. h (subst w (a.only y z (weaker y k) l e).0 k) }
 
+  -- where no value can be read, none of a narrower form can
   pub none_narrow : NoFront s v f bytes → NoFront s w f bytes
   none_narrow a = record { none = λ y z k l e. a.none y z (weaker y k) l e }
 

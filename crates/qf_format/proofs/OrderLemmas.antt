@@ -147,24 +147,25 @@ lift1 : (bytes : List ℕ) (e : Stop) → Stops t1 w1 n1 bytes e → Stops order
 lift1 bytes e h = lift2 bytes e (stop_first t1 w1 n1 s2 v2 n2 on2 bytes e h)
 
 -- where the creation's line can't be read, neither can an order
-pub stop1 : (bytes : List ℕ) (e : Stop) → Stops s1 v1 n1 bytes e → Stops order_text IsOrder n5 bytes e
-stop1 = lift1
+pub stop-created : (bytes : List ℕ) (e : Stop) → Stops s1 v1 n1 bytes e → Stops order_text IsOrder n5 bytes e
+stop-created = lift1
 
 -- where the last try's line can't be read behind the creation's, neither can an order
-pub stop2 : (bytes r1 : List ℕ) (x1 : ℕ) → Front s1 v1 n1 bytes x1 r1 → (e : Stop) → Stops s2 v2 n2 r1 e → Stops order_text IsOrder n5 bytes e
-stop2 bytes r1 x1 h1 e n = lift2 bytes e (stop_second t1 w1 n1 s2 v2 n2 on2 bytes x1 r1 h1 e n)
+pub stop-last_try : (bytes r1 : List ℕ) (x1 : ℕ) → Front s1 v1 n1 bytes x1 r1 → (e : Stop) → Stops s2 v2 n2 r1 e → Stops order_text IsOrder n5 bytes e
+stop-last_try bytes r1 x1 h1 e n = lift2 bytes e (stop_second t1 w1 n1 s2 v2 n2 on2 bytes x1 r1 h1 e n)
 
 -- where the line of the tries can't be read behind the last try's, neither can an order
-pub stop3 : (bytes r1 r2 : List ℕ) (x1 : ℕ) (x2 : ℕ) → Front s1 v1 n1 bytes x1 r1 → Front s2 v2 n2 r1 x2 r2 → (e : Stop) → Stops s3 v3 n3 r2 e → Stops order_text IsOrder n5 bytes e
-stop3 bytes r1 r2 x1 x2 h1 h2 e n = lift3 bytes e (stop_second t2 w2 n2 s3 v3 n3 on3 bytes (x1, x2) r2 (so_far2 bytes r1 r2 x1 x2 h1 h2) e n)
+pub stop-tries : (bytes r1 r2 : List ℕ) (x1 : ℕ) (x2 : ℕ) → Front s1 v1 n1 bytes x1 r1 → Front s2 v2 n2 r1 x2 r2 → (e : Stop) → Stops s3 v3 n3 r2 e → Stops order_text IsOrder n5 bytes e
+stop-tries bytes r1 r2 x1 x2 h1 h2 e n = lift3 bytes e (stop_second t2 w2 n2 s3 v3 n3 on3 bytes (x1, x2) r2 (so_far2 bytes r1 r2 x1 x2 h1 h2) e n)
 
 -- where the priority's line can't be read behind that of the tries, neither can an order
-pub stop4 : (bytes r1 r2 r3 : List ℕ) (x1 : ℕ) (x2 : ℕ) (x3 : ℕ) → Front s1 v1 n1 bytes x1 r1 → Front s2 v2 n2 r1 x2 r2 → Front s3 v3 n3 r2 x3 r3 → (e : Stop) → Stops s4 v4 n4 r3 e → Stops order_text IsOrder n5 bytes e
-stop4 bytes r1 r2 r3 x1 x2 x3 h1 h2 h3 e n = lift4 bytes e (stop_second t3 w3 n3 s4 v4 n4 on4 bytes ((x1, x2), x3) r3 (so_far3 bytes r1 r2 r3 x1 x2 x3 h1 h2 h3) e n)
+pub stop-priority : (bytes r1 r2 r3 : List ℕ) (x1 : ℕ) (x2 : ℕ) (x3 : ℕ) → Front s1 v1 n1 bytes x1 r1 → Front s2 v2 n2 r1 x2 r2 → Front s3 v3 n3 r2 x3 r3 → (e : Stop) → Stops s4 v4 n4 r3 e → Stops order_text IsOrder n5 bytes e
+stop-priority bytes r1 r2 r3 x1 x2 x3 h1 h2 h3 e n = lift4 bytes e (stop_second t3 w3 n3 s4 v4 n4 on4 bytes ((x1, x2), x3) r3 (so_far3 bytes r1 r2 r3 x1 x2 x3 h1 h2 h3) e n)
 
 -- where the class's line can't be read behind the priority's, neither can an order
-pub stop5 : (bytes r1 r2 r3 r4 : List ℕ) (x1 : ℕ) (x2 : ℕ) (x3 : ℕ) (x4 : ℤ) → Front s1 v1 n1 bytes x1 r1 → Front s2 v2 n2 r1 x2 r2 → Front s3 v3 n3 r2 x3 r3 → Front s4 v4 n4 r3 x4 r4 → (e : Stop) → Stops s5 v5 n5 r4 e → Stops order_text IsOrder n5 bytes e
-stop5 bytes r1 r2 r3 r4 x1 x2 x3 x4 h1 h2 h3 h4 e n = lift5 bytes e (stop_second t4 w4 n4 s5 v5 n5 on5 bytes (((x1, x2), x3), x4) r4 (so_far4 bytes r1 r2 r3 r4 x1 x2 x3 x4 h1 h2 h3 h4) e n)
+pub stop-class : (bytes r1 r2 r3 r4 : List ℕ) (x1 : ℕ) (x2 : ℕ) (x3 : ℕ) (x4 : ℤ) → Front s1 v1 n1 bytes x1 r1 → Front s2 v2 n2 r1 x2 r2 → Front s3 v3 n3 r2 x3 r3 → Front s4 v4 n4 r3 x4 r4 → (e : Stop) → Stops s5 v5 n5 r4 e → Stops order_text IsOrder n5 bytes e
+stop-class bytes r1 r2 r3 r4 x1 x2 x3 x4 h1 h2 h3 h4 e n = lift5 bytes e (stop_second t4 w4 n4 s5 v5 n5 on5 bytes (((x1, x2), x3), x4) r4 (so_far4 bytes r1 r2 r3 r4 x1 x2 x3 x4 h1 h2 h3 h4) e n)
 
+-- orders are told apart by their lines, as each of the five numbers is
 pub apart_all : Apart s1 v1 n1 → Apart s2 v2 n2 → Apart s3 v3 n3 → Apart s4 v4 n4 → Apart s5 v5 n5 → Apart order_text IsOrder n5
 apart_all a1 a2 a3 a4 a5 = apart_as t5 w5 order_text IsOrder made parted n5 retold (apart_then t4 w4 n4 s5 v5 n5 on5 (apart_then t3 w3 n3 s4 v4 n4 on4 (apart_then t2 w2 n2 s3 v3 n3 on3 (apart_then t1 w1 n1 s2 v2 n2 on2 a1 a2) a3) a4) a5)

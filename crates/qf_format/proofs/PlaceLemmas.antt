@@ -102,16 +102,17 @@ lift1 : (bytes : List ℕ) (e : Stop) → Stops t1 w1 n1 bytes e → Stops place
 lift1 bytes e h = lift2 bytes e (stop_first t1 w1 n1 s2 v2 n2 on2 bytes e h)
 
 -- where the version's and the revision's lines can't be read, neither can a place
-pub stop1 : (bytes : List ℕ) (e : Stop) → Stops s1 v1 n1 bytes e → Stops place_text IsPlace n3 bytes e
-stop1 = lift1
+pub stop-revision : (bytes : List ℕ) (e : Stop) → Stops s1 v1 n1 bytes e → Stops place_text IsPlace n3 bytes e
+stop-revision = lift1
 
 -- where the parent can't be read behind the revision, neither can a place
-pub stop2 : (bytes r1 : List ℕ) (x1 : ℕ) → Front s1 v1 n1 bytes x1 r1 → (e : Stop) → Stops s2 v2 n2 r1 e → Stops place_text IsPlace n3 bytes e
-stop2 bytes r1 x1 h1 e n = lift2 bytes e (stop_second t1 w1 n1 s2 v2 n2 on2 bytes x1 r1 h1 e n)
+pub stop-parent : (bytes r1 : List ℕ) (x1 : ℕ) → Front s1 v1 n1 bytes x1 r1 → (e : Stop) → Stops s2 v2 n2 r1 e → Stops place_text IsPlace n3 bytes e
+stop-parent bytes r1 x1 h1 e n = lift2 bytes e (stop_second t1 w1 n1 s2 v2 n2 on2 bytes x1 r1 h1 e n)
 
 -- where the group can't be read behind the parent, neither can a place
-pub stop3 : (bytes r1 r2 : List ℕ) (x1 : ℕ) (x2 : Option Parent) → Front s1 v1 n1 bytes x1 r1 → Front s2 v2 n2 r1 x2 r2 → (e : Stop) → Stops s3 v3 n3 r2 e → Stops place_text IsPlace n3 bytes e
-stop3 bytes r1 r2 x1 x2 h1 h2 e n = lift3 bytes e (stop_second t2 w2 n2 s3 v3 n3 on3 bytes (x1, x2) r2 (so_far2 bytes r1 r2 x1 x2 h1 h2) e n)
+pub stop-group : (bytes r1 r2 : List ℕ) (x1 : ℕ) (x2 : Option Parent) → Front s1 v1 n1 bytes x1 r1 → Front s2 v2 n2 r1 x2 r2 → (e : Stop) → Stops s3 v3 n3 r2 e → Stops place_text IsPlace n3 bytes e
+stop-group bytes r1 r2 x1 x2 h1 h2 e n = lift3 bytes e (stop_second t2 w2 n2 s3 v3 n3 on3 bytes (x1, x2) r2 (so_far2 bytes r1 r2 x1 x2 h1 h2) e n)
 
+-- places are told apart by their lines, as each of the three parts is
 pub apart_all : Apart s1 v1 n1 → Apart s2 v2 n2 → Apart s3 v3 n3 → Apart place_text IsPlace n3
 apart_all a1 a2 a3 = apart_as t3 w3 place_text IsPlace made parted n3 retold (apart_then t2 w2 n2 s3 v3 n3 on3 (apart_then t1 w1 n1 s2 v2 n2 on2 a1 a2) a3)

@@ -63,6 +63,7 @@ none_below bytes ds e w = record { none = λ y k f. by_sign y k (sym e ∙ f) }
 
 -- ---- ids
 
+-- k digits are the text of a number
 pub record AreDigits (k n : ℕ) : Type 0 where
   pub each : AllDigits 10 (digits k n)
   pub value : digits_value 10 (digits k n) ≡ n

@@ -24,6 +24,7 @@ heads c d x y h e = h cc
 abbrev pub cause_text : List ℕ × List ℕ → List ℕ
 cause_text p = cause p.0 p.1
 
+-- the pair is a status and a note
 abbrev pub IsCauseOf : List ℕ × List ℕ → Type 0
 IsCauseOf p = IsCause p.0 p.1
 

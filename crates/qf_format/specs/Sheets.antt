@@ -1,6 +1,7 @@
 -- Paper: bytes, and the room that was reserved for them (our own).
 use Rattle.std.specs.Prelude.{ℕ, ◌+◌, ◌≤◌, List, ◌++◌, length}
 
+-- the bytes that were written, and the most that may be
 pub record Sheet : Type 0 where
   pub bytes : List ℕ
   pub room : ℕ

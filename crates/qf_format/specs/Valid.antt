@@ -17,6 +17,7 @@ pub record IsRevision (revision : ℕ) : Type 0 where
   pub least : 1 ≤ revision
   pub most : revision < 2 ^ 64
 
+-- a parent has an id and a revision
 pub record IsParent (parent : Parent) : Type 0 where
   pub id : IsId parent.id
   pub revision : IsRevision parent.revision
@@ -26,6 +27,7 @@ pub record IsCause (status note : List ℕ) : Type 0 where
   pub status_form : IsTrue (is_status status)
   pub note_form : IsNote note
 
+-- what became of a row has an id, a note, or a status with a note in their forms
 abbrev pub IsState : State → Type 0
 IsState (Queued note) = IfSome note IsNote
 IsState Sent = Unit {0}
@@ -33,15 +35,18 @@ IsState (Failed status note) = IsCause status note
 IsState (Returned id) = IsId id
 IsState (Dead status note) = IsCause status note
 
+-- a row has an address and a state
 pub record IsRow (row : Row) : Type 0 where
   pub address_form : IsAddress row.address
   pub state_form : IsState row.state
 
+-- a control has at least one row, and not too many
 pub record AreRows (rows : List Row) : Type 0 where
   pub some : 0 < length rows
   pub few : length rows ≤ most_rows
   pub each : All IsRow rows
 
+-- what is kept with a message has no LF
 pub record AreKept (kept : Kept) : Type 0 where
   pub protocol_form : IsLine kept.protocol
   pub helo_form : IsLine kept.helo

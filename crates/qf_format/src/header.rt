@@ -1,4 +1,4 @@
-ghost use Rattle.std.specs.Prelude.{◌≡◌, ◌+◌, ◌<◌, ◌++◌, ◌↔◌, IsTrue, ℕ, Option, None, Some, drop, length, slice_index, take};
+ghost use Rattle.std.specs.Prelude.{◌+◌, ◌<◌, None, Some};
 ghost use Rattle.std.specs.List.{flat_map};
 ghost use Rattle.mail_base.specs.Texts.{IsHeader};
 ghost use Rattle.qf_format.specs.inner.Reading.{Reads};
@@ -10,7 +10,7 @@ use crate::stop::Stop;
 use mail_base::{Seq, Text, is_blank};
 use std::alloc::Global;
 
-// The headers at the front, and what comes after them.
+/// The headers at the front, and what comes after them.
 pub(crate) fn headers_of(alloc: Global, bytes: &[u8]) -> Result<(Seq<Text>, &[u8]), Stop>
     ensures { Reads (λ r. r.0) (λ r. r.1.now) (flat_map header_lines) EachHeader
         (At 46) bytes.now result }

@@ -1,4 +1,4 @@
-ghost use Rattle.std.specs.Prelude.{◌≡◌, ◌+◌, ◌-◌, ◌^◌, ◌<◌, ◌≤◌, length, map, min, sum_by};
+ghost use Rattle.std.specs.Prelude.{◌≡◌, ◌-◌, ◌^◌, ◌≤◌, length, min, sum_by};
 ghost use Rattle.mail_base.specs.declared.control.Control.{Control};
 ghost use Rattle.qf_format.specs.Room.{SameTexts, addresses, header_room, room_of, row_room};
 ghost use Rattle.qf_format.specs.Spelling.{spelled};

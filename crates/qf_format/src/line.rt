@@ -1,4 +1,4 @@
-ghost use Rattle.std.specs.Prelude.{◌≡◌, ◌<◌, ◌↔◌, ◌++◌, IsTrue, Bool, List, ℕ, IfSome, codes, FitsSigned};
+ghost use Rattle.std.specs.Prelude.{◌≡◌, ◌<◌, ◌↔◌, ◌++◌, IsTrue, codes, FitsSigned};
 ghost use Rattle.std.specs.Int.{w64, w128};
 ghost use Rattle.std.specs.Fmt.{decimal, signed_decimal};
 ghost use Rattle.mail_base.specs.Texts.{IsBracketed};
@@ -14,7 +14,7 @@ use bstr::ByteSlice;
 use mail_base::{Marks, Parent, Text};
 use std::alloc::Global;
 
-// The line of a number below 2^64.
+/// The line of a number below 2^64.
 pub(crate) fn number_line<'a>(tag: &[u8], bytes: &'a [u8]) -> Result<(u64, &'a [u8]), Stop>
     ensures { Reads (λ r. r.0) (λ r. r.1.now) (λ n. line (tag.now ++ decimal n)) IsSmall
         Anything bytes.now result }
@@ -59,7 +59,7 @@ pub(crate) fn class_line<'a>(tag: &[u8], bytes: &'a [u8]) -> Result<(i64, &'a [u
     }
 }
 
-// The line of the entry's parent, if it is there.
+/// The line of the entry's parent, if it is there.
 pub(crate) fn parent_of(bytes: &[u8]) -> Result<(Option<Parent>, &[u8]), Stop>
     ensures { Reads (λ r. r.0) (λ r. r.1.now) parent_line IsParentOrNone
         (NotAt 112) bytes.now result }
@@ -86,7 +86,7 @@ fn parent_text(bytes: &[u8]) -> Option<Parent>
     })
 }
 
-// The line of the marks, where some are set.
+/// The line of the marks, where some are set.
 pub(crate) fn marks_of(bytes: &[u8]) -> Result<(Marks, &[u8]), Stop>
     ensures { Reads (λ r. r.0) (λ r. r.1.now) marks_line AnyMarks (NotAt 70) bytes.now result }
 {
@@ -138,7 +138,7 @@ fn letter_of(letter: u8, bytes: &[u8]) -> (bool, &[u8])
     }
 }
 
-// Whether the line of 8BITMIME is there, and what comes after it.
+/// Whether the line of 8BITMIME is there, and what comes after it.
 pub(crate) fn eight_of(bytes: &[u8]) -> Result<(bool, &[u8]), Stop>
     ensures { Reads (λ r. r.0) (λ r. r.1.now) eight_line AnyBool (At 83) bytes.now result }
 {
@@ -159,7 +159,7 @@ pub(crate) fn sender_of(alloc: Global, bytes: &[u8]) -> Result<(Text, &[u8]), St
     Ok((sender, rest))
 }
 
-// Whether a text begins and ends with the brackets of a path.
+/// Whether a text begins and ends with the brackets of a path.
 pub(crate) fn has_brackets(text: &[u8]) -> bool
     ensures { IsTrue result ↔ HasBrackets text.now }
 {

@@ -1,4 +1,4 @@
-ghost use Rattle.std.specs.Prelude.{◌≡◌, ◌↔◌, IsTrue, ◌⊎◌, ◌-◌, ◌<◌, ◌≤◌, ◌^◌, ℕ, Some, MatchOption, FitsSigned, length, negsuc};
+ghost use Rattle.std.specs.Prelude.{◌≡◌, ◌↔◌, IsTrue, ◌⊎◌, ◌-◌, ◌<◌, ◌≤◌, ◌^◌, ℕ, Some, MatchOption, FitsSigned, negsuc};
 ghost use Rattle.std.specs.Int.{w64, w128};
 ghost use Rattle.std.specs.Fmt.{decimal, signed_decimal};
 ghost use Rattle.mail_base.specs.Limits.{IsId};
@@ -31,7 +31,7 @@ fn is_plain(bytes: &[u8]) -> bool
     first != b'+' && (first != b'0' || bytes.len() <= 1)
 }
 
-// The same of a number below 2^64.
+/// The same of a number below 2^64.
 pub(crate) fn small_of(bytes: &[u8]) -> Option<u64>
     ensures { Spells decimal IsSmall bytes.now result }
 {
@@ -48,7 +48,7 @@ pub(crate) fn revision_of(bytes: &[u8]) -> Option<u64>
     Some(number)
 }
 
-// The number that the bytes are the decimal text of, perhaps below 0.
+/// The number that the bytes are the decimal text of, perhaps below 0.
 pub(crate) fn priority_of(bytes: &[u8]) -> Option<i128>
     ensures { Spells signed_decimal (FitsSigned w128) bytes.now result }
 {
@@ -75,7 +75,7 @@ pub(crate) fn class_of(bytes: &[u8]) -> Option<i64>
     i64::try_from(priority_of(bytes)?).ok()
 }
 
-// The id that the bytes name.
+/// The id that the bytes name.
 pub(crate) fn id_of(bytes: &[u8]) -> Option<Id>
     ensures { Spells id_text IsId bytes.now result }
 {

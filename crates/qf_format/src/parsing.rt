@@ -1,4 +1,4 @@
-ghost use Rattle.std.specs.Prelude.{◌≡◌, ◌↔◌, ◌++◌, IsTrue, IfOk, IfSome, IfNone, None, Some, codes};
+ghost use Rattle.std.specs.Prelude.{◌≡◌, ◌↔◌, IsTrue, IfOk, IfSome, IfNone, None, Some, codes};
 ghost use Rattle.mail_base.specs.declared.control.Control.{Control};
 ghost use Rattle.qf_format.specs.inner.Reading.{Reads, Anything};
 ghost use Rattle.qf_format.specs.inner.Parts.{IsEnvelope, IsOrder, IsPlace, Parses, envelope_text, order_text, place_text};

@@ -1,6 +1,6 @@
 use mail_base::{Marks, Parent, Text};
 
-// Which entry a control is of: the lines v, p and g.
+/// Which entry a control is of: the lines v, p and g.
 #[derive(Drop)]
 pub(crate) struct Place {
     pub(crate) revision: u64,
@@ -8,7 +8,7 @@ pub(crate) struct Place {
     pub(crate) group: Text,
 }
 
-// What its order in the queue comes from: the lines T, K, N, P and c.
+/// What its order in the queue comes from: the lines T, K, N, P and c.
 #[derive(Drop)]
 pub(crate) struct Order {
     pub(crate) created: u64,
@@ -18,7 +18,7 @@ pub(crate) struct Order {
     pub(crate) class: i64,
 }
 
-// What its message is: the lines F, B and S.
+/// What its message is: the lines F, B and S.
 #[derive(Drop)]
 pub(crate) struct Envelope {
     pub(crate) marks: Marks,

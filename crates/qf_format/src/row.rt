@@ -1,9 +1,9 @@
-ghost use Rattle.std.specs.Prelude.{◌≡◌, ◌++◌, ◌<◌, Bool, List, ℕ, codes, length};
+ghost use Rattle.std.specs.Prelude.{◌++◌, ◌<◌, Bool, List, ℕ, codes};
 ghost use Rattle.std.specs.List.{flat_map};
 ghost use Rattle.mail_base.specs.Texts.{IsAddress};
 ghost use Rattle.qf_format.specs.inner.Reading.{Reads, Anything};
 ghost use Rattle.qf_format.specs.inner.Parts.{NotAt, EachRow, address_line};
-ghost use Rattle.qf_format.specs.Spelling.{line, row_lines, state_text, flags};
+ghost use Rattle.qf_format.specs.Spelling.{line, row_lines, state_text};
 ghost use Rattle.qf_format.specs.Valid.{AreRows, IsRow, IsState};
 
 use crate::field::{after_tag, field, first_byte, text_field};
@@ -12,7 +12,7 @@ use crate::stop::Stop;
 use mail_base::{MOST_ROWS, Row, Seq, State, Text};
 use std::alloc::Global;
 
-// The rows at the front, and what comes after them.
+/// The rows at the front, and what comes after them.
 pub(crate) fn rows_of(alloc: Global, bytes: &[u8]) -> Result<(Seq<Row>, &[u8]), Stop>
     ensures { Reads (λ r. r.0) (λ r. r.1.now) (flat_map row_lines) AreRows
         (NotAt 82) bytes.now result }

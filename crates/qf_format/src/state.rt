@@ -1,4 +1,4 @@
-ghost use Rattle.std.specs.Prelude.{◌≡◌, ◌++◌, [], ℕ, List, Option, None, Some, IfSome};
+ghost use Rattle.std.specs.Prelude.{[], None, Some, IfSome};
 ghost use Rattle.mail_base.specs.Notes.{IsNote};
 ghost use Rattle.qf_format.specs.inner.Reading.{Spells};
 ghost use Rattle.qf_format.specs.inner.Parts.{queued_text};
@@ -10,7 +10,7 @@ use crate::number::id_of;
 use bstr::ByteSlice;
 use mail_base::{Note, State, Status};
 
-// What became of a row, from its line behind the tag.
+/// What became of a row, from its line behind the tag.
 pub(crate) fn state_of(bytes: &[u8]) -> Option<State>
     ensures { Spells state_text IsState bytes.now result }
 {

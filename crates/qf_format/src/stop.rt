@@ -3,7 +3,7 @@ ghost use Rattle.qf_format.specs.declared.stop.Stop.TheVariants.{Memory};
 
 use mail_base::NoMemory;
 
-// Why bytes weren't read.
+/// Why bytes weren't read.
 #[derive(Drop)]
 pub(crate) enum Stop {
     // They spell nothing that is read here.

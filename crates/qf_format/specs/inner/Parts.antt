@@ -27,6 +27,7 @@ At letter bytes = slice_index bytes 0 ≡ letter
 abbrev pub NotAt : ℕ → List ℕ → Type 0
 NotAt letter bytes = slice_index bytes 0 ≢ letter
 
+-- a number that a u64 holds
 abbrev pub IsSmall : ℕ → Type 0
 IsSmall n = n < 2 ^ 64
 
@@ -38,20 +39,24 @@ IsPlain bytes = (slice_index bytes 0 ≢ 43) × (slice_index bytes 0 ≡ 48 → 
 abbrev pub IsMarked : Marks → Type 0
 IsMarked marks = (marks.bounce || (marks.double || marks.warned)) ≡ true
 
+-- the lines of a place: version, revision, parent and group
 unfoldable pub place_text : Place → List ℕ
 place_text p = line (codes "V1") ++ line (codes "v" ++ decimal p.revision) ++ parent_line p.parent
     ++ line (codes "g" ++ p.group)
 
+-- a place has its forms
 pub record IsPlace (p : Place) : Type 0 where
   pub revision_range : IsRevision p.revision
   pub parent_form : IfSome p.parent IsParent
   pub group_form : IsLine p.group
 
+-- the lines of an order: creation, last try, tries, priority and class
 unfoldable pub order_text : Order → List ℕ
 order_text o = line (codes "T" ++ decimal o.created) ++ line (codes "K" ++ decimal o.last_try)
     ++ line (codes "N" ++ decimal o.tries)
     ++ line (codes "P" ++ signed_decimal o.priority) ++ line (codes "c" ++ signed_decimal o.class)
 
+-- the numbers of an order are in their ranges
 pub record IsOrder (o : Order) : Type 0 where
   pub created_range : o.created < 2 ^ 64
   pub last_try_range : o.last_try < 2 ^ 64
@@ -59,9 +64,11 @@ pub record IsOrder (o : Order) : Type 0 where
   pub priority_range : FitsSigned w128 o.priority
   pub class_range : FitsSigned w64 o.class
 
+-- the lines of an envelope: marks, body type and sender
 unfoldable pub envelope_text : Envelope → List ℕ
 envelope_text e = marks_line e.marks ++ eight_line e.eight ++ line (codes "S" ++ e.sender)
 
+-- the sender stands in angle brackets
 pub record IsEnvelope (e : Envelope) : Type 0 where
   pub sender_form : IsBracketed e.sender
 
@@ -70,9 +77,11 @@ abbrev pub queued_text : Option (List ℕ) → List ℕ
 queued_text None = []
 queued_text (Some note) = codes " " ++ note
 
+-- each is a row, however many there are
 abbrev pub EachRow : List Row → Type 0
 EachRow rows = All IsRow rows
 
+-- each is a header
 abbrev pub EachHeader : List (List ℕ) → Type 0
 EachHeader headers = All IsHeader headers
 
@@ -94,6 +103,7 @@ IsHeaderEnd text None = (k : ℕ) → EndsAt text k → ⊥
 IsHeaderEnd text (Some at) =
     (at < length text) × EndsAt text at × ((k : ℕ) → k < at → EndsAt text k → ⊥)
 
+-- a parent, if there is one, has its form
 abbrev pub IsParentOrNone : Option Parent → Type 0
 IsParentOrNone parent = IfSome parent IsParent
 
@@ -105,6 +115,7 @@ parent_text parent = id_text parent.id ++ (codes " " ++ decimal parent.revision)
 abbrev pub AnyMarks : Marks → Type 0
 AnyMarks marks = Unit {0}
 
+-- either will do
 abbrev pub AnyBool : Bool → Type 0
 AnyBool eight = Unit {0}
 
@@ -113,6 +124,7 @@ abbrev pub letter_first : ℕ → List ℕ → Bool × List ℕ
 letter_first letter [] = (false, [])
 letter_first letter (b ∷ bytes) = if b == letter then (true, bytes) else (false, b ∷ bytes)
 
+-- a text begins with `<` and ends with `>`
 abbrev pub HasBrackets : List ℕ → Type 0
 HasBrackets text = (slice_index text 0 ≡ 60) × (slice_index text (length text - 1) ≡ 62)
 
