@@ -192,9 +192,12 @@ module _ (operators : List ℕ) where
         short = a.short;
       }
 
+  -- tokens that are joined with white space between them are cut into themselves again
   pub spaced_again : (angles : Bool) (text : List ℕ) (tokens : List Token) (white : ℕ) → AreTokens (plain operators) angles text tokens → is_white white ≡ true → AreTokens (plain operators) angles (joined (Some white) tokens) tokens
   spaced_again angles text tokens white a is = again angles text (Some white) tokens a is (λ token more whole fits all. apart_spaced white token more fits all)
 
+  -- tokens of which no two words are neighbours are cut into themselves again when joined without
+  -- space
   pub close_again : (angles : Bool) (text : List ℕ) (tokens : List Token) → AreTokens (plain operators) angles text tokens → have_neighbours tokens ≡ false → AreTokens (plain operators) angles (joined None tokens) tokens
   close_again angles text tokens a none = again angles text None tokens a tt (λ token more whole fits all. apart_close token more fits all (ap have_neighbours (sym whole) ∙ none))
 
@@ -246,6 +249,7 @@ module _ (operators : List ℕ) where
   none_between (Run bytes ∷ Dollar construct ∷ pieces) rest each apart same = absurd (false≢true each.1.0)
   none_between (Run bytes ∷ Run more ∷ pieces) rest each apart same = absurd (false≢true apart)
 
+  -- tokens that are cut into themselves again, joined without space, have no neighbouring words
   pub only_apart : (angles : Bool) (tokens : List Token) → AreTokens (plain operators) angles (joined None tokens) tokens → have_neighbours tokens ≡ false
   only_apart angles tokens a =
       let same : size a.pieces ≡ size_in a.pieces = ap length (a.cut.whole ∙ joined-none tokens ∙ ap (flat_map token_bytes) (sym (tokens_are angles (joined None tokens) tokens a))) in

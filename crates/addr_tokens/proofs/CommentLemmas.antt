@@ -15,6 +15,7 @@ pub record Closes (After : List ℕ → Type 0) (text : List ℕ) : Type 0 where
   pub is : InComment inside
   pub after : After more
 
+-- so many inner comments, and then the outer one, are closed in the text
 abbrev pub Levels : ℕ → (List ℕ → Type 0) → List ℕ → Type 0
 Levels zero After = Closes After
 Levels (suc depth) After = Closes (Levels depth After)
@@ -24,6 +25,7 @@ abbrev pub Remains : ℕ → List ℕ → Type 0
 Remains zero text = InOpen text
 Remains (suc depth) text = InOpen text ⊎ Closes (Remains depth) text
 
+-- a comment is still open where a backslash ends the text
 pub record Spoils (depth : ℕ) (text : List ℕ) (left : ℕ) : Type 0 where
   pub inside : List ℕ
   pub whole : text ≡ inside ++ 92 ∷ []

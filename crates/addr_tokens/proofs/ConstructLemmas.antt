@@ -114,6 +114,7 @@ module _ (alphabet : Alphabet) where
   dollar_at place b bs false true s e dollar = named_reads place b bs (side_of alphabet.dollars operator b bs dollar s) e
   dollar_at place b bs false false s e dollar = refuses
 
+  -- what is read at a dollar sign that begins a construct is a construct, or no construct is there
   pub dollar_reads : (place : ℕ) (text : List ℕ) → is_dollar alphabet.dollars 36 text ≡ true → DollarReads place text (first_dollar alphabet place text)
   dollar_reads place [] dollar = refuses
   dollar_reads place (b ∷ bs) dollar = dollar_at place b bs (is_construct alphabet (Single b)) (is_naming b) refl refl dollar
@@ -127,6 +128,7 @@ module _ (alphabet : Alphabet) where
   begins_by Typed listed (Braced b name) rest is = absurd (false≢true is)
   begins_by Side listed construct rest is = refl
 
+  -- the text of a construct begins one
   pub construct_begins : (construct : Construct) (rest : List ℕ) → is_construct alphabet construct ≡ true → is_dollar alphabet.dollars 36 (after_dollar construct ++ rest) ≡ true
   construct_begins construct rest is = begins_by alphabet.dollars operator construct rest is
 
@@ -149,6 +151,7 @@ module _ (alphabet : Alphabet) where
   apart_by true side construct rest is = pair_apart construct rest (sym (side_construct alphabet.dollars operator construct side) ∙ is)
   apart_by false side construct rest is = pair_elsewhere construct rest side
 
+  -- a construct's dollar sign isn't one of a doubled pair
   pub construct_apart : (construct : Construct) (rest : List ℕ) → is_construct alphabet construct ≡ true → is_pair alphabet 36 (after_dollar construct ++ rest) ≡ false
   construct_apart construct rest is = apart_by (is_side alphabet.dollars) refl construct rest is
 
@@ -169,6 +172,7 @@ module _ (alphabet : Alphabet) where
       absurd (false≢true (sym none ∙ subst (λ x. is_letter b x ≡ true) (eqb-true c 123 e) is))
   letter_brace b c false e is = refl
 
+  -- the text of a construct is read as that construct, and then what follows
   pub construct_first : (place : ℕ) (construct : Construct) (rest : List ℕ) → is_construct alphabet construct ≡ true → first_dollar alphabet place (after_dollar construct ++ rest) ≡ Ok (Dollar construct, rest)
   construct_first place (Single b) rest is = cond-true _ _ _ is
   construct_first place (Letter b letter) rest is =

@@ -45,6 +45,7 @@ module _ (alphabet : Alphabet) where
     pub is : IsPiece alphabet piece rest
     pub then : Follows piece rest
 
+  -- what is answered for the first piece: it stands there, or nothing goes on at its place
   abbrev pub FirstReads : ℕ → List ℕ → First → Type 0
   FirstReads place text (Ok first) = IsFirst text first.0 first.1
   FirstReads place text (Err fault) = Stops alphabet text place fault
@@ -70,6 +71,7 @@ module _ (alphabet : Alphabet) where
       let r = word_read alphabet text in
       word_by place text (past_word alphabet false text) r.word r.whole r.is (word_stops alphabet false text) stops
 
+  -- what is left behind a word isn't longer than the text
   pub past-length : (text : List ℕ) → length (past_word alphabet false text) ≤ length text
   past-length text = let r = word_read alphabet text in omega (arith, ap length r.whole, length-append r.word (past_word alphabet false text))
 
@@ -281,6 +283,7 @@ module _ (alphabet : Alphabet) where
   stop_none _ _ _ (escaped_control inside b after place is c) = record { stays = refl }
   stop_none _ _ _ (dollar after place none) = record { stays = word_none after (is_pair alphabet 36 after) (is_word_byte alphabet 36 after) refl refl none }
 
+  -- no piece is empty
   pub piece_some : (piece : Piece) (rest : List ℕ) → IsPiece alphabet piece rest → 0 < length (bytes_of piece)
   piece_some (White b) rest is = omega arith
   piece_some (Comment bytes) rest is = omega (arith, ap length is.whole)

@@ -18,9 +18,11 @@ module _ (text part : List ℕ) (n place : ℕ) (past : List ℕ → Ending) (is
       let le : n + 1 ≤ length text = omega (arith, ap length is, length-drop 1 text) in
       front_taken text (n + 1) le
 
+  -- a comment whose end was found is the first piece up to that end
   pub comment_piece : first_comment place text (past (drop 1 text)) ≡ Ok (Comment (take (n + 1) text), drop (n + 1) text)
   comment_piece = ap (first_comment place text) (closed_at text part n past is ends) ∙ ap (λ x. Ok (Comment x, drop (n + 1) text)) front
 
+  -- a quotation whose end was found is the first piece up to that end
   pub quote_piece : first_quote place text (past (drop 1 text)) ≡ Ok (Quotation (take (n + 1) text), drop (n + 1) text)
   quote_piece = ap (first_quote place text) (closed_at text part n past is ends) ∙ ap (λ x. Ok (Quotation x, drop (n + 1) text)) front
 
@@ -34,6 +36,7 @@ module _ (alphabet : Alphabet) (place : ℕ) (text : List ℕ) (some : 0 < lengt
   parts : get_or text 0 0 ∷ drop 1 text ≡ text
   parts = sym (drop_more text 0 0 some)
 
+  -- a backslash begins a word
   pub slash_front : get_or text 0 0 ≡ 92 → first_of alphabet place (get_or text 0 0) (drop 1 text) ≡ first_word place text (past_word alphabet false text)
   slash_front is =
       ap (λ x. first_of alphabet place x (drop 1 text)) is

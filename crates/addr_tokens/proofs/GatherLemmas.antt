@@ -1,10 +1,10 @@
 -- Tokens that are gathered up to their limit.
-use Rattle.std.proofs.Common.{◌≡◌, ◌<◌, ◌≤◌, Bool, true, false, List, [], ◌++◌, length, Result, Ok, Err, OnOk, OnErr, refl, sym, ap, arith}
+use Rattle.std.proofs.Common.{◌≡◌, ◌<◌, ◌≤◌, Bool, true, false, List, ◌++◌, length, Result, Ok, Err, OnOk, OnErr, refl, sym, ap, arith}
 use Rattle.std.proofs.lemmas.Bool.{cond-false, lt-leb}
-use Rattle.std.proofs.lemmas.List.{append_assoc, length-append}
+use Rattle.std.proofs.lemmas.List.{length-append}
 use Rattle.addr_tokens.specs.declared.lexeme.Lexeme.{Lexeme}
 use Rattle.addr_tokens.specs.Scans.{most_tokens}
-use Rattle.addr_tokens.specs.Reader.{Answer, gathered, limited, with_lexemes}
+use Rattle.addr_tokens.specs.Reader.{Answer, gathered, with_lexemes}
 
 -- a text has at most 2,000 tokens
 pub most : most_tokens ≡ 2000
@@ -18,17 +18,6 @@ too_many is_long lexemes more (Err fault) full one = refl
 too_many true lexemes more (Ok later) full one = refl
 too_many false lexemes more (Ok later) full one =
     sym (cond-false _ _ _ (lt-leb (length (lexemes ++ (more ++ later))) most_tokens (omega (arith, length-append lexemes (more ++ later), length-append more later))))
-
--- lexemes that are kept
-pub kept : (is_long : Bool) (lexemes more : List Lexeme) (answer : Answer) → gathered is_long (lexemes ++ more) answer ≡ gathered is_long lexemes (with_lexemes more answer)
-kept is_long lexemes more (Err fault) = refl
-kept true lexemes more (Ok later) = refl
-kept false lexemes more (Ok later) = ap limited (append_assoc lexemes more later)
-
-pub nothing_kept : (is_long : Bool) (lexemes : List Lexeme) (answer : Answer) → gathered is_long lexemes answer ≡ gathered is_long lexemes (with_lexemes [] answer)
-nothing_kept is_long lexemes (Err fault) = refl
-nothing_kept true lexemes (Ok later) = refl
-nothing_kept false lexemes (Ok later) = refl
 
 -- where one was added or none
 pub still_short : {A V E : Type 0} (result : Result V E) (old more new : List A) → OnOk result (new ≡ old ++ more) → OnErr result (new ≡ old) → length old < most_tokens → length more ≡ 1 → length new ≤ most_tokens

@@ -15,11 +15,11 @@ use Rattle.addr_tokens.specs.Pieces.{Construct, Single, Letter, Braced, Piece, W
 use Rattle.addr_tokens.specs.Scans.{opened, less}
 use Rattle.addr_tokens.specs.Reader.{Answer, note_angle, with_lexemes, judge_on, judge_end, judged}
 
-pub with_none : (answer : Answer) → with_lexemes [] answer ≡ answer
+with_none : (answer : Answer) → with_lexemes [] answer ≡ answer
 with_none (Ok tokens) = refl
 with_none (Err fault) = refl
 
-pub with_both : (one other : List Lexeme) (answer : Answer) → with_lexemes one (with_lexemes other answer) ≡ with_lexemes (one ++ other) answer
+with_both : (one other : List Lexeme) (answer : Answer) → with_lexemes one (with_lexemes other answer) ≡ with_lexemes (one ++ other) answer
 with_both one other (Ok tokens) = ap Ok (sym (append_assoc one other tokens))
 with_both one other (Err fault) = refl
 
@@ -56,6 +56,7 @@ construct_opens Typed (Braced b name) n more = refl
 construct_opens Side (Braced b name) n more = refl
 
 module _ (dollars : Dollars) where
+  -- the lexemes of two lists of pieces are those of the one and then those of the other
   pub lexemes_of-append : (one other : List Piece) → lexemes_of dollars (one ++ other) ≡ lexemes_of dollars one ++ lexemes_of dollars other
   lexemes_of-append [] other = refl
   lexemes_of-append (piece ∷ one) other = ap (λ x. given_by dollars piece ++ x) (lexemes_of-append one other) ∙ sym (append_assoc (given_by dollars piece) (lexemes_of dollars one) (lexemes_of dollars other))
@@ -80,7 +81,7 @@ module _ (dollars : Dollars) where
       none (Operator b) (λ place lefts. cond-false _ _ _ l ∙ cond-false _ _ _ e)
       (λ n more. ap (λ x. opened x more) (cond-false _ _ _ l ∙ cond-false _ _ _ e))
 
-  pub angle_of : (piece : Piece) → Angle piece
+  angle_of : (piece : Piece) → Angle piece
   angle_of (White b) = none (White b) (λ place lefts. refl) (λ n more. refl)
   angle_of (Comment bytes) = none (Comment bytes) (λ place lefts. refl) (λ n more. refl)
   angle_of (Quotation bytes) = none (Quotation bytes) (λ place lefts. refl) (λ n more. refl)
@@ -223,6 +224,7 @@ module _ (dollars : Dollars) where
       ∙ ap (with_lexemes (given_by dollars piece)) (go (place + length (bytes_of piece)) first (sym (counts (length first) (lexemes_of dollars pieces)) ∙ closed))
       ∙ with_both (given_by dollars piece) (lexemes_of dollars pieces) (judge_end base fault)
 
+  -- pieces that close all angles that are open before them leave the others as they were
   pub closes_more : (pieces : List Piece) (place : ℕ) (first base : List ℕ) (fault : Option ScanFault) → opened (Some (length first)) (lexemes_of dollars pieces) ≡ Some 0
       → judged dollars true place (first ++ base) pieces fault ≡ with_lexemes (lexemes_of dollars pieces) (judge_end base fault)
   closes_more [] place [] base fault closed = sym (with_none (judge_end base fault))

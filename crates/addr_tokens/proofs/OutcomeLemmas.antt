@@ -103,6 +103,7 @@ module _ (alphabet : Alphabet) where
   balanced_outcome : (angles : Bool) (text : List ℕ) (pieces : List Piece) → Cuts alphabet text pieces → AreBalanced angles (lexemes_of dollars pieces) → outcome_of alphabet angles text ≡ limited (lexemes_of dollars pieces)
   balanced_outcome angles text pieces cut balanced = outcome_from angles text _ _ (whole_reading text pieces cut) (balanced_judged angles pieces balanced)
 
+  -- the lexemes of a text are what its cutting answers
   pub lexemes_answered : (angles : Bool) (text : List ℕ) (lexemes : List Lexeme) → AreLexemes alphabet angles text lexemes → outcome_of alphabet angles text ≡ Ok lexemes
   lexemes_answered angles text lexemes a =
       balanced_outcome angles text a.pieces a.cut (subst (AreBalanced angles) (sym a.lexemes_are) a.balanced)
@@ -146,6 +147,7 @@ module _ (alphabet : Alphabet) where
       ∙ ap (λ r. with_lexemes (lexemes_of dollars pieces) (with_lexemes (Plain (Op 60) ∷ []) r)) (closes_more dollars more (place + 1) [] (place ∷ p.now) None closed)
       ∙ ap (λ k. Err (Unbalanced k)) n) (verdict dollars pieces 0 [])
 
+  -- the fault of a text is what its cutting answers
   pub fault_answered : (angles : Bool) (text : List ℕ) (fault : ScanFault) → HasFault alphabet angles text fault → outcome_of alphabet angles text ≡ Err fault
   fault_answered angles _ _ (stops front rest pieces fault cut goes_on stop) =
       outcome_from angles (front ++ rest) _ (Err fault)
@@ -162,6 +164,7 @@ module _ (alphabet : Alphabet) where
 
   -- ---- what is answered is so
 
+  -- what an answer says of a text: its lexemes, or its fault
   abbrev pub Means : Bool → List ℕ → Answer → Type 0
   Means angles text (Ok lexemes) = AreLexemes alphabet angles text lexemes
   Means angles text (Err fault) = HasFault alphabet angles text fault
@@ -232,19 +235,23 @@ module _ (alphabet : Alphabet) where
       (λ (l : Lone dollars 0 [] pieces). subst (λ a. Means true text (gathered false [] a)) (sym (l.judged_so [] fault)) (lone_means text front rest pieces whole cut l))
       (λ (p : Passes dollars 0 [] pieces). subst (λ a. Means true text (gathered false [] a)) (sym (p.judged_so [] fault)) (passes_means text front rest pieces fault whole cut ends p)) (verdict dollars pieces 0 []))
 
+  -- the answer of a cutting is so
   pub answer_means : (angles : Bool) (text : List ℕ) → Means angles text (outcome_of alphabet angles text)
   answer_means angles text =
       let r = reads alphabet 0 text in
       means_by angles text r.front r.rest (reading_of alphabet 0 text).pieces (reading_of alphabet 0 text).fault r.whole r.cut r.ends
 
+  -- the lexemes that a cutting answers are those of the text
   pub lexemes_of_answer : (angles : Bool) (text : List ℕ) (lexemes : List Lexeme) → outcome_of alphabet angles text ≡ Ok lexemes → AreLexemes alphabet angles text lexemes
   lexemes_of_answer angles text lexemes is = subst (Means angles text) is (answer_means angles text)
 
+  -- the fault that a cutting answers is the text's
   pub has_of_answer : (angles : Bool) (text : List ℕ) (fault : ScanFault) → outcome_of alphabet angles text ≡ Err fault → HasFault alphabet angles text fault
   has_of_answer angles text fault is = subst (Means angles text) is (answer_means angles text)
 
   -- ---- there is one
 
+  -- a text has one cutting at most
   pub one_cut : (text : List ℕ) (one other : List Piece) → Cuts alphabet text one → Cuts alphabet text other → one ≡ other
   one_cut text one other a b = ap (λ r. r.pieces) (sym (whole_reading text one a) ∙ whole_reading text other b)
 
@@ -255,15 +262,19 @@ module _ (alphabet : Alphabet) where
   answer_by angles text (Ok lexemes) means = inl (lexemes, means)
   answer_by angles text (Err fault) means = inr (fault, means)
 
+  -- each text has lexemes or a fault
   pub some_answer : (angles : Bool) (text : List ℕ) → Some_answer angles text
   some_answer angles text = answer_by angles text (outcome_of alphabet angles text) (answer_means angles text)
 
+  -- a text has its lexemes in one way only
   pub one_lexemes : (angles : Bool) (text : List ℕ) (one other : List Lexeme) → AreLexemes alphabet angles text one → AreLexemes alphabet angles text other → one ≡ other
   one_lexemes angles text one other a b = same_lexemes (outcome_of alphabet angles text) one other (lexemes_answered angles text one a) (lexemes_answered angles text other b)
 
+  -- a text has one fault at most
   pub one_fault : (angles : Bool) (text : List ℕ) (one other : ScanFault) → HasFault alphabet angles text one → HasFault alphabet angles text other → one ≡ other
   one_fault angles text one other a b = same_fault (outcome_of alphabet angles text) one other (fault_answered angles text one a) (fault_answered angles text other b)
 
+  -- no text has lexemes and a fault
   pub not_both : (angles : Bool) (text : List ℕ) (lexemes : List Lexeme) (fault : ScanFault) → AreLexemes alphabet angles text lexemes → HasFault alphabet angles text fault → ⊥
   not_both angles text lexemes fault a b = never_both (outcome_of alphabet angles text) lexemes fault (lexemes_answered angles text lexemes a) (fault_answered angles text fault b)
 
@@ -274,5 +285,6 @@ module _ (alphabet : Alphabet) where
   explains angles text Long has = has
   explains angles text NoMemory has = tt
 
+  -- the fault that a cutting answers explains itself in the text
   pub fault_of_answer : (angles : Bool) (text : List ℕ) (fault : ScanFault) → outcome_of alphabet angles text ≡ Err fault → ExplainsFault alphabet angles text fault
   fault_of_answer angles text fault is = explains angles text fault (has_of_answer angles text fault is)

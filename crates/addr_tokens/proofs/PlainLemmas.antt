@@ -19,6 +19,7 @@ pub token_in-map : (tokens : List Token) → flat_map token_in (map Plain tokens
 token_in-map [] = refl
 token_in-map (token ∷ tokens) = ap (λ x. token ∷ x) (token_in-map tokens)
 
+-- the lexeme is a token
 pub record IsToken (lexeme : Lexeme) : Type 0 where
   pub token : Token
   pub is : lexeme ≡ Plain token
@@ -35,7 +36,7 @@ with_token lexeme more t rest =
     subst (λ x. x ∷ more ≡ map Plain (flat_map token_in (x ∷ more))) (sym t.is) (ap (λ x. Plain t.token ∷ x) rest)
 
 -- outside of rules' sides pieces give tokens
-pub plain_pieces : (alphabet : Alphabet) (pieces : List Piece) (rest : List ℕ) → is_side alphabet.dollars ≡ false → ArePieces alphabet pieces rest
+plain_pieces : (alphabet : Alphabet) (pieces : List Piece) (rest : List ℕ) → is_side alphabet.dollars ≡ false → ArePieces alphabet pieces rest
     → lexemes_of alphabet.dollars pieces ≡ map Plain (flat_map token_in (lexemes_of alphabet.dollars pieces))
 plain_pieces alphabet [] rest plain each = refl
 plain_pieces alphabet (White b ∷ pieces) rest plain each = plain_pieces alphabet pieces rest plain each.1

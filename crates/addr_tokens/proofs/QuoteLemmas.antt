@@ -6,6 +6,7 @@ use Rattle.addr_tokens.specs.Pieces.{InQuotes, quote_nothing, quote_plain, quote
 use Rattle.addr_tokens.specs.Reader.{Ending, Closed, Unclosed, Bad, past_quote}
 use Rattle.addr_tokens.proofs.WordLemmas.{behind}
 
+-- the quotation is closed where the rest begins
 pub record ClosesQuote (text rest : List ℕ) : Type 0 where
   pub inside : List ℕ
   pub whole : text ≡ inside ++ 34 ∷ rest

@@ -60,6 +60,7 @@ module _ (alphabet : Alphabet) where
       ∙ ap (read_on (reading_by (length bs) alphabet) place) is
       ∙ ap (with_piece piece) (enough (length bs) (length rest) (place + length (bytes_of piece)) rest (omega arith) (omega arith))
 
+  -- where the first piece is refused, the reading ends with that fault
   pub reading_stop : (place b : ℕ) (bs : List ℕ) (fault : ScanFault) → first_of alphabet place b bs ≡ Err fault
       → reading_of alphabet place (b ∷ bs) ≡ record { pieces = []; fault = Some fault }
   reading_stop place b bs fault is =
@@ -147,6 +148,7 @@ module _ (alphabet : Alphabet) where
       (or_from _ _ (ne_eqb b 92 (λ e. false≢true (ap is_white (sym e) ∙ w))) (and_left _ _ (ne_eqb b 36 (λ e. false≢true (ap is_white (sym e) ∙ w)))))
       (and_left _ _ (and_left _ _ (and_left _ _ (not_from_true _ w))))
 
+  -- no word begins at an operator
   pub operator_none : (b : ℕ) (bs : List ℕ) → is_operator alphabet b bs ≡ true → NoWord alphabet (b ∷ bs)
   operator_none b bs o =
       let p = word_parts alphabet b bs (is_listed alphabet b) o in
@@ -180,7 +182,7 @@ module _ (alphabet : Alphabet) where
   follows_next (Dollar c) pieces rest each apart none = tt
   follows_next (Run bytes) pieces rest each apart none = none_next bytes pieces rest each apart none
 
-  pub apart_rest : (piece : Piece) (pieces : List Piece) → are_apart (piece ∷ pieces) ≡ true → are_apart pieces ≡ true
+  apart_rest : (piece : Piece) (pieces : List Piece) → are_apart (piece ∷ pieces) ≡ true → are_apart pieces ≡ true
   apart_rest (White b) ps h = h
   apart_rest (Comment bytes) ps h = h
   apart_rest (Quotation bytes) ps h = h
@@ -199,6 +201,7 @@ module _ (alphabet : Alphabet) where
   reading_first place [] piece rest is = absurd (cc is)
   reading_first place (b ∷ bs) piece rest is = reading_more place b bs piece rest is
 
+  -- pieces in front of a reading
   abbrev pub before : List Piece → Reading → Reading
   before pieces reading = record reading { pieces = pieces ++ reading.pieces }
 
@@ -217,6 +220,7 @@ module _ (alphabet : Alphabet) where
   stop_some : (place : ℕ) (fault : ScanFault) → Stops alphabet [] place fault → ⊥
   stop_some place fault stops = stop_length alphabet [] place fault stops refl
 
+  -- where nothing goes on, the reading has no pieces, and that fault
   pub reading_at_stop : (place : ℕ) (text : List ℕ) (fault : ScanFault) → Stops alphabet text place fault → reading_of alphabet place text ≡ record { pieces = []; fault = Some fault }
   reading_at_stop place [] fault stops = absurd (stop_some place fault stops)
   reading_at_stop place (b ∷ bs) fault stops = reading_stop place b bs fault (stop_is alphabet (b ∷ bs) place fault stops)

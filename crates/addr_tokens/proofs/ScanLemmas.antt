@@ -20,7 +20,7 @@ use Rattle.addr_tokens.proofs.OutcomeLemmas.{lexemes_of_answer, fault_of_answer}
 use Rattle.addr_tokens.proofs.FirstLemmas.{IsFirst, FirstReads, first_read}
 
 -- how many bytes the piece has
-pub piece-length : (first : Front) (text : List ℕ) → size_of first ≤ length text → length (bytes_of (piece_of first text)) ≡ size_of first
+piece-length : (first : Front) (text : List ℕ) → size_of first ≤ length text → length (bytes_of (piece_of first text)) ≡ size_of first
 piece-length front.White text le = refl
 piece-length (front.Comment n) text le = length-take-le n text le
 piece-length (front.Quotation n) text le = length-take-le n text le
@@ -55,7 +55,7 @@ module _ (alphabet : Alphabet) (angles : Bool) (place : ℕ) (lefts rest : List 
   parts : rest ≡ get_or rest 0 0 ∷ drop 1 rest
   parts = drop_more rest 0 0 some
 
-  pub first_stops : (fault : ScanFault) → first_of alphabet place (get_or rest 0 0) (drop 1 rest) ≡ Err fault → outcome_on alphabet angles place lefts rest ≡ Err fault
+  first_stops : (fault : ScanFault) → first_of alphabet place (get_or rest 0 0) (drop 1 rest) ≡ Err fault → outcome_on alphabet angles place lefts rest ≡ Err fault
   first_stops fault is =
       ap (λ r. judged alphabet.dollars angles place lefts r.pieces r.fault) (ap (reading_of alphabet place) parts ∙ reading_stop alphabet place (get_or rest 0 0) (drop 1 rest) fault is)
 
@@ -63,10 +63,10 @@ module _ (alphabet : Alphabet) (angles : Bool) (place : ℕ) (lefts rest : List 
     more : outcome_on alphabet angles place lefts rest ≡ judge_on (λ l. outcome_on alphabet angles (place + length (bytes_of piece)) l after) (given_by alphabet.dollars piece) (note_angle angles place lefts piece)
     more = ap (λ r. judged alphabet.dollars angles place lefts r.pieces r.fault) (ap (reading_of alphabet place) parts ∙ reading_more alphabet place (get_or rest 0 0) (drop 1 rest) piece after is)
 
-    pub note_stops : (fault : ScanFault) → note_angle angles place lefts piece ≡ Err fault → outcome_on alphabet angles place lefts rest ≡ Err fault
+    note_stops : (fault : ScanFault) → note_angle angles place lefts piece ≡ Err fault → outcome_on alphabet angles place lefts rest ≡ Err fault
     note_stops fault noted = more ∙ ap (judge_on (λ l. outcome_on alphabet angles (place + length (bytes_of piece)) l after) (given_by alphabet.dollars piece)) noted
 
-    pub goes_on : (now : List ℕ) → note_angle angles place lefts piece ≡ Ok now → outcome_on alphabet angles place lefts rest ≡ with_lexemes (given_by alphabet.dollars piece) (outcome_on alphabet angles (place + length (bytes_of piece)) now after)
+    goes_on : (now : List ℕ) → note_angle angles place lefts piece ≡ Ok now → outcome_on alphabet angles place lefts rest ≡ with_lexemes (given_by alphabet.dollars piece) (outcome_on alphabet angles (place + length (bytes_of piece)) now after)
     goes_on now noted = more ∙ ap (judge_on (λ l. outcome_on alphabet angles (place + length (bytes_of piece)) l after) (given_by alphabet.dollars piece)) noted
 
 module _ (alphabet : Alphabet) (angles : Bool) (text : List ℕ) (checked : Bool) (place : ℕ) (lefts : List ℕ) (is_long : Bool) (lexemes : List Lexeme)
@@ -77,10 +77,12 @@ module _ (alphabet : Alphabet) (angles : Bool) (text : List ℕ) (checked : Bool
   on_part : gathered is_long lexemes (outcome_on alphabet checked place lefts part) ≡ outcome_of alphabet angles text
   on_part = ap (λ x. gathered is_long lexemes (outcome_on alphabet checked place lefts x)) is ∙ so.outcome
 
+  -- a fault of the first piece of the rest is one of the text
   pub front_fails : (fault : ScanFault) → first_of alphabet place (get_or part 0 0) (drop 1 part) ≡ Err fault → ExplainsFault alphabet angles text fault
   front_fails fault first = fault_of_answer alphabet angles text fault (sym on_part ∙ ap (gathered is_long lexemes) (first_stops alphabet checked place lefts part some_left fault first))
 
   module _ (front : Front) (within : size_of front ≤ length part) (first : first_of alphabet place (get_or part 0 0) (drop 1 part) ≡ Ok (piece_of front part, drop (size_of front) part)) where
+    -- a piece that is read under an alphabet is one that it can give
     pub suits : Suits alphabet.dollars front
     suits =
         suits_by alphabet front (get_or part 0 0 ∷ drop 1 part) part (drop (size_of front) part)
@@ -89,6 +91,7 @@ module _ (alphabet : Alphabet) (angles : Bool) (text : List ℕ) (checked : Bool
     angle_stops : (fault : ScanFault) → note_angle checked place lefts (piece_of front part) ≡ Err fault → ExplainsFault alphabet angles text fault
     angle_stops fault noted = fault_of_answer alphabet angles text fault (sym on_part ∙ ap (gathered is_long lexemes) (note_stops alphabet checked place lefts part some_left _ _ first fault noted))
 
+    -- a fault of an angle bracket at its place is one of the text
     pub angle_fails : (fault : ScanFault) → (fault ≢ NoMemory → note_angle checked place lefts (piece_of front part) ≡ Err fault) → ExplainsFault alphabet angles text fault
     angle_fails (Unbalanced n) noted = angle_stops (Unbalanced n) (noted (λ e. cc e))
     angle_fails (BadQuote n) noted = angle_stops (BadQuote n) (noted (λ e. cc e))
@@ -96,6 +99,7 @@ module _ (alphabet : Alphabet) (angles : Bool) (text : List ℕ) (checked : Bool
     angle_fails Long noted = angle_stops Long (noted (λ e. cc e))
     angle_fails NoMemory noted = tt
 
+    -- behind the first piece of the rest the scan stands where the text's outcome is still the same
     pub at_next : (now : List ℕ) (now_long : Bool) (now_lexemes : List Lexeme) → note_angle checked place lefts (piece_of front part) ≡ Ok now
         → ((answer : Answer) → gathered now_long now_lexemes answer ≡ gathered is_long lexemes (with_lexemes (given_by alphabet.dollars (piece_of front part)) answer))
         → At alphabet angles text checked (place + size_of front) now now_long now_lexemes
@@ -116,9 +120,11 @@ module _ (alphabet : Alphabet) (angles : Bool) (text : List ℕ) (checked : Bool
   at_end : gathered is_long lexemes (judge_end lefts None) ≡ outcome_of alphabet angles text
   at_end = ap (λ x. gathered is_long lexemes (outcome_on alphabet checked place lefts x)) (sym (drop_all place text all)) ∙ so.outcome
 
+  -- a fault at the end, for an open angle bracket or for too many tokens, is one of the text
   pub all_fails : (fault : ScanFault) → gathered is_long lexemes (judge_end lefts None) ≡ Err fault → ExplainsFault alphabet angles text fault
   all_fails fault gives = fault_of_answer alphabet angles text fault (sym at_end ∙ gives)
 
+  -- what is gathered at the end is the text's lexemes
   pub all_lexemes : (answer : List Lexeme) → gathered is_long lexemes (judge_end lefts None) ≡ Ok answer → AreLexemes alphabet angles text answer
   all_lexemes answer gives = lexemes_of_answer alphabet angles text answer (sym at_end ∙ gives)
 

@@ -48,17 +48,21 @@ module _ (text : List ℕ) (i : ℕ) (within : i < length text) where
   at : drop i text ≡ b ∷ after
   at = drop_more text i 0 within
 
+  -- in a comment a byte behind a backslash is passed
   pub comment_escaped_byte : (depth : ℕ) → past_comment depth true (drop i text) ≡ past_comment depth false (drop (i + 1) text)
   comment_escaped_byte depth = ap (past_comment depth true) at
 
+  -- in a comment a backslash quotes the byte behind it
   pub comment_backslash : (depth : ℕ) → get_or text i 0 ≡ 92 → past_comment depth false (drop i text) ≡ past_comment depth true (drop (i + 1) text)
   comment_backslash depth is = ap (past_comment depth false) at ∙ cond-true _ _ _ (eq-eqb _ _ is)
 
+  -- in a comment an opening parenthesis goes one deeper
   pub comment_opening : (depth : ℕ) → (get_or text i 0 ≡ 92 → ⊥) → get_or text i 0 ≡ 40 → past_comment depth false (drop i text) ≡ past_comment (depth + 1) false (drop (i + 1) text)
   comment_opening depth unslashed is =
       let e : suc depth ≡ depth + 1 = omega arith in
       ap (past_comment depth false) at ∙ cond-false _ _ _ (ne_eqb _ _ unslashed) ∙ cond-true _ _ _ (eq-eqb _ _ is) ∙ ap (λ d. past_comment d false after) e
 
+  -- in an inner comment a closing parenthesis comes back out by one
   pub comment_closing : (depth : ℕ) → (get_or text i 0 ≡ 92 → ⊥) → (get_or text i 0 ≡ 40 → ⊥) → get_or text i 0 ≡ 41 → (depth ≡ 0 → ⊥) → past_comment depth false (drop i text) ≡ past_comment (depth - 1) false (drop (i + 1) text)
   comment_closing zero unslashed none is some = absurd (some refl)
   comment_closing (suc depth) unslashed none is some =
@@ -66,22 +70,22 @@ module _ (text : List ℕ) (i : ℕ) (within : i < length text) where
       ap (past_comment (suc depth) false) at ∙ cond-false _ _ _ (ne_eqb _ _ unslashed) ∙ cond-false _ _ _ (ne_eqb _ _ none) ∙ cond-true _ _ _ (eq-eqb _ _ is)
       ∙ ap (λ d. past_comment d false after) e
 
+  -- in a comment any other byte is passed
   pub comment_byte : (depth : ℕ) → (get_or text i 0 ≡ 92 → ⊥) → (get_or text i 0 ≡ 40 → ⊥) → (get_or text i 0 ≡ 41 → ⊥) → past_comment depth false (drop i text) ≡ past_comment depth false (drop (i + 1) text)
   comment_byte depth unslashed none opens = ap (past_comment depth false) at ∙ cond-false _ _ _ (ne_eqb _ _ unslashed) ∙ cond-false _ _ _ (ne_eqb _ _ none) ∙ cond-false _ _ _ (ne_eqb _ _ opens)
 
-  pub word_taken_byte : (alphabet : Alphabet) → past_word alphabet true (drop i text) ≡ past_word alphabet false (drop (i + 1) text)
-  word_taken_byte alphabet = ap (past_word alphabet true) at
-
-  pub word_taking_byte : (alphabet : Alphabet) → takes_next alphabet (get_or text i 0) (drop (i + 1) text) ≡ true → past_word alphabet false (drop i text) ≡ past_word alphabet true (drop (i + 1) text)
+  word_taking_byte : (alphabet : Alphabet) → takes_next alphabet (get_or text i 0) (drop (i + 1) text) ≡ true → past_word alphabet false (drop i text) ≡ past_word alphabet true (drop (i + 1) text)
   word_taking_byte alphabet takes = ap (past_word alphabet false) at ∙ cond-true _ _ _ takes
 
-  pub word_byte : (alphabet : Alphabet) → takes_next alphabet (get_or text i 0) (drop (i + 1) text) ≡ false → is_word_byte alphabet (get_or text i 0) (drop (i + 1) text) ≡ true
+  word_byte : (alphabet : Alphabet) → takes_next alphabet (get_or text i 0) (drop (i + 1) text) ≡ false → is_word_byte alphabet (get_or text i 0) (drop (i + 1) text) ≡ true
       → past_word alphabet false (drop i text) ≡ past_word alphabet false (drop (i + 1) text)
   word_byte alphabet takes is = ap (past_word alphabet false) at ∙ cond-false _ _ _ takes ∙ cond-true _ _ _ is
 
+  -- a byte that needs no look at what is behind it goes on with a word
   pub lone_byte : (alphabet : Alphabet) → is_lone (is_listed alphabet (get_or text i 0)) (get_or text i 0) ≡ true → past_word alphabet false (drop i text) ≡ past_word alphabet false (drop (i + 1) text)
   lone_byte alphabet lone = word_byte alphabet (lone_takes alphabet b after lone) (lone_is alphabet b after lone)
 
+  -- a byte that takes the next one goes on with a word behind both
   pub word_pair : i + 1 < length text → (alphabet : Alphabet) → takes_next alphabet (get_or text i 0) (drop (i + 1) text) ≡ true → past_word alphabet false (drop i text) ≡ past_word alphabet false (drop (i + 2) text)
   word_pair more alphabet takes =
       let e : i + 1 + 1 ≡ i + 2 = omega arith in

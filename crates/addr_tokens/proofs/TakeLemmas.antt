@@ -25,9 +25,11 @@ module _ (alphabet : Alphabet) (place : ℕ) (text : List ℕ) (some : 0 < lengt
   parts : b ∷ drop 1 text ≡ text
   parts = sym (drop_more text 0 0 some)
 
+  -- white space is the first piece
   pub white_taken : is_white (get_or text 0 0) ≡ true → first_of alphabet place (get_or text 0 0) (drop 1 text) ≡ Ok (White (get_or text 0 0), drop 1 text)
   white_taken white = cond-true _ _ _ white
 
+  -- an operator is the first piece
   pub operator_taken : is_asked (is_listed alphabet (get_or text 0 0)) (get_or text 0 0) ≡ true → is_white (get_or text 0 0) ≡ false → (is_special (get_or text 0 0) || get_or text 0 0 == 36) ≡ false
       → first_of alphabet place (get_or text 0 0) (drop 1 text) ≡ Ok (Operator (get_or text 0 0), drop 1 text)
   operator_taken asked white unmarked =

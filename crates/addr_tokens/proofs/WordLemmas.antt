@@ -82,6 +82,7 @@ module _ (alphabet : Alphabet) where
       let more = word_reads bs in
       (word_at b bs (takes_next alphabet b bs) (is_word_byte alphabet b bs) refl refl more.1 more.0, more.0)
 
+  -- what is passed as a word is one, up to where it ends
   pub word_read : (text : List ℕ) → ReadsWord text (past_word alphabet false text)
   word_read text = (word_reads text).0
 
@@ -96,6 +97,7 @@ module _ (alphabet : Alphabet) where
   stops_at b bs false true t w taken plain = plain
   stops_at b bs false false t w taken plain = record { stays = cond-false _ _ _ t ∙ cond-false _ _ _ w }
 
+  -- no word goes on behind what was passed as one
   pub word_stops : (quoted : Bool) (text : List ℕ) → NoWord (past_word alphabet quoted text)
   word_stops true [] = record { stays = refl }
   word_stops false [] = record { stays = refl }
@@ -116,7 +118,7 @@ module _ (alphabet : Alphabet) where
   pair_by b after true is none = and_left (b == 36) _ (side_byte alphabet.dollars after (b == 36) is none)
   pair_by b after false is none = and_right (b == 36) _ (and_right (begins_dollar after) _ (and_left (is_side alphabet.dollars) _ is))
 
-  pub no_pair : (b : ℕ) (after : List ℕ) → is_dollar alphabet.dollars b after ≡ false → is_pair alphabet b after ≡ false
+  no_pair : (b : ℕ) (after : List ℕ) → is_dollar alphabet.dollars b after ≡ false → is_pair alphabet b after ≡ false
   no_pair b after none = pair_by b after (is_side alphabet.dollars) refl none
 
   -- nor does it take the next byte, where it is no backslash

@@ -1,4 +1,5 @@
--- Tokens joined to a text (Sendmail Installation and Operation Guide, "R and S: Rewriting Rules" and its option BlankSub).
+-- Tokens joined to a text (Sendmail Installation and Operation Guide, "R and S: Rewriting Rules"
+-- and its option BlankSub).
 use Rattle.std.specs.Prelude.{ℕ, Bool, true, false, ◌&&◌, List, [], ◌∷◌, ◌++◌, Option, Some, None, codes, if◌then◌else◌}
 use Rattle.mail_base.specs.declared.token.Token.{Token}
 use Rattle.mail_base.specs.declared.token.Token.TheVariants.{Word, Quoted, Op, Sign}
@@ -13,6 +14,7 @@ sign_bytes Host = codes "$@"
 sign_bytes User = codes "$:"
 sign_bytes End = codes "$."
 
+-- the bytes of a token
 abbrev pub token_bytes : Token → List ℕ
 token_bytes (Word text) = text
 token_bytes (Quoted text) = text
@@ -26,6 +28,7 @@ is_string (Quoted text) = true
 is_string (Op byte) = false
 is_string (Sign mark) = false
 
+-- the byte that stands for white space, if there is one
 abbrev pub blank_bytes : Option ℕ → List ℕ
 blank_bytes None = []
 blank_bytes (Some byte) = byte ∷ []
@@ -38,7 +41,8 @@ between blank left right = if is_string left && is_string right then blank_bytes
 abbrev pub joined : Option ℕ → List Token → List ℕ
 joined blank [] = []
 joined blank (token ∷ []) = token_bytes token
-joined blank (token ∷ next ∷ tokens) = token_bytes token ++ (between blank token next ++ joined blank (next ∷ tokens))
+joined blank (token ∷ next ∷ tokens) =
+    token_bytes token ++ (between blank token next ++ joined blank (next ∷ tokens))
 
 -- two words are neighbours
 abbrev pub have_neighbours : List Token → Bool

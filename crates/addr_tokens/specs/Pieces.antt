@@ -1,4 +1,6 @@
--- The pieces that a text is cut into, and what they give (Sendmail Installation and Operation Guide, "R and S: Rewriting Rules" and its option OperatorChars; for quoted strings and comments RFC 5322 sections 3.2.1, 3.2.2 and 3.2.4).
+-- The pieces that a text is cut into, and what they give (Sendmail Installation and Operation
+-- Guide, "R and S: Rewriting Rules" and its option OperatorChars; for quoted strings and comments
+-- RFC 5322 sections 3.2.1, 3.2.2 and 3.2.4).
 use Rattle.std.specs.Prelude.{◌≡◌, ◌≢◌, ℕ, Bool, true, false, not, ◌&&◌, ◌||◌, ◌==◌, nat_lt, List, [], ◌∷◌, ◌++◌, codes, slice_index, if◌then◌else◌}
 use Rattle.std.specs.List.{list_any, flat_map}
 use Rattle.mail_base.specs.Whites.{is_white}
@@ -27,6 +29,7 @@ pub record Alphabet : Type 0 where
   pub operators : List ℕ
   pub dollars : Dollars
 
+-- an alphabet by its operators, and by what dollar signs mean
 abbrev pub alphabet_of : List ℕ → Dollars → Alphabet
 alphabet_of operators dollars = record { operators = operators; dollars = dollars }
 
@@ -34,8 +37,10 @@ alphabet_of operators dollars = record { operators = operators; dollars = dollar
 abbrev pub plain : List ℕ → Alphabet
 plain operators = alphabet_of operators Bytes
 
+-- whether a byte is one of the operators
 abbrev pub is_listed : Alphabet → ℕ → Bool
-is_listed alphabet b = list_any (λ o. o == b) alphabet.operators || list_any (λ o. o == b) fixed_operators
+is_listed alphabet b =
+    list_any (λ o. o == b) alphabet.operators || list_any (λ o. o == b) fixed_operators
 
 -- ---- dollar signs
 
@@ -43,8 +48,10 @@ is_listed alphabet b = list_any (λ o. o == b) alphabet.operators || list_any (�
 abbrev pub is_mark : ℕ → Bool
 is_mark b = list_any (λ m. m == b) (codes "|#@:.")
 
+-- what a byte behind a dollar sign marks
 abbrev pub mark_of : ℕ → Mark
-mark_of b = if b == 124 then Alt else if b == 35 then Mailer else if b == 64 then Host else if b == 58 then User else End
+mark_of b = if b == 124 then Alt else if b == 35 then Mailer else if b == 64 then Host
+    else if b == 58 then User else End
 
 -- what may follow a dollar sign in a rule's side and has no name
 abbrev pub is_bare : ℕ → Bool
@@ -62,7 +69,8 @@ is_sign b = list_any (λ s. s == b) (codes "0123456789*+-@:#>[]()=~$&?|.{")
 abbrev pub is_name : ℕ → Bool
 is_name b = not (is_white b) && not (is_sign b)
 
--- a class's name of one byte may be such a sign, but a dollar sign begins a construct, and an open brace a name in braces
+-- a class's name of one byte may be such a sign, but a dollar sign begins a construct, and an open
+-- brace a name in braces
 abbrev pub is_class_name : ℕ → Bool
 is_class_name b = not (is_white b) && not (b == 36 || b == 123)
 
@@ -100,15 +108,18 @@ is_construct_in Side operator (Braced byte name) = is_naming byte && is_in_brace
 abbrev pub is_construct : Alphabet → Construct → Bool
 is_construct alphabet construct = is_construct_in alphabet.dollars (is_listed alphabet 36) construct
 
--- before what is behind it a dollar sign begins a construct or is refused: in a typed address before one of the five bytes, in a rule's side each. Where nothing is behind it, 0 is.
+-- before what is behind it a dollar sign begins a construct or is refused: in a typed address
+-- before one of the five bytes, in a rule's side each. Where nothing is behind it, 0 is.
 abbrev pub means : Dollars → List ℕ → Bool
 means Bytes after = false
 means Typed after = is_mark (slice_index after 0)
 means Side after = true
 
+-- whether a construct begins with this byte
 abbrev pub is_dollar : Dollars → ℕ → List ℕ → Bool
 is_dollar dollars b after = b == 36 && means dollars after
 
+-- whether the text is a side of a rule
 abbrev pub is_side : Dollars → Bool
 is_side Bytes = false
 is_side Typed = false
@@ -120,13 +131,16 @@ is_doubled alphabet = is_side alphabet.dollars && not (is_listed alphabet 36)
 
 -- ---- bytes
 
--- white space, quotes, backslashes and parentheses stay what they are where they are listed as operators
+-- white space, quotes, backslashes and parentheses stay what they are where they are listed as
+-- operators
 abbrev pub is_operator : Alphabet → ℕ → List ℕ → Bool
-is_operator alphabet b after = not (is_white b) && not (is_special b) && is_listed alphabet b && not (is_dollar alphabet.dollars b after)
+is_operator alphabet b after = not (is_white b) && not (is_special b) && is_listed alphabet b
+    && not (is_dollar alphabet.dollars b after)
 
 -- a byte that stands in a word by itself, before what is behind it
 abbrev pub is_word_byte : Alphabet → ℕ → List ℕ → Bool
-is_word_byte alphabet b after = not (is_white b) && not (is_special b) && not (is_listed alphabet b) && not (is_dollar alphabet.dollars b after)
+is_word_byte alphabet b after = not (is_white b) && not (is_special b) && not (is_listed alphabet b)
+    && not (is_dollar alphabet.dollars b after)
 
 -- a byte that stands in quotes by itself
 abbrev pub is_quotable : ℕ → Bool
@@ -136,26 +150,35 @@ is_quotable b = not (is_control b) && not (b == 34) && not (b == 92)
 abbrev pub is_comment_byte : ℕ → Bool
 is_comment_byte b = not (b == 92) && not (b == 40) && not (b == 41)
 
--- bytes of a word that stands before a rest: a backslash stands with the byte that it quotes, whatever that is
+-- bytes of a word that stands before a rest: a backslash stands with the byte that it quotes,
+-- whatever that is
 pub data InWord (alphabet : Alphabet) : List ℕ → List ℕ → Type 0 where
   word_nothing : (rest : List ℕ) → InWord alphabet [] rest
-  word_plain : (b : ℕ) (more rest : List ℕ) → is_word_byte alphabet b (more ++ rest) ≡ true → InWord alphabet more rest → InWord alphabet (b ∷ more) rest
-  word_escaped : (b : ℕ) (more rest : List ℕ) → InWord alphabet more rest → InWord alphabet (92 ∷ b ∷ more) rest
-  word_doubled : (more rest : List ℕ) → is_doubled alphabet ≡ true → InWord alphabet more rest → InWord alphabet (36 ∷ 36 ∷ more) rest
+  word_plain : (b : ℕ) (more rest : List ℕ) → is_word_byte alphabet b (more ++ rest) ≡ true
+      → InWord alphabet more rest → InWord alphabet (b ∷ more) rest
+  word_escaped : (b : ℕ) (more rest : List ℕ) → InWord alphabet more rest
+      → InWord alphabet (92 ∷ b ∷ more) rest
+  word_doubled : (more rest : List ℕ) → is_doubled alphabet ≡ true → InWord alphabet more rest
+      → InWord alphabet (36 ∷ 36 ∷ more) rest
 
--- what may stand between two double quotes: no byte below 32 and no 127, not behind a backslash either
+-- what may stand between two double quotes: no byte below 32 and no 127, not behind a backslash
+-- either
 pub data InQuotes : List ℕ → Type 0 where
   quote_nothing : InQuotes []
   quote_plain : (b : ℕ) (more : List ℕ) → is_quotable b ≡ true → InQuotes more → InQuotes (b ∷ more)
-  quote_escaped : (b : ℕ) (more : List ℕ) → is_control b ≡ false → InQuotes more → InQuotes (92 ∷ b ∷ more)
+  quote_escaped : (b : ℕ) (more : List ℕ) → is_control b ≡ false → InQuotes more
+      → InQuotes (92 ∷ b ∷ more)
 
 -- what may stand between two parentheses; comments nest
 pub data InComment : List ℕ → Type 0 where
   comment_nothing : InComment []
-  comment_plain : (b : ℕ) (more : List ℕ) → is_comment_byte b ≡ true → InComment more → InComment (b ∷ more)
+  comment_plain : (b : ℕ) (more : List ℕ) → is_comment_byte b ≡ true → InComment more
+      → InComment (b ∷ more)
   comment_escaped : (b : ℕ) (more : List ℕ) → InComment more → InComment (92 ∷ b ∷ more)
-  comment_nested : (inside more : List ℕ) → InComment inside → InComment more → InComment (40 ∷ (inside ++ 41 ∷ more))
+  comment_nested : (inside more : List ℕ) → InComment inside → InComment more
+      → InComment (40 ∷ (inside ++ 41 ∷ more))
 
+-- what a text is cut into
 pub data Piece : Type 0 where
   White : (byte : ℕ) → Piece
   Comment : (bytes : List ℕ) → Piece
@@ -164,6 +187,7 @@ pub data Piece : Type 0 where
   Dollar : (construct : Construct) → Piece
   Run : (bytes : List ℕ) → Piece
 
+-- the bytes of the text that a piece has
 abbrev pub bytes_of : Piece → List ℕ
 bytes_of (White byte) = byte ∷ []
 bytes_of (Comment bytes) = bytes
@@ -198,9 +222,11 @@ IsPiece alphabet (Operator byte) rest = is_operator alphabet byte rest ≡ true
 IsPiece alphabet (Dollar construct) rest = is_construct alphabet construct ≡ true
 IsPiece alphabet (Run bytes) rest = IsRun alphabet bytes rest
 
+-- each piece is one before those behind it
 abbrev pub ArePieces : Alphabet → List Piece → List ℕ → Type 0
 ArePieces alphabet [] rest = Unit {0}
-ArePieces alphabet (piece ∷ pieces) rest = IsPiece alphabet piece (flat_map bytes_of pieces ++ rest) × ArePieces alphabet pieces rest
+ArePieces alphabet (piece ∷ pieces) rest =
+    IsPiece alphabet piece (flat_map bytes_of pieces ++ rest) × ArePieces alphabet pieces rest
 
 -- a word is never followed by a word
 abbrev pub are_apart : List Piece → Bool
@@ -210,7 +236,8 @@ are_apart (Run bytes ∷ Run more ∷ pieces) = false
 are_apart (piece ∷ pieces) = are_apart pieces
 
 -- the pieces are a cutting of a text that stands before a rest
-pub record CutsBefore (alphabet : Alphabet) (rest text : List ℕ) (pieces : List Piece) : Type 0 where
+pub record CutsBefore (alphabet : Alphabet) (rest text : List ℕ)
+    (pieces : List Piece) : Type 0 where
   pub whole : flat_map bytes_of pieces ≡ text
   pub each : ArePieces alphabet pieces rest
   pub apart : are_apart pieces ≡ true
@@ -225,13 +252,16 @@ Cuts alphabet text pieces = CutsBefore alphabet [] text pieces
 abbrev pub undoubled : List ℕ → List ℕ
 undoubled [] = []
 undoubled (b ∷ []) = b ∷ []
-undoubled (b ∷ c ∷ bytes) = if b == 92 then b ∷ c ∷ undoubled bytes else if b == 36 && c == 36 then 36 ∷ undoubled bytes else b ∷ undoubled (c ∷ bytes)
+undoubled (b ∷ c ∷ bytes) = if b == 92 then b ∷ c ∷ undoubled bytes
+    else if b == 36 && c == 36 then 36 ∷ undoubled bytes else b ∷ undoubled (c ∷ bytes)
 
+-- the text of a word, in which a side of a rule writes a dollar sign twice
 abbrev pub text_in : Dollars → List ℕ → List ℕ
 text_in Bytes bytes = bytes
 text_in Typed bytes = bytes
 text_in Side bytes = undoubled bytes
 
+-- what a construct is as a lexeme
 abbrev pub lexeme_of : Dollars → Construct → Lexeme
 lexeme_of Side (Single byte) = if byte == 36 then Plain (Op 36) else Metasign byte
 lexeme_of dollars (Single byte) = Plain (Sign (mark_of byte))
@@ -247,5 +277,6 @@ given_by dollars (Operator byte) = Plain (Op byte) ∷ []
 given_by dollars (Dollar construct) = lexeme_of dollars construct ∷ []
 given_by dollars (Run bytes) = Plain (Word (text_in dollars bytes)) ∷ []
 
+-- the lexemes of pieces
 abbrev pub lexemes_of : Dollars → List Piece → List Lexeme
 lexemes_of dollars pieces = flat_map (given_by dollars) pieces

@@ -1,4 +1,4 @@
-ghost use Rattle.std.specs.Prelude.{◌≡◌, ◌≤◌, ◌<◌, ◌+◌, ◌^◌, ℕ, List, drop, length, slice_index, IfOk, IfSome};
+ghost use Rattle.std.specs.Prelude.{◌≡◌, ◌≤◌, ◌<◌, ◌+◌, ◌^◌, drop, length, slice_index, IfOk, IfSome};
 ghost use Rattle.addr_tokens.specs.Pieces as spec;
 ghost use Rattle.addr_tokens.specs.Pieces.{Alphabet};
 ghost use Rattle.addr_tokens.specs.Reader as reader;

@@ -1,4 +1,4 @@
-ghost use Rattle.std.specs.Prelude.{◌≡◌, ◌<◌, ◌≤◌, ℕ, List, [], false, true, length, drop};
+ghost use Rattle.std.specs.Prelude.{◌≡◌, ◌<◌, ◌≤◌, [], false, true, length, drop};
 ghost use Rattle.addr_tokens.specs.Pieces.{Alphabet};
 ghost use Rattle.addr_tokens.specs.Reader.{past_word, past_quote, past_comment};
 ghost use Rattle.addr_tokens.specs.inner.Tables.{IsTable};

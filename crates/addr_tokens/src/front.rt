@@ -1,4 +1,4 @@
-ghost use Rattle.std.specs.Prelude.{◌≡◌, ◌+◌, ◌^◌, ◌<◌, ◌≤◌, ◌==◌, ◌||◌, ℕ, List, true, false, length, drop, slice_index, IfOk};
+ghost use Rattle.std.specs.Prelude.{◌≡◌, ◌+◌, ◌^◌, ◌<◌, ◌≤◌, ◌==◌, ◌||◌, true, false, length, drop, slice_index, IfOk};
 ghost use Rattle.addr_tokens.specs.Reader as reader;
 ghost use Rattle.addr_tokens.specs.Pieces as spec;
 ghost use Rattle.addr_tokens.specs.Pieces.{Alphabet};
@@ -35,8 +35,8 @@ impl Front {
     }
 }
 
-/// The first piece of a text before which so many bytes stand, where a byte begins it that quotes or
-/// comments, or a dollar sign.
+/// The first piece of a text before which so many bytes stand, where a byte begins it that quotes
+/// or comments, or a dollar sign.
 // One step of each scan calls it, and what it answers need not stand in memory there.
 #[inline(always)]
 pub(crate) fn marked_of(table: &Table, text: &[u8], place: u64) -> Result<Front, ScanFault>

@@ -1,6 +1,6 @@
 ghost use Rattle.std.specs.Prelude.{◌≡◌, ◌≢◌, ◌≤◌, ◌∷◌, [], List, ℕ, true, false, length, map, reverse, None, Ok, Err, OnOk, IfOk, IfErr};
 ghost use Rattle.addr_tokens.specs.declared.lexeme.Dollars.{Dollars as TheDollars};
-ghost use Rattle.addr_tokens.specs.declared.fault.ScanFault.TheVariants.{NoMemory as Memory, Unbalanced};
+ghost use Rattle.addr_tokens.specs.declared.fault.ScanFault.TheVariants.{NoMemory as Memory};
 ghost use Rattle.addr_tokens.specs.Pieces.{given_by};
 ghost use Rattle.addr_tokens.specs.Scans.{most_tokens};
 ghost use Rattle.addr_tokens.specs.Reader.{Answer, note_angle, close_angle, judge_end, with_lexemes, gathered};

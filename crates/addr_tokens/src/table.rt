@@ -1,4 +1,4 @@
-ghost use Rattle.std.specs.Prelude.{◌≡◌, ◌≤◌, ◌<◌, ◌==◌, ◌&&◌, ◌||◌, ◌⊎◌, ℕ, List, true, false, length, slice_index, slice_index_or};
+ghost use Rattle.std.specs.Prelude.{◌≡◌, ◌≤◌, ◌<◌, ◌==◌, ◌&&◌, ◌||◌, ◌⊎◌, ℕ, true, false, length, slice_index, slice_index_or};
 ghost use Rattle.std.specs.List.{list_any};
 ghost use Rattle.addr_tokens.specs.Pieces as spec;
 ghost use Rattle.addr_tokens.specs.Pieces.{Alphabet, alphabet_of};
@@ -20,8 +20,8 @@ const ASKED: &[u8] = b"\"\\()$\x7f";
 #[derive(Drop)]
 pub(crate) struct Table {
     listed: [bool; 256],
-    /// Where it is false the byte stands in a word whatever is behind it. Of the bytes where it is true
-    /// all but a backslash and a dollar sign end a word.
+    /// Where it is false the byte stands in a word whatever is behind it. Of the bytes where it is
+    /// true all but a backslash and a dollar sign end a word.
     asked: [bool; 256],
     dollars: Dollars,
     ghost lone: { AreLone listed asked },
@@ -149,7 +149,8 @@ fn list_low(listed: &mut [bool; 256])
     ensures kept { (b : ℕ) → slice_index_or listed.old b false ≡ true
         → slice_index_or listed.new b false ≡ true }
     ensures low { (b : ℕ) → b ≤ 32 → slice_index_or listed.new b false ≡ true }
-    ensures only { (b : ℕ) → 32 < b → slice_index_or listed.new b false ≡ slice_index_or listed.old b false }
+    ensures only { (b : ℕ) → 32 < b
+        → slice_index_or listed.new b false ≡ slice_index_or listed.old b false }
 {
     'bytes: for byte in 0..33usize {
         listed[byte] = true;

@@ -19,8 +19,10 @@ is_asked listed b = is_white b || (is_special b || (listed || b == 36))
 
 -- a byte that isn't in the second table is one, by the first, of operators
 abbrev pub AreLone : List Bool → List Bool → Type 0
-AreLone listed asked = (b : ℕ) → b < 256 → slice_index_or asked b false ≡ false → is_lone (slice_index_or listed b false) b ≡ true
+AreLone listed asked = (b : ℕ) → b < 256 → slice_index_or asked b false ≡ false
+    → is_lone (slice_index_or listed b false) b ≡ true
 
 -- a byte that is in it is the other
 abbrev pub AreAsked : List Bool → List Bool → Type 0
-AreAsked listed asked = (b : ℕ) → b < 256 → slice_index_or asked b false ≡ true → is_asked (slice_index_or listed b false) b ≡ true
+AreAsked listed asked = (b : ℕ) → b < 256 → slice_index_or asked b false ≡ true
+    → is_asked (slice_index_or listed b false) b ≡ true

@@ -42,7 +42,8 @@ construct_in (construct.Braced byte n) text = Braced byte (take n (drop 2 text))
 
 -- what is read behind a dollar sign
 abbrev pub construct_read : List ℕ → Result form.Construct ScanFault → First
-construct_read text (Ok found) = Ok (Dollar (construct_in found text), drop (size_behind found) text)
+construct_read text (Ok found) =
+    Ok (Dollar (construct_in found text), drop (size_behind found) text)
 construct_read text (Err fault) = Err fault
 
 -- what is read in braces
