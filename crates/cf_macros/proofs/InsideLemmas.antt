@@ -1,8 +1,8 @@
 -- What comes first inside the conditionals that are open around a rest.
-use Rattle.std.proofs.Common.{◌≡◌, ℕ, zero, suc, List, ◌++◌, refl, ap, sym, ◌∙◌, append_assoc, Option, None, Some, Bool, true, false, if◌then◌else◌}
+use Rattle.std.proofs.Common.{◌≡◌, ℕ, zero, suc, List, ◌++◌, refl, ap, sym, ◌∙◌, append_assoc, Some, Bool, true, false, if◌then◌else◌}
 use Rattle.cf_macros.specs.Readings.{Parts, Choose, Reading, Last, BeforeElse, BeforeEnd, put, first_part, second_part, behind_end, closing}
 use Rattle.cf_macros.specs.Expansion.{Act, acts_of, silent, gives_any}
-use Rattle.cf_macros.specs.inner.Insides.{is_closed, if_there, inside, inside_other}
+use Rattle.cf_macros.specs.inner.Insides.{is_closed, inside, inside_other}
 
 -- something in front comes first
 pub inside-put : (followed : List ℕ → List Act) (front : Parts → Parts) (first : List Act) → ((parts : Parts) → acts_of followed (front parts) ≡ first ++ acts_of followed parts) →
@@ -20,11 +20,6 @@ closed-put front zero rest = refl
 closed-put front (suc depth) (Last parts) = refl
 closed-put front (suc depth) (BeforeElse parts more) = refl
 closed-put front (suc depth) (BeforeEnd parts more) = refl
-
--- a conditional around a rest that closes it
-pub closed-closing : (place : ℕ) (name : List ℕ) (inner : Reading) (after : Option Reading) (depth : ℕ) → is_closed (suc depth) (closing place name inner after) ≡ true → if_there (is_closed (suc depth)) after ≡ true
-closed-closing place name inner None depth h = h
-closed-closing place name inner (Some after) depth h = sym (closed-put (Choose name (first_part inner) (second_part inner)) (suc depth) after) ∙ h
 
 -- a conditional's acts are its test's, and then those of the part that the test chose
 pub inside-choose : (followed : List ℕ → List Act) (place : ℕ) (name : List ℕ) (inner after : Reading) (depth : ℕ) → behind_end inner ≡ Some after →

@@ -11,7 +11,7 @@ use Rattle.cf_macros.specs.Readings.{Parts, Nothing, Bytes, Refer, Choose, Broke
 use Rattle.cf_macros.specs.Written.{set_to}
 use Rattle.cf_macros.specs.Expansion.{Act, Gives, Follows, Fails, gives_any, silent, acts_of, whole, followed, with_byte, outcome}
 
--- acts that come to a text
+-- ---- acts that come to a text
 
 abbrev taken : Result (List ℕ) ExpandFault → List ℕ
 taken (Ok text) = text
@@ -33,7 +33,7 @@ bytewise : (byte : ℕ) (result : Result (List ℕ) ExpandFault) (text : List �
 bytewise byte (Ok later) text e = record { later = later; rest = refl; whole = sym (ok_same (byte ∷ later) text e) }
 bytewise byte (Err fault) text e = absurd (cc)
 
-pub more-bytes : (references bytes : ℕ) (acts : List Act) (text : List ℕ) → outcome references bytes acts ≡ Ok text → outcome references (suc bytes) acts ≡ Ok text
+more-bytes : (references bytes : ℕ) (acts : List Act) (text : List ℕ) → outcome references bytes acts ≡ Ok text → outcome references (suc bytes) acts ≡ Ok text
 more-bytes references bytes [] text e = e
 more-bytes references zero (Gives byte ∷ acts) text e = absurd (cc)
 more-bytes references (suc bytes) (Gives byte ∷ acts) text e =
@@ -112,7 +112,7 @@ outcome-any zero bytes (Follows ∷ acts) text e = absurd (cc)
 outcome-any (suc references) bytes (Follows ∷ acts) text e = outcome-any references bytes acts text e
 outcome-any references bytes (Fails fault ∷ acts) text e = absurd (cc)
 
--- acts without a refusal
+-- ---- acts without a refusal
 
 -- no act refuses
 abbrev pub Clean : List Act → Type 0
@@ -144,7 +144,7 @@ clean-silent (Gives byte ∷ acts) c = clean-silent acts c
 clean-silent (Follows ∷ acts) c = clean-silent acts c
 clean-silent (Fails fault ∷ acts) c = absurd c
 
--- where no refusal is met, more levels change nothing
+-- ---- where no refusal is met, more levels change nothing
 
 abbrev IsMore : (List ℕ → List Act) → (List ℕ → List Act) → Type 0
 IsMore few many = (name : List ℕ) → Clean (few name) → many name ≡ few name
@@ -190,7 +190,7 @@ deeper scope macros (suc levels) name c =
 pub deeper-text : (scope : Scope) (macros : List (List ℕ × List ℕ)) (levels : ℕ) (rest : Reading) → Clean (whole (followed scope levels macros) rest) → whole (followed scope (suc levels) macros) rest ≡ whole (followed scope levels macros) rest
 deeper-text scope macros levels rest c = deeper-whole (followed scope levels macros) (followed scope (suc levels) macros) (deeper scope macros levels) rest c
 
--- where a text begins changes nothing but the places of refusals
+-- ---- where a text begins changes nothing but the places of refusals
 
 abbrev unplaced : Parts → Parts
 unplaced Nothing = Nothing

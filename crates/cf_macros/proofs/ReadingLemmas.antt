@@ -10,7 +10,7 @@ use Rattle.cf_macros.specs.Readings.{Parts, Nothing, Bytes, Refer, Choose, Readi
 use Rattle.cf_macros.specs.inner.Insides.{rest_at, past, then_rest, ends_behind, IsBehind}
 
 -- skipping is dropping
-pub reading-skips : (scope : Scope) (place skipped : ℕ) (text : List ℕ) → reading scope place skipped text ≡ reading scope (skipped + place) 0 (drop skipped text)
+reading-skips : (scope : Scope) (place skipped : ℕ) (text : List ℕ) → reading scope place skipped text ≡ reading scope (skipped + place) 0 (drop skipped text)
 unfolding reading
 reading-skips scope place zero text = let e : 0 + place ≡ place = omega arith in rw e refl
 reading-skips scope place (suc skipped) [] = refl
@@ -39,7 +39,7 @@ drop-nil : (n : ℕ) → drop {A = ℕ} n [] ≡ []
 drop-nil zero = refl
 drop-nil (suc n) = refl
 
-pub drop-again : (width place : ℕ) (text : List ℕ) → drop width (drop place text) ≡ drop (place + width) text
+drop-again : (width place : ℕ) (text : List ℕ) → drop width (drop place text) ≡ drop (place + width) text
 drop-again width zero text = let e : 0 + width ≡ width = omega arith in rw e refl
 drop-again width (suc place) [] = drop-nil width ∙ sym (drop-nil (suc place + width))
 drop-again width (suc place) (byte ∷ text) = let e : suc place + width ≡ suc (place + width) = omega arith in rw e (drop-again width place text)
@@ -57,13 +57,13 @@ rest-end scope (byte ∷ text) (suc place) h = ap (reading scope (suc place) 0) 
     gone (byte ∷ text) (suc n) h = gone text n (omega arith)
 
 -- the rest of a text at a place, by the construct there
-pub rest-first : (scope : Scope) (text : List ℕ) (place : ℕ) → 0 < length (drop place text) → 1 ≤ (first_piece scope (drop place text)).width →
+rest-first : (scope : Scope) (text : List ℕ) (place : ℕ) → 0 < length (drop place text) → 1 ≤ (first_piece scope (drop place text)).width →
     rest_at scope text place ≡ before (first_piece scope (drop place text)).kind place (first_piece scope (drop place text)) (rest_at scope text (place + (first_piece scope (drop place text)).width))
 rest-first scope text place h moves =
     reading-first scope place (drop place text) h moves
     ∙ ap (λ t. before (first_piece scope (drop place text)).kind place (first_piece scope (drop place text)) (reading scope (place + (first_piece scope (drop place text)).width) 0 t)) (drop-again (first_piece scope (drop place text)).width place text)
 
-pub past-put : (front : Parts → Parts) (rest : Reading) (ends : ℕ) → past (suc ends) (put front rest) ≡ past (suc ends) rest
+past-put : (front : Parts → Parts) (rest : Reading) (ends : ℕ) → past (suc ends) (put front rest) ≡ past (suc ends) rest
 past-put front (Last parts) ends = refl
 past-put front (BeforeElse parts more) ends = refl
 past-put front (BeforeEnd parts more) ends = refl
@@ -73,7 +73,7 @@ past-closing place name inner None ends = refl
 past-closing place name inner (Some after) ends = past-put (Choose name (first_part inner) (second_part inner)) after ends
 
 -- a construct is passed by counting the signs that are still to pass
-pub past-before : (kind : Kind) (place : ℕ) (found : Piece) (rest : Reading) (ends : ℕ) → (kind ≡ Unclosed → ⊥) → past (suc ends) (before kind place found rest) ≡ past (ends_behind kind (suc ends)) rest
+past-before : (kind : Kind) (place : ℕ) (found : Piece) (rest : Reading) (ends : ℕ) → (kind ≡ Unclosed → ⊥) → past (suc ends) (before kind place found rest) ≡ past (ends_behind kind (suc ends)) rest
 past-before Plain place found rest ends h = past-put (Bytes found.text) rest ends
 past-before Reference place found rest ends h = past-put (Refer found.text) rest ends
 past-before Test place found rest ends h = past-closing place found.text rest (behind_end rest) ends
@@ -82,7 +82,7 @@ past-before End place found rest ends h = refl
 past-before Unclosed place found rest ends h = absurd (h refl)
 
 -- the rest of a text at a place, by the construct that the code found there
-pub rest-found : (scope : Scope) (text front : List ℕ) (place : ℕ) (found : Construct) → front ≡ drop place text → place < length text → Shows found (first_piece scope front) (length front) →
+rest-found : (scope : Scope) (text front : List ℕ) (place : ℕ) (found : Construct) → front ≡ drop place text → place < length text → Shows found (first_piece scope front) (length front) →
     rest_at scope text place ≡ before found.kind place (piece found.kind found.text.now found.width) (rest_at scope text (place + found.width))
 rest-found scope text front place found e h shows =
     let there : 0 < length (drop place text) = omega (arith, length-drop place text) in
@@ -134,7 +134,7 @@ same-put front (Last parts) = record { second = refl; behind = refl }
 same-put front (BeforeElse parts more) = record { second = refl; behind = refl }
 same-put front (BeforeEnd parts more) = record { second = refl; behind = refl }
 
-pub same-along : (one other third : Reading) → one ≡ other → SameBehind other third → SameBehind one third
+same-along : (one other third : Reading) → one ≡ other → SameBehind other third → SameBehind one third
 same-along one other third e same = record { second = ap second_part e ∙ same.second; behind = ap behind_end e ∙ same.behind }
 
 same-to : (one other third : Reading) → SameBehind one other → other ≡ third → SameBehind one third

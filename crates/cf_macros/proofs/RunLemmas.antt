@@ -61,13 +61,13 @@ pub none-end : (name : Option (Bor (List ℕ))) (level : Level) → is_some name
 none-end None level e end = end
 none-end (Some name) level e end = absurd (cc)
 
--- a reference above the levels
+-- ---- a reference above the levels
 
-pub followed-zero : (scope : Scope) (levels : ℕ) (macros : List (List ℕ × List ℕ)) (name : List ℕ) → levels ≡ 0 → followed scope levels macros name ≡ Fails Deep ∷ []
+followed-zero : (scope : Scope) (levels : ℕ) (macros : List (List ℕ × List ℕ)) (name : List ℕ) → levels ≡ 0 → followed scope levels macros name ≡ Fails Deep ∷ []
 unfolding followed
 followed-zero scope levels macros name e = rw e refl
 
-pub followed-suc : (scope : Scope) (levels less : ℕ) (macros : List (List ℕ × List ℕ)) (name : List ℕ) → levels ≡ suc less → followed scope levels macros name ≡ Follows ∷ whole (followed scope less macros) (reading scope 0 0 (unwrap_or (value_at name macros) []))
+followed-suc : (scope : Scope) (levels less : ℕ) (macros : List (List ℕ × List ℕ)) (name : List ℕ) → levels ≡ suc less → followed scope levels macros name ≡ Follows ∷ whole (followed scope less macros) (reading scope 0 0 (unwrap_or (value_at name macros) []))
 unfolding followed
 followed-suc scope levels less macros name e = rw e refl
 

@@ -10,7 +10,7 @@ use Rattle.cf_macros.specs.Expansion.{Act, Gives, Follows, Fails, silent, gives_
 use Rattle.cf_macros.specs.inner.Levels.{Above, above, either, waiting, under, stacked, told, room, ending, is_silent, level_rest, top, Goes, StopsBy, Stops, IsGiven, KeepsOut, Overflows, gave_after}
 use Rattle.cf_macros.specs.inner.Insides.{inside, inside_other}
 
--- acts
+-- ---- acts
 
 -- nothing given in front changes nothing
 pub told-none : (result : Result (List ℕ) ExpandFault) → told [] result ≡ result
@@ -21,7 +21,7 @@ told-byte : (byte : ℕ) (bytes : List ℕ) (result : Result (List ℕ) ExpandFa
 told-byte byte bytes (Ok text) = refl
 told-byte byte bytes (Err fault) = refl
 
-pub told-again : (one other : List ℕ) (result : Result (List ℕ) ExpandFault) → told one (told other result) ≡ told (one ++ other) result
+told-again : (one other : List ℕ) (result : Result (List ℕ) ExpandFault) → told one (told other result) ≡ told (one ++ other) result
 told-again one other (Ok text) = ap Ok (sym (append_assoc one other text))
 told-again one other (Err fault) = refl
 
@@ -35,12 +35,12 @@ outcome-gives references (suc bytes) (byte ∷ given) acts h =
     ∙ told-byte byte given (outcome references (bytes - length given) acts)
     ∙ ap (λ n. told (byte ∷ given) (outcome references n acts)) (sym e)
 
-pub outcome-large : (references bytes : ℕ) (given : List ℕ) (acts : List Act) → bytes < length given → outcome references bytes (map Gives given ++ acts) ≡ Err Large
+outcome-large : (references bytes : ℕ) (given : List ℕ) (acts : List Act) → bytes < length given → outcome references bytes (map Gives given ++ acts) ≡ Err Large
 outcome-large references bytes [] acts h = absurd (omega arith)
 outcome-large references zero (byte ∷ given) acts h = refl
 outcome-large references (suc bytes) (byte ∷ given) acts h = ap (with_byte byte) (outcome-large references bytes given acts (omega arith))
 
--- stacks
+-- ---- stacks
 
 -- the level on top is the last of a stack, with the levels that are left there
 pub stacked-append : (levels : ℕ) (macros : List (List ℕ × List ℕ)) (below : List Level) (level : Level) (over : Above) →
@@ -50,7 +50,7 @@ stacked-append levels macros (first ∷ below) level over =
     let e : levels - 1 - length below ≡ levels - suc (length below) = omega arith in
     ap (under (followed first.scope levels macros) first) (stacked-append (levels - 1) macros below level over ∙ ap (λ n. stacked (levels - 1) macros below (under (followed level.scope n macros) level over)) e)
 
--- a byte that is given while a test is open is noted, and nothing else
+-- ---- a byte that is given while a test is open is noted, and nothing else
 
 silent-gives : (byte : ℕ) (bytes : List ℕ) (acts : List Act) → silent (map Gives (byte ∷ bytes) ++ acts) ≡ silent acts
 silent-gives byte [] acts = refl
@@ -59,10 +59,6 @@ silent-gives byte (next ∷ bytes) acts = silent-gives next bytes acts
 either-true : (b : Bool) → either b true ≡ true
 either-true true = refl
 either-true false = refl
-
--- in front of the acts of a stack
-abbrev pub in_front : List Act → Above → Above
-in_front acts over = above over.given (acts ++ over.acts)
 
 -- where no level waits for its test, what has been given is given first
 pub record GivesFirst (bytes : List ℕ) (one other : Above) : Type 0 where
@@ -85,14 +81,14 @@ either-cases : (one other : Bool) → either one other ≡ false → (one ≡ fa
 either-cases true other e = absurd (cc)
 either-cases false other e = (refl, e)
 
-pub stacked-shown : (levels : ℕ) (macros : List (List ℕ × List ℕ)) (below : List Level) (byte : ℕ) (bytes : List ℕ) (one other : Above) → GivesFirst (byte ∷ bytes) one other → is_silent below ≡ false →
+stacked-shown : (levels : ℕ) (macros : List (List ℕ × List ℕ)) (below : List Level) (byte : ℕ) (bytes : List ℕ) (one other : Above) → GivesFirst (byte ∷ bytes) one other → is_silent below ≡ false →
     GivesFirst (byte ∷ bytes) (stacked levels macros below one) (stacked levels macros below other)
 stacked-shown levels macros [] byte bytes one other h e = h
 stacked-shown levels macros (level ∷ below) byte bytes one other h e =
     let both = either-cases level.tests (is_silent below) e in
     waits-gives level.tests level.gave (inside (followed level.scope levels macros) level.depth (level_rest level)) (inside_other (followed level.scope levels macros) level.depth (level_rest level)) byte bytes (stacked (levels - 1) macros below one) (stacked (levels - 1) macros below other) (stacked-shown (levels - 1) macros below byte bytes one other h both.1) both.0
 
-pub stacked-kept : (levels : ℕ) (macros : List (List ℕ × List ℕ)) (below : List Level) (byte : ℕ) (bytes : List ℕ) (one other : Above) → GivesFirst (byte ∷ bytes) one other → is_silent below ≡ true →
+stacked-kept : (levels : ℕ) (macros : List (List ℕ × List ℕ)) (below : List Level) (byte : ℕ) (bytes : List ℕ) (one other : Above) → GivesFirst (byte ∷ bytes) one other → is_silent below ≡ true →
     stacked levels macros below one ≡ stacked levels macros below other
 stacked-kept levels macros [] byte bytes one other h e = absurd (cc)
 stacked-kept levels macros (level ∷ below) byte bytes one other h e = by_inner (is_silent below) refl (stacked-kept (levels - 1) macros below byte bytes one other h)
@@ -105,8 +101,9 @@ stacked-kept levels macros (level ∷ below) byte bytes one other h e = by_inner
     by_inner true i inner = ap (under (followed level.scope levels macros) level) (inner i)
     by_inner false i inner = tests-gives level.tests level.gave (inside (followed level.scope levels macros) level.depth (level_rest level)) (inside_other (followed level.scope levels macros) level.depth (level_rest level)) byte bytes (stacked (levels - 1) macros below one) (stacked (levels - 1) macros below other) (stacked-shown (levels - 1) macros below byte bytes one other h i) (waits level.tests (is_silent below) e i)
 
--- a reference that is followed comes first, and so does a refusal
+-- ---- a reference that is followed comes first, and so does a refusal
 
+-- a reference that is followed, before all other acts
 abbrev pub following : Above → Above
 following over = above over.given (Follows ∷ over.acts)
 
@@ -130,7 +127,7 @@ waits-refuses : (tests gave : Bool) (here there : List Act) (fault : ExpandFault
 waits-refuses true gave here there fault over h = record { more = _; acts = ap (λ acts. silent acts ++ (if either over.given (gives_any over.acts) then here else there)) h.acts }
 waits-refuses false gave here there fault over h = record { more = _; acts = ap (λ acts. acts ++ here) h.acts }
 
-pub stacked-refuses : (levels : ℕ) (macros : List (List ℕ × List ℕ)) (below : List Level) (fault : ExpandFault) (over : Above) → Refuses fault over → Refuses fault (stacked levels macros below over)
+stacked-refuses : (levels : ℕ) (macros : List (List ℕ × List ℕ)) (below : List Level) (fault : ExpandFault) (over : Above) → Refuses fault over → Refuses fault (stacked levels macros below over)
 stacked-refuses levels macros [] fault over h = h
 stacked-refuses levels macros (level ∷ below) fault over h =
     waits-refuses level.tests level.gave (inside (followed level.scope levels macros) level.depth (level_rest level)) (inside_other (followed level.scope levels macros) level.depth (level_rest level)) fault (stacked (levels - 1) macros below over) (stacked-refuses (levels - 1) macros below fault over h)
@@ -140,8 +137,9 @@ pub ending-refuses : (below : List Level) (macros : List (List ℕ × List ℕ))
 ending-refuses below macros references given fault over h =
     ap (λ acts. told given (outcome references (room given) acts)) (stacked-refuses 10 macros below fault over h).acts
 
--- what is given in a level that waits for no test
+-- ---- what is given in a level that waits for no test
 
+-- the one gives these bytes first and is then the other
 abbrev pub GivesTop : List ℕ → Above → Above → Type 0
 GivesTop [] one other = one ≡ other
 GivesTop (byte ∷ bytes) one other = GivesFirst (byte ∷ bytes) one other
@@ -160,14 +158,14 @@ ending-shown below macros references given byte bytes one other h e fits =
     ∙ ap (told given) (sym (outcome-gives references (room given) (byte ∷ bytes) later fits))
     ∙ ap (λ acts. told given (outcome references (room given) acts)) (sym acts)
 
-pub ending-large : (below : List Level) (macros : List (List ℕ × List ℕ)) (references : ℕ) (given bytes : List ℕ) (one other : Above) → GivesTop bytes one other → is_silent below ≡ false → room given < length bytes →
+ending-large : (below : List Level) (macros : List (List ℕ × List ℕ)) (references : ℕ) (given bytes : List ℕ) (one other : Above) → GivesTop bytes one other → is_silent below ≡ false → room given < length bytes →
     ending below macros references given one ≡ Err Large
 ending-large below macros references given [] one other h e large = absurd (omega arith)
 ending-large below macros references given (byte ∷ bytes) one other h e large =
     ap (λ acts. told given (outcome references (room given) acts)) (stacked-shown 10 macros below byte bytes one other h e).acts
     ∙ ap (told given) (outcome-large references (room given) (byte ∷ bytes) (stacked 10 macros below other).acts large)
 
-pub ending-gives : (below : List Level) (macros : List (List ℕ × List ℕ)) (references : ℕ) (was now bytes : List ℕ) (one other : Above) (silent : Bool) → GivesTop bytes one other → is_silent below ≡ silent →
+ending-gives : (below : List Level) (macros : List (List ℕ × List ℕ)) (references : ℕ) (was now bytes : List ℕ) (one other : Above) (silent : Bool) → GivesTop bytes one other → is_silent below ≡ silent →
     (silent ≡ true → now ≡ was) → (silent ≡ false → now ≡ was ++ bytes) → (silent ≡ false → length bytes ≤ room was) →
     ending below macros references now other ≡ ending below macros references was one
 ending-gives below macros references was now [] one other true h e kept given fits =
@@ -182,7 +180,7 @@ ending-gives below macros references was now (byte ∷ bytes) one other false h 
     ∙ ending-shown below macros references was byte bytes one other h e (fits refl)
 
 -- two levels that wait for no test, of which one gives bytes and then is the other
-pub gives-top : (f : List ℕ → List Act) (old new : Level) (bytes : List ℕ) → old.tests ≡ false → new.tests ≡ false → new.gave ≡ gave_after old.gave bytes →
+gives-top : (f : List ℕ → List Act) (old new : Level) (bytes : List ℕ) → old.tests ≡ false → new.tests ≡ false → new.gave ≡ gave_after old.gave bytes →
     inside f old.depth (level_rest old) ≡ map Gives bytes ++ inside f new.depth (level_rest new) → GivesTop bytes (top f old None) (top f new None)
 gives-top f old new [] o n g e = rw (o, n, g, e) refl
 gives-top f old new (byte ∷ bytes) o n g e = rw (o, n) (record { acts = e; given = g })
@@ -233,23 +231,6 @@ goes-same old new was name s e = record {
       ∙ ap (ending below macros references was.text) (e (followed old.scope (10 - length below) macros));
   silent = refl;
 }
-
-pub goes-again : (first : Level) (was : Given) (old : Level) (between : Given) (new : Level) (now : Given) (name : Option (List ℕ)) → Goes first was old between None → Goes old between new now name → Goes first was new now name
-goes-again first was old between new now name g h = record {
-  same = λ below macros references silent. h.same below macros references (silent ∙ sym g.silent) ∙ g.same below macros references silent;
-  silent = h.silent ∙ g.silent;
-}
-
-stops-by-again : (first : Level) (was : Given) (old : Level) (between : Given) (fault : ExpandFault) → Goes first was old between None → StopsBy fault old between → StopsBy fault first was
-stops-by-again first was old between fault g h = record {
-  stops = λ below macros references silent. sym (g.same below macros references silent) ∙ h.stops below macros references (silent ∙ sym g.silent);
-}
-
-pub stops-again : (first : Level) (was : Given) (old : Level) (between : Given) (fault : ExpandFault) → Goes first was old between None → Stops fault old between → Stops fault first was
-stops-again first was old between (Unclosed place) g h = stops-by-again first was old between (Unclosed place) g h
-stops-again first was old between Deep g h = stops-by-again first was old between Deep g h
-stops-again first was old between Large g h = stops-by-again first was old between Large g h
-stops-again first was old between NoMemory g h = tt
 
 -- the test over all levels
 pub any-silent : (below : List Level) → list_any (λ (level : Level). level.tests) below ≡ is_silent below

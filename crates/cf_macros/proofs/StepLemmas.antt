@@ -1,54 +1,22 @@
 -- How a level goes on at each kind of construct.
 use Rattle.std.proofs.Common.{◌≡◌, ℕ, zero, suc, ◌-◌, ◌<◌, ◌≤◌, List, [], ◌++◌, length, map, refl, ap, sym, ◌∙◌, arith, Option, None, Some, Bool, true, false, if◌then◌else◌}
-use Rattle.std.specs.Prelude.{codes}
 use Rattle.cf_macros.specs.declared.fault.ExpandFault.TheVariants.{Unclosed}
 use Rattle.cf_macros.specs.declared.level.Level.{Level}
 use Rattle.cf_macros.specs.declared.level.Given.{Given}
-use Rattle.cf_macros.specs.Readings.{Nothing, Bytes, Refer, Broken, Reading, Last, BeforeElse, BeforeEnd, put, second_part, behind_end, closing}
+use Rattle.cf_macros.specs.Readings.{Nothing, Bytes, Refer, Broken, Reading, Last, BeforeElse, put, second_part, behind_end, closing}
 use Rattle.cf_macros.specs.Expansion.{Act, Gives, silent, gives_any}
 use Rattle.cf_macros.specs.inner.Insides.{rest_at, is_closed, if_there, inside, inside_other}
 use Rattle.cf_macros.specs.inner.Levels.{above, Goes, StopsBy, level_rest, Resumes, GivesNext, IsAt}
-use Rattle.cf_macros.proofs.InsideLemmas.{inside-put, closed-put, closed-closing, inside-choose}
+use Rattle.cf_macros.proofs.InsideLemmas.{inside-put, closed-put, inside-choose}
 use Rattle.cf_macros.proofs.StackLemmas.{goes-same, stops-refused, Refuses}
-
--- behind `$|`, inside a conditional
 
 -- inside a conditional, a `$|` is gone on from behind the conditional's end
 pub inside-else : (f : List ℕ → List Act) (depth : ℕ) (rest inner after : Reading) → 1 ≤ depth → rest ≡ BeforeElse Nothing inner → behind_end inner ≡ Some after → inside f depth rest ≡ inside f (depth - 1) after
 inside-else f zero rest inner after h e b = absurd (omega arith)
 inside-else f (suc depth) rest inner after h e b = let d : suc depth - 1 ≡ depth = omega arith in rw (e, d, b) refl
 
-pub inside-unclosed : (f : List ℕ → List Act) (depth : ℕ) (rest inner : Reading) → 1 ≤ depth → rest ≡ BeforeElse Nothing inner → behind_end inner ≡ None → inside f depth rest ≡ []
-inside-unclosed f zero rest inner h e b = absurd (omega arith)
-inside-unclosed f (suc depth) rest inner h e b = rw (e, b) refl
-
-pub closed-else : (depth : ℕ) (rest inner after : Reading) → 1 ≤ depth → rest ≡ BeforeElse Nothing inner → behind_end inner ≡ Some after → is_closed depth rest ≡ true → is_closed (depth - 1) after ≡ true
-closed-else zero rest inner after h e b c = absurd (omega arith)
-closed-else (suc depth) rest inner after h e b c = let d : suc depth - 1 ≡ depth = omega arith in rw d (sym (ap (if_there (is_closed depth)) b) ∙ sym (ap (is_closed (suc depth)) e) ∙ c)
-
--- behind `$.`, inside a conditional
-
-pub inside-end : (f : List ℕ → List Act) (depth : ℕ) (rest after : Reading) → 1 ≤ depth → rest ≡ BeforeEnd Nothing after → inside f depth rest ≡ inside f (depth - 1) after
-inside-end f zero rest after h e = absurd (omega arith)
-inside-end f (suc depth) rest after h e = let d : suc depth - 1 ≡ depth = omega arith in rw (e, d) refl
-
-pub closed-end : (depth : ℕ) (rest after : Reading) → 1 ≤ depth → rest ≡ BeforeEnd Nothing after → is_closed depth rest ≡ true → is_closed (depth - 1) after ≡ true
-closed-end zero rest after h e c = absurd (omega arith)
-closed-end (suc depth) rest after h e c = let d : suc depth - 1 ≡ depth = omega arith in rw d (sym (ap (is_closed (suc depth)) e) ∙ c)
-
--- the two signs outside conditionals
-
-pub inside-bare-else : (f : List ℕ → List Act) (depth : ℕ) (rest inner : Reading) → depth ≡ 0 → rest ≡ BeforeElse Nothing inner → inside f depth rest ≡ map Gives (codes "$|") ++ inside f depth inner
-inside-bare-else f depth rest inner d e = rw (d, e) refl
-
-pub inside-bare-end : (f : List ℕ → List Act) (depth : ℕ) (rest inner : Reading) → depth ≡ 0 → rest ≡ BeforeEnd Nothing inner → inside f depth rest ≡ map Gives (codes "$.") ++ inside f depth inner
-inside-bare-end f depth rest inner d e = rw (d, e) refl
-
-pub closed-bare : (depth : ℕ) (rest : Reading) → depth ≡ 0 → is_closed depth rest ≡ true
-closed-bare depth rest d = rw d refl
-
 -- levels that wait for no test and come to the same acts
-pub goes-alike : (old new : Level) (was : Given) → old.tests ≡ false → new.tests ≡ false → new.gave ≡ old.gave → new.scope ≡ old.scope → ((f : List ℕ → List Act) → inside f old.depth (level_rest old) ≡ inside f new.depth (level_rest new)) → Goes old was new was None
+goes-alike : (old new : Level) (was : Given) → old.tests ≡ false → new.tests ≡ false → new.gave ≡ old.gave → new.scope ≡ old.scope → ((f : List ℕ → List Act) → inside f old.depth (level_rest old) ≡ inside f new.depth (level_rest new)) → Goes old was new was None
 goes-alike old new was o n g s e = goes-same old new was None s (λ f. rw (o, n, g, e f) refl)
 
 -- a level that reads a reference goes on to it
@@ -81,11 +49,6 @@ stops-unclosed old was name inner o e b = stops-broken old was old.place o (e �
 pub there : (test : Reading → Bool) (after : Option Reading) → if_there test after ≡ true → (rest : Reading) × (after ≡ Some rest)
 there test None e = absurd (cc)
 there test (Some rest) e = (rest, refl)
-
--- inside a conditional that is closed, each one is
-pub closed-inner : (depth place : ℕ) (name : List ℕ) (rest inner : Reading) → 1 ≤ depth → rest ≡ closing place name inner (behind_end inner) → is_closed depth rest ≡ true → is_closed (suc depth) inner ≡ true
-closed-inner zero place name rest inner h e c = absurd (omega arith)
-closed-inner (suc depth) place name rest inner h e c = closed-closing place name inner (behind_end inner) depth (sym (ap (is_closed (suc depth)) e) ∙ c)
 
 -- a level that reads bytes gives them as its next construct
 pub gives-next : (self : Level) (bytes : List ℕ) (next : ℕ) → level_rest self ≡ put (Bytes bytes) (rest_at self.scope self.text.now next) → self.place < next → next ≤ length self.text.now → GivesNext self bytes next

@@ -51,7 +51,7 @@ refers_to scope macros name all text given r e =
     let c = cut scope macros (Refer name) (λ f. f name) (λ f parts. refl) all text given r e in
     (c.front, followed_value scope macros name c.front c.first, c.rest)
 
--- conditionals
+-- ---- conditionals
 
 tested : (scope : Scope) (macros : List (List ℕ × List ℕ)) (name test : List ℕ) → Clean (followed scope 10 macros name) → value_in scope (set_to macros name) macros ≡ Ok test → gives_any (followed scope 10 macros name) ≡ is_some_text test
 unfolding followed value_in
@@ -90,7 +90,7 @@ chooses scope macros name shown other all text given test is is_other r e t =
     let front : c.front ≡ s.back = s.whole ∙ ap (λ text. text ++ s.back) (outcome-silent 10000 1048576 (f name) s.front s.first) in
     (s.back, chosen_value scope macros shown other test s.back is is_other branch, (c.rest.0, c.rest.1, c.rest.2 ∙ ap (λ t. t ++ c.rest.0) front))
 
--- a text without a dollar sign
+-- ---- a text without a dollar sign
 
 plain_acts : (scope : Scope) (f : List ℕ → List Act) (text : List ℕ) (place : ℕ) → All (λ byte. byte ≢ 36) text → whole f (reading scope place 0 text) ≡ map Gives text
 unfolding reading

@@ -32,7 +32,7 @@ read_first scope bytes kind text opens place more =
     ∙ ap (λ (p : Piece). before p.kind place p (reading scope (place + p.width) 0 (drop p.width (bytes ++ more)))) found
     ∙ ap (λ t. before kind place (piece kind text (length bytes)) (reading scope (place + length bytes) 0 t)) (drop-append_seam bytes more)
 
--- names
+-- ---- names
 
 name_other : (x k : ℕ) → is_name x ≡ true → is_name k ≡ false → eqb x k ≡ false
 name_other x k is other = ne_eqb x k (λ e. let h : true ≡ false = sym is ∙ ap is_name e ∙ other in cc)
@@ -62,7 +62,7 @@ named_at (Braced word) is more = ap braced (word_position word more is)
 word_taken : (word more : List ℕ) → take (length word) ((word ++ 125 ∷ []) ++ more) ≡ word
 word_taken word more = ap (take (length word)) (append_assoc word (125 ∷ []) more) ∙ take-append_seam word (125 ∷ more)
 
--- each construct
+-- ---- each construct
 
 byte_opens : (scope : Scope) (b : ℕ) → b ≢ 36 → Opens scope (b ∷ []) Plain (b ∷ [])
 byte_opens scope b other = record { found = found; some = omega arith }
@@ -126,7 +126,7 @@ test_opens scope (Braced word) is = record {
   some = omega arith;
 }
 
--- what a construct but a conditional puts in front
+-- ---- what a construct but a conditional puts in front
 
 -- what a simple construct is, by where it stands
 abbrev pub kind_of : Scope → Simple → Kind
@@ -170,7 +170,7 @@ simple_reads Outside (Late name) is place more = read_first Outside (36 ∷ 38 �
 simple_reads Rule (Late name) is place more = read_first Rule (36 ∷ 38 ∷ name_spelling name) Plain (36 ∷ 38 ∷ name_spelling name) (kept_opens name is) place more
 simple_reads scope (Alone b) is place more = read_first scope (36 ∷ b ∷ []) Plain (36 ∷ b ∷ []) (alone_opens scope b is) place more
 
--- parts of conditionals
+-- ---- parts of conditionals
 
 -- a part of a conditional, put before other parts
 abbrev pub part_front : Scope → Part → Parts → Parts

@@ -1,4 +1,5 @@
--- The first construct of a text that names macros (Sendmail Installation and Operation Guide, macros and conditionals; which bytes are no names is our own).
+-- The first construct of a text that names macros (Sendmail Installation and Operation Guide,
+-- macros and conditionals; which bytes are no names is our own).
 use Rattle.std.specs.Prelude.{ℕ, List, [], ◌∷◌, Bool, Option, None, Some, if◌then◌else◌, ◌==◌, not, take, drop, codes, ◌+◌}
 use Rattle.std.specs.List.{list_any, position}
 use Rattle.cf_macros.specs.declared.construct.Kind.{Kind}
@@ -12,6 +13,7 @@ use Rattle.cf_macros.specs.declared.scope.Scope.TheVariants.{Outside, Rule}
 abbrev pub nameless_bytes : List ℕ
 nameless_bytes = codes "0123456789*+-@:#>[]()=~$&?|.{"
 
+-- whether a byte is the name of a macro
 abbrev pub is_name : ℕ → Bool
 is_name byte = not (list_any (λ other. other == byte) nameless_bytes)
 
@@ -20,26 +22,30 @@ abbrev pub braced : Option ℕ → Naming
 braced None = Open
 braced (Some length) = Word length
 
--- what stands where a name may stand: one byte, a word in braces by its length, a brace that nothing closes, or no name
+-- what stands where a name may stand: one byte, a word in braces by its length, a brace that
+-- nothing closes, or no name
 abbrev pub name_at : List ℕ → Naming
 name_at [] = Nameless
 name_at (byte ∷ text) =
     if byte == 123 then braced (position (λ other. other == 125) text)
     else if is_name byte then Letter else Nameless
 
--- what a construct is, its name or else the bytes that it stands for, and how many bytes of the text it takes; where something is unclosed, the bytes up to its own sign
+-- what a construct is, its name or else the bytes that it stands for, and how many bytes of the
+-- text it takes; where something is unclosed, the bytes up to its own sign
 pub record Piece : Type 0 where
   pub kind : Kind
   pub text : List ℕ
   pub width : ℕ
 
+-- a construct by its kind, its text and its width
 abbrev pub piece : Kind → List ℕ → ℕ → Piece
 piece kind text width = record { kind = kind; text = text; width = width }
 
 -- `$x` and `${x}`, and with an offset of 2 `$&x` and `$&{x}` outside rules
 abbrev pub reference_at : ℕ → List ℕ → Naming → Piece
 reference_at offset text Letter = piece Reference (take 1 (drop offset text)) (offset + 1)
-reference_at offset text (Word length) = piece Reference (take length (drop (offset + 1) text)) (offset + length + 2)
+reference_at offset text (Word length) =
+    piece Reference (take length (drop (offset + 1) text)) (offset + length + 2)
 reference_at offset text Open = piece Unclosed [] (offset + 1)
 reference_at offset text Nameless = piece Plain (take 2 text) 2
 
@@ -62,7 +68,8 @@ kept text (Word length) = piece Plain (take (length + 4) text) (length + 4)
 kept text Open = piece Unclosed [] 3
 kept text Nameless = piece Plain (take 2 text) 2
 
--- `$&x` and `$&{x}`, which outside rules stand for the macro, and in a rule stay as they are written
+-- `$&x` and `$&{x}`, which outside rules stand for the macro, and in a rule stay as they are
+-- written
 abbrev pub late : Scope → List ℕ → Naming → Piece
 late Outside text naming = reference_at 2 text naming
 late Rule text naming = kept text naming

@@ -1,4 +1,5 @@
--- The date of a moment, as the macros b, d and t have it (RFC 5322, section 3.3, for b; Sendmail Installation and Operation Guide, macros, for d and t).
+-- The date of a moment, as the macros b, d and t have it (RFC 5322, section 3.3, for b; Sendmail
+-- Installation and Operation Guide, macros, for d and t).
 use Rattle.std.specs.Prelude.{◌≡◌, ℕ, pos, List, [], ◌∷◌, ◌++◌, ◌+◌, ◌-◌, ◌*◌, ◌/◌, ◌%◌, nat_lt, if◌then◌else◌, min, take, drop, codes, unsigned_abs}
 use Rattle.jiff.specs.Words.{civil_nanos, weekday_of}
 use Rattle.jiff.specs.Types.{DateTime}
@@ -34,13 +35,17 @@ month_name month = take 3 (drop (3 * (month - 1)) (codes "JanFebMarAprMayJunJulA
 abbrev pub clock : Civil → List ℕ
 clock civil = two civil.hour ++ 58 ∷ two civil.minute ++ 58 ∷ two civil.second
 
--- a date in each form: `Thu, 1 Jan 2026 00:00:00 +0000`, `Thu Jan  1 00:00:00 2026` and `202601010000`
+-- a date in each form: `Thu, 1 Jan 2026 00:00:00 +0000`, `Thu Jan  1 00:00:00 2026` and
+-- `202601010000`
 abbrev pub shown : Form → Civil → List ℕ
 shown Mail civil =
-    weekday_name civil.weekday ++ codes ", " ++ padded [] civil.day ++ 32 ∷ month_name civil.month ++ 32 ∷ four civil.year ++ 32 ∷ clock civil ++ codes " +0000"
+    weekday_name civil.weekday ++ codes ", " ++ padded [] civil.day ++ 32 ∷ month_name civil.month
+    ++ 32 ∷ four civil.year ++ 32 ∷ clock civil ++ codes " +0000"
 shown Unix civil =
-    weekday_name civil.weekday ++ 32 ∷ month_name civil.month ++ 32 ∷ padded (codes " ") civil.day ++ 32 ∷ clock civil ++ 32 ∷ four civil.year
-shown Short civil = four civil.year ++ two civil.month ++ two civil.day ++ two civil.hour ++ two civil.minute
+    weekday_name civil.weekday ++ 32 ∷ month_name civil.month ++ 32 ∷ padded (codes " ") civil.day
+    ++ 32 ∷ clock civil ++ 32 ∷ four civil.year
+shown Short civil =
+    four civil.year ++ two civil.month ++ two civil.day ++ two civil.hour ++ two civil.minute
 
 -- the parts are those of a date and a clock in UTC
 pub record IsCivil (time : DateTime) (civil : Civil) : Type 0 where
@@ -52,10 +57,13 @@ pub record IsCivil (time : DateTime) (civil : Civil) : Type 0 where
   pub minute : civil.minute ≡ time.time.minute
   pub second : civil.second ≡ time.time.second
 
--- the parts are those of the date and the clock that are so many seconds behind the beginning of 1970
+-- the parts are those of the date and the clock that are so many seconds behind the beginning of
+-- 1970
 abbrev pub IsMoment : ℕ → Civil → Type 0
-IsMoment seconds civil = (time : DateTime) × (civil_nanos time ≡ pos (seconds * 1_000_000_000)) × IsCivil time civil
+IsMoment seconds civil =
+    (time : DateTime) × (civil_nanos time ≡ pos (seconds * 1_000_000_000)) × IsCivil time civil
 
 -- the text of the moment in that form
 abbrev pub IsDateText : Form → ℕ → List ℕ → Type 0
-IsDateText form moment text = (civil : Civil) × IsMoment (counted moment) civil × (text ≡ shown form civil)
+IsDateText form moment text =
+    (civil : Civil) × IsMoment (counted moment) civil × (text ≡ shown form civil)

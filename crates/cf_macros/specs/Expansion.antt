@@ -1,4 +1,5 @@
--- The expansion of a text (Sendmail Installation and Operation Guide, macros and conditionals; the limits and the order of refusals are our own).
+-- The expansion of a text (Sendmail Installation and Operation Guide, macros and conditionals; the
+-- limits and the order of refusals are our own).
 use Rattle.std.specs.Prelude.{ℕ, zero, suc, List, [], ◌∷◌, ◌++◌, map, Bool, true, false, if◌then◌else◌, Result, Ok, Err, codes, unwrap_or, ◌≡◌}
 use Rattle.mail_base.specs.Catalogs.{value_at}
 use Rattle.cf_macros.specs.declared.fault.ExpandFault.{ExpandFault}
@@ -7,12 +8,14 @@ use Rattle.cf_macros.specs.declared.scope.Scope.{Scope}
 use Rattle.cf_macros.specs.declared.scope.Scope.TheVariants.{Outside, Rule}
 use Rattle.cf_macros.specs.Readings.{Parts, Nothing, Bytes, Refer, Choose, Broken, Reading, Last, BeforeElse, BeforeEnd, reading}
 
--- what happens in an expansion, in reading order: a byte is given, a reference is followed, or something is refused
+-- what happens in an expansion, in reading order: a byte is given, a reference is followed, or
+-- something is refused
 pub data Act : Type 0 where
   Gives : ℕ → Act
   Follows : Act
   Fails : ExpandFault → Act
 
+-- whether the acts give a byte
 abbrev pub gives_any : List Act → Bool
 gives_any [] = false
 gives_any (Gives byte ∷ acts) = true
@@ -32,20 +35,27 @@ acts_of followed Nothing = []
 acts_of followed (Bytes bytes parts) = map Gives bytes ++ acts_of followed parts
 acts_of followed (Refer name parts) = followed name ++ acts_of followed parts
 acts_of followed (Choose name shown other parts) =
-    silent (followed name) ++ ((if gives_any (followed name) then acts_of followed shown else acts_of followed other) ++ acts_of followed parts)
+    silent (followed name)
+    ++ ((if gives_any (followed name) then acts_of followed shown else acts_of followed other)
+    ++ acts_of followed parts)
 acts_of followed (Broken place) = Fails (Unclosed place) ∷ []
 
 -- outside conditionals, `$|` and `$.` stand for themselves
 abbrev pub whole : (List ℕ → List Act) → Reading → List Act
 whole followed (Last parts) = acts_of followed parts
-whole followed (BeforeElse parts more) = acts_of followed parts ++ (map Gives (codes "$|") ++ whole followed more)
-whole followed (BeforeEnd parts more) = acts_of followed parts ++ (map Gives (codes "$.") ++ whole followed more)
+whole followed (BeforeElse parts more) =
+    acts_of followed parts ++ (map Gives (codes "$|") ++ whole followed more)
+whole followed (BeforeEnd parts more) =
+    acts_of followed parts ++ (map Gives (codes "$.") ++ whole followed more)
 
 -- the acts of a reference, with so many levels left; a macro that isn't set has the empty value
 unfoldable pub followed : Scope → ℕ → List (List ℕ × List ℕ) → List ℕ → List Act
 followed scope zero macros name = Fails Deep ∷ []
-followed scope (suc levels) macros name = Follows ∷ whole (followed scope levels macros) (reading scope 0 0 (unwrap_or (value_at name macros) []))
+followed scope (suc levels) macros name =
+    Follows ∷ whole (followed scope levels macros)
+    (reading scope 0 0 (unwrap_or (value_at name macros) []))
 
+-- a byte in front of what is given, if nothing is refused
 abbrev pub with_byte : ℕ → Result (List ℕ) ExpandFault → Result (List ℕ) ExpandFault
 with_byte byte (Ok text) = Ok (byte ∷ text)
 with_byte byte (Err fault) = Err fault
@@ -61,7 +71,8 @@ outcome references bytes (Fails fault ∷ acts) = Err fault
 
 -- the expansion of a text: at most ten levels of references, 10,000 references and 1,048,576 bytes
 unfoldable pub value_in : Scope → List ℕ → List (List ℕ × List ℕ) → Result (List ℕ) ExpandFault
-value_in scope text macros = outcome 10_000 1_048_576 (whole (followed scope 10 macros) (reading scope 0 0 text))
+value_in scope text macros =
+    outcome 10_000 1_048_576 (whole (followed scope 10 macros) (reading scope 0 0 text))
 
 -- outside rules
 abbrev pub value : List ℕ → List (List ℕ × List ℕ) → Result (List ℕ) ExpandFault

@@ -1,11 +1,13 @@
--- A text cut into its constructs, with conditionals nested (Sendmail Installation and Operation Guide, conditionals).
+-- A text cut into its constructs, with conditionals nested (Sendmail Installation and Operation
+-- Guide, conditionals).
 use Rattle.std.specs.Prelude.{ℕ, zero, suc, List, [], ◌∷◌, Option, None, Some, ◌+◌, ◌-◌}
 use Rattle.cf_macros.specs.declared.construct.Kind.{Kind}
 use Rattle.cf_macros.specs.declared.construct.Kind.TheVariants.{Plain, Reference, Test, Else, End, Unclosed}
 use Rattle.cf_macros.specs.declared.scope.Scope.{Scope}
 use Rattle.cf_macros.specs.Constructs.{Piece, first_piece}
 
--- what stands in a text, in order: bytes, references, conditionals with both their parts; it ends where something is unclosed, with that place
+-- what stands in a text, in order: bytes, references, conditionals with both their parts; it ends
+-- where something is unclosed, with that place
 pub data Parts : Type 0 where
   Nothing : Parts
   Bytes : List ℕ → Parts → Parts
@@ -46,7 +48,8 @@ behind_end (BeforeEnd parts more) = Some more
 -- a `$?x` at a place is closed by the first `$.` that is free behind it
 abbrev pub closing : ℕ → List ℕ → Reading → Option Reading → Reading
 closing place name inner None = Last (Broken place)
-closing place name inner (Some after) = put (Choose name (first_part inner) (second_part inner)) after
+closing place name inner (Some after) =
+    put (Choose name (first_part inner) (second_part inner)) after
 
 -- a construct at a place, before the rest
 abbrev pub before : Kind → ℕ → Piece → Reading → Reading
@@ -62,4 +65,5 @@ unfoldable pub reading : Scope → ℕ → ℕ → List ℕ → Reading
 reading scope place skipped [] = Last Nothing
 reading scope place (suc skipped) (byte ∷ text) = reading scope (suc place) skipped text
 reading scope place zero (byte ∷ text) =
-    let found = first_piece scope (byte ∷ text) in before found.kind place found (reading scope (suc place) (found.width - 1) text)
+    let found = first_piece scope (byte ∷ text) in
+    before found.kind place found (reading scope (suc place) (found.width - 1) text)

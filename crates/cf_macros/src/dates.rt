@@ -1,6 +1,6 @@
 ghost use Rattle.std.specs.Prelude.{◌≡◌, ◌++◌, ◌+◌, ◌*◌, ◌<◌, ◌≤◌, take, drop, length, OnOk, IfOk};
 ghost use Rattle.cf_macros.specs.declared.form.Form.TheVariants.{Mail, Unix, Short};
-ghost use Rattle.cf_macros.specs.Dates.{counted, two, four, padded, weekday_name, month_name, clock, shown, IsMoment, IsDateText};
+ghost use Rattle.cf_macros.specs.Dates.{two, four, padded, weekday_name, month_name, clock, shown, IsMoment, IsDateText};
 
 use crate::form::{Civil, Form};
 use jiff::Timestamp;

@@ -1,9 +1,9 @@
-ghost use Rattle.std.specs.Prelude.{◌≡◌, ◌≤◌, ◌+◌, [], false, true, None, Some, Ok, unwrap_or, OnOk, IfOk, IfErr, option_copied};
+ghost use Rattle.std.specs.Prelude.{◌≡◌, ◌≤◌, ◌+◌, [], false, None, Some, Ok, unwrap_or, OnOk, IfOk, IfErr, option_copied};
 ghost use Rattle.std.specs.List.{list_any};
 ghost use Rattle.mail_base.specs.Catalogs.{value_at};
 ghost use Rattle.cf_macros.specs.Expansion.{value, rule_value, value_in, IsRefused};
 ghost use Rattle.cf_macros.specs.inner.Levels.{is_silent};
-ghost use Rattle.cf_macros.specs.inner.Runs.{Continues, Reads, Fails, comes_to};
+ghost use Rattle.cf_macros.specs.inner.Runs.{Reads, Fails, comes_to};
 
 use crate::ExpandFault;
 use crate::level::{Given, Level};

@@ -1,8 +1,8 @@
-ghost use Rattle.std.specs.Prelude.{◌≡◌, ◌≤◌, ◌<◌, ◌+◌, suc, false, true, None, Some, length, codes, OnOk, IfOk, IfErr, IfNone, option_copied};
+ghost use Rattle.std.specs.Prelude.{◌≡◌, ◌≤◌, ◌<◌, ◌+◌, suc, false, true, None, Some, length, OnOk, IfOk, IfErr, IfNone, option_copied};
 ghost use Rattle.cf_macros.specs.declared.level.Given.{Given};
 ghost use Rattle.cf_macros.specs.inner.Insides.{rest_at, is_closed};
 ghost use Rattle.cf_macros.specs.Readings.{Nothing, BeforeElse, BeforeEnd, put, Refer, closing, behind_end};
-ghost use Rattle.cf_macros.specs.inner.Levels.{Goes, Stops, MovesOn, GivesNext, IsAt, IsAtEnd, IsNew, Resumes, level_rest, rest_behind, gave_after, room, IsGiven, KeepsOut};
+ghost use Rattle.cf_macros.specs.inner.Levels.{Goes, Stops, MovesOn, GivesNext, IsAt, IsAtEnd, IsNew, Resumes, level_rest, rest_behind, gave_after, IsGiven, KeepsOut};
 
 use crate::ExpandFault;
 use crate::construct::{Construct, Kind, first_piece};
@@ -142,7 +142,8 @@ impl<'a> Level<'a> {
     fn refer(self, found: Construct<'_>) -> Level<'a>
         requires reads { self.tests ≡ false }
         requires in_text { self.place + found.width ≤ length self.text.now }
-        requires rest { level_rest self ≡ put (Refer found.text.now) (rest_behind self found.width) }
+        requires rest { level_rest self
+            ≡ put (Refer found.text.now) (rest_behind self found.width) }
         ensures { (was : Given) → Goes self.entry was result was (Some found.entry.text.now) }
     {
         Level {

@@ -22,6 +22,7 @@ abbrev pub is_closed : ℕ → Reading → Bool
 is_closed zero rest = true
 is_closed (suc depth) rest = if_there (is_closed depth) (behind_end rest)
 
+-- the acts of a rest that may be there
 abbrev pub beyond : (Reading → List Act) → Option Reading → List Act
 beyond acts None = []
 beyond acts (Some rest) = acts rest
@@ -29,13 +30,16 @@ beyond acts (Some rest) = acts rest
 -- the acts of the rest inside so many conditionals
 abbrev pub inside : (List ℕ → List Act) → ℕ → Reading → List Act
 inside followed zero rest = whole followed rest
-inside followed (suc depth) rest = acts_of followed (first_part rest) ++ beyond (inside followed depth) (behind_end rest)
+inside followed (suc depth) rest =
+    acts_of followed (first_part rest) ++ beyond (inside followed depth) (behind_end rest)
 
 -- the same, where the other part of the innermost conditional is to be given
 abbrev pub inside_other : (List ℕ → List Act) → ℕ → Reading → List Act
 inside_other followed zero rest = []
-inside_other followed (suc depth) rest = acts_of followed (second_part rest) ++ beyond (inside followed depth) (behind_end rest)
+inside_other followed (suc depth) rest =
+    acts_of followed (second_part rest) ++ beyond (inside followed depth) (behind_end rest)
 
+-- what comes of a rest that may be there
 abbrev pub then_rest : (Reading → Option Reading) → Option Reading → Option Reading
 then_rest next None = None
 then_rest next (Some rest) = next rest
@@ -58,7 +62,9 @@ ends_behind Unclosed ends = ends
 -- the place is the one behind those signs
 abbrev pub IsPast : Scope → List ℕ → ℕ → ℕ → Option ℕ → Type 0
 IsPast scope text ends from None = past ends (rest_at scope text from) ≡ None
-IsPast scope text ends from (Some place) = (past ends (rest_at scope text from) ≡ Some (rest_at scope text place)) × (from ≤ place) × (place ≤ length text)
+IsPast scope text ends from (Some place) =
+    (past ends (rest_at scope text from) ≡ Some (rest_at scope text place)) × (from ≤ place)
+    × (place ≤ length text)
 
 -- a conditional that begins behind a test is passed to its end
 abbrev pub IsBehind : Scope → List ℕ → Kind → ℕ → Option ℕ → Type 0
@@ -69,10 +75,16 @@ IsBehind scope text Else next passed = passed ≡ Some next
 IsBehind scope text End next passed = passed ≡ Some next
 IsBehind scope text Unclosed next passed = passed ≡ Some next
 
--- the other part of the conditional begins there, or there is none and the conditional ends there, or nothing closes it
+-- the other part of the conditional begins there, or there is none and the conditional ends there,
+-- or nothing closes it
 abbrev pub IsMark : Scope → List ℕ → ℕ → Mark → Type 0
 IsMark scope text from (OtherPart place) =
-    (second_part (rest_at scope text from) ≡ first_part (rest_at scope text place)) × (behind_end (rest_at scope text from) ≡ behind_end (rest_at scope text place)) × (from ≤ place) × (place ≤ length text)
+    (second_part (rest_at scope text from) ≡ first_part (rest_at scope text place))
+    × (behind_end (rest_at scope text from) ≡ behind_end (rest_at scope text place))
+    × (from ≤ place) × (place ≤ length text)
 IsMark scope text from (Behind place) =
-    (second_part (rest_at scope text from) ≡ Nothing) × (behind_end (rest_at scope text from) ≡ Some (rest_at scope text place)) × (from ≤ place) × (place ≤ length text)
-IsMark scope text from NoMark = (second_part (rest_at scope text from) ≡ Nothing) × (behind_end (rest_at scope text from) ≡ None)
+    (second_part (rest_at scope text from) ≡ Nothing)
+    × (behind_end (rest_at scope text from) ≡ Some (rest_at scope text place)) × (from ≤ place)
+    × (place ≤ length text)
+IsMark scope text from NoMark = (second_part (rest_at scope text from) ≡ Nothing)
+    × (behind_end (rest_at scope text from) ≡ None)
