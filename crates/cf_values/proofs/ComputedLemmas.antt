@@ -38,7 +38,7 @@ number_computed (d ∷ digits) n = (
   λ is. cond-true (list_all is_digit (d ∷ digits)) (Some (value (d ∷ digits))) None (all-true (d ∷ digits) is.numeral.digits) ∙ ap Some (sym is.number),
 )
 
--- a time that is written is computed
+-- ---- a time that is written is computed
 
 value-digits : (last : TimeUnit) (begun digits rest : List ℕ) → All IsDigit digits → rest_value last begun (digits ++ rest) ≡ rest_value last (begun ++ digits) rest
 unfolding rest_value
@@ -71,7 +71,7 @@ value-pairs last (q ∷ qs) rest all digits =
     ∙ ap (with_seconds (pair_seconds q)) (value-pairs last qs rest (All-tail HasNumeral q qs all) digits)
     ∙ ap Some (sym (add_assoc (pair_seconds q) (sum_by pair_seconds qs) (value rest * seconds last)) ∙ ap (λ x. x + value rest * seconds last) (sym (sum_by-cons pair_seconds q qs)))
 
--- a time that is computed is written
+-- ---- a time that is computed is written
 
 unit_of-some : (b : ℕ) (u : TimeUnit) → unit_of b ≡ Some u → b ≡ letter u
 unit_of-some b u e = pick (eqb b 119) (eqb b 100) (eqb b 104) (eqb b 109) (eqb b 115) refl refl refl refl refl e

@@ -104,7 +104,7 @@ after-pairs done (q ∷ qs) rest all =
     ∙ ap (λ ps. after (timed ps []) rest) (append_assoc done (q ∷ []) qs)
 
 -- a time is what its bytes give in turn
-pub after-spelling : (t : Time) → IsProper t → after start (spelling t) ≡ Some t
+after-spelling : (t : Time) → IsProper t → after start (spelling t) ≡ Some t
 after-spelling t is =
     after-pairs [] t.pairs t.last is.pairs
     ∙ ap (after (timed t.pairs [])) (sym (append-nil t.last))

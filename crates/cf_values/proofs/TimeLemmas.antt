@@ -15,7 +15,7 @@ pub times : (unit : TimeUnit) → IsGrammar (IsTime unit)
 times unit = record { one = one_time unit; some = λ n a. a.some refl }
 
 -- a front with the byte behind it
-pub front_more : (text : List ℕ) (place b : ℕ) → place < length text → b ≡ get_or text place 0 → take (place + 1) text ≡ take place text ++ b ∷ []
+front_more : (text : List ℕ) (place b : ℕ) → place < length text → b ≡ get_or text place 0 → take (place + 1) text ≡ take place text ++ b ∷ []
 front_more text place b within at = take_more text place 0 within ∙ ap (λ x. take place text ++ x ∷ []) (sym at)
 
 -- the first byte with which no time goes on is the first bad byte

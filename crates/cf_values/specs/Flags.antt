@@ -1,4 +1,5 @@
--- Flags (Sendmail Installation and Operation Guide, "M: Define Mailer" and "Q: Define Queue Group").
+-- Flags (Sendmail Installation and Operation Guide, "M: Define Mailer" and "Q: Define Queue
+-- Group").
 use Rattle.std.specs.Prelude.{◌≡◌, ℕ, List, not, filter, codes, refl}
 use Rattle.mail_base.specs.Whites.{is_white}
 

@@ -28,7 +28,8 @@ pub record IsNumber (text : List ℕ) (n : ℕ) : Type 0 where
 -- the number that a text is, computed, or none
 abbrev pub number_value : List ℕ → Option ℕ
 number_value [] = None
-number_value (digit ∷ digits) = if list_all is_digit (digit ∷ digits) then Some (value (digit ∷ digits)) else None
+number_value (digit ∷ digits) =
+    if list_all is_digit (digit ∷ digits) then Some (value (digit ∷ digits)) else None
 
 example : (number_value (codes "0120") ≡ Some 120) × (number_value (codes "12x") ≡ None)
 example = (refl, refl)

@@ -1,4 +1,5 @@
--- Times in the values of options (Sendmail Installation and Operation Guide, "O: Set Option": numbers with the letters s, m, h, d and w).
+-- Times in the values of options (Sendmail Installation and Operation Guide, "O: Set Option":
+-- numbers with the letters s, m, h, d and w).
 use Rattle.std.specs.Prelude.{◌≡◌, ◌≢◌, ℕ, ◌+◌, ◌*◌, ◌==◌, if◌then◌else◌, Option, Some, None, IsSome, unwrap_or, List, [], ◌∷◌, ◌++◌, All, sum_by, codes, refl}
 use Rattle.std.specs.List.{flat_map}
 use Rattle.cf_values.specs.declared.unit.TimeUnit.{TimeUnit}
@@ -95,7 +96,8 @@ rest_value last digits (byte ∷ text) =
     if is_digit byte then rest_value last (digits ++ byte ∷ []) text
     else closed (unit_of byte) digits (rest_value last [] text)
 
--- the seconds of a time, computed, where a last number without a letter has the unit with this letter; or none
+-- the seconds of a time, computed, where a last number without a letter has the unit with this
+-- letter; or none
 abbrev pub time_value : ℕ → List ℕ → Option ℕ
 time_value unit [] = None
 time_value unit (byte ∷ text) = rest_value (last_unit unit) [] (byte ∷ text)
@@ -104,6 +106,7 @@ time_value unit (byte ∷ text) = rest_value (last_unit unit) [] (byte ∷ text)
 abbrev five_days_six : Time
 five_days_six = record { pairs = record { digits = codes "5"; unit = Day } ∷ []; last = codes "6" }
 
-example : (spelling five_days_six ≡ codes "5d6") × (total Minute five_days_six ≡ 432360) × (time_value 109 (codes "5d6") ≡ Some 432360) × (time_value 109 (codes "5dd") ≡ None)
+example : (spelling five_days_six ≡ codes "5d6") × (total Minute five_days_six ≡ 432360)
+    × (time_value 109 (codes "5d6") ≡ Some 432360) × (time_value 109 (codes "5dd") ≡ None)
 unfolding rest_value
 example = (refl, refl, refl, refl)

@@ -1,5 +1,5 @@
-//! The values of options, mailers and groups: times, numbers and flags. What each text means, and at
-//! which place another is refused, is said in `specs/`.
+//! The values of options, mailers and groups: times, numbers and flags. What each text means, and
+//! at which place another is refused, is said in `specs/`.
 #![tactic(auto)]
 
 mod bad;

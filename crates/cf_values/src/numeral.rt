@@ -6,15 +6,16 @@ use crate::Bad;
 use crate::digit::{digit_of, with_digit};
 use mail_base::Text;
 
-/// The number that a text of digits writes, at most `most`. Zeros may stand in front, and there may be
-/// any number of digits. It takes no memory. `Bad` has the place of the first byte that is no digit, or
-/// the length of a text that is empty or whose number is above `most` (Sendmail Installation and
-/// Operation Guide, "O: Set Option").
+/// The number that a text of digits writes, at most `most`. Zeros may stand in front, and there may
+/// be any number of digits. It takes no memory. `Bad` has the place of the first byte that is no
+/// digit, or the length of a text that is empty or whose number is above `most` (Sendmail
+/// Installation and Operation Guide, "O: Set Option").
 pub fn number(text: &Text, most: u64) -> Result<u64, Bad>
     ensures ok { IfOk result (λ n. IsNumber text.now n × (n ≤ most)) }
     ensures value { (n : ℕ) → IsNumber text.now n → n ≤ most → result ≡ Ok n }
     ensures bad { IfErr result (λ bad. IsRefused IsNumber most text.now bad.place) }
-    ensures place { (place : ℕ) → IsRefused IsNumber most text.now place → result ≡ Err (record { place = place }) }
+    ensures place { (place : ℕ) → IsRefused IsNumber most text.now place
+        → result ≡ Err (record { place = place }) }
 {
     number_of(text.bytes(), most)
 }

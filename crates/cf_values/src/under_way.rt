@@ -1,6 +1,6 @@
-ghost use Rattle.std.specs.Prelude.{◌≡◌, ◌+◌, ◌*◌, ◌^◌, ◌≤◌, ℕ, List, [], ◌∷◌, ◌++◌, MatchOption};
+ghost use Rattle.std.specs.Prelude.{◌≡◌, ◌+◌, ◌*◌, ℕ, List, [], ◌∷◌, ◌++◌, MatchOption};
 ghost use Rattle.cf_values.specs.Refusals.{Begins};
-ghost use Rattle.cf_values.specs.Times.{IsTime, Time, seconds, spelling, total, IsProper};
+ghost use Rattle.cf_values.specs.Times.{IsTime, seconds, total};
 ghost use Rattle.cf_values.specs.inner.Stages.{Stands, capped};
 
 use crate::digit::{digit_of, with_digit};
@@ -31,7 +31,8 @@ impl UnderWay {
     /// What is kept with one byte more, or `None` where no time goes on with it.
     pub(crate) fn with(self, byte: u8) -> Option<UnderWay>
         ensures { (front : List ℕ) → Stands self front
-            → MatchOption result ((unit : TimeUnit) → ¬ Begins (IsTime unit) (front ++ byte ∷ [])) (λ next. Stands next (front ++ byte ∷ [])) }
+            → MatchOption result ((unit : TimeUnit) → ¬ Begins (IsTime unit) (front ++ byte ∷ []))
+            (λ next. Stands next (front ++ byte ∷ [])) }
     {
         if let Some(digit) = digit_of(byte) {
             let count = with_digit(self.count.unwrap_or(0), digit, ABOVE);
@@ -50,7 +51,8 @@ impl UnderWay {
 
     /// The seconds of the whole time, where a number without a letter has this unit.
     pub(crate) fn total(self, unit: TimeUnit) -> u128
-        ensures { (front : List ℕ) (stands : Stands self front) → result ≡ capped (total unit stands.time) }
+        ensures { (front : List ℕ) (stands : Stands self front)
+            → result ≡ capped (total unit stands.time) }
     {
         plus(self.seconds, self.count.unwrap_or(0), unit)
     }

@@ -1,4 +1,4 @@
-ghost use Rattle.std.specs.Prelude.{◌≡◌, ◌≢◌, ◌≤◌, IfSome, IfNone};
+ghost use Rattle.std.specs.Prelude.{◌≡◌, ◌≢◌, IfSome, IfNone};
 ghost use Rattle.cf_values.specs.Times.{letter, unit_of, IsLetter, last_unit, seconds};
 
 /// The unit of a number in a time.
