@@ -145,7 +145,7 @@ held_step true pairs folder name rest none h = or_none (value_at name pairs) res
 held_step false pairs folder name rest none h = h
 
 -- what is held is held as files too
-pub all_are_held : (folders : FolderMap) → AreApart folders → Holds folders (all_filed folders)
+all_are_held : (folders : FolderMap) → AreApart folders → Holds folders (all_filed folders)
 all_are_held [] apart p = refl
 all_are_held (folder ∷ folders) apart p =
     held_step (bytes_eq p.0 folder.0) folder.1 (value_at p.0 folders) p.1 (bytes_at (all_filed folders) p) (λ e. ap (λ d. value_at d folders) ((bytes_decides p.0 folder.0).0 e) ∙ apart.0) (all_are_held folders apart.1 p)

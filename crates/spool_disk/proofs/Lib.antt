@@ -1,4 +1,3 @@
-pub mod Calling
 mod Examples
 pub mod Filing
 pub mod Holding

@@ -6,7 +6,7 @@ use Rattle.std.proofs.lemmas.Bool.{cases_lt}
 use Rattle.spool_disk.specs.declared.attempt.Attempt.{Attempt}
 use Rattle.spool_disk.specs.Disk.{FileMap, IsImage, IsDone}
 use Rattle.spool_disk.specs.Changes.{after, past_with, after_attempt, after_all, IsLeftIn, IsLeft, record_seen}
-use Rattle.spool_disk.specs.Spooled.{Calls, Reads, Rests}
+use Rattle.spool_disk.specs.Spooled.{Calls}
 use Rattle.spool_disk.proofs.Placing.{still_image, image_of_done}
 use Rattle.mail_base.specs.declared.fault.Failed.{Failed}
 use Rattle.spool_disk.specs.declared.change.Change.{Change}
@@ -82,10 +82,3 @@ calls_made start later past new change before now (Err e) s p done =
     subst (λ q. Calls (record_seen start past before) (record_seen q new now) (IsImage change) (IsDone change) (false ≡ true)) (sym s)
     (subst (λ q. Calls (record_seen start past before) (record_seen start q now) (IsImage change) (IsDone change) (false ≡ true)) (sym p)
     (calls_nothing start past before now (IsImage change) (IsDone change) (false ≡ true) (still_image change (after_all past start)) (λ w. absurd (true≢false (sym w)))))
-
--- a call that only reads
-pub calls_read : (start later : FileMap) (past new : List Attempt) (before now : ℕ) → later ≡ start → new ≡ past → Reads (record_seen start past before) (record_seen later new now)
-calls_read start later past new before now s p =
-    subst (λ q. Reads (record_seen start past before) (record_seen q new now)) (sym s)
-    (subst (λ q. Reads (record_seen start past before) (record_seen start q now)) (sym p)
-    (calls_nothing start past before now Rests Rests (Unit {0}) refl (λ w. refl)))

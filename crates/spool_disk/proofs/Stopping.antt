@@ -31,7 +31,7 @@ both change files =
     more call files files (after change files ∷ []) (still_image change files) (more call files (after change files) [] (image_after change files) (none call files))
 
 -- each of the maps that are named may be left
-pub each_may_be : (call : Option Change) (files : FileMap) → All (Leaves call files) (map fresh (left_maps call files))
+each_may_be : (call : Option Change) (files : FileMap) → All (Leaves call files) (map fresh (left_maps call files))
 each_may_be None files = more None files files [] refl (none None files)
 each_may_be (Some (Write dir name bytes)) files =
     let call : Option Change = Some (Write dir name bytes) in

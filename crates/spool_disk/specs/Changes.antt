@@ -12,12 +12,14 @@ without_file place files = filter (λ file. not (lies_at place file)) files
 
 -- the files with one that holds these bytes at that place
 abbrev pub with_file : Place → List ℕ → FileMap → FileMap
-with_file place bytes files = without_file place files ++ record { dir = place.0; name = place.1; bytes = bytes } ∷ []
+with_file place bytes files =
+    without_file place files ++ record { dir = place.0; name = place.1; bytes = bytes } ∷ []
 
 -- the files after one with these bytes was renamed, or after none was there
 abbrev pub with_renamed : List ℕ → List ℕ → List ℕ → Option (List ℕ) → FileMap → FileMap
 with_renamed dir from to None files = files
-with_renamed dir from to (Some bytes) files = with_file (dir, to) bytes (without_file (dir, from) files)
+with_renamed dir from to (Some bytes) files =
+    with_file (dir, to) bytes (without_file (dir, from) files)
 
 -- the files after a change
 abbrev pub after : Change → FileMap → FileMap
@@ -39,8 +41,10 @@ abbrev pub IsLeftIn : List Attempt → FileMap → FileMap → Type 0
 IsLeftIn [] files left = left ≡ files
 IsLeftIn (attempt ∷ attempts) files left = IsImage attempt.change files left
 
--- what a stop since a moment may have left: a moment is a number of calls, and the stop came so many calls after the start
-pub record IsLeft (start : FileMap) (past : List Attempt) (since : ℕ) (left : FileMap) : Type 0 where
+-- what a stop since a moment may have left: a moment is a number of calls, and the stop came so
+-- many calls after the start
+pub record IsLeft (start : FileMap) (past : List Attempt) (since : ℕ)
+    (left : FileMap) : Type 0 where
   pub calls : ℕ
   pub not_before : since ≤ calls
   pub not_after : calls ≤ length past
@@ -48,7 +52,12 @@ pub record IsLeft (start : FileMap) (past : List Attempt) (since : ℕ) (left : 
 
 -- what is seen of a spool in memory, by its record
 abbrev pub record_seen : FileMap → List Attempt → ℕ → Spooled
-record_seen start past faults = record { told = Some (after_all past start); moment = length past; left_since = IsLeft start past; faults = faults }
+record_seen start past faults = record {
+  told = Some (after_all past start);
+  moment = length past;
+  left_since = IsLeft start past;
+  faults = faults;
+}
 
 -- a record after a call that was made, which is in it unless it failed
 abbrev pub past_with : List Attempt → Change → Bool → List Attempt

@@ -1,4 +1,5 @@
--- The files of a spool, and the model of the disk that they lie on: what a call leads to, and what a stop in it leaves (own).
+-- The files of a spool, and the model of the disk that they lie on: what a call leads to, and what
+-- a stop in it leaves (own).
 use Rattle.std.specs.Prelude.{◌≡◌, ◌≢◌, ◌⊎◌, ℕ, List, [], ◌∷◌, Option, Some, None, Bool, ◌&&◌, bytes_eq, if◌then◌else◌}
 use Rattle.spool_disk.specs.declared.file.File.{File}
 use Rattle.spool_disk.specs.declared.change.Change.{Change}
@@ -38,7 +39,8 @@ pub record HasWritten (place : Place) (bytes : List ℕ) (old new : FileMap) : T
 pub record HasRenamed (dir from to : List ℕ) (old new : FileMap) : Type 0 where
   pub holds : bytes_at new (dir, to) ≡ bytes_at old (dir, from)
   pub gone : bytes_at new (dir, from) ≡ None
-  pub others : (other : Place) → other ≢ (dir, from) → other ≢ (dir, to) → bytes_at new other ≡ bytes_at old other
+  pub others : (other : Place) → other ≢ (dir, from) → other ≢ (dir, to)
+      → bytes_at new other ≡ bytes_at old other
 
 -- the file is gone, and the others are as they were
 pub record HasRemoved (place : Place) (old new : FileMap) : Type 0 where
@@ -51,7 +53,8 @@ IsDone (Write dir name bytes) = HasWritten (dir, name) bytes
 IsDone (Rename dir from to) = HasRenamed dir from to
 IsDone (Remove dir name) = HasRemoved (dir, name)
 
--- what a stop in a call may leave, and what a failed call leaves: while a file is written it is absent or holds any bytes; a renaming or a removal was done or not
+-- what a stop in a call may leave, and what a failed call leaves: while a file is written it is
+-- absent or holds any bytes; a renaming or a removal was done or not
 abbrev pub IsImage : Change → FileMap → FileMap → Type 0
 IsImage (Write dir name bytes) old new = IsSameBut (dir, name) old new
 IsImage (Rename dir from to) old new = IsSame old new ⊎ HasRenamed dir from to old new

@@ -11,7 +11,8 @@ IsAscending names = IsStrictlySortedBy (slice_cmp nat_cmp) names
 
 -- exactly the names of the files of that directory
 abbrev pub AreNames : FileMap → List ℕ → List (List ℕ) → Type 0
-AreNames files dir names = (name : List ℕ) → Contains names name ↔ IsSome (bytes_at files (dir, name))
+AreNames files dir names =
+    (name : List ℕ) → Contains names name ↔ IsSome (bytes_at files (dir, name))
 
 -- the same names, in any order and number
 abbrev pub AreSameNames : List (List ℕ) → List (List ℕ) → Type 0

@@ -16,14 +16,20 @@ undone (Some attempt) = if attempt.done then None else Some attempt.change
 abbrev pub stopped_call : List Attempt → Option Change
 stopped_call past = undone (slice_get past (length past - 1))
 
--- a record after a call, which went well, or was cut short by a stop in it, or failed and did nothing
+-- a record after a call, which went well, or was cut short by a stop in it, or failed and did
+-- nothing
 abbrev pub past_after : List Attempt → Change → Bool → Bool → List Attempt
-past_after past change ok cut = if ok then past ++ record { change = change; done = true } ∷ [] else (if cut then past ++ record { change = change; done = false } ∷ [] else past)
+past_after past change ok cut = if ok then past ++ record { change = change; done = true } ∷ []
+    else (if cut then past ++ record { change = change; done = false } ∷ [] else past)
 
--- some of the maps that a stop in that call may leave: of a write the file absent, empty, cut in half and whole, of another change both maps, and at rest the map
+-- some of the maps that a stop in that call may leave: of a write the file absent, empty, cut in
+-- half and whole, of another change both maps, and at rest the map
 abbrev pub left_maps : Option Change → FileMap → List FileMap
 left_maps None files = files ∷ []
-left_maps (Some (Write dir name bytes)) files = after (Remove dir name) files ∷ after (Write dir name []) files ∷ after (Write dir name (take (length bytes / 2) bytes)) files ∷ after (Write dir name bytes) files ∷ []
+left_maps (Some (Write dir name bytes)) files =
+    after (Remove dir name) files ∷ after (Write dir name []) files
+    ∷ after (Write dir name (take (length bytes / 2) bytes)) files
+    ∷ after (Write dir name bytes) files ∷ []
 left_maps (Some (Rename dir from to)) files = files ∷ after (Rename dir from to) files ∷ []
 left_maps (Some (Remove dir name)) files = files ∷ after (Remove dir name) files ∷ []
 
@@ -36,6 +42,8 @@ MayLeave (Some change) files left = IsImage change files left
 abbrev pub fresh : FileMap → Memory
 fresh files = begins files []
 
--- whether a changing call found no memory: with no call left to pass, where it didn't stop; before that, where it failed and wasn't to fail; after the stop it looks for none
+-- whether a changing call found no memory: with no call left to pass, where it didn't stop; before
+-- that, where it failed and wasn't to fail; after the stop it looks for none
 abbrev pub wants_memory : Bool → ℕ → Bool → Bool → Bool → Bool
-wants_memory stopped left listed stops failed = not stopped && (if nat_eq left 0 then not stops else (failed && not listed))
+wants_memory stopped left listed stops failed =
+    not stopped && (if nat_eq left 0 then not stops else (failed && not listed))

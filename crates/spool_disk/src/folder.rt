@@ -10,8 +10,8 @@ use mail_base::{NoMemory, Seq, Text, TryCopy};
 use std::alloc::Global;
 use std::marker::Model;
 
-/// The files of one directory, by their names. A contract sees it as the list of its names with their
-/// bytes, in any order.
+/// The files of one directory, by their names. A contract sees it as the list of its names with
+/// their bytes, in any order.
 pub(crate) struct Folder {
     files: IndexMap<Text, Text>,
 }
@@ -32,7 +32,7 @@ impl Model for Folder {
 }
 
 impl Folder {
-    // A directory without files. It takes no memory.
+    /// A directory without files. It takes no memory.
     pub(crate) fn new(alloc: Global) -> Folder
         ensures { result ≡ [] }
     {
@@ -41,14 +41,14 @@ impl Folder {
         }
     }
 
-    // The bytes of the file of that name. It takes no memory.
+    /// The bytes of the file of that name. It takes no memory.
     pub(crate) fn get(&self, name: &Text) -> Option<&Text>
         ensures { option_copied result ≡ value_at name.now self.now }
     {
         self.files.get(name)
     }
 
-    // Gives a name these bytes. After `NoMemory` the directory is as before.
+    /// Gives a name these bytes. After `NoMemory` the directory is as before.
     pub(crate) fn set(&mut self, name: Text, bytes: Text) -> Result<(), NoMemory>
         ensures ok { OnOk result (SetsValue name (Some bytes) self.old self.new) }
         ensures err { OnErr result (self.new ≡ self.old) }
@@ -57,14 +57,14 @@ impl Folder {
         Ok(())
     }
 
-    // Takes a name out. It takes no memory.
+    /// Takes a name out. It takes no memory.
     pub(crate) fn remove(&mut self, name: &Text)
         ensures { SetsValue name.now None self.old self.new }
     {
         self.files.swap_remove(name);
     }
 
-    // Its names, in any order.
+    /// Its names, in any order.
     pub(crate) fn names(&self, alloc: Global) -> Result<Vec<Text>, NoMemory>
         ensures { IfOk result (λ names. names.items ≡ keys_of self.now) }
     {
@@ -74,7 +74,7 @@ impl Folder {
         }
         Ok(names)
     }
-    // Adds its files, which lie in that directory.
+    /// Adds its files, which lie in that directory.
     pub(crate) fn leave(&self, dir: &Text, files: &mut Seq<File>) -> Result<(), NoMemory>
         ensures { OnOk result (files.new ≡ files.old ++ filed dir.now self.now) }
     {

@@ -1,4 +1,4 @@
-ghost use Rattle.std.specs.Prelude.{◌≡◌, ◌≢◌, ◌++◌, ◌∷◌, [], None, Some, IfOk, OnOk, OnErr};
+ghost use Rattle.std.specs.Prelude.{◌≡◌, ◌++◌, ◌∷◌, [], None, Some, IfOk, OnOk, OnErr};
 ghost use Rattle.std.specs.Option.{option_copied};
 ghost use Rattle.mail_base.specs.Catalogs.{value_at};
 ghost use Rattle.spool_disk.specs.Changes.{after};
@@ -37,7 +37,7 @@ impl Model for Folders {
 }
 
 impl Folders {
-    // No files. It takes no memory.
+    /// No files. It takes no memory.
     pub(crate) fn new(alloc: Global) -> Folders
         ensures { result ≡ [] }
     {
@@ -46,14 +46,14 @@ impl Folders {
         }
     }
 
-    // The bytes of the file at that place. It takes no memory.
+    /// The bytes of the file at that place. It takes no memory.
     pub(crate) fn get(&self, dir: &Text, name: &Text) -> Option<&Text>
         ensures { option_copied result ≡ held_at self.now (dir.now, name.now) }
     {
         self.folders.get(dir)?.get(name)
     }
 
-    // Makes the file at that place hold these bytes. After `NoMemory` all is as before.
+    /// Makes the file at that place hold these bytes. After `NoMemory` all is as before.
     pub(crate) fn put(&mut self, dir: &Text, name: &Text, bytes: &Text) -> Result<(), NoMemory>
         ensures ok { OnOk result (Sets (dir.now, name.now) (Some bytes.now) self.old self.new) }
         ensures err { OnErr result (self.new ≡ self.old) }
@@ -77,7 +77,7 @@ impl Folders {
         self.folders.set(dir.copy()?, folder)
     }
 
-    // Takes the file at that place away, if it is there. It takes no memory.
+    /// Takes the file at that place away, if it is there. It takes no memory.
     pub(crate) fn take(&mut self, dir: &Text, name: &Text)
         ensures { Sets (dir.now, name.now) None self.old self.new }
     {
@@ -85,7 +85,7 @@ impl Folders {
             folder.remove(name);
         }
     }
-    // These files, of which the first at a place counts.
+    /// These files, of which the first at a place counts.
     pub(crate) fn of(alloc: Global, files: &[File]) -> Result<Folders, NoMemory>
         ensures { IfOk result (λ folders. Holds folders files.now) }
     {
@@ -98,7 +98,8 @@ impl Folders {
 
     // Puts a file behind those that are there.
     fn add(&mut self, file: &File) -> Result<(), NoMemory>
-        ensures { OnOk result ((files : FileMap) → Holds self.old files → Holds self.new (files ++ file.now ∷ [])) }
+        ensures { OnOk result
+            ((files : FileMap) → Holds self.old files → Holds self.new (files ++ file.now ∷ [])) }
     {
         if self.get(&file.dir, &file.name).is_some() {
             return Ok(());
@@ -106,9 +107,10 @@ impl Folders {
         self.put(&file.dir, &file.name, &file.bytes)
     }
 
-    // Changes the files. After `NoMemory` all is as before.
+    /// Changes the files. After `NoMemory` all is as before.
     pub(crate) fn apply(&mut self, change: &Change) -> Result<(), NoMemory>
-        ensures ok { OnOk result ((files : FileMap) → Holds self.old files → Holds self.new (after change.now files)) }
+        ensures ok { OnOk result
+            ((files : FileMap) → Holds self.old files → Holds self.new (after change.now files)) }
         ensures err { OnErr result (self.new ≡ self.old) }
     {
         match change {
@@ -123,7 +125,9 @@ impl Folders {
 
     // Gives a file that is there another name. After `NoMemory` all is as before.
     fn rename(&mut self, dir: &Text, from: &Text, to: &Text) -> Result<(), NoMemory>
-        ensures ok { OnOk result ((files : FileMap) → Holds self.old files → Holds self.new (after (Renamed dir.now from.now to.now) files)) }
+        ensures ok { OnOk result
+            ((files : FileMap) → Holds self.old files
+            → Holds self.new (after (Renamed dir.now from.now to.now) files)) }
         ensures err { OnErr result (self.new ≡ self.old) }
     {
         let Some(bytes) = self.get(dir, from) else {
@@ -148,14 +152,16 @@ impl Folders {
         }
     }
 
-    // The names of the files in that directory, sorted by their bytes.
+    /// The names of the files in that directory, sorted by their bytes.
     pub(crate) fn names(&self, alloc: Global, dir: &Text) -> Result<Seq<Text>, NoMemory>
-        ensures { IfOk result (λ names. (files : FileMap) → Holds self.now files → IsListing (Some files) dir.now names) }
+        ensures { IfOk result
+            (λ names. (files : FileMap) → Holds self.now files
+            → IsListing (Some files) dir.now names) }
     {
         Ok(sorted_names(self.collected(alloc, dir)?)?)
     }
 
-    // A copy of the files, directory by directory.
+    /// A copy of the files, directory by directory.
     pub(crate) fn files(&self) -> Result<Seq<File>, NoMemory>
         ensures { IfOk result (Holds self.now) }
     {

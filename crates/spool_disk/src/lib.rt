@@ -1,5 +1,5 @@
-//! The spool: named files in directories, the model of the disk that they lie on, and forms of it in
-//! memory. A spool counts its faults, and may tell its files and what a stop may leave of them.
+//! The spool: named files in directories, the model of the disk that they lie on, and forms of it
+//! in memory. A spool counts its faults, and may tell its files and what a stop may leave of them.
 #![tactic(auto)]
 
 mod attempt;

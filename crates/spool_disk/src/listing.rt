@@ -8,7 +8,7 @@ use crate::File;
 use mail_base::{NoMemory, Seq, Text, TryCopy};
 use std::alloc::Global;
 
-// The bytes of the first file at that place.
+/// The bytes of the first file at that place.
 pub(crate) fn find<'a>(files: &'a [File], dir: &Text, name: &Text) -> Option<&'a Text>
     ensures { option_copied result ≡ bytes_at files.now (dir.now, name.now) }
 {
@@ -20,7 +20,7 @@ pub(crate) fn find<'a>(files: &'a [File], dir: &Text, name: &Text) -> Option<&'a
     None
 }
 
-// A copy of the bytes that are lent.
+/// A copy of the bytes that are lent.
 pub(crate) fn copied(alloc: Global, bytes: Option<&Text>) -> Result<Option<Text>, NoMemory>
     ensures { IfOk result (λ copy. copy ≡ option_copied bytes.entry) }
 {
@@ -30,7 +30,7 @@ pub(crate) fn copied(alloc: Global, bytes: Option<&Text>) -> Result<Option<Text>
     }
 }
 
-// The files that don't lie at that place.
+/// The files that don't lie at that place.
 pub(crate) fn without(files: Seq<File>, dir: &Text, name: &Text) -> Seq<File>
     ensures { result ≡ without_file (dir.now, name.now) files }
 {
@@ -39,7 +39,7 @@ pub(crate) fn without(files: Seq<File>, dir: &Text, name: &Text) -> Seq<File>
     Seq::from_vec(kept)
 }
 
-// The files with one that holds these bytes in the place of those that lie where it does.
+/// The files with one that holds these bytes in the place of those that lie where it does.
 pub(crate) fn put(
     files: Seq<File>,
     dir: &Text,

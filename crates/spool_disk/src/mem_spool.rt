@@ -19,11 +19,11 @@ use std::alloc::Global;
 use std::marker::Model;
 
 /// A spool in memory, some of whose calls fail. It keeps the files that it began with, of which the
-/// first at a place counts, and a record of the calls that changed them, from which what a stop since
-/// any moment may have left is told; and beside them the files as they stand now, by directory and name,
-/// so that a read costs a look-up and its bytes, and a listing its names, however long the record is.
-/// A call that fails, also where it found no memory, leaves the files and the record as they were.
-/// `starved` counts the calls that found none.
+/// first at a place counts, and a record of the calls that changed them, from which what a stop
+/// since any moment may have left is told; and beside them the files as they stand now, by
+/// directory and name, so that a read costs a look-up and its bytes, and a listing its names,
+/// however long the record is. A call that fails, also where it found no memory, leaves the files
+/// and the record as they were. `starved` counts the calls that found none.
 pub struct MemSpool {
     start: Seq<File>,
     past: Vec<Attempt>,
@@ -52,13 +52,19 @@ impl Model for MemSpool {
 
     ghost Value = { Memory };
 
-    ghost view = { λ s. record { start = s.start; past = s.past.items; script = s.script; starved = s.starved } };
+    ghost view = { λ s. record {
+      start = s.start;
+      past = s.past.items;
+      script = s.script;
+      starved = s.starved;
+    } };
 
     ghost invariant = { λ s. Holds s.standing (after_all s.past.items s.start) };
 }
 
 impl MemSpool {
-    /// A spool without files, and which of its calls, counted from 0, are to fail. It takes no memory.
+    /// A spool without files, and which of its calls, counted from 0, are to fail. It takes no
+    /// memory.
     pub fn new(alloc: Global, failing: Seq<u64>) -> MemSpool
         ensures { result ≡ begins [] failing }
     {
@@ -106,7 +112,7 @@ impl MemSpool {
         self.script.faults
     }
 
-    // The files as the record makes them of the first ones, in order.
+    /// The files as the record makes them of the first ones, in order.
     pub(crate) fn replayed(&self) -> Result<Seq<File>, NoMemory>
         ensures { IfOk result (λ files. files ≡ after_all self.now.past self.now.start) }
     {
@@ -119,16 +125,21 @@ impl MemSpool {
         Ok(files)
     }
 
-    // The last call of the record.
+    /// The last call of the record.
     pub(crate) fn last(&self) -> Option<&Attempt>
         ensures { option_copied result ≡ slice_get self.now.past (length self.now.past - 1) }
     {
         self.past.last()
     }
 
-    // Records a change that was done, or that a stop cut short. It fails where there is no memory for it.
+    /// Records a change that was done, or that a stop cut short. It fails where there is no memory
+    /// for it.
     pub(crate) fn keep(&mut self, change: Change, done: bool) -> Result<(), Failed>
-        ensures ok { OnOk result (self.new ≡ record self.old { past = self.old.past ++ record { change = change; done = done } ∷ [] }) }
+        ensures ok { OnOk result
+            (self.new ≡ record self.old {
+              past = self.old.past
+                  ++ record { change = change; done = done } ∷ [];
+            }) }
         ensures err { OnErr result (self.new ≡ starves self.old) }
         ensures cause { HasCause self.old.script.faults self.new.script.faults result }
     {
@@ -138,7 +149,7 @@ impl MemSpool {
         }
     }
 
-    // A call that finds no memory, and so fails.
+    /// A call that finds no memory, and so fails.
     pub(crate) fn starve(&mut self) -> Failed
         ensures counted { self.new ≡ starves self.old }
         ensures later { self.old.script.faults ≤ self.new.script.faults }
@@ -147,9 +158,12 @@ impl MemSpool {
         self.lost()
     }
 
-    // A call that fails.
+    /// A call that fails.
     pub(crate) fn lost(&mut self) -> Failed
-        ensures counted { self.new ≡ record self.old { script = record self.old.script { faults = one_more self.old.script.faults } } }
+        ensures counted { self.new
+            ≡ record self.old {
+              script = record self.old.script { faults = one_more self.old.script.faults };
+            } }
         ensures later { self.old.script.faults ≤ self.new.script.faults }
     {
         self.script.fail();
@@ -160,7 +174,8 @@ impl MemSpool {
 // Adds a call to a record, with what it makes of the files. After `NoMemory` all is as before.
 fn record(past: &mut Vec<Attempt>, files: &mut Folders, attempt: Attempt) -> Result<(), NoMemory>
     ensures past { OnOk result (past.new.items ≡ past.old.items ++ attempt ∷ []) }
-    ensures files { OnOk result ((map : FileMap) → Holds files.old map → Holds files.new (after_attempt attempt map)) }
+    ensures files { OnOk result
+        ((map : FileMap) → Holds files.old map → Holds files.new (after_attempt attempt map)) }
     ensures kept { OnErr result ((past.new.items ≡ past.old.items) × (files.new ≡ files.old)) }
 {
     past.reserve(1)?;
@@ -188,8 +203,10 @@ impl Spool for MemSpool {
         ensures start { self.new.start ≡ self.old.start }
         ensures past { self.new.past ≡ self.old.past }
         ensures starved { self.new.starved ≡ self.old.starved }
-        ensures names { IfOk result (λ names. IsListing (Some (after_all self.old.past self.old.start)) dir.now names) }
-        ensures call { Reads (record_seen self.old.start self.old.past self.old.script.faults) (record_seen self.new.start self.new.past self.new.script.faults) }
+        ensures names { IfOk result
+            (λ names. IsListing (Some (after_all self.old.past self.old.start)) dir.now names) }
+        ensures call { Reads (record_seen self.old.start self.old.past self.old.script.faults)
+            (record_seen self.new.start self.new.past self.new.script.faults) }
         ensures cause { HasEdgeCause self.old.script.faults self.new.script.faults result }
         ensures calm { has_failed result ≡ false → self.new.script.faults ≡ self.old.script.faults }
     {
@@ -203,8 +220,11 @@ impl Spool for MemSpool {
         ensures start { self.new.start ≡ self.old.start }
         ensures past { self.new.past ≡ self.old.past }
         ensures starved { self.new.starved ≡ self.old.starved }
-        ensures bytes { IfOk result (λ bytes. bytes ≡ bytes_at (after_all self.old.past self.old.start) (dir.now, name.now)) }
-        ensures call { Reads (record_seen self.old.start self.old.past self.old.script.faults) (record_seen self.new.start self.new.past self.new.script.faults) }
+        ensures bytes { IfOk result
+            (λ bytes. bytes ≡ bytes_at (after_all self.old.past self.old.start)
+            (dir.now, name.now)) }
+        ensures call { Reads (record_seen self.old.start self.old.past self.old.script.faults)
+            (record_seen self.new.start self.new.past self.new.script.faults) }
         ensures cause { HasEdgeCause self.old.script.faults self.new.script.faults result }
         ensures calm { has_failed result ≡ false → self.new.script.faults ≡ self.old.script.faults }
     {
@@ -216,10 +236,16 @@ impl Spool for MemSpool {
     fn write_new(&mut self, dir: &Text, name: &Text, bytes: &Text) -> Result<(), Failed>
         ensures listed { is_listed self.old.script ≡ true → IsErr result }
         ensures counted { self.new.script ≡ after_call self.old.script (is_err result) }
-        ensures starved { self.new.starved ≡ (if is_err result && not (is_listed self.old.script) then one_more self.old.starved else self.old.starved) }
+        ensures starved { self.new.starved
+            ≡ (if is_err result && not (is_listed self.old.script) then one_more self.old.starved
+            else self.old.starved) }
         ensures start { self.new.start ≡ self.old.start }
-        ensures past { self.new.past ≡ past_with self.old.past (Write dir.now name.now bytes.now) (is_ok result) }
-        ensures call { Calls (record_seen self.old.start self.old.past self.old.script.faults) (record_seen self.new.start self.new.past self.new.script.faults) (IsImage (Write dir.now name.now bytes.now)) (IsDone (Write dir.now name.now bytes.now)) (IsOk result) }
+        ensures past { self.new.past
+            ≡ past_with self.old.past (Write dir.now name.now bytes.now) (is_ok result) }
+        ensures call { Calls (record_seen self.old.start self.old.past self.old.script.faults)
+            (record_seen self.new.start self.new.past self.new.script.faults)
+            (IsImage (Write dir.now name.now bytes.now))
+            (IsDone (Write dir.now name.now bytes.now)) (IsOk result) }
         ensures cause { HasCause self.old.script.faults self.new.script.faults result }
         ensures calm { OnOk result (self.new.script.faults ≡ self.old.script.faults) }
     {
@@ -232,13 +258,20 @@ impl Spool for MemSpool {
 
     fn rename(&mut self, dir: &Text, from: &Text, to: &Text) -> Result<(), Failed>
         requires apart { from.now ≢ to.now }
-        requires there { IsSome (bytes_at (after_all self.old.past self.old.start) (dir.now, from.now)) }
+        requires there { IsSome
+            (bytes_at (after_all self.old.past self.old.start) (dir.now, from.now)) }
         ensures listed { is_listed self.old.script ≡ true → IsErr result }
         ensures counted { self.new.script ≡ after_call self.old.script (is_err result) }
-        ensures starved { self.new.starved ≡ (if is_err result && not (is_listed self.old.script) then one_more self.old.starved else self.old.starved) }
+        ensures starved { self.new.starved
+            ≡ (if is_err result && not (is_listed self.old.script) then one_more self.old.starved
+            else self.old.starved) }
         ensures start { self.new.start ≡ self.old.start }
-        ensures past { self.new.past ≡ past_with self.old.past (Rename dir.now from.now to.now) (is_ok result) }
-        ensures call { Calls (record_seen self.old.start self.old.past self.old.script.faults) (record_seen self.new.start self.new.past self.new.script.faults) (IsImage (Rename dir.now from.now to.now)) (IsDone (Rename dir.now from.now to.now)) (IsOk result) }
+        ensures past { self.new.past
+            ≡ past_with self.old.past (Rename dir.now from.now to.now) (is_ok result) }
+        ensures call { Calls (record_seen self.old.start self.old.past self.old.script.faults)
+            (record_seen self.new.start self.new.past self.new.script.faults)
+            (IsImage (Rename dir.now from.now to.now))
+            (IsDone (Rename dir.now from.now to.now)) (IsOk result) }
         ensures cause { HasCause self.old.script.faults self.new.script.faults result }
         ensures calm { OnOk result (self.new.script.faults ≡ self.old.script.faults) }
     {
@@ -252,10 +285,15 @@ impl Spool for MemSpool {
     fn remove(&mut self, dir: &Text, name: &Text) -> Result<(), Failed>
         ensures listed { is_listed self.old.script ≡ true → IsErr result }
         ensures counted { self.new.script ≡ after_call self.old.script (is_err result) }
-        ensures starved { self.new.starved ≡ (if is_err result && not (is_listed self.old.script) then one_more self.old.starved else self.old.starved) }
+        ensures starved { self.new.starved
+            ≡ (if is_err result && not (is_listed self.old.script) then one_more self.old.starved
+            else self.old.starved) }
         ensures start { self.new.start ≡ self.old.start }
-        ensures past { self.new.past ≡ past_with self.old.past (Remove dir.now name.now) (is_ok result) }
-        ensures call { Calls (record_seen self.old.start self.old.past self.old.script.faults) (record_seen self.new.start self.new.past self.new.script.faults) (IsImage (Remove dir.now name.now)) (IsDone (Remove dir.now name.now)) (IsOk result) }
+        ensures past { self.new.past
+            ≡ past_with self.old.past (Remove dir.now name.now) (is_ok result) }
+        ensures call { Calls (record_seen self.old.start self.old.past self.old.script.faults)
+            (record_seen self.new.start self.new.past self.new.script.faults)
+            (IsImage (Remove dir.now name.now)) (IsDone (Remove dir.now name.now)) (IsOk result) }
         ensures cause { HasCause self.old.script.faults self.new.script.faults result }
         ensures calm { OnOk result (self.new.script.faults ≡ self.old.script.faults) }
     {

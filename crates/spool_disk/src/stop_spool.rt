@@ -1,4 +1,4 @@
-ghost use Rattle.std.specs.Prelude.{◌≡◌, ◌≢◌, ◌≤◌, ◌+◌, ◌++◌, ◌∷◌, [], ◌⊎◌, ◌&&◌, ◌||◌, true, false, not, All, IfOk, OnOk, OnErr, IsErr, IsOk, IsSome, Some, is_ok, is_err, map, option_copied, if◌then◌else◌};
+ghost use Rattle.std.specs.Prelude.{◌≡◌, ◌≢◌, ◌≤◌, ◌+◌, ◌++◌, ◌∷◌, [], ◌⊎◌, ◌&&◌, ◌||◌, true, false, not, All, IfOk, OnOk, IsErr, IsOk, IsSome, Some, is_ok, is_err, map, option_copied, if◌then◌else◌};
 ghost use Rattle.mail_base.specs.Histories.{HasCause, Rose};
 ghost use Rattle.mail_base.specs.Scripts.{is_listed, one_more};
 ghost use Rattle.mail_base.specs.Causes.{HasEdgeCause, has_failed};
@@ -14,9 +14,10 @@ use crate::{Change, File, MemSpool, Spool};
 use mail_base::{EdgeFault, Failed, NoMemory, Seq, Text, TryCopy};
 use std::alloc::Global;
 
-/// A spool in memory that stops: so many calls that change files pass, the next such call is cut short,
-/// and it and every call after it fail. Where there is no memory to record the call that is cut short,
-/// it fails, which the spool's own count of those calls tells, and the stop comes with the next.
+/// A spool in memory that stops: so many calls that change files pass, the next such call is cut
+/// short, and it and every call after it fail. Where there is no memory to record the call that is
+/// cut short, it fails, which the spool's own count of those calls tells, and the stop comes with
+/// the next.
 pub struct StopSpool {
     pub spool: MemSpool,
     pub left: u64,
@@ -46,12 +47,17 @@ impl StopSpool {
         }
     }
 
-    /// Some of the maps that the stop may leave, each as a spool of its own: of a write the file absent,
-    /// empty, cut in half and whole, of a renaming or a removal the old map and the new one. Before the
-    /// stop it is the map alone.
+    /// Some of the maps that the stop may leave, each as a spool of its own: of a write the file
+    /// absent, empty, cut in half and whole, of a renaming or a removal the old map and the new
+    /// one. Before the stop it is the map alone.
     pub fn images(&self) -> Result<Seq<MemSpool>, NoMemory>
-        ensures maps { IfOk result (λ spools. spools ≡ map fresh (left_maps (stopped_call self.now.spool.past) (after_all self.now.spool.past self.now.spool.start))) }
-        ensures each { IfOk result (λ spools. All (λ spool. MayLeave (stopped_call self.now.spool.past) (after_all self.now.spool.past self.now.spool.start) spool.start) spools) }
+        ensures maps { IfOk result
+            (λ spools. spools
+            ≡ map fresh (left_maps (stopped_call self.now.spool.past)
+            (after_all self.now.spool.past self.now.spool.start))) }
+        ensures each { IfOk result
+            (λ spools. All (λ spool. MayLeave (stopped_call self.now.spool.past)
+            (after_all self.now.spool.past self.now.spool.start) spool.start) spools) }
     {
         let files = self.spool.replayed()?;
         match self.stopped_call() {
@@ -77,8 +83,11 @@ impl StopSpool {
         requires { self.old.stopped ≡ false }
         ensures left { self.new.left ≡ self.old.left }
         ensures start { self.new.spool.start ≡ self.old.spool.start }
-        ensures past { self.new.spool.past ≡ past_after self.old.spool.past change false self.new.stopped }
-        ensures starved { self.new.spool.starved ≡ (if self.new.stopped then self.old.spool.starved else one_more self.old.spool.starved) }
+        ensures past { self.new.spool.past
+            ≡ past_after self.old.spool.past change false self.new.stopped }
+        ensures starved { self.new.spool.starved
+            ≡ (if self.new.stopped then self.old.spool.starved
+            else one_more self.old.spool.starved) }
         ensures rose { Rose self.old.spool.script.faults self.new.spool.script.faults }
         ensures later { self.old.spool.script.faults ≤ self.new.spool.script.faults }
     {
@@ -114,7 +123,9 @@ fn leave_part(
     name: &Text,
     part: &[u8],
 ) -> Result<(), NoMemory>
-    ensures { OnOk result (spools.new ≡ spools.old ++ fresh (after (Write dir.now name.now part.now) files.now) ∷ []) }
+    ensures { OnOk result
+        (spools.new ≡ spools.old
+        ++ fresh (after (Write dir.now name.now part.now) files.now) ∷ []) }
 {
     let bytes = Text::of(dir.allocator(), part)?;
     leave(spools, files, &Change::writing(dir, name, &bytes)?)
@@ -137,7 +148,9 @@ fn left_by_write(
     name: &Text,
     bytes: &Text,
 ) -> Result<Seq<MemSpool>, NoMemory>
-    ensures { IfOk result (λ spools. spools ≡ map fresh (left_maps (Some (Write dir.now name.now bytes.now)) files.now)) }
+    ensures { IfOk result
+        (λ spools. spools
+        ≡ map fresh (left_maps (Some (Write dir.now name.now bytes.now)) files.now)) }
 {
     let whole = bytes.bytes();
     let half = whole.len() / 2;
@@ -181,11 +194,18 @@ impl Spool for StopSpool {
 
     fn list(&mut self, alloc: Global, dir: &Text) -> Result<Seq<Text>, EdgeFault>
         ensures fails { has_failed result ≡ (self.old.stopped || is_listed self.old.spool.script) }
-        ensures kept { self.new ≡ record self.old { spool = record self.old.spool { script = self.new.spool.script } } }
-        ensures names { IfOk result (λ names. IsListing (Some (after_all self.old.spool.past self.old.spool.start)) dir.now names) }
-        ensures call { Reads (record_seen self.old.spool.start self.old.spool.past self.old.spool.script.faults) (record_seen self.new.spool.start self.new.spool.past self.new.spool.script.faults) }
-        ensures cause { HasEdgeCause self.old.spool.script.faults self.new.spool.script.faults result }
-        ensures calm { has_failed result ≡ false → self.new.spool.script.faults ≡ self.old.spool.script.faults }
+        ensures kept { self.new
+            ≡ record self.old { spool = record self.old.spool { script = self.new.spool.script } } }
+        ensures names { IfOk result
+            (λ names. IsListing
+            (Some (after_all self.old.spool.past self.old.spool.start)) dir.now names) }
+        ensures call { Reads
+            (record_seen self.old.spool.start self.old.spool.past self.old.spool.script.faults)
+            (record_seen self.new.spool.start self.new.spool.past self.new.spool.script.faults) }
+        ensures cause { HasEdgeCause self.old.spool.script.faults
+            self.new.spool.script.faults result }
+        ensures calm { has_failed result ≡ false
+            → self.new.spool.script.faults ≡ self.old.spool.script.faults }
     {
         if self.stopped {
             let failed = self.spool.lost();
@@ -196,11 +216,18 @@ impl Spool for StopSpool {
 
     fn read(&mut self, alloc: Global, dir: &Text, name: &Text) -> Result<Option<Text>, EdgeFault>
         ensures fails { has_failed result ≡ (self.old.stopped || is_listed self.old.spool.script) }
-        ensures kept { self.new ≡ record self.old { spool = record self.old.spool { script = self.new.spool.script } } }
-        ensures bytes { IfOk result (λ bytes. bytes ≡ bytes_at (after_all self.old.spool.past self.old.spool.start) (dir.now, name.now)) }
-        ensures call { Reads (record_seen self.old.spool.start self.old.spool.past self.old.spool.script.faults) (record_seen self.new.spool.start self.new.spool.past self.new.spool.script.faults) }
-        ensures cause { HasEdgeCause self.old.spool.script.faults self.new.spool.script.faults result }
-        ensures calm { has_failed result ≡ false → self.new.spool.script.faults ≡ self.old.spool.script.faults }
+        ensures kept { self.new
+            ≡ record self.old { spool = record self.old.spool { script = self.new.spool.script } } }
+        ensures bytes { IfOk result
+            (λ bytes. bytes ≡ bytes_at (after_all self.old.spool.past self.old.spool.start)
+            (dir.now, name.now)) }
+        ensures call { Reads
+            (record_seen self.old.spool.start self.old.spool.past self.old.spool.script.faults)
+            (record_seen self.new.spool.start self.new.spool.past self.new.spool.script.faults) }
+        ensures cause { HasEdgeCause self.old.spool.script.faults
+            self.new.spool.script.faults result }
+        ensures calm { has_failed result ≡ false
+            → self.new.spool.script.faults ≡ self.old.spool.script.faults }
     {
         if self.stopped {
             let failed = self.spool.lost();
@@ -212,13 +239,25 @@ impl Spool for StopSpool {
     fn write_new(&mut self, dir: &Text, name: &Text, bytes: &Text) -> Result<(), Failed>
         ensures over { self.old.stopped ≡ true → IsErr result × (self.new.stopped ≡ true) }
         ensures stop { self.old.left ≡ 0 → IsErr result }
-        ensures stopped { self.new.stopped ≡ true → (self.old.stopped ≡ true) ⊎ (self.old.left ≡ 0) }
-        ensures cut { self.old.left ≡ 0 → self.old.stopped ≡ false → (self.new.stopped ≡ true) ⊎ (self.new.spool.starved ≡ one_more self.old.spool.starved) }
-        ensures starved { self.new.spool.starved ≡ (if wants_memory self.old.stopped self.old.left (is_listed self.old.spool.script) self.new.stopped (is_err result) then one_more self.old.spool.starved else self.old.spool.starved) }
+        ensures stopped { self.new.stopped ≡ true
+            → (self.old.stopped ≡ true) ⊎ (self.old.left ≡ 0) }
+        ensures cut { self.old.left ≡ 0 → self.old.stopped ≡ false
+            → (self.new.stopped ≡ true)
+            ⊎ (self.new.spool.starved ≡ one_more self.old.spool.starved) }
+        ensures starved { self.new.spool.starved
+            ≡ (if wants_memory self.old.stopped self.old.left (is_listed self.old.spool.script)
+            self.new.stopped (is_err result) then one_more self.old.spool.starved
+            else self.old.spool.starved) }
         ensures left { self.old.left ≡ self.new.left + (if is_ok result then 1 else 0) }
         ensures start { self.new.spool.start ≡ self.old.spool.start }
-        ensures past { self.new.spool.past ≡ past_after self.old.spool.past (Write dir.now name.now bytes.now) (is_ok result) (self.new.stopped && not self.old.stopped) }
-        ensures call { Calls (record_seen self.old.spool.start self.old.spool.past self.old.spool.script.faults) (record_seen self.new.spool.start self.new.spool.past self.new.spool.script.faults) (IsImage (Write dir.now name.now bytes.now)) (IsDone (Write dir.now name.now bytes.now)) (IsOk result) }
+        ensures past { self.new.spool.past
+            ≡ past_after self.old.spool.past (Write dir.now name.now bytes.now) (is_ok result)
+            (self.new.stopped && not self.old.stopped) }
+        ensures call { Calls
+            (record_seen self.old.spool.start self.old.spool.past self.old.spool.script.faults)
+            (record_seen self.new.spool.start self.new.spool.past self.new.spool.script.faults)
+            (IsImage (Write dir.now name.now bytes.now))
+            (IsDone (Write dir.now name.now bytes.now)) (IsOk result) }
         ensures cause { HasCause self.old.spool.script.faults self.new.spool.script.faults result }
         ensures calm { OnOk result (self.new.spool.script.faults ≡ self.old.spool.script.faults) }
     {
@@ -238,16 +277,29 @@ impl Spool for StopSpool {
 
     fn rename(&mut self, dir: &Text, from: &Text, to: &Text) -> Result<(), Failed>
         requires apart { from.now ≢ to.now }
-        requires there { IsSome (bytes_at (after_all self.old.spool.past self.old.spool.start) (dir.now, from.now)) }
+        requires there { IsSome
+            (bytes_at (after_all self.old.spool.past self.old.spool.start) (dir.now, from.now)) }
         ensures over { self.old.stopped ≡ true → IsErr result × (self.new.stopped ≡ true) }
         ensures stop { self.old.left ≡ 0 → IsErr result }
-        ensures stopped { self.new.stopped ≡ true → (self.old.stopped ≡ true) ⊎ (self.old.left ≡ 0) }
-        ensures cut { self.old.left ≡ 0 → self.old.stopped ≡ false → (self.new.stopped ≡ true) ⊎ (self.new.spool.starved ≡ one_more self.old.spool.starved) }
-        ensures starved { self.new.spool.starved ≡ (if wants_memory self.old.stopped self.old.left (is_listed self.old.spool.script) self.new.stopped (is_err result) then one_more self.old.spool.starved else self.old.spool.starved) }
+        ensures stopped { self.new.stopped ≡ true
+            → (self.old.stopped ≡ true) ⊎ (self.old.left ≡ 0) }
+        ensures cut { self.old.left ≡ 0 → self.old.stopped ≡ false
+            → (self.new.stopped ≡ true)
+            ⊎ (self.new.spool.starved ≡ one_more self.old.spool.starved) }
+        ensures starved { self.new.spool.starved
+            ≡ (if wants_memory self.old.stopped self.old.left (is_listed self.old.spool.script)
+            self.new.stopped (is_err result) then one_more self.old.spool.starved
+            else self.old.spool.starved) }
         ensures left { self.old.left ≡ self.new.left + (if is_ok result then 1 else 0) }
         ensures start { self.new.spool.start ≡ self.old.spool.start }
-        ensures past { self.new.spool.past ≡ past_after self.old.spool.past (Rename dir.now from.now to.now) (is_ok result) (self.new.stopped && not self.old.stopped) }
-        ensures call { Calls (record_seen self.old.spool.start self.old.spool.past self.old.spool.script.faults) (record_seen self.new.spool.start self.new.spool.past self.new.spool.script.faults) (IsImage (Rename dir.now from.now to.now)) (IsDone (Rename dir.now from.now to.now)) (IsOk result) }
+        ensures past { self.new.spool.past
+            ≡ past_after self.old.spool.past (Rename dir.now from.now to.now) (is_ok result)
+            (self.new.stopped && not self.old.stopped) }
+        ensures call { Calls
+            (record_seen self.old.spool.start self.old.spool.past self.old.spool.script.faults)
+            (record_seen self.new.spool.start self.new.spool.past self.new.spool.script.faults)
+            (IsImage (Rename dir.now from.now to.now))
+            (IsDone (Rename dir.now from.now to.now)) (IsOk result) }
         ensures cause { HasCause self.old.spool.script.faults self.new.spool.script.faults result }
         ensures calm { OnOk result (self.new.spool.script.faults ≡ self.old.spool.script.faults) }
     {
@@ -268,13 +320,24 @@ impl Spool for StopSpool {
     fn remove(&mut self, dir: &Text, name: &Text) -> Result<(), Failed>
         ensures over { self.old.stopped ≡ true → IsErr result × (self.new.stopped ≡ true) }
         ensures stop { self.old.left ≡ 0 → IsErr result }
-        ensures stopped { self.new.stopped ≡ true → (self.old.stopped ≡ true) ⊎ (self.old.left ≡ 0) }
-        ensures cut { self.old.left ≡ 0 → self.old.stopped ≡ false → (self.new.stopped ≡ true) ⊎ (self.new.spool.starved ≡ one_more self.old.spool.starved) }
-        ensures starved { self.new.spool.starved ≡ (if wants_memory self.old.stopped self.old.left (is_listed self.old.spool.script) self.new.stopped (is_err result) then one_more self.old.spool.starved else self.old.spool.starved) }
+        ensures stopped { self.new.stopped ≡ true
+            → (self.old.stopped ≡ true) ⊎ (self.old.left ≡ 0) }
+        ensures cut { self.old.left ≡ 0 → self.old.stopped ≡ false
+            → (self.new.stopped ≡ true)
+            ⊎ (self.new.spool.starved ≡ one_more self.old.spool.starved) }
+        ensures starved { self.new.spool.starved
+            ≡ (if wants_memory self.old.stopped self.old.left (is_listed self.old.spool.script)
+            self.new.stopped (is_err result) then one_more self.old.spool.starved
+            else self.old.spool.starved) }
         ensures left { self.old.left ≡ self.new.left + (if is_ok result then 1 else 0) }
         ensures start { self.new.spool.start ≡ self.old.spool.start }
-        ensures past { self.new.spool.past ≡ past_after self.old.spool.past (Remove dir.now name.now) (is_ok result) (self.new.stopped && not self.old.stopped) }
-        ensures call { Calls (record_seen self.old.spool.start self.old.spool.past self.old.spool.script.faults) (record_seen self.new.spool.start self.new.spool.past self.new.spool.script.faults) (IsImage (Remove dir.now name.now)) (IsDone (Remove dir.now name.now)) (IsOk result) }
+        ensures past { self.new.spool.past
+            ≡ past_after self.old.spool.past (Remove dir.now name.now) (is_ok result)
+            (self.new.stopped && not self.old.stopped) }
+        ensures call { Calls
+            (record_seen self.old.spool.start self.old.spool.past self.old.spool.script.faults)
+            (record_seen self.new.spool.start self.new.spool.past self.new.spool.script.faults)
+            (IsImage (Remove dir.now name.now)) (IsDone (Remove dir.now name.now)) (IsOk result) }
         ensures cause { HasCause self.old.spool.script.faults self.new.spool.script.faults result }
         ensures calm { OnOk result (self.new.spool.script.faults ≡ self.old.spool.script.faults) }
     {
