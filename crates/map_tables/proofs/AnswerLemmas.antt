@@ -17,11 +17,13 @@ module _ {X : Type 0} where
   none_some : (x : X) → None ≡ Some x → ⊥
   none_some x same = false≢true (ap is_some same)
 
+  -- an item of the first list stands at its place in both
   pub at_front : (xs ys : List X) (k : ℕ) → k < length xs → slice_get (xs ++ ys) k ≡ slice_get xs k
   at_front [] ys k lt = absurd (omega (arith, lt))
   at_front (x ∷ xs) ys zero lt = refl
   at_front (x ∷ xs) ys (suc k) lt = at_front xs ys k (omega (arith, lt))
 
+  -- the last item stands at the length of the others
   pub at_last : (xs : List X) (x : X) → slice_get (xs ++ x ∷ []) (length xs) ≡ Some x
   at_last [] x = refl
   at_last (y ∷ xs) x = at_last xs x
@@ -54,6 +56,7 @@ module _ (hosts : List HostLine) (key : List ℕ) (args : List (List ℕ)) where
       let next : length given + suc k ≡ length (with_answer hosts key args given first) + k = omega (arith, longer given first) in
       ap (slice_get (fold (with_answer hosts key args) (with_answer hosts key args given first) maps)) next ∙ gives (with_answer hosts key args given first) maps k map is
 
+  -- each map adds one answer
   pub long : (given : List Answer) (maps : List Table) → length (fold (with_answer hosts key args) given maps) ≡ length given + length maps
   long given [] = omega arith
   long given (map ∷ maps) = omega (arith, long (with_answer hosts key args given map) maps, longer given map)
@@ -108,7 +111,7 @@ last_more name (first ∷ maps) map =
     ap (λ (found : Option ℕ). later found (bytes_eq name first.line.name)) (last_more name maps map)
     ∙ later_cond (bytes_eq name map.line.name) (bytes_eq name first.line.name) (length maps) (last_place name maps)
 
-pub placed_more : (maps : List Table) (map : Table) (old new : List (List ℕ × ℕ)) → IsPlaced maps old → SetsValue {V = ℕ} map.line.name (Some (length maps)) old new → IsPlaced (maps ++ map ∷ []) new
+placed_more : (maps : List Table) (map : Table) (old new : List (List ℕ × ℕ)) → IsPlaced maps old → SetsValue {V = ℕ} map.line.name (Some (length maps)) old new → IsPlaced (maps ++ map ∷ []) new
 placed_more maps map old new placed sets name = by (bytes_eq name map.line.name) refl
   where
     by : (b : Bool) → bytes_eq name map.line.name ≡ b → value_at name new ≡ last_place name (maps ++ map ∷ [])
@@ -133,6 +136,7 @@ module _ (hosts : List HostLine) (key : List ℕ) (args : List (List ℕ)) where
       h ∙ ap (λ (m : List Table). slice_get (answers hosts key args m) place) same ∙ ap (answer_of_place (answers hosts key args maps)) (is ∙ placed name)
   answers_named (Err e) shown maps places name place placed is same h = tt
 
+  -- a name without a place has no map that answers
   pub none_named : (maps : List Table) (places : List (List ℕ × ℕ)) (name : List ℕ) → IsPlaced maps places → None ≡ value_at name places → None ≡ map_answer (record { maps = maps; hosts = hosts }) name key args
   none_named maps places name placed is = ap (answer_of_place (answers hosts key args maps)) (is ∙ placed name)
 

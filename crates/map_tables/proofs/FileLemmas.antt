@@ -1,20 +1,12 @@
 -- The files of maps by their names.
-use Rattle.std.proofs.Common.{◌≡◌, ℕ, suc, ◌+◌, ◌<◌, List, [], ◌∷◌, Bool, true, false, cond, Option, Some, None, length, drop, get_or, fold, refl, sym, ap, ◌∙◌, arith}
+use Rattle.std.proofs.Common.{◌≡◌, ℕ, suc, ◌+◌, List, [], ◌∷◌, Bool, true, false, cond, Option, Some, None, refl, ap, ◌∙◌, arith}
 use Rattle.std.specs.Prelude.{bytes_eq, option_map, unwrap_or, slice_get}
 use Rattle.std.specs.List.{find}
-use Rattle.std.proofs.lemmas.List.{drop_more}
 use Rattle.mail_base.specs.Catalogs.{value_at}
 use Rattle.map_tables.specs.declared.named.Named.{Named}
-use Rattle.map_tables.specs.Tables.{is_named, text_of, with_first}
+use Rattle.map_tables.specs.Tables.{is_named, text_of}
 use Rattle.map_tables.specs.inner.FilePlaces.{bytes_at, first_places, places_from, text_at}
 use Rattle.map_tables.proofs.TableLemmas.{first_counts}
-
--- one file more
-pub places_more : (texts : List Named) (i : ℕ) (text : Named) (old new all : List (List ℕ × ℕ)) → i < length texts → text ≡ get_or texts i text → new ≡ with_first old (text.name, i)
-    → fold with_first old (places_from i (drop i texts)) ≡ all → fold with_first new (places_from (i + 1) (drop (i + 1) texts)) ≡ all
-places_more texts i text old new all within at put so =
-    ap (λ (p : List (List ℕ × ℕ)). fold with_first p (places_from (i + 1) (drop (i + 1) texts))) (put ∙ ap (λ (t : Named). with_first old (t.name, i)) at)
-    ∙ sym (ap (λ (ts : List Named). fold with_first old (places_from i ts)) (drop_more texts i text within)) ∙ so
 
 -- the place of a name is that of the first file of that name
 place_found : (file : List ℕ) (texts : List Named) (n : ℕ) (all : List Named) → ((k : ℕ) → slice_get all (n + k) ≡ slice_get texts k) → text_at all (value_at file (places_from n texts)) ≡ find (is_named file) texts

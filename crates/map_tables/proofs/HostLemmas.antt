@@ -44,7 +44,7 @@ module _ {X : Type 0} (test : X → Bool) where
   none_some : (x : X) → None ≡ Some x → ⊥
   none_some x same = absurd (cc same)
 
-  pub find_first : (xs : List X) (place : ℕ) → IsFirstAt test xs place → slice_get xs place ≡ find test xs
+  find_first : (xs : List X) (place : ℕ) → IsFirstAt test xs place → slice_get xs place ≡ find test xs
   find_first [] place first = absurd (none_some first.one first.stands)
   find_first (x ∷ xs) zero first =
       let is : x ≡ first.one = cc first.stands in
@@ -70,7 +70,7 @@ module _ {X : Type 0} (test : X → Bool) where
       at (suc k) other is = all k other is
 
   -- something stands first, or nothing passes
-  pub ends : (xs : List X) → Ends xs
+  ends : (xs : List X) → Ends xs
   ends [] = inr (refl, λ k other is. absurd (none_some other is))
   ends (x ∷ xs) = ends_by x xs (test x) refl (ends xs)
 

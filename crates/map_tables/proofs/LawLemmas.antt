@@ -52,6 +52,7 @@ module _ (hosts : List HostLine) (key : List ℕ) (args : List (List ℕ)) (maps
       ap (λ (o : Option Answer). unwrap_or o Lacks ∷ map (answer_at (answers hosts key args (take place maps))) members) (sym (before member (All-head (λ m. m < place) member members all)))
       ∙ ap (λ (rest : List Answer). answer_at (answers hosts key args maps) member ∷ rest) (members_alike members (All-tail (λ m. m < place) member members all))
 
+  -- a sequence hands on what the first of its members says that doesn't lack the key
   pub hands_on : (table : Table) (members : List ℕ) → Some table ≡ slice_get maps place → table.line.class ≡ Sequence members → All (λ member. member < place) members
       → slice_get (answers hosts key args maps) place ≡ Some (handed table.line key (first_answer (map (answer_at (answers hosts key args maps)) members)))
   hands_on table members at is all =

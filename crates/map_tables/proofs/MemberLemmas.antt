@@ -1,12 +1,11 @@
 -- The answers from which that of a sequence follows.
-use Rattle.std.proofs.Common.{◌≡◌, ℕ, ◌+◌, ◌<◌, ◌≤◌, Bool, true, false, ◌||◌, List, [], ◌∷◌, ◌++◌, Option, Some, Result, Ok, Err, length, take, get_or, set, map, refl, sym, ap, subst, ◌∙◌, arith, inl, inr, ◌⊎◌, true≢false, nat_eq}
+use Rattle.std.proofs.Common.{◌≡◌, ℕ, ◌+◌, ◌<◌, ◌≤◌, Bool, true, false, ◌||◌, List, [], ◌∷◌, ◌++◌, Option, Some, Result, Ok, Err, length, take, get_or, map, refl, sym, ap, subst, ◌∙◌, arith, inl, inr, true≢false, nat_eq}
 use Rattle.std.specs.Prelude.{IfOk, slice_get, unwrap_or}
 use Rattle.std.specs.List.{list_any}
 use Rattle.std.proofs.Math.Seq.{take-append_seam}
-use Rattle.std.proofs.lemmas.Bool.{cases_order, eqb-true, eq-eqb}
-use Rattle.std.proofs.lemmas.List.{get_or-set_same, get_or-set_other, length-take-le}
-use Rattle.std.proofs.lemmas.List.Folds.{list_any_more}
-use Rattle.std.proofs.lemmas.Option.{slice_get-get_or, slice_get_past, slice_get_within}
+use Rattle.std.proofs.lemmas.Bool.{cases_order, eq-eqb}
+use Rattle.std.proofs.lemmas.List.{length-take-le}
+use Rattle.std.proofs.lemmas.Option.{slice_get-get_or, slice_get_past}
 use Rattle.mail_base.specs.declared.lines.MapClass.{MapClass}
 use Rattle.mail_base.specs.declared.lines.MapClass.TheVariants.{Text as TextClass, Hash, Btree, Host, Dequote, Sequence, Null, Arith, Macro, Other}
 use Rattle.map_tables.specs.declared.answer.Answer.{Answer}
@@ -18,10 +17,6 @@ use Rattle.map_tables.specs.inner.Members.{Agree, AreMarked, IsClosed, members_i
 use Rattle.map_tables.proofs.AnswerLemmas.{at_front, at_last, long, place_gives}
 use Rattle.map_tables.proofs.LawLemmas.{before}
 
-either : (a b : Bool) → (a || b) ≡ true → (a ≡ true) ⊎ (b ≡ true)
-either true b h = inl refl
-either false b h = inr h
-
 or_left : (a b : Bool) → a ≡ true → (a || b) ≡ true
 or_left true b h = refl
 or_left false b h = absurd (true≢false (sym h))
@@ -31,36 +26,6 @@ or_right true b h = refl
 or_right false b h = h
 
 -- ---- marks
-
--- a mark more keeps those that stand
-pub set_keeps : (marked : List Bool) (at place : ℕ) → at < length marked → get_or marked place false ≡ true → get_or (set marked at true) place false ≡ true
-set_keeps marked at place lt h = elim (cases_order place at) [
-  | inl e ↦ subst (λ (k : ℕ). get_or (set marked at true) k false ≡ true) (sym e) (get_or-set_same marked at true false lt)
-  | inr (inl less) ↦ get_or-set_other marked at place true false (λ e. absurd (omega (arith, e, less))) ∙ h
-  | inr (inr more) ↦ get_or-set_other marked at place true false (λ e. absurd (omega (arith, e, more))) ∙ h
-]
-
-pub set_others : (marked : List Bool) (at place : ℕ) → at < place → get_or (set marked at true) place false ≡ get_or marked place false
-set_others marked at place lt = get_or-set_other marked at place true false (λ e. absurd (omega (arith, e, lt)))
-
--- one mark more
-pub set_here : (marked : List Bool) (place : ℕ) → place < length marked → get_or (set marked place true) place false ≡ true
-set_here marked place lt = get_or-set_same marked place true false lt
-
--- one member more, which is marked where it is before the end
-pub marked_more : (members : List ℕ) (i member end : ℕ) (old new : List Bool) → i < length members → member ≡ get_or members i member → ((place : ℕ) → get_or old place false ≡ true → get_or new place false ≡ true)
-    → (member < end → get_or new member false ≡ true) → AreMarked (take i members) end old → AreMarked (take (i + 1) members) end new
-marked_more members i member end old new within at keeps here so other among lt =
-    by (either (list_any (nat_eq other) (take i members)) (nat_eq other (get_or members i member)) (sym (list_any_more (nat_eq other) members i member within) ∙ among))
-  where
-    by : (list_any (nat_eq other) (take i members) ≡ true) ⊎ (nat_eq other (get_or members i member) ≡ true) → get_or new other false ≡ true
-    by (inl was) = keeps other (so other was lt)
-    by (inr same) =
-        let is : member ≡ other = at ∙ sym (eqb-true other (get_or members i member) same) in
-        subst (λ (k : ℕ). get_or new k false ≡ true) is (here (subst (λ (k : ℕ). k < end) (sym is) lt))
-
-pub marked_none : (members : List ℕ) (end : ℕ) (marked : List Bool) → AreMarked (take 0 members) end marked
-marked_none members end marked member among lt = absurd (true≢false (sym among))
 
 keeps_marked : (members : List ℕ) (end : ℕ) (old new : List Bool) → ((place : ℕ) → get_or old place false ≡ true → get_or new place false ≡ true) → AreMarked members end old → AreMarked members end new
 keeps_marked members end old new keeps are member among lt = keeps member (are member among lt)
@@ -87,9 +52,6 @@ module _ (maps : List Table) (place : ℕ) (old : List Bool) where
     | inr (inr more) ↦ keeps_marked (members_in table.line.class) at old new keeps (closed at table (omega (arith, more)) (sym (others at le) ∙ is) there)
   ]
 
-pub closed_end : (maps : List Table) (marked : List Bool) → IsClosed (length maps) maps marked
-closed_end maps marked at table le is there = let lt = slice_get_within maps at table there in absurd (omega (arith, le, lt))
-
 -- ---- answers
 
 -- a map answers the same from what answers the same at its members
@@ -107,7 +69,7 @@ by_members Macro hosts key args given all table same = refl
 by_members (Other name) hosts key args given all table same = refl
 
 -- so does one whose members were asked
-pub from_members : (hosts : List HostLine) (key : List ℕ) (args : List (List ℕ)) (given all : List Answer) (table : Table) → map (answer_at given) (members_in table.line.class) ≡ map (answer_at all) (members_in table.line.class)
+from_members : (hosts : List HostLine) (key : List ℕ) (args : List (List ℕ)) (given all : List Answer) (table : Table) → map (answer_at given) (members_in table.line.class) ≡ map (answer_at all) (members_in table.line.class)
     → answer hosts key args given table ≡ answer hosts key args all table
 from_members hosts key args given all table same = by_members table.line.class hosts key args given all table same
 
@@ -132,7 +94,7 @@ at_member marked end given all members one other are agree member among = elim (
 
 module _ (hosts : List HostLine) (key : List ℕ) (args : List (List ℕ)) (maps : List Table) (marked : List Bool) where
   -- what the members of a sequence behind all maps say
-  pub members_agree : (members : List ℕ) (given : List Answer) → AreMarked members (length maps) marked → Agree marked (length maps) given (answers hosts key args maps) → length given ≡ length maps
+  members_agree : (members : List ℕ) (given : List Answer) → AreMarked members (length maps) marked → Agree marked (length maps) given (answers hosts key args maps) → length given ≡ length maps
       → map (answer_at given) members ≡ map (answer_at (answers hosts key args maps)) members
   members_agree members given are agree same =
       let all = long hosts key args [] maps in

@@ -98,18 +98,23 @@ module _ (opens closes : ℕ) where
     behind : (other : ℕ) → now ≡ other → is_closed_from opens closes now (drop (i + 1) text) ≡ is_closed_from opens closes other (drop (i + 1) text)
     behind other same = ap (λ d. is_closed_from opens closes d (drop (i + 1) text)) same
 
+    -- an opening byte goes one deeper
     pub opened : get_or text i 0 ≡ opens → now ≡ depth + 1 → is_closed_from opens closes now (drop (i + 1) text) ≡ is_closed_from opens closes depth (drop i text)
     opened is same = behind _ same ∙ sym (first ∙ at_opening depth _ _ is)
 
+    -- a closing byte comes back out by one
     pub closed : get_or text i 0 ≢ opens → get_or text i 0 ≡ closes → depth ≢ 0 → now ≡ depth - 1 → is_closed_from opens closes now (drop (i + 1) text) ≡ is_closed_from opens closes depth (drop i text)
     closed differs is some same = behind _ same ∙ sym (first ∙ at_closing depth _ _ differs is some)
 
+    -- any other byte leaves the depth as it is
     pub passed : get_or text i 0 ≢ opens → get_or text i 0 ≢ closes → now ≡ depth → is_closed_from opens closes now (drop (i + 1) text) ≡ is_closed_from opens closes depth (drop i text)
     passed differs other same = behind _ same ∙ sym (first ∙ at_other depth _ _ differs other)
 
+    -- a closing byte that closes nothing makes the text unbalanced
     pub lone : get_or text i 0 ≢ opens → get_or text i 0 ≡ closes → depth ≡ 0 → is_closed_from opens closes depth (drop i text) ≡ false
     lone differs is none = first ∙ at_lone depth _ _ differs is none
 
+  -- a text that ends is balanced just at depth 0
   pub at_end : (text : List ℕ) (i depth : ℕ) → length text ≤ i → is_closed_from opens closes depth (drop i text) ≡ (depth == 0)
   unfolding is_closed_from
   at_end text i depth le = ap (is_closed_from opens closes depth) (drop_all i text le)

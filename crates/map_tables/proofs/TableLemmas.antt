@@ -67,6 +67,7 @@ module _ {V : Type 0} where
       ∙ or_else_assoc (value_at key known) (value_at key (pair ∷ [])) (value_at key pairs)
       ∙ ap (or_else (value_at key known)) (or_else_cond (bytes_eq key pair.0) pair.1 None (value_at key pairs))
 
+  -- with the first pair of each key alone, each key has the value as before
   pub first_counts : (key : List ℕ) (pairs : Pairs V) → value_at key (first_pairs pairs) ≡ value_at key pairs
   first_counts key pairs = counts_on key [] pairs
 
@@ -92,5 +93,6 @@ module _ {V : Type 0} where
   first_new : (key : List ℕ) (value : V) (pairs now : Pairs V) → None ≡ value_at key pairs → now ≡ with_value key value pairs → now ≡ with_first pairs (key, value)
   first_new key value pairs now none put = put ∙ new_last key value pairs none ∙ sym (cond-false _ pairs (pairs ++ (key, value) ∷ []) (ap is_some (sym none)))
 
+  -- a pair whose key isn't there is put in as a first one
   pub put_new : {X E : Type 0} (r : Result X E) (key : List ℕ) (value : V) (pairs now : Pairs V) → None ≡ value_at key pairs → OnOk r (now ≡ with_value key value pairs) → OnOk r (now ≡ with_first pairs (key, value))
   put_new r key value pairs now none put = on_ok r (first_new key value pairs now none) put

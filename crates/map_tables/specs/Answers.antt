@@ -1,4 +1,5 @@
--- What the maps answer (Sendmail Installation and Operation Guide, K; that a sequence holds the maps of its own line is our own).
+-- What the maps answer (Sendmail Installation and Operation Guide, K; that a sequence holds the
+-- maps of its own line is our own).
 use Rattle.std.specs.Prelude.{◌≡◌, ◌==◌, ◌&&◌, ◌-◌, ℕ, suc, length, take, slice_index, Bool, true, false, List, [], ◌∷◌, ◌++◌, Option, None, Some, Result, Ok, Err, fold, map, bytes_eq, unwrap_or, option_map, slice_get, if◌then◌else◌}
 use Rattle.std.specs.List.{find}
 use Rattle.mail_base.specs.Catalogs.{value_at, with_value, without_name}
@@ -36,7 +37,8 @@ found line key (Some value) = Finds (dressed line key value)
 
 -- what a table has at a key, with its percent signs filled in
 abbrev pub table_value : Table → List ℕ → List (List ℕ) → Option (List ℕ)
-table_value table key args = option_map (filled key args) (value_at (folded_key table.line key) table.pairs)
+table_value table key args =
+    option_map (filled key args) (value_at (folded_key table.line key) table.pairs)
 
 -- an answer as a sequence hands it on
 abbrev pub handed : MapLine → List ℕ → Answer → Answer
@@ -59,18 +61,21 @@ abbrev pub first_answer : List Answer → Answer
 first_answer answers = unwrap_or (find says_more answers) Lacks
 
 -- what a map answers, by its class, where the maps of the K lines before its own answer these
-abbrev pub answer_by : MapClass → List HostLine → List ℕ → List (List ℕ) → List Answer → Table → Answer
+abbrev pub answer_by : MapClass → List HostLine → List ℕ → List (List ℕ)
+    → List Answer → Table → Answer
 answer_by TextClass hosts key args before table = found table.line key (table_value table key args)
 answer_by Hash hosts key args before table = found table.line key (table_value table key args)
 answer_by Btree hosts key args before table = found table.line key (table_value table key args)
 answer_by Host hosts key args before table = found table.line key (host_name key hosts)
 answer_by Dequote hosts key args before table = found table.line key (dequoted key)
-answer_by (Sequence places) hosts key args before table = handed table.line key (first_answer (map (answer_at before) places))
+answer_by (Sequence places) hosts key args before table =
+    handed table.line key (first_answer (map (answer_at before) places))
 answer_by Null hosts key args before table = Lacks
 answer_by Arith hosts key args before table = found table.line key (calculated key args)
 answer_by Macro hosts key args before table = Sets (dressed table.line key [])
 answer_by (Other class) hosts key args before table = Refuses
 
+-- what a map answers for a key, by the answers of the maps before it
 abbrev pub answer : List HostLine → List ℕ → List (List ℕ) → List Answer → Table → Answer
 answer hosts key args before table = answer_by table.line.class hosts key args before table
 
@@ -93,13 +98,15 @@ abbrev pub last_place : List ℕ → List Table → Option ℕ
 last_place name [] = None
 last_place name (table ∷ maps) = later (last_place name maps) (bytes_eq name table.line.name)
 
+-- the answer at a place that may be there
 abbrev pub answer_of_place : List Answer → Option ℕ → Option Answer
 answer_of_place answers None = None
 answer_of_place answers (Some place) = slice_get answers place
 
 -- what the map of a name answers, if there is one
 abbrev pub map_answer : Loaded → List ℕ → List ℕ → List (List ℕ) → Option Answer
-map_answer loaded name key args = answer_of_place (answers loaded.hosts key args loaded.maps) (last_place name loaded.maps)
+map_answer loaded name key args =
+    answer_of_place (answers loaded.hosts key args loaded.maps) (last_place name loaded.maps)
 
 -- what is loaded for a configuration, with these files and this host table
 abbrev pub loaded : List MapLine → List Named → List ℕ → Loaded
@@ -125,7 +132,8 @@ ends_in_brace text = slice_index text (length text - 1) == 125
 -- the name of a macro as a key writes it: in braces, of which 123 opens, or as it is
 abbrev pub macro_name : List ℕ → List ℕ
 macro_name [] = []
-macro_name (byte ∷ rest) = if byte == 123 && ends_in_brace rest then take (length rest - 1) rest else byte ∷ rest
+macro_name (byte ∷ rest) =
+    if byte == 123 && ends_in_brace rest then take (length rest - 1) rest else byte ∷ rest
 
 -- the macro of that name has the first argument as its value, or isn't set where there is none
 abbrev pub with_macro : List ℕ → List (List ℕ) → List (List ℕ × List ℕ) → List (List ℕ × List ℕ)
@@ -133,6 +141,7 @@ with_macro name [] macros = without_name name macros
 with_macro name (value ∷ args) macros = with_value name value macros
 
 -- the macros after an answer: only a map of the class macro changes one
-abbrev pub macros_after : Option Answer → List ℕ → List (List ℕ) → List (List ℕ × List ℕ) → List (List ℕ × List ℕ)
+abbrev pub macros_after : Option Answer → List ℕ → List (List ℕ) → List (List ℕ × List ℕ)
+    → List (List ℕ × List ℕ)
 macros_after (Some (Sets value)) key args macros = with_macro (macro_name key) args macros
 macros_after _ key args macros = macros

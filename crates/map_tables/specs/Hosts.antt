@@ -14,7 +14,8 @@ before_comment line = before_first (λ byte. byte == 35) line
 abbrev pub host_of : List (List ℕ) → Option HostLine
 host_of [] = None
 host_of (address ∷ []) = None
-host_of (address ∷ name ∷ aliases) = Some (record { address = address; name = name; aliases = aliases })
+host_of (address ∷ name ∷ aliases) =
+    Some (record { address = address; name = name; aliases = aliases })
 
 -- what a line of the table says
 abbrev pub host_line : List ℕ → Option HostLine
@@ -26,7 +27,8 @@ host_lines text = filter_map host_line (lines text)
 
 -- a line has a name, without ascii case
 abbrev pub has_name : List ℕ → HostLine → Bool
-has_name name line = str_eq_ignore_ascii_case name line.name || list_any (str_eq_ignore_ascii_case name) line.aliases
+has_name name line =
+    str_eq_ignore_ascii_case name line.name || list_any (str_eq_ignore_ascii_case name) line.aliases
 
 -- the first line that has the name
 abbrev pub line_of : List ℕ → List HostLine → Option HostLine
@@ -40,5 +42,11 @@ host_address name hosts = option_map (λ line. line.address) (line_of name hosts
 abbrev pub host_name : List ℕ → List HostLine → Option (List ℕ)
 host_name name hosts = option_map (λ line. line.name) (line_of name hosts)
 
-example : (host_line (codes "127.0.0.1 far.example far # x") ≡ Some (record { address = codes "127.0.0.1"; name = codes "far.example"; aliases = codes "far" ∷ [] })) × (host_line (codes "127.0.0.1 # far") ≡ None)
+example : (host_line (codes "127.0.0.1 far.example far # x")
+    ≡ Some (record {
+      address = codes "127.0.0.1";
+      name = codes "far.example";
+      aliases = codes "far" ∷ [];
+    }))
+    × (host_line (codes "127.0.0.1 # far") ≡ None)
 example = (refl, refl)

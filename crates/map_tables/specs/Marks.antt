@@ -3,6 +3,7 @@ use Rattle.std.specs.Prelude.{◌≡◌, ◌||◌, ◌==◌, ℕ, Bool, false, n
 use Rattle.std.specs.List.{list_all, prefix_len}
 use Rattle.mail_base.specs.Whites.{is_white}
 
+-- whether a byte is no white space
 abbrev pub is_black : ℕ → Bool
 is_black byte = not (is_white byte)
 

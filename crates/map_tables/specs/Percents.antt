@@ -1,4 +1,5 @@
--- What a percent sign stands for in the value of a map (Sendmail Installation and Operation Guide, K and the right-hand side).
+-- What a percent sign stands for in the value of a map (Sendmail Installation and Operation Guide,
+-- K and the right-hand side).
 use Rattle.std.specs.Prelude.{◌≡◌, ◌==◌, ◌-◌, ℕ, List, [], ◌∷◌, ◌++◌, unwrap_or, slice_get, if◌then◌else◌, codes, refl}
 use Rattle.mail_base.specs.Notes.{is_digit}
 
@@ -6,7 +7,8 @@ use Rattle.mail_base.specs.Notes.{is_digit}
 abbrev pub argument : List ℕ → List (List ℕ) → ℕ → List ℕ
 argument key args number = unwrap_or (slice_get (key ∷ args) number) []
 
--- what a percent sign with the byte behind it stands for: a percent sign, or what a digit numbers; before another byte it stands for itself
+-- what a percent sign with the byte behind it stands for: a percent sign, or what a digit numbers;
+-- before another byte it stands for itself
 abbrev pub sign_text : List ℕ → List (List ℕ) → ℕ → List ℕ
 sign_text key args byte =
     if byte == 37 then 37 ∷ []

@@ -1,9 +1,11 @@
--- Keys without their quotes (Sendmail Installation and Operation Guide, K: the class dequote; which texts can't be scanned is our own).
+-- Keys without their quotes (Sendmail Installation and Operation Guide, K: the class dequote; which
+-- texts can't be scanned is our own).
 use Rattle.std.specs.Prelude.{◌≡◌, ◌==◌, ◌&&◌, ℕ, Bool, not, List, [], ◌∷◌, Option, None, Some, filter, length, map, nat_le, if◌then◌else◌, codes, refl}
 use Rattle.std.specs.List.{list_all, list_any}
 use Rattle.mail_base.specs.Whites.{is_white}
 
--- the bytes that no backslash (92) quotes, without the backslashes that quote; a last one quotes nothing
+-- the bytes that no backslash (92) quotes, without the backslashes that quote; a last one quotes
+-- nothing
 unfoldable pub unquoted : List ℕ → List ℕ
 unquoted [] = []
 unquoted (byte ∷ []) = byte ∷ []
@@ -20,23 +22,32 @@ count byte text = length (filter (λ other. other == byte) text)
 
 -- no front has more closing bytes than opening ones, and the whole has as many of both
 abbrev pub is_balanced : ℕ → ℕ → List ℕ → Bool
-is_balanced opens closes text = list_all (λ front. nat_le (count closes front) (count opens front)) (fronts text) && count opens text == count closes text
+is_balanced opens closes text =
+    list_all (λ front. nat_le (count closes front) (count opens front)) (fronts text)
+    && count opens text == count closes text
 
--- no backslash is left, and angle brackets (60, 62) and parentheses (40, 41) are balanced, each kind by itself
+-- no backslash is left, and angle brackets (60, 62) and parentheses (40, 41) are balanced, each
+-- kind by itself
 abbrev pub is_closed : List ℕ → Bool
-is_closed text = not (list_any (λ byte. byte == 92) text) && (is_balanced 60 62 text && is_balanced 40 41 text)
+is_closed text =
+    not (list_any (λ byte. byte == 92) text) && (is_balanced 60 62 text && is_balanced 40 41 text)
 
 -- a text that can be scanned as one word
 abbrev pub is_scannable : List ℕ → Bool
 is_scannable text = not (list_any is_white text) && is_closed (unquoted text)
 
+-- the key without its double quotes (34)
 abbrev pub without_quotes : List ℕ → List ℕ
 without_quotes key = filter (λ byte. not (byte == 34)) key
 
 -- a key without its double quotes (34), where it has one and what is left can be scanned
 abbrev pub dequoted : List ℕ → Option (List ℕ)
-dequoted key = if list_any (λ byte. byte == 34) key && is_scannable (without_quotes key) then Some (without_quotes key) else None
+dequoted key = if list_any (λ byte. byte == 34) key && is_scannable (without_quotes key)
+    then Some (without_quotes key) else None
 
-example : (dequoted (codes "\"a.b\"") ≡ Some (codes "a.b")) × (dequoted (codes "ab") ≡ None) × (dequoted (codes "\"a b\"") ≡ None) × (dequoted (codes "\"a\\") ≡ None) × (dequoted (codes "\"\\<a>\"") ≡ None) × (dequoted (codes "\"<(>)\"") ≡ Some (codes "<(>)")) × (dequoted (codes "\")(\"") ≡ None)
+example : (dequoted (codes "\"a.b\"") ≡ Some (codes "a.b")) × (dequoted (codes "ab") ≡ None)
+    × (dequoted (codes "\"a b\"") ≡ None) × (dequoted (codes "\"a\\") ≡ None)
+    × (dequoted (codes "\"\\<a>\"") ≡ None) × (dequoted (codes "\"<(>)\"") ≡ Some (codes "<(>)"))
+    × (dequoted (codes "\")(\"") ≡ None)
 unfolding unquoted fronts
 example = (refl, refl, refl, refl, refl, refl, refl)

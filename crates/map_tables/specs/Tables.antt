@@ -1,4 +1,5 @@
--- The tables of map files (Sendmail Installation and Operation Guide, K: the classes text, hash and btree; makemap(8)).
+-- The tables of map files (Sendmail Installation and Operation Guide, K: the classes text, hash and
+-- btree; makemap(8)).
 use Rattle.std.specs.Prelude.{◌≡◌, ℕ, Bool, List, [], ◌∷◌, ◌++◌, Option, None, Some, is_some, drop, fold, bytes_eq, unwrap_or, option_map, slice_get, if◌then◌else◌, codes, refl, true, false}
 use Rattle.std.specs.List.{find, filter_map, prefix_len, take_while}
 use Rattle.std.specs.Str.{str_to_ascii_lowercase}
@@ -15,8 +16,10 @@ use Rattle.map_tables.specs.declared.table.Table.{Table}
 
 -- a line of a hash or btree file: a key up to white space, and the rest behind that
 abbrev pub word_pair : List ℕ → Option (List ℕ × List ℕ)
-word_pair line = if is_silent line then None else Some (take_while is_black line, without_margin (drop (prefix_len is_black line) line))
+word_pair line = if is_silent line then None
+    else Some (take_while is_black line, without_margin (drop (prefix_len is_black line) line))
 
+-- a key and a value, where both are there
 abbrev pub both : Option (List ℕ) → Option (List ℕ) → Option (List ℕ × List ℕ)
 both (Some key) (Some value) = Some (key, value)
 both (Some key) None = None
@@ -24,7 +27,8 @@ both None value = None
 
 -- a line of a text file: the column of the key and that of the value
 abbrev pub column_pair : MapLine → List ℕ → Option (List ℕ × List ℕ)
-column_pair map line = both (slice_get (columns map.separator line) map.key_column) (slice_get (columns map.separator line) map.value_column)
+column_pair map line = both (slice_get (columns map.separator line) map.key_column)
+    (slice_get (columns map.separator line) map.value_column)
 
 -- what a line of a file says by the map's class: only these classes have files
 abbrev pub pair_by : MapClass → MapLine → List ℕ → Option (List ℕ × List ℕ)
@@ -39,7 +43,8 @@ folded_key map key = if map.keeps_case then key else str_to_ascii_lowercase key
 
 -- what a line of a file says, with its key as it is compared
 abbrev pub line_pair : MapLine → List ℕ → Option (List ℕ × List ℕ)
-line_pair map line = option_map (λ pair. (folded_key map pair.0, pair.1)) (pair_by map.class map line)
+line_pair map line =
+    option_map (λ pair. (folded_key map pair.0, pair.1)) (pair_by map.class map line)
 
 -- what the lines of a file say
 abbrev pub file_pairs : MapLine → List ℕ → List (List ℕ × List ℕ)
@@ -54,17 +59,21 @@ module _ {V : Type 0} where
   abbrev pub first_pairs : List (List ℕ × V) → List (List ℕ × V)
   first_pairs pairs = fold with_first [] pairs
 
+-- whether a text has that name
 abbrev pub is_named : List ℕ → Named → Bool
 is_named name text = bytes_eq name text.name
 
--- the text of a file: of the first of its name; a file that isn't there, and a map without a file, have the empty text
+-- the text of a file: of the first of its name; a file that isn't there, and a map without a file,
+-- have the empty text
 abbrev pub text_of : List Named → Option (List ℕ) → List ℕ
 text_of texts None = []
-text_of texts (Some file) = unwrap_or (option_map (λ text. text.bytes) (find (is_named file) texts)) []
+text_of texts (Some file) =
+    unwrap_or (option_map (λ text. text.bytes) (find (is_named file) texts)) []
 
 -- a K line with its table: each key with the value of its first line, in the order of the lines
 abbrev pub table : List Named → MapLine → Table
-table texts map = record { line = map; pairs = first_pairs (file_pairs map (text_of texts map.file)) }
+table texts map =
+    record { line = map; pairs = first_pairs (file_pairs map (text_of texts map.file)) }
 
 -- a map whose table is made of a file, by its class
 abbrev pub has_file : MapClass → Bool
@@ -81,9 +90,12 @@ file_of map = if has_file map.class then map.file else None
 abbrev pub wanted_of : MapLine → Option MapFile
 wanted_of map = option_map (λ file. record { name = file; optional = map.optional }) (file_of map)
 
--- the files of the K lines in order, also of a line that a later one replaces, since a sequence may hold it
+-- the files of the K lines in order, also of a line that a later one replaces, since a sequence may
+-- hold it
 abbrev pub wanted_files : List MapLine → List MapFile
 wanted_files maps = filter_map wanted_of maps
 
-example : (word_pair (codes "k  v w") ≡ Some (codes "k", codes "v w")) × (word_pair (codes "k") ≡ Some (codes "k", [])) × (word_pair (codes "# k") ≡ None) × (word_pair (codes " \t") ≡ None)
+example : (word_pair (codes "k  v w") ≡ Some (codes "k", codes "v w"))
+    × (word_pair (codes "k") ≡ Some (codes "k", [])) × (word_pair (codes "# k") ≡ None)
+    × (word_pair (codes " \t") ≡ None)
 example = (refl, refl, refl, refl)

@@ -90,14 +90,17 @@ fn sequence_answer(
     before: &[Answer],
     places: &[u32],
 ) -> Result<Answer, NoMemory>
-    ensures { IfOk result (λ given. given ≡ handed line.now key.now (first_answer (map (answer_at before.now) places.now))) }
+    ensures { IfOk result
+        (λ given. given ≡ handed line.now key.now
+        (first_answer (map (answer_at before.now) places.now))) }
 {
     handed(line, key, first_answer(before, places))
 }
 
 // The answer at the first of these places that says more than that the key is lacking.
 fn first_answer<'a>(before: &'a [Answer], places: &[u32]) -> Option<&'a Answer>
-    ensures { unwrap_or (option_copied result) Answer.Lacks ≡ first_answer (map (answer_at before.now) places.now) }
+    ensures { unwrap_or (option_copied result) Answer.Lacks
+        ≡ first_answer (map (answer_at before.now) places.now) }
 {
     for place in places {
         let answer = answer_at(before, *place as usize);
@@ -128,7 +131,9 @@ fn says_more(answer: Option<&Answer>) -> bool
 
 // An answer as a sequence hands it on.
 fn handed(line: &MapLine, key: &Text, answer: Option<&Answer>) -> Result<Answer, NoMemory>
-    ensures { IfOk result (λ given. given ≡ handed line.now key.now (unwrap_or (option_copied answer.entry) Answer.Lacks)) }
+    ensures { IfOk result
+        (λ given. given ≡ handed line.now key.now
+        (unwrap_or (option_copied answer.entry) Answer.Lacks)) }
 {
     match answer {
         Some(Answer::Finds(value)) => Ok(Answer::Finds(dressed(line, key, value.copy()?)?)),
@@ -147,7 +152,8 @@ pub(crate) fn place_answer(
     key: &Text,
     args: &Seq<Text>,
 ) -> Result<Option<Answer>, NoMemory>
-    ensures { IfOk result (λ given. given ≡ slice_get (answers hosts.now key.now args.now maps.now) place) }
+    ensures { IfOk result
+        (λ given. given ≡ slice_get (answers hosts.now key.now args.now maps.now) place) }
 {
     match map_at(maps, place) {
         Some(map) => {
@@ -173,7 +179,10 @@ fn before(
     key: &Text,
     args: &Seq<Text>,
 ) -> Result<Seq<Answer>, NoMemory>
-    ensures { IfOk result (λ given. answer hosts.now key.now args.now given map.now ≡ answer hosts.now key.now args.now (answers hosts.now key.now args.now maps.now) map.now) }
+    ensures { IfOk result
+        (λ given. answer hosts.now key.now args.now given map.now
+        ≡ answer hosts.now key.now args.now
+        (answers hosts.now key.now args.now maps.now) map.now) }
 {
     if is_sequence(&map.line.class) {
         return member_answers(maps, members_in(&map.line.class), hosts, key, args);

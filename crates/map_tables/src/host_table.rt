@@ -10,8 +10,8 @@ use mail_base::{NoMemory, Seq, Text};
 use std::alloc::Global;
 use std::marker::Model;
 
-/// The lines of the host table, and an index of their names, which are compared without ASCII case. A
-/// contract sees it as the list of the lines.
+/// The lines of the host table, and an index of their names, which are compared without ASCII case.
+/// A contract sees it as the list of the lines.
 pub(crate) struct HostTable {
     lines: Seq<HostLine>,
     /// The places of the first lines of names, by the hashes of the names.
@@ -58,8 +58,9 @@ impl HostTable {
         })
     }
 
-    /// The first line that has a name, without ASCII case. It takes no memory. It is found by the name's
-    /// hash; names whose hashes meet stand in one list, which is walked, and no clause bounds its length.
+    /// The first line that has a name, without ASCII case. It takes no memory. It is found by the
+    /// name's hash; names whose hashes meet stand in one list, which is walked, and no clause
+    /// bounds its length.
     pub(crate) fn line_of(&self, name: &Text) -> Option<&HostLine>
         ensures { option_copied result ≡ line_of name.now self.now }
     {
@@ -91,7 +92,9 @@ fn hold_line(
     line: &HostLine,
 ) -> Result<(), NoMemory>
     ensures keeps { Keeps index.old.entries others.old index.new.entries others.new }
-    ensures held { OnOk result ((name : List ℕ) → has_name name line.now ≡ true → IsFirstAt (has_name name) lines.now place → is_held_for name place index.new.entries others.new ≡ true) }
+    ensures held { OnOk result
+        ((name : List ℕ) → has_name name line.now ≡ true → IsFirstAt (has_name name) lines.now place
+        → is_held_for name place index.new.entries others.new ≡ true) }
 {
     hold(index, others, lines, place, &line.name)?;
     for alias in line.aliases.items() {
@@ -109,7 +112,9 @@ fn hold(
     name: &Text,
 ) -> Result<(), NoMemory>
     ensures keeps { Keeps index.old.entries others.old index.new.entries others.new }
-    ensures held { OnOk result (IsFirstAt (has_name name.now) lines.now place → is_held_for name.now place index.new.entries others.new ≡ true) }
+    ensures held { OnOk result
+        (IsFirstAt (has_name name.now) lines.now place
+        → is_held_for name.now place index.new.entries others.new ≡ true) }
 {
     if is_up_to(place, place_of(index, others, lines, name)) {
         return Ok(());

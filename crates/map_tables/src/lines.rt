@@ -17,7 +17,8 @@ pub(crate) fn word(line: &[u8], number: usize) -> Option<&[u8]>
 
 /// A column of a line, counted from 0.
 pub(crate) fn column(line: &[u8], separator: Option<u8>, number: usize) -> Option<&[u8]>
-    ensures { option_map (λ column. column.now) result ≡ slice_get (spec.columns separator line.now) number }
+    ensures { option_map (λ column. column.now) result
+        ≡ slice_get (spec.columns separator line.now) number }
 {
     match separator {
         Some(separator) => line.split(|byte| *byte == separator).nth(number),

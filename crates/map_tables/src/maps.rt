@@ -75,7 +75,9 @@ impl Maps {
         macros: &mut Macros,
     ) -> Result<Found, MapFault>
         ensures answer { TellsOr (told (map_answer self.now name.now key.now args.now)) result }
-        ensures macros { OnOk result (macros.new ≡ macros_after (map_answer self.now name.now key.now args.now) key.now args.now macros.old) }
+        ensures macros { OnOk result
+            (macros.new ≡ macros_after (map_answer self.now name.now key.now args.now) key.now
+            args.now macros.old) }
         ensures err { OnErr result (macros.new ≡ macros.old) }
     {
         match self.answer(name, key, args)? {
@@ -100,8 +102,8 @@ impl Maps {
         }
     }
 
-    /// The address of a host, by any of its names without ASCII case. It takes no memory. It is found by
-    /// the name's hash; names whose hashes meet stand in one list, which is walked.
+    /// The address of a host, by any of its names without ASCII case. It takes no memory. It is
+    /// found by the name's hash; names whose hashes meet stand in one list, which is walked.
     pub fn host(&self, name: &Text) -> Option<&Text>
         ensures { option_copied result ≡ host_address name.now self.now.hosts }
     {

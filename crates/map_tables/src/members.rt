@@ -11,8 +11,8 @@ use crate::table::Table;
 use mail_base::{MapClass, NoMemory, Seq, Text};
 use std::alloc::Global;
 
-/// Answers from which that of a sequence behind these maps follows: of the maps only its members are
-/// asked, and those of each sequence among them, each once.
+/// Answers from which that of a sequence behind these maps follows: of the maps only its members
+/// are asked, and those of each sequence among them, each once.
 pub(crate) fn member_answers(
     maps: &[Table],
     members: &[u32],
@@ -20,7 +20,9 @@ pub(crate) fn member_answers(
     key: &Text,
     args: &Seq<Text>,
 ) -> Result<Seq<Answer>, NoMemory>
-    ensures { IfOk result (λ given. map (answer_at given) members.now ≡ map (answer_at (answers hosts.now key.now args.now maps.now)) members.now) }
+    ensures { IfOk result
+        (λ given. map (answer_at given) members.now
+        ≡ map (answer_at (answers hosts.now key.now args.now maps.now)) members.now) }
 {
     let mut marked = unmarked(key.allocator(), maps.len())?;
     mark_all(&mut marked, maps, members);
@@ -106,7 +108,9 @@ fn asked(
 ) -> Result<Seq<Answer>, NoMemory>
     requires length { length maps.now ≤ length marked.now }
     requires closed { IsClosed 0 maps.now marked.now }
-    ensures agrees { IfOk result (λ given. Agree marked.now (length maps.now) given (answers hosts.now key.now args.now maps.now)) }
+    ensures agrees { IfOk result
+        (λ given. Agree marked.now (length maps.now) given
+        (answers hosts.now key.now args.now maps.now)) }
     ensures length { IfOk result (λ given. length given ≡ length maps.now) }
 {
     let mut answers = Seq::new(key.allocator());
@@ -125,7 +129,9 @@ fn answer_if(
     args: &Seq<Text>,
     before: &[Answer],
 ) -> Result<Answer, NoMemory>
-    ensures { IfOk result (λ given. is_asked ≡ true → given ≡ answer_spec.answer hosts.now key.now args.now before.now map.now) }
+    ensures { IfOk result
+        (λ given. is_asked ≡ true
+        → given ≡ answer_spec.answer hosts.now key.now args.now before.now map.now) }
 {
     if is_asked {
         answer(map, hosts, key, args, before)

@@ -1,5 +1,4 @@
-ghost use Rattle.std.specs.Prelude.{◌≡◌, ◌++◌, ◌≤◌, IfOk, OnOk};
-ghost use Rattle.mail_base.specs.Notes.{is_digit};
+ghost use Rattle.std.specs.Prelude.{◌≡◌, ◌++◌, IfOk, OnOk};
 ghost use Rattle.map_tables.specs.Percents.{argument, filled, sign_text};
 
 use mail_base::{NoMemory, Seq, Text};

@@ -24,10 +24,11 @@ pub struct Table {
     pub pairs: Catalog<Text>,
 }
 
-/// The first line of a key counts: the table has at each key what the first of the file's pairs with
-/// it has.
+/// The first line of a key counts: the table has at each key what the first of the file's pairs
+/// with it has.
 pub fn first_line_counts()
-    ensures { (map : MapLine) (text key : List ℕ) → value_at key (first_pairs (file_pairs map text)) ≡ value_at key (file_pairs map text) }
+    ensures { (map : MapLine) (text key : List ℕ)
+        → value_at key (first_pairs (file_pairs map text)) ≡ value_at key (file_pairs map text) }
 {}
 
 impl Table {
@@ -48,7 +49,9 @@ impl Table {
 
     /// The value of a key, if there is one.
     pub(crate) fn get(&self, key: &Text) -> Result<Option<&Text>, NoMemory>
-        ensures { IfOk result (λ value. option_copied value ≡ value_at (folded_key self.now.line key.now) self.now.pairs) }
+        ensures { IfOk result
+            (λ value. option_copied value
+            ≡ value_at (folded_key self.now.line key.now) self.now.pairs) }
     {
         let key = folded_key(&self.line, key)?;
         Ok(self.pairs.get(&key))

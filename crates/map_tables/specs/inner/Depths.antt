@@ -6,5 +6,6 @@ unfoldable pub is_closed_from : ℕ → ℕ → ℕ → List ℕ → Bool
 is_closed_from opens closes depth [] = depth == 0
 is_closed_from opens closes depth (byte ∷ rest) =
     if byte == opens then is_closed_from opens closes (depth + 1) rest
-    else if byte == closes then (if depth == 0 then false else is_closed_from opens closes (depth - 1) rest)
+    else if byte == closes
+    then (if depth == 0 then false else is_closed_from opens closes (depth - 1) rest)
     else is_closed_from opens closes depth rest

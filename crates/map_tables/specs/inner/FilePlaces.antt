@@ -12,10 +12,12 @@ places_from place (text ∷ texts) = (text.name, place) ∷ places_from (place +
 abbrev pub first_places : List Named → List (List ℕ × ℕ)
 first_places texts = first_pairs (places_from 0 texts)
 
+-- the bytes of a text that may be there
 abbrev pub bytes_at : Option Named → List ℕ
 bytes_at None = []
 bytes_at (Some text) = text.bytes
 
+-- the text at a place that may be there
 abbrev pub text_at : List Named → Option ℕ → Option Named
 text_at texts None = None
 text_at texts (Some place) = slice_get texts place

@@ -13,11 +13,14 @@ members_in _ = []
 
 -- those of these places that are before an end are marked
 abbrev pub AreMarked : List ℕ → ℕ → List Bool → Type 0
-AreMarked members end marked = (member : ℕ) → list_any (nat_eq member) members ≡ true → member < end → get_or marked member false ≡ true
+AreMarked members end marked = (member : ℕ) → list_any (nat_eq member) members ≡ true → member < end
+    → get_or marked member false ≡ true
 
 -- from a place on the members of each map that is marked are marked too, where they stand before it
 abbrev pub IsClosed : ℕ → List Table → List Bool → Type 0
-IsClosed start maps marked = (place : ℕ) (table : Table) → start ≤ place → get_or marked place false ≡ true → slice_get maps place ≡ Some table → AreMarked (members_in table.line.class) place marked
+IsClosed start maps marked = (place : ℕ) (table : Table) → start ≤ place
+    → get_or marked place false ≡ true → slice_get maps place ≡ Some table
+    → AreMarked (members_in table.line.class) place marked
 
 -- what was marked is marked still
 abbrev pub Keeps : List Bool → List Bool → Type 0
@@ -25,8 +28,10 @@ Keeps old new = (place : ℕ) → get_or old place false ≡ true → get_or new
 
 -- from an end on the marks are those that were
 abbrev pub AreAsBefore : ℕ → List Bool → List Bool → Type 0
-AreAsBefore end old new = (place : ℕ) → end ≤ place → get_or new place false ≡ get_or old place false
+AreAsBefore end old new =
+    (place : ℕ) → end ≤ place → get_or new place false ≡ get_or old place false
 
 -- where a place is marked, both have the same answer
 abbrev pub Agree : List Bool → ℕ → List Answer → List Answer → Type 0
-Agree marked end given all = (place : ℕ) → place < end → get_or marked place false ≡ true → slice_get given place ≡ slice_get all place
+Agree marked end given all = (place : ℕ) → place < end → get_or marked place false ≡ true
+    → slice_get given place ≡ slice_get all place
