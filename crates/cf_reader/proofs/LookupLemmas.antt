@@ -16,9 +16,11 @@ is_at lexeme = is_dollar 64 lexeme
 abbrev is_colon : Lexeme → Bool
 is_colon lexeme = is_dollar 58 lexeme
 
+-- how many lexemes stand before the first `$@`
 abbrev pub before_at : List Lexeme → ℕ
 before_at lexemes = prefix_len (λ lexeme. not (is_dollar 64 lexeme)) lexemes
 
+-- how many lexemes stand before the first `$:`
 abbrev pub before_colon : List Lexeme → ℕ
 before_colon lexemes = prefix_len (λ lexeme. not (is_dollar 58 lexeme)) lexemes
 
@@ -36,7 +38,7 @@ behind_case : (x : Lexeme) (xs : List Lexeme) (b : Bool) → (let n = cond (not 
 behind_case x xs true = refl
 behind_case x xs false = refl
 
-pub split_first : (xs : List Lexeme) → slice_split is_at xs ≡ take (before_at xs) xs ∷ parts_behind (drop (before_at xs) xs)
+split_first : (xs : List Lexeme) → slice_split is_at xs ≡ take (before_at xs) xs ∷ parts_behind (drop (before_at xs) xs)
 split_first [] = refl
 split_first (x ∷ xs) =
     split_case x xs (is_at x) (split_first xs)
@@ -53,7 +55,7 @@ fallback_case x xs false so =
     ap (λ (k : ℕ). cond (list_any is_colon xs) (option_map Some (pieces_of (drop k (x ∷ xs)))) (Some None)) two ∙ so
     ∙ ap (λ (k : ℕ). fallback_from (drop k (x ∷ xs))) (sym (one_more m))
 
-pub fallback_first : (xs : List Lexeme) → fallback_of xs ≡ fallback_from (drop (before_colon xs) xs)
+fallback_first : (xs : List Lexeme) → fallback_of xs ≡ fallback_from (drop (before_colon xs) xs)
 fallback_first [] = refl
 fallback_first (x ∷ xs) = fallback_case x xs (is_colon x) (fallback_first xs)
 
@@ -70,6 +72,7 @@ module _ (name : List ℕ) (fields front : List Lexeme) (end size : ℕ) (ends :
   lookup_is : lookup_of name fields ≡ lookup name (put (pieces_of (take size front)) (each pieces_of (parts_behind (drop size front)))) (fallback_from (drop end fields))
   lookup_is = ap (λ (parts : Option (List (List Piece))). lookup name parts (fallback_of fields)) parts_are ∙ ap (lookup name (put (pieces_of (take size front)) (each pieces_of (parts_behind (drop size front))))) fallback_is
 
+  -- where key, arguments and fallback are made of their places, the look-up is made of them
   pub lookup_made : (key : List Piece) (args : List (List Piece)) (fallback : Option (List Piece)) → pieces_of (take size front) ≡ Some key → each pieces_of (parts_behind (drop size front)) ≡ Some args → fallback_from (drop end fields) ≡ Some fallback
       → lookup_of name fields ≡ Some (Lookup name key args fallback)
   lookup_made key args fallback k a f =
@@ -85,14 +88,17 @@ module _ (name : List ℕ) (fields front : List Lexeme) (end size : ℕ) (ends :
   no_fallback (Some []) = refl
   no_fallback (Some (key ∷ args)) = refl
 
+  -- where the key's place makes no pieces, there is no look-up
   pub none_by_key : pieces_of (take size front) ≡ None → lookup_of name fields ≡ None
   none_by_key k = lookup_is ∙ ap (λ (o : Option (List Piece)). lookup name (put o (each pieces_of (parts_behind (drop size front)))) (fallback_from (drop end fields))) k
 
+  -- where an argument's place makes no pieces, there is no look-up
   pub none_by_args : each pieces_of (parts_behind (drop size front)) ≡ None → lookup_of name fields ≡ None
   none_by_args a =
       lookup_is ∙ ap (λ (o : Option (List (List Piece))). lookup name (put (pieces_of (take size front)) o) (fallback_from (drop end fields))) a
       ∙ ap (λ (o : Option (List (List Piece))). lookup name o (fallback_from (drop end fields))) (put_none (pieces_of (take size front)))
 
+  -- where the fallback's place makes no pieces, there is no look-up
   pub none_by_fallback : fallback_from (drop end fields) ≡ None → lookup_of name fields ≡ None
   none_by_fallback f = lookup_is ∙ ap (lookup name (put (pieces_of (take size front)) (each pieces_of (parts_behind (drop size front))))) f ∙ no_fallback (put (pieces_of (take size front)) (each pieces_of (parts_behind (drop size front))))
 
@@ -107,14 +113,17 @@ module _ (fields rest : List Lexeme) (place size : ℕ) (low : place < length fi
       ∙ ap (λ (k : ℕ). put (pieces_of (take k rest)) (each pieces_of (parts_behind (drop k rest)))) (sym sized)
       ∙ ap (λ (zs : List Lexeme). put (pieces_of (take size rest)) (each pieces_of (parts_behind zs))) (ap (drop size) is ∙ behind)
 
+  -- an argument that is made is one more so far, and the others are behind it
   pub args_go_on : (part : List Piece) (args : List (List Piece)) (all : Option (List (List Piece))) → pieces_of (take size rest) ≡ Some part → added args (each pieces_of (parts_behind (drop place fields))) ≡ all
       → added (args ++ part ∷ []) (each pieces_of (parts_behind (drop (place + (size + 1)) fields))) ≡ all
   args_go_on part args all gives so_far =
       sym (added_one args part (each pieces_of (parts_behind (drop (place + (size + 1)) fields))))
       ∙ ap (λ (o : Option (List Piece)). added args (put o (each pieces_of (parts_behind (drop (place + (size + 1)) fields))))) (sym gives) ∙ ap (added args) (sym args_here) ∙ so_far
 
+  -- an argument that isn't made leaves no arguments at all
   pub args_stop : (args : List (List Piece)) (all : Option (List (List Piece))) → added args (each pieces_of (parts_behind (drop place fields))) ≡ all → pieces_of (take size rest) ≡ None → all ≡ None
   args_stop args all so_far none = sym so_far ∙ ap (added args) (args_here ∙ ap (λ (o : Option (List Piece)). put o (each pieces_of (parts_behind (drop (place + (size + 1)) fields)))) none)
 
+  -- the place behind an argument and its sign is within the fields
   pub args_within : size ≤ length rest → place + (size + 1) ≤ length fields
   args_within fits = let e = ap length is in omega (arith, e, length-drop (place + 1) fields)

@@ -22,7 +22,7 @@ last_more name (first ∷ maps) map =
     ap (λ (found : Option ℕ). later found (bytes_eq name first.name)) (last_more name maps map)
     ∙ later_cond (bytes_eq name map.name) (bytes_eq name first.name) (length maps) (last_place name maps)
 
-pub placed_more : (maps : List MapLine) (map : MapLine) (old new : List (List ℕ × ℕ)) → IsPlaced maps old → SetsValue {V = ℕ} map.name (Some (length maps)) old new → IsPlaced (maps ++ map ∷ []) new
+placed_more : (maps : List MapLine) (map : MapLine) (old new : List (List ℕ × ℕ)) → IsPlaced maps old → SetsValue {V = ℕ} map.name (Some (length maps)) old new → IsPlaced (maps ++ map ∷ []) new
 placed_more maps map old new placed sets name = by (bytes_eq name map.name) refl
   where
     by : (b : Bool) → bytes_eq name map.name ≡ b → value_at name new ≡ last_place name (maps ++ map ∷ [])

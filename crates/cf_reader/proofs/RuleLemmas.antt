@@ -1,7 +1,7 @@
 -- Items, pieces and steps from the front of a side.
-use Rattle.std.proofs.Common.{◌≡◌, ℕ, zero, suc, ◌+◌, ◌<◌, ◌≤◌, List, [], ◌∷◌, ◌++◌, length, take, drop, length-drop, get_or, Bool, true, false, cond, not, ◌&&◌, ◌||◌, eqb, Option, Some, None, Ok, Err, slice_get, refl, sym, ◌∙◌, ap, subst, arith}
+use Rattle.std.proofs.Common.{◌≡◌, ℕ, zero, suc, ◌+◌, ◌<◌, List, [], ◌∷◌, ◌++◌, length, take, drop, get_or, Bool, true, false, cond, not, ◌&&◌, ◌||◌, eqb, Option, Some, None, Ok, Err, slice_get, refl, sym, ◌∙◌, ap, subst, arith}
 use Rattle.std.specs.List.{prefix_len}
-use Rattle.std.proofs.lemmas.List.{append_assoc, drop_more, drop-drop}
+use Rattle.std.proofs.lemmas.List.{append_assoc, drop_more}
 use Rattle.std.proofs.lemmas.Bool.{cond_both, cond-true, cond-false, eqb-true, or_cases, or_parts}
 use Rattle.std.proofs.Common.{⊎_elim}
 use Rattle.mail_base.specs.declared.rule.Step.{Step}
@@ -9,7 +9,7 @@ use Rattle.addr_tokens.specs.declared.lexeme.Lexeme.{Lexeme}
 use Rattle.addr_tokens.specs.declared.lexeme.Lexeme.TheVariants.{Token, Dollar, Named}
 use Rattle.cf_reader.specs.declared.fault.LineStop.{LineStop}
 use Rattle.cf_reader.specs.declared.fault.LineStop.TheVariants as stops
-use Rattle.cf_reader.specs.Sides.{put, each, is_dollar, is_opening, is_closing, bracketed, step_of, Rest, Steps, Closes, Nothing, with_step, before, rest_of, whole}
+use Rattle.cf_reader.specs.Sides.{put, is_dollar, is_opening, is_closing, bracketed, step_of, Rest, Steps, Closes, Nothing, with_step, before, rest_of, whole}
 use Rattle.cf_reader.specs.inner.Making.{Makes, added, is_bracket, steps_in, IsFirst}
 
 module _ {Y : Type 0} where
@@ -18,28 +18,9 @@ module _ {Y : Type 0} where
   added_one ys y None = refl
   added_one ys y (Some more) = ap Some (sym (append_assoc ys (y ∷ []) more))
 
-  pub added_none : (more : Option (List Y)) → added [] more ≡ more
-  added_none None = refl
-  added_none (Some more) = refl
-
   put_none : (o : Option Y) → put o None ≡ None
   put_none None = refl
   put_none (Some y) = refl
-
-module _ {X Y : Type 0} (f : X → Option Y) where
-  pub each_goes_on : (xs : List X) (k : ℕ) (x : X) (y : Y) (ys : List Y) (all : Option (List Y)) → k < length xs → x ≡ get_or xs k x → f x ≡ Some y
-      → added ys (each f (drop k xs)) ≡ all → added (ys ++ y ∷ []) (each f (drop (k + 1) xs)) ≡ all
-  each_goes_on xs k x y ys all low is gives so_far =
-      let split : drop k xs ≡ x ∷ drop (k + 1) xs = drop_more xs k x low ∙ ap (λ (z : X). z ∷ drop (k + 1) xs) (sym is) in
-      sym (added_one ys y (each f (drop (k + 1) xs)))
-      ∙ ap (λ (o : Option Y). added ys (put o (each f (drop (k + 1) xs)))) (sym gives)
-      ∙ ap (λ (zs : List X). added ys (each f zs)) (sym split) ∙ so_far
-
-  pub each_stops : (xs : List X) (k : ℕ) (x : X) (ys : List Y) (all : Option (List Y)) → k < length xs → x ≡ get_or xs k x → f x ≡ None
-      → added ys (each f (drop k xs)) ≡ all → all ≡ None
-  each_stops xs k x ys all low is none so_far =
-      let split : drop k xs ≡ x ∷ drop (k + 1) xs = drop_more xs k x low ∙ ap (λ (z : X). z ∷ drop (k + 1) xs) (sym is) in
-      sym so_far ∙ ap (λ (zs : List X). added ys (each f zs)) split ∙ ap (λ (o : Option Y). added ys (put o (each f (drop (k + 1) xs)))) none
 
 -- ---- brackets
 
@@ -52,11 +33,6 @@ opening_is_not_closing : (lexeme : Lexeme) → is_opening lexeme ≡ true → is
 opening_is_not_closing (Token token) e = refl
 opening_is_not_closing (Dollar byte) e = by_byte byte 91 40 (λ b. is_closing (Dollar b) ≡ false) refl refl e
 opening_is_not_closing (Named byte name) e = refl
-
-closing_is_no_step : (lexeme : Lexeme) → is_closing lexeme ≡ true → step_of lexeme ≡ None
-closing_is_no_step (Token token) e = cc
-closing_is_no_step (Dollar byte) e = by_byte byte 93 41 (λ b. step_of (Dollar b) ≡ None) refl refl e
-closing_is_no_step (Named byte name) e = cc
 
 opening_is_no_step : (lexeme : Lexeme) → is_opening lexeme ≡ true → step_of lexeme ≡ None
 opening_is_no_step (Token token) e = cc
@@ -75,21 +51,6 @@ opening_closes_nothing opening inside b e =
 whole_with : (o : Option Step) (steps : List Step) → whole (with_step o steps) ≡ put o (Some steps)
 whole_with None steps = refl
 whole_with (Some step) steps = refl
-
--- a lexeme that opens nothing
-lone_before : (lexeme : Lexeme) (rest : Rest) → is_opening lexeme ≡ false → whole (before lexeme rest) ≡ put (step_of lexeme) (whole rest)
-lone_before lexeme (Steps steps) e =
-    cond_both (is_closing lexeme) (Closes [] lexeme steps) (with_step (step_of lexeme) steps) (λ r. whole r ≡ put (step_of lexeme) (Some steps))
-    (λ closes. ap (λ (o : Option Step). put o (Some steps)) (sym (closing_is_no_step lexeme closes)))
-    (λ out. whole_with (step_of lexeme) steps)
-lone_before lexeme (Closes inside closing steps) e =
-    cond_both (is_closing lexeme) Nothing (cond (is_opening lexeme) (with_step (bracketed lexeme inside closing) steps) (Closes (lexeme ∷ inside) closing steps)) (λ r. whole r ≡ put (step_of lexeme) None)
-    (λ closes. sym (put_none (step_of lexeme)))
-    (λ out. ap whole (cond-false (is_opening lexeme) _ _ e) ∙ sym (put_none (step_of lexeme)))
-lone_before lexeme Nothing e = sym (put_none (step_of lexeme))
-
-pub lone : (lexeme : Lexeme) (lexemes : List Lexeme) → is_opening lexeme ≡ false → steps_in (lexeme ∷ lexemes) ≡ put (step_of lexeme) (steps_in lexemes)
-lone lexeme lexemes e = lone_before lexeme (rest_of lexemes) e
 
 -- ---- what stands between brackets
 
@@ -230,12 +191,6 @@ module _ {X : Type 0} where
 
 -- ---- the first step
 
-pub first_lone : (first : Lexeme) (after : List Lexeme) (step : Step) → is_opening first ≡ false → step_of first ≡ Some step → IsFirst (Ok (step, 1)) (first ∷ after)
-first_lone first after step out is = (omega arith, omega arith, lone first after out ∙ ap (λ (o : Option Step). put o (steps_in after)) is)
-
-pub none_lone : (first : Lexeme) (after : List Lexeme) → is_opening first ≡ false → step_of first ≡ None → steps_in (first ∷ after) ≡ None
-none_lone first after out is = lone first after out ∙ ap (λ (o : Option Step). put o (steps_in after)) is
-
 module _ (first : Lexeme) (after : List Lexeme) (n : ℕ) (b : Lexeme) (opens : is_opening first ≡ true) (size : n ≡ prefix_len is_plain after) (at : slice_get after n ≡ Some b) where
   up_to : steps_in (first ∷ after) ≡ put (bracketed first (take n after) b) (steps_in (drop (suc n) after))
   up_to =
@@ -243,12 +198,14 @@ module _ (first : Lexeme) (after : List Lexeme) (n : ℕ) (b : Lexeme) (opens : 
       ∙ bracket first (take n after) b (drop (suc n) after) opens (subst (λ (k : ℕ). ArePlain (take k after)) (sym size) (plain_front after))
       (at_front after b (subst (λ (k : ℕ). slice_get after k ≡ Some b) size at))
 
+  -- an opening sign, plain lexemes and what closes them are the first step where they make one
   pub first_bracket : (step : Step) → bracketed first (take n after) b ≡ Some step → IsFirst (Ok (step, n + 2)) (first ∷ after)
   first_bracket step is =
       let low : n < length after = within after n b at in
       let e : n + 2 ≡ suc (suc n) = omega arith in
       (omega arith, omega arith, up_to ∙ ap (λ (o : Option Step). put o (steps_in (drop (suc n) after))) is ∙ ap (λ (k : ℕ). put (Some step) (steps_in (drop k (first ∷ after)))) (sym e))
 
+  -- where brackets make no step, the right side makes none
   pub none_bracket : bracketed first (take n after) b ≡ None → steps_in (first ∷ after) ≡ None
   none_bracket is = up_to ∙ ap (λ (o : Option Step). put o (steps_in (drop (suc n) after))) is
 
@@ -262,23 +219,10 @@ module _ (body : List Lexeme) (place : ℕ) (first : Lexeme) (low : place < leng
   split : drop place body ≡ first ∷ drop (place + 1) body
   split = drop_more body place first low ∙ ap (λ (x : Lexeme). x ∷ drop (place + 1) body) (sym is)
 
-  pub steps_go_on : (step : Step) (size : ℕ) (steps : List Step) (all : Option (List Step)) → IsFirst (Ok (step, size)) (first ∷ drop (place + 1) body)
-      → added steps (steps_in (drop place body)) ≡ all → added (steps ++ step ∷ []) (steps_in (drop (place + size) body)) ≡ all
-  steps_go_on step size steps all is_first so_far =
-      let behind : drop size (drop place body) ≡ drop (place + size) body = drop-drop size place body in
-      let one : steps_in (drop place body) ≡ put (Some step) (steps_in (drop (place + size) body)) =
-      ap steps_in split ∙ is_first.2 ∙ ap (λ (zs : List Lexeme). put (Some step) (steps_in (drop size zs))) (sym split) ∙ ap (λ (zs : List Lexeme). put (Some step) (steps_in zs)) behind in
-      sym (added_one steps step (steps_in (drop (place + size) body))) ∙ ap (added steps) (sym one) ∙ so_far
-
-  pub steps_stop : (steps : List Step) (all : Option (List Step)) → steps_in (first ∷ drop (place + 1) body) ≡ None → added steps (steps_in (drop place body)) ≡ all → all ≡ None
-  steps_stop steps all none so_far = sym so_far ∙ ap (added steps) (ap steps_in split ∙ none)
-
-  pub step_within : (step : Step) (size : ℕ) → IsFirst (Ok (step, size)) (first ∷ drop (place + 1) body) → place + size ≤ length body
-  step_within step size is_first = omega (arith, is_first.1, length-drop (place + 1) body)
-
 -- ---- what is handed on
 
 module _ {V W : Type 0} where
+  -- what stops a part stops the whole, where the whole isn't made without that part
   pub fails_on : (stop : LineStop) (one : Option W) (other : Option V) → (one ≡ None → other ≡ None) → Makes {V = W} (Err stop) one → Makes {V = V} (Err stop) other
   fails_on (stops.Refused fault) one other so fails = (fails.0, so fails.1)
   fails_on stops.FilesFault one other so fails = fails
@@ -289,8 +233,3 @@ pub first_fails : (stop : LineStop) (one : Option Step) (lexemes : List Lexeme) 
 first_fails (stops.Refused fault) one lexemes so fails = (fails.0, so fails.1)
 first_fails stops.FilesFault one lexemes so fails = fails
 first_fails stops.NoMemory one lexemes so fails = tt
-
-pub steps_fail : (stop : LineStop) (lexemes : List Lexeme) (all : Option (List Step)) → (steps_in lexemes ≡ None → all ≡ None) → IsFirst (Err stop) lexemes → Makes {V = List Step} (Err stop) all
-steps_fail (stops.Refused fault) lexemes all so fails = (fails.0, so fails.1)
-steps_fail stops.FilesFault lexemes all so fails = fails
-steps_fail stops.NoMemory lexemes all so fails = tt

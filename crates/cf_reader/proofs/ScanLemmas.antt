@@ -18,6 +18,7 @@ read_is last (b ∷ bs) =
     ap (λ (t : List ℕ). cond (eqb b 35 && not (is_shield last)) [] (b ∷ t)) (read_is b bs)
     ∙ sym (one_more (eqb b 35 && not (is_shield last)) b bs (position_or_len begins_comment (zip (b ∷ bs) bs)))
 
+-- what is read up to a comment is what stands before it
 pub comment_cut : (text : List ℕ) → read_on 0 text ≡ before_comment text
 comment_cut text = read_is 0 text
 
@@ -42,5 +43,6 @@ numbered_is : (number : ℕ) (lines : List (List ℕ)) → numbered_from number 
 numbered_is number [] = refl
 numbered_is number (line ∷ lines) = one_line number line lines (numbered_from (number + 1) lines) (grouped (number + 1) lines) (numbered_is (number + 1) lines)
 
+-- lines that are read one after the other, with their numbers, are the logical lines of the text
 pub lines_read : (text : List ℕ) → numbered_from 1 (physical_lines text) ≡ logical_lines text
 lines_read text = numbered_is 1 (physical_lines text)

@@ -4,10 +4,10 @@ use Rattle.std.specs.Prelude.{Option, position, min}
 use Rattle.std.specs.List.{list_any, position_or_len}
 use Rattle.std.proofs.lemmas.Bool.{cond-true, cond-false, ltb-true, ltb-false}
 use Rattle.std.proofs.lemmas.Bool.Decides.{nat_tests}
-use Rattle.std.proofs.lemmas.List.{drop_all, drop_more, set-get_or, get_or-set_same, length-set, get_or_push}
+use Rattle.std.proofs.lemmas.List.{drop_all, drop_more, get_or-set_same, length-set, get_or_push}
 use Rattle.std.proofs.lemmas.List.Folds.{list_any_none, list_any_at}
 use Rattle.std.proofs.lemmas.List.Sums.{passes_at_first, fails_before_first}
-use Rattle.mail_base.specs.Rulesets.{Ruled, is_named, with_name}
+use Rattle.mail_base.specs.Rulesets.{Ruled, is_named}
 use Rattle.cf_reader.specs.SetLines.{has_one, named, with_names, with_first, begun, empty_set}
 use Rattle.cf_reader.specs.inner.Places.{earlier}
 
@@ -80,7 +80,7 @@ none_passes [] = refl
 none_passes (s ∷ book) = omega (arith, none_passes book)
 
 -- no name names no ruleset
-pub place_of_none : (book : List Ruled) → position (has_one []) book ≡ None
+place_of_none : (book : List Ruled) → position (has_one []) book ≡ None
 place_of_none book =
     let past : ltb (length book) (length book) ≡ false = grind (arith, nat_tests) in
     ap (place_when (length book)) (none_passes book) ∙ cond-false _ (Some (length book)) None past
@@ -190,16 +190,6 @@ set_twice [] place s t = refl
 set_twice (b ∷ book) zero s t = refl
 set_twice (b ∷ book) (suc place) s t = ap (λ (q : List Ruled). b ∷ q) (set_twice book place s t)
 
--- a ruleset that has the name stays
-pub named_already : (name : List ℕ) (book : List Ruled) (place : ℕ) (d : Ruled) → is_named name (get_or book place d) ≡ true → book ≡ set book place (named (get_or book place d) name)
-named_already name book place d has =
-    sym (ap (λ (s : Ruled). set book place s) (cond-true _ (get_or book place d) (with_name (get_or book place d) name) has) ∙ set-get_or book place d)
-
--- and another gets it
-pub named_anew : (name : List ℕ) (book new : List Ruled) (place : ℕ) (d : Ruled) → is_named name (get_or book place d) ≡ false → new ≡ set book place (with_name (get_or book place d) name) → new ≡ set book place (named (get_or book place d) name)
-named_anew name book new place d lacks made =
-    made ∙ sym (ap (λ (s : Ruled). set book place s) (cond-false _ (get_or book place d) (with_name (get_or book place d) name) lacks))
-
 -- one name more was given
 pub name_more : (names : List (List ℕ)) (book new : List Ruled) (place k : ℕ) (name : List ℕ) (d : Ruled) → k < length names → name ≡ get_or names k name → place < length book
     → ((d : Ruled) → new ≡ set book place (named (get_or book place d) name)) → set new place (with_names (drop (k + 1) names) (get_or new place d)) ≡ set book place (with_names (drop k names) (get_or book place d))
@@ -213,9 +203,3 @@ name_more names book new place k name d lt here within made =
 -- a rule set put in a book's place stands within the new book
 pub name_within : (book new : List Ruled) (place : ℕ) (s : Ruled) → place < length book → new ≡ set book place s → place < length new
 name_within book new place s within made = let long : length new ≡ length book = ap length made ∙ length-set book place s in omega (arith, long, within)
-
--- all names were given
-pub name_done : (names : List (List ℕ)) (book whole : List Ruled) (place k : ℕ) (d : Ruled) → length names ≤ k → set book place (with_names (drop k names) (get_or book place d)) ≡ whole → book ≡ whole
-name_done names book whole place k d end is =
-    let gone : drop k names ≡ [] = drop_all k names end in
-    sym (ap (λ (ns : List (List ℕ)). set book place (with_names ns (get_or book place d))) gone ∙ set-get_or book place d) ∙ is

@@ -1,5 +1,5 @@
--- The configuration that a file's bytes give (Sendmail Installation and Operation Guide, "The Whole Scoop on the Configuration File"), or the number and the fault of the
--- first line that has one.
+-- The configuration that a file's bytes give (Sendmail Installation and Operation Guide, "The Whole
+-- Scoop on the Configuration File"), or the number and the fault of the first line that has one.
 use Rattle.std.specs.Prelude.{ℕ, ◌==◌, List, [], ◌∷◌, length, fold, Option, Some, None, Result, Ok, Err, if◌then◌else◌}
 use Rattle.mail_base.specs.Catalogs.{with_value}
 use Rattle.mail_base.specs.declared.class.Member.{Member}
@@ -23,6 +23,7 @@ use Rattle.cf_reader.specs.LogicalLines.{logical_lines}
 abbrev pub placed : List ℕ → Group → Group
 placed directory group = if length group.path == 0 then record group { path = directory } else group
 
+-- a group with its path among the others
 abbrev pub with_group : List ℕ → List (List ℕ × Group) → List ℕ × Group → List (List ℕ × Group)
 with_group directory groups named = with_value named.0 (placed directory named.1) groups
 
@@ -44,6 +45,7 @@ finished state = record state.config {
 
 -- ---- all lines
 
+-- the fault of a line with its number, or else what is said from there on
 abbrev pub refused_or : Option Fault → ℕ → Result Config CfFault → Result Config CfFault
 refused_or (Some fault) number later = Err (Refused number fault)
 refused_or None number later = later
@@ -51,7 +53,9 @@ refused_or None number later = later
 -- each line is tried behind those before it
 abbrev pub read_lines : FileMap → State → List Logical → Result Config CfFault
 read_lines files state [] = Ok (finished state)
-read_lines files state (line ∷ lines) = refused_or (fault files state line.text) line.number (read_lines files (after_line files line state) lines)
+read_lines files state (line ∷ lines) = refused_or (fault files state line.text) line.number
+    (read_lines files (after_line files line state) lines)
 
+-- the configuration that the text of a file says, or its first fault
 abbrev pub configuration : FileMap → List ℕ → Result Config CfFault
 configuration files bytes = read_lines files first_state (logical_lines bytes)

@@ -1,4 +1,6 @@
--- The fields of M and Q lines and of some options: names with values, between commas (Sendmail Installation and Operation Guide, "M: Define Mailer" and "Q: Define Queue Group"; what quotes and backslashes do is the public program's).
+-- The fields of M and Q lines and of some options: names with values, between commas (Sendmail
+-- Installation and Operation Guide, "M: Define Mailer" and "Q: Define Queue Group"; what quotes and
+-- backslashes do is the public program's).
 use Rattle.std.specs.Prelude.{◌≡◌, ℕ, Bool, true, false, not, ◌&&◌, ◌||◌, ◌==◌, if◌then◌else◌, List, [], ◌∷◌, ◌++◌, length, filter, map, unwrap_or, codes, refl}
 use Rattle.cf_reader.specs.Cuts.{cut_at}
 use Rattle.cf_reader.specs.Words.{stripped}
@@ -27,12 +29,14 @@ ends stand b = (b == 44) && (not stand.quoted && not stand.escaped)
 -- a text cut at the commas that end fields, where these bytes of the first piece stand before it
 abbrev pub cut_from : Stand → List ℕ → List ℕ → List (List ℕ)
 cut_from stand piece [] = piece ∷ []
-cut_from stand piece (b ∷ text) = if ends stand b then piece ∷ cut_from outside [] text else cut_from (behind stand b) (piece ++ b ∷ []) text
+cut_from stand piece (b ∷ text) = if ends stand b then piece ∷ cut_from outside [] text
+    else cut_from (behind stand b) (piece ++ b ∷ []) text
 
 -- the pieces that aren't empty, without white space at their ends
 abbrev pub kept : List (List ℕ) → List (List ℕ)
 kept pieces = filter (λ piece. not (length piece == 0)) (map stripped pieces)
 
+-- what stands between commas, without what is empty
 abbrev pub pieces_of : List ℕ → List (List ℕ)
 pieces_of text = kept (cut_from outside [] text)
 
@@ -41,12 +45,15 @@ pieces_of text = kept (cut_from outside [] text)
 -- the byte that this one says behind a backslash: LF for n, CR for r, FF for f, BS for b, and
 -- itself for each other
 abbrev pub escape : ℕ → ℕ
-escape b = if b == 110 then 10 else if b == 114 then 13 else if b == 102 then 12 else if b == 98 then 8 else b
+escape b = if b == 110 then 10 else if b == 114 then 13 else if b == 102 then 12
+    else if b == 98 then 8 else b
 
 -- what a byte of a value says
 abbrev pub said : Stand → ℕ → List ℕ
-said stand b = if stand.escaped then escape b ∷ [] else if (b == 92) || (b == 34) then [] else b ∷ []
+said stand b =
+    if stand.escaped then escape b ∷ [] else if (b == 92) || (b == 34) then [] else b ∷ []
 
+-- a text without the quotes and backslashes that mean something
 abbrev pub plain_from : Stand → List ℕ → List ℕ
 plain_from stand [] = []
 plain_from stand (b ∷ text) = said stand b ++ plain_from (behind stand b) text
@@ -63,11 +70,14 @@ split_at byte text = unwrap_or (cut_at byte text) (text, [])
 
 -- a name, and behind `=` (61) a value, which may be absent
 abbrev pub field_of : List ℕ → Field
-field_of piece = let parts = split_at 61 piece in record { name = stripped parts.0; value = plain (stripped parts.1) }
+field_of piece = let parts = split_at 61 piece in
+    record { name = stripped parts.0; value = plain (stripped parts.1) }
 
+-- the fields of a text
 abbrev pub fields_of : List ℕ → List Field
 fields_of text = map field_of (pieces_of text)
 
+-- the first byte, or 0
 abbrev pub first_byte : List ℕ → ℕ
 first_byte [] = 0
 first_byte (b ∷ text) = b
@@ -86,11 +96,15 @@ line_name text = stripped (split_at 44 text).0
 abbrev pub line_fields : List ℕ → List Field
 line_fields text = fields_of (split_at 44 text).1
 
+-- a field by its name and its value
 abbrev pub pair : List ℕ → List ℕ → Field
 pair name value = record { name = name; value = value }
 
 example :
     (line_name (codes "smtp,\tP=[IPC], E=\\r\\n,A=TCP $h") ≡ codes "smtp")
-    × (line_fields (codes "smtp,\tP=[IPC], E=\\r\\n,,A = TCP $h ") ≡ pair (codes "P") (codes "[IPC]") ∷ pair (codes "E") (13 ∷ 10 ∷ []) ∷ pair (codes "A") (codes "TCP $h") ∷ [])
-    × (fields_of (codes "A=x\\,y \"a,b\", F") ≡ pair (codes "A") (codes "x,y a,b") ∷ pair (codes "F") [] ∷ [])
+    × (line_fields (codes "smtp,\tP=[IPC], E=\\r\\n,,A = TCP $h ")
+    ≡ pair (codes "P") (codes "[IPC]") ∷ pair (codes "E") (13 ∷ 10 ∷ [])
+    ∷ pair (codes "A") (codes "TCP $h") ∷ [])
+    × (fields_of (codes "A=x\\,y \"a,b\", F")
+    ≡ pair (codes "A") (codes "x,y a,b") ∷ pair (codes "F") [] ∷ [])
 example = (refl, refl, refl)

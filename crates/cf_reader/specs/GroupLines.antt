@@ -1,4 +1,5 @@
--- Q lines, by what follows the letter (Sendmail Installation and Operation Guide, "Q: Define Queue Group": the first byte of a field's name counts).
+-- Q lines, by what follows the letter (Sendmail Installation and Operation Guide, "Q: Define Queue
+-- Group": the first byte of a field's name counts).
 use Rattle.std.specs.Prelude.{◌≡◌, ℕ, max, Bool, true, false, ◌==◌, if◌then◌else◌, is_none, fold, List, [], ◌∷◌, Option, None, Some, codes, refl}
 use Rattle.std.specs.List.{list_any}
 use Rattle.mail_base.specs.declared.mailer.Group.{Group}
@@ -31,12 +32,14 @@ is_bad_value (Some Recipients) value = is_none (number_in most_number value)
 is_bad_value (Some Runners) value = is_none (number_in most_number value)
 is_bad_value (Some Jobs) value = is_none (number_in most_number value)
 
+-- the value of a field of a Q line is out of form
 abbrev pub is_bad_field : Field → Bool
 is_bad_field field = is_bad_value (group_field (letter_of field)) field.value
 
 -- the group before any field; an empty path stands for the queue directory
 abbrev pub first_group : List ℕ → Group
-first_group name = record { name = name; path = []; recipients = 0; runners = 1; interval = None; jobs = 0 }
+first_group name =
+    record { name = name; path = []; recipients = 0; runners = 1; interval = None; jobs = 0 }
 
 -- a group whose field is set; 0 runners are one
 abbrev pub with_group_value : Option GroupField → List ℕ → Group → Group
@@ -47,19 +50,29 @@ with_group_value (Some Runners) value group = record group { runners = max 1 (nu
 with_group_value (Some Interval) value group = record group { interval = time_in 109 value }
 with_group_value (Some Jobs) value group = record group { jobs = number_of value }
 
+-- one field more of a group
 abbrev pub with_group_field : Group → Field → Group
 with_group_field group field = with_group_value (group_field (letter_of field)) field.value group
 
 -- the first fault of a Q line, where it is told whether a Q line had its name before
 abbrev pub fault_of_group : Bool → List ℕ → Option Fault
-fault_of_group again text = first_fault ((DuplicateGroup, again) ∷ (BadOption, list_any is_bad_field (line_fields text)) ∷ [])
+fault_of_group again text = first_fault
+    ((DuplicateGroup, again) ∷ (BadOption, list_any is_bad_field (line_fields text)) ∷ [])
 
 -- what a Q line without a fault says; of a field that stands twice the last counts
 abbrev pub group_of : List ℕ → Group
 group_of text = fold with_group_field (first_group (line_name text)) (line_fields text)
 
 example :
-    (group_of (codes "bulk, Path=/q/bulk, r=100, Runners=0, I=5") ≡ record { name = codes "bulk"; path = codes "/q/bulk"; recipients = 100; runners = 1; interval = Some 300; jobs = 0 })
+    (group_of (codes "bulk, Path=/q/bulk, r=100, Runners=0, I=5")
+    ≡ record {
+      name = codes "bulk";
+      path = codes "/q/bulk";
+      recipients = 100;
+      runners = 1;
+      interval = Some 300;
+      jobs = 0;
+    })
     × (fault_of_group false (codes "bulk, Path=/q/bulk, r=100") ≡ None)
     × (fault_of_group true (codes "bulk, r=x") ≡ Some DuplicateGroup)
     × (fault_of_group false (codes "bulk, r=x") ≡ Some BadOption)

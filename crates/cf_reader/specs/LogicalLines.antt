@@ -1,4 +1,5 @@
--- Logical lines of a configuration file (Sendmail Installation and Operation Guide, "The Whole Scoop on the Configuration File").
+-- Logical lines of a configuration file (Sendmail Installation and Operation Guide, "The Whole
+-- Scoop on the Configuration File").
 use Rattle.std.specs.Prelude.{◌≡◌, ℕ, ◌+◌, ◌-◌, List, [], ◌∷◌, ◌++◌, length, take, map, filter, zip, Bool, true, false, not, ◌&&◌, ◌||◌, ◌==◌, nat_lt, if◌then◌else◌, codes, refl}
 use Rattle.std.specs.Str.Lines.{lines}
 use Rattle.std.specs.List.{flat_map, take_while, suffix_len, position_or_len}
@@ -10,7 +11,8 @@ abbrev pub begins_with : ℕ → List ℕ → Bool
 begins_with byte [] = false
 begins_with byte (b ∷ bs) = b == byte
 
--- a physical line ends at LF, and a CR before that is dropped; what follows the last LF is a line where it isn't empty
+-- a physical line ends at LF, and a CR before that is dropped; what follows the last LF is a line
+-- where it isn't empty
 abbrev pub physical_lines : List ℕ → List (List ℕ)
 physical_lines text = lines text
 
@@ -24,7 +26,8 @@ abbrev pub is_silent : List ℕ → Bool
 is_silent [] = true
 is_silent (b ∷ bs) = b == 35
 
--- what stands between a line and one that belongs to it: the LF in an H line (72), a blank in any other
+-- what stands between a line and one that belongs to it: the LF in an H line (72), a blank in any
+-- other
 abbrev pub joint_of : List ℕ → ℕ
 joint_of line = if begins_with 72 line then 10 else 32
 
@@ -74,20 +77,30 @@ abbrev pub grouped : ℕ → List (List ℕ) → List Group
 grouped number [] = []
 grouped number (line ∷ lines) =
     if is_indented line then grouped (number + 1) lines
-    else record { number = number; line = line; indented = take_while is_indented lines } ∷ grouped (number + 1) lines
+    else record { number = number; line = line; indented = take_while is_indented lines }
+    ∷ grouped (number + 1) lines
 
+-- the line is no comment and isn't empty
 abbrev pub is_heard : Group → Bool
 is_heard group = not (is_silent group.line)
 
+-- a line with those that belong to it, as one
 abbrev pub whole : Group → Logical
-whole group = record { number = group.number; text = uncommented (joined group.line group.indented) }
+whole group =
+    record { number = group.number; text = uncommented (joined group.line group.indented) }
 
--- the logical lines of a text, each with the number of its first physical line, from 1: lines with those that belong to them, without
--- the silent ones, and without comments
+-- the logical lines of a text, each with the number of its first physical line, from 1: lines with
+-- those that belong to them, without the silent ones, and without comments
 abbrev pub logical_lines : List ℕ → List Logical
 logical_lines text = map whole (filter is_heard (grouped 1 (physical_lines text)))
 
 example :
-    (logical_lines (codes "S1\n# none\n of it\nRa\n\tb # c\n\nR\\#d") ≡ (record { number = 1; text = codes "S1" }) ∷ (record { number = 4; text = codes "Ra \tb" }) ∷ (record { number = 7; text = codes "R#d" }) ∷ [])
-    × (logical_lines (codes " x\nR$# e\r\nHa: b\n c\nS2\r") ≡ (record { number = 2; text = codes "R$# e" }) ∷ (record { number = 3; text = codes "Ha: b\n c" }) ∷ (record { number = 5; text = codes "S2\r" }) ∷ [])
+    (logical_lines (codes "S1\n# none\n of it\nRa\n\tb # c\n\nR\\#d")
+    ≡ (record { number = 1; text = codes "S1" })
+    ∷ (record { number = 4; text = codes "Ra \tb" })
+    ∷ (record { number = 7; text = codes "R#d" }) ∷ [])
+    × (logical_lines (codes " x\nR$# e\r\nHa: b\n c\nS2\r")
+    ≡ (record { number = 2; text = codes "R$# e" })
+    ∷ (record { number = 3; text = codes "Ha: b\n c" })
+    ∷ (record { number = 5; text = codes "S2\r" }) ∷ [])
 example = (refl, refl)

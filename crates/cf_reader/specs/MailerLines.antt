@@ -1,4 +1,5 @@
--- M lines, by what follows the letter (Sendmail Installation and Operation Guide, "M: Define Mailer": the first byte of a field's name counts).
+-- M lines, by what follows the letter (Sendmail Installation and Operation Guide, "M: Define
+-- Mailer": the first byte of a field's name counts).
 use Rattle.std.specs.Prelude.{◌≡◌, ℕ, max, Bool, true, false, ◌&&◌, ◌||◌, ◌==◌, if◌then◌else◌, is_none, fold, List, [], ◌∷◌, length, Option, None, Some, unwrap_or, codes, refl}
 use Rattle.std.specs.List.{list_any}
 use Rattle.mail_base.specs.declared.mailer.Mailer.{Mailer}
@@ -19,7 +20,8 @@ use Rattle.cf_reader.specs.Values.{number_in, most_number, number_of, if_some}
 
 -- the fields L, C, D, N, T, U, W, m and / are read and ignored
 abbrev pub ignored : ℕ → Option MailerField
-ignored letter = if list_any (λ other. letter == other) (codes "LCDNTUWm/") then Some Ignored else None
+ignored letter =
+    if list_any (λ other. letter == other) (codes "LCDNTUWm/") then Some Ignored else None
 
 -- the field with this letter: P (80), F (70), S (83), R (82), A (65), E (69), M (77), Q (81) or
 -- r (114), or one that is ignored
@@ -36,9 +38,11 @@ mailer_field letter =
     else if letter == 114 then Some Batch
     else ignored letter
 
+-- the name of a field of an M line isn't known
 abbrev pub is_unknown : Field → Bool
 is_unknown field = is_none (mailer_field (letter_of field))
 
+-- the field has a number
 abbrev pub is_number : Option MailerField → Bool
 is_number (Some Most) = true
 is_number (Some Batch) = true
@@ -46,7 +50,8 @@ is_number field = false
 
 -- an M or an r without a number
 abbrev pub is_bad_field : Field → Bool
-is_bad_field field = is_number (mailer_field (letter_of field)) && is_none (number_in most_number field.value)
+is_bad_field field =
+    is_number (mailer_field (letter_of field)) && is_none (number_in most_number field.value)
 
 -- ---- what fields say
 
@@ -67,6 +72,7 @@ first_mailer name = record {
   batch = 100;
 }
 
+-- the rulesets of envelope and header, or one for both
 abbrev pub sets_by : List ℕ → Option (List ℕ × List ℕ) → Option (List ℕ) × Option (List ℕ)
 sets_by value None = (if_some (stripped value), if_some (stripped value))
 sets_by value (Some parts) = (if_some (stripped parts.0), if_some (stripped parts.1))
@@ -85,8 +91,10 @@ abbrev pub with_value : Option MailerField → List ℕ → Mailer → Mailer
 with_value None value mailer = mailer
 with_value (Some Path) value mailer = record mailer { path = value }
 with_value (Some Flags) value mailer = record mailer { flags = flags_of value }
-with_value (Some Sender) value mailer = record mailer { envelope_from = (sets_of value).0; header_from = (sets_of value).1 }
-with_value (Some Recipient) value mailer = record mailer { envelope_to = (sets_of value).0; header_to = (sets_of value).1 }
+with_value (Some Sender) value mailer =
+    record mailer { envelope_from = (sets_of value).0; header_from = (sets_of value).1 }
+with_value (Some Recipient) value mailer =
+    record mailer { envelope_to = (sets_of value).0; header_to = (sets_of value).1 }
 with_value (Some Args) value mailer = record mailer { args = words_of value }
 with_value (Some LineEnd) value mailer = record mailer { line_end = line_end_of value }
 with_value (Some Most) value mailer = record mailer { most = number_of value }
@@ -94,6 +102,7 @@ with_value (Some Group) value mailer = record mailer { group = if_some value }
 with_value (Some Batch) value mailer = record mailer { batch = max 1 (number_of value) }
 with_value (Some Ignored) value mailer = mailer
 
+-- one field more of a mailer
 abbrev pub with_field : Mailer → Field → Mailer
 with_field mailer field = with_value (mailer_field (letter_of field)) field.value mailer
 
@@ -129,7 +138,8 @@ smtp = record (first_mailer (codes "smtp")) {
 }
 
 abbrev smtp_line : List ℕ
-smtp_line = codes "smtp,\t\tP=[IPC], F=mDFMuX, S=EnvFromSMTP/HdrFromSMTP, R=EnvToSMTP, E=\\r\\n, L=990, \t\tT=DNS/RFC822/SMTP, \t\tA=TCP $h"
+smtp_line =
+    codes "smtp,\t\tP=[IPC], F=mDFMuX, S=EnvFromSMTP/HdrFromSMTP, R=EnvToSMTP, E=\\r\\n, L=990, \t\tT=DNS/RFC822/SMTP, \t\tA=TCP $h"
 
 example :
     (mailer_of smtp_line ≡ smtp)

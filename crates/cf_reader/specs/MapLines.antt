@@ -1,4 +1,6 @@
--- K lines, by what follows the letter (Sendmail Installation and Operation Guide, "K: Key File Declaration"; that a sequence has the maps that its members name at its own line, and that columns are below 100, is our own).
+-- K lines, by what follows the letter (Sendmail Installation and Operation Guide, "K: Key File
+-- Declaration"; that a sequence has the maps that its members name at its own line, and that
+-- columns are below 100, is our own).
 use Rattle.std.specs.Prelude.{◌≡◌, ◌==◌, ◌||◌, ◌&&◌, ℕ, Bool, true, false, not, nat_lt, is_some, bytes_eq, unwrap_or, List, [], ◌∷◌, length, take, drop, fold, slice_get, Option, None, Some, if◌then◌else◌, codes, refl}
 use Rattle.std.specs.List.{filter_map, list_any, prefix_len}
 use Rattle.std.specs.Option.{option_or}
@@ -22,9 +24,11 @@ word_at place text = unwrap_or (slice_get (words_of text) place) []
 abbrev pub map_name : List ℕ → List ℕ
 map_name text = word_at 0 text
 
+-- the class of a K line
 abbrev pub map_class : List ℕ → List ℕ
 map_class text = word_at 1 text
 
+-- the words behind the class
 abbrev pub arguments : List ℕ → List (List ℕ)
 arguments text = drop 2 (words_of text)
 
@@ -56,6 +60,7 @@ abbrev pub is_column : Option ℕ → Bool
 is_column None = false
 is_column (Some number) = nat_lt number 100
 
+-- there is a value, and it is no column's number
 abbrev pub is_no_column : Option (List ℕ) → Bool
 is_no_column None = false
 is_no_column (Some value) = not (is_column (number_value value))
@@ -64,14 +69,17 @@ is_no_column (Some value) = not (is_column (number_value value))
 abbrev pub has_bad_column : ℕ → List (List ℕ) → Bool
 has_bad_column letter args = list_any (λ arg. is_no_column (behind letter arg)) args
 
+-- a column by its value, or the one before
 abbrev pub column_or : ℕ → Option (List ℕ) → ℕ
 column_or before None = before
 column_or before (Some value) = unwrap_or (number_value value) 0
 
 -- the column that the last argument with this letter names, or else this one
 abbrev pub column_of : ℕ → ℕ → List (List ℕ) → ℕ
-column_of letter default args = fold (λ before arg. column_or before (behind letter arg)) default args
+column_of letter default args =
+    fold (λ before arg. column_or before (behind letter arg)) default args
 
+-- the class is sequence
 abbrev pub is_sequence : List ℕ → Bool
 is_sequence class = bytes_eq (str_to_ascii_lowercase class) (codes "sequence")
 
@@ -85,12 +93,15 @@ lacks_member class names maps = is_sequence class && list_any (is_unknown maps) 
 
 -- `-k` (107) or `-v` (118) has no number below 100, or a member is unknown
 abbrev pub is_bad_line : List ℕ → List (List ℕ) → List (List ℕ) → List MapLine → Bool
-is_bad_line class args operands maps = has_bad_column 107 args || (has_bad_column 118 args || lacks_member class operands maps)
+is_bad_line class args operands maps =
+    has_bad_column 107 args || (has_bad_column 118 args || lacks_member class operands maps)
 
 -- the same, or no class stands behind the name
 abbrev pub is_bad_map : List ℕ → List MapLine → Bool
-is_bad_map text maps = nat_lt (length (words_of text)) 2 || is_bad_line (map_class text) (letters text) (operands text) maps
+is_bad_map text maps = nat_lt (length (words_of text)) 2
+    || is_bad_line (map_class text) (letters text) (operands text) maps
 
+-- the fault of a K line, if it has one
 abbrev pub fault_of_map : List ℕ → List MapLine → Option Fault
 fault_of_map text maps = first_fault ((BadMap, is_bad_map text maps) ∷ [])
 
@@ -113,7 +124,8 @@ class_by small class =
 
 -- classes are words without ASCII case
 abbrev pub class_of : List ℕ → List (List ℕ) → List MapLine → MapClass
-class_of class names maps = if is_sequence class then Sequence (members_of names maps) else class_by (str_to_ascii_lowercase class) class
+class_of class names maps = if is_sequence class then Sequence (members_of names maps)
+    else class_by (str_to_ascii_lowercase class) class
 
 -- the operands of a sequence are no files
 abbrev pub file_of : MapClass → List (List ℕ) → Option (List ℕ)
@@ -130,7 +142,8 @@ separator_of (byte ∷ next ∷ _) =
     else if next == 110 then Some 10
     else Some 92
 
--- a map by its parts: the letters f (102), m (109), a (97), o (111), k (107), v (118) and z (122) count, and others are ignored
+-- a map by its parts: the letters f (102), m (109), a (97), o (111), k (107), v (118) and z (122)
+-- count, and others are ignored
 abbrev pub map_by : List ℕ → MapClass → List (List ℕ) → List (List ℕ) → MapLine
 map_by name class args operands = record {
   name = name;
@@ -147,16 +160,40 @@ map_by name class args operands = record {
 
 -- the map that a line without fault declares, behind the K lines before it
 abbrev pub map_of : List ℕ → List MapLine → MapLine
-map_of text maps = map_by (map_name text) (class_of (map_class text) (operands text) maps) (letters text) (operands text)
+map_of text maps = map_by (map_name text) (class_of (map_class text) (operands text) maps)
+    (letters text) (operands text)
 
 abbrev access : MapLine
-access = record { name = codes "access"; class = Hash; keeps_case = false; match_only = false; tag = codes "<OK>"; optional = true; key_column = 0; value_column = 2; separator = Some 9; file = Some (codes "/etc/mail/access") }
+access = record {
+  name = codes "access";
+  class = Hash;
+  keeps_case = false;
+  match_only = false;
+  tag = codes "<OK>";
+  optional = true;
+  key_column = 0;
+  value_column = 2;
+  separator = Some 9;
+  file = Some (codes "/etc/mail/access");
+}
 
 abbrev both : MapLine
-both = record { name = codes "both"; class = Sequence (1 ∷ 0 ∷ []); keeps_case = false; match_only = true; tag = []; optional = false; key_column = 0; value_column = 1; separator = None; file = None }
+both = record {
+  name = codes "both";
+  class = Sequence (1 ∷ 0 ∷ []);
+  keeps_case = false;
+  match_only = true;
+  tag = [];
+  optional = false;
+  key_column = 0;
+  value_column = 1;
+  separator = None;
+  file = None;
+}
 
 example :
-    (map_of (codes "access HASH -o -T<TMPF> -a<OK> -v1 -v02 -z\\t /etc/mail/access old") [] ≡ access)
+    (map_of (codes "access HASH -o -T<TMPF> -a<OK> -v1 -v02 -z\\t /etc/mail/access old") []
+    ≡ access)
     × (map_of (codes "both sequence -m access host") (host_map ∷ access ∷ []) ≡ both)
     × (fault_of_map (codes "both sequence access hast") (host_map ∷ access ∷ []) ≡ Some BadMap)
     × (fault_of_map (codes "both") [] ≡ Some BadMap)

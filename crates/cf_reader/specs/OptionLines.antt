@@ -27,7 +27,8 @@ use Rattle.cf_reader.specs.Settings.{setting_named, unit_of}
 
 -- a port: `smtp`, `submission`, or a number of at most 65,535
 abbrev pub port_in : List ℕ → Option ℕ
-port_in value = if bytes_eq value (codes "smtp") then Some 25 else if bytes_eq value (codes "submission") then Some 587 else number_in 65_535 value
+port_in value = if bytes_eq value (codes "smtp") then Some 25
+    else if bytes_eq value (codes "submission") then Some 587 else number_in 65_535 value
 
 -- a field that isn't Port (80), or is one with a port
 abbrev pub is_good_field : Field → Bool
@@ -36,27 +37,33 @@ is_good_field field = not (letter_of field == 80) || is_some (port_in field.valu
 -- a place with a field more, which is Port (80), Addr (65), or ignored
 abbrev pub with_field : Port → Field → Port
 with_field port field =
-    if letter_of field == 80 then record { port = unwrap_or (port_in field.value) 25; address = port.address }
+    if letter_of field == 80
+    then record { port = unwrap_or (port_in field.value) 25; address = port.address }
     else if letter_of field == 65 then record { port = port.port; address = if_some field.value }
     else port
 
+-- the port 25 at every address
 abbrev pub first_port : Port
 first_port = record { port = 25; address = None }
 
 -- where the daemon listens, or none where a Port has no port
 abbrev pub daemon_port : List ℕ → Option Port
-daemon_port value = if list_all is_good_field (fields_of value) then Some (fold with_field first_port (fields_of value)) else None
+daemon_port value = if list_all is_good_field (fields_of value)
+    then Some (fold with_field first_port (fields_of value)) else None
 
 -- ---- AliasFile
 
+-- a path by what stands before and behind its first colon
 abbrev pub bare_by : List ℕ → Option (List ℕ × List ℕ) → List ℕ
 bare_by path None = path
 bare_by path (Some parts) = if list_any (λ b. b == 47) parts.0 then path else stripped parts.1
 
--- a path without its class: what stands before the first colon (58), if there is no slash (47) in it
+-- a path without its class: what stands before the first colon (58), if there is no slash (47) in
+-- it
 abbrev pub bare_path : List ℕ → List ℕ
 bare_path path = bare_by path (cut_at 58 path)
 
+-- the path of one piece of AliasFile
 abbrev pub path_of : List ℕ → List ℕ
 path_of piece = bare_path (plain piece)
 
@@ -76,6 +83,7 @@ is_valid (Word option) value = true
 is_valid AliasFile value = true
 is_valid DaemonPort value = is_some (daemon_port value)
 
+-- an option with a number is set
 abbrev pub with_number : NumberOption → ℕ → Options → Options
 with_number MaxDaemonSessions n options = record options { max_daemon_sessions = n }
 with_number MaxHopCount n options = record options { max_hop_count = n }
@@ -86,11 +94,13 @@ with_number RecipientFactor n options = record options { recipient_factor = n }
 with_number ClassFactor n options = record options { class_factor = n }
 with_number RetryFactor n options = record options { retry_factor = n }
 
+-- an option with a time is set
 abbrev pub with_time : TimeOption → ℕ → Options → Options
 with_time QueueReturn n options = record options { queue_return = n }
 with_time QueueWarn n options = record options { queue_warn = Some n }
 with_time MinQueueAge n options = record options { min_queue_age = n }
 
+-- an option with a text is set
 abbrev pub with_word : WordOption → List ℕ → Options → Options
 with_word QueueDirectory value options = record options { queue_directory = value }
 with_word HostsFile value options = record options { hosts_file = value }
@@ -101,11 +111,15 @@ with_word DoubleBounceAddress value options = record options { double_bounce_add
 -- the options with an option set to a value in its grammar; alias files are added behind those
 -- that are there
 abbrev pub with_setting : Setting → List ℕ → Options → Options
-with_setting (Number option) value options = with_number option (unwrap_or (number_in most_option value) 0) options
-with_setting (Time option) value options = with_time option (unwrap_or (time_in (unit_of option) value) 0) options
+with_setting (Number option) value options =
+    with_number option (unwrap_or (number_in most_option value) 0) options
+with_setting (Time option) value options =
+    with_time option (unwrap_or (time_in (unit_of option) value) 0) options
 with_setting (Word option) value options = with_word option value options
-with_setting AliasFile value options = record options { alias_files = options.alias_files ++ paths_of value }
-with_setting DaemonPort value options = record options { daemon_port = unwrap_or (daemon_port value) options.daemon_port }
+with_setting AliasFile value options =
+    record options { alias_files = options.alias_files ++ paths_of value }
+with_setting DaemonPort value options =
+    record options { daemon_port = unwrap_or (daemon_port value) options.daemon_port }
 
 -- ---- lines
 
@@ -115,6 +129,7 @@ abbrev pub option_named : List ℕ → Option Setting
 option_named [] = None
 option_named (b ∷ text) = if b == 32 then setting_named (stripped (split_at 61 text).0) else None
 
+-- the value of an O line
 abbrev pub value_of : List ℕ → List ℕ
 value_of text = stripped (split_at 61 text).1
 
@@ -128,6 +143,7 @@ once listens setting = setting
 abbrev pub setting_of : Bool → List ℕ → Option Setting
 setting_of listens text = once listens (option_named text)
 
+-- the option is known, and the value isn't valid for it
 abbrev pub takes_badly : Option Setting → List ℕ → Bool
 takes_badly None value = false
 takes_badly (Some setting) value = not (is_valid setting value)
@@ -136,6 +152,7 @@ takes_badly (Some setting) value = not (is_valid setting value)
 abbrev pub is_bad_option : List ℕ → Bool
 is_bad_option text = takes_badly (option_named text) (value_of text)
 
+-- the option is OperatorChars
 abbrev pub is_operators : Option Setting → Bool
 is_operators (Some (Word OperatorChars)) = true
 is_operators setting = false
@@ -146,8 +163,10 @@ is_late late text = late && is_operators (option_named text)
 
 -- the first fault of an O line, where it is told whether an S or R line came before
 abbrev pub fault_of_option : Bool → List ℕ → Option Fault
-fault_of_option late text = first_fault ((BadOption, is_bad_option text) ∷ (OperatorsLate, is_late late text) ∷ [])
+fault_of_option late text =
+    first_fault ((BadOption, is_bad_option text) ∷ (OperatorsLate, is_late late text) ∷ [])
 
+-- a known option is set
 abbrev pub options_with : Option Setting → List ℕ → Options → Options
 options_with None value options = options
 options_with (Some setting) value options = with_setting setting value options
@@ -157,9 +176,14 @@ abbrev pub options_after : Bool → List ℕ → Options → Options
 options_after listens text options = options_with (setting_of listens text) (value_of text) options
 
 example :
-    (options_after false (codes " Timeout.QueueReturn = 1d") default_options ≡ record default_options { queue_return = 86400 })
-    × (options_after false (codes " AliasFile=dbm:/etc/a, /etc/b:c") default_options ≡ record default_options { alias_files = codes "/etc/a" ∷ codes "/etc/b:c" ∷ [] })
-    × (options_after false (codes " DaemonPortOptions=Name=MTA, Port=submission, Addr=127.0.0.1") default_options ≡ record default_options { daemon_port = record { port = 587; address = Some (codes "127.0.0.1") } })
+    (options_after false (codes " Timeout.QueueReturn = 1d") default_options
+    ≡ record default_options { queue_return = 86400 })
+    × (options_after false (codes " AliasFile=dbm:/etc/a, /etc/b:c") default_options
+    ≡ record default_options { alias_files = codes "/etc/a" ∷ codes "/etc/b:c" ∷ [] })
+    × (options_after false (codes " DaemonPortOptions=Name=MTA, Port=submission, Addr=127.0.0.1")
+    default_options ≡ record default_options {
+      daemon_port = record { port = 587; address = Some (codes "127.0.0.1") };
+    })
     × (fault_of_option false (codes " MaxHopCount=x") ≡ Some BadOption)
     × (fault_of_option true (codes " OperatorChars=.") ≡ Some OperatorsLate)
     × (fault_of_option false (codes " DaemonPortOptions=Port=x") ≡ Some BadOption)

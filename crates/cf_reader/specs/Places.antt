@@ -1,4 +1,5 @@
--- The places of K lines by their names (Sendmail Installation and Operation Guide, "K: Key File Declaration": a later line of a name replaces an earlier one).
+-- The places of K lines by their names (Sendmail Installation and Operation Guide, "K: Key File
+-- Declaration": a later line of a name replaces an earlier one).
 use Rattle.std.specs.Prelude.{◌≡◌, ℕ, suc, Bool, true, false, bytes_eq, List, [], ◌∷◌, Option, None, Some}
 use Rattle.mail_base.specs.Catalogs.{value_at}
 use Rattle.mail_base.specs.declared.lines.MapLine.{MapLine}

@@ -1,4 +1,5 @@
--- P lines, by what follows the letter (Sendmail Installation and Operation Guide, "P: Precedence Definitions"; the least and the greatest number are our own).
+-- P lines, by what follows the letter (Sendmail Installation and Operation Guide, "P: Precedence
+-- Definitions"; the least and the greatest number are our own).
 use Rattle.std.specs.Prelude.{◌≡◌, ℕ, Bool, ◌==◌, if◌then◌else◌, is_none, List, [], ◌∷◌, Option, None, Some, option_map, unwrap_or, ℤ, pos, neg_ℤ, codes, refl}
 use Rattle.mail_base.specs.declared.lines.Precedence.{Precedence}
 use Rattle.cf_reader.specs.declared.fault.Fault.{Fault}
@@ -7,6 +8,7 @@ use Rattle.cf_reader.specs.Reads.{first_fault}
 use Rattle.cf_reader.specs.Fields.{split_at}
 use Rattle.cf_reader.specs.Values.{number_in}
 
+-- the number below 0 of that magnitude
 abbrev pub below_zero : ℕ → ℤ
 below_zero n = neg_ℤ (pos n)
 
@@ -21,12 +23,16 @@ class_value (b ∷ text) =
 abbrev pub is_bad_precedence : List ℕ → Bool
 is_bad_precedence text = is_none (class_value (split_at 61 text).1)
 
+-- the fault of a P line, if it has one
 abbrev pub fault_of_precedence : List ℕ → Option Fault
 fault_of_precedence text = first_fault ((BadOption, is_bad_precedence text) ∷ [])
 
 -- what a P line without a fault says
 abbrev pub precedence_of : List ℕ → Precedence
-precedence_of text = record { name = (split_at 61 text).0; class = unwrap_or (class_value (split_at 61 text).1) (pos 0) }
+precedence_of text = record {
+  name = (split_at 61 text).0;
+  class = unwrap_or (class_value (split_at 61 text).1) (pos 0);
+}
 
 example :
     (precedence_of (codes "bulk=-60") ≡ record { name = codes "bulk"; class = below_zero 60 })

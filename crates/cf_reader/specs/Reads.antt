@@ -14,7 +14,8 @@ abbrev pub first_fault : List (Fault × Bool) → Option Fault
 first_fault [] = None
 first_fault ((fault, holds) ∷ rows) = if holds then Some fault else first_fault rows
 
--- what was asked of the files, and whether they failed: the count of their faults rose exactly then, or stood at its end
+-- what was asked of the files, and whether they failed: the count of their faults rose exactly
+-- then, or stood at its end
 pub record Asks (before after : FilesSeen) (failed : Bool) : Type 0 where
   pub fixed : after.map ≡ before.map
   pub later : before.faults ≤ after.faults
@@ -29,14 +30,16 @@ module _ {V : Type 0} where
   is_files_fault (Err stops.FilesFault) = true
   is_files_fault (Err stops.NoMemory) = false
 
-  -- a line is read: its value where it has no fault, else its fault, unless memory runs out; it asks no file
+  -- a line is read: its value where it has no fault, else its fault, unless memory runs out; it
+  -- asks no file
   abbrev pub Reads : Result V LineStop → Option Fault → V → Type 0
   Reads (Ok value) fault meant = (fault ≡ None) × (value ≡ meant)
   Reads (Err (stops.Refused found)) fault meant = fault ≡ Some found
   Reads (Err stops.FilesFault) fault meant = ⊥
   Reads (Err stops.NoMemory) fault meant = Unit {0}
 
-  -- what an option holds is given, and where it holds nothing this fault, unless memory runs out; it asks no file
+  -- what an option holds is given, and where it holds nothing this fault, unless memory runs out;
+  -- it asks no file
   abbrev pub Opens : Fault → Result V LineStop → Option V → Type 0
   Opens fault (Ok value) meant = meant ≡ Some value
   Opens fault (Err (stops.Refused found)) meant = (found ≡ fault) × (meant ≡ None)

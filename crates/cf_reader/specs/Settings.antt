@@ -1,4 +1,5 @@
--- The options that are read, by their names without ASCII case (Sendmail Installation and Operation Guide, "O: Set Option"; MaxDaemonSessions and HomesFile are our own).
+-- The options that are read, by their names without ASCII case (Sendmail Installation and Operation
+-- Guide, "O: Set Option"; MaxDaemonSessions and HomesFile are our own).
 use Rattle.std.specs.Prelude.{◌≡◌, ℕ, List, [], ◌∷◌, Option, None, Some, option_map, codes, refl}
 use Rattle.std.specs.Option.{option_or}
 use Rattle.mail_base.specs.Catalogs.{value_like}
@@ -26,7 +27,8 @@ number_options =
 
 -- options whose value is a time
 abbrev pub time_options : List (List ℕ × TimeOption)
-time_options = (codes "Timeout.queuereturn", QueueReturn) ∷ (codes "Timeout.queuewarn", QueueWarn) ∷ (codes "MinQueueAge", MinQueueAge) ∷ []
+time_options = (codes "Timeout.queuereturn", QueueReturn) ∷ (codes "Timeout.queuewarn", QueueWarn)
+    ∷ (codes "MinQueueAge", MinQueueAge) ∷ []
 
 -- the letter of the unit that a number without a letter has: d (100), h (104) or m (109)
 abbrev pub unit_of : TimeOption → ℕ
@@ -44,6 +46,7 @@ word_options =
     ∷ (codes "DoubleBounceAddress", DoubleBounceAddress)
     ∷ []
 
+-- the options whose values are lists
 abbrev pub list_options : List (List ℕ × Setting)
 list_options = (codes "AliasFile", AliasFile) ∷ (codes "DaemonPortOptions", DaemonPort) ∷ []
 
@@ -54,5 +57,7 @@ setting_named name =
     (option_or (option_map Time (value_like name time_options))
     (option_or (option_map Word (value_like name word_options)) (value_like name list_options)))
 
-example : (setting_named (codes "maxhopcount") ≡ Some (Number MaxHopCount)) × (setting_named (codes "aliasFILE") ≡ Some AliasFile) × (setting_named (codes "MaxHopCounts") ≡ None)
+example : (setting_named (codes "maxhopcount") ≡ Some (Number MaxHopCount))
+    × (setting_named (codes "aliasFILE") ≡ Some AliasFile)
+    × (setting_named (codes "MaxHopCounts") ≡ None)
 example = (refl, refl, refl)

@@ -1,4 +1,5 @@
--- The sides of a rule (Sendmail Installation and Operation Guide, "R and S: Rewriting Rules"; what the guide leaves open is our own).
+-- The sides of a rule (Sendmail Installation and Operation Guide, "R and S: Rewriting Rules"; what
+-- the guide leaves open is our own).
 use Rattle.std.specs.Prelude.{ℕ, ◌-◌, List, [], ◌∷◌, length, drop, Bool, true, false, ◌&&◌, ◌||◌, ◌==◌, nat_lt, if◌then◌else◌, codes, Option, Some, None, option_map, Result, Ok, Err, slice_get}
 use Rattle.std.specs.List.{list_any, prefix_len, before_first, after_first, slice_split}
 use Rattle.std.specs.Result.{result_ok}
@@ -23,6 +24,7 @@ use Rattle.cf_macros.specs.Expansion.{rule_value}
 
 -- ---- the line of a rule, behind its letter
 
+-- a tab
 abbrev pub is_tab : ℕ → Bool
 is_tab b = b == 9
 
@@ -30,6 +32,7 @@ is_tab b = b == 9
 abbrev pub left_of : List ℕ → List ℕ
 left_of rule = before_first is_tab rule
 
+-- a text without the tabs at its front
 abbrev pub after_tabs : List ℕ → List ℕ
 after_tabs text = drop (prefix_len is_tab text) text
 
@@ -81,8 +84,10 @@ sign_item byte =
 
 -- `$=x`, `$~x` and `$&x`
 abbrev pub named_item : ℕ → List ℕ → Item
-named_item byte name = if byte == 61 then item.InClass name else if byte == 126 then item.NotInClass name else item.Late name
+named_item byte name = if byte == 61 then item.InClass name
+    else if byte == 126 then item.NotInClass name else item.Late name
 
+-- an item of a left side
 abbrev pub item_of : Lexeme → Option Item
 item_of (Token token) = Some (item.Exact token)
 item_of (Dollar byte) = sign_item byte
@@ -102,44 +107,56 @@ is_binding (Named byte name) = byte == 61 || byte == 126
 
 -- `$n`, and the signs, which are tokens: `$#`, `$|`, `$@`, `$:` and `$.`
 abbrev pub sign_piece : ℕ → Option Piece
-sign_piece byte = if is_digit byte then Some (piece.Cut (byte - 48)) else if is_mark byte then Some (piece.Give (token.Sign (mark_of byte))) else None
+sign_piece byte = if is_digit byte then Some (piece.Cut (byte - 48))
+    else if is_mark byte then Some (piece.Give (token.Sign (mark_of byte))) else None
 
 -- `$&x`; on a right side nothing is asked of a class
 abbrev pub named_piece : ℕ → List ℕ → Option Piece
 named_piece byte name = if byte == 38 then Some (piece.Late name) else None
 
+-- a piece of a right side
 abbrev pub piece_of : Lexeme → Option Piece
 piece_of (Token token) = Some (piece.Give token)
 piece_of (Dollar byte) = sign_piece byte
 piece_of (Named byte name) = named_piece byte name
 
+-- the pieces of lexemes, if each is one
 abbrev pub pieces_of : List Lexeme → Option (List Piece)
 pieces_of lexemes = each piece_of lexemes
 
--- behind its name a lookup has a key, arguments, each of them behind a `$@`, and, behind the first `$:`, a fallback
+-- behind its name a lookup has a key, arguments, each of them behind a `$@`, and, behind the first
+-- `$:`, a fallback
 abbrev pub key_and_args : List Lexeme → Option (List (List Piece))
-key_and_args fields = each pieces_of (slice_split (is_dollar 64) (before_first (is_dollar 58) fields))
+key_and_args fields =
+    each pieces_of (slice_split (is_dollar 64) (before_first (is_dollar 58) fields))
 
+-- what stands behind the first `$:`, if there is one
 abbrev pub fallback_of : List Lexeme → Option (Option (List Piece))
-fallback_of fields = if list_any (is_dollar 58) fields then option_map Some (pieces_of (after_first (is_dollar 58) fields)) else Some None
+fallback_of fields = if list_any (is_dollar 58) fields
+    then option_map Some (pieces_of (after_first (is_dollar 58) fields)) else Some None
 
+-- a look-up by its parts, if each is well made
 abbrev pub lookup : List ℕ → Option (List (List Piece)) → Option (Option (List Piece)) → Option Step
 lookup name (Some (key ∷ args)) (Some fallback) = Some (step.Lookup name key args fallback)
 lookup name key_and_args fallback = None
 
+-- a look-up in a map by what stands behind the map's name
 abbrev pub lookup_of : List ℕ → List Lexeme → Option Step
 lookup_of name fields = lookup name (key_and_args fields) (fallback_of fields)
 
--- in `$(` and `$)` the first lexeme is a token, which names the map as it stands, in its quotes if it has any; a sign is no name
+-- in `$(` and `$)` the first lexeme is a token, which names the map as it stands, in its quotes if
+-- it has any; a sign is no name
 abbrev pub named_lookup : List Lexeme → Option Step
 named_lookup (Token (token.Word name) ∷ fields) = lookup_of name fields
 named_lookup (Token (token.Quoted name) ∷ fields) = lookup_of name fields
 named_lookup (Token (token.Op byte) ∷ fields) = lookup_of (byte ∷ []) fields
 named_lookup inside = None
 
+-- `$[` or `$(`
 abbrev pub is_opening : Lexeme → Bool
 is_opening lexeme = is_dollar 91 lexeme || is_dollar 40 lexeme
 
+-- `$]` or `$)`
 abbrev pub is_closing : Lexeme → Bool
 is_closing lexeme = is_dollar 93 lexeme || is_dollar 41 lexeme
 
@@ -152,36 +169,43 @@ bracketed opening inside closing =
 
 -- a lexeme outside of lookups: `$>`, or a piece
 abbrev pub step_of : Lexeme → Option Step
-step_of lexeme = if is_dollar 62 lexeme then Some step.Call else option_map step.Plain (piece_of lexeme)
+step_of lexeme =
+    if is_dollar 62 lexeme then Some step.Call else option_map step.Plain (piece_of lexeme)
 
--- the rest of a right side: steps; or what is left of a lookup that it closes, the closing bracket, and the steps behind that; or none of these
+-- the rest of a right side: steps; or what is left of a lookup that it closes, the closing bracket,
+-- and the steps behind that; or none of these
 pub data Rest : Type 0 where
   Steps : (steps : List Step) → Rest
   Closes : (inside : List Lexeme) (closing : Lexeme) (steps : List Step) → Rest
   Nothing : Rest
 
+-- a step before others
 abbrev pub with_step : Option Step → List Step → Rest
 with_step None steps = Nothing
 with_step (Some step) steps = Steps (step ∷ steps)
 
 -- a lexeme before the rest: lookups don't nest, and each bracket has its other one
 abbrev pub before : Lexeme → Rest → Rest
-before lexeme (Steps steps) = if is_closing lexeme then Closes [] lexeme steps else with_step (step_of lexeme) steps
+before lexeme (Steps steps) =
+    if is_closing lexeme then Closes [] lexeme steps else with_step (step_of lexeme) steps
 before lexeme (Closes inside closing steps) =
     if is_closing lexeme then Nothing
     else if is_opening lexeme then with_step (bracketed lexeme inside closing) steps
     else Closes (lexeme ∷ inside) closing steps
 before lexeme Nothing = Nothing
 
+-- the lexemes from some place on as steps
 abbrev pub rest_of : List Lexeme → Rest
 rest_of [] = Steps []
 rest_of (lexeme ∷ lexemes) = before lexeme (rest_of lexemes)
 
+-- steps that nothing closes too early
 abbrev pub whole : Rest → Option (List Step)
 whole (Steps steps) = Some steps
 whole (Closes inside closing steps) = None
 whole Nothing = None
 
+-- the step is a call
 abbrev pub is_call : Option Step → Bool
 is_call (Some step.Call) = true
 is_call step = false
@@ -193,18 +217,23 @@ ends_in_call steps = is_call (slice_get steps (length steps - 1))
 -- the prefix of a right side: `$@` or `$:`
 abbrev pub go_of : List Lexeme → Go
 go_of [] = Again
-go_of (lexeme ∷ lexemes) = if is_dollar 64 lexeme then Return else if is_dollar 58 lexeme then Next else Again
+go_of (lexeme ∷ lexemes) =
+    if is_dollar 64 lexeme then Return else if is_dollar 58 lexeme then Next else Again
 
 -- what stands behind the prefix
 abbrev pub body_of : List Lexeme → List Lexeme
 body_of [] = []
-body_of (lexeme ∷ lexemes) = if is_dollar 64 lexeme || is_dollar 58 lexeme then lexemes else lexeme ∷ lexemes
+body_of (lexeme ∷ lexemes) =
+    if is_dollar 64 lexeme || is_dollar 58 lexeme then lexemes else lexeme ∷ lexemes
 
+-- a right side by its prefix and its steps, which don't end in a call
 abbrev pub template : Go → Option (List Step) → Option Template
 template go None = None
-template go (Some steps) = if ends_in_call steps then None else Some (record { go = go; steps = steps })
+template go (Some steps) =
+    if ends_in_call steps then None else Some (record { go = go; steps = steps })
 
--- a right side; none where a bracket lacks its other one, a lookup holds a lookup or a call or lacks its name, the last lexeme is `$>`, or `$*`, `$+`, `$-`, `$=x` or `$~x` stands in it
+-- a right side; none where a bracket lacks its other one, a lookup holds a lookup or a call or
+-- lacks its name, the last lexeme is `$>`, or `$*`, `$+`, `$-`, `$=x` or `$~x` stands in it
 abbrev pub template_of : List Lexeme → Option Template
 template_of lexemes = template (go_of lexemes) (whole (rest_of (body_of lexemes)))
 

@@ -1,8 +1,10 @@
--- Numbers and times in lines (Sendmail Installation and Operation Guide, "O: Set Option"; the greatest ones are our own).
+-- Numbers and times in lines (Sendmail Installation and Operation Guide, "O: Set Option"; the
+-- greatest ones are our own).
 use Rattle.std.specs.Prelude.{◌≡◌, ℕ, ◌-◌, ◌^◌, nat_le, if◌then◌else◌, List, [], ◌∷◌, Option, None, Some, unwrap_or, codes, refl}
 use Rattle.cf_values.specs.Numbers.{number_value}
 use Rattle.cf_values.specs.Times.{time_value}
 
+-- a number that isn't above a limit
 abbrev pub at_most : ℕ → Option ℕ → Option ℕ
 at_most most None = None
 at_most most (Some n) = if nat_le n most then Some n else None

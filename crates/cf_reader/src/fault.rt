@@ -67,7 +67,7 @@ impl From<NoMemory> for CfFault {
     }
 }
 
-// Why a line wasn't taken.
+/// Why a line wasn't taken.
 #[derive(Clone, Copy)]
 pub enum LineStop {
     Refused(Fault),

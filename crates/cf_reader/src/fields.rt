@@ -89,7 +89,7 @@ fn escape(byte: u8) -> u8
     }
 }
 
-// The pieces so far, and what stands of the next one.
+/// The pieces so far, and what stands of the next one.
 #[derive(Drop)]
 pub(crate) struct Cutting {
     pieces: Seq<Text>,
@@ -109,7 +109,8 @@ impl Cutting {
     }
 
     fn take(&mut self, byte: u8) -> Result<(), NoMemory>
-        ensures { OnOk result ((text : List ℕ) → all_pieces self.new text ≡ all_pieces self.old (byte ∷ text)) }
+        ensures { OnOk result
+            ((text : List ℕ) → all_pieces self.new text ≡ all_pieces self.old (byte ∷ text)) }
     {
         if self.stand.ends(byte) {
             return self.close();
@@ -121,7 +122,8 @@ impl Cutting {
 
     // Ends the piece.
     fn close(&mut self) -> Result<(), NoMemory>
-        ensures pieces { OnOk result (self.new.pieces ≡ self.old.pieces ++ spec.kept (self.old.piece ∷ [])) }
+        ensures pieces { OnOk result
+            (self.new.pieces ≡ self.old.pieces ++ spec.kept (self.old.piece ∷ [])) }
         ensures piece { OnOk result (self.new.piece ≡ []) }
         ensures stand { OnOk result (self.new.stand ≡ spec.outside) }
     {

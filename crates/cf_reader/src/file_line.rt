@@ -29,7 +29,8 @@ pub(crate) fn file_class<F: Files>(
     text: &[u8],
     files: &mut F,
 ) -> Result<ClassLine, LineStop>
-    ensures told { IfSome (F.seen files.old).map (λ map. Finds result (spec.fault_of_file map text.now) (spec.file_class_of map text.now)) }
+    ensures told { IfSome (F.seen files.old).map
+        (λ map. Finds result (spec.fault_of_file map text.now) (spec.file_class_of map text.now)) }
     ensures asks { Asks (F.seen files.old) (F.seen files.new) (is_files_fault result) }
 {
     let (name, rest) = split_name(text);
@@ -67,7 +68,8 @@ fn file_words(
 }
 
 fn words_in(alloc: Global, name: &[u8], text: &[u8]) -> Result<ClassLine, NoMemory>
-    ensures { IfOk result (λ line. line ≡ record { class = name.now; words = spec.words_of_file text.now }) }
+    ensures { IfOk result
+        (λ line. line ≡ record { class = name.now; words = spec.words_of_file text.now }) }
 {
     let words = words_of_file(alloc, text)?;
     let class = Text::of(alloc, name)?;

@@ -9,8 +9,8 @@ use mail_base::{Catalog, Classes, Config, Group, NoMemory, Text, TryCopy};
 use std::alloc::Global;
 
 impl State {
-    /// The configuration behind the last line: the words of classes are cut under the operators as they are now, and a group without a path has
-    /// the queue directory as it is now.
+    /// The configuration behind the last line: the words of classes are cut under the operators as
+    /// they are now, and a group without a path has the queue directory as it is now.
     pub(crate) fn finish(self, alloc: Global) -> Result<Config, NoMemory>
         ensures { IfOk result (λ config. config ≡ spec.finished self) }
     {
@@ -54,7 +54,8 @@ fn place_at(
     index: usize,
     placed: &mut Catalog<Group>,
 ) -> Result<(), NoMemory>
-    ensures { OnOk result (placed.new ≡ with_group_at directory.now placed.old (slice_get groups.now index)) }
+    ensures { OnOk result
+        (placed.new ≡ with_group_at directory.now placed.old (slice_get groups.now index)) }
 {
     match groups.at(index) {
         Some((name, group)) => place_group(directory, name, group, placed),
@@ -68,7 +69,8 @@ fn place_group(
     group: &Group,
     placed: &mut Catalog<Group>,
 ) -> Result<(), NoMemory>
-    ensures { OnOk result (placed.new ≡ spec.with_group directory.now placed.old (name.now, group.now)) }
+    ensures { OnOk result
+        (placed.new ≡ spec.with_group directory.now placed.old (name.now, group.now)) }
 {
     let name = name.copy()?;
     let group = placed_group(directory, group)?;

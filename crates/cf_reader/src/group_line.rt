@@ -69,7 +69,8 @@ fn is_bad_field(field: &Field) -> bool
 }
 
 fn group_of(alloc: Global, name: &[u8], fields: &[Field]) -> Result<Group, NoMemory>
-    ensures { IfOk result (λ group. group ≡ fold spec.with_group_field (spec.first_group name.now) fields.now) }
+    ensures { IfOk result
+        (λ group. group ≡ fold spec.with_group_field (spec.first_group name.now) fields.now) }
 {
     let mut group = first_group(alloc, name)?;
     for field in fields {

@@ -1,5 +1,4 @@
-ghost use Rattle.std.specs.Prelude.{◌≡◌, ◌≤◌, length, option_map, IfOk};
-ghost use Rattle.std.specs.List.{prefix_len};
+ghost use Rattle.std.specs.Prelude.{◌≡◌, option_map, IfOk};
 ghost use Rattle.mail_base.specs.Texts.{is_blank};
 ghost use Rattle.cf_values.specs.Flags.{flags_of};
 ghost use Rattle.cf_reader.specs.Reads.{Reads};
@@ -13,9 +12,10 @@ use cf_values::flags;
 use mail_base::{HeaderLine, NoMemory, Text, is_blank};
 use std::alloc::Global;
 
-/// The header that an H line declares, by what follows the letter: `?flags?Name: template` or `Name: template`. `None` is a line
-/// whose template calls rulesets, which is ignored with a warning. `BadHeader` comes exactly where no colon stands behind the flags, or
-/// they aren't closed (Sendmail Installation and Operation Guide, "H: Define Header").
+/// The header that an H line declares, by what follows the letter: `?flags?Name: template` or
+/// `Name: template`. `None` is a line whose template calls rulesets, which is ignored with a
+/// warning. `BadHeader` comes exactly where no colon stands behind the flags, or they aren't closed
+/// (Sendmail Installation and Operation Guide, "H: Define Header").
 pub(crate) fn header(alloc: Global, text: &[u8]) -> Result<Option<HeaderLine>, LineStop>
     ensures { Reads result (fault_of_header text.now) (header_of text.now) }
 {

@@ -1,4 +1,4 @@
-ghost use Rattle.std.specs.Prelude.{◌≡◌, Some, option_map};
+ghost use Rattle.std.specs.Prelude.{◌≡◌, Some};
 ghost use Rattle.std.specs.List.{count_by};
 ghost use Rattle.cf_reader.specs.Sides as spec;
 ghost use Rattle.cf_reader.specs.inner.Making.{Makes};

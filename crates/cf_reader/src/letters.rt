@@ -41,7 +41,8 @@ impl State {
     }
 
     pub(crate) fn take_class(&mut self, alloc: Global, text: &[u8]) -> Result<(), LineStop>
-        ensures { Steps result (fault_of_class text.now self.old.config.macros) (spec.after_class text.now self.old) self.new }
+        ensures { Steps result (fault_of_class text.now self.old.config.macros)
+            (spec.after_class text.now self.old) self.new }
     {
         let line = class(alloc, text, &self.config.macros)?;
         self.class_lines.push(line)?;
@@ -54,7 +55,9 @@ impl State {
         files: &mut F,
         text: &[u8],
     ) -> Result<(), LineStop>
-        ensures told { IfSome (F.seen files.old).map (λ map. Seeks result (fault_of_file map text.now) (spec.after_file map text.now self.old) self.new) }
+        ensures told { IfSome (F.seen files.old).map
+            (λ map. Seeks result (fault_of_file map text.now)
+            (spec.after_file map text.now self.old) self.new) }
         ensures asks { Asks (F.seen files.old) (F.seen files.new) (is_files_fault result) }
         ensures config { self.new.config ≡ self.old.config }
     {
@@ -64,7 +67,8 @@ impl State {
     }
 
     pub(crate) fn take_map(&mut self, alloc: Global, text: &[u8]) -> Result<(), LineStop>
-        ensures { Steps result (fault_of_map text.now self.old.maps) (spec.after_map text.now self.old) self.new }
+        ensures { Steps result (fault_of_map text.now self.old.maps)
+            (spec.after_map text.now self.old) self.new }
     {
         let line = map(alloc, text, &self.maps)?;
         self.maps.push(line)?;
@@ -72,7 +76,8 @@ impl State {
     }
 
     pub(crate) fn take_mailer(&mut self, alloc: Global, text: &[u8]) -> Result<(), LineStop>
-        ensures { Steps result (fault_of_mailer text.now) (spec.after_mailer text.now self.old) self.new }
+        ensures { Steps result (fault_of_mailer text.now)
+            (spec.after_mailer text.now self.old) self.new }
     {
         let mailer = mailer_line(alloc, text)?;
         let name = mailer.name.folded()?;
@@ -81,7 +86,8 @@ impl State {
     }
 
     pub(crate) fn take_precedence(&mut self, alloc: Global, text: &[u8]) -> Result<(), LineStop>
-        ensures { Steps result (fault_of_precedence text.now) (spec.after_precedence text.now self.old) self.new }
+        ensures { Steps result (fault_of_precedence text.now)
+            (spec.after_precedence text.now self.old) self.new }
     {
         let precedence = precedence_line(alloc, text)?;
         self.config.precedences.push(precedence)?;
@@ -89,7 +95,8 @@ impl State {
     }
 
     pub(crate) fn take_group(&mut self, alloc: Global, text: &[u8]) -> Result<(), LineStop>
-        ensures { Steps result (fault_of_group (had_name self.old text.now) text.now) (spec.after_group text.now self.old) self.new }
+        ensures { Steps result (fault_of_group (had_name self.old text.now) text.now)
+            (spec.after_group text.now self.old) self.new }
     {
         let again = self.had_group(alloc, line_name(text))?;
         let group = group_line(alloc, text, again)?;
@@ -119,7 +126,9 @@ impl State {
     }
 
     pub(crate) fn take_rule(&mut self, alloc: Global, text: &[u8]) -> Result<(), LineStop>
-        ensures { Steps result (fault_of_rule text.now self.old.config.macros self.old.config.options.operator_chars) (spec.after_rule text.now self.old) self.new }
+        ensures { Steps result
+            (fault_of_rule text.now self.old.config.macros self.old.config.options.operator_chars)
+            (spec.after_rule text.now self.old) self.new }
     {
         let rule = rule(
             alloc,
@@ -138,7 +147,8 @@ impl State {
         number: u32,
         text: &[u8],
     ) -> Result<(), LineStop>
-        ensures { Steps result (fault_of_option self.old.has_rules text.now) (spec.after_option number text.now self.old) self.new }
+        ensures { Steps result (fault_of_option self.old.has_rules text.now)
+            (spec.after_option number text.now self.old) self.new }
     {
         let options = &mut self.config.options;
         match option_line(alloc, options, text, self.has_rules, self.has_daemon)? {
@@ -156,7 +166,8 @@ impl State {
         number: u32,
         text: &[u8],
     ) -> Result<(), LineStop>
-        ensures { Steps result (fault_of_header text.now) (spec.after_header number text.now self.old) self.new }
+        ensures { Steps result (fault_of_header text.now)
+            (spec.after_header number text.now self.old) self.new }
     {
         match header(alloc, text)? {
             Some(header) => {

@@ -71,14 +71,18 @@ fn joint_of(line: &[u8]) -> u8
 
 // The logical line that a physical line begins, with what stands after it.
 fn whole_line(alloc: Global, line: &[u8], after: &[u8]) -> Result<Text, NoMemory>
-    ensures { IfOk result (λ whole. whole ≡ spec.uncommented (spec.joined line.now (take_while spec.is_indented (physical_lines after.now)))) }
+    ensures { IfOk result
+        (λ whole. whole ≡ spec.uncommented
+        (spec.joined line.now (take_while spec.is_indented (physical_lines after.now)))) }
 {
     let joined = joined(alloc, line, after)?;
     uncommented(alloc, joined.bytes())
 }
 
 fn joined(alloc: Global, line: &[u8], after: &[u8]) -> Result<Text, NoMemory>
-    ensures { IfOk result (λ text. text ≡ spec.joined line.now (take_while spec.is_indented (physical_lines after.now))) }
+    ensures { IfOk result
+        (λ text. text ≡ spec.joined line.now
+        (take_while spec.is_indented (physical_lines after.now))) }
 {
     let joint = joint_of(line);
     let mut text = Text::of(alloc, line)?;

@@ -1,5 +1,3 @@
-ghost use Rattle.std.specs.Prelude.{◌≡◌};
-ghost use Rattle.std.specs.List.{slice_split};
 ghost use Rattle.cf_reader.specs.Sides as spec;
 ghost use Rattle.cf_reader.specs.inner.Making.{Makes, parts_behind, fallback_from};
 

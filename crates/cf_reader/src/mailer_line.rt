@@ -40,7 +40,8 @@ fn lacks_path(mailer: &Mailer) -> bool
 }
 
 fn mailer_of(alloc: Global, name: &[u8], fields: &[Field]) -> Result<Mailer, NoMemory>
-    ensures { IfOk result (λ mailer. mailer ≡ fold spec.with_field (spec.first_mailer name.now) fields.now) }
+    ensures { IfOk result
+        (λ mailer. mailer ≡ fold spec.with_field (spec.first_mailer name.now) fields.now) }
 {
     let mut mailer = first_mailer(alloc, name)?;
     for field in fields {
@@ -120,7 +121,8 @@ fn sets(
     envelope: &[u8],
     header: &[u8],
 ) -> Result<(Option<Text>, Option<Text>), NoMemory>
-    ensures { IfOk result (λ sets. sets ≡ (if_some (stripped envelope.now), if_some (stripped header.now))) }
+    ensures { IfOk result
+        (λ sets. sets ≡ (if_some (stripped envelope.now), if_some (stripped header.now))) }
 {
     let envelope = if_some(alloc, stripped(envelope))?;
     let header = if_some(alloc, stripped(header))?;

@@ -1,7 +1,5 @@
 ghost use Rattle.std.specs.Prelude.{◌≡◌, ◌≤◌, [], ◌∷◌, bytes_eq, length, option_map, unwrap_or, Some, IfOk};
 ghost use Rattle.std.specs.List.{list_any, prefix_len};
-ghost use Rattle.std.specs.Option.{option_copied};
-ghost use Rattle.cf_values.specs.Numbers.{number_value};
 ghost use Rattle.cf_reader.specs.Reads.{Reads, first_fault};
 ghost use Rattle.cf_reader.specs.declared.fault.Fault.TheVariants as faults;
 ghost use Rattle.cf_reader.specs.MapLines.{fault_of_map, is_bad_line, is_dashed, is_unknown, lacks_member, map_by, map_of, members_of};
@@ -14,9 +12,10 @@ use cf_values::{computed_values, number};
 use mail_base::{MapClass, MapLine, NoMemory, Seq, Text, TryCopy};
 use std::alloc::Global;
 
-/// The map that a K line declares, by what follows the letter, behind the K lines before it. `BadMap` comes exactly where a name or a
-/// class is missing, `-k` or `-v` has no number below 100, or a sequence has a member that none of these lines names (Sendmail
-/// Installation and Operation Guide, "K: Key File Declaration").
+/// The map that a K line declares, by what follows the letter, behind the K lines before it.
+/// `BadMap` comes exactly where a name or a class is missing, `-k` or `-v` has no number below 100,
+/// or a sequence has a member that none of these lines names (Sendmail Installation and Operation
+/// Guide, "K: Key File Declaration").
 pub(crate) fn map(alloc: Global, text: &[u8], maps: &MapLines) -> Result<MapLine, LineStop>
     ensures { Reads result (fault_of_map text.now maps.now) (map_of text.now maps.now) }
 {
@@ -39,7 +38,11 @@ fn declared(
     operands: &[Text],
     maps: &MapLines,
 ) -> Result<MapLine, LineStop>
-    ensures { Reads result (first_fault ((faults.BadMap, is_bad_line class.now letters.now operands.now maps.now) ∷ [])) (map_by name.now (spec.class_of class.now operands.now maps.now) letters.now operands.now) }
+    ensures { Reads result
+        (first_fault
+        ((faults.BadMap, is_bad_line class.now letters.now operands.now maps.now) ∷ []))
+        (map_by name.now (spec.class_of class.now operands.now maps.now)
+        letters.now operands.now) }
 {
     let key_column = column(alloc, letters, b'k', 0)?;
     let value_column = column(alloc, letters, b'v', 1)?;
@@ -110,7 +113,8 @@ fn behind(arg: &[u8], letter: u8) -> Option<&[u8]>
 
 // The column that the last argument with this letter names, or else this one.
 fn column(alloc: Global, args: &[Text], letter: u8, default: u8) -> Result<u8, LineStop>
-    ensures { Reads result (first_fault ((faults.BadMap, spec.has_bad_column letter args.now) ∷ [])) (spec.column_of letter default args.now) }
+    ensures { Reads result (first_fault ((faults.BadMap, spec.has_bad_column letter args.now) ∷ []))
+        (spec.column_of letter default args.now) }
 {
     let mut column = default;
     for arg in args {
@@ -121,7 +125,9 @@ fn column(alloc: Global, args: &[Text], letter: u8, default: u8) -> Result<u8, L
 
 // The column that an argument names, or else this one.
 fn column_in(alloc: Global, arg: &[u8], letter: u8, before: u8) -> Result<u8, LineStop>
-    ensures { Reads result (first_fault ((faults.BadMap, spec.is_no_column (spec.behind letter arg.now)) ∷ [])) (spec.column_or before (spec.behind letter arg.now)) }
+    ensures { Reads result
+        (first_fault ((faults.BadMap, spec.is_no_column (spec.behind letter arg.now)) ∷ []))
+        (spec.column_or before (spec.behind letter arg.now)) }
 {
     match behind(arg, letter) {
         Some(value) => column_number(&Text::of(alloc, value)?),
@@ -130,7 +136,8 @@ fn column_in(alloc: Global, arg: &[u8], letter: u8, before: u8) -> Result<u8, Li
 }
 
 fn column_number(value: &Text) -> Result<u8, LineStop>
-    ensures { Reads result (first_fault ((faults.BadMap, spec.is_no_column (Some value.now)) ∷ [])) (spec.column_or 0 (Some value.now)) }
+    ensures { Reads result (first_fault ((faults.BadMap, spec.is_no_column (Some value.now)) ∷ []))
+        (spec.column_or 0 (Some value.now)) }
 {
     computed_values();
     match number(value, 99) {
@@ -145,7 +152,9 @@ fn class_of(
     names: &[Text],
     maps: &MapLines,
 ) -> Result<MapClass, LineStop>
-    ensures { Reads result (first_fault ((faults.BadMap, lacks_member class.now names.now maps.now) ∷ [])) (spec.class_of class.now names.now maps.now) }
+    ensures { Reads result
+        (first_fault ((faults.BadMap, lacks_member class.now names.now maps.now) ∷ []))
+        (spec.class_of class.now names.now maps.now) }
 {
     let small = class.folded()?;
     if is_word(small.bytes(), b"sequence") {
@@ -187,7 +196,9 @@ fn is_word(text: &[u8], word: &[u8]) -> bool
 
 // The places of the maps that these names have now.
 fn members(alloc: Global, names: &[Text], maps: &MapLines) -> Result<Seq<u32>, LineStop>
-    ensures { Reads result (first_fault ((faults.BadMap, list_any (is_unknown maps.now) names.now) ∷ [])) (members_of names.now maps.now) }
+    ensures { Reads result
+        (first_fault ((faults.BadMap, list_any (is_unknown maps.now) names.now) ∷ []))
+        (members_of names.now maps.now) }
 {
     let mut members = Seq::new(alloc);
     for name in names {

@@ -63,7 +63,8 @@ impl MapLines {
         self.places.get(name).copied()
     }
 
-    /// Adds a line at the end. `NoMemory` comes for the 2^32nd line too, and after it the list is as before.
+    /// Adds a line at the end. `NoMemory` comes for the 2^32nd line too, and after it the list is
+    /// as before.
     pub(crate) fn push(&mut self, line: MapLine) -> Result<(), NoMemory>
         ensures ok { OnOk result (self.new ≡ self.old ++ line ∷ []) }
         ensures err { OnErr result (self.new ≡ self.old) }

@@ -24,7 +24,8 @@ pub(crate) fn option_line(
     late: bool,
     listens: bool,
 ) -> Result<Option<Setting>, LineStop>
-    ensures reads { Reads result (spec.fault_of_option late text.now) (spec.setting_of listens text.now) }
+    ensures reads { Reads result (spec.fault_of_option late text.now)
+        (spec.setting_of listens text.now) }
     ensures ok { OnOk result (options.new ≡ spec.options_after listens text.now options.old) }
     ensures err { OnErr result (options.new ≡ options.old) }
 {
@@ -77,7 +78,8 @@ fn is_daemon_port(setting: Setting) -> bool
 
 // DaemonPortOptions once more: its value is judged, and not taken.
 fn second_port(alloc: Global, value: &Text) -> Result<Option<Setting>, LineStop>
-    ensures { Reads result (first_fault ((BadOption, not (spec.is_valid DaemonPort value.now)) ∷ [])) None }
+    ensures { Reads result
+        (first_fault ((BadOption, not (spec.is_valid DaemonPort value.now)) ∷ [])) None }
 {
     match daemon_port(alloc, value)? {
         Some(_) => Ok(None),

@@ -13,12 +13,14 @@ use mail_base::{Config, Text};
 use mail_edge::Files;
 use std::alloc::Global;
 
-/// The configuration that the text of a file says, or the first line that is refused, by its number from 1, with its first fault. The files are
-/// those that F lines name; they are read as their lines come. Nothing is given of a configuration that is refused (Sendmail Installation
-/// and Operation Guide, "The Whole Scoop on the Configuration File").
+/// The configuration that the text of a file says, or the first line that is refused, by its number
+/// from 1, with its first fault. The files are those that F lines name; they are read as their
+/// lines come. Nothing is given of a configuration that is refused (Sendmail Installation and
+/// Operation Guide, "The Whole Scoop on the Configuration File").
 pub fn read<F: Files>(alloc: Global, text: &Text, files: &mut F) -> Result<Config, CfFault>
     requires { length text.now < 2 ^ 32 }
-    ensures told { IfSome (F.seen files.old).map (λ map. Gives result (configuration map text.now)) }
+    ensures told { IfSome (F.seen files.old).map
+        (λ map. Gives result (configuration map text.now)) }
     ensures asks { Asks (F.seen files.old) (F.seen files.new) (is_failed result) }
 {
     let lines = logical_lines(alloc, text.bytes())?;
@@ -36,7 +38,9 @@ fn step<F: Files>(
     line: &Logical,
     state: &mut State,
 ) -> Result<(), CfFault>
-    ensures told { IfSome (F.seen files.old).map (λ map. Goes result line.now.number (fault map state.old line.now.text) (after_line map line.now state.old) state.new) }
+    ensures told { IfSome (F.seen files.old).map
+        (λ map. Goes result line.now.number (fault map state.old line.now.text)
+        (after_line map line.now state.old) state.new) }
     ensures asks { Asks (F.seen files.old) (F.seen files.new) (is_failed result) }
 {
     match state.take(alloc, files, line) {
@@ -63,7 +67,9 @@ impl State {
         files: &mut F,
         line: &Logical,
     ) -> Result<(), LineStop>
-        ensures told { IfSome (F.seen files.old).map (λ map. Seeks result (fault map self.old line.now.text) (after_line map line.now self.old) self.new) }
+        ensures told { IfSome (F.seen files.old).map
+            (λ map. Seeks result (fault map self.old line.now.text)
+            (after_line map line.now self.old) self.new) }
         ensures asks { Asks (F.seen files.old) (F.seen files.new) (is_files_fault result) }
     {
         let Some((letter, text)) = line.text.bytes().split_first() else {

@@ -18,15 +18,16 @@ use cf_macros::{ExpandFault, expand_rule};
 use mail_base::{Item, Macros, Pattern, Rule, Seq, Template, Text};
 use std::alloc::Global;
 
-/// The rule of an R line, by what follows the letter: a left side, tabs and a right side. Each side is expanded
-/// by the macros so far and cut under the operators.
+/// The rule of an R line, by what follows the letter: a left side, tabs and a right side. Each side
+/// is expanded by the macros so far and cut under the operators.
 pub(crate) fn rule(
     alloc: Global,
     line: &[u8],
     macros: &Macros,
     operators: &Text,
 ) -> Result<Rule, LineStop>
-    ensures { Reads result (spec.fault_of_rule line.now macros.now operators.now) (spec.rule_of line.now macros.now operators.now) }
+    ensures { Reads result (spec.fault_of_rule line.now macros.now operators.now)
+        (spec.rule_of line.now macros.now operators.now) }
 {
     if lacks_tab(line) {
         return Err(LineStop::Refused(Fault::NoTab));
@@ -38,7 +39,9 @@ pub(crate) fn rule(
 
 // The rule of two sides.
 fn rule_in(alloc: Global, left: &[Lexeme], right: &[Lexeme]) -> Result<Rule, LineStop>
-    ensures { Reads result (first_fault (spec.faults_in (spec.sides (Some left.now) (Some right.now)))) (spec.rule_in (spec.sides (Some left.now) (Some right.now))) }
+    ensures { Reads result
+        (first_fault (spec.faults_in (spec.sides (Some left.now) (Some right.now))))
+        (spec.rule_in (spec.sides (Some left.now) (Some right.now))) }
 {
     let items = items_of(alloc, left)?;
     let template = template_of(alloc, right)?;
@@ -49,7 +52,8 @@ fn rule_in(alloc: Global, left: &[Lexeme], right: &[Lexeme]) -> Result<Rule, Lin
 
 // The rule of items and a template, of which at most 20 may be written with a dollar sign.
 fn joined(items: Seq<Item>, right: Template) -> Result<Rule, LineStop>
-    ensures { Reads result (first_fault ((TooManyMetas, nat_lt 20 (count_by is_meta items)) ∷ [])) (record { left = items; right = right }) }
+    ensures { Reads result (first_fault ((TooManyMetas, nat_lt 20 (count_by is_meta items)) ∷ []))
+        (record { left = items; right = right }) }
 {
     match Pattern::of(items) {
         Some(left) => Ok(Rule { left, right }),

@@ -28,7 +28,8 @@ fn one_name(alloc: Global, text: &[u8]) -> Result<Seq<Text>, NoMemory>
 }
 
 fn two_names(alloc: Global, name: &[u8], number: &[u8]) -> Result<Seq<Text>, NoMemory>
-    ensures { IfOk result (λ names. names ≡ spec.set_name name.now ∷ spec.set_name number.now ∷ []) }
+    ensures { IfOk result
+        (λ names. names ≡ spec.set_name name.now ∷ spec.set_name number.now ∷ []) }
 {
     let mut names = one_name(alloc, name)?;
     names.push(set_name(alloc, number)?)?;
@@ -100,7 +101,9 @@ fn earlier(one: Option<usize>, other: Option<usize>) -> Option<usize>
 // Gives the ruleset at a place the names that it lacks.
 fn name_set(names: &[Text], place: usize, book: &mut Book) -> Result<(), NoMemory>
     requires { place < length book.old }
-    ensures { OnOk result ((d : Ruled) → book.new ≡ set book.old place (with_names names.now (get_or book.old place d))) }
+    ensures { OnOk result
+        ((d : Ruled) → book.new
+        ≡ set book.old place (with_names names.now (get_or book.old place d))) }
 {
     for name in names {
         name_once(name, place, book)?;
@@ -110,7 +113,8 @@ fn name_set(names: &[Text], place: usize, book: &mut Book) -> Result<(), NoMemor
 
 fn name_once(name: &Text, place: usize, book: &mut Book) -> Result<(), NoMemory>
     requires { place < length book.old }
-    ensures { OnOk result ((d : Ruled) → book.new ≡ set book.old place (named (get_or book.old place d) name.now)) }
+    ensures { OnOk result
+        ((d : Ruled) → book.new ≡ set book.old place (named (get_or book.old place d) name.now)) }
 {
     if book.sets()[place].is_named(name) {
         return Ok(());

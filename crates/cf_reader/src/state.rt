@@ -10,7 +10,8 @@ use std::mem;
 
 /// What the lines so far say.
 pub struct State {
-    /// All of the configuration but its classes and its maps. A group has the empty path until it has one.
+    /// All of the configuration but its classes and its maps. A group has the empty path until it
+    /// has one.
     pub config: Config,
     /// The K lines so far.
     pub maps: MapLines,
@@ -64,7 +65,11 @@ impl State {
 
     /// The configuration with these classes and groups, and with the maps so far.
     pub(crate) fn settled(self, classes: Classes, groups: Catalog<Group>) -> Config
-        ensures { result ≡ record self.config { classes = classes; groups = groups; maps = self.maps } }
+        ensures { result ≡ record self.config {
+          classes = classes;
+          groups = groups;
+          maps = self.maps;
+        } }
     {
         let State {
             config,

@@ -21,12 +21,14 @@ module _ {V : Type 0} where
   Makes (Err stops.FilesFault) meant = ⊥
   Makes (Err stops.NoMemory) meant = Unit {0}
 
+-- what a refused expansion is as a line's fault
 abbrev pub stop_of_expansion : ExpandFault → LineStop
 stop_of_expansion expansion.NoMemory = stops.NoMemory
 stop_of_expansion (expansion.Unclosed place) = stops.Refused BadPattern
 stop_of_expansion expansion.Deep = stops.Refused BadPattern
 stop_of_expansion expansion.Large = stops.Refused BadPattern
 
+-- what a refused cutting is as a line's fault
 abbrev pub stop_of_scan : ScanFault → LineStop
 stop_of_scan scan.NoMemory = stops.NoMemory
 stop_of_scan (scan.Unbalanced place) = stops.Refused BadPattern
@@ -34,6 +36,7 @@ stop_of_scan (scan.BadQuote place) = stops.Refused BadPattern
 stop_of_scan (scan.BadDollar place) = stops.Refused BadPattern
 stop_of_scan scan.Long = stops.Refused BadPattern
 
+-- a lexeme that opens or closes a look-up
 abbrev pub is_bracket : Lexeme → Bool
 is_bracket lexeme = is_opening lexeme || is_closing lexeme
 
@@ -43,12 +46,14 @@ module _ {Y : Type 0} where
   added ys None = None
   added ys (Some more) = Some (ys ++ more)
 
+-- the steps of lexemes, if they make some
 abbrev pub steps_in : List Lexeme → Option (List Step)
 steps_in lexemes = whole (rest_of lexemes)
 
 -- the first step of lexemes, and how many of them it takes; or they have no steps
 abbrev pub IsFirst : Result (Step × ℕ) LineStop → List Lexeme → Type 0
-IsFirst (Ok first) lexemes = (1 ≤ first.1) × (first.1 ≤ length lexemes) × (steps_in lexemes ≡ put (Some first.0) (steps_in (drop first.1 lexemes)))
+IsFirst (Ok first) lexemes = (1 ≤ first.1) × (first.1 ≤ length lexemes)
+    × (steps_in lexemes ≡ put (Some first.0) (steps_in (drop first.1 lexemes)))
 IsFirst (Err (stops.Refused fault)) lexemes = (fault ≡ BadPattern) × (steps_in lexemes ≡ None)
 IsFirst (Err stops.FilesFault) lexemes = ⊥
 IsFirst (Err stops.NoMemory) lexemes = Unit {0}

@@ -1,4 +1,5 @@
--- How the code reads lines: what its private contracts cite. What is read here is proved to be what LogicalLines says.
+-- How the code reads lines: what its private contracts cite. What is read here is proved to be what
+-- LogicalLines says.
 use Rattle.std.specs.Prelude.{ℕ, ◌+◌, List, [], ◌∷◌, ◌&&◌, ◌||◌, ◌==◌, not, if◌then◌else◌}
 use Rattle.std.specs.List.{take_while}
 use Rattle.cf_reader.specs.declared.logical.Logical.{Logical}
@@ -14,4 +15,5 @@ abbrev pub numbered_from : ℕ → List (List ℕ) → List Logical
 numbered_from number [] = []
 numbered_from number (line ∷ lines) =
     if is_indented line || is_silent line then numbered_from (number + 1) lines
-    else record { number = number; text = uncommented (joined line (take_while is_indented lines)) } ∷ numbered_from (number + 1) lines
+    else record { number = number; text = uncommented (joined line (take_while is_indented lines)) }
+    ∷ numbered_from (number + 1) lines

@@ -6,4 +6,5 @@ use Rattle.cf_reader.specs.OptionLines.{is_valid, with_setting}
 
 -- the options with a setting, or as they were where its value isn't in its grammar
 abbrev pub settled : Setting → List ℕ → Options → Options
-settled setting value options = if is_valid setting value then with_setting setting value options else options
+settled setting value options =
+    if is_valid setting value then with_setting setting value options else options

@@ -25,7 +25,8 @@ abbrev pub class_in : List ℕ → Option (List ℕ) → Option ClassLine
 class_in name None = None
 class_in name (Some text) = Some (record { class = name; words = words_of_file text })
 
--- a line is taken: the state is the one behind it where it has no fault; else there is its fault, unless memory ran out
+-- a line is taken: the state is the one behind it where it has no fault; else there is its fault,
+-- unless memory ran out
 abbrev pub Steps : Result (Unit {0}) LineStop → Option Fault → State → State → Type 0
 Steps (Ok _) fault after new = (fault ≡ None) × (new ≡ after)
 Steps (Err (stops.Refused found)) fault after new = fault ≡ Some found
@@ -43,6 +44,7 @@ Seeks (Err stops.NoMemory) fault after new = Unit {0}
 abbrev pub is_ignored : ℕ → Bool
 is_ignored letter = list_any (λ known. letter == known) (codes "VTELX")
 
+-- the fault of a line whose letter says nothing here
 abbrev pub fault_of_other : ℕ → Option Fault
 fault_of_other letter = if is_ignored letter then None else Some UnknownLine
 
@@ -55,11 +57,13 @@ fault_at number stops.NoMemory = whole.NoMemory
 -- the same, with the line's number
 abbrev pub Goes : Result (Unit {0}) CfFault → ℕ → Option Fault → State → State → Type 0
 Goes (Ok _) number fault after new = (fault ≡ None) × (new ≡ after)
-Goes (Err (whole.Refused line found)) number fault after new = (line ≡ number) × (fault ≡ Some found)
+Goes (Err (whole.Refused line found)) number fault after new =
+    (line ≡ number) × (fault ≡ Some found)
 Goes (Err whole.FilesFault) number fault after new = Unit {0}
 Goes (Err whole.NoMemory) number fault after new = Unit {0}
 
 -- the groups with one more, if there is one
-abbrev pub with_group_at : List ℕ → List (List ℕ × Group) → Option (List ℕ × Group) → List (List ℕ × Group)
+abbrev pub with_group_at : List ℕ → List (List ℕ × Group) → Option (List ℕ × Group)
+    → List (List ℕ × Group)
 with_group_at directory groups None = groups
 with_group_at directory groups (Some named) = with_group directory groups named
