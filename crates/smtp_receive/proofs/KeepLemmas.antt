@@ -29,7 +29,8 @@ use Rattle.smtp_lines.specs.Parameters.{listed}
 use Rattle.smtp_receive.specs.Finals.{text_told}
 use Rattle.smtp_receive.specs.declared.ending.End.{End as Ending}
 use Rattle.smtp_receive.specs.declared.ending.End.TheVariants.{Nothing, Refused, Whole}
-use Rattle.smtp_receive.specs.Sessions.{Holds, Keeps, Goes, BeginsMessage, Stands, takes_recipient, answer_of, IsBounded, is_data, ending_of, end_of, received_of, given_by}
+use Rattle.smtp_receive.specs.Sessions.{Holds, Keeps, Stands, answer_of, IsBounded}
+use Rattle.smtp_receive.specs.inner.Steps.{Goes, BeginsMessage, takes_recipient, is_data, ending_of, end_of, received_of, given_by}
 
 -- nothing that a session keeps is told by what came since
 pub keep_same : (s : Session) (host peer : List ℕ) (before after : List Exchange) → Keeps s host peer before

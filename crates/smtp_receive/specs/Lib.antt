@@ -4,3 +4,4 @@ pub mod Dialogue
 pub mod Sessions
 pub mod Forms
 pub mod Finals
+pub mod inner

@@ -6,8 +6,6 @@ use Rattle.mail_base.specs.declared.command.LineFault.{LineFault}
 use Rattle.mail_base.specs.declared.command.LineFault.TheVariants.{BadByte, Unknown, ArgumentNeeded, NoArgument, Syntax, PathTooLong, Parameter}
 use Rattle.smtp_lines.specs.Commands.{Order, Greet as HasGreet, Extend, From as HasFrom, To as HasTo, Begin as HasBegin, Reset, Wait, End as HasEnd, Verify, Expand, Explain}
 use Rattle.smtp_lines.specs.Reading.{order_of}
-use Rattle.smtp_receive.specs.declared.request.Request.{Request as Borrowed}
-use Rattle.smtp_receive.specs.declared.request.Request.TheVariants.{Helo, Mail, Rcpt, Data, Quit}
 
 -- what a session is asked for: HELO, MAIL, RCPT, DATA and QUIT in turn; a path is without its angles and its route
 pub data Request : Type 0 where
@@ -65,16 +63,3 @@ request_by served (Err fault) = Err (fault_by served fault)
 -- what a command line asks a session for, or the first fault that it has
 abbrev pub request_of : List ℕ → Result Request LineFault
 request_of line = request_by (is_served line) (order_of line)
-
--- what a borrowed request is
-abbrev pub as_request : Borrowed → Request
-as_request (Helo argument) = Greet argument.now
-as_request (Mail path) = From path.now
-as_request (Rcpt path) = To path.now
-as_request Data = Begin
-as_request Quit = End
-
--- the request that was read
-abbrev pub as_asked : Result Borrowed LineFault → Result Request LineFault
-as_asked (Ok request) = Ok (as_request request)
-as_asked (Err fault) = Err fault

@@ -1,5 +1,5 @@
 ghost use Rattle.std.specs.Prelude.{◌≡◌};
-ghost use Rattle.smtp_receive.specs.Sessions.{ending_of, received_of};
+ghost use Rattle.smtp_receive.specs.inner.Steps.{ending_of, received_of};
 
 use crate::received::Received;
 use crate::reply::Reply;

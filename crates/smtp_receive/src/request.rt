@@ -2,6 +2,7 @@ ghost use Rattle.std.specs.Prelude.{◌≡◌, Option, ℕ};
 ghost use Rattle.smtp_lines.specs.Commands.{as_order, as_read};
 ghost use Rattle.smtp_lines.specs.Reading.{order_of};
 ghost use Rattle.smtp_receive.specs.Requests as spec;
+ghost use Rattle.smtp_receive.specs.inner.Borrowed.{as_asked};
 
 use crate::reply::first;
 use mail_base::{Command, LineFault, Verb};
@@ -20,7 +21,7 @@ pub(crate) enum Request<'a> {
 /// What a line asks a session for, or the first fault that it has. A verb that sessions don't serve is not
 /// known, nor is a parameter of MAIL but `BODY=7BIT`, which says what holds without it.
 pub(crate) fn read_request(line: &[u8]) -> Result<Request<'_>, LineFault>
-    ensures { spec.as_asked result ≡ spec.request_of line.now }
+    ensures { as_asked result ≡ spec.request_of line.now }
 {
     match order(line) {
         Ok(command) => request_in(command),
@@ -35,7 +36,7 @@ fn order(line: &[u8]) -> Result<Command<'_>, LineFault>
 }
 
 fn request_in(command: Command<'_>) -> Result<Request<'_>, LineFault>
-    ensures { spec.as_asked result ≡ spec.request_in (as_order command.entry) }
+    ensures { as_asked result ≡ spec.request_in (as_order command.entry) }
 {
     match command {
         Command::Helo(argument) => Ok(Request::Helo(argument)),
@@ -53,7 +54,7 @@ fn request_in(command: Command<'_>) -> Result<Request<'_>, LineFault>
 }
 
 fn mail_by(path: &[u8], size: Option<u128>, eight: bool) -> Result<Request<'_>, LineFault>
-    ensures { spec.as_asked result ≡ spec.mail_by path.now size eight }
+    ensures { as_asked result ≡ spec.mail_by path.now size eight }
 {
     if size.is_some() || eight {
         return Err(LineFault::Parameter(Verb::Mail));

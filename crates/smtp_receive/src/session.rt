@@ -2,7 +2,8 @@ ghost use Rattle.std.specs.Prelude.{◌≡◌, ◌∷◌, ◌++◌, [], List, �
 ghost use Rattle.mail_base.specs.Texts.{crlf};
 ghost use Rattle.smtp_receive.specs.Dialogue.{Heard, Exchange, did_of, answer_to, bracketed, with_text, is_dropped, exchanges, mail_reply, rcpt_reply, to_reply, data_answer, path_reply, fault_reply};
 ghost use Rattle.smtp_receive.specs.Replies.{text_of, hello_text, closing_text, greeting_text, stored_text, shown_host};
-ghost use Rattle.smtp_receive.specs.Sessions.{Stands, Keeps, Goes, Holds, BeginsMessage, IsBounded, answer_of, takes_recipient, is_data, end_of, given_by};
+ghost use Rattle.smtp_receive.specs.Sessions.{Stands, Keeps, Holds, IsBounded, answer_of};
+ghost use Rattle.smtp_receive.specs.inner.Steps.{Goes, BeginsMessage, takes_recipient, is_data, end_of, given_by};
 
 use crate::ending::{End, ending, received};
 use crate::received::Did;
