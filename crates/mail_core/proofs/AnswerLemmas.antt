@@ -11,10 +11,9 @@ use Rattle.smtp_receive.specs.Dialogue.{Heard, Exchange, Answer, Says, Greets, G
 use Rattle.smtp_receive.specs.Replies.{text_of, grant_text, shown_host}
 use Rattle.smtp_receive.proofs.KeepLemmas.{dialogue_more}
 use Rattle.mail_core.specs.declared.serving.Site.{Site}
-use Rattle.mail_core.specs.Guests.{Guest, grant_in, grants_of, with_line}
+use Rattle.mail_core.specs.Guests.{Guest, grant_in, grants_of, with_line, line_in, lines_heard}
 use Rattle.mail_core.specs.Machine.{Did, says, closes, replies, is_answered}
 use Rattle.spool_store.specs.Tables.{Table}
-use Rattle.mail_core.specs.Standing.{line_in, lines_heard}
 
 -- ---- what is told, and the machine's reply
 

@@ -23,13 +23,15 @@ use Rattle.mail_core.specs.declared.serving.Act.TheVariants.{Went, Ended}
 use Rattle.mail_core.specs.declared.serving.CoreStop.{CoreStop}
 use Rattle.mail_core.specs.declared.serving.Site.{Site}
 use Rattle.mail_core.specs.Effects.{Effect, Takes, Ticks, Sends, HangsUp, heard_of, readings_of, commands_of}
-use Rattle.mail_core.specs.Events.{IsTaken, IsTakenUp, IsOpened, Steps, Turns}
+use Rattle.mail_core.specs.Events.{IsTaken, Turns}
+use Rattle.mail_core.specs.inner.Handling.{IsTakenUp, IsOpened, Steps, is_hosted}
 use Rattle.mail_core.specs.Causes.{EndsSo, HasCause, ending_by, ending_of, is_well}
-use Rattle.mail_core.specs.Going.{Feeds, way_after, is_onward}
+use Rattle.mail_core.specs.inner.Going.{Feeds, way_after, is_onward}
 use Rattle.mail_core.specs.Guests.{Guest, newcomer, with_bytes, guest_of, is_here, without, with_guest}
 use Rattle.mail_core.specs.Machine.{Ending, Stopped, Opening, Replied, Dropped, Choices, Way, GoesOn, Leaves, Over, By, Did, all_answered, State, Step, still, most_guests, turned_away, welcomed, opened, brought, pieced, handled, Turn, at_moment, moment_by, stepped, taken}
 use Rattle.mail_core.specs.Seen.{Seen, seen, Ran}
-use Rattle.mail_core.specs.Standing.{dirs_of, Stores, IsAlone, Hosts, Stands, is_hosted}
+use Rattle.mail_core.specs.Standing.{Stores, IsAlone, Hosts, Stands}
+use Rattle.mail_core.specs.Messages.{dirs_of}
 use Rattle.mail_core.proofs.GoingLemmas.{cause_since, way_onward}
 use Rattle.mail_core.proofs.LineLemmas.{onward_alive}
 use Rattle.mail_core.proofs.RanLemmas.{ran_join, ran_quiet, ran_none, ran_floor}

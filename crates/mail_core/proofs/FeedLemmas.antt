@@ -30,11 +30,13 @@ use Rattle.mail_core.specs.declared.intake.Intake.{Intake}
 use Rattle.mail_core.specs.declared.serving.Site.{Site}
 use Rattle.mail_core.specs.Effects.{HangsUp, heard_of}
 use Rattle.mail_core.specs.Causes.{HasCause, is_well}
-use Rattle.mail_core.specs.Going.{Does, Hears, AnswersLine, AnswersLines, Feeds, granted_by, is_granted, is_onward, reached, way_after}
-use Rattle.mail_core.specs.Guests.{Guest, bytes_left, has_bytes_left, grants_of, lines_of, next_line, with_bytes}
+use Rattle.mail_core.specs.inner.Going.{Does, Hears, AnswersLine, AnswersLines, Feeds, granted_by, is_granted, is_onward, reached, way_after}
+use Rattle.mail_core.specs.Guests.{Guest, bytes_left, has_bytes_left, grants_of, lines_of, next_line, with_bytes, line_in, lines_heard}
 use Rattle.mail_core.specs.Machine.{Choice, Disconnects, Way, GoesOn, Leaves, Over, Cut, Did, answered, by_choice, does, fresh_start, goes_on, is_over, settled, settled_by}
 use Rattle.mail_core.specs.Seen.{Seen, seen, Ran}
-use Rattle.mail_core.specs.Standing.{Serves, Talks, Follows, IsReady, Keeps, dirs_of, line_in, lines_heard}
+use Rattle.mail_core.specs.Standing.{Serves, Talks, Follows, Keeps}
+use Rattle.mail_core.specs.Messages.{dirs_of}
+use Rattle.mail_core.specs.inner.Handling.{IsReady}
 use Rattle.mail_core.proofs.GoingLemmas.{does_join, does_drops, does_none, way_onward}
 
 -- ---- a front of lines of which only the last asks
@@ -65,7 +67,7 @@ at_front : (first : List Line) (line : Line) (rest : List Line) → slice_get (f
 at_front [] line rest = refl
 at_front (l ∷ first) line rest = at_front first line rest
 
-how_many_heard : (heard : List Heard) → length (map line_in heard) ≡ length heard
+pub how_many_heard : (heard : List Heard) → length (map line_in heard) ≡ length heard
 how_many_heard [] = refl
 how_many_heard (h ∷ heard) = ap suc (how_many_heard heard)
 

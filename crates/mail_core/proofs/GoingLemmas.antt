@@ -22,12 +22,10 @@ use Rattle.mail_core.specs.declared.serving.CoreStop.TheVariants as stops
 use Rattle.mail_core.specs.declared.serving.Site.{Site}
 use Rattle.mail_core.specs.Effects.{Commits, Sends, HangsUp, heard_of, readings_of, commands_of, speech}
 use Rattle.mail_core.specs.Causes.{HasCause, is_well}
-use Rattle.mail_core.specs.Going.{Does, heard_chosen, begins_data, stays_open, way_after, is_onward}
+use Rattle.mail_core.specs.inner.Going.{Does, heard_chosen, begins_data, stays_open, way_after, is_onward}
 use Rattle.mail_core.specs.Machine.{Ending, Stopped, SpoolFault, IdsSpent, GoesOn, Leaves, Over, Finish, By, Did, way_of, does, says, closes, is_over, commits, accepts, fails, heard_line, heard_where, Choice, Normal, OutOfMemory, Disconnects, SpoolFails}
-use Rattle.mail_core.specs.Messages.{accept_of, is_spent}
-use Rattle.spool_store.specs.Tables.{Table}
+use Rattle.mail_core.specs.Messages.{accept_of, is_spent, dirs_of}
 use Rattle.mail_core.specs.Seen.{Seen, seen, table_after, Ran}
-use Rattle.mail_core.specs.Standing.{dirs_of}
 use Rattle.mail_core.proofs.RanLemmas.{table_more, ran_join, ran_none, ran_floor, ran_done, ran_failed}
 
 -- ---- speech asks nothing of table and clock

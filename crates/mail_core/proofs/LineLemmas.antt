@@ -22,12 +22,13 @@ use Rattle.mail_core.specs.declared.serving.CoreStop.{CoreStop}
 use Rattle.mail_core.specs.declared.intake.Intake.{Intake}
 use Rattle.mail_core.specs.declared.serving.Site.{Site}
 use Rattle.mail_core.specs.Effects.{Sends, HangsUp, heard_of, speech}
-use Rattle.mail_core.specs.Going.{heard_chosen, id_chosen, way_after, Does, Hears, AnswersLine, AnswersMessage, IsAnswered, message_by, is_onward, is_granted, is_short}
-use Rattle.mail_core.specs.Guests.{grants_of, has_bytes_left, is_passed, with_line}
+use Rattle.mail_core.specs.inner.Going.{heard_chosen, id_chosen, way_after, Does, Hears, AnswersLine, AnswersMessage, IsAnswered, message_by, is_onward, is_granted, is_short}
+use Rattle.mail_core.specs.Guests.{grants_of, has_bytes_left, is_passed, with_line, lines_heard}
 use Rattle.mail_core.specs.Machine.{Choice, Normal, OutOfMemory, Disconnects, SpoolFails, GoesOn, Cut, Did, is_over, says, closes, fails, replies, by_choice, heard_line, heard_where, id_by, is_answered, accepts, commits, By, IdsSpent, SpoolFault, fresh_start}
 use Rattle.mail_core.specs.Messages.{is_spent}
 use Rattle.mail_core.specs.Seen.{Seen, seen}
-use Rattle.mail_core.specs.Standing.{Serves, Talks, IsReady, lines_heard}
+use Rattle.mail_core.specs.Standing.{Serves, Talks}
+use Rattle.mail_core.specs.inner.Handling.{IsReady}
 use Rattle.mail_core.proofs.AnswerLemmas.{IsReply, IsSilent, answer_kept, lines_more, grants_more}
 use Rattle.mail_core.proofs.GoingLemmas.{does_chosen, chosen_table, IsSpoken, does_says, does_closes, does_none, does_heard}
 

@@ -23,11 +23,11 @@ use Rattle.mail_core.specs.declared.serving.CoreStop.TheVariants as stops
 use Rattle.mail_core.specs.declared.intake.Intake.{Intake}
 use Rattle.mail_core.specs.declared.serving.Site.{Site}
 use Rattle.mail_core.specs.Effects.{heard_of, speech}
-use Rattle.mail_core.specs.Going.{Does, AnswersMessage, IsReset, is_onward, is_granted}
+use Rattle.mail_core.specs.inner.Going.{Does, AnswersMessage, IsReset, is_onward, is_granted}
 use Rattle.mail_core.specs.Machine.{IdsSpent, Normal, OutOfMemory, SpoolFails, GoesOn, By, Did, says, is_over, commits, accepts}
-use Rattle.mail_core.specs.Messages.{accept_of, draft_of, control_of, is_spent, last_id}
+use Rattle.mail_core.specs.Messages.{accept_of, draft_of, control_of, is_spent, last_id, dirs_of}
 use Rattle.mail_core.specs.Seen.{seen}
-use Rattle.mail_core.specs.Standing.{dirs_of, Stores, Serves}
+use Rattle.mail_core.specs.Standing.{Stores, Serves}
 use Rattle.mail_core.proofs.GoingLemmas.{IsSpoken, does_says, does_spent, does_failed, does_accepts, accepts_guest, fails_guest}
 
 -- ---- ids

@@ -41,9 +41,11 @@ use Rattle.mail_core.specs.Effects.{Effect, Takes, Ticks, Commits, Sends, HangsU
 use Rattle.mail_core.specs.Causes.{EndsSo, is_well}
 use Rattle.mail_core.specs.Events.{Turns}
 use Rattle.mail_core.specs.Machine.{Step, Turn, beginning, stepped}
-use Rattle.mail_core.specs.Runs.{AreAcked, HasEntry, Headline, IsAcked, IsEnded, IsKept, IsLeft, IsUnderWay, run_over}
+use Rattle.mail_core.specs.Runs.{AreAcked, HasEntry, Headline, IsAcked, IsEnded, IsKept, IsLeft, run_over}
+use Rattle.mail_core.specs.inner.UnderWay.{IsUnderWay}
 use Rattle.mail_core.specs.Seen.{IsPart, LacksLast, Leaves as Left, Ran, Seen, seen, table_after}
-use Rattle.mail_core.specs.Standing.{Stands, dirs_of}
+use Rattle.mail_core.specs.Standing.{Stands}
+use Rattle.mail_core.specs.Messages.{dirs_of}
 use Rattle.mail_core.proofs.GoingLemmas.{cause_since}
 use Rattle.mail_core.proofs.RanLemmas.{ran_join, ran_quiet, table_more}
 use Rattle.mail_core.proofs.MessageLemmas.{one_dir}

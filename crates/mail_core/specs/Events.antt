@@ -1,5 +1,5 @@
 -- What an event comes to (own).
-use Rattle.std.specs.Prelude.{◌≡◌, ℕ, ◌+◌, ◌≤◌, List, [], ◌∷◌, take, Option, None, Some, IfSome, Result}
+use Rattle.std.specs.Prelude.{◌≡◌, ℕ, ◌+◌, ◌≤◌, List, [], ◌∷◌, take, None, Some, IfSome, Result}
 use Rattle.mail_base.specs.Histories.{Gains}
 use Rattle.mail_edge.specs.Seen.{ClockSeen}
 use Rattle.link_edge.specs.Heard.{Heard, IsSoundAt}
@@ -13,13 +13,11 @@ use Rattle.mail_core.specs.declared.serving.Core.{Core}
 use Rattle.mail_core.specs.declared.serving.Act.{Act}
 use Rattle.mail_core.specs.declared.serving.CoreStop.{CoreStop}
 use Rattle.mail_core.specs.declared.serving.Site.{Site}
-use Rattle.mail_core.specs.declared.caller.Caller.{Caller}
-use Rattle.mail_core.specs.Effects.{heard_of}
-use Rattle.mail_core.specs.Guests.{Guest, guest_of}
 use Rattle.mail_core.specs.Causes.{EndsSo, ending_of, is_well}
-use Rattle.mail_core.specs.Machine.{Opening, Choices, Ending, State, Step, stepped, handled, opened}
+use Rattle.mail_core.specs.Machine.{Choices, Ending, State, Step, stepped}
 use Rattle.mail_core.specs.Seen.{Seen, Ran}
-use Rattle.mail_core.specs.Standing.{dirs_of, Keeps, Stands}
+use Rattle.mail_core.specs.Standing.{Stands}
+use Rattle.mail_core.specs.Messages.{dirs_of}
 
 -- the event of a turn, with its bytes
 abbrev pub event_of : Turn → List ℕ → Event
@@ -55,29 +53,3 @@ IsHeardAt floor (Piece session count) = IsSoundAt floor session
 IsHeardAt floor (Closed session) = Unit {0}
 IsHeardAt floor Idle = Unit {0}
 IsHeardAt floor Stop = Unit {0}
-
--- the session was there, and the core stands for the state without it
-pub record IsTakenOut (site : Site) (m : State) (session : ℕ) (caller : Caller) (core : Core) : Type 0 where
-  pub guest : Guest
-  pub alone : m.guests ≡ guest ∷ []
-  pub is : guest_of session m.guests ≡ Some guest
-  pub keeps : Keeps site caller guest
-  pub stands : Stands site core (record m { guests = [] })
-
--- the same of what is done beside the turn itself
-pub record Steps (site : Site) (m : State) (event : Event) (a b : Seen) (core : Core) (went : Result Act CoreStop) : Type 0 where
-  pub choices : Choices event
-  pub ran : Ran (dirs_of site) m.table a b (handled site m event choices).effects (is_well went)
-  pub stands : ending_of went ≡ None → Stands site core (handled site m event choices).state
-  pub ended : (ending : Ending) → ending_of went ≡ Some ending → EndsSo ending event (handled site m event choices).state a b
-
--- what is done at an opening, by some choice
-pub record IsOpened (site : Site) (m : State) (session : ℕ) (peer : List ℕ) (before now : Heard) (core : Core) : Type 0 where
-  pub choice : Opening
-  pub told : Gains before.told now.told (heard_of (opened site m session peer choice).effects)
-  pub stands : Stands site core (opened site m session peer choice).state
-
--- the session of that number was taken out, if it is there
-abbrev pub IsTakenUp : Site → State → ℕ → Option Caller → Core → Type 0
-IsTakenUp site m session None core = (guest_of session m.guests ≡ None) × Stands site core m
-IsTakenUp site m session (Some caller) core = IsTakenOut site m session caller core

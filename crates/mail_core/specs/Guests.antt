@@ -17,6 +17,14 @@ pub record Guest : Type 0 where
 abbrev pub newcomer : ℕ → List ℕ → Guest
 newcomer number peer = record { number = number; peer = peer; received = []; heard = [] }
 
+-- the line of an input
+abbrev pub line_in : Heard → Line
+line_in heard = heard.line
+
+-- the lines of a session that were answered
+abbrev pub lines_heard : Guest → List Line
+lines_heard g = map line_in g.heard
+
 -- whether a line that asks for a message got the 354
 abbrev pub grant_in : Exchange → List Bool
 grant_in e = if asks e.line then is_grant e.answer ∷ [] else []

@@ -5,7 +5,7 @@ pub mod Machine
 pub mod Seen
 pub mod Causes
 pub mod Standing
-pub mod Going
 pub mod Events
 pub mod Runs
 pub mod Told
+pub mod inner

@@ -1,5 +1,5 @@
 -- The entry that a received message becomes (Sendmail Installation and Operation Guide, "The queue"; until recipients are routed each message has one, primary, in the group mqueue).
-use Rattle.std.specs.Prelude.{ℕ, ◌+◌, pos, [], ◌∷◌, None, Bool, true, false, codes, nat_lt}
+use Rattle.std.specs.Prelude.{ℕ, ◌+◌, pos, List, [], ◌∷◌, None, Bool, true, false, codes, nat_lt}
 use Rattle.mail_base.specs.declared.control.Control.{Control}
 use Rattle.mail_base.specs.declared.control.Draft.{Draft}
 use Rattle.mail_base.specs.declared.control.Row.{Row}
@@ -10,6 +10,10 @@ use Rattle.smtp_receive.specs.declared.received.Received.{Received}
 use Rattle.spool_store.specs.Tables.{Table, Command}
 use Rattle.mail_core.specs.declared.serving.Site.{Site}
 use Rattle.spool_store.specs.Tables.Command.{Accept}
+
+-- the directories of a site: it has one
+abbrev pub dirs_of : Site → List (List ℕ)
+dirs_of site = site.dir ∷ []
 
 -- what each recipient adds to a message's priority
 unfoldable pub recipient_factor : ℕ

@@ -1,5 +1,5 @@
 -- A whole run: the machine's turns are all that happened, and what was acknowledged is in the queue (own).
-use Rattle.std.specs.Prelude.{◌≡◌, ℕ, ◌+◌, ◌≤◌, List, [], ◌∷◌, ◌++◌, length, Option, Some, Result, Bool, true, Contains}
+use Rattle.std.specs.Prelude.{◌≡◌, ℕ, ◌+◌, ◌≤◌, List, [], ◌∷◌, ◌++◌, length, Option, Some, Result, Bool, Contains}
 use Rattle.mail_base.specs.Histories.{Gains}
 use Rattle.mail_base.specs.Limits.{IsId}
 use Rattle.mail_base.specs.Names.{name_of}
@@ -10,27 +10,18 @@ use Rattle.smtp_receive.specs.Replies.{stored_text}
 use Rattle.spool_disk.specs.Disk.{FileMap, bytes_at}
 use Rattle.spool_store.specs.Standing.{IsClean}
 use Rattle.spool_store.specs.Tables.{Table, Stored}
-use Rattle.mail_core.specs.declared.serving.Core.{Core}
 use Rattle.mail_core.specs.Effects.{Effect, Takes, Ticks, Commits, Sends, HangsUp, heard_of, readings_of}
 use Rattle.mail_core.specs.declared.serving.Site.{Site}
 use Rattle.mail_core.specs.declared.serving.Act.{Act}
 use Rattle.mail_core.specs.declared.serving.CoreStop.{CoreStop}
 use Rattle.mail_core.specs.Causes.{EndsSo, ending_of, is_well}
 use Rattle.mail_core.specs.Machine.{Ending, Turn, Step, run, beginning}
-use Rattle.mail_core.specs.Seen.{Seen, Ran, IsPart, Leaves, table_after}
-use Rattle.mail_core.specs.Standing.{dirs_of, Stands}
+use Rattle.mail_core.specs.Seen.{Seen, IsPart, Leaves, table_after}
+use Rattle.mail_core.specs.Messages.{dirs_of}
 
 -- a run of these turns over a table
 abbrev pub run_over : Site → Table → List Turn → Step
 run_over site table turns = run site (beginning table) turns
-
--- a run that may go on, after so many turns
-pub record IsUnderWay (site : Site) (table : Table) (core : Core) (count : ℕ) (a b : Seen) : Type 0 where
-  pub turns : List Turn
-  pub events : length turns ≡ count
-  pub ran : Ran (dirs_of site) table a b (run_over site table turns).effects true
-  pub readings : b.clock.readings ≡ a.clock.readings + count
-  pub stands : Stands site core (run_over site table turns).state
 
 -- the entry of that id is in the table
 pub record HasEntry (table : Table) (id : ℕ) : Type 0 where

@@ -1,8 +1,6 @@
 -- What the core keeps, and what of the machine it stands for.
-use Rattle.std.specs.Prelude.{◌≡◌, ◌≢◌, ◌<◌, ◌^◌, ◌==◌, ℕ, List, [], ◌∷◌, ◌++◌, map, All, Option, Some, None, Bool, false}
-use Rattle.smtp_lines.specs.declared.line.Line.{Line}
+use Rattle.std.specs.Prelude.{◌≡◌, ◌≢◌, ◌<◌, ◌^◌, List, [], ◌∷◌, ◌++◌, All, Option, Some, None, false}
 use Rattle.smtp_lines.specs.Reader.{Reader, Stream, awaited, Stands as Reads}
-use Rattle.smtp_receive.specs.Dialogue.{Heard}
 use Rattle.smtp_receive.specs.Sessions.{Stands as Speaks}
 use Rattle.smtp_receive.specs.Replies.{out_of_memory_text, too_many_sessions_text}
 use Rattle.spool_store.specs.declared.store.Store.{Store}
@@ -10,13 +8,10 @@ use Rattle.spool_store.specs.Tables.{Table, IsSound}
 use Rattle.mail_core.specs.declared.caller.Caller.{Caller}
 use Rattle.mail_core.specs.declared.intake.Intake.{Intake}
 use Rattle.mail_core.specs.declared.serving.Core.{Core}
-use Rattle.mail_core.specs.Guests.{Guest, grants_of}
+use Rattle.mail_core.specs.Guests.{Guest, grants_of, lines_heard}
+use Rattle.mail_core.specs.Messages.{dirs_of}
 use Rattle.mail_core.specs.declared.serving.Site.{Site}
 use Rattle.mail_core.specs.Machine.{State}
-
--- the directories of a site: it has one
-abbrev pub dirs_of : Site → List (List ℕ)
-dirs_of site = site.dir ∷ []
 
 -- a store stands for a table
 pub record Stores (site : Site) (store : Store) (table : Table) : Type 0 where
@@ -32,25 +27,11 @@ pub record Serves (site : Site) (intake : Intake) (table : Table) : Type 0 where
   pub short : intake.short ≡ out_of_memory_text
   pub range : intake.moment < 2 ^ 64
 
-abbrev pub line_in : Heard → Line
-line_in heard = heard.line
-
-abbrev pub lines_heard : Guest → List Line
-lines_heard g = map line_in g.heard
-
 -- a caller's session stands for the lines that were answered
 pub record Talks (site : Site) (caller : Caller) (g : Guest) : Type 0 where
   pub number : caller.number ≡ g.number
   pub session : Speaks caller.session site.host g.peer g.heard
   pub peer : All (λ b. b ≢ 10) g.peer
-
--- an intake that takes messages in, and a caller whose session it answers
-pub record IsReady (intake : Intake) (caller : Caller) : Type 0 where
-  pub site : Site
-  pub table : Table
-  pub guest : Guest
-  pub serves : Serves site intake table
-  pub talks : Talks site caller guest
 
 -- a reader stands for the bytes that were received; all lines that it gave were answered
 pub record Follows (reader : Reader) (g : Guest) : Type 0 where
@@ -65,11 +46,6 @@ pub record Keeps (site : Site) (caller : Caller) (g : Guest) : Type 0 where
   pub talks : Talks site caller g
   pub follows : Follows caller.lines g
   pub left : caller.lines.left ≡ []
-
--- whether the caller has that number
-abbrev pub is_hosted : ℕ → Option Caller → Bool
-is_hosted session None = false
-is_hosted session (Some caller) = caller.number == session
 
 -- the one session that is open
 pub record IsAlone (site : Site) (caller : Caller) (guests : List Guest) : Type 0 where

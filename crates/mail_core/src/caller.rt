@@ -1,5 +1,5 @@
 ghost use Rattle.std.specs.Prelude.{◌≡◌, IsTrue};
-ghost use Rattle.mail_core.specs.Going.{begins_data};
+ghost use Rattle.mail_core.specs.inner.Going.{begins_data};
 ghost use Rattle.smtp_lines.specs.Runs.{granted_by};
 
 use crate::next::Next;

@@ -14,14 +14,15 @@ ghost use Rattle.smtp_receive.specs.Sessions.{Stands as Speaks};
 ghost use Rattle.spool_store.specs.Tables.{Table};
 ghost use Rattle.mail_core.specs.declared.serving.Site.{Site};
 ghost use Rattle.mail_core.specs.Effects.{heard_of, speech, Sends, HangsUp};
-ghost use Rattle.mail_core.specs.Going.{AnswersLine, AnswersLines, AnswersMessage, Feeds, is_onward, stays_open};
+ghost use Rattle.mail_core.specs.inner.Going.{AnswersLine, AnswersLines, AnswersMessage, Feeds, is_onward, stays_open};
 ghost use Rattle.mail_core.specs.Causes.{is_well};
-ghost use Rattle.mail_core.specs.Guests.{Guest, with_bytes, lines_of};
+ghost use Rattle.mail_core.specs.Guests.{Guest, with_bytes, lines_of, lines_heard};
 ghost use Rattle.mail_core.specs.Machine as machine;
 ghost use Rattle.mail_core.specs.Machine.{moment_by};
 ghost use Rattle.mail_core.specs.Messages as entry;
 ghost use Rattle.mail_core.specs.Seen.{seen};
-ghost use Rattle.mail_core.specs.Standing.{Serves, Talks, Keeps, IsReady, lines_heard};
+ghost use Rattle.mail_core.specs.Standing.{Serves, Talks, Keeps};
+ghost use Rattle.mail_core.specs.inner.Handling.{IsReady};
 
 use crate::caller::Caller;
 use crate::message::control_of;

@@ -1,5 +1,5 @@
 ghost use Rattle.std.specs.Prelude.{◌≡◌};
-ghost use Rattle.mail_core.specs.Going as spec;
+ghost use Rattle.mail_core.specs.inner.Going as spec;
 
 /// How a session goes on after what was done for it.
 #[derive(Clone, Copy, Debug, PartialEq, Eq)]

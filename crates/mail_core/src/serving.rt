@@ -6,13 +6,14 @@ ghost use Rattle.link_edge.specs.Turns.{Fits};
 ghost use Rattle.link_edge.specs.declared.event.Event.TheVariants.{Brings};
 ghost use Rattle.smtp_receive.specs.Replies.{greeting_text, shown_host};
 ghost use Rattle.mail_core.specs.Effects.{Sends, HangsUp, heard_of};
-ghost use Rattle.mail_core.specs.Events.{IsTaken, IsTakenUp, IsHeardAt, IsOpened, Steps, Turns, event_of};
+ghost use Rattle.mail_core.specs.Events.{IsTaken, IsHeardAt, Turns, event_of};
+ghost use Rattle.mail_core.specs.inner.Handling.{IsTakenUp, IsOpened, Steps, IsReady, is_hosted};
 ghost use Rattle.mail_core.specs.Causes.{is_well};
 ghost use Rattle.mail_core.specs.Guests.{newcomer};
 ghost use Rattle.mail_core.specs.declared.serving.CoreStop.TheVariants.{SpoolFault as SpoolStop};
 ghost use Rattle.mail_core.specs.Machine.{State, beginning};
 ghost use Rattle.mail_core.specs.Seen.{seen};
-ghost use Rattle.mail_core.specs.Standing.{IsReady, IsStanding, Keeps, Stands, Stores, is_hosted};
+ghost use Rattle.mail_core.specs.Standing.{IsStanding, Keeps, Stands, Stores};
 ghost use Rattle.spool_store.specs.Tables.{Table};
 
 use crate::caller::Caller;

@@ -33,9 +33,11 @@ use Rattle.mail_core.specs.declared.serving.Site.{Site}
 use Rattle.mail_core.specs.Causes.{is_well}
 use Rattle.mail_core.specs.Events.{IsTaken, IsHeardAt, Turns, event_of}
 use Rattle.mail_core.specs.Machine.{beginning}
-use Rattle.mail_core.specs.Runs.{IsUnderWay, run_over}
+use Rattle.mail_core.specs.Runs.{run_over}
+use Rattle.mail_core.specs.inner.UnderWay.{IsUnderWay}
 use Rattle.mail_core.specs.Seen.{Seen, seen}
-use Rattle.mail_core.specs.Standing.{Stands, Stores, IsStanding, dirs_of}
+use Rattle.mail_core.specs.Standing.{Stands, Stores, IsStanding}
+use Rattle.mail_core.specs.Messages.{dirs_of}
 use Rattle.sendmail_run.specs.declared.session_mode.SessionEnd.{SessionEnd}
 use Rattle.sendmail_run.specs.declared.session_mode.SessionEnd.TheVariants as ends
 use Rattle.sendmail_run.specs.declared.outcome.Outcome.TheVariants as outcomes

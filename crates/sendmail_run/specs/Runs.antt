@@ -6,7 +6,7 @@ use Rattle.mail_edge.specs.Seen.{FileMap}
 use Rattle.map_tables.specs.Answers.{Loaded}
 use Rattle.spool_disk.specs.Disk.{FileMap as SpoolMap}
 use Rattle.spool_store.specs.Standing.{AreEmpty}
-use Rattle.mail_core.specs.Standing.{dirs_of}
+use Rattle.mail_core.specs.Messages.{dirs_of}
 use Rattle.sendmail_run.specs.declared.address_test.TestEnd.{TestEnd}
 use Rattle.sendmail_run.specs.declared.command_line.Job.{Job}
 use Rattle.sendmail_run.specs.declared.command_line.Job.TheVariants.{Test, Session}

@@ -18,7 +18,7 @@ use Rattle.mail_core.specs.declared.serving.CoreStop.{CoreStop}
 use Rattle.mail_core.specs.Machine.{Turn}
 use Rattle.mail_core.specs.Runs.{Headline, IsEnded, run_over}
 use Rattle.mail_core.specs.Seen.{Seen}
-use Rattle.mail_core.specs.Standing.{dirs_of}
+use Rattle.mail_core.specs.Messages.{dirs_of}
 use Rattle.sendmail_run.specs.declared.session_mode.SessionEnd.{SessionEnd}
 use Rattle.sendmail_run.specs.declared.session_mode.SessionEnd.TheVariants as ends
 

@@ -1,7 +1,7 @@
 use Rattle.std.proofs.Common.{ap, ◌∙◌}
 use Rattle.spool_store.specs.declared.store.Store.{Store}
 use Rattle.spool_store.proofs.TableLemmas.{start_sound}
-use Rattle.mail_core.specs.Standing.{dirs_of}
+use Rattle.mail_core.specs.Messages.{dirs_of}
 use Rattle.sendmail_run.proofs.ServingLemmas.{refused_by, rises_by}
 use Rattle.sendmail_run.proofs.session_mode.opened.Goals as goal
 

@@ -1,6 +1,6 @@
 use Rattle.std.proofs.Common.{◌≡◌}
 use Rattle.spool_store.specs.Tables.{start}
-use Rattle.mail_core.specs.Runs.{IsUnderWay}
+use Rattle.mail_core.specs.inner.UnderWay.{IsUnderWay}
 use Rattle.mail_core.specs.Seen.{seen}
 use Rattle.sendmail_run.specs.Serving.{BeganEmpty, IsBegun}
 use Rattle.sendmail_run.proofs.session_mode.serve.Given as goal

@@ -6,7 +6,7 @@ use Rattle.smtp_receive.proofs.FormLemmas.{given_formed}
 use Rattle.smtp_receive.proofs.ToldLemmas.{gift_at_end}
 use Rattle.mail_core.specs.declared.next.Next.TheVariants.{Continue, BeginData}
 use Rattle.mail_core.specs.Effects.{Sends, HangsUp, heard_of}
-use Rattle.mail_core.specs.Going.{AnswersLine}
+use Rattle.mail_core.specs.inner.Going.{AnswersLine}
 use Rattle.mail_core.specs.Guests.{is_passed}
 use Rattle.mail_core.specs.Seen.{seen}
 use Rattle.mail_base.specs.Histories.{Gains}

@@ -1,6 +1,6 @@
 use Rattle.std.proofs.Common.{◌≡◌, Ok, Err, true, false, refl, sym, ◌∙◌, subst}
 use Rattle.std.proofs.lemmas.Result.{err_from_is_err_and}
-use Rattle.mail_core.specs.Going.{stays_open}
+use Rattle.mail_core.specs.inner.Going.{stays_open}
 use Rattle.link_edge.specs.Heard.{IsSoundAt}
 use Rattle.mail_core.proofs.FeedLemmas.{answers_none, answers_next, answers_cut, answers_all}
 use Rattle.mail_core.proofs.intake.Intake.answer_all.Goals as goal

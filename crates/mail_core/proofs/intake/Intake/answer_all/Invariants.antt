@@ -3,11 +3,12 @@ use Rattle.mail_edge.specs.Seen.{ClockSeen}
 use Rattle.link_edge.specs.Heard.{IsSoundAt}
 use Rattle.smtp_lines.specs.Reader.{OnlyLastAsks, StandsFirst}
 use Rattle.mail_core.specs.declared.serving.Site.{Site}
-use Rattle.mail_core.specs.Going.{AnswersLines, stays_open}
-use Rattle.mail_core.specs.Guests.{lines_of}
+use Rattle.mail_core.specs.inner.Going.{AnswersLines, stays_open}
+use Rattle.mail_core.specs.Guests.{lines_of, lines_heard}
 use Rattle.mail_core.specs.Machine.{Did, GoesOn}
 use Rattle.mail_core.specs.Seen.{seen}
-use Rattle.mail_core.specs.Standing.{IsReady, Serves, Talks, lines_heard}
+use Rattle.mail_core.specs.Standing.{Serves, Talks}
+use Rattle.mail_core.specs.inner.Handling.{IsReady}
 use Rattle.mail_core.proofs.intake.Intake.answer_all.Given as goal
 
 -- the lines so far were answered, and the session goes on

@@ -3,7 +3,7 @@ use Rattle.std.proofs.lemmas.Bool.{false≢true}
 use Rattle.std.proofs.lemmas.Result.{err_from_is_err_and}
 use Rattle.smtp_lines.specs.Reader.{Reader, asked_after}
 use Rattle.smtp_lines.proofs.RunLemmas.{asked_after-turns}
-use Rattle.mail_core.specs.Going.{is_granted, stays_open}
+use Rattle.mail_core.specs.inner.Going.{is_granted, stays_open}
 use Rattle.link_edge.specs.Heard.{IsSoundAt}
 use Rattle.mail_core.proofs.FeedLemmas.{pends_start, pends_more, batch_of, feeds_none, feeds_cut, feeds_lost, feeds_all, ready_lines, turned_left, turned_lines}
 use Rattle.mail_core.proofs.intake.Intake.feed.Goals as goal

@@ -6,7 +6,8 @@ use Rattle.spool_store.specs.Tables.{Table}
 use Rattle.mail_core.specs.declared.serving.Site.{Site}
 use Rattle.mail_core.specs.Guests.{Guest}
 use Rattle.mail_core.specs.Seen.{seen}
-use Rattle.mail_core.specs.Standing.{IsReady, Keeps, Serves}
+use Rattle.mail_core.specs.Standing.{Keeps, Serves}
+use Rattle.mail_core.specs.inner.Handling.{IsReady}
 use Rattle.mail_core.proofs.FeedLemmas.{Pends}
 use Rattle.mail_core.proofs.intake.Intake.feed.Given as goal
 

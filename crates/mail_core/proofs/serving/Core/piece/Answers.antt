@@ -1,6 +1,6 @@
 use Rattle.std.proofs.Common.{refl, sym, ◌∙◌, Ok, Err, subst}
 use Rattle.std.proofs.lemmas.Result.{err_from_is_err_and}
-use Rattle.mail_core.specs.Going.{Feeds}
+use Rattle.mail_core.specs.inner.Going.{Feeds}
 use Rattle.mail_core.specs.Seen.{seen}
 use Rattle.mail_core.proofs.CoreLemmas.{piece_dropped, piece_goes, piece_leaves}
 use Rattle.mail_core.proofs.serving.Core.piece.Goals as goal

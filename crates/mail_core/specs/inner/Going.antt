@@ -1,4 +1,4 @@
--- What is done for lines and pieces, by some choices of the machine.
+-- What the code does for lines and pieces, as some choices of the machine: the contracts of its steps. It need not be believed: only private contracts cite it.
 use Rattle.std.specs.Prelude.{Result, Ok, Err, is_ok, ◌≡◌, ℕ, List, [], ◌∷◌, ◌++◌, fold, Bool, true, false, not, Option, Some, None, ◌≢◌, if◌then◌else◌}
 use Rattle.link_edge.specs.declared.event.Event.{Event}
 use Rattle.smtp_lines.specs.declared.line.Line.{Line}
@@ -15,13 +15,13 @@ use Rattle.mail_core.specs.declared.serving.CoreStop.{CoreStop}
 use Rattle.mail_core.specs.declared.caller.Caller.{Caller}
 use Rattle.mail_core.specs.declared.intake.Intake.{Intake}
 use Rattle.mail_core.specs.Effects.{Effect}
-use Rattle.mail_core.specs.Guests.{Guest, grants_of, has_bytes_left, with_bytes}
+use Rattle.mail_core.specs.Guests.{Guest, grants_of, has_bytes_left, with_bytes, lines_heard}
 use Rattle.mail_core.specs.declared.serving.Site.{Site}
-use Rattle.mail_core.specs.Messages.{is_spent}
+use Rattle.mail_core.specs.Messages.{is_spent, dirs_of}
 use Rattle.mail_core.specs.Causes.{HasCause, ending_by, is_well}
 use Rattle.mail_core.specs.Machine.{Ending, Choice, Normal, OutOfMemory, Disconnects, SpoolFails, Way, GoesOn, Leaves, Over, By, Cut, Did, is_over, says, accepts, fails, by_choice, heard_line, heard_where, answered, all_answered}
 use Rattle.mail_core.specs.Seen.{Seen, Ran, table_after}
-use Rattle.mail_core.specs.Standing.{dirs_of, Serves, Talks, Keeps, lines_heard}
+use Rattle.mail_core.specs.Standing.{Serves, Talks, Keeps}
 
 -- whether a session stays open
 abbrev pub stays_open : Next → Bool

@@ -1,0 +1,18 @@
+-- What the loop over the events keeps. It need not be believed: only private contracts cite it.
+use Rattle.std.specs.Prelude.{◌≡◌, ℕ, ◌+◌, List, length, true}
+use Rattle.spool_store.specs.Tables.{Table}
+use Rattle.mail_core.specs.declared.serving.Core.{Core}
+use Rattle.mail_core.specs.declared.serving.Site.{Site}
+use Rattle.mail_core.specs.Machine.{Turn}
+use Rattle.mail_core.specs.Seen.{Seen, Ran}
+use Rattle.mail_core.specs.Standing.{Stands}
+use Rattle.mail_core.specs.Messages.{dirs_of}
+use Rattle.mail_core.specs.Runs.{run_over}
+
+-- a run that may go on, after so many turns
+pub record IsUnderWay (site : Site) (table : Table) (core : Core) (count : ℕ) (a b : Seen) : Type 0 where
+  pub turns : List Turn
+  pub events : length turns ≡ count
+  pub ran : Ran (dirs_of site) table a b (run_over site table turns).effects true
+  pub readings : b.clock.readings ≡ a.clock.readings + count
+  pub stands : Stands site core (run_over site table turns).state
