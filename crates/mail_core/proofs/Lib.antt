@@ -13,3 +13,6 @@ pub mod ExampleLemmas
 pub mod Examples
 pub mod ToldLemmas
 pub mod SpokenLemmas
+pub mod StreamLemmas
+pub mod TurnLemmas
+pub mod LifeLemmas

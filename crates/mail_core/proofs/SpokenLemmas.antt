@@ -16,7 +16,7 @@ use Rattle.mail_core.proofs.ToldLemmas.{IsTold, closing_other, piece_all, said_m
 -- ---- the sessions of a list
 
 -- the number of the session that is found
-found_number : (n : ℕ) (guests : List Guest) (g : Guest) → guest_of n guests ≡ Some g → g.number ≡ n
+pub found_number : (n : ℕ) (guests : List Guest) (g : Guest) → guest_of n guests ≡ Some g → g.number ≡ n
 found_number n [] g found = absurd (cc found)
 found_number n (first ∷ guests) g found =
     ⊎_elim
@@ -25,19 +25,19 @@ found_number n (first ∷ guests) g found =
     (cases_Bool (has_number n first))
 
 module _ (s : ℕ) where
-  pushed_other : (guests : List Guest) (x : Guest) → has_number s x ≡ false → guest_of s (guests ++ x ∷ []) ≡ guest_of s guests
+  pub pushed_other : (guests : List Guest) (x : Guest) → has_number s x ≡ false → guest_of s (guests ++ x ∷ []) ≡ guest_of s guests
   pushed_other [] x other = cond-false (has_number s x) (Some x) None other
   pushed_other (g ∷ guests) x other = ap (λ o. if has_number s g then Some g else o) (pushed_other guests x other)
 
   -- a session that isn't found first
-  skipped : (g : Guest) (guests : List Guest) → has_number s g ≡ false → guest_of s (g ∷ guests) ≡ guest_of s guests
+  pub skipped : (g : Guest) (guests : List Guest) → has_number s g ≡ false → guest_of s (g ∷ guests) ≡ guest_of s guests
   skipped g guests other = cond-false (has_number s g) (Some g) (guest_of s guests) other
 
   -- the guest of another number isn't the one of `s`
   apart_from : (n : ℕ) (g : Guest) → nat_eq n s ≡ false → has_number n g ≡ true → has_number s g ≡ false
   apart_from n g apart is = ap (λ k. nat_eq k s) (eqb-true g.number n is) ∙ apart
 
-  changed_other : (x : Guest) (guests : List Guest) → has_number s x ≡ false → guest_of s (with_guest x guests) ≡ guest_of s guests
+  pub changed_other : (x : Guest) (guests : List Guest) → has_number s x ≡ false → guest_of s (with_guest x guests) ≡ guest_of s guests
   changed_other x [] other = refl
   changed_other x (g ∷ guests) other =
       ⊎_elim
@@ -49,7 +49,7 @@ module _ (s : ℕ) where
       ∙ ap (λ o. if has_number s g then Some g else o) (changed_other x guests other))
       (cases_Bool (has_number x.number g))
 
-  changed_own : (x g : Guest) (guests : List Guest) → x.number ≡ s → guest_of s guests ≡ Some g → guest_of s (with_guest x guests) ≡ Some x
+  pub changed_own : (x g : Guest) (guests : List Guest) → x.number ≡ s → guest_of s guests ≡ Some g → guest_of s (with_guest x guests) ≡ Some x
   changed_own x g [] own found = absurd (cc found)
   changed_own x g (first ∷ guests) own found =
       let mine : has_number s x ≡ true = eq-eqb x.number s own in
@@ -63,7 +63,7 @@ module _ (s : ℕ) where
       ∙ changed_own x g guests own (sym (skipped first guests other) ∙ found))
       (cases_Bool (has_number s first))
 
-  left_other : (n : ℕ) (guests : List Guest) → nat_eq n s ≡ false → guest_of s (without n guests) ≡ guest_of s guests
+  pub left_other : (n : ℕ) (guests : List Guest) → nat_eq n s ≡ false → guest_of s (without n guests) ≡ guest_of s guests
   left_other n [] apart = refl
   left_other n (g ∷ guests) apart =
       ⊎_elim
@@ -75,7 +75,7 @@ module _ (s : ℕ) where
       ∙ ap (λ o. if has_number s g then Some g else o) (left_other n guests apart))
       (cases_Bool (has_number n g))
 
-  left_own : (guests : List Guest) → guest_of s (without s guests) ≡ None
+  pub left_own : (guests : List Guest) → guest_of s (without s guests) ≡ None
   left_own [] = refl
   left_own (g ∷ guests) =
       ⊎_elim
@@ -184,7 +184,7 @@ module _ (site : Site) (s : ℕ) where
 
   -- ---- a turn, and a run
 
-  not_true : (b : Bool) → not b ≡ true → b ≡ false
+  pub not_true : (b : Bool) → not b ≡ true → b ≡ false
   not_true true h = absurd (false≢true h)
   not_true false h = refl
 

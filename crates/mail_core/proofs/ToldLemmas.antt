@@ -23,7 +23,7 @@ same_number : (n : ℕ) → nat_eq n n ≡ true
 same_number n = eq-eqb n n refl
 
 -- what a text says
-said_once : (n : ℕ) (text : List ℕ) (whole : Bool) (later : List Effect) → said_to n (Sends n text whole ∷ later) ≡ text ∷ said_to n later
+pub said_once : (n : ℕ) (text : List ℕ) (whole : Bool) (later : List Effect) → said_to n (Sends n text whole ∷ later) ≡ text ∷ said_to n later
 said_once n text whole later = ap (λ b. (if b then text ∷ [] else []) ++ said_to n later) (same_number n)
 
 said_speech : (n : ℕ) (text : List ℕ) (whole : Bool) → said_to n (speech n text whole) ≡ text ∷ []

@@ -1,11 +1,11 @@
-ghost use Rattle.std.specs.Prelude.{◌≡◌, ◌++◌, List, ℕ, Some};
+ghost use Rattle.std.specs.Prelude.{◌≡◌, ◌++◌, ◌∷◌, [], List, ℕ, Some, None};
 ghost use Rattle.mail_core.specs.declared.serving.Site.{Site};
 ghost use Rattle.spool_store.specs.Tables.{Table};
 ghost use Rattle.mail_core.specs.Guests.{Guest, guest_of};
-ghost use Rattle.mail_core.specs.Machine.{Choice, State, Turn, all_answered, run};
+ghost use Rattle.mail_core.specs.Machine.{Choice, Opening, State, Turn, all_answered, run};
 ghost use Rattle.mail_core.specs.Runs.{AreAcked};
 ghost use Rattle.mail_core.specs.Seen.{table_after};
-ghost use Rattle.mail_core.specs.Told.{NeverOpens, replies_of, said_to};
+ghost use Rattle.mail_core.specs.Told.{Converses, IsInTurn, NeverOpens, Welcomes, brought_of, opening_of, replies_of, said_to};
 
 /// A final 250 is said only where its message is in the table: whatever the turns and the choices of a run
 /// are, each one names an entry of the table as it is then.
@@ -32,4 +32,30 @@ pub fn sessions_are_sent_their_replies()
     ensures { (site : Site) (m : State) (turns : List Turn) (session : ℕ) (g now : Guest) → NeverOpens session turns
         → guest_of session m.guests ≡ Some g → guest_of session (run site m turns).state.guests ≡ Some now
         → replies_of site now ≡ replies_of site g ++ said_to session (run site m turns).effects }
+{}
+
+/// What a session that is open is sent in any turns that don't open it, wherever it ends: the replies of its dialogue
+/// to the first of the lines that it sent, up to where it or the run ended, or to all of them where it is still open.
+pub fn open_sessions_are_sent_their_replies()
+    ensures { (site : Site) (m : State) (turns : List Turn) (session : ℕ) (g : Guest) → NeverOpens session turns
+        → guest_of session m.guests ≡ Some g → IsInTurn g
+        → Converses site g (brought_of session (run site m turns).effects) (said_to session (run site m turns).effects) (guest_of session (run site m turns).state.guests) }
+{}
+
+/// What a session is sent from its opening on, in any turns that don't open it again: its greeting, and then the same;
+/// or 421 alone, where another one was open; or nothing, where memory was wanting or the run was over.
+pub fn opened_sessions_are_sent_their_replies()
+    ensures { (site : Site) (m : State) (peer : List ℕ) (reading : ℕ) (choice : Opening) (turns : List Turn) (session : ℕ)
+        → guest_of session m.guests ≡ None → NeverOpens session turns
+        → Welcomes site session peer
+        (brought_of session (run site m (opening_of session peer reading choice ∷ turns)).effects)
+        (said_to session (run site m (opening_of session peer reading choice ∷ turns)).effects)
+        (guest_of session (run site m (opening_of session peer reading choice ∷ turns)).state.guests) }
+{}
+
+/// Where a session isn't open and isn't opened, nothing is sent to it.
+pub fn sessions_that_are_not_open_are_sent_nothing()
+    ensures { (site : Site) (m : State) (turns : List Turn) (session : ℕ) → NeverOpens session turns
+        → guest_of session m.guests ≡ None
+        → (guest_of session (run site m turns).state.guests ≡ None) × (said_to session (run site m turns).effects ≡ []) }
 {}

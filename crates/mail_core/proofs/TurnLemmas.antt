@@ -1,0 +1,258 @@
+-- The lines of a session that were answered stand first in what it sent, and what came of it is what was taken.
+use Rattle.std.proofs.Common.{◌≡◌, ℕ, List, [], ◌∷◌, ◌++◌, Bool, true, false, not, Option, Some, None, refl, sym, ◌∙◌, ap, subst, ⊎_elim}
+use Rattle.std.specs.Prelude.{fold, length, slice_get, if◌then◌else◌}
+use Rattle.std.proofs.lemmas.Bool.{cases_Bool}
+use Rattle.std.proofs.lemmas.Grind.{flat_map-append}
+use Rattle.std.proofs.lemmas.List.{append-nil}
+use Rattle.smtp_lines.specs.declared.line.Line.{Line}
+use Rattle.smtp_lines.specs.declared.line.Mode.{Mode}
+use Rattle.smtp_lines.specs.declared.line.Mode.TheVariants.{Commands}
+use Rattle.smtp_lines.specs.Stream.{Reads, asks, granted_mode, has_end, line_of, mode_after, reading_of}
+use Rattle.smtp_receive.specs.declared.received.Received.{Received}
+use Rattle.smtp_receive.specs.Dialogue.{Answer, Says, Greets, Grants, Closes as Ends, Gives, Takes as Passes, is_grant}
+use Rattle.smtp_receive.specs.Replies.{text_of, grant_text, hello_text, closing_text, stored_text, shown_host, out_of_memory_text}
+use Rattle.smtp_receive.specs.Sessions.{answer_of}
+use Rattle.spool_store.specs.Tables.{Table}
+use Rattle.mail_core.specs.declared.serving.Site.{Site}
+use Rattle.mail_core.specs.Effects.{Effect, Commits, Sends, HangsUp, speech}
+use Rattle.mail_core.specs.Guests.{Guest, grants_of, is_passed, next_line, with_line, lines_heard}
+use Rattle.mail_core.specs.Machine.{Choice, Normal, OutOfMemory, Disconnects, SpoolFails, SpoolFault, IdsSpent, Finish, By, Cut, Way, GoesOn, Leaves, Over, Did, does, says, closes, is_over, commits, accepts, replies, fails, heard_line, heard_where, id_by, is_answered, by_choice, goes_on, answered, settled_by, settled, fresh_start, all_answered}
+use Rattle.mail_core.specs.Messages.{accept_of, is_spent}
+use Rattle.mail_core.specs.Told.{IsInTurn, brought_by, brought_of}
+use Rattle.mail_core.proofs.AnswerLemmas.{answer_kept, grants_more, lines_more}
+use Rattle.mail_core.proofs.FeedLemmas.{how_many_heard}
+use Rattle.mail_core.proofs.StreamLemmas.{IsNext, next_reads, none_left, reads_asked, reads_plain}
+
+-- ---- lines that stand first
+
+-- the lines that were answered stand first in what the session sent
+pub record AreFirst (g : Guest) : Type 0 where
+  pub last : Mode
+  pub rest : List ℕ
+  pub reads : Reads Commands g.received (grants_of g) (lines_heard g) last rest
+
+pub first_of : (g : Guest) → IsInTurn g → AreFirst g
+first_of g t = record { last = t.last; rest = t.rest; reads = t.reads }
+
+at_heard : (g : Guest) → next_line g ≡ slice_get (reading_of g.received (grants_of g)).lines (length (lines_heard g))
+at_heard g = ap (slice_get (reading_of g.received (grants_of g)).lines) (sym (how_many_heard g.heard))
+
+first_more : (g : Guest) (line : Line) (short : Bool) (id : Option ℕ) (last : Mode) (rest : List ℕ) → Reads Commands g.received (grants_of g ++ (if asks line then is_grant (answer_kept g line short) ∷ [] else [])) (lines_heard g ++ line ∷ []) last rest → AreFirst (with_line g line short id)
+first_more g line short id last rest h = record {
+  last = last;
+  rest = rest;
+  reads = subst (λ q. Reads Commands g.received q (lines_heard (with_line g line short id)) last rest) (sym (grants_more g line short id))
+      (subst (λ q. Reads Commands g.received (grants_of g ++ (if asks line then is_grant (answer_kept g line short) ∷ [] else [])) q last rest) (sym (lines_more g line short id)) h);
+}
+
+first_line : (g : Guest) (line : Line) (short : Bool) (id : Option ℕ) (f : AreFirst g) → IsNext f.last f.rest line → AreFirst (with_line g line short id)
+first_line g line short id f n =
+    let b = is_grant (answer_kept g line short) in
+    let one = line_of f.last n.front in
+    ⊎_elim
+    (λ asking.
+    let reads = reads_asked Commands g.received (grants_of g) (lines_heard g) f.last f.rest n.front n.back b n.cut_is.whole n.cut_is.none (ap asks (sym n.is) ∙ asking) f.reads in
+    first_more g line short id (granted_mode b) n.back
+    (subst (λ q. Reads Commands g.received (grants_of g ++ (if q then b ∷ [] else [])) (lines_heard g ++ line ∷ []) (granted_mode b) n.back) (sym asking)
+    (subst (λ q. Reads Commands g.received (grants_of g ++ b ∷ []) (lines_heard g ++ q ∷ []) (granted_mode b) n.back) (sym n.is) reads)))
+    (λ silent.
+    let reads = reads_plain Commands g.received (grants_of g) (lines_heard g) f.last f.rest n.front n.back n.cut_is.whole n.cut_is.none (ap asks (sym n.is) ∙ silent) f.reads in
+    first_more g line short id (mode_after one) n.back
+    (subst (λ q. Reads Commands g.received (grants_of g ++ (if q then b ∷ [] else [])) (lines_heard g ++ line ∷ []) (mode_after one) n.back) (sym silent)
+    (subst (λ q. Reads Commands g.received q (lines_heard g ++ line ∷ []) (mode_after one) n.back) (sym (append-nil (grants_of g)))
+    (subst (λ q. Reads Commands g.received (grants_of g) (lines_heard g ++ q ∷ []) (mode_after one) n.back) (sym n.is) reads))))
+    (cases_Bool (asks line))
+
+-- the next line was answered
+pub first_next : (g : Guest) (line : Line) (short : Bool) (id : Option ℕ) → next_line g ≡ Some line → AreFirst g → AreFirst (with_line g line short id)
+first_next g line short id next f = first_line g line short id f (next_reads (length g.received) Commands g.received (grants_of g) (lines_heard g) f.last f.rest line f.reads (sym (at_heard g) ∙ next))
+
+-- none is left
+pub turn_of : (g : Guest) → AreFirst g → next_line g ≡ None → IsInTurn g
+turn_of g f none = record { last = f.last; rest = f.rest; reads = f.reads; none = none_left g.received (grants_of g) (lines_heard g) f.last f.rest f.reads (sym (at_heard g) ∙ none) }
+
+-- ---- what is done brings nothing, and answers no line but the next
+
+pub brought_more : (s : ℕ) (one other : List Effect) → brought_of s (one ++ other) ≡ brought_of s one ++ brought_of s other
+brought_more s one other = flat_map-append (brought_by s) one other
+
+brings_none : (s : ℕ) (effects more : List Effect) → brought_of s more ≡ [] → brought_of s (effects ++ more) ≡ brought_of s effects
+brings_none s effects more none = brought_more s effects more ∙ ap (λ q. brought_of s effects ++ q) none ∙ append-nil (brought_of s effects)
+
+speech_brings : (s n : ℕ) (text : List ℕ) (whole : Bool) → brought_of s (speech n text whole) ≡ []
+speech_brings s n text true = refl
+speech_brings s n text false = refl
+
+-- the same session, or one with this line answered
+data Goes (g now : Guest) (line : Option Line) : Type 0 where
+  stays : now ≡ g → Goes g now line
+  hears : (one : Line) (short : Bool) (id : Option ℕ) → line ≡ Some one → now ≡ with_line g one short id → Goes g now line
+
+record Moves (d e : Did) (line : Option Line) : Type 0 where
+  guest : Goes d.guest e.guest line
+  quiet : (s : ℕ) → brought_of s e.effects ≡ brought_of s d.effects
+
+-- no line was answered
+record Idles (d e : Did) : Type 0 where
+  same : e.guest ≡ d.guest
+  quiet : (s : ℕ) → brought_of s e.effects ≡ brought_of s d.effects
+
+idles_does : (d : Did) (effects : List Effect) (way : Way) → ((s : ℕ) → brought_of s effects ≡ []) → Idles d (does d effects way)
+idles_does d effects way none = record { same = refl; quiet = λ s. brings_none s d.effects effects (none s) }
+
+idles_still : (d : Did) → Idles d d
+idles_still d = record { same = refl; quiet = λ s. refl }
+
+idles_join : (d e x : Did) → Idles d e → Idles e x → Idles d x
+idles_join d e x h k = record { same = k.same ∙ h.same; quiet = λ s. k.quiet s ∙ h.quiet s }
+
+idles_says : (d : Did) (text : List ℕ) (whole : Bool) → Idles d (says d text whole)
+idles_says d text whole = record { same = refl; quiet = λ s. brings_none s d.effects (speech d.guest.number text whole) (speech_brings s d.guest.number text whole) }
+
+idles_closes : (d : Did) (text : List ℕ) (whole : Bool) → Idles d (closes d text whole)
+idles_closes d text whole = record { same = refl; quiet = λ s. brings_none s d.effects (Sends d.guest.number text whole ∷ HangsUp d.guest.number ∷ []) refl }
+
+idles_over : (d : Did) (finish : Finish) → Idles d (is_over d finish)
+idles_over d finish = idles_does d [] (Over finish) (λ s. refl)
+
+-- of this session the lines that were answered stand first
+pub record IsKept (g : Guest) (d : Did) : Type 0 where
+  pub peer : d.guest.peer ≡ g.peer
+  pub received : d.guest.received ≡ g.received
+  pub first : AreFirst d.guest
+
+-- and where it goes on no line is left
+pub record IsSettled (g : Guest) (d : Did) : Type 0 where
+  pub kept : IsKept g d
+  pub none : d.way ≡ GoesOn → next_line d.guest ≡ None
+
+not_over : (finish : Finish) → Over finish ≡ GoesOn → ⊥
+not_over finish h = cc h
+
+not_left : Leaves ≡ GoesOn → ⊥
+not_left h = cc h
+
+module _ (site : Site) (moment : ℕ) where
+  idles_commits : (d : Did) (message : Received) → Idles d (commits site moment d message)
+  idles_commits d message = record { same = refl; quiet = λ s. brings_none s d.effects (Commits (accept_of site moment message) ∷ []) refl }
+
+  idles_accepts : (spent : Bool) (d : Did) (message : Received) (whole : Bool) → Idles d (if spent then is_over d (By IdsSpent) else says (commits site moment d message) (stored_text d.table.next) whole)
+  idles_accepts true d message whole = idles_over d (By IdsSpent)
+  idles_accepts false d message whole =
+      let c = commits site moment d message in
+      idles_join d c (says c (stored_text d.table.next) whole) (idles_commits d message) (idles_says c (stored_text d.table.next) whole)
+
+  idles_replies : (d : Did) (answer : Answer) (whole : Bool) → Idles d (replies site moment d answer whole)
+  idles_replies d (Says reply) whole = idles_says d (text_of reply) whole
+  idles_replies d Greets whole = idles_says d (hello_text (shown_host site.host)) whole
+  idles_replies d Grants whole = idles_says d grant_text whole
+  idles_replies d Ends whole = idles_closes d (closing_text (shown_host site.host)) whole
+  idles_replies d (Gives message) whole = idles_accepts (is_spent d.table) d message whole
+  idles_replies d Passes whole = idles_still d
+
+  idles_failing : (spent : Bool) (d : Did) (message : Received) → Idles d (if spent then is_over d (By IdsSpent) else is_over (commits site moment d message) (By SpoolFault))
+  idles_failing true d message = idles_over d (By IdsSpent)
+  idles_failing false d message =
+      let c = commits site moment d message in
+      idles_join d c (is_over c (By SpoolFault)) (idles_commits d message) (idles_over c (By SpoolFault))
+
+  idles_fails : (d : Did) (answer : Answer) → Idles d (fails site moment d answer)
+  idles_fails d (Gives message) = idles_failing (is_spent d.table) d message
+  idles_fails d (Says reply) = idles_over d Cut
+  idles_fails d Greets = idles_over d Cut
+  idles_fails d Grants = idles_over d Cut
+  idles_fails d Ends = idles_over d Cut
+  idles_fails d Passes = idles_over d Cut
+
+  idles_drops : (d : Did) (may : Bool) → Idles d (if may then does d (HangsUp d.guest.number ∷ []) Leaves else is_over d Cut)
+  idles_drops d true = record { same = refl; quiet = λ s. brings_none s d.effects (HangsUp d.guest.number ∷ []) refl }
+  idles_drops d false = idles_over d Cut
+
+  moves_idle : (d e : Did) (line : Option Line) → Idles d e → Moves d e line
+  moves_idle d e line i = record { guest = stays i.same; quiet = i.quiet }
+
+  moves_where : (b : Bool) (d e : Did) (line : Line) (short : Bool) (id : Option ℕ) → Idles d e → Moves d (heard_where b e line short id) (Some line)
+  moves_where true d e line short id i = record { guest = hears line short id refl (ap (λ g. with_line g line short id) i.same); quiet = i.quiet }
+  moves_where false d e line short id i = moves_idle d e (Some line) i
+
+  moves_short : (passed : Bool) (d : Did) (line : Line) (whole : Bool) → Moves d (if passed then is_over d Cut else heard_line (says d out_of_memory_text whole) line true None) (Some line)
+  moves_short true d line whole = moves_idle d (is_over d Cut) (Some line) (idles_over d Cut)
+  moves_short false d line whole = moves_where true d (says d out_of_memory_text whole) line true None (idles_says d out_of_memory_text whole)
+
+  moves_choice : (d : Did) (choice : Choice) (line : Option Line) → Moves d (by_choice site moment d choice line) line
+  moves_choice d (Normal whole) (Some line) =
+      let answer = answer_of d.guest.peer d.guest.heard line in
+      moves_where (is_answered d.table answer) d (replies site moment d answer whole) line false (id_by d.table answer) (idles_replies d answer whole)
+  moves_choice d (OutOfMemory whole) (Some line) = moves_short (is_passed d.guest line) d line whole
+  moves_choice d SpoolFails (Some line) = let answer = answer_of d.guest.peer d.guest.heard line in moves_idle d (fails site moment d answer) (Some line) (idles_fails d answer)
+  moves_choice d Disconnects (Some line) = moves_idle d _ (Some line) (idles_drops d d.may_disconnect)
+  moves_choice d Disconnects None = moves_idle d _ None (idles_drops d d.may_disconnect)
+  moves_choice d (Normal whole) None = moves_idle d (is_over d Cut) None (idles_over d Cut)
+  moves_choice d (OutOfMemory whole) None = moves_idle d (is_over d Cut) None (idles_over d Cut)
+  moves_choice d SpoolFails None = moves_idle d (is_over d Cut) None (idles_over d Cut)
+
+  -- ---- what is done for a piece brings nothing
+
+  quiet_goes : (s : ℕ) (way : Way) (d e : Did) → brought_of s d.effects ≡ [] → brought_of s e.effects ≡ [] → brought_of s (goes_on way d e).effects ≡ []
+  quiet_goes s GoesOn d e h k = k
+  quiet_goes s Leaves d e h k = h
+  quiet_goes s (Over finish) d e h k = h
+
+  quiet_all : (s : ℕ) (d : Did) (choices : List Choice) → brought_of s d.effects ≡ [] → brought_of s (fold (answered site moment) d choices).effects ≡ []
+  quiet_all s d [] h = h
+  quiet_all s d (choice ∷ choices) h =
+      let e = by_choice site moment d choice (next_line d.guest) in
+      let m = moves_choice d choice (next_line d.guest) in
+      quiet_all s (goes_on d.way d e) choices (quiet_goes s d.way d e h (m.quiet s ∙ h))
+
+  quiet_settled : (s : ℕ) (way : Way) (line : Option Line) (d : Did) → brought_of s d.effects ≡ [] → brought_of s (settled_by way line d).effects ≡ []
+  quiet_settled s GoesOn (Some line) d h = let i = idles_over d Cut in i.quiet s ∙ h
+  quiet_settled s GoesOn None d h = h
+  quiet_settled s Leaves line d h = h
+  quiet_settled s (Over finish) line d h = h
+
+  pub piece_quiet : (s : ℕ) (table : Table) (g : Guest) (choices : List Choice) → brought_of s (all_answered site moment table g choices).effects ≡ []
+  piece_quiet s table g choices =
+      let d = fold (answered site moment) (fresh_start table g) choices in
+      quiet_settled s d.way (next_line d.guest) d (quiet_all s (fresh_start table g) choices refl)
+
+  -- ---- a piece
+
+  kept_by : (g : Guest) (d : Did) (now : Guest) (effects : List Effect) (line : Option Line) → next_line d.guest ≡ line → Goes d.guest now line → IsKept g d
+      → (now.peer ≡ g.peer) × (now.received ≡ g.received) × AreFirst now
+  kept_by g d now effects line next (stays same) k = (ap (λ (x : Guest). x.peer) same ∙ k.peer, ap (λ (x : Guest). x.received) same ∙ k.received, subst AreFirst (sym same) k.first)
+  kept_by g d now effects line next (hears one short id is same) k = (
+    ap (λ (x : Guest). x.peer) same ∙ k.peer,
+    ap (λ (x : Guest). x.received) same ∙ k.received,
+    subst AreFirst (sym same) (first_next d.guest one short id (next ∙ is) k.first),
+  )
+
+  kept_moves : (g : Guest) (d e : Did) → Moves d e (next_line d.guest) → IsKept g d → IsKept g e
+  kept_moves g d e m k =
+      let parts = kept_by g d e.guest e.effects (next_line d.guest) refl m.guest k in
+      record { peer = parts.0; received = parts.1; first = parts.2 }
+
+  kept_goes : (way : Way) (g : Guest) (d e : Did) → IsKept g d → IsKept g e → IsKept g (goes_on way d e)
+  kept_goes GoesOn g d e k next = next
+  kept_goes Leaves g d e k next = k
+  kept_goes (Over finish) g d e k next = k
+
+  kept_all : (g : Guest) (d : Did) (choices : List Choice) → IsKept g d → IsKept g (fold (answered site moment) d choices)
+  kept_all g d [] k = k
+  kept_all g d (choice ∷ choices) k =
+      let e = by_choice site moment d choice (next_line d.guest) in
+      kept_all g (goes_on d.way d e) choices (kept_goes d.way g d e k (kept_moves g d e (moves_choice d choice (next_line d.guest)) k))
+
+  kept_over : (g : Guest) (d : Did) (finish : Finish) → IsKept g d → IsKept g (is_over d finish)
+  kept_over g d finish k = record { peer = k.peer; received = k.received; first = k.first }
+
+  settles : (g : Guest) (d : Did) (way : Way) (line : Option Line) → d.way ≡ way → next_line d.guest ≡ line → IsKept g d → IsSettled g (settled_by way line d)
+  settles g d GoesOn (Some line) on next k = record { kept = kept_over g d Cut k; none = λ e. absurd (not_over Cut e) }
+  settles g d GoesOn None on next k = record { kept = k; none = λ e. next }
+  settles g d Leaves line on next k = record { kept = k; none = λ e. absurd (not_left (sym on ∙ e)) }
+  settles g d (Over finish) line on next k = record { kept = k; none = λ e. absurd (not_over finish (sym on ∙ e)) }
+
+  pub piece_settled : (table : Table) (g : Guest) (choices : List Choice) → AreFirst g → IsSettled g (all_answered site moment table g choices)
+  piece_settled table g choices first =
+      let d = fold (answered site moment) (fresh_start table g) choices in
+      settles g d d.way (next_line d.guest) refl refl (kept_all g (fresh_start table g) choices (record { peer = refl; received = refl; first = first }))
