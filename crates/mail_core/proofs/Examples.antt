@@ -25,10 +25,10 @@ latest_answer [] = Passes
 latest_answer (e ∷ before) = unwrap_or e.answer Passes
 
 -- the answers to MAIL and RCPT
-abbrev sender_ok : Answer
+abbrev pub sender_ok : Answer
 sender_ok = latest_answer (drop 1 given)
 
-abbrev recipient_ok : Answer
+abbrev pub recipient_ok : Answer
 recipient_ok = latest_answer given
 
 -- all that the session sends
@@ -58,7 +58,7 @@ begins =
     comes_more site 5 start guest _ start _ _ _ subject four refl Passes true refl refl
 
 -- the message, with its end
-abbrev given_lines : List Heard
+abbrev pub given_lines : List Heard
 given_lines = begun ++ input (Data []) false None ∷ input body false None ∷ []
 
 abbrev data_choices : List Choice

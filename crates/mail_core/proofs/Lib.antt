@@ -16,3 +16,4 @@ pub mod SpokenLemmas
 pub mod StreamLemmas
 pub mod TurnLemmas
 pub mod LifeLemmas
+pub mod ReplyExamples
