@@ -2,6 +2,7 @@
 #![tactic(auto)]
 
 mod cuts;
+mod glance;
 mod law;
 mod matcher;
 mod meeting;
@@ -11,6 +12,7 @@ mod trial;
 mod walk;
 
 pub use cuts::{Cut, Cuts};
+pub use glance::may_fit;
 pub use law::{each_choice, one_choice, put_in};
 pub use matcher::{find, lists_wanted};
 pub use trial::find_by_trial;
