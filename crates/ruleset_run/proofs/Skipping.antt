@@ -1,6 +1,6 @@
--- Rules between two candidates can't match, so a run passes them by.
-use Rattle.std.proofs.Common.{◌≡◌, inl, inr, ℕ, ◌+◌, ◌-◌, ◌<◌, ◌≤◌, List, [], ◌∷◌, ◌++◌, length, drop, cond, true, false, Some, Ok, refl, sym, ap, subst, ◌∙◌, zero, suc, arith}
-use Rattle.std.specs.Prelude.{slice_get, count_by, ◌==◌}
+-- Rules that can't match, which a run passes by.
+use Rattle.std.proofs.Common.{◌≡◌, ◌⊎◌, inl, inr, ℕ, ◌+◌, ◌-◌, ◌<◌, ◌≤◌, List, [], ◌∷◌, ◌++◌, length, drop, cond, true, false, Some, None, Ok, refl, sym, ap, subst, ◌∙◌, zero, suc, arith}
+use Rattle.std.specs.Prelude.{IfNone, IfSome, Option, slice_get, count_by, ◌==◌}
 use Rattle.std.specs.List.{list_any}
 use Rattle.std.proofs.lemmas.List.Concat.{flat_map-cons}
 use Rattle.std.proofs.lemmas.List.Recursion.{is_count_by}
@@ -9,8 +9,8 @@ use Rattle.mail_base.specs.declared.token.Token.{Token}
 use Rattle.mail_base.specs.declared.rule.Rule.{Rule}
 use Rattle.mail_base.specs.declared.rule.Item.{Item}
 use Rattle.mail_base.specs.declared.rule.Item.TheVariants.{Any, More, One, Empty, InClass, NotInClass, Exact, Late}
-use Rattle.mail_base.specs.Candidates.{is_candidate, is_late, IsNext}
-use Rattle.ruleset_run.specs.inner.Looks.{times_at}
+use Rattle.mail_base.specs.Candidates.{is_late, IsNext}
+use Rattle.ruleset_run.specs.inner.Looks.{CannotMatch, IsAhead, times_at}
 use Rattle.ruleset_run.specs.Sites.{Site, Macros}
 use Rattle.ruleset_run.specs.Cutting.{Lates, is_cut_left, item_lists, left_lists}
 use Rattle.ruleset_run.specs.Runs.{Outcome, Called, late_of, Runs, unmatched, no_rule}
@@ -58,7 +58,7 @@ no_late_cut late (Exact token ∷ items) h = no_late_cut late items h
 
 module _ (site : Site) (called : Called) (rules : List Rule) (tokens : List Token) (work : ℕ) (macros : Macros) where
   -- so many rules from one on, with no successive application before
-  passed : (count from times : ℕ) (outcome : Outcome) → from + count ≤ length rules → ((k : ℕ) (rule : Rule) → from ≤ k → k < from + count → slice_get rules k ≡ Some rule → is_candidate tokens rule ≡ false)
+  passed : (count from times : ℕ) (outcome : Outcome) → from + count ≤ length rules → ((k : ℕ) (rule : Rule) → from ≤ k → k < from + count → slice_get rules k ≡ Some rule → CannotMatch tokens rule)
       → Runs site called (drop (from + count) rules) 0 tokens work macros outcome → (count ≡ 0 → times ≡ 0) → Runs site called (drop from rules) times tokens work macros outcome
   passed zero from times outcome within none run start =
       subst (λ (n : ℕ). Runs site called (drop from rules) n tokens work macros outcome) (sym (start refl))
@@ -66,15 +66,15 @@ module _ (site : Site) (called : Called) (rules : List Rule) (tokens : List Toke
   passed (suc count) from times outcome within none run start =
       let found = get_below rules from (omega (arith, within)) in
       subst (λ (rs : List Rule). Runs site called rs times tokens work macros outcome) (sym (drop_at rules from found.0 found.1))
-      (unmatched found.0 (drop (from + 1) rules) times tokens work macros outcome (no_late_cut (late_of site macros) found.0.left (no_candidate found.0 tokens (none from found.0 (omega arith) (omega arith) found.1)).0)
-      ((no_candidate found.0 tokens (none from found.0 (omega arith) (omega arith) found.1)).1 site.classes (left_lists (late_of site macros) found.0.left))
+      (unmatched found.0 (drop (from + 1) rules) times tokens work macros outcome (no_late_cut (late_of site macros) found.0.left (none from found.0 (omega arith) (omega arith) found.1).0)
+      ((none from found.0 (omega arith) (omega arith) found.1).1 site.classes (left_lists (late_of site macros) found.0.left))
       (passed count (from + 1) 0 outcome (omega (arith, within)) (λ k rule le lt is. none k rule (omega (arith, le)) (omega (arith, lt)) is)
       (subst (λ (n : ℕ). Runs site called (drop n rules) 0 tokens work macros outcome) {x = from + suc count} {y = from + 1 + count} (omega arith) run) (λ e. refl)))
 
   difference : (from number : ℕ) → from ≤ number → (count : ℕ) × (number ≡ from + count)
   difference from number le = (number - from, omega (arith, le))
 
-  pub skipped : (from number times now : ℕ) (rule : Rule) (outcome : Outcome) → IsNext rules from tokens number rule → now ≡ times_at number from times
+  pub skipped : (from number times now : ℕ) (rule : Rule) (outcome : Outcome) → IsAhead rules from tokens number rule → now ≡ times_at number from times
       → Runs site called (drop number rules) now tokens work macros outcome → Runs site called (drop from rules) times tokens work macros outcome
   skipped from number times now rule outcome n is run = elim (cases_order number from) [
     | inl e ↦
@@ -89,7 +89,7 @@ module _ (site : Site) (called : Called) (rules : List Rule) (tokens : List Toke
         (λ e. absurd (omega (arith, e, d.1, more)))
   ]
 
-  pub all_passed : (from times : ℕ) → from ≤ length rules → ((k : ℕ) (rule : Rule) → from ≤ k → slice_get rules k ≡ Some rule → is_candidate tokens rule ≡ false)
+  pub all_passed : (from times : ℕ) → from ≤ length rules → ((k : ℕ) (rule : Rule) → from ≤ k → slice_get rules k ≡ Some rule → CannotMatch tokens rule)
       → Runs site called (drop from rules) times tokens work macros (Ok (record { tokens = tokens; work = work; macros = macros }))
   all_passed from times le none = elim (cases_order from (length rules)) [
     | inl e ↦ at_end from times (omega (arith, e))
@@ -102,6 +102,72 @@ module _ (site : Site) (called : Called) (rules : List Rule) (tokens : List Toke
     where
       at_end : (k times : ℕ) → length rules ≤ k → Runs site called (drop k rules) times tokens work macros (Ok (record { tokens = tokens; work = work; macros = macros }))
       at_end k times l = subst (λ (rs : List Rule). Runs site called rs times tokens work macros (Ok (record { tokens = tokens; work = work; macros = macros }))) (sym (drop_all rules k l)) (no_rule times tokens work macros)
+
+-- what a candidate is before rules that can't match, by its anchor
+pub ahead_by_anchor : (rules : List Rule) (from : ℕ) (tokens : List Token) (number : ℕ) (rule : Rule) → IsNext rules from tokens number rule → IsAhead rules from tokens number rule
+ahead_by_anchor rules from tokens number rule next = record {
+  above = next.above;
+  is = next.is;
+  first = λ k other le lt is. no_candidate other tokens (next.first k other le lt is);
+}
+
+-- a rule from which the search begins
+pub ahead_here : (rules : List Rule) (from : ℕ) (tokens : List Token) (rule : Rule) → slice_get rules from ≡ Some rule → IsAhead rules from tokens from rule
+ahead_here rules from tokens rule is = record { above = omega arith; is = is; first = λ k other le lt at. absurd (omega (arith, le, lt)) }
+
+none_beyond : (rules : List Rule) (from k : ℕ) (rule : Rule) → from ≤ k → slice_get rules k ≡ Some rule → slice_get rules from ≡ None → ⊥
+none_beyond [] from k rule le is none = absurd (cc is)
+none_beyond (r ∷ rules) zero k rule le is none = absurd (cc none)
+none_beyond (r ∷ rules) (suc from) zero rule le is none = absurd (omega (arith, le))
+none_beyond (r ∷ rules) (suc from) (suc k) rule le is none = none_beyond rules from k rule (omega (arith, le)) is none
+
+-- no rule stands there, nor behind it
+pub none_here : (rules : List Rule) (from : ℕ) (tokens : List Token) → slice_get rules from ≡ None → (k : ℕ) (rule : Rule) → from ≤ k → slice_get rules k ≡ Some rule → CannotMatch tokens rule
+none_here rules from tokens none k rule le is = absurd (none_beyond rules from k rule le is none)
+
+-- rules that can't match, and what is ahead behind them
+pub ahead_later : (rules : List Rule) (from at : ℕ) (tokens : List Token) (number : ℕ) (rule : Rule) → from ≤ at → ((k : ℕ) (other : Rule) → from ≤ k → k < at → slice_get rules k ≡ Some other → CannotMatch tokens other)
+    → IsAhead rules at tokens number rule → IsAhead rules from tokens number rule
+ahead_later rules from at tokens number rule le before ahead = record {
+  above = omega (arith, le, ahead.above);
+  is = ahead.is;
+  first = λ k other l lt is. passed_at rules from at tokens number rule before ahead k other l lt is (cases_order k at);
+}
+  where
+    passed_at : (rules : List Rule) (from at : ℕ) (tokens : List Token) (number : ℕ) (rule : Rule) → ((k : ℕ) (other : Rule) → from ≤ k → k < at → slice_get rules k ≡ Some other → CannotMatch tokens other) → IsAhead rules at tokens number rule
+        → (k : ℕ) (other : Rule) → from ≤ k → k < number → slice_get rules k ≡ Some other → (k ≡ at) ⊎ ((k < at) ⊎ (at < k)) → CannotMatch tokens other
+    passed_at rules from at tokens number rule before ahead k other l lt is (inl e) = ahead.first k other (omega (arith, e)) lt is
+    passed_at rules from at tokens number rule before ahead k other l lt is (inr (inl less)) = before k other l less is
+    passed_at rules from at tokens number rule before ahead k other l lt is (inr (inr more)) = ahead.first k other (omega (arith, more)) lt is
+
+-- one more that can't match
+pub passed_more : (rules : List Rule) (from : ℕ) (tokens : List Token) (number : ℕ) (rule : Rule) → IsAhead rules from tokens number rule → CannotMatch tokens rule
+    → (k : ℕ) (other : Rule) → from ≤ k → k < number + 1 → slice_get rules k ≡ Some other → CannotMatch tokens other
+passed_more rules from tokens number rule ahead cannot k other le lt is = at (cases_order k number)
+  where
+    at : (k ≡ number) ⊎ ((k < number) ⊎ (number < k)) → CannotMatch tokens other
+    at (inl e) = let same : rule ≡ other = cc (sym ahead.is ∙ ap (slice_get rules) (sym e) ∙ is) in subst (λ (r : Rule). CannotMatch tokens r) same cannot
+    at (inr (inl less)) = ahead.first k other le less is
+    at (inr (inr more)) = absurd (omega (arith, lt, more))
+
+-- none can match from there on, nor before
+pub none_later : (rules : List Rule) (from at : ℕ) (tokens : List Token) → ((k : ℕ) (other : Rule) → from ≤ k → k < at → slice_get rules k ≡ Some other → CannotMatch tokens other)
+    → ((k : ℕ) (rule : Rule) → at ≤ k → slice_get rules k ≡ Some rule → CannotMatch tokens rule) → (k : ℕ) (rule : Rule) → from ≤ k → slice_get rules k ≡ Some rule → CannotMatch tokens rule
+none_later rules from at tokens before after k rule le is = by (cases_order k at)
+  where
+    by : (k ≡ at) ⊎ ((k < at) ⊎ (at < k)) → CannotMatch tokens rule
+    by (inl e) = after k rule (omega (arith, e)) is
+    by (inr (inl less)) = before k rule le less is
+    by (inr (inr more)) = after k rule (omega (arith, more)) is
+
+-- what holds of an answer, if there is one, from what is known of it
+pub some_weaker : {T : Type 0} (found : Option T) (P Q : T → Type 0) → ((x : T) → P x → Q x) → IfSome found P → IfSome found Q
+some_weaker (Some x) P Q f h = f x h
+some_weaker None P Q f h = tt
+
+pub none_weaker : {T : Type 0} (found : Option T) (P Q : Type 0) → (P → Q) → IfNone found P → IfNone found Q
+none_weaker (Some x) P Q f h = tt
+none_weaker None P Q f h = f h
 
 -- no more successive applications than before
 pub few_times : (number from times now : ℕ) → now ≡ times_at number from times → times ≤ 100 → now ≤ 100

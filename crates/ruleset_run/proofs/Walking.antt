@@ -6,7 +6,6 @@ use Rattle.mail_base.specs.declared.classes.Classes.{Classes}
 use Rattle.mail_base.specs.declared.rule.Item.{Item}
 use Rattle.mail_base.specs.declared.rule.Rule.{Rule}
 use Rattle.mail_base.specs.declared.rule.Go.TheVariants.{Again, Return, Next}
-use Rattle.mail_base.specs.Candidates.{IsNext}
 use Rattle.rule_match.specs.declared.cuts.Cut.{Cut}
 use Rattle.rule_match.specs.Choices.{Fits, Chosen}
 use Rattle.rule_match.specs.Kept.{IsChoice}
@@ -20,7 +19,7 @@ use Rattle.ruleset_run.specs.Cutting.{Lates, late_tokens, is_cut_left, left_list
 use Rattle.ruleset_run.specs.Filling.{Matched, filled, is_cut_right, tokens_in, is_resolved}
 use Rattle.ruleset_run.specs.Runs.{Done, Outcome, Called, Replaced, late_of, full_of, left_wants, matched, Takes, Runs, GivesFault, Ends}
 use Rattle.ruleset_run.specs.inner.Filler.{IsCutAs, StandBy, Fills, FillsFault}
-use Rattle.ruleset_run.specs.inner.Looks.{LeftFault, LimitFault, MatchFound, times_at}
+use Rattle.ruleset_run.specs.inner.Looks.{IsAhead, LeftFault, LimitFault, MatchFound, times_at}
 use Rattle.ruleset_run.specs.inner.Values.{Known, lates}
 use Rattle.ruleset_run.proofs.Moves.{limit_reached, takes_unscanned, takes_unfilled, takes_long, takes_replaced, step_unread, step_unmatched, step_refused, step_resolved, step_returned, step_next, step_again}
 use Rattle.ruleset_run.proofs.Skipping.{drop_at, skipped}
@@ -84,7 +83,7 @@ module _ (site : Site) (called : Called) (rule : Rule) (tokens : List Token) (wo
 
 -- ---- the rules
 
-module _ (site : Site) (called : Called) (rules : List Rule) (from number times now : ℕ) (rule : Rule) (tokens : List Token) (work : ℕ) (v : Known) (ops : v.operators ≡ site.operators) (next : IsNext rules from tokens number rule) (now_is : now ≡ times_at number from times)
+module _ (site : Site) (called : Called) (rules : List Rule) (from number times now : ℕ) (rule : Rule) (tokens : List Token) (work : ℕ) (v : Known) (ops : v.operators ≡ site.operators) (next : IsAhead rules from tokens number rule) (now_is : now ≡ times_at number from times)
     (whole : Outcome → Type 0) (completes : (o : Outcome) → Runs site called (drop from rules) times tokens work v.macros o → whole o) where
   at : (o : Outcome) → Runs site called (drop number rules) now tokens work v.macros o → whole o
   at o run = completes o (skipped site called rules tokens work v.macros from number times now rule o next now_is run)

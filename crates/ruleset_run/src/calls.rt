@@ -36,6 +36,13 @@ fn unquoted(text: &[u8]) -> &[u8]
     &text[1..text.len() - 1]
 }
 
+/// No tokens, with room for so many.
+pub fn with_room(alloc: Global, room: usize) -> Result<Vec<Token>, NoMemory>
+    ensures { IfOk result (λ tokens. tokens.items ≡ []) }
+{
+    Ok(Vec::with_capacity(alloc, room)?)
+}
+
 /// Tokens in the other order.
 pub fn turned(mut tokens: Vec<Token>) -> Vec<Token>
     ensures { result.items ≡ reverse tokens.items }

@@ -116,7 +116,8 @@ pub fn fill(
     ensures operators { values.new.operators ≡ values.old.operators }
     ensures settled { OnOk result (values.new.after ≡ values.new.macros) }
 {
-    let mut parts = Parts::new(values.allocator());
+    let room = source.tokens.len().saturating_add(steps.len());
+    let mut parts = Parts::with_room(values.allocator(), room)?;
     for step in steps {
         fill_step(maps, values, source, step, &mut parts)?;
     }

@@ -6,6 +6,7 @@ mod calls;
 mod fault;
 mod filler;
 mod law;
+mod looking;
 mod part;
 mod parts;
 mod runner;

@@ -1,4 +1,4 @@
-ghost use Rattle.std.specs.Prelude.{◌≡◌, ◌≤◌, ◌+◌, ◌++◌, ◌∷◌, [], List, OnOk, OnErr, map};
+ghost use Rattle.std.specs.Prelude.{◌≡◌, ◌≤◌, ◌+◌, ◌++◌, ◌∷◌, [], List, IfOk, OnOk, OnErr, map};
 ghost use Rattle.ruleset_run.specs.declared.part.Part.TheVariants.{Token as OneToken, Call as OneCall};
 ghost use Rattle.ruleset_run.specs.inner.Filler.{Gain, Stand};
 
@@ -19,15 +19,16 @@ pub struct Parts {
 }
 
 impl Parts {
-    /// No parts. It takes no memory.
-    pub fn new(alloc: Global) -> Parts
-        ensures { Stand result [] }
+    /// No parts, with room for so many.
+    pub fn with_room(alloc: Global, room: usize) -> Result<Parts, NoMemory>
+        ensures { IfOk result (λ parts. Stand parts []) }
     {
-        Parts {
-            kept: Seq::new(alloc),
+        let kept = Vec::with_capacity(alloc, room)?;
+        Ok(Parts {
+            kept: Seq::from_vec(kept),
             count: 0,
             is_long: false,
-        }
+        })
     }
 
     /// Adds copies of tokens at the end.

@@ -11,14 +11,14 @@ ghost use Rattle.ruleset_run.specs.inner.Values.{lates};
 
 use crate::RunFault;
 use crate::book::is_standard;
-use crate::calls::{call_name, push, turned};
+use crate::calls::{call_name, push, turned, with_room};
 use crate::filler::{Match, fill, is_cut, is_resolved};
+use crate::looking::next_rule;
 use crate::part::Part;
 use crate::parts::{MOST_TOKENS, Parts};
 use crate::values::Values;
 use mail_base::{Classes, Config, Go, Item, Macros, Rule, RuleSet, Seq, Text, Token, TryCopy};
 use map_tables::Maps;
-use rule_index::next;
 use rule_match::{Cuts, find};
 use std::alloc::Global;
 
@@ -123,7 +123,7 @@ fn run_rules(
     let mut from: u32 = 0;
     let mut times: u32 = 0;
     let mut now = start;
-    while let Some((number, rule)) = next(set, from, &now.tokens) {
+    while let Some((number, rule)) = next_rule(set, from, &now.tokens) {
         times = times_at(number, from, times);
         let Some(cuts) = match_of(values, rule, &now.tokens, &config.classes)? else {
             from = number + 1;
@@ -274,7 +274,7 @@ fn replace(
     let mut before = parts.count;
     let mut front = parts.kept.into_vec();
     // the tokens behind the parts that are left, the last one first
-    let mut back = Vec::new(values.allocator());
+    let mut back = with_room(values.allocator(), front.len())?;
     let mut now_work = work;
     'parts: while let Some(part) = front.pop() {
         match part {

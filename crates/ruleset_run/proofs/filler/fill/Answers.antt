@@ -11,7 +11,7 @@ returns-in_err-fill_step-clause-fills c = λ found is.
     let l = c.loop-step in
     let i = l.invariant in
     let w = i.filled found is in
-    let p = err_from_is_err_and c.from_residual.result c.from_residual.ensures.1 in
+    let p = err_from_is_err_and c.from_residual-in_err-fill_step.result c.from_residual-in_err-fill_step.ensures.1 in
     rw (p.1, p.2) (fill_fails (filled c.args.maps.now v.operators (lates v) found) c.args.steps.now l.step-index c.step-item.result (ahead_at c.args.steps.now l.step-index c.step-item.result (omega arith) c.step-item.is) v.macros l.values.after w.0 w.2 c.in_err-fill_step.field-0.0
     (step_as_before c.args.maps.now l.values.operators v.operators l.values.macros v.macros i.operators i.macros found c.step-item.result l.parts l.values.after c.fill_step.new.parts c.fill_step.new.values.after (Err c.in_err-fill_step.field-0.0) (c.in_err-fill_step.ensures.fills found is)))
 

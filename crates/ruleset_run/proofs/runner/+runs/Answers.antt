@@ -93,7 +93,7 @@ replace-parts-init t c =
       parts = sym c.into_vec-front.ensures ∙ sym (append-nil c.into_vec-front.result.items);
       before = stand.1 ∙ ap tokens_in (sym c.into_vec-front.ensures);
       few = stand.2;
-      run = subst (λ ts. Replaced called (tokens_in c.into_vec-front.result.items) [] a.work a.values.now.macros (Ok (record { tokens = ts; work = a.work; macros = a.values.now.macros }))) (sym (ap reverse c.new-back.ensures.items)) (no_part _ _ _);
+      run = subst (λ ts. Replaced called (tokens_in c.into_vec-front.result.items) [] a.work a.values.now.macros (Ok (record { tokens = ts; work = a.work; macros = a.values.now.macros }))) (sym (ap reverse c.in_ok-back.ensures)) (no_part _ _ _);
       grew = omega arith;
       work = c.requires.work;
       operators = refl;
