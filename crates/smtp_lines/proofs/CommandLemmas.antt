@@ -47,7 +47,7 @@ name_found Vrfy = refl
 name_found Expn = refl
 name_found Help = refl
 
-pub verb_found : (word : List ℕ) (verb : Verb) → IsNamed word verb → verb_named word ≡ Some verb
+verb_found : (word : List ℕ) (verb : Verb) → IsNamed word verb → verb_named word ≡ Some verb
 verb_found word verb named = ap verb_in (same_lower word (name_of verb) named) ∙ name_found verb
 
 -- a choice between a verb and what the rest answers
@@ -60,7 +60,7 @@ verb_if word first verb rest later e =
     (λ no. later (sym (cond-false test (Some first) rest no) ∙ e))
     (cases_Bool test)
 
-pub verb_read : (word : List ℕ) (verb : Verb) → verb_named word ≡ Some verb → IsNamed word verb
+verb_read : (word : List ℕ) (verb : Verb) → verb_named word ≡ Some verb → IsNamed word verb
 verb_read word verb e =
     verb_if word Helo verb _ (λ e. verb_if word Ehlo verb _ (λ e. verb_if word Mail verb _ (λ e. verb_if word Rcpt verb _ (λ e. verb_if word Data verb _ (λ e.
     verb_if word Rset verb _ (λ e. verb_if word Noop verb _ (λ e. verb_if word Quit verb _ (λ e. verb_if word Vrfy verb _ (λ e. verb_if word Expn verb _ (λ e.
@@ -187,6 +187,7 @@ module _ (line : List ℕ) where
   read_found (Ok order) is = command_found order is
   read_found (Err fault) is = fault_found fault is
 
+  -- a line says one command or has one first fault
   pub one_read : (one other : Result Order LineFault) → IsRead line one → IsRead line other → one ≡ other
   one_read one other a b = sym (read_found one a) ∙ read_found other b
 
@@ -246,6 +247,7 @@ module _ (line : List ℕ) where
   option_read clean None e = unknown clean (λ verb named. let found = verb_found (verb_of line) verb named in cc)
   option_read clean (Some verb) e = verb_order verb (argument_of line) (record { clean = clean; verb_is = verb_read (verb_of line) verb e; argument_is = refl })
 
+  -- what is computed of a line is what the line says
   pub order_read : IsRead line (order_of line)
   order_read =
       ⊎_elim

@@ -9,10 +9,12 @@ use Rattle.smtp_lines.specs.inner.Readings.{EndsAt}
 
 -- ---- LF
 
+-- two texts without LF, joined, have none
 pub lf_join : (u x : List ℕ) → has_end Commands u ≡ false → has_end Commands x ≡ false → has_end Commands (u ++ x) ≡ false
 lf_join [] x h k = k
 lf_join (b ∷ u) x h k = let p = or_parts (b == 10) (has_end Commands u) h in or_from _ _ p.0 (lf_join u x p.1 k)
 
+-- where a search finds no LF among so many bytes, no command line ends there
 pub lf_none : (bytes : List ℕ) (n : ℕ) → ((k : ℕ) → k < n → k < length bytes → (slice_index bytes k == 10) ≡ true → ⊥) → has_end Commands (take n bytes) ≡ false
 lf_none [] zero h = refl
 lf_none [] (suc n) h = refl
@@ -21,6 +23,7 @@ lf_none (b ∷ bytes) (suc n) h =
     or_from _ _ (false_from_ne_true (b == 10) (h 0 (omega arith) (omega arith)))
     (lf_none bytes n (λ k lt within is. h (suc k) (omega arith) (omega arith) is))
 
+-- a command line ends behind the first LF
 pub command_ends : (begun bytes : List ℕ) (place : ℕ) → has_end Commands begun ≡ false
     → ((k : ℕ) → k < place → (slice_index bytes k == 10) ≡ true → ⊥) → place < length bytes → (slice_index bytes place == 10) ≡ true
     → EndsAt Commands begun bytes (place + 1)
@@ -39,7 +42,7 @@ command_ends begun bytes place none before within here = record {
 abbrev pub NoCrlf : List ℕ → Type 0
 NoCrlf bytes = (k : ℕ) → suc k < length bytes → get_or bytes k 0 ≡ 13 → get_or bytes (suc k) 0 ≡ 10 → ⊥
 
-pub crlf_none : (bytes : List ℕ) → NoCrlf bytes → has_end Message bytes ≡ false
+crlf_none : (bytes : List ℕ) → NoCrlf bytes → has_end Message bytes ≡ false
 crlf_none [] h = refl
 crlf_none (b ∷ []) h = refl
 crlf_none (b ∷ c ∷ bytes) h =
@@ -50,12 +53,13 @@ crlf_none (b ∷ c ∷ bytes) h =
 abbrev pub begins_in_lf : List ℕ → Bool
 begins_in_lf bytes = slice_index bytes 0 == 10
 
-pub ends_in_cr-more : (b c : ℕ) (u : List ℕ) → ends_in_cr (b ∷ c ∷ u) ≡ ends_in_cr (c ∷ u)
+ends_in_cr-more : (b c : ℕ) (u : List ℕ) → ends_in_cr (b ∷ c ∷ u) ≡ ends_in_cr (c ∷ u)
 ends_in_cr-more b c u =
     let p : suc (suc (length u)) - 1 ≡ suc (length u) = omega arith in
     let q : suc (length u) - 1 ≡ length u = omega arith in
     ap (λ n. get_or (b ∷ c ∷ u) n 0 == 13) p ∙ sym (ap (λ n. get_or (c ∷ u) n 0 == 13) q)
 
+-- two texts without CR LF have none, joined, unless it stands across the seam
 pub crlf_join : (u x : List ℕ) → has_end Message u ≡ false → has_end Message x ≡ false → (ends_in_cr u ≡ true → begins_in_lf x ≡ true → ⊥) → has_end Message (u ++ x) ≡ false
 crlf_join [] x h k seam = k
 crlf_join (b ∷ []) [] h k seam = refl
@@ -65,7 +69,7 @@ crlf_join (b ∷ c ∷ u) x h k seam =
     let p = or_parts _ _ h in
     or_from _ _ p.0 (crlf_join (c ∷ u) x p.1 k (λ cr. seam (ends_in_cr-more b c u ∙ cr)))
 
-pub crlf_front : (u x : List ℕ) → has_end Message (u ++ x) ≡ false → has_end Message u ≡ false
+crlf_front : (u x : List ℕ) → has_end Message (u ++ x) ≡ false → has_end Message u ≡ false
 crlf_front [] x h = refl
 crlf_front (b ∷ []) x h = refl
 crlf_front (b ∷ c ∷ u) x h = let p = or_parts _ _ h in or_from _ _ p.0 (crlf_front (c ∷ u) x p.1)
@@ -80,7 +84,7 @@ crlf_from_lf (b ∷ c ∷ u) h =
     or_from _ _ (false_from_ne_true _ (λ both. false≢true (sym q.0 ∙ (and_parts (b == 13) (c == 10) both).1)))
     (crlf_from_lf (c ∷ u) p.1)
 
-pub begins_in_lf-take : (n : ℕ) (bytes : List ℕ) → begins_in_lf (take n bytes) ≡ true → begins_in_lf bytes ≡ true
+begins_in_lf-take : (n : ℕ) (bytes : List ℕ) → begins_in_lf (take n bytes) ≡ true → begins_in_lf bytes ≡ true
 begins_in_lf-take zero [] h = h
 begins_in_lf-take zero (b ∷ bytes) h = absurd (false≢true h)
 begins_in_lf-take (suc n) [] h = h
@@ -91,9 +95,10 @@ reads_crlf hay k cr lf zero lt = let e : k + 0 ≡ k = omega arith in ap (λ n. 
 reads_crlf hay k cr lf (suc zero) lt = let e : k + 1 ≡ suc k = omega arith in ap (λ n. get_or hay n 0) e ∙ lf
 reads_crlf hay k cr lf (suc (suc j)) lt = absurd (omega arith)
 
-pub occurs : (hay : List ℕ) (k : ℕ) → suc k < length hay → get_or hay k 0 ≡ 13 → get_or hay (suc k) 0 ≡ 10 → OccursAt hay (13 ∷ 10 ∷ []) k
+occurs : (hay : List ℕ) (k : ℕ) → suc k < length hay → get_or hay k 0 ≡ 13 → get_or hay (suc k) 0 ≡ 10 → OccursAt hay (13 ∷ 10 ∷ []) k
 occurs hay k lt cr lf = record { fits = omega arith; reads = reads_crlf hay k cr lf }
 
+-- where a search finds no CR LF among so many bytes, no line of a message ends there
 pub crlf_before : (bytes : List ℕ) (n : ℕ) → ((k : ℕ) → k < n → k < length bytes → OccursAt bytes (13 ∷ 10 ∷ []) k → ⊥) → has_end Message (take n bytes) ≡ false
 crlf_before bytes n h =
     crlf_none (take n bytes)
@@ -105,6 +110,7 @@ crlf_before bytes n h =
     h k lower (omega arith)
     (occurs bytes k within (sym (get_or-take n bytes k 0 lower) ∙ cr) (sym (get_or-take n bytes (suc k) 0 below) ∙ lf)))
 
+-- a line of a message ends behind the first CR LF
 pub message_ends : (begun bytes : List ℕ) (place : ℕ) → has_end Message begun ≡ false → (ends_in_cr begun ≡ true → begins_in_lf bytes ≡ true → ⊥)
     → ((k : ℕ) → k < place → OccursAt bytes (13 ∷ 10 ∷ []) k → ⊥) → OccursAt bytes (13 ∷ 10 ∷ []) place
     → EndsAt Message begun bytes (place + 2)
@@ -131,7 +137,7 @@ message_ends begun bytes place none seam before here =
           (λ yes is. seam yes (begins_in_lf-take place bytes is));
     }
 
-pub cr_last : (u : List ℕ) → ends_in_cr u ≡ true → u ≡ take (length u - 1) u ++ 13 ∷ []
+cr_last : (u : List ℕ) → ends_in_cr u ≡ true → u ≡ take (length u - 1) u ++ 13 ∷ []
 cr_last [] h = absurd (false≢true h)
 cr_last (b ∷ u) h =
     let n = length u in
@@ -140,6 +146,7 @@ cr_last (b ∷ u) h =
     sym (take_all (suc n) (b ∷ u) (omega arith)) ∙ sym (ap (λ m. take m (b ∷ u)) more)
     ∙ take_more (b ∷ u) (suc n - 1) 0 less ∙ ap (λ c. take (suc n - 1) (b ∷ u) ++ c ∷ []) (eqb-true _ 13 h)
 
+-- a line of a message whose CR came before ends behind an LF at the front
 pub split_ends : (begun bytes : List ℕ) → has_end Message begun ≡ false → ends_in_cr begun ≡ true → 0 < length bytes → begins_in_lf bytes ≡ true → EndsAt Message begun bytes 1
 split_ends begun [] none cr some lf = absurd (omega arith)
 split_ends begun (b ∷ bytes) none cr some lf =

@@ -17,7 +17,7 @@ use Rattle.smtp_lines.proofs.ReadingLemmas.{cut-at, reads-length, follows_refuse
 with_first : (line : Line) (lines others all : List Line) → all ≡ line ∷ others → StandsFirst lines others → StandsFirst (line ∷ lines) all
 with_first line lines others all is first = record { later = first.later; is = is ∙ ap (λ l. line ∷ l) first.is }
 
-pub reading_by-first : (n : ℕ) (mode : Mode) (bytes : List ℕ) (answers : List Bool) (lines : List Line) (last : Mode) (rest : List ℕ) (grants left : List Bool)
+reading_by-first : (n : ℕ) (mode : Mode) (bytes : List ℕ) (answers : List Bool) (lines : List Line) (last : Mode) (rest : List ℕ) (grants left : List Bool)
     → Reads mode bytes answers lines last rest → Follows grants answers left → length lines ≤ n
     → StandsFirst lines (reading_by n mode bytes grants).lines
 reading_by-first n _ _ _ _ _ _ grants left (nothing mode bytes) follows le = record { later = (reading_by n mode bytes grants).lines; is = refl }
@@ -40,13 +40,13 @@ reading_by-first (suc n) _ _ _ _ _ _ grants left (asked mode content after grant
     ∙ ap (λ g. reading_by n (granted_mode g) after (drop 1 grants)) (sym follows.0))))
     (reading_by-first n _ _ _ _ _ _ (drop 1 grants) left then follows.1 (omega arith))
 
-pub stands-first : (r : Reader) (s : Stream) (grants left : List Bool) (grant : Bool) → Stands r s → Follows grants (s.granted ++ awaited r.under.may_turn grant) left
+stands-first : (r : Reader) (s : Stream) (grants left : List Bool) (grant : Bool) → Stands r s → Follows grants (s.granted ++ awaited r.under.may_turn grant) left
     → StandsFirst s.lines (reading_of s.received grants).lines
 stands-first r s grants left grant st follows =
     let reads = st.reads grant in
     reading_by-first (length s.received) Commands s.received (s.granted ++ awaited r.under.may_turn grant) s.lines _ _ grants left reads follows (reads-length _ _ _ _ _ _ reads)
 
-pub follows_front : (answers more : List Bool) → Follows (answers ++ more) answers more
+follows_front : (answers more : List Bool) → Follows (answers ++ more) answers more
 follows_front [] more = refl
 follows_front (grant ∷ answers) more = (refl, follows_front answers more)
 
@@ -59,15 +59,17 @@ given_first r s grant more st = stands-first r s _ more grant st (follows_front 
 pub given_first_unanswered : (r : Reader) (s : Stream) → Stands r s → StandsFirst s.lines (reading_of s.received s.granted).lines
 given_first_unanswered r s st = stands-first r s s.granted [] false st (follows_refused s.granted r.under.may_turn)
 
+-- where no byte is left, further grants change no line of the reading
 pub given_all : (r : Reader) (s : Stream) (more : List Bool) → Stands r s → r.left ≡ []
     → (reading_of s.received ((s.granted ++ awaited r.under.may_turn false) ++ more)).lines ≡ s.lines
 given_all r s more st nil = stands-reading r s _ more st nil (follows_front (s.granted ++ awaited r.under.may_turn false) more)
 
 -- ---- the same with the grants that a caller keeps
 
-pub told_first : (r : Reader) (s : Stream) (told more : List Bool) → Stands r s → HasGrants r s told → StandsFirst s.lines (reading_of s.received (told ++ more)).lines
+told_first : (r : Reader) (s : Stream) (told more : List Bool) → Stands r s → HasGrants r s told → StandsFirst s.lines (reading_of s.received (told ++ more)).lines
 told_first r s told more st has = subst (λ g. StandsFirst s.lines (reading_of s.received (g ++ more)).lines) has (given_first r s false more st)
 
+-- the lines given so far stand first in the reading under the grants told
 pub told_first_now : (r : Reader) (s : Stream) (told : List Bool) → Stands r s → HasGrants r s told → StandsFirst s.lines (reading_of s.received told).lines
 told_first_now r s told st has = subst (λ g. StandsFirst s.lines (reading_of s.received g).lines) (append-nil told) (told_first r s told [] st has)
 
@@ -75,9 +77,10 @@ told_first_now r s told st has = subst (λ g. StandsFirst s.lines (reading_of s.
 pub waiting_first : (r : Reader) (s : Stream) (told : List Bool) → Stands r s → s.granted ≡ told → StandsFirst s.lines (reading_of s.received told).lines
 waiting_first r s told st has = subst (λ g. StandsFirst s.lines (reading_of s.received g).lines) has (given_first_unanswered r s st)
 
-pub told_all : (r : Reader) (s : Stream) (told more : List Bool) → Stands r s → r.left ≡ [] → HasGrants r s told → (reading_of s.received (told ++ more)).lines ≡ s.lines
+told_all : (r : Reader) (s : Stream) (told more : List Bool) → Stands r s → r.left ≡ [] → HasGrants r s told → (reading_of s.received (told ++ more)).lines ≡ s.lines
 told_all r s told more st nil has = subst (λ g. (reading_of s.received (g ++ more)).lines ≡ s.lines) has (given_all r s more st nil)
 
+-- where no byte is left, the lines given are the reading under the grants told
 pub told_all_now : (r : Reader) (s : Stream) (told : List Bool) → Stands r s → r.left ≡ [] → HasGrants r s told → (reading_of s.received told).lines ≡ s.lines
 told_all_now r s told st nil has = subst (λ g. (reading_of s.received g).lines ≡ s.lines) (append-nil told) (told_all r s told [] st nil has)
 
@@ -89,6 +92,7 @@ has_grants-turns old new s told is has = ap (λ b. s.granted ++ awaited b false)
 has_grants-quiet : (new : Reader) (s : Stream) (told : List Bool) → new.under.may_turn ≡ false → s.granted ≡ told → HasGrants new s told
 has_grants-quiet new s told quiet has = ap (λ b. s.granted ++ awaited b false) quiet ∙ append-nil s.granted ∙ has
 
+-- lines that are given keep the grants that a caller was told
 pub after_given : (old new : Reader) (s : Stream) (told : List Bool) (lines : List Line) → HasGrants old s told → Stands new (given old.under.may_turn s lines)
     → new.under.may_turn ≡ asked_after old.under.may_turn lines → Gives s told lines new (given old.under.may_turn s lines)
 after_given old new s told [] has stands turns = record {
@@ -110,10 +114,12 @@ after_given old new s told (line ∷ lines) has stands turns = record {
 pub after_none : (r : Reader) (s : Stream) (told : List Bool) → s.granted ≡ told → r.under.may_turn ≡ true → HasGrants r s (told ++ false ∷ [])
 after_none r s told has turns = ap (λ b. s.granted ++ awaited b false) turns ∙ ap (λ g. g ++ false ∷ []) has
 
+-- a refusal is one more grant told, a no
 pub after_refusal : (r : Reader) (s : Stream) (told : List Bool) → s.granted ≡ told → r.under.may_turn ≡ false → HasGrants r (refused s) (told ++ false ∷ [])
 after_refusal r s told has turned =
     ap (λ b. (s.granted ++ false ∷ []) ++ awaited b false) turned ∙ append-nil (s.granted ++ false ∷ []) ∙ ap (λ g. g ++ false ∷ []) has
 
+-- a grant is one more grant told, a yes
 pub after_grant : (r : Reader) (s : Stream) (told : List Bool) → s.granted ≡ told → r.under.may_turn ≡ false → HasGrants r (granted s) (told ++ true ∷ [])
 after_grant r s told has turned =
     ap (λ b. (s.granted ++ true ∷ []) ++ awaited b false) turned ∙ append-nil (s.granted ++ true ∷ []) ∙ ap (λ g. g ++ true ∷ []) has
@@ -158,6 +164,7 @@ reads-how_many _ _ _ _ _ _ (asked mode content after grant answers lines last re
     let here : one_if (asks (line_of mode content)) ≡ 1 = ap one_if asking in
     omega (arith, here, reads-how_many _ _ _ _ _ _ then)
 
+-- of the lines that a call gives only the last may ask
 pub only_last : (old new : Reader) (s : Stream) (lines : List Line) → Stands old s → Stands new (given old.under.may_turn s lines)
     → new.under.may_turn ≡ asked_after old.under.may_turn lines → OnlyLastAsks lines
 only_last old new s [] before after turns = λ front last is. absurd (not_nil front last (sym is))

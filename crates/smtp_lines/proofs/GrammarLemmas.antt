@@ -23,7 +23,7 @@ or_false true = refl
 or_false false = refl
 
 -- a domain above its limit is in a path above its own
-pub same_long : (path : List ℕ) → is_too_long path ≡ is_long path
+same_long : (path : List ℕ) → is_too_long path ≡ is_long path
 unfolding most_path most_domain
 same_long path =
     let wide = nat_lt most_domain (length (domain_of path)) in
@@ -65,7 +65,7 @@ bare_parts b text plain solid =
       is = subst (λ t. IsWritten t t) (sym first) is;
     }
 
-pub path_read : (text : List ℕ) (parts : Parts) → is_solid text ≡ true → path_parts text ≡ Some parts → Written text parts
+path_read : (text : List ℕ) (parts : Parts) → is_solid text ≡ true → path_parts text ≡ Some parts → Written text parts
 path_read [] parts solid e = absurd (cc)
 path_read (b ∷ text) parts solid e =
     ⊎_elim
@@ -79,7 +79,7 @@ path_read (b ∷ text) parts solid e =
     subst (Written (b ∷ text)) same (bare_parts b text plain (not-true (is_blank b) solid)))
     (cases_Bool (b == 60))
 
-pub path_found : (written inside rest : List ℕ) → IsWritten written inside → is_parted rest ≡ true → path_parts (written ++ rest) ≡ Some (record { front = inside; back = rest })
+path_found : (written inside rest : List ℕ) → IsWritten written inside → is_parted rest ≡ true → path_parts (written ++ rest) ≡ Some (record { front = inside; back = rest })
 path_found _ _ rest (in_angles inside is) parted =
     ap (λ t. path_parts (60 ∷ t)) (append_assoc inside (62 ∷ []) rest)
     ∙ parts_found (inside ++ 62 ∷ rest) (record { front = inside; back = rest }) (record { whole = refl; inside = is })
@@ -99,6 +99,7 @@ module _ (verb : Verb) (keyword argument : List ℕ) where
   abbrev tail : List ℕ
   tail = drop (length keyword) argument
 
+  -- the path of an argument is computed, or that it is too long
   pub path_after_found : (path rest : List ℕ) → HasPath keyword argument path rest → path_after verb keyword argument ≡ cond (is_too_long path) (Err (PathTooLong verb)) (Ok (record { front = path; back = rest }))
   path_after_found path rest has =
       let size : length has.word ≡ length keyword = same_length has.word keyword has.keyword_is in
@@ -162,6 +163,7 @@ module _ (verb : Verb) (keyword argument : List ℕ) where
       (λ joined. syntax_read (first ∙ cond-true _ _ _ (not_from_false _ joined)))
       (cases_Bool (is_parted parts.back))
 
+  -- what is computed of an argument is its path, or why it has none
   pub path_after_read : PathRead (path_after verb keyword argument)
   path_after_read =
       ⊎_elim

@@ -10,19 +10,22 @@ use Rattle.smtp_lines.specs.declared.line.Mode.TheVariants.{Commands, Message}
 use Rattle.smtp_lines.specs.Stream.{command_line, message_line, without_dot, without_cr}
 use Rattle.smtp_lines.specs.inner.Readings.{IsKept, enough}
 
-pub enough-commands : enough Commands ≡ most_command
+enough-commands : enough Commands ≡ most_command
 unfolding enough
 enough-commands = refl
 
+-- of a message's line the most, CR, LF and one byte more are enough
 pub enough-message : enough Message ≡ most_message + 3
 unfolding enough
 enough-message = refl
 
+-- the front of two joined texts is the first and the front of the second
 pub take_joined : (front back : List ℕ) (most : ℕ) → length front ≤ most → take most (front ++ back) ≡ front ++ take (most - length front) back
 take_joined front back most le =
     let e : most ≡ length front + (most - length front) = omega arith in
     ap (λ n. take n (front ++ back)) e ∙ take-append-add front back (most - length front)
 
+-- a command line of more bytes than the most is too long
 pub command-long : (begun bytes content kept : List ℕ) → IsKept Commands begun kept → begun ++ bytes ≡ content ++ 10 ∷ [] → most_command < length kept + length bytes → TooLong ≡ command_line content
 command-long begun bytes content kept is whole long =
     let lens = sym (length-append begun bytes) ∙ ap length whole ∙ length-append content (10 ∷ []) in
@@ -30,6 +33,7 @@ command-long begun bytes content kept is whole long =
     let more : most_command < length content + 1 = omega arith in
     sym (cond-false _ (Command (without_cr content)) TooLong (lt-leb _ _ more))
 
+-- a command line that fits, without its LF, was kept as a whole
 pub command-short : (begun bytes content kept : List ℕ) → IsKept Commands begun kept → 0 < length bytes → begun ++ bytes ≡ content ++ 10 ∷ [] → length kept + length bytes ≤ most_command → take (length kept + length bytes - 1) (kept ++ bytes) ≡ content
 command-short begun bytes content kept is some whole short =
     let lens = sym (length-append begun bytes) ∙ ap length whole ∙ length-append content (10 ∷ []) in
@@ -41,6 +45,7 @@ command-short begun bytes content kept is some whole short =
     let n : length content ≡ length kept + length bytes - 1 = omega (arith, ap length same) in
     ap (λ x. take (length kept + length bytes - 1) (x ++ bytes)) same ∙ ap (take (length kept + length bytes - 1)) whole ∙ take_at content (10 ∷ []) _ n
 
+-- the front of a message's line, without its CR LF, is at hand
 pub message-front : (begun bytes content kept : List ℕ) (most limit : ℕ) → kept ≡ take most begun → limit + 1 ≤ most → 0 < length bytes → begun ++ bytes ≡ content ++ 13 ∷ 10 ∷ []
     → take (min (length kept + length bytes - 2) limit) (kept ++ bytes) ≡ take limit content
 message-front begun bytes content kept most limit is le some whole =

@@ -19,6 +19,7 @@ use Rattle.smtp_lines.proofs.WordLemmas.{words_none}
 pub same_lower : (text other : List ℕ) → str_eq_ignore_ascii_case text other ≡ true → str_to_ascii_lowercase text ≡ str_to_ascii_lowercase other
 same_lower text other h = (bytes_eq-Decides (str_to_ascii_lowercase text) (str_to_ascii_lowercase other)).0 h
 
+-- texts that are equal without case are of one length
 pub same_length : (text other : List ℕ) → str_eq_ignore_ascii_case text other ≡ true → length text ≡ length other
 same_length text other h = sym (length-map text _) ∙ ap (λ t. length t) (same_lower text other h) ∙ length-map other _
 
@@ -52,7 +53,7 @@ size_read digits given e =
 not_seven : (word other : List ℕ) → str_eq_ignore_ascii_case word other ≡ true → bytes_eq (str_to_ascii_lowercase other) (codes "body=7bit") ≡ false → str_eq_ignore_ascii_case word (codes "BODY=7BIT") ≡ false
 not_seven word other h unlike = ap (λ t. bytes_eq t (codes "body=7bit")) (same_lower word other h) ∙ unlike
 
-pub given_found : (word : List ℕ) (given : Given) → IsParameter word given → given_by word ≡ Some given
+given_found : (word : List ℕ) (given : Given) → IsParameter word given → given_by word ≡ Some given
 given_found _ _ (says_seven word h) = cond-true _ _ _ h
 given_found _ _ (says_eight word h) = cond-false _ _ _ (not_seven word (codes "BODY=8BITMIME") h refl) ∙ cond-true _ _ _ h
 given_found _ _ (says_size key digits h is) =
@@ -64,7 +65,7 @@ given_found _ _ (says_size key digits h is) =
     ∙ ap (λ t. as_size (size_of t)) (drop_at key digits 5 five)
     ∙ ap as_size (size_found digits is)
 
-pub given_read : (word : List ℕ) (given : Given) → given_by word ≡ Some given → IsParameter word given
+given_read : (word : List ℕ) (given : Given) → given_by word ≡ Some given → IsParameter word given
 given_read word given e =
     let seven = str_eq_ignore_ascii_case word (codes "BODY=7BIT") in
     let eight = str_eq_ignore_ascii_case word (codes "BODY=8BITMIME") in
@@ -165,10 +166,12 @@ words_found _ _ from to (one_more word words given later is are) sizes bodies =
     ap (λ o. with_words words (with_given from o)) (given_found word given is)
     ∙ put_given word words to later (λ before one two. words_found words later before to are one two) from given sizes bodies
 
+-- parameters that are computed are given by the text
 pub parameters_read : (text : List ℕ) (to : Parameters) → parameters_of text ≡ Some to → AreGiven text to.size (unwrap_or to.body false)
 parameters_read text to e =
     let adds = words_read (words_of text) no_parameters to e in
     record { given = adds.given; body = to.body; are = adds.are; size_is = adds.size_is; body_is = adds.body_is; eight_is = refl }
 
+-- parameters that a text gives are computed
 pub parameters_found : (text : List ℕ) (size : Option ℕ) (eight : Bool) (is : AreGiven text size eight) → parameters_of text ≡ Some (record { size = size; body = is.body })
 parameters_found text size eight is = words_found (words_of text) is.given no_parameters (record { size = size; body = is.body }) is.are is.size_is is.body_is

@@ -47,14 +47,17 @@ quote_read [] = tt
 quote_read (b ∷ []) = quote_last b (b == 34) refl
 quote_read (b ∷ c ∷ bs) = quote_at b c bs (b == 34) (b == 92) refl refl (quote_read bs) (quote_read (c ∷ bs))
 
+-- a plain byte makes a quoted string's length one more
 pub length_plain : (b : ℕ) (bs : List ℕ) → (b == 34) ≡ false → (b == 92) ≡ false → quote_length (b ∷ bs) ≡ option_map suc (quote_length bs)
 length_plain b [] q s = cond-false (b == 34) (Some 1) None q
 length_plain b (c ∷ bs) q s = cond-false _ _ _ q ∙ cond-false _ _ _ s
 
+-- a double quote ends a quoted string
 pub length_close : (b : ℕ) (bs : List ℕ) → (b == 34) ≡ true → quote_length (b ∷ bs) ≡ Some 1
 length_close b [] q = cond-true _ _ _ q
 length_close b (c ∷ bs) q = cond-true _ _ _ q
 
+-- a backslash and the byte behind it make a quoted string's length two more
 pub length_two : (b : ℕ) (bs : List ℕ) → (b == 34) ≡ false → (b == 92) ≡ true → quote_length (b ∷ bs) ≡ option_map (λ n. n + 2) (quote_length (drop 1 bs))
 length_two b [] q s = cond-false (b == 34) (Some 1) None q
 length_two b (c ∷ bs) q s = cond-false _ _ _ q ∙ cond-true _ _ _ s
@@ -174,14 +177,17 @@ parts_read text (Some n) ends parts e =
     let same = one_of (record { front = ends.inside; back = ends.back }) parts (parts_at text (Some n)) (parts_are text ends.inside ends.back n ends.whole count) e in
     subst (λ p. EndsPath text p) same (record { whole = ends.whole; inside = ends.is })
 
+-- the parts that are computed are those at which a path ends
 pub parts_end : (text : List ℕ) (parts : Parts) → path_parts (60 ∷ text) ≡ Some parts → EndsPath text parts
 parts_end text parts e = parts_read text (path_end text 0) (path_read text 0) parts e
 
+-- where a path ends in some parts, these are computed
 pub parts_found : (text : List ℕ) (parts : Parts) → EndsPath text parts → path_parts (60 ∷ text) ≡ Some parts
 parts_found text parts ends =
     ap (parts_at text) (ap (λ x. path_end x 0) ends.whole ∙ path_found parts.front parts.back ends.inside)
     ∙ parts_are text parts.front parts.back (length parts.front) ends.whole refl
 
+-- where no parts are computed, no path ends
 pub parts_none : (text : List ℕ) → path_parts (60 ∷ text) ≡ None → (parts : Parts) → EndsPath text parts → ⊥
 parts_none text e parts ends = let found = parts_found text parts ends in cc
 
@@ -189,8 +195,10 @@ none_when : (o : Option Parts) → ((parts : Parts) → o ≡ Some parts → ⊥
 none_when None never = refl
 none_when (Some parts) never = absurd (never parts refl)
 
+-- where no path ends, no parts are computed
 pub none_found : (text : List ℕ) → ((parts : Parts) → EndsPath text parts → ⊥) → path_parts (60 ∷ text) ≡ None
 none_found text never = none_when (path_parts (60 ∷ text)) (λ parts e. never parts (parts_end text parts e))
 
+-- the parts at which a path ends are its only ones
 pub one_end : (text : List ℕ) (one other : Parts) → EndsPath text one → EndsPath text other → one ≡ other
 one_end text one other a b = one_of one other (path_parts (60 ∷ text)) (parts_found text one a) (parts_found text other b)

@@ -11,6 +11,7 @@ pub moved : ℕ → Option ℕ → Option ℕ
 moved i None = None
 moved i (Some n) = Some (i + n)
 
+-- a place that is moved by nothing stays
 pub moved_zero : (o : Option ℕ) → moved 0 o ≡ o
 unfolding moved
 moved_zero None = refl
@@ -44,10 +45,12 @@ path_dropped (b ∷ bs) (suc n) within =
     let less : n ≤ length bs = omega arith in
     ap (option_map suc) (path_dropped bs n less) ∙ suc_moved n (path_end (drop n bs) 0)
 
+-- behind the end of a text no path ends
 pub path_over : (text : List ℕ) (i : ℕ) → length text ≤ i → moved i (path_end (drop i text) 0) ≡ None
 unfolding moved
 path_over text i past = ap (λ t. moved i (path_end t 0)) (drop_all i text past)
 
+-- behind the end of a text no quoted string ends
 pub quote_over : (text : List ℕ) (i : ℕ) → length text ≤ i → moved i (quote_length (drop i text)) ≡ None
 unfolding moved
 quote_over text i past = ap (λ t. moved i (quote_length t)) (drop_all i text past)
@@ -65,10 +68,12 @@ module _ (text : List ℕ) (i : ℕ) (within : i < length text) where
   quote_from : moved i (quote_length (drop i text)) ≡ moved i (quote_length (b ∷ after))
   quote_from = ap (λ t. moved i (quote_length t)) (drop_more text i 0 within)
 
+  -- at a > the path ends
   pub path_hit : get_or text i 0 ≡ 62 → moved i (path_end (drop i text) 0) ≡ Some i
   unfolding moved
   path_hit is = let e : i + 0 ≡ i = omega arith in path_from ∙ ap (moved i) (cond-true _ _ _ (eq-eqb _ _ is)) ∙ ap (λ m. Some m) e
 
+  -- a path's end is looked for behind a plain byte
   pub path_step : (get_or text i 0 ≡ 62 → ⊥) → (get_or text i 0 ≡ 34 → ⊥) → moved i (path_end (drop i text) 0) ≡ moved (i + 1) (path_end (drop (i + 1) text) 0)
   path_step unended plain = path_from ∙ ap (moved i) (cond-false _ _ _ (ne_eqb _ _ unended) ∙ cond-false _ _ _ (ne_eqb _ _ plain)) ∙ moved_suc i (path_end after 0)
 
@@ -78,23 +83,28 @@ module _ (text : List ℕ) (i : ℕ) (within : i < length text) where
       path_from ∙ ap (moved i) (cond-false _ _ _ (ne_eqb _ _ unended) ∙ cond-true _ _ _ (eq-eqb _ _ is) ∙ ap (λ o. option_map suc (option_and_then (λ n. path_end after n) o)) e)
       ∙ moved_suc i (option_and_then (λ n. path_end after n) o)
 
+  -- a path's end is looked for behind a quoted string
   pub path_quote : (n : ℕ) → (get_or text i 0 ≡ 62 → ⊥) → get_or text i 0 ≡ 34 → Some n ≡ quote_length (drop (i + 1) text) → n ≤ length (drop (i + 1) text)
       → moved i (path_end (drop i text) 0) ≡ moved (i + 1 + n) (path_end (drop (i + 1 + n) text) 0)
   path_quote n unended is e less =
       path_begun (Some n) unended is (sym e) ∙ ap (moved (i + 1)) (path_dropped after n less) ∙ moved_more (i + 1) n (path_end (drop n after) 0)
       ∙ ap (λ t. moved (i + 1 + n) (path_end t 0)) (drop-drop n (i + 1) text)
 
+  -- behind a quoted string that doesn't end no path ends
   pub path_open : (get_or text i 0 ≡ 62 → ⊥) → get_or text i 0 ≡ 34 → None ≡ quote_length (drop (i + 1) text) → moved i (path_end (drop i text) 0) ≡ None
   unfolding moved
   path_open unended is e = path_begun None unended is (sym e)
 
+  -- at a double quote the quoted string ends
   pub quote_hit : get_or text i 0 ≡ 34 → moved i (quote_length (drop i text)) ≡ Some (i + 1)
   unfolding moved
   quote_hit is = quote_from ∙ ap (moved i) (length_close b after (eq-eqb _ _ is))
 
+  -- a quoted string's end is looked for behind a plain byte
   pub quote_step : (get_or text i 0 ≡ 34 → ⊥) → (get_or text i 0 ≡ 92 → ⊥) → moved i (quote_length (drop i text)) ≡ moved (i + 1) (quote_length (drop (i + 1) text))
   quote_step unclosed plain = quote_from ∙ ap (moved i) (length_plain b after (ne_eqb _ _ unclosed) (ne_eqb _ _ plain)) ∙ moved_suc i (quote_length after)
 
+  -- a quoted string's end is looked for behind a backslash and the byte that it quotes
   pub quote_skip : (get_or text i 0 ≡ 34 → ⊥) → get_or text i 0 ≡ 92 → moved i (quote_length (drop i text)) ≡ moved (i + 2) (quote_length (drop (i + 2) text))
   quote_skip unclosed is =
       let e : i + 1 + 1 ≡ i + 2 = omega arith in

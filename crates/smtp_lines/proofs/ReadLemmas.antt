@@ -41,7 +41,7 @@ ends_eq mode begun bytes n e =
     ∙ append_assoc begun (take n bytes) (drop n bytes)
     ∙ ap (λ x. begun ++ x) (take-append-drop n bytes)
 
-pub one_line : (mode : Mode) (begun bytes : List ℕ) (n : ℕ) (e : EndsAt mode begun bytes n) (line : Line) → line ≡ line_of mode e.content → asks line ≡ false
+one_line : (mode : Mode) (begun bytes : List ℕ) (n : ℕ) (e : EndsAt mode begun bytes n) (line : Line) → line ≡ line_of mode e.content → asks line ≡ false
     → Reads mode (begun ++ bytes) [] (line ∷ []) (mode_after line) (drop n bytes)
 one_line mode begun bytes n e line is quiet =
     let P : Line → Type 0 = λ l. Reads mode (begun ++ bytes) [] (l ∷ []) (mode_after l) (drop n bytes) in
@@ -49,7 +49,7 @@ one_line mode begun bytes n e line is quiet =
     (subst (λ x. Reads mode x [] (line_of mode e.content ∷ []) (mode_after (line_of mode e.content)) (drop n bytes)) (ends_eq mode begun bytes n e)
     (plain mode e.content (drop n bytes) [] [] (mode_after (line_of mode e.content)) (drop n bytes) e.none (ap asks (sym is) ∙ quiet) (nothing _ _)))
 
-pub one_asked : (mode : Mode) (begun bytes : List ℕ) (n : ℕ) (e : EndsAt mode begun bytes n) (line : Line) → line ≡ line_of mode e.content → asks line ≡ true → (grant : Bool)
+one_asked : (mode : Mode) (begun bytes : List ℕ) (n : ℕ) (e : EndsAt mode begun bytes n) (line : Line) → line ≡ line_of mode e.content → asks line ≡ true → (grant : Bool)
     → Reads mode (begun ++ bytes) (grant ∷ []) (line ∷ []) (granted_mode grant) (drop n bytes)
 one_asked mode begun bytes n e line is is_so grant =
     let P : Line → Type 0 = λ l. Reads mode (begun ++ bytes) (grant ∷ []) (l ∷ []) (granted_mode grant) (drop n bytes) in
@@ -57,15 +57,17 @@ one_asked mode begun bytes n e line is is_so grant =
     (subst (λ x. Reads mode x (grant ∷ []) (line_of mode e.content ∷ []) (granted_mode grant) (drop n bytes)) (ends_eq mode begun bytes n e)
     (asked mode e.content (drop n bytes) grant [] [] (granted_mode grant) (drop n bytes) e.none (ap asks (sym is) ∙ is_so) (nothing _ _)))
 
+-- whether the last line asks tells of it alone, whatever stood before
 pub asked_after-push : (b : Bool) (lines : List Line) (line : Line) → asked_after b (lines ++ line ∷ []) ≡ asks line
 asked_after-push b [] line = refl
 asked_after-push b (l ∷ lines) line = asked_after-push (asks l) lines line
 
+-- a list with one line more isn't empty
 pub not_nil : (lines : List Line) (line : Line) → lines ++ line ∷ [] ≡ [] → ⊥
 not_nil [] line e = cc
 not_nil (l ∷ lines) line e = cc
 
-pub mode_after-asks : (line : Line) → asks line ≡ true → mode_after line ≡ Commands
+mode_after-asks : (line : Line) → asks line ≡ true → mode_after line ≡ Commands
 mode_after-asks (Command text) h = refl
 mode_after-asks TooLong h = refl
 mode_after-asks (Data text) h = absurd (false≢true h)
@@ -92,6 +94,7 @@ pub record SoFar (mode : Mode) (begun bytes : List ℕ) (lines : List Line) (now
   pub quiet : asked_after false lines ≡ false
   pub at : AtStart mode begun lines now begun_now used ⊎ Later lines begun_now
 
+-- before any byte is taken, what was kept is what was read so far
 pub so_far_start : (mode : Mode) (begun bytes kept : List ℕ) (after_cr : Bool) → IsKept mode begun kept → has_end mode begun ≡ false → ends_in_cr begun ≡ after_cr
     → SoFar mode begun bytes [] mode kept after_cr 0
 so_far_start mode begun bytes kept after_cr is none cr = record {
@@ -105,9 +108,10 @@ so_far_start mode begun bytes kept after_cr is none cr = record {
 }
 
 -- the front of nothing
-pub nothing_kept : (mode : Mode) → IsKept mode [] []
+nothing_kept : (mode : Mode) → IsKept mode [] []
 nothing_kept mode = record { most = suc (enough mode); enough = omega arith; is = refl }
 
+-- a line that ends and doesn't ask is read behind those so far
 pub so_far_line : (mode : Mode) (begun bytes : List ℕ) (lines : List Line) (now : Mode) (kept : List ℕ) (after_cr : Bool) (used n : ℕ) (line : Line) (left : List ℕ) → left ≡ drop used bytes
     → (so : SoFar mode begun bytes lines now kept after_cr used) → (e : EndsAt now so.begun_now left n) → line ≡ line_of now e.content → asks line ≡ false
     → SoFar mode begun bytes (lines ++ line ∷ []) (mode_after line) [] false (used + n)
@@ -123,6 +127,7 @@ so_far_line mode begun bytes lines now kept after_cr used n line left left_is so
   at = inr (record { some_lines = not_nil lines line; new_line = refl });
 }
 
+-- where a line that ends asks, the reading stands still behind it
 pub asked_line : (mode : Mode) (begun bytes : List ℕ) (lines : List Line) (now : Mode) (kept : List ℕ) (after_cr : Bool) (used n : ℕ) (line : Line) (left : List ℕ) → left ≡ drop used bytes
     → (so : SoFar mode begun bytes lines now kept after_cr used) → (e : EndsAt now so.begun_now left n) → line ≡ line_of now e.content → asks line ≡ true
     → ReadsOn mode begun bytes (lines ++ line ∷ []) (mode_after line) (used + n) true
@@ -136,6 +141,7 @@ asked_line mode begun bytes lines now kept after_cr used n line left left_is so 
   all = λ _ no. absurd (false≢true (sym no));
 }
 
+-- where no line ends in the bytes left, the reading is over
 pub all_read : (mode : Mode) (begun bytes : List ℕ) (lines : List Line) (now : Mode) (kept : List ℕ) (after_cr : Bool) (used : ℕ) (left : List ℕ) → left ≡ drop used bytes
     → (so : SoFar mode begun bytes lines now kept after_cr used) → has_end now (so.begun_now ++ left) ≡ false
     → ReadsOn mode begun bytes lines now used false

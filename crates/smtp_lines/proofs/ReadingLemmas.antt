@@ -28,6 +28,7 @@ cut-message (b ∷ c ∷ content) after none =
     let p = or_parts _ _ none in
     cond-false _ _ _ p.0 ∙ ap (longer b) (cut-message (c ∷ content) after p.1)
 
+-- a content without an end in it is cut at the end behind it
 pub cut-at : (mode : Mode) (content after : List ℕ) → has_end mode content ≡ false → cut mode (content ++ (end_of mode ++ after)) ≡ Some (content, after)
 cut-at Commands content after none = cut-command content after none
 cut-at Message content after none = cut-message content after none
@@ -39,7 +40,7 @@ reading_by-none : (n : ℕ) (mode : Mode) (bytes : List ℕ) (granted : List Boo
 reading_by-none zero mode bytes granted none = refl
 reading_by-none (suc n) mode bytes granted none = ap (parts_by (reading_by n) mode bytes granted) (cut-none mode bytes none)
 
-pub reading_by-is : (n : ℕ) (mode : Mode) (bytes : List ℕ) (granted : List Bool) (lines : List Line) (last : Mode) (rest : List ℕ) (grants left : List Bool)
+reading_by-is : (n : ℕ) (mode : Mode) (bytes : List ℕ) (granted : List Bool) (lines : List Line) (last : Mode) (rest : List ℕ) (grants left : List Bool)
     → Reads mode bytes granted lines last rest → has_end last rest ≡ false → Follows grants granted left → length lines ≤ n
     → reading_by n mode bytes grants ≡ record { lines = lines; mode = last; rest = rest }
 reading_by-is n _ _ _ _ _ _ grants left (nothing mode bytes) none follows le = reading_by-none n mode bytes grants none
@@ -80,12 +81,14 @@ reads-length _ _ _ _ _ _ (plain mode content after granted lines last rest ended
 reads-length _ _ _ _ _ _ (asked mode content after grant granted lines last rest ended asking then) =
     omega (arith, length-append content (end_of mode ++ after), length-append (end_of mode) after, end_some mode, reads-length _ _ _ _ _ _ then)
 
+-- a stream that is read under some grants is read so by the one reading
 pub reading_of-is : (bytes : List ℕ) (granted : List Bool) (lines : List Line) (last : Mode) (rest : List ℕ) (grants left : List Bool)
     → Reads Commands bytes granted lines last rest → has_end last rest ≡ false → Follows grants granted left
     → reading_of bytes grants ≡ record { lines = lines; mode = last; rest = rest }
 reading_of-is bytes granted lines last rest grants left reads none follows =
     reading_by-is (length bytes) Commands bytes granted lines last rest grants left reads none follows (reads-length _ _ _ _ _ _ reads)
 
+-- the grants themselves are answers by them, and none is left
 pub follows_itself : (granted : List Bool) → Follows granted granted []
 follows_itself [] = refl
 follows_itself (grant ∷ granted) = (refl, follows_itself granted)
@@ -96,6 +99,7 @@ follows_refused [] true = (refl, refl)
 follows_refused [] false = refl
 follows_refused (grant ∷ granted) may_turn = (refl, follows_refused granted may_turn)
 
+-- one more answer, the next of the grants, is as these grants say
 pub follows_more : (grants answered rest : List Bool) (grant : Bool) → Follows grants answered rest → grant ≡ first_grant rest → Follows grants (answered ++ grant ∷ []) (drop 1 rest)
 follows_more grants [] rest grant follows is = (is ∙ ap first_grant follows, ap (drop 1) follows)
 follows_more grants (a ∷ answered) rest grant follows is = (follows.0, follows_more (drop 1 grants) answered rest grant follows.1 is)
@@ -104,6 +108,7 @@ mode_by-any : (may_turn : Bool) (mode : Mode) (begun : List ℕ) → (may_turn �
 mode_by-any true mode begun commands none = subst (λ m. has_end m begun ≡ false) (commands refl) none
 mode_by-any false mode begun commands none = none
 
+-- where no byte is left, the lines that were given are those of the one reading
 pub stands-reading : (r : Reader) (s : Stream) (grants left : List Bool) → Stands r s → r.left ≡ [] → Follows grants (s.granted ++ awaited r.under.may_turn false) left
     → (reading_of s.received grants).lines ≡ s.lines
 stands-reading r s grants left st nil follows =

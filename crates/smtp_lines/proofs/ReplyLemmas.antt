@@ -90,7 +90,7 @@ module _ (code bytes : List ℕ) (three : length code ≡ 3) (m : ℕ) where
   abbrev goes : Bool
   goes = nat_lt 1 n
 
-  pub last_seen : (text : List ℕ) (size : ℕ) → BeginsLine code (most_reply_line - 3) goes false bytes text size → BeginsLines code n bytes text (is_eight text) size
+  last_seen : (text : List ℕ) (size : ℕ) → BeginsLine code (most_reply_line - 3) goes false bytes text size → BeginsLines code n bytes text (is_eight text) size
   last_seen text size begins = record {
     later = [];
     reply = begins.line;
@@ -101,7 +101,7 @@ module _ (code bytes : List ℕ) (three : length code ≡ 3) (m : ℕ) where
     size_is = begins.size_is;
   }
 
-  pub part_seen : IsLineFront code (most_reply_line - 3) goes bytes → AreFront code n bytes
+  part_seen : IsLineFront code (most_reply_line - 3) goes bytes → AreFront code n bytes
   part_seen front = by_more front.more refl
     where
       another : (m : ℕ) → 0 < m → IsReply code m ([] ∷ []) (code ++ 10 ∷ [])
@@ -146,7 +146,7 @@ module _ (code bytes : List ℕ) (three : length code ≡ 3) (m : ℕ) where
           let more : 1 < suc m = omega (arith, kn, some) in
           none true text line left (lines ++ rest) (line_fits code goes true text line three (λ t. lt-ltb 1 (suc m) more) (subst (λ x. IsReplyLine x true text line) same is)) (e ∙ append_assoc line lines rest)
 
-  pub bad_seen : IsNoLine code (most_reply_line - 3) goes bytes → AreNone code n bytes
+  bad_seen : IsNoLine code (most_reply_line - 3) goes bytes → AreNone code n bytes
   bad_seen none texts reply left rest is e = stray n refl texts reply left rest none is e
 
   -- where the first line goes on
@@ -157,7 +157,7 @@ module _ (code bytes : List ℕ) (three : length code ≡ 3) (m : ℕ) where
     first : IsReplyLine code true text begins.line
     first = reply_line code goes true text begins.line three begins.is
 
-    pub more_whole : (words : List ℕ) (eight : Bool) (count : ℕ) → BeginsLines code m (drop size bytes) words eight count → BeginsLines code n bytes text (is_eight text || eight) (size + count)
+    more_whole : (words : List ℕ) (eight : Bool) (count : ℕ) → BeginsLines code m (drop size bytes) words eight count → BeginsLines code n bytes text (is_eight text || eight) (size + count)
     more_whole words eight count lines = record {
       later = words ∷ lines.later;
       reply = begins.line ++ lines.reply;
@@ -168,7 +168,7 @@ module _ (code bytes : List ℕ) (three : length code ≡ 3) (m : ℕ) where
       size_is = (λ i. begins.size_is i + lines.size_is i) ∙ sym (length-append begins.line lines.reply);
     }
 
-    pub more_part : AreFront code m (drop size bytes) → AreFront code n bytes
+    more_part : AreFront code m (drop size bytes) → AreFront code n bytes
     more_part front = record {
       texts = text ∷ front.texts;
       reply = begins.line ++ front.reply;
@@ -189,7 +189,7 @@ module _ (code bytes : List ℕ) (three : length code ≡ 3) (m : ℕ) where
         let fewer : k ≡ m = omega (arith, kn) in
         none texts lines left rest (subst (λ j. IsReply code j texts lines) fewer (subst (λ x. IsReply x k texts lines) same later)) (ap (λ t. t ++ left) behind ∙ one.rest_is)
 
-    pub more_bad : AreNone code m (drop size bytes) → AreNone code n bytes
+    more_bad : AreNone code m (drop size bytes) → AreNone code n bytes
     more_bad none texts reply left rest is e = astray code n texts reply left rest none is refl refl e
 
 -- the same where a count of lines isn't 0
@@ -197,13 +197,16 @@ module _ (code bytes : List ℕ) (three : length code ≡ 3) (left : ℕ) (some 
   counted : left ≡ suc (left - 1)
   counted = omega arith
 
+  -- a line that doesn't go on is all lines of the reply
   pub last_at : (text : List ℕ) (size : ℕ) → BeginsLine code (most_reply_line - 3) (nat_lt 1 left) false bytes text size → BeginsLines code left bytes text (is_eight text) size
   last_at text size =
       subst (λ k. BeginsLine code (most_reply_line - 3) (nat_lt 1 k) false bytes text size → BeginsLines code k bytes text (is_eight text) size) (sym counted) (last_seen code bytes three (left - 1) text size)
 
+  -- a front of a line is a front of the reply's lines
   pub part_at : IsLineFront code (most_reply_line - 3) (nat_lt 1 left) bytes → AreFront code left bytes
   part_at = subst (λ k. IsLineFront code (most_reply_line - 3) (nat_lt 1 k) bytes → AreFront code k bytes) (sym counted) (part_seen code bytes three (left - 1))
 
+  -- where no line begins, no lines of a reply begin
   pub bad_at : IsNoLine code (most_reply_line - 3) (nat_lt 1 left) bytes → AreNone code left bytes
   bad_at = subst (λ k. IsNoLine code (most_reply_line - 3) (nat_lt 1 k) bytes → AreNone code k bytes) (sym counted) (bad_seen code bytes three (left - 1))
 
@@ -211,6 +214,7 @@ module _ (code bytes : List ℕ) (three : length code ≡ 3) (left : ℕ) (some 
     abbrev rest_of : List ℕ
     rest_of = take (length bytes - size) (drop size bytes)
 
+    -- a line that goes on and the lines behind it are lines of the reply
     pub more_whole_at : (words : List ℕ) (eight other : Bool) (count : ℕ) → (is_eight text || eight) ≡ other → BeginsLine code (most_reply_line - 3) (nat_lt 1 left) true bytes text size → BeginsLines code (left - 1) rest_of words eight count
         → BeginsLines code left bytes text other (size + count)
     more_whole_at words eight other count is begins lines =
@@ -218,11 +222,13 @@ module _ (code bytes : List ℕ) (three : length code ≡ 3) (left : ℕ) (some 
         (subst (λ k. BeginsLine code (most_reply_line - 3) (nat_lt 1 k) true bytes text size → BeginsLines code (left - 1) (drop size bytes) words eight count → BeginsLines code k bytes text (is_eight text || eight) (size + count)) (sym counted)
         (λ b l. more_whole code bytes three (left - 1) text size b words eight count l) begins (subst (λ t. BeginsLines code (left - 1) t words eight count) (take_rest bytes size) lines))
 
+    -- a line that goes on and a front of lines behind it are a front of the reply's lines
     pub more_part_at : BeginsLine code (most_reply_line - 3) (nat_lt 1 left) true bytes text size → AreFront code (left - 1) rest_of → AreFront code left bytes
     more_part_at begins front =
         subst (λ k. BeginsLine code (most_reply_line - 3) (nat_lt 1 k) true bytes text size → AreFront code (left - 1) (drop size bytes) → AreFront code k bytes) (sym counted)
         (λ b f. more_part code bytes three (left - 1) text size b f) begins (subst (AreFront code (left - 1)) (take_rest bytes size) front)
 
+    -- where no lines begin behind a line that goes on, no lines of a reply begin
     pub more_bad_at : BeginsLine code (most_reply_line - 3) (nat_lt 1 left) true bytes text size → AreNone code (left - 1) rest_of → AreNone code left bytes
     more_bad_at begins none =
         subst (λ k. BeginsLine code (most_reply_line - 3) (nat_lt 1 k) true bytes text size → AreNone code (left - 1) (drop size bytes) → AreNone code k bytes) (sym counted)
@@ -248,11 +254,13 @@ none_from bytes never = record {
   front = λ front. never front.digits front.texts front.reply front.more [] front.is_code front.is (front.whole ∙ sym (append-nil front.reply));
 }
 
+-- where no lines of a reply begin behind its code, no reply begins
 pub reply_none : (bytes : List ℕ) → 3 ≤ length bytes → AreNone (take 3 bytes) most_reply_lines bytes → IsNone bytes
 reply_none bytes long none = none_from bytes (λ digits texts reply left rest code is e.
     let same = code_is bytes left rest digits reply most_reply_lines texts long code is e in
     none texts reply left rest (subst (λ d. IsReply d most_reply_lines texts reply) (sym same) is) e)
 
+-- where three bytes at the front aren't digits, no reply begins
 pub no_code : (bytes : List ℕ) → 3 ≤ length bytes → list_all is_ascii_digit (take 3 bytes) ≡ false → IsNone bytes
 no_code bytes long other = none_from bytes (λ digits texts reply left rest code is e.
     let same = code_is bytes left rest digits reply most_reply_lines texts long code is e in
@@ -261,9 +269,11 @@ no_code bytes long other = none_from bytes (λ digits texts reply left rest code
 code_of : (bytes : List ℕ) → 3 ≤ length bytes → list_all is_ascii_digit (take 3 bytes) ≡ true → IsCode (take 3 bytes)
 code_of bytes long digits = record { three = length-take 3 bytes ∙ omega arith; digits = digits }
 
+-- a code and a front of lines behind it are a front of a reply
 pub reply_front : (bytes : List ℕ) → 3 ≤ length bytes → list_all is_ascii_digit (take 3 bytes) ≡ true → AreFront (take 3 bytes) most_reply_lines bytes → IsFront bytes
 reply_front bytes long digits front = record { digits = take 3 bytes; texts = front.texts; reply = front.reply; more = front.more; is_code = code_of bytes long digits; is = front.is; some = front.some; whole = front.whole }
 
+-- a code and the lines behind it are a reply
 pub reply_whole : (bytes text : List ℕ) (code : ℕ) (eight : Bool) (size : ℕ) → 3 ≤ length bytes → list_all is_ascii_digit (take 3 bytes) ≡ true → code ≡ digits_value 10 (take 3 bytes) → BeginsLines (take 3 bytes) most_reply_lines bytes text eight size
     → BeginsReply bytes code text eight size
 reply_whole bytes text code eight size long digits is lines = record {
@@ -287,6 +297,7 @@ least code three =
     let long : length (code ++ 10 ∷ []) ≡ length code + 1 = length-append code (10 ∷ []) in
     last_line code 99 [] (code ++ 10 ∷ []) (record { tail = 10 ∷ []; whole = refl; is = bare; fits = omega (arith, long, three) })
 
+-- fewer than three bytes, all digits, are a front of a reply
 pub begun_front : (bytes : List ℕ) → length bytes < 3 → list_all is_ascii_digit bytes ≡ true → IsFront bytes
 begun_front [] short digits = record { digits = 48 ∷ 48 ∷ 48 ∷ []; texts = [] ∷ []; reply = 48 ∷ 48 ∷ 48 ∷ 10 ∷ []; more = 48 ∷ 48 ∷ 48 ∷ 10 ∷ []; is_code = record { three = refl; digits = refl }; is = least (48 ∷ 48 ∷ 48 ∷ []) refl; some = λ e. cc; whole = refl }
 begun_front (a ∷ []) short digits = record { digits = a ∷ 48 ∷ 48 ∷ []; texts = [] ∷ []; reply = a ∷ 48 ∷ 48 ∷ 10 ∷ []; more = 48 ∷ 48 ∷ 10 ∷ []; is_code = record { three = refl; digits = digits }; is = least (a ∷ 48 ∷ 48 ∷ []) refl; some = λ e. cc; whole = refl }
@@ -305,6 +316,7 @@ front_digits (b ∷ bytes) left (d ∷ digits) tail short all e =
     let rest : bytes ++ left ≡ digits ++ tail = cc in
     and_from _ _ (ap is_ascii_digit same ∙ p.0) (front_digits bytes left digits tail (omega arith) p.1 rest)
 
+-- with fewer than three bytes, not all digits, no reply begins
 pub begun_none : (bytes : List ℕ) → length bytes < 3 → list_all is_ascii_digit bytes ≡ false → IsNone bytes
 begun_none bytes short other = none_from bytes (λ digits texts reply left rest code is e.
     let begins = begins_code digits most_reply_lines texts reply is in
@@ -343,6 +355,7 @@ same_code bytes left rest digits reply texts code is e other also tail whole =
 first_is : (text words : List ℕ) (later others : List (List ℕ)) → text ∷ later ≡ words ∷ others → text ≡ words
 first_is text words later others e = cc
 
+-- bytes begin with one reply
 pub one_whole : (bytes text words : List ℕ) (code number : ℕ) (eight other : Bool) (size count : ℕ) → BeginsReply bytes code text eight size → BeginsReply bytes number words other count
     → (code ≡ number) × (text ≡ words) × (eight ≡ other) × (size ≡ count)
 one_whole bytes text words code number eight other size count a b =
@@ -360,6 +373,7 @@ no_rest : (one other : List ℕ) → one ++ other ≡ [] → other ≡ []
 no_rest [] other e = e
 no_rest (b ∷ one) other e = absurd (cc)
 
+-- bytes that begin with a reply aren't a front of one
 pub whole_no_front : (bytes text : List ℕ) (code : ℕ) (eight : Bool) (size : ℕ) → BeginsReply bytes code text eight size → IsFront bytes → ⊥
 whole_no_front bytes text code eight size a b =
     let begins = begins_code b.digits most_reply_lines b.texts b.reply b.is in

@@ -1,17 +1,18 @@
 -- A run over a stream whose grants are known beforehand, call by call.
 use Rattle.std.proofs.Common.{◌≡◌, ℕ, ◌+◌, ◌-◌, ◌<◌, Bool, true, false, cond, List, [], ◌∷◌, ◌++◌, length, take, drop, get_or, refl, sym, ap, subst, ◌∙◌, arith, append_assoc}
 use Rattle.std.specs.List.{concat}
-use Rattle.std.proofs.lemmas.Bool.{cond-true, cond-false, false≢true}
+use Rattle.std.proofs.lemmas.Bool.{cond-true, false≢true}
 use Rattle.std.proofs.lemmas.List.{append-nil, take_more, take_all}
 use Rattle.smtp_lines.specs.declared.line.Line.{Line}
 use Rattle.smtp_lines.specs.Stream.{asks, first_grant}
 use Rattle.smtp_lines.specs.Reader.{asked_after, awaited, Reader, Stream, Stands, given, granted, refused}
 use Rattle.smtp_lines.specs.Runs.{granted_by}
-use Rattle.smtp_lines.specs.inner.Courses.{Follows, ReadSoFar}
+use Rattle.smtp_lines.specs.inner.Courses.{Follows}
 use Rattle.smtp_lines.proofs.ReadLemmas.{asked_after-push}
 use Rattle.smtp_lines.proofs.ReadingLemmas.{follows_more}
 use Rattle.smtp_lines.proofs.StandLemmas.{stands_granted, stands_refused}
 
+-- whether the last of some lines asks is whether they end in one that asks
 pub last_at : (lines : List Line) (last : Line) → 0 < length lines → last ≡ get_or lines (length lines - 1) last → asks last ≡ asked_after false lines
 last_at lines last some is =
     let n = length lines - 1 in
@@ -44,6 +45,7 @@ settled_is : (granted : List Bool) (asked : Bool) → cond asked granted (grante
 settled_is granted true = refl
 settled_is granted false = append-nil granted
 
+-- after a call the fresh lines stand behind those before, and the last may ask and wait
 pub after_call : (grants rest : List Bool) (old new : Reader) (s : Stream) (lines fresh : List Line) (bytes : List ℕ)
     → Stands new (given old.under.may_turn s fresh) → new.under.may_turn ≡ asked_after old.under.may_turn fresh → (asked_after false fresh ≡ false → new.left ≡ [])
     → Follows grants (s.granted ++ awaited old.under.may_turn false) rest → s.lines ≡ lines → s.received ≡ bytes
@@ -87,6 +89,7 @@ answered_by grants rest r s false is stands turns follows = record {
   bytes_are = refl;
 }
 
+-- once the line that asked is answered, all lines so far are answered
 pub after_answer : (grants rest : List Bool) (r new : Reader) (lines fresh : List Line) (bytes : List ℕ) → Answering grants rest r lines fresh bytes → asked_after false fresh ≡ true
     → new ≡ granted_by (first_grant rest) r → Answered grants (drop 1 rest) new (lines ++ fresh) bytes
 after_answer grants rest r new lines fresh bytes a asking is =
@@ -97,25 +100,16 @@ after_answer grants rest r new lines fresh bytes a asking is =
     (subst (λ b. Answered grants (drop 1 rest) (granted_by (first_grant rest) r) s.lines b) a.bytes_are
     (answered_by grants rest r s (first_grant rest) refl a.stands (a.turns asking) follows)))
 
-pub at_end_of_piece : (grants rest : List Bool) (r : Reader) (lines fresh : List Line) (bytes : List ℕ) → Answering grants rest r lines fresh bytes → asked_after false fresh ≡ false
-    → ReadSoFar grants rest r (lines ++ fresh) bytes
-at_end_of_piece grants rest r lines fresh bytes a quiet = record {
-  stream = a.stream;
-  stands = a.stands;
-  follows = subst (λ g. Follows grants g rest) (cond-false _ _ _ quiet) a.settled;
-  lines_are = a.lines_are;
-  bytes_are = a.bytes_are;
-  all = a.all quiet;
-}
-
 concat-push : (pieces : List (List ℕ)) (piece : List ℕ) → concat (pieces ++ piece ∷ []) ≡ concat pieces ++ piece
 concat-push [] piece = append-nil piece
 concat-push (p ∷ pieces) piece = ap (λ x. p ++ x) (concat-push pieces piece) ∙ sym (append_assoc p (concat pieces) piece)
 
+-- one piece more makes the bytes so far longer by that piece
 pub concat-more : (pieces : List (List ℕ)) (i : ℕ) (piece : List ℕ) → i < length pieces → piece ≡ get_or pieces i piece → concat (take (i + 1) pieces) ≡ concat (take i pieces) ++ piece
 concat-more pieces i piece within is =
     ap concat (take_more pieces i piece within ∙ ap (λ p. take i pieces ++ p ∷ []) (sym is)) ∙ concat-push (take i pieces) piece
 
+-- lines that end in one that asks do so whatever was asked before them
 pub asked_after-turns : (may_turn : Bool) (fresh : List Line) → asked_after false fresh ≡ true → asked_after may_turn fresh ≡ true
 asked_after-turns may_turn [] asking = absurd (false≢true asking)
 asked_after-turns may_turn (line ∷ fresh) asking = asking

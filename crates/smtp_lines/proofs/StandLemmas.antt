@@ -12,6 +12,7 @@ use Rattle.smtp_lines.specs.inner.Readings.{Takes}
 use Rattle.smtp_lines.proofs.EndLemmas.{crlf_from_lf}
 use Rattle.smtp_lines.proofs.ReadLemmas.{reads_more, reads_join}
 
+-- a new reader stands for the empty stream
 pub stands_fresh : Stands fresh empty_stream
 unfolding most_kept most_command
 stands_fresh = record {
@@ -20,6 +21,7 @@ stands_fresh = record {
   reads = λ grant. nothing Commands [];
 }
 
+-- with a piece behind the bytes left, a reader stands for the stream that received it
 pub stands_received : (r : Reader) (s : Stream) (piece : List ℕ) → Stands r s → Stands (record r { left = r.left ++ piece }) (received s piece)
 stands_received r s piece st = record {
   begun = st.begun;
@@ -34,6 +36,7 @@ mode_by-refused : (may_turn : Bool) (mode : Mode) → (may_turn ≡ true → mod
 mode_by-refused true mode commands = sym (commands refl)
 mode_by-refused false mode commands = refl
 
+-- after lines were taken, a reader stands for the stream that gave them
 pub stands_given : (old new : Reader) (s : Stream) (lines : List Line) (used : ℕ) → (st : Stands old s) → Takes old.under new.under st.begun old.left lines used
     → new.left ≡ drop used old.left → Stands new (given old.under.may_turn s lines)
 stands_given old new s [] used st t left =
@@ -62,6 +65,7 @@ most_kept-turned : most_kept Commands true ≡ most_kept Message false
 unfolding most_kept
 most_kept-turned = refl
 
+-- a reader that is set to the message stands for the stream that was granted
 pub stands_granted : (r : Reader) (s : Stream) → r.under.may_turn ≡ true → Stands r s
     → Stands (record r { under = record r.under { mode = Message; may_turn = false } }) (granted s)
 stands_granted r s is st =
@@ -87,6 +91,7 @@ take_command : (begun : List ℕ) → take most_command (take (most_kept Command
 unfolding most_kept most_message most_command
 take_command begun = take-take 2_048 16_777_219 begun (omega arith)
 
+-- a reader whose turn was refused stands for the stream that was refused
 pub stands_refused : (r : Reader) (s : Stream) → r.under.may_turn ≡ true → Stands r s → Stands (refused_by r) (refused s)
 stands_refused r s is st =
     let commands = st.holds.commands is in
@@ -110,6 +115,7 @@ stands_refused r s is st =
           (subst (λ b. Reads Commands s.received (s.granted ++ awaited b false) s.lines (mode_by b false r.under.mode) (st.begun ++ r.left)) is (st.reads false)));
     }
 
+-- a reader of equal parts stands for the same stream
 pub stands_at : (u u' : Under) (x x' : List ℕ) (s : Stream) → u ≡ u' → x ≡ x' → Stands (record { under = u'; left = x' }) s → Stands (record { under = u; left = x }) s
 stands_at u u' x x' s same_under same_left st =
     subst (λ v. Stands (record { under = v; left = x }) s) (sym same_under) (subst (λ y. Stands (record { under = u'; left = y }) s) (sym same_left) st)

@@ -11,6 +11,7 @@ use Rattle.smtp_lines.specs.Replies.{has_lf, IsTail, bare, bare_cr, last_text, m
 use Rattle.smtp_lines.specs.inner.Tails.{EndsText, IsTextFront, IsNoText, Fits, FitsBehind, BeginsLine, IsLineFront, IsNoLine}
 use Rattle.smtp_lines.proofs.SearchLemmas.{front_some, front_none, byte_found}
 
+-- a code and a tail of three bytes fit in a reply's line
 pub room_is : 3 ≤ most_reply_line - 3
 unfolding most_reply_line
 room_is = omega arith
@@ -23,6 +24,7 @@ heads x y xs ys e = cc
 tails : (x y : ℕ) (xs ys : List ℕ) → x ∷ xs ≡ y ∷ ys → xs ≡ ys
 tails x y xs ys e = cc
 
+-- texts that begin with unequal bytes aren't equal
 pub clash : (x y : ℕ) (xs ys : List ℕ) → (x == y) ≡ false → x ∷ xs ≡ y ∷ ys → ⊥
 clash x y xs ys unlike e = eqb-false x y unlike (heads x y xs ys e)
 
@@ -60,6 +62,7 @@ before_lf (b ∷ text) =
     (λ other. ap (λ n. has_lf (take n (b ∷ text))) (lf_more b text other) ∙ or_from _ _ other (before_lf text))
     (cases_Bool (is_lf b))
 
+-- where a search finds no LF, the text has none
 pub no_lf : (text : List ℕ) → IsFirstByte (is_byte 10) text None → has_lf text ≡ false
 no_lf text none =
     let over = front_none (is_byte 10) (λ b. not (is_lf b)) (byte_found 10) text none in
@@ -69,7 +72,7 @@ no_lf text none =
     all_of [] = refl
     all_of (b ∷ text) = ap (λ t. b ∷ t) (all_of text)
 
-pub cut_lf : (text : List ℕ) (k : ℕ) → IsFirstByte (is_byte 10) text (Some k) → (text ≡ take k text ++ 10 ∷ drop (k + 1) text) × (has_lf (take k text) ≡ false)
+cut_lf : (text : List ℕ) (k : ℕ) → IsFirstByte (is_byte 10) text (Some k) → (text ≡ take k text ++ 10 ∷ drop (k + 1) text) × (has_lf (take k text) ≡ false)
 cut_lf text k found =
     let at : position_or_len is_lf text ≡ k = front_some (is_byte 10) (λ b. not (is_lf b)) (byte_found 10) text k found in
     let high : k < length text = found.0.high in
@@ -80,6 +83,7 @@ cut_lf text k found =
     )
 
 module _ (room : ℕ) (text : List ℕ) where
+  -- a text ends at the first LF, if that is within the room
   pub text_ends : (k : ℕ) → IsFirstByte (is_byte 10) text (Some k) → k < room → EndsText room text (without_cr (take k text)) (k + 1)
   text_ends k found less =
       let cut = cut_lf text k found in
@@ -87,6 +91,7 @@ module _ (room : ℕ) (text : List ℕ) where
       let size : length (take k text) ≡ k = length-take k text ∙ omega arith in
       record { raw = take k text; rest = drop (k + 1) text; none = cut.1; whole = cut.0; text_is = refl; size_is = omega arith; within = omega arith }
 
+  -- where the first LF is beyond the room, no text ends
   pub text_long : (k : ℕ) → IsFirstByte (is_byte 10) text (Some k) → room ≤ k → IsNoText room text
   text_long k found most raw left rest none within e =
       let cut = cut_lf text k found in
@@ -96,14 +101,11 @@ module _ (room : ℕ) (text : List ℕ) where
       let same : length (take k text) ≡ length raw = ap (λ t. length t) (first_lf (take k text) raw (drop (k + 1) text ++ left) rest cut.1 none whole).0 in
       omega arith
 
+  -- where the bytes fill the room without LF, no text ends
   pub text_over : has_lf text ≡ false → room ≤ length text → IsNoText room text
   text_over lone most raw left rest none within e = let less = within_lf text raw left rest lone e in omega arith
 
 -- ---- tails
-
-no_bytes : (text : List ℕ) → length text ≤ 0 → text ≡ []
-no_bytes [] le = refl
-no_bytes (b ∷ text) le = absurd (omega arith)
 
 module _ (room : ℕ) (low : 3 ≤ room) (goes : Bool) where
   abbrev FitsAt : Bool → List ℕ → List ℕ → Type 0
@@ -118,15 +120,19 @@ module _ (room : ℕ) (low : 3 ≤ room) (goes : Bool) where
   nothing_not : (b : ℕ) (text : List ℕ) → (b ∷ text) ≢ []
   nothing_not b text e = cc
 
+  -- nothing is a front of a tail
   pub empty_tail : IsLineFront [] room goes []
   empty_tail = record { more = false; text = []; line = 10 ∷ []; left = 10 ∷ []; is = fits_at false [] (10 ∷ []) bare (omega arith) never; some = nothing_not 10 []; whole = refl }
 
+  -- an LF is a tail without a text
   pub lf_tail : (after : List ℕ) → BeginsLine [] room goes false (10 ∷ after) [] 1
   lf_tail after = record { line = 10 ∷ []; rest = after; is = fits_at false [] (10 ∷ []) bare (omega arith) never; whole = refl; size_is = refl }
 
+  -- a CR is a front of a tail
   pub cr_tail : IsLineFront [] room goes (13 ∷ [])
   cr_tail = record { more = false; text = []; line = 13 ∷ 10 ∷ []; left = 10 ∷ []; is = fits_at false [] (13 ∷ 10 ∷ []) bare_cr (omega arith) never; some = nothing_not 10 []; whole = refl }
 
+  -- CR LF is a tail without a text
   pub crlf_tail : (after : List ℕ) → BeginsLine [] room goes false (13 ∷ 10 ∷ after) [] 2
   crlf_tail after = record { line = 13 ∷ 10 ∷ []; rest = after; is = fits_at false [] (13 ∷ 10 ∷ []) bare_cr (omega arith) never; whole = refl; size_is = refl }
 
@@ -140,6 +146,7 @@ module _ (room : ℕ) (low : 3 ≤ room) (goes : Bool) where
   stray_cr c after _ _ _ left rest other (last_text bytes none) e = clash 13 32 (c ∷ (after ++ left)) ((bytes ++ 10 ∷ []) ++ rest) refl e
   stray_cr c after _ _ _ left rest other (more_text bytes none) e = clash 13 45 (c ∷ (after ++ left)) ((bytes ++ 10 ∷ []) ++ rest) refl e
 
+  -- no tail begins with a CR and another byte than LF
   pub cr_other : (c : ℕ) (after : List ℕ) → (c ≡ 10 → ⊥) → IsNoLine [] room goes (13 ∷ c ∷ after)
   cr_other c after other = no_line (13 ∷ c ∷ after) (λ more text tail left rest is within may e. stray_cr c after more text tail left rest (ne_eqb c 10 other) is e)
 
@@ -150,14 +157,11 @@ module _ (room : ℕ) (low : 3 ≤ room) (goes : Bool) where
   stray_sign b after _ _ _ left rest lf cr blank hyphen (last_text bytes none) may e = clash b 32 (after ++ left) ((bytes ++ 10 ∷ []) ++ rest) blank e
   stray_sign b after _ _ _ left rest lf cr blank hyphen (more_text bytes none) may e = hyphen (heads b 45 (after ++ left) ((bytes ++ 10 ∷ []) ++ rest) e) (may refl)
 
-  pub other_sign : (b : ℕ) (after : List ℕ) → (b ≡ 10 → ⊥) → (b ≡ 13 → ⊥) → (b ≡ 32 → ⊥) → (b ≡ 45 → goes ≡ true → ⊥) → IsNoLine [] room goes (b ∷ after)
-  other_sign b after lf cr blank hyphen =
-      no_line (b ∷ after) (λ more text tail left rest is within may e. stray_sign b after more text tail left rest (ne_eqb b 10 lf) (ne_eqb b 13 cr) (ne_eqb b 32 blank) hyphen is may e)
-
   -- a text behind a blank
   ended : (sign : ℕ) (raw rest : List ℕ) → sign ∷ (raw ++ 10 ∷ rest) ≡ (sign ∷ (raw ++ 10 ∷ [])) ++ rest
   ended sign raw rest = ap (λ t. sign ∷ t) (sym (append_assoc raw (10 ∷ []) rest))
 
+  -- a blank and a text that ends are a tail of a last line
   pub last_ends : (after text : List ℕ) (size : ℕ) → EndsText (room - 1) after text size → BeginsLine [] room goes false (32 ∷ after) text (1 + size)
   last_ends after text size ends =
       let long : length (ends.raw ++ 10 ∷ []) ≡ length ends.raw + 1 = length-append ends.raw (10 ∷ []) in
@@ -171,6 +175,7 @@ module _ (room : ℕ) (low : 3 ≤ room) (goes : Bool) where
         size_is = omega (arith, long, ends.size_is);
       }
 
+  -- a blank and a front of a text are a front of a tail
   pub last_front : (after : List ℕ) → IsTextFront (room - 1) after → IsLineFront [] room goes (32 ∷ after)
   last_front after front =
       let long : length (after ++ 10 ∷ []) ≡ length after + 1 = length-append after (10 ∷ []) in
@@ -188,6 +193,7 @@ module _ (room : ℕ) (low : 3 ≤ room) (goes : Bool) where
   stray_last after _ _ _ left rest none (last_text bytes lone) within e = stray_text after none bytes left rest lone within (tails 32 32 (after ++ left) ((bytes ++ 10 ∷ []) ++ rest) e)
   stray_last after _ _ _ left rest none (more_text bytes lone) within e = clash 32 45 (after ++ left) ((bytes ++ 10 ∷ []) ++ rest) refl e
 
+  -- where no text ends behind a blank, no tail begins
   pub last_none : (after : List ℕ) → IsNoText (room - 1) after → IsNoLine [] room goes (32 ∷ after)
   last_none after none = no_line (32 ∷ after) (λ more text tail left rest is within may e. stray_last after more text tail left rest none is within e)
 
@@ -197,9 +203,11 @@ module _ (room : ℕ) (low : 3 ≤ room) (goes : Bool) where
   stray_more after _ _ _ left rest none (last_text bytes lone) within e = clash 45 32 (after ++ left) ((bytes ++ 10 ∷ []) ++ rest) refl e
   stray_more after _ _ _ left rest none (more_text bytes lone) within e = stray_text after none bytes left rest lone within (tails 45 45 (after ++ left) ((bytes ++ 10 ∷ []) ++ rest) e)
 
+  -- where no text ends behind a hyphen, no tail begins
   pub more_none : (after : List ℕ) → IsNoText (room - 1) after → IsNoLine [] room goes (45 ∷ after)
   more_none after none = no_line (45 ∷ after) (λ more text tail left rest is within may e. stray_more after more text tail left rest none is within e)
 
+  -- a hyphen and a text that ends are a tail of a line that goes on
   pub more_ends : (after text : List ℕ) (size : ℕ) → goes ≡ true → EndsText (room - 1) after text size → BeginsLine [] room goes true (45 ∷ after) text (1 + size)
   more_ends after text size may ends =
       let long : length (ends.raw ++ 10 ∷ []) ≡ length ends.raw + 1 = length-append ends.raw (10 ∷ []) in
@@ -213,6 +221,7 @@ module _ (room : ℕ) (low : 3 ≤ room) (goes : Bool) where
         size_is = omega (arith, long, ends.size_is);
       }
 
+  -- a hyphen and a front of a text are a front of a tail, where lines may follow
   pub more_front : (after : List ℕ) → goes ≡ true → IsTextFront (room - 1) after → IsLineFront [] room goes (45 ∷ after)
   more_front after may front =
       let long : length (after ++ 10 ∷ []) ≡ length after + 1 = length-append after (10 ∷ []) in
@@ -220,7 +229,7 @@ module _ (room : ℕ) (low : 3 ≤ room) (goes : Bool) where
 
   -- ---- behind a code
 
-  pub begins_behind : (code tail text : List ℕ) (more : Bool) (size : ℕ) → BeginsLine [] room goes more tail text size → BeginsLine code room goes more (code ++ tail) text (length code + size)
+  begins_behind : (code tail text : List ℕ) (more : Bool) (size : ℕ) → BeginsLine [] room goes more tail text size → BeginsLine code room goes more (code ++ tail) text (length code + size)
   begins_behind code tail text more size begins = record {
     line = code ++ begins.line;
     rest = begins.rest;
@@ -229,11 +238,13 @@ module _ (room : ℕ) (low : 3 ≤ room) (goes : Bool) where
     size_is = ap (λ n. length code + n) begins.size_is ∙ sym (length-append code begins.line);
   }
 
+  -- a tail behind the code is a line with this code
   pub behind : (code bytes tail text : List ℕ) (more : Bool) (size : ℕ) → length code ≡ 3 → bytes ≡ code ++ tail → BeginsLine [] room goes more tail text size → BeginsLine code room goes more bytes text (3 + size)
   behind code bytes tail text more size three whole begins =
       subst (λ b. BeginsLine code room goes more b text (3 + size)) (sym whole)
       (subst (λ n. BeginsLine code room goes more (code ++ tail) text (n + size)) three (begins_behind code tail text more size begins))
 
+  -- a front of a tail behind the code is a front of a line
   pub front_behind : (code tail : List ℕ) → IsLineFront [] room goes tail → IsLineFront code room goes (code ++ tail)
   front_behind code tail front = record {
     more = front.more;
@@ -245,6 +256,7 @@ module _ (room : ℕ) (low : 3 ≤ room) (goes : Bool) where
     whole = append_assoc code tail front.left ∙ ap (λ t. code ++ t) front.whole;
   }
 
+  -- where no tail begins behind the code, no line begins
   pub none_behind : (code tail : List ℕ) → IsNoLine [] room goes tail → IsNoLine code room goes (code ++ tail)
   none_behind code tail none more text line left rest is e =
       let whole : code ++ (tail ++ left) ≡ code ++ (is.tail ++ rest) = sym (append_assoc code tail left) ∙ e ∙ ap (λ t. t ++ rest) is.whole ∙ append_assoc code is.tail rest in
@@ -272,6 +284,7 @@ module _ (room : ℕ) (low : 3 ≤ room) (goes : Bool) where
       joined (suc n) [] = refl
       joined (suc n) (b ∷ text) = ap (λ t. b ∷ t) (joined n text)
 
+  -- fewer bytes than the code has, which aren't its front, begin no line
   pub code_none : (code bytes : List ℕ) → length bytes < length code → (bytes ≡ take (length bytes) code → ⊥) → IsNoLine code room goes bytes
   code_none code bytes short other more text line left rest is e =
       let n = length bytes in
@@ -279,6 +292,7 @@ module _ (room : ℕ) (low : 3 ≤ room) (goes : Bool) where
       let le : n ≤ length code = omega arith in
       other (sym (take_at bytes left n refl) ∙ ap (take n) whole ∙ take-append-le n code (is.tail ++ rest) le)
 
+  -- bytes with another code begin no line
   pub code_other : (code bytes : List ℕ) → length code ≤ length bytes → (take (length code) bytes ≡ code → ⊥) → IsNoLine code room goes bytes
   code_other code bytes long other more text line left rest is e =
       let n = length code in

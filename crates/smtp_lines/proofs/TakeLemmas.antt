@@ -11,13 +11,14 @@ use Rattle.smtp_lines.specs.Reader.{most_kept, asked_after, awaited, mode_by, Un
 use Rattle.smtp_lines.specs.inner.Readings.{enough, cr_after, ReadsOn, Takes}
 use Rattle.smtp_lines.proofs.LineLemmas.{take_joined}
 
+-- what is kept of a line is enough to tell the line
 pub enough_kept : (mode : Mode) (may_turn : Bool) → enough mode ≤ most_kept mode may_turn
 unfolding enough most_kept most_message most_command
 enough_kept Commands false = omega arith
 enough_kept Commands true = omega arith
 enough_kept Message may_turn = omega arith
 
-pub kept_more : (most : ℕ) (begun bytes : List ℕ) → take most begun ++ take (most - length (take most begun)) bytes ≡ take most (begun ++ bytes)
+kept_more : (most : ℕ) (begun bytes : List ℕ) → take most begun ++ take (most - length (take most begun)) bytes ≡ take most (begun ++ bytes)
 kept_more most begun bytes =
     ⊎_elim
     (λ (cut : most < length begun).
@@ -27,19 +28,21 @@ kept_more most begun bytes =
     ap (λ x. x ++ take (most - length x) bytes) (take_all most begun all) ∙ sym (take_joined begun bytes most all))
     (cases_lt most (length begun))
 
-pub ends_in_cr-append : (begun : List ℕ) (b : ℕ) (bytes : List ℕ) → ends_in_cr (begun ++ b ∷ bytes) ≡ ends_in_cr (b ∷ bytes)
+ends_in_cr-append : (begun : List ℕ) (b : ℕ) (bytes : List ℕ) → ends_in_cr (begun ++ b ∷ bytes) ≡ ends_in_cr (b ∷ bytes)
 ends_in_cr-append begun b bytes =
     let n : length (begun ++ b ∷ bytes) - 1 ≡ length begun + (length (b ∷ bytes) - 1) = omega (arith, length-append begun (b ∷ bytes)) in
     ap (λ m. get_or (begun ++ b ∷ bytes) m 0 == 13) n ∙ ap (λ c. c == 13) (get_or-append-add begun (b ∷ bytes) (length (b ∷ bytes) - 1) 0)
 
-pub cr_after-is : (begun bytes : List ℕ) (after_cr : Bool) → ends_in_cr begun ≡ after_cr → ends_in_cr (begun ++ bytes) ≡ cr_after after_cr bytes
+cr_after-is : (begun bytes : List ℕ) (after_cr : Bool) → ends_in_cr begun ≡ after_cr → ends_in_cr (begun ++ bytes) ≡ cr_after after_cr bytes
 cr_after-is begun [] after_cr is = ap ends_in_cr (append-nil begun) ∙ is
 cr_after-is begun (b ∷ bytes) after_cr is = ends_in_cr-append begun b bytes
 
+-- where there are lines, whether the last asks doesn't hang on what was asked before
 pub asked_after-some : (a b : Bool) (lines : List Line) → (lines ≡ [] → ⊥) → asked_after a lines ≡ asked_after b lines
 asked_after-some a b [] some = absurd (some refl)
 asked_after-some a b (line ∷ lines) some = refl
 
+-- where no line ends, the front of the line under way is kept
 pub takes_none : (old new : Under) (begun bytes : List ℕ) (lines : List Line) → lines ≡ []
     → new ≡ record old { kept = old.kept ++ take (most_kept old.mode old.may_turn - length old.kept) bytes; after_cr = cr_after old.after_cr bytes }
     → Holds old begun → has_end old.mode (begun ++ bytes) ≡ false → Takes old new begun bytes lines (length bytes)
@@ -55,6 +58,7 @@ takes_none old new begun bytes lines nil is holds none =
       some = λ more. absurd (more nil);
     })
 
+-- where lines ended, the front of what is behind them is kept
 pub takes_some : (old new : Under) (begun bytes : List ℕ) (lines : List Line) (now : Mode) (used until : ℕ) (asked : Bool) (tail : List ℕ)
     → (lines ≡ [] → ⊥) → ReadsOn old.mode begun bytes lines now used asked
     → new ≡ record { mode = now; may_turn = asked; kept = take (most_kept now asked) tail; after_cr = ends_in_cr tail }

@@ -23,7 +23,7 @@ some_front (suc n) (b ∷ text) some low = refl
 words_some : (word text : List ℕ) (texts : List (List ℕ)) → slice_split is_blank text ≡ word ∷ texts → is_some_text word ≡ true → words_of text ≡ word ∷ filter is_some_text texts
 words_some word text texts e some = ap (filter is_some_text) e ∙ cond-true _ _ _ some
 
-pub words_step : (rest : List ℕ) (end : ℕ) → end ≡ word_end rest → 0 < end → words_of rest ≡ take end rest ∷ words_of (drop (end + 1) rest)
+words_step : (rest : List ℕ) (end : ℕ) → end ≡ word_end rest → 0 < end → words_of rest ≡ take end rest ∷ words_of (drop (end + 1) rest)
 words_step rest end is some =
     let least = prefix_len-le-length (λ b. not (is_blank b)) rest in
     ⊎_elim
@@ -39,7 +39,7 @@ words_step rest end is some =
     ∙ (λ i. sym all i ∷ words_of (sym none i)))
     (cases_lt (word_end rest) (length rest))
 
-pub words_skip : (rest : List ℕ) (end : ℕ) → end ≡ word_end rest → end ≤ 0 → 0 < length rest → words_of rest ≡ words_of (drop (end + 1) rest)
+words_skip : (rest : List ℕ) (end : ℕ) → end ≡ word_end rest → end ≤ 0 → 0 < length rest → words_of rest ≡ words_of (drop (end + 1) rest)
 words_skip rest end is none low =
     let less : word_end rest < length rest = omega arith in
     let zero_is : word_end rest ≡ 0 = omega arith in
@@ -49,11 +49,13 @@ words_skip rest end is none low =
 
 -- ---- the parameters that are read of them
 
+-- behind parameters that can't be, no word makes some
 pub words_none : (words : List (List ℕ)) → with_words words None ≡ None
 words_none [] = refl
 words_none (word ∷ words) = words_none words
 
 module _ (text : List ℕ) (i : ℕ) (within : i < length text) (end : ℕ) (is : end ≡ word_end (drop i text)) (given : Parameters) where
+  -- a word that adds a parameter leaves the words behind it to be read
   pub parameter_more : (next : Parameters) → 0 < end → Some next ≡ with_given given (given_by (take end (drop i text)))
       → with_words (words_of (drop (i + (end + 1)) text)) (Some next) ≡ with_words (words_of (drop i text)) (Some given)
   parameter_more next some e =
@@ -61,12 +63,14 @@ module _ (text : List ℕ) (i : ℕ) (within : i < length text) (end : ℕ) (is 
       ∙ ap (with_words (words_of (drop (end + 1) (drop i text)))) e
       ∙ sym (ap (λ w. with_words w (Some given)) (words_step (drop i text) end is some))
 
+  -- a word that can't be added makes all words no parameters
   pub parameter_bad : 0 < end → None ≡ with_given given (given_by (take end (drop i text))) → None ≡ with_words (words_of (drop i text)) (Some given)
   parameter_bad some e =
       sym (ap (λ w. with_words w (Some given)) (words_step (drop i text) end is some)
       ∙ ap (with_words (words_of (drop (end + 1) (drop i text)))) (sym e)
       ∙ words_none (words_of (drop (end + 1) (drop i text))))
 
+  -- an empty word adds nothing
   pub parameter_skip : end ≤ 0 → 0 < length (drop i text) → with_words (words_of (drop (i + (end + 1)) text)) (Some given) ≡ with_words (words_of (drop i text)) (Some given)
   parameter_skip none low =
       ap (λ t. with_words (words_of t) (Some given)) (sym (drop-drop (end + 1) i text))
@@ -94,6 +98,7 @@ pub record GapCut (text rest : List ℕ) : Type 0 where
   pub blank : list_all is_blank gap ≡ true
   pub solid : is_solid rest ≡ true
 
+-- a text is cut into its blanks at the front and what follows them
 pub gap_cut : (text : List ℕ) → GapCut text (without_blanks text)
 gap_cut [] = record { gap = []; whole = refl; blank = refl; solid = refl }
 gap_cut (b ∷ text) =
@@ -103,6 +108,7 @@ gap_cut (b ∷ text) =
     (λ solid. subst (GapCut (b ∷ text)) (sym (blanks_stop b text solid)) (record { gap = []; whole = refl; blank = refl; solid = not_from_false _ solid }))
     (cases_Bool (is_blank b))
 
+-- blanks before a text that begins with none are those that are left out
 pub gap_found : (gap rest : List ℕ) → list_all is_blank gap ≡ true → is_solid rest ≡ true → without_blanks (gap ++ rest) ≡ rest
 gap_found [] [] blank solid = refl
 gap_found [] (b ∷ rest) blank solid = blanks_stop b rest (elim (is_blank b) as (λ x. not x ≡ true → x ≡ false) [ true ↦ λ h. absurd (false≢true h) | false ↦ λ h. refl ] solid)
@@ -114,6 +120,7 @@ word_more b text solid = cond-true _ _ _ (not_from_false _ solid) ∙ omega arit
 word_stop : (b : ℕ) (text : List ℕ) → is_blank b ≡ true → word_end (b ∷ text) ≡ 0
 word_stop b text blank = cond-false _ _ _ (not_from_true _ blank)
 
+-- the word at the front of a text has no blank
 pub word_solid : (text : List ℕ) → list_any is_blank (take (word_end text) text) ≡ false
 word_solid [] = refl
 word_solid (b ∷ text) =
@@ -122,14 +129,7 @@ word_solid (b ∷ text) =
     (λ solid. ap (λ n. list_any is_blank (take n (b ∷ text))) (word_more b text solid) ∙ or_from _ _ solid (word_solid text))
     (cases_Bool (is_blank b))
 
-pub word_parted : (text : List ℕ) → is_parted (drop (word_end text) text) ≡ true
-word_parted [] = refl
-word_parted (b ∷ text) =
-    ⊎_elim
-    (λ blank. ap (λ n. is_parted (drop n (b ∷ text))) (word_stop b text blank) ∙ blank)
-    (λ solid. ap (λ n. is_parted (drop n (b ∷ text))) (word_more b text solid) ∙ word_parted text)
-    (cases_Bool (is_blank b))
-
+-- a word ends where a blank or nothing follows it
 pub word_found : (word rest : List ℕ) → list_any is_blank word ≡ false → is_parted rest ≡ true → word_end (word ++ rest) ≡ length word
 word_found [] [] solid parted = refl
 word_found [] (b ∷ rest) solid parted = word_stop b rest parted
