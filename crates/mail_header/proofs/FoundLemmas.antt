@@ -54,6 +54,7 @@ header_unnamed line k found named =
     let less : n < k = name_short line k low named in
     and_right (nat_lt 0 n && nat_lt n (length line)) _ (ap (λ b. b && list_all is_plain line) (false_from_ne_true (slice_index line n == 58) (λ is. found.0.before n (omega arith) less is)))
 
+-- a line with its first colon at k is a header if a name stands before it and no bad byte is there
 pub header_at : (line : List ℕ) (k : ℕ) → IsFirstByte (is_byte 58) line (Some k) → ((nat_lt 0 k && list_all is_name_byte (take k line)) && list_all is_plain line) ≡ is_header line
 header_at line k found =
     let by : Bool → Bool = λ named. (nat_lt 0 k && named) && list_all is_plain line in
@@ -62,6 +63,7 @@ header_at line k found =
     (λ no. ap by no ∙ ap (λ b. b && list_all is_plain line) (and_right (nat_lt 0 k) false refl) ∙ sym (header_unnamed line k found no))
     (cases_Bool (list_all is_name_byte (take k line)))
 
+-- a line without a colon is no header
 pub header_none : (line : List ℕ) → IsFirstByte (is_byte 58) line None → false ≡ is_header line
 header_none line none =
     let n = prefix_len is_name_byte line in

@@ -9,6 +9,7 @@ use Rattle.mail_header.specs.Lines.{headers_of, body_of, block_of, size_of}
 use Rattle.mail_header.proofs.SplitLemmas.{exact_size, same_above}
 use Rattle.mail_header.proofs.GrammarLemmas.{split_of_lines, one_split}
 
+-- what is gathered of lines within the limits is the split of their text
 pub split_is : (g : Gathered) (limit : ℕ) (lines : List (List ℕ)) → Gathers g limit lines → AreLines lines → is_above limit g.size ≡ false → is_above most_headers g.block ≡ false
     → IsSplit (text_of lines) (record { headers = g.headers; body = g.body; block = g.block })
 split_is g limit lines gathers are small block =
@@ -17,6 +18,7 @@ split_is g limit lines gathers are small block =
     let size : g.block ≡ size_of (block_of false lines) = keeps.block ∙ exact_size most_headers (size_of (block_of false lines)) (ap (is_above most_headers) (sym keeps.block) ∙ block) in
     subst (IsSplit (text_of lines)) (λ i. record { headers = sym headers i; body = sym keeps.body i; block = sym size i }) (split_of_lines lines are)
 
+-- headers are told as too large if those of the split are
 pub block_large : (g : Gathered) (limit : ℕ) (lines : List (List ℕ)) (split : Split) → Gathers g limit lines → AreLines lines → IsSplit (text_of lines) split → is_above limit g.size ≡ false
     → is_above most_headers g.block ≡ is_above most_headers split.block
 block_large g limit lines split gathers are is small =

@@ -39,18 +39,20 @@ first_crlf (c ∷ one) (d ∷ other) xs ys a b e =
     ((λ i. same i ∷ rest.0 i), rest.1)
 
 -- plain bytes have none
-pub plain_no_crlf : (line : List ℕ) → list_all is_plain line ≡ true → has_crlf line ≡ false
+plain_no_crlf : (line : List ℕ) → list_all is_plain line ≡ true → has_crlf line ≡ false
 plain_no_crlf [] h = refl
 plain_no_crlf (b ∷ line) h =
     let p = and_parts (is_plain b) (list_all is_plain line) h in
     ap (λ t. (t && (slice_index line 0 == 10)) || has_crlf line) (plain_byte b p.0).0 ∙ plain_no_crlf line p.1
 
+-- a header's first line has only plain bytes
 pub header_plain : (line : List ℕ) → is_header line ≡ true → list_all is_plain line ≡ true
 header_plain line h =
     let n = prefix_len is_name_byte line in
     let p = and_parts (nat_lt 0 n && nat_lt n (length line)) (slice_index line n == 58 && list_all is_plain line) h in
     (and_parts (slice_index line n == 58) (list_all is_plain line) p.1).1
 
+-- a line that goes on has only plain bytes
 pub fold_plain : (line : List ℕ) → is_continuation line ≡ true → list_all is_plain line ≡ true
 fold_plain line h = (and_parts (is_blank (slice_index line 0)) (list_all is_plain line) h).1
 
@@ -82,7 +84,7 @@ text_joined line false headers = refl
 text_joined line true [] = refl
 text_joined line true (header ∷ headers) = simp append_assoc
 
-pub text_in : (lines : List (List ℕ)) → text_of (headers_in lines) ≡ text_of lines
+text_in : (lines : List (List ℕ)) → text_of (headers_in lines) ≡ text_of lines
 text_in [] = refl
 text_in (line ∷ lines) = text_joined line (goes_on lines) (headers_in lines) ∙ ap (λ t. with_end line ++ t) (text_in lines)
 
@@ -226,7 +228,7 @@ record Same (one other xs ys : List ℕ) : Type 0 where
   header : one ≡ other
   rest : xs ≡ ys
 
-pub behind_line : (line more xs : List ℕ) → (line ++ (crlf ++ more)) ++ (crlf ++ xs) ≡ line ++ (crlf ++ (more ++ (crlf ++ xs)))
+behind_line : (line more xs : List ℕ) → (line ++ (crlf ++ more)) ++ (crlf ++ xs) ≡ line ++ (crlf ++ (more ++ (crlf ++ xs)))
 behind_line line more xs = append_assoc line (crlf ++ more) (crlf ++ xs)
 
 fold_first : (others xs ys : List ℕ) → IsFolded others → xs ≡ others ++ (crlf ++ ys) → Solid xs → ⊥
@@ -310,6 +312,7 @@ same_body _ _ _ _ (behind_empty_line body) (at_once other never) e = absurd (nev
 same_body _ _ _ _ (at_once body never) (behind_empty_line other) e = absurd (never other e)
 same_body _ _ _ _ (at_once body never) (at_once other nor) e = e
 
+-- a message has one split
 pub one_split : (message : List ℕ) (one other : Split) → IsSplit message one → IsSplit message other → one ≡ other
 one_split message one other a b =
     let same = same_headers one.headers other.headers a.rest b.rest a.are b.are (λ line more e. (a.ends line more e).0) (λ line more e. (b.ends line more e).0)

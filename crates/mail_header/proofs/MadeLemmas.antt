@@ -30,11 +30,12 @@ next_blank : (rest : List ℕ) → is_blank (slice_index rest 0) ≡ true → Is
 next_blank [] h = absurd (false≢true h)
 next_blank (b ∷ rest) h = subst IsBlank (sym (blank_stays b rest h)) (blank_is b h)
 
-pub tidied_header : (text : List ℕ) → IsHeader (tidied text)
+tidied_header : (text : List ℕ) → IsHeader (tidied text)
 tidied_header [] k e = absurd (eqb-false 0 10 refl e)
 tidied_header (b ∷ rest) zero e = next_blank rest (feed_folds b rest e)
 tidied_header (b ∷ rest) (suc k) e = let more : suc k + 1 ≡ suc (k + 1) = omega arith in subst (λ n. IsBlank (slice_index (tidied (b ∷ rest)) n)) (sym more) (tidied_header rest k e)
 
+-- what is made of a header's line is a header
 pub made_header : (macros : List (List ℕ × List ℕ)) (line : HeaderLine) → IsHeader (made_of macros line)
 made_header macros line = tidied_header _
 

@@ -22,20 +22,22 @@ ended found false is met = refl
 
 -- where a byte is searched that ends a run
 module _ (test stays : ℕ → Bool) (turns : (b : ℕ) → test b ≡ not (stays b)) (bytes : List ℕ) where
-  pub front_some : (k : ℕ) → IsFirstByte test bytes (Some k) → prefix_len stays bytes ≡ k
+  front_some : (k : ℕ) → IsFirstByte test bytes (Some k) → prefix_len stays bytes ≡ k
   front_some k found =
       let low : k < length bytes = found.0.high in
       prefix_len_is stays bytes k 0 (omega arith)
       (λ j lt. kept _ _ (turns _) (found.0.before j (omega arith) lt))
       (λ lt. ended _ _ (turns _) found.1)
 
-  pub front_none : IsFirstByte test bytes None → prefix_len stays bytes ≡ length bytes
+  front_none : IsFirstByte test bytes None → prefix_len stays bytes ≡ length bytes
   front_none none = prefix_len_is stays bytes (length bytes) 0 (omega arith) (λ j lt. kept _ _ (turns _) (none j (omega arith) lt)) (λ lt. absurd (omega arith))
 
+  -- what a search answers, or all bytes, is how long the front without such bytes is
   pub front_length : (r : Option ℕ) → IsFirstByte test bytes r → unwrap_or r (length bytes) ≡ prefix_len stays bytes
   front_length None none = sym (front_none none)
   front_length (Some k) found = sym (front_some k found)
 
+  -- where a search from the end stops tells how long the back without such bytes is
   pub back_some : (k : ℕ) → IsLastByte test bytes (Some k) → suffix_len stays bytes ≡ length bytes - (k + 1)
   back_some k found =
       let low : k < length bytes = found.0.high in
@@ -44,6 +46,7 @@ module _ (test stays : ℕ → Bool) (turns : (b : ℕ) → test b ≡ not (stay
       (λ j le lt. kept _ _ (turns _) (found.0.after j le lt))
       (λ some. ap (λ j. stays (slice_index bytes j)) at ∙ ended _ _ (turns _) found.1)
 
+  -- where a search from the end finds nothing, all bytes are the back without such
   pub back_none : IsLastByte test bytes None → suffix_len stays bytes ≡ length bytes
   back_none none = suffix_len_is stays bytes 0 0 (omega arith) (λ j le lt. kept _ _ (turns _) (none j le lt)) (λ some. absurd (omega arith)) ∙ omega arith
 
@@ -54,7 +57,7 @@ module _ (test stays : ℕ → Bool) (turns : (b : ℕ) → test b ≡ not (stay
   all_stay (Some k) true found is = absurd (false≢true (sym is))
   all_stay (Some k) false found is = sym (list_all_at stays bytes k 0 found.0.high (ended _ _ (turns _) found.1))
 
-pub twice : (b : Bool) → b ≡ not (not b)
+twice : (b : Bool) → b ≡ not (not b)
 twice true = refl
 twice false = refl
 
@@ -64,16 +67,15 @@ in_blanks false true = refl
 in_blanks false false = refl
 
 -- the set of a space and a tab
-pub blanks_are : (b : ℕ) → is_in (32 ∷ 9 ∷ []) b ≡ is_blank b
+blanks_are : (b : ℕ) → is_in (32 ∷ 9 ∷ []) b ≡ is_blank b
 unfolding is_in
 blanks_are b = in_blanks (b == 32) (b == 9)
 
-pub blank_found : (b : ℕ) → is_in (32 ∷ 9 ∷ []) b ≡ not (not (is_blank b))
-blank_found b = blanks_are b ∙ twice (is_blank b)
-
+-- a byte is neither space nor tab if it isn't a blank
 pub solid_found : (b : ℕ) → not_in (32 ∷ 9 ∷ []) b ≡ not (is_blank b)
 solid_found b = ap not (blanks_are b)
 
+-- a test for one byte, denied twice, is that test
 pub byte_found : (byte b : ℕ) → is_byte byte b ≡ not (not (is_byte byte b))
 byte_found byte b = twice (is_byte byte b)
 

@@ -43,6 +43,7 @@ parts_size begun (line ∷ lines) =
     elim (belongs begun line) as (λ b. size_of (cond b (line ∷ block_of true lines) []) + size_of (cond b (rest_of true lines) (line ∷ lines)) ≡ size_of (line ∷ lines))
     [ true ↦ all | false ↦ sym none ]
 
+-- lines with their ends have as many bytes as is counted for them
 pub ended_size : (lines : List (List ℕ)) → length (flat_map with_end lines) ≡ size_of lines
 ended_size [] = refl
 ended_size (line ∷ lines) =
@@ -72,6 +73,7 @@ split_size lines =
 bodied : (g : Gathered) (limit : ℕ) → g.headers ≡ [] → length g.body ≤ limit → IsSmall g limit
 bodied g limit none within = record { headers = subst (λ h. length (text_of h) ≤ most_headers) (sym none) (omega arith); all = subst (λ h. length (text_of h) + length g.body ≤ limit) (sym none) (omega arith) }
 
+-- what is gathered under a limit is within it
 pub gathers_small : (g : Gathered) (limit : ℕ) (lines : List (List ℕ)) → Gathers g limit lines → IsSmall g limit
 gathers_small g limit lines gathers =
     ⊎_elim

@@ -14,7 +14,7 @@ use Rattle.mail_header.specs.inner.Added.{onto_last, header_added, AddsHeader}
 
 -- ---- sizes
 
-pub size_more : (lines : List (List ℕ)) (line : List ℕ) → size_of (lines ++ line ∷ []) ≡ size_of lines + (length line + 2)
+size_more : (lines : List (List ℕ)) (line : List ℕ) → size_of (lines ++ line ∷ []) ≡ size_of lines + (length line + 2)
 size_more lines line = sum_by_push (λ l. length l + 2) lines line
 
 counted_more : (limit size length : ℕ) → counted limit (counted limit size + length + 2) ≡ counted limit (size + (length + 2))
@@ -36,47 +36,47 @@ begun_true : (lines : List (List ℕ)) → begun_by true lines ≡ true
 begun_true [] = refl
 begun_true (line ∷ lines) = refl
 
-pub block_more : (begun : Bool) (lines : List (List ℕ)) (line : List ℕ) → is_some_line (rest_of begun lines) ≡ true → block_of begun (lines ++ line ∷ []) ≡ block_of begun lines
+block_more : (begun : Bool) (lines : List (List ℕ)) (line : List ℕ) → is_some_line (rest_of begun lines) ≡ true → block_of begun (lines ++ line ∷ []) ≡ block_of begun lines
 block_more begun [] line h = absurd (false≢true h)
 block_more begun (l ∷ lines) line h =
     elim (belongs begun l) as (λ b. is_some_line (cond b (rest_of true lines) (l ∷ lines)) ≡ true → cond b (l ∷ block_of true (lines ++ line ∷ [])) [] ≡ cond b (l ∷ block_of true lines) [])
     [ true ↦ λ some. ap (λ t. l ∷ t) (block_more true lines line some) | false ↦ λ some. refl ] h
 
-pub rest_more : (begun : Bool) (lines : List (List ℕ)) (line : List ℕ) → is_some_line (rest_of begun lines) ≡ true → rest_of begun (lines ++ line ∷ []) ≡ rest_of begun lines ++ line ∷ []
+rest_more : (begun : Bool) (lines : List (List ℕ)) (line : List ℕ) → is_some_line (rest_of begun lines) ≡ true → rest_of begun (lines ++ line ∷ []) ≡ rest_of begun lines ++ line ∷ []
 rest_more begun [] line h = absurd (false≢true h)
 rest_more begun (l ∷ lines) line h =
     elim (belongs begun l) as (λ b. is_some_line (cond b (rest_of true lines) (l ∷ lines)) ≡ true → cond b (rest_of true (lines ++ line ∷ [])) (l ∷ (lines ++ line ∷ [])) ≡ cond b (rest_of true lines) (l ∷ lines) ++ line ∷ [])
     [ true ↦ λ some. rest_more true lines line some | false ↦ λ some. refl ] h
 
-pub block_all : (begun : Bool) (lines : List (List ℕ)) → is_some_line (rest_of begun lines) ≡ false → block_of begun lines ≡ lines
+block_all : (begun : Bool) (lines : List (List ℕ)) → is_some_line (rest_of begun lines) ≡ false → block_of begun lines ≡ lines
 block_all begun [] h = refl
 block_all begun (l ∷ lines) h =
     elim (belongs begun l) as (λ b. is_some_line (cond b (rest_of true lines) (l ∷ lines)) ≡ false → cond b (l ∷ block_of true lines) [] ≡ l ∷ lines)
     [ true ↦ λ none. ap (λ t. l ∷ t) (block_all true lines none) | false ↦ λ none. absurd (false≢true (sym none)) ] h
 
 -- a line that belongs to the block, and one that doesn't, where no line after the block has come
-pub block_yes : (begun : Bool) (lines : List (List ℕ)) (line : List ℕ) → is_some_line (rest_of begun lines) ≡ false → belongs (begun_by begun lines) line ≡ true → block_of begun (lines ++ line ∷ []) ≡ block_of begun lines ++ line ∷ []
+block_yes : (begun : Bool) (lines : List (List ℕ)) (line : List ℕ) → is_some_line (rest_of begun lines) ≡ false → belongs (begun_by begun lines) line ≡ true → block_of begun (lines ++ line ∷ []) ≡ block_of begun lines ++ line ∷ []
 block_yes begun [] line h met = cond-true (belongs begun line) (line ∷ []) [] met
 block_yes begun (l ∷ lines) line h met =
     let inner = ap (λ b. belongs b line) (begun_true lines) ∙ met in
     elim (belongs begun l) as (λ b. is_some_line (cond b (rest_of true lines) (l ∷ lines)) ≡ false → cond b (l ∷ block_of true (lines ++ line ∷ [])) [] ≡ cond b (l ∷ block_of true lines) [] ++ line ∷ [])
     [ true ↦ λ none. ap (λ t. l ∷ t) (block_yes true lines line none inner) | false ↦ λ none. absurd (false≢true (sym none)) ] h
 
-pub rest_yes : (begun : Bool) (lines : List (List ℕ)) (line : List ℕ) → is_some_line (rest_of begun lines) ≡ false → belongs (begun_by begun lines) line ≡ true → rest_of begun (lines ++ line ∷ []) ≡ []
+rest_yes : (begun : Bool) (lines : List (List ℕ)) (line : List ℕ) → is_some_line (rest_of begun lines) ≡ false → belongs (begun_by begun lines) line ≡ true → rest_of begun (lines ++ line ∷ []) ≡ []
 rest_yes begun [] line h met = cond-true (belongs begun line) [] (line ∷ []) met
 rest_yes begun (l ∷ lines) line h met =
     let inner = ap (λ b. belongs b line) (begun_true lines) ∙ met in
     elim (belongs begun l) as (λ b. is_some_line (cond b (rest_of true lines) (l ∷ lines)) ≡ false → cond b (rest_of true (lines ++ line ∷ [])) (l ∷ (lines ++ line ∷ [])) ≡ [])
     [ true ↦ λ none. rest_yes true lines line none inner | false ↦ λ none. absurd (false≢true (sym none)) ] h
 
-pub block_no : (begun : Bool) (lines : List (List ℕ)) (line : List ℕ) → is_some_line (rest_of begun lines) ≡ false → belongs (begun_by begun lines) line ≡ false → block_of begun (lines ++ line ∷ []) ≡ block_of begun lines
+block_no : (begun : Bool) (lines : List (List ℕ)) (line : List ℕ) → is_some_line (rest_of begun lines) ≡ false → belongs (begun_by begun lines) line ≡ false → block_of begun (lines ++ line ∷ []) ≡ block_of begun lines
 block_no begun [] line h unmet = cond-false (belongs begun line) (line ∷ []) [] unmet
 block_no begun (l ∷ lines) line h unmet =
     let inner = ap (λ b. belongs b line) (begun_true lines) ∙ unmet in
     elim (belongs begun l) as (λ b. is_some_line (cond b (rest_of true lines) (l ∷ lines)) ≡ false → cond b (l ∷ block_of true (lines ++ line ∷ [])) [] ≡ cond b (l ∷ block_of true lines) [])
     [ true ↦ λ none. ap (λ t. l ∷ t) (block_no true lines line none inner) | false ↦ λ none. absurd (false≢true (sym none)) ] h
 
-pub rest_no : (begun : Bool) (lines : List (List ℕ)) (line : List ℕ) → is_some_line (rest_of begun lines) ≡ false → belongs (begun_by begun lines) line ≡ false → rest_of begun (lines ++ line ∷ []) ≡ line ∷ []
+rest_no : (begun : Bool) (lines : List (List ℕ)) (line : List ℕ) → is_some_line (rest_of begun lines) ≡ false → belongs (begun_by begun lines) line ≡ false → rest_of begun (lines ++ line ∷ []) ≡ line ∷ []
 rest_no begun [] line h unmet = cond-false (belongs begun line) [] (line ∷ []) unmet
 rest_no begun (l ∷ lines) line h unmet =
     let inner = ap (λ b. belongs b line) (begun_true lines) ∙ unmet in
@@ -109,21 +109,21 @@ joined_onto line true (header ∷ []) last h = ap (λ t. t ∷ []) (sym (append_
 joined_onto line false (header ∷ next ∷ headers) last h = refl
 joined_onto line true (header ∷ next ∷ headers) last h = refl
 
-pub headers_push : (lines : List (List ℕ)) (line : List ℕ) → is_continuation line ≡ false → headers_in (lines ++ line ∷ []) ≡ headers_in lines ++ line ∷ []
+headers_push : (lines : List (List ℕ)) (line : List ℕ) → is_continuation line ≡ false → headers_in (lines ++ line ∷ []) ≡ headers_in lines ++ line ∷ []
 headers_push [] line unmet = refl
 headers_push (l ∷ []) line unmet = ap (λ b. joined l b (line ∷ [])) unmet
 headers_push (l ∷ m ∷ lines) line unmet =
     ap (joined l (is_continuation m)) (headers_push (m ∷ lines) line unmet)
     ∙ joined_push l (is_continuation m) (headers_in (m ∷ lines)) line (headers_some m lines)
 
-pub headers_onto : (lines : List (List ℕ)) (line : List ℕ) → is_continuation line ≡ true → headers_in (lines ++ line ∷ []) ≡ onto_last line (headers_in lines)
+headers_onto : (lines : List (List ℕ)) (line : List ℕ) → is_continuation line ≡ true → headers_in (lines ++ line ∷ []) ≡ onto_last line (headers_in lines)
 headers_onto [] line met = refl
 headers_onto (l ∷ []) line met = ap (λ b. joined l b (line ∷ [])) met
 headers_onto (l ∷ m ∷ lines) line met =
     ap (joined l (is_continuation m)) (headers_onto (m ∷ lines) line met)
     ∙ joined_onto l (is_continuation m) (headers_in (m ∷ lines)) line (headers_some m lines)
 
-pub headers_added : (lines : List (List ℕ)) (line : List ℕ) → headers_in (lines ++ line ∷ []) ≡ header_added line (headers_in lines)
+headers_added : (lines : List (List ℕ)) (line : List ℕ) → headers_in (lines ++ line ∷ []) ≡ header_added line (headers_in lines)
 headers_added lines line =
     ⊎_elim
     (λ met. headers_onto lines line met ∙ sym (cond-true (is_continuation line) (onto_last line (headers_in lines)) (headers_in lines ++ line ∷ []) met))
@@ -144,7 +144,7 @@ some_push [] line = refl
 some_push (l ∷ lines) line = refl
 
 -- the block has begun where it has a line
-pub begun_is : (lines : List (List ℕ)) → is_some_line (rest_of false lines) ≡ false → is_some_line (block_of false lines) ≡ begun_by false lines
+begun_is : (lines : List (List ℕ)) → is_some_line (rest_of false lines) ≡ false → is_some_line (block_of false lines) ≡ begun_by false lines
 begun_is lines none = ap is_some_line (block_all false lines none) ∙ some_begun lines
 
 -- ---- the body
@@ -154,7 +154,7 @@ without_empty_push [] line h = absurd (false≢true h)
 without_empty_push ([] ∷ lines) line h = refl
 without_empty_push ((b ∷ l) ∷ lines) line h = refl
 
-pub body_more : (lines : List (List ℕ)) (line : List ℕ) → is_some_line (rest_of false lines) ≡ true → body_of (lines ++ line ∷ []) ≡ body_of lines ++ with_end line
+body_more : (lines : List (List ℕ)) (line : List ℕ) → is_some_line (rest_of false lines) ≡ true → body_of (lines ++ line ∷ []) ≡ body_of lines ++ with_end line
 body_more lines line some =
     ap (λ r. flat_map with_end (without_empty r)) (rest_more false lines line some)
     ∙ ap (flat_map with_end) (without_empty_push (rest_of false lines) line some)
@@ -164,13 +164,13 @@ body_more lines line some =
 body_none : (lines : List (List ℕ)) → is_some_line (rest_of false lines) ≡ false → body_of lines ≡ []
 body_none lines none = ap (λ r. flat_map with_end (without_empty r)) (no_lines (rest_of false lines) none)
 
-pub body_yes : (lines : List (List ℕ)) (line : List ℕ) → is_some_line (rest_of false lines) ≡ false → belongs (begun_by false lines) line ≡ true → body_of (lines ++ line ∷ []) ≡ body_of lines
+body_yes : (lines : List (List ℕ)) (line : List ℕ) → is_some_line (rest_of false lines) ≡ false → belongs (begun_by false lines) line ≡ true → body_of (lines ++ line ∷ []) ≡ body_of lines
 body_yes lines line none met = ap (λ r. flat_map with_end (without_empty r)) (rest_yes false lines line none met) ∙ sym (body_none lines none)
 
-pub body_empty : (lines : List (List ℕ)) → is_some_line (rest_of false lines) ≡ false → belongs (begun_by false lines) [] ≡ false → body_of (lines ++ [] ∷ []) ≡ body_of lines
+body_empty : (lines : List (List ℕ)) → is_some_line (rest_of false lines) ≡ false → belongs (begun_by false lines) [] ≡ false → body_of (lines ++ [] ∷ []) ≡ body_of lines
 body_empty lines none unmet = ap (λ r. flat_map with_end (without_empty r)) (rest_no false lines [] none unmet) ∙ sym (body_none lines none)
 
-pub body_first : (lines : List (List ℕ)) (b : ℕ) (line : List ℕ) → is_some_line (rest_of false lines) ≡ false → belongs (begun_by false lines) (b ∷ line) ≡ false → body_of (lines ++ (b ∷ line) ∷ []) ≡ body_of lines ++ with_end (b ∷ line)
+body_first : (lines : List (List ℕ)) (b : ℕ) (line : List ℕ) → is_some_line (rest_of false lines) ≡ false → belongs (begun_by false lines) (b ∷ line) ≡ false → body_of (lines ++ (b ∷ line) ∷ []) ≡ body_of lines ++ with_end (b ∷ line)
 body_first lines b line none unmet =
     ap (λ r. flat_map with_end (without_empty r)) (rest_no false lines (b ∷ line) none unmet)
     ∙ append-nil (with_end (b ∷ line))
@@ -185,12 +185,14 @@ earlier limit size length h =
     let le : size ≤ limit = omega arith in
     le-ltb limit size le
 
+-- a size that is counted and isn't above the limit is exact
 pub exact_size : (limit size : ℕ) → is_above limit (counted limit size) ≡ false → counted limit size ≡ size
 unfolding counted
 exact_size limit size h =
     let most = ltb-false limit (min size (limit + 1)) h in
     omega arith
 
+-- a size that is counted is above the limit if the size itself is
 pub same_above : (limit size : ℕ) → is_above limit (counted limit size) ≡ is_above limit size
 unfolding counted
 same_above limit size =
@@ -213,6 +215,7 @@ unless_more was false line old headers earlier kept = ap (header_added line) (ke
 moved_split : (g : Gathered) (size : ℕ) (lines : List (List ℕ)) → KeepsSplit g lines → KeepsSplit (record g { size = size }) lines
 moved_split g size lines is = record { headers = is.headers; has_header = is.has_header; block = is.block; body = is.body; has_body = is.has_body }
 
+-- a new message has gathered no line
 pub gathers_none : (g : Gathered) (limit : ℕ) → g.size ≡ 0 → g.block ≡ 0 → g.headers ≡ [] → g.has_header ≡ false → g.body ≡ [] → g.has_body ≡ false → Gathers g limit []
 unfolding counted
 gathers_none g limit size block headers has_header body has_body = record {
@@ -252,6 +255,7 @@ body_added g line lines has is =
       has_body = sym (ap is_some_line (rest_more false lines line some) ∙ some_push (rest_of false lines) line);
     }
 
+-- once the body began, one line more with its end is added to the body
 pub split_body : {T E : Type 0} (r : Result T E) (g n : Gathered) (line : List ℕ) → g.has_body ≡ true → OnOk r (n ≡ record g { body = g.body ++ with_end line; has_body = true })
     → OnOk r ((lines : List (List ℕ)) → KeepsSplit g lines → KeepsSplit n (lines ++ line ∷ []))
 split_body (Err e) g n line has new = tt
@@ -272,6 +276,7 @@ header_added_to g n line lines has met adds is =
       has_body = adds.has_body ∙ has ∙ sym (ap is_some_line (rest_yes false lines line none belongs_is));
     }
 
+-- before the body, a line that belongs to the headers is added to them
 pub split_header : {T E : Type 0} (r : Result T E) (g n : Gathered) (line : List ℕ) → g.has_body ≡ false → belongs g.has_header line ≡ true → OnOk r (AddsHeader g n line)
     → OnOk r ((lines : List (List ℕ)) → KeepsSplit g lines → KeepsSplit n (lines ++ line ∷ []))
 split_header (Err e) g n line has met adds = tt

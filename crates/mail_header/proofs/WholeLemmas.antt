@@ -1,12 +1,12 @@
 -- A whole text, line by line.
-use Rattle.std.proofs.Common.{◌≡◌, ℕ, zero, suc, ◌+◌, ◌-◌, ◌<◌, ◌≤◌, ◌==◌, ◌||◌, ◌&&◌, Bool, true, false, not, List, [], ◌∷◌, ◌++◌, length, take, drop, get_or, slice_index, nat_lt, min, Some, None, refl, sym, ap, subst, ◌∙◌, arith, ⊎_elim}
+use Rattle.std.proofs.Common.{◌≡◌, ℕ, zero, suc, ◌+◌, ◌-◌, ◌<◌, ◌≤◌, ◌==◌, ◌||◌, ◌&&◌, Bool, true, false, not, List, [], ◌∷◌, ◌++◌, length, take, drop, get_or, slice_index, nat_lt, Some, None, refl, sym, ap, subst, ◌∙◌, arith, ⊎_elim}
 use Rattle.std.specs.List.{list_any, list_all, position_or_len}
 use Rattle.std.proofs.lemmas.Bool.{cond-true, cond-false, cases_Bool, and_parts, or_parts, or_from, or_cases, not_from_true, not_from_false, eqb-true, eqb-false, not-true, lt-ltb, false≢true, false_from_ne_true}
-use Rattle.std.proofs.lemmas.List.{append_assoc, append-nil, length-append, length-take, length-drop, take-append-drop, take_more, get_or_at}
+use Rattle.std.proofs.lemmas.List.{append_assoc, append-nil, length-append, length-take, length-drop, take_more, get_or_at}
 use Rattle.std.proofs.lemmas.List.Sums.{split_at_first, prefix_len_is}
 use Rattle.bstr.specs.Find.{IsFirstByte, is_byte}
 use Rattle.mail_base.specs.Texts.{crlf}
-use Rattle.mail_header.specs.Headers.{is_plain, is_header, is_continuation, IsFolded, last_fold, one_fold, IsHeaderText, unfolded, folded, AreHeaders, no_headers, one_header, with_end, text_of, is_some_line, IsBody, behind_empty_line, at_once, IsSplit, has_crlf}
+use Rattle.mail_header.specs.Headers.{is_plain, is_header, is_continuation, IsFolded, last_fold, one_fold, IsHeaderText, unfolded, folded, AreHeaders, no_headers, one_header, with_end, text_of, is_some_line, IsBody, behind_empty_line, at_once, has_crlf}
 use Rattle.mail_header.specs.inner.Added.{onto_last, header_added}
 use Rattle.mail_header.specs.Lines.{belongs}
 use Rattle.mail_header.specs.inner.Wholes.{BeginsLine, NoLine}
@@ -122,6 +122,7 @@ module _ (begun : Bool) (text : List ℕ) where
     λ some. false_from_ne_true (is_continuation line) (λ f. never line more (fold_plain line f) e),
   )
 
+  -- a text without LF begins with no line of the headers
   pub none_lf : IsFirstByte (is_byte 10) text None → NoLine begun text
   none_lf none = no_plain (λ line more plain e.
       false≢true (sym (no_lf text none) ∙ ap (λ t. has_lf t) e ∙ ap (λ t. has_lf t) (sym (append_assoc line (13 ∷ []) (10 ∷ more))) ∙ lf_here (line ++ 13 ∷ []) more))
@@ -132,6 +133,7 @@ module _ (begun : Bool) (text : List ℕ) where
       let cut = cut_lf text k found in
       first_lf (take k text) (line ++ 13 ∷ []) (drop (k + 1) text) more cut.1 (cr_no_lf line (plain_no_lf line plain)) (sym cut.0 ∙ e ∙ sym (append_assoc line (13 ∷ []) (10 ∷ more)))
 
+  -- a text whose first LF has no CR before it begins with no line of the headers
   pub none_cr : (k : ℕ) → IsFirstByte (is_byte 10) text (Some k) → (0 < k → get_or text (k - 1) 0 ≡ 13 → ⊥) → NoLine begun text
   none_cr k found other = no_plain (λ line more plain e.
       let low : k < length text = found.0.high in
@@ -165,9 +167,11 @@ module _ (begun : Bool) (text : List ℕ) where
         any_front [] b h = refl
         any_front (c ∷ line) b h = let p = or_parts (is_lf c) (has_lf (line ++ b ∷ [])) h in or_from _ _ p.0 (any_front line b p.1)
 
+    -- a line before the first CR LF that belongs to the headers begins the text
     pub line_begins : belongs begun (take (k - 1) text) ≡ true → BeginsLine begun text (k - 1)
     line_begins is = let low : k < length text = found.0.high in record { within = omega arith; whole = whole; belongs = is }
 
+    -- where the line before the first CR LF doesn't belong there, no line of the headers begins
     pub line_other : belongs begun (take (k - 1) text) ≡ false → NoLine begun text
     line_other other line more e =
         let same : list_all is_plain line ≡ true → take (k - 1) text ≡ line = λ plain. (first_crlf (take (k - 1) text) line (drop (k - 1 + 2) text) more lone plain (sym whole ∙ e)).0 in
@@ -222,6 +226,7 @@ pub record ReadsHeaders (text : List ℕ) (place : ℕ) (headers : List (List �
   pub front : take place text ≡ text_of headers
   pub are : AreHeaders headers
 
+-- no header is read of no bytes
 pub reads_none : (text : List ℕ) → ReadsHeaders text 0 []
 reads_none text = record { within = omega arith; front = refl; are = no_headers }
 
@@ -234,6 +239,7 @@ take_both zero n text = let e : 0 + n ≡ n = omega arith in ap (λ k. take k te
 take_both (suc i) n [] = let e : suc i + n ≡ suc (i + n) = omega arith in ap (λ k. take {A = ℕ} k []) e ∙ sym (take_nothing n)
 take_both (suc i) n (b ∷ text) = let e : suc i + n ≡ suc (i + n) = omega arith in ap (λ k. take k (b ∷ text)) e ∙ ap (λ t. b ∷ t) (take_both i n text)
 
+-- one line more, at the place behind the headers so far, is added to them
 pub reads_more : (text : List ℕ) (place end : ℕ) (headers : List (List ℕ)) → ReadsHeaders text place headers → BeginsLine (is_some_line headers) (drop place text) end
     → ReadsHeaders text (place + (end + 2)) (header_added (take end (drop place text)) headers)
 reads_more text place end headers reads begins =
@@ -257,39 +263,30 @@ reads_more text place end headers reads begins =
         by_line [] more = refl
         by_line (b ∷ line) more = let e : suc (length line) + 2 ≡ suc (length line + 2) = omega arith in ap (λ n. take n (b ∷ (line ++ (crlf ++ more)))) e ∙ ap (λ t. b ∷ t) (by_line line more)
 
-pub reads_all : (text : List ℕ) (place : ℕ) (headers : List (List ℕ)) (body : List ℕ) → ReadsHeaders text place headers → NoLine (is_some_line headers) (drop place text) → IsBody (drop place text) body
-    → IsSplit text (record { headers = headers; body = body; block = place })
-reads_all text place headers body reads none is = record {
-  rest = drop place text;
-  whole = sym (take-append-drop place text) ∙ ap (λ t. t ++ drop place text) reads.front;
-  are = reads.are;
-  ends = none;
-  body = is;
-  block = sym (length-take place text ∙ least) ∙ ap (λ t. length t) reads.front;
-}
-  where
-    least : min place (length text) ≡ place
-    least = let within = reads.within in omega arith
-
 -- ---- the body
 
+-- fewer than two bytes behind the headers are all body
 pub short_body : (rest : List ℕ) → length rest < 2 → IsBody rest rest
 short_body [] low = at_once [] (λ more e. cc)
 short_body (b ∷ []) low = at_once (b ∷ []) (λ more e. let t = tails b 13 [] (10 ∷ more) e in cc)
 short_body (b ∷ c ∷ rest) low = absurd (omega arith)
 
+-- where CR LF stands behind the headers, the body follows it
 pub body_cut : (rest : List ℕ) → 2 ≤ length rest → slice_index rest 0 ≡ 13 → slice_index rest 1 ≡ 10 → IsBody rest (drop 2 rest)
 body_cut [] low a b = absurd (omega arith)
 body_cut (x ∷ []) low a b = absurd (omega arith)
 body_cut (x ∷ y ∷ rest) low a b = subst (λ t. IsBody t rest) (λ i. sym a i ∷ sym b i ∷ rest) (behind_empty_line rest)
 
+-- where no CR LF stands behind the headers, all that follows them is body
 pub body_whole : (rest : List ℕ) → (slice_index rest 0 ≡ 13 → slice_index rest 1 ≡ 10 → ⊥) → IsBody rest rest
 body_whole rest other = at_once rest (λ more e. other (ap (λ t. slice_index t 0) e) (ap (λ t. slice_index t 1) e))
 
+-- a count above zero tells whether there is a header
 pub some_is : (headers : List (List ℕ)) → nat_lt 0 (length headers) ≡ is_some_line headers
 some_is [] = refl
 some_is (header ∷ headers) = lt-ltb 0 (length (header ∷ headers)) (omega arith)
 
+-- a number that isn't zero is above zero
 pub positive : (n : ℕ) → (n ≡ 0 → ⊥) → 0 < n
 positive zero never = absurd (never refl)
 positive (suc n) never = omega arith
