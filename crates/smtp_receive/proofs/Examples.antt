@@ -9,6 +9,7 @@ use Rattle.smtp_receive.specs.declared.received.Received.{Received}
 use Rattle.smtp_receive.specs.declared.reply.Reply.TheVariants.{NeedRcpt, RecipientOk, SenderOk}
 use Rattle.smtp_receive.specs.Dialogue.{Answer, Says, Greets, Grants, Closes, Gives, Takes, Exchange, Heard, answer_heard, dialogue, exchanges, with_heard}
 
+-- the client's address
 abbrev pub peer : List ℕ
 peer = codes "10.0.0.1"
 
@@ -30,30 +31,38 @@ more lines next before answer e is =
 
 -- ---- up to the first line of a message
 
+-- the client's name
 abbrev pub helo : Line
 helo = Command (codes "HELO c.example")
 
+-- a sender
 abbrev pub mail : Line
 mail = Command (codes "MAIL FROM:<bob@c.example>")
 
+-- a recipient
 abbrev pub rcpt : Line
 rcpt = Command (codes "RCPT TO:<ann@mx.example>")
 
+-- the request to send a message
 abbrev pub data_line : Line
 data_line = Command (codes "DATA")
 
+-- a header of the message
 abbrev pub subject : Line
 subject = Data (codes "Subject: hi")
 
 abbrev pub greeted : List Exchange
 greeted = exchange helo (Some Greets) ∷ []
 
+-- the exchanges, last first, up to the recipient
 abbrev pub given : List Exchange
 given = exchange rcpt (Some (Says RecipientOk)) ∷ exchange mail (Some (Says SenderOk)) ∷ greeted
 
+-- the exchanges, last first, up to the header
 abbrev pub granted : List Exchange
 granted = exchange subject (Some Takes) ∷ exchange data_line (Some Grants) ∷ given
 
+-- the lines that were heard up to the header
 abbrev pub begun : List Heard
 begun = heard helo ∷ heard mail ∷ heard rcpt ∷ heard data_line ∷ heard subject ∷ []
 
@@ -70,12 +79,15 @@ begins =
 
 -- ---- a message is given at its end
 
+-- the message's only line of body
 abbrev pub body : Line
 body = Data (codes "hello")
 
+-- the end of the session
 abbrev pub quit : Line
 quit = Command (codes "QUIT")
 
+-- the message that these lines give
 abbrev pub message : Received
 message = record {
   sender = codes "<bob@c.example>";
@@ -86,6 +98,7 @@ message = record {
   kept = record { protocol = codes "SMTP"; helo = codes "c.example"; client = codes "10.0.0.1" };
 }
 
+-- the exchanges, last first, up to the body
 abbrev pub taken : List Exchange
 taken = exchange body (Some Takes) ∷ exchange (Data []) (Some Takes) ∷ granted
 
@@ -102,7 +115,8 @@ plain_session =
     let three = more (begun ++ heard (Data []) ∷ heard body ∷ []) (heard DataEnd) taken (Some (Gives message)) two ends in
     ap reverse (more (begun ++ heard (Data []) ∷ heard body ∷ heard DataEnd ∷ []) (heard quit) (exchange DataEnd (Some (Gives message)) ∷ taken) (Some Closes) three refl)
 
--- ---- 452 4.3.1 in mid-data: the rest with its dot gets no reply, also where memory is wanting again, and the transaction is over
+-- ---- 452 4.3.1 in mid-data: the rest with its dot gets no reply, also where memory is wanting
+-- again, and the transaction is over
 
 abbrev lacking : List Exchange
 lacking = exchange (Data []) None ∷ granted

@@ -18,15 +18,19 @@ use Rattle.smtp_receive.specs.Finals.{text_told, IsFinal}
 differ : (i : ℕ) (one other : List ℕ) → nat_eq (slice_index one i) (slice_index other i) ≡ false → one ≡ other → ⊥
 differ i one other apart same = false≢true (sym apart ∙ eq-eqb (slice_index one i) (slice_index other i) (ap (λ t. slice_index t i) same))
 
+-- the greeting isn't the reply that a message is stored
 pub greeting_final : (host : List ℕ) → IsFinal (greeting_text host) → ⊥
 greeting_final host final = differ 1 (greeting_text host) (stored_text final.0) refl final.1
 
+-- the reply to QUIT isn't the reply that a message is stored
 pub closing_final : (host : List ℕ) → IsFinal (closing_text host) → ⊥
 closing_final host final = differ 1 (closing_text host) (stored_text final.0) refl final.1
 
+-- the reply at want of memory isn't the reply that a message is stored
 pub memory_final : IsFinal out_of_memory_text → ⊥
 memory_final final = differ 0 out_of_memory_text (stored_text final.0) refl final.1
 
+-- the reply at too many sessions isn't the reply that a message is stored
 pub sessions_final : IsFinal too_many_sessions_text → ⊥
 sessions_final final = differ 0 too_many_sessions_text (stored_text final.0) refl final.1
 
@@ -41,9 +45,11 @@ hello_final host final =
     let same = same_from_push (said ++ codes " Hell") (told ++ codes " Message accepted for deliver") 111 121 last in
     false≢true (eq-eqb 111 121 same.1)
 
+-- the reply to DATA isn't the reply that a message is stored
 pub grant_final : IsFinal grant_text → ⊥
 grant_final final = differ 0 grant_text (stored_text final.0) refl final.1
 
+-- no reply of the plain ones says that a message is stored
 pub reply_final : (reply : Reply) → IsFinal (text_of reply) → ⊥
 reply_final SenderOk final = differ 6 (text_of SenderOk) (stored_text final.0) refl final.1
 reply_final RecipientOk final = differ 6 (text_of RecipientOk) (stored_text final.0) refl final.1
@@ -60,9 +66,11 @@ did_final host Closes = closing_final host
 did_final host (Gives message) = tt
 did_final host Takes = tt
 
+-- no answer to a line, as it is sent, says that a message is stored
 pub told_final : (host : List ℕ) (answer : Answer) (text : List ℕ) → text_told (did_of host answer) ≡ Some text → IsFinal text → ⊥
 told_final host answer text is = subst NotFinal is (did_final host answer)
 
+-- replies that a message is stored are equal only for one id
 pub same_id : (one other : ℕ) → IsId one → IsId other → stored_text one ≡ stored_text other → one ≡ other
 same_id one other one_fits other_fits same =
     let back : List ℕ = codes " Message accepted for delivery" in

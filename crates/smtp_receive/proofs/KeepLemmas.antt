@@ -33,7 +33,7 @@ use Rattle.smtp_receive.specs.Sessions.{Holds, Keeps, Stands, answer_of, IsBound
 use Rattle.smtp_receive.specs.inner.Steps.{Goes, BeginsMessage, takes_recipient, is_data, ending_of, end_of, received_of, given_by}
 
 -- nothing that a session keeps is told by what came since
-pub keep_same : (s : Session) (host peer : List ℕ) (before after : List Exchange) → Keeps s host peer before
+keep_same : (s : Session) (host peer : List ℕ) (before after : List Exchange) → Keeps s host peer before
     → helo_in after ≡ helo_in before → sender_in after ≡ sender_in before → recipient_in after ≡ recipient_in before → lines_in after ≡ lines_in before
     → Keeps s host peer after
 keep_same s host peer before after k helo sender recipient lines = record {
@@ -59,7 +59,7 @@ no_recipient : (reply : Reply) (request : Option Request) → tells reply ≡ fa
 no_recipient RecipientOk request h = absurd (false≢true (sym h))
 no_recipient _ request h = refl
 
-pub quiet : (s : Session) (host peer : List ℕ) (before : List Exchange) (text : List ℕ) (reply : Reply) → tells reply ≡ false → Keeps s host peer before
+quiet : (s : Session) (host peer : List ℕ) (before : List Exchange) (text : List ℕ) (reply : Reply) → tells reply ≡ false → Keeps s host peer before
     → Keeps s host peer (record { line = Command text; answer = Some (Says reply) } ∷ before)
 quiet s host peer before text reply h k =
     keep_same s host peer before (record { line = Command text; answer = Some (Says reply) } ∷ before) k refl
@@ -67,7 +67,7 @@ quiet s host peer before text reply h k =
     (ap (λ o. or_else o (recipient_in before)) (no_recipient reply (asked (Command text)) h)) refl
 
 -- an answer, once it is known
-pub goes_by : (n : Session) (host peer : List ℕ) (before : List Exchange) (line : Line) (did : Did) (answer : Answer) → answer_to peer before line ≡ answer
+goes_by : (n : Session) (host peer : List ℕ) (before : List Exchange) (line : Line) (did : Did) (answer : Answer) → answer_to peer before line ≡ answer
     → did ≡ did_of (shown_host host) answer → Keeps n host peer (record { line = line; answer = Some answer } ∷ before) → Goes n host peer before line did
 goes_by n host peer before line did answer is did_is keeps = record {
   did_is = did_is ∙ sym (ap (did_of (shown_host host)) is);
@@ -84,7 +84,7 @@ answer_is s host peer before text request k is =
 
 -- ---- HELO
 
-pub goes_helo : (s n : Session) (host peer : List ℕ) (before : List Exchange) (text argument : List ℕ) (did : Did) → Keeps s host peer before → request_of text ≡ Ok (Greet argument)
+goes_helo : (s n : Session) (host peer : List ℕ) (before : List Exchange) (text argument : List ℕ) (did : Did) → Keeps s host peer before → request_of text ≡ Ok (Greet argument)
     → did ≡ Replied (hello_text s.host) → n ≡ record s { helo = argument; sender = None; recipient = None; message = None } → Goes n host peer before (Command text) did
 goes_helo s n host peer before text argument did k is did_is new =
     goes_by n host peer before (Command text) did Greets (answer_is s host peer before text (Ok (Greet argument)) k is)
@@ -112,7 +112,7 @@ keep_mail s host peer before text path k is = record {
   message_is = k.message_is;
 }
 
-pub goes_mail : (s n : Session) (host peer : List ℕ) (before : List Exchange) (text path : List ℕ) (did : Did) → Keeps s host peer before → request_of text ≡ Ok (From path)
+goes_mail : (s n : Session) (host peer : List ℕ) (before : List Exchange) (text path : List ℕ) (did : Did) → Keeps s host peer before → request_of text ≡ Ok (From path)
     → did ≡ Replied (text_of (mail_reply (is_some s.sender) SenderOk)) → (is_some s.sender ≡ true → n ≡ s)
     → (is_some s.sender ≡ false → n ≡ record s { sender = Some (bracketed path) }) → Goes n host peer before (Command text) did
 goes_mail s n host peer before text path did k is did_is given new =
@@ -153,7 +153,7 @@ keep_rcpt s host peer before text path k is = record {
   message_is = k.message_is;
 }
 
-pub goes_rcpt : (s n : Session) (host peer : List ℕ) (before : List Exchange) (text path : List ℕ) (did : Did) → Keeps s host peer before → request_of text ≡ Ok (To path)
+goes_rcpt : (s n : Session) (host peer : List ℕ) (before : List Exchange) (text path : List ℕ) (did : Did) → Keeps s host peer before → request_of text ≡ Ok (To path)
     → did ≡ Replied (text_of (rcpt_reply (is_some s.sender) (to_reply path (is_some s.recipient)))) → (takes_recipient s.sender s.recipient path ≡ false → n ≡ s)
     → (takes_recipient s.sender s.recipient path ≡ true → n ≡ record s { recipient = Some (bracketed path) }) → Goes n host peer before (Command text) did
 goes_rcpt s n host peer before text path did k is did_is refused new =
@@ -184,7 +184,7 @@ keep_begin s n host peer before text k b =
       message_is = b.begins;
     })
 
-pub goes_begin : (s n : Session) (host peer : List ℕ) (before : List Exchange) (text : List ℕ) (did : Did) → Keeps s host peer before → request_of text ≡ Ok Begin
+goes_begin : (s n : Session) (host peer : List ℕ) (before : List Exchange) (text : List ℕ) (did : Did) → Keeps s host peer before → request_of text ≡ Ok Begin
     → did ≡ did_of s.host (data_answer (is_some s.recipient)) → (is_some s.recipient ≡ false → n ≡ s) → (is_some s.recipient ≡ true → BeginsMessage s n)
     → Goes n host peer before (Command text) did
 goes_begin s n host peer before text did k is did_is refused new =
@@ -200,7 +200,7 @@ goes_begin s n host peer before text did k is did_is refused new =
 
 -- ---- QUIT, and commands that have a fault
 
-pub goes_quit : (s : Session) (host peer : List ℕ) (before : List Exchange) (text : List ℕ) (did : Did) → Keeps s host peer before → request_of text ≡ Ok End
+goes_quit : (s : Session) (host peer : List ℕ) (before : List Exchange) (text : List ℕ) (did : Did) → Keeps s host peer before → request_of text ≡ Ok End
     → did ≡ Bye (closing_text s.host) → Goes s host peer before (Command text) did
 goes_quit s host peer before text did k is did_is =
     goes_by s host peer before (Command text) did Closes (answer_is s host peer before text (Ok End) k is) (did_is ∙ ap (λ h. Bye (closing_text h)) k.host_is)
@@ -230,7 +230,7 @@ fault_quiet given (Syntax verb) = path_quiet verb given SyntaxError refl
 fault_quiet given (HasLongPath verb) = path_quiet verb given PathTooLong refl
 fault_quiet given (Parameter verb) = path_quiet verb given ParameterNotKnown refl
 
-pub goes_fault : (s : Session) (host peer : List ℕ) (before : List Exchange) (text : List ℕ) (fault : LineFault) (did : Did) → Keeps s host peer before → request_of text ≡ Err fault
+goes_fault : (s : Session) (host peer : List ℕ) (before : List Exchange) (text : List ℕ) (fault : LineFault) (did : Did) → Keeps s host peer before → request_of text ≡ Err fault
     → did ≡ Replied (text_of (fault_reply (is_some s.sender) fault)) → Goes s host peer before (Command text) did
 goes_fault s host peer before text fault did k is did_is =
     goes_by s host peer before (Command text) did (Says (fault_reply (is_some s.sender) fault)) (answer_is s host peer before text (Err fault) k is)
@@ -239,10 +239,11 @@ goes_fault s host peer before text fault did k is did_is =
 
 -- ---- lines that are no commands
 
-pub goes_long : (s : Session) (host peer : List ℕ) (before : List Exchange) (did : Did) → Keeps s host peer before → did ≡ Replied (text_of LineTooLong) → Goes s host peer before TooLong did
+goes_long : (s : Session) (host peer : List ℕ) (before : List Exchange) (did : Did) → Keeps s host peer before → did ≡ Replied (text_of LineTooLong) → Goes s host peer before TooLong did
 goes_long s host peer before did k did_is =
     goes_by s host peer before TooLong did (Says LineTooLong) refl did_is (keep_same s host peer before (record { line = TooLong; answer = Some (Says LineTooLong) } ∷ before) k refl refl refl refl)
 
+-- a data line that is taken is kept as one line more of the message
 pub goes_data : (s n : Session) (host peer : List ℕ) (before : List Exchange) (text : List ℕ) (did : Did) → Keeps s host peer before → did ≡ Taken → n ≡ record s { message = n.message }
     → ((lines : Option (List (List ℕ))) → Holds s.message lines → Holds n.message (with_text (DataLine text) lines)) → Goes n host peer before (DataLine text) did
 goes_data s n host peer before text did k did_is new holds =
@@ -275,7 +276,7 @@ keep_end s n host peer earlier before answer k helo new =
       message_is = tt;
     })
 
-pub goes_end : (s n : Session) (host peer : List ℕ) (before : List Exchange) (did : Did) → Keeps s host peer before → n ≡ record s { sender = None; recipient = None; message = None }
+goes_end : (s n : Session) (host peer : List ℕ) (before : List Exchange) (did : Did) → Keeps s host peer before → n ≡ record s { sender = None; recipient = None; message = None }
     → did ≡ did_of (shown_host host) (end_answer (kept_in peer before) s.sender s.recipient (lines_in before)) → Goes n host peer before DataEnd did
 goes_end s n host peer before did k new did_is =
     goes_by n host peer before DataEnd did (end_answer (kept_in peer before) s.sender s.recipient (lines_in before))
@@ -283,17 +284,17 @@ goes_end s n host peer before did k new did_is =
     ∙ ap (λ o. end_answer (kept_in peer before) s.sender o (lines_in before)) (sym k.recipient_is))
     did_is (keep_end s n host peer before before (Some (end_answer (kept_in peer before) s.sender s.recipient (lines_in before))) k refl new)
 
-pub kept_is : (s : Session) (host peer : List ℕ) (before : List Exchange) (kept : Kept) → Keeps s host peer before → kept ≡ record { protocol = codes "SMTP"; helo = s.helo; client = s.peer } → kept ≡ kept_in peer before
+kept_is : (s : Session) (host peer : List ℕ) (before : List Exchange) (kept : Kept) → Keeps s host peer before → kept ≡ record { protocol = codes "SMTP"; helo = s.helo; client = s.peer } → kept ≡ kept_in peer before
 kept_is s host peer before kept k is =
     let P : List ℕ → List ℕ → Kept = λ h p. record { protocol = codes "SMTP"; helo = h; client = p } in
     is ∙ ap (λ h. P h s.peer) k.helo_is ∙ ap (P (helo_in before)) k.peer_is
 
 -- ---- a session's lines
 
-pub heard_more : (peer : List ℕ) (heard : List Heard) (h : Heard) → exchanges peer (heard ++ h ∷ []) ≡ exchange_of peer (exchanges peer heard) h ∷ exchanges peer heard
+heard_more : (peer : List ℕ) (heard : List Heard) (h : Heard) → exchanges peer (heard ++ h ∷ []) ≡ exchange_of peer (exchanges peer heard) h ∷ exchanges peer heard
 heard_more peer heard h = fold-append (with_heard peer) [] heard (h ∷ [])
 
-pub stands_more : (n : Session) (host peer : List ℕ) (heard : List Heard) (line : Line) (id : Option ℕ) (did : Did) → Goes n host peer (exchanges peer heard) line did
+stands_more : (n : Session) (host peer : List ℕ) (heard : List Heard) (line : Line) (id : Option ℕ) (did : Did) → Goes n host peer (exchanges peer heard) line did
     → Stands n host peer (heard ++ record { line = line; short = false; id = id } ∷ [])
 stands_more n host peer heard line id did goes =
     subst (λ es. Keeps n host peer es) (sym (heard_more peer heard (record { line = line; short = false; id = id }))) goes.keeps
@@ -326,6 +327,7 @@ keep_reset s n host peer before line k new =
       message_is = subst (λ l. Holds None l) (sym (no_lines before line)) tt;
     })
 
+-- where memory was wanting, a session that is reset stands for the line with 452
 pub stands_reset : (s n : Session) (host peer : List ℕ) (heard : List Heard) (line : Line) → Stands s host peer heard → is_dropped (exchanges peer heard) line ≡ false → n ≡ record s { sender = None; recipient = None; message = None }
     → Stands n host peer (heard ++ record { line = line; short = true; id = None } ∷ [])
 stands_reset s n host peer heard line k kept new =
@@ -335,7 +337,7 @@ stands_reset s n host peer heard line k kept new =
 
 -- ---- the message
 
-pub message_large : (kept : Kept) (sender recipient : List ℕ) (g : Gathered) (lines : List (List ℕ)) → Gathers g most_message lines → is_above most_message g.size ≡ true
+message_large : (kept : Kept) (sender recipient : List ℕ) (g : Gathered) (lines : List (List ℕ)) → Gathers g most_message lines → is_above most_message g.size ≡ true
     → message_answer kept sender recipient lines ≡ Says MessageTooLarge
 message_large kept sender recipient g lines gathers large =
     cond-true (is_above most_message (size_of lines)) _ _ (sym (same_above most_message (size_of lines)) ∙ sym (ap (is_above most_message) gathers.size) ∙ large)
@@ -343,14 +345,14 @@ message_large kept sender recipient g lines gathers large =
 within : (g : Gathered) (lines : List (List ℕ)) → Gathers g most_message lines → is_above most_message g.size ≡ false → is_above most_message (size_of lines) ≡ false
 within g lines gathers small = sym (same_above most_message (size_of lines)) ∙ sym (ap (is_above most_message) gathers.size) ∙ small
 
-pub message_block : (kept : Kept) (sender recipient : List ℕ) (g : Gathered) (lines : List (List ℕ)) → Gathers g most_message lines → is_above most_message g.size ≡ false → is_above most_headers g.block ≡ true
+message_block : (kept : Kept) (sender recipient : List ℕ) (g : Gathered) (lines : List (List ℕ)) → Gathers g most_message lines → is_above most_message g.size ≡ false → is_above most_headers g.block ≡ true
     → message_answer kept sender recipient lines ≡ Says HeaderTooLarge
 message_block kept sender recipient g lines gathers small large =
     let split = gathers.split small in
     cond-false (is_above most_message (size_of lines)) _ _ (within g lines gathers small)
     ∙ cond-true (is_above most_headers (size_of (block_of false lines))) _ _ (sym (same_above most_headers (size_of (block_of false lines))) ∙ sym (ap (is_above most_headers) split.block) ∙ large)
 
-pub message_whole : (kept : Kept) (sender recipient : List ℕ) (g : Gathered) (lines : List (List ℕ)) → Gathers g most_message lines → is_above most_message g.size ≡ false → is_above most_headers g.block ≡ false
+message_whole : (kept : Kept) (sender recipient : List ℕ) (g : Gathered) (lines : List (List ℕ)) → Gathers g most_message lines → is_above most_message g.size ≡ false → is_above most_headers g.block ≡ false
     → message_answer kept sender recipient lines ≡ Gives (received_of g sender recipient kept)
 message_whole kept sender recipient g lines gathers small small_block =
     let split = gathers.split small in
@@ -378,7 +380,7 @@ message_tells host kept sender recipient g lines gathers =
     (λ large. message_block kept sender recipient g lines gathers small large)
     (λ within. ap (did_of host) (message_whole kept sender recipient g lines gathers small within)))
 
-pub end_tells : (host : List ℕ) (kept : Kept) (sender recipient : Option (List ℕ)) (m : Option Gathered) (lines : Option (List (List ℕ))) → Holds m lines
+end_tells : (host : List ℕ) (kept : Kept) (sender recipient : Option (List ℕ)) (m : Option Gathered) (lines : Option (List (List ℕ))) → Holds m lines
     → EndTells host (end_of sender recipient m) (end_answer kept sender recipient lines) (given_by kept sender recipient m)
 end_tells host kept None recipient m lines h = refl
 end_tells host kept (Some sender) None m lines h = refl
@@ -400,54 +402,64 @@ keeps_bounded s host peer before k = holds_small s.message (lines_in before) k.m
 
 -- ---- the same of a result
 
+-- HELO that was answered keeps the name and drops what was under way
 pub helo_goes : {E : Type 0} (r : Result Did E) (s n : Session) (host peer : List ℕ) (before : List Exchange) (text argument : List ℕ) → Keeps s host peer before → request_of text ≡ Ok (Greet argument)
     → IfOk r (λ did. did ≡ Replied (hello_text s.host)) → IfOk r (λ _. n ≡ record s { helo = argument; sender = None; recipient = None; message = None }) → IfOk r (λ did. Goes n host peer before (Command text) did)
 helo_goes (Err e) s n host peer before text argument k is did new = tt
 helo_goes (Ok d) s n host peer before text argument k is did new = goes_helo s n host peer before text argument d k is did new
 
+-- MAIL that was answered keeps the sender, unless there is one
 pub mail_goes : {E : Type 0} (r : Result Did E) (s n : Session) (host peer : List ℕ) (before : List Exchange) (text path : List ℕ) → Keeps s host peer before → request_of text ≡ Ok (From path)
     → IfOk r (λ did. did ≡ Replied (text_of (mail_reply (is_some s.sender) SenderOk))) → IfOk r (λ _. is_some s.sender ≡ true → n ≡ s)
     → IfOk r (λ _. is_some s.sender ≡ false → n ≡ record s { sender = Some (bracketed path) }) → IfOk r (λ did. Goes n host peer before (Command text) did)
 mail_goes (Err e) s n host peer before text path k is did given new = tt
 mail_goes (Ok d) s n host peer before text path k is did given new = goes_mail s n host peer before text path d k is did given new
 
+-- RCPT that was answered keeps the recipient, if it may be taken
 pub rcpt_goes : {E : Type 0} (r : Result Did E) (s n : Session) (host peer : List ℕ) (before : List Exchange) (text path : List ℕ) → Keeps s host peer before → request_of text ≡ Ok (To path)
     → IfOk r (λ did. did ≡ Replied (text_of (rcpt_reply (is_some s.sender) (to_reply path (is_some s.recipient))))) → IfOk r (λ _. takes_recipient s.sender s.recipient path ≡ false → n ≡ s)
     → IfOk r (λ _. takes_recipient s.sender s.recipient path ≡ true → n ≡ record s { recipient = Some (bracketed path) }) → IfOk r (λ did. Goes n host peer before (Command text) did)
 rcpt_goes (Err e) s n host peer before text path k is did refused new = tt
 rcpt_goes (Ok d) s n host peer before text path k is did refused new = goes_rcpt s n host peer before text path d k is did refused new
 
+-- DATA that was answered begins a message, if there is a recipient
 pub begin_goes : {E : Type 0} (r : Result Did E) (s n : Session) (host peer : List ℕ) (before : List Exchange) (text : List ℕ) → Keeps s host peer before → request_of text ≡ Ok Begin
     → IfOk r (λ did. did ≡ did_of s.host (data_answer (is_some s.recipient))) → IfOk r (λ _. is_some s.recipient ≡ false → n ≡ s)
     → IfOk r (λ _. is_some s.recipient ≡ true → BeginsMessage s n) → IfOk r (λ did. Goes n host peer before (Command text) did)
 begin_goes (Err e) s n host peer before text k is did refused new = tt
 begin_goes (Ok d) s n host peer before text k is did refused new = goes_begin s n host peer before text d k is did refused new
 
+-- QUIT that was answered ends the session and changes nothing
 pub quit_goes : {E : Type 0} (r : Result Did E) (s : Session) (host peer : List ℕ) (before : List Exchange) (text : List ℕ) → Keeps s host peer before → request_of text ≡ Ok End
     → IfOk r (λ did. did ≡ Bye (closing_text s.host)) → IfOk r (λ did. Goes s host peer before (Command text) did)
 quit_goes (Err e) s host peer before text k is did = tt
 quit_goes (Ok d) s host peer before text k is did = goes_quit s host peer before text d k is did
 
+-- a line at fault that was answered changes nothing
 pub fault_goes : {E : Type 0} (r : Result Did E) (s : Session) (host peer : List ℕ) (before : List Exchange) (text : List ℕ) (fault : LineFault) (reply : Reply) → Keeps s host peer before → request_of text ≡ Err fault
     → reply ≡ fault_reply (is_some s.sender) fault → IfOk r (λ did. did ≡ Replied (text_of reply)) → IfOk r (λ did. Goes s host peer before (Command text) did)
 fault_goes (Err e) s host peer before text fault reply k is reply_is did = tt
 fault_goes (Ok d) s host peer before text fault reply k is reply_is did = goes_fault s host peer before text fault d k is (did ∙ ap (λ x. Replied (text_of x)) reply_is)
 
+-- a line that is too long and was answered changes nothing
 pub long_goes : {E : Type 0} (r : Result Did E) (s : Session) (host peer : List ℕ) (before : List Exchange) (line : Line) → line ≡ TooLong → Keeps s host peer before
     → IfOk r (λ did. did ≡ Replied (text_of LineTooLong)) → IfOk r (λ did. Goes s host peer before line did)
 long_goes (Err e) s host peer before line is k did = tt
 long_goes (Ok d) s host peer before line is k did = subst (λ l. Goes s host peer before l d) (sym is) (goes_long s host peer before d k did)
 
+-- a line that goes as the dialogue says did what its answer says
 pub line_did : {E : Type 0} (r : Result Did E) (n : Session) (host peer : List ℕ) (heard : List Heard) (line : Line) → IfOk r (λ did. Goes n host peer (exchanges peer heard) line did)
     → IfOk r (λ did. did ≡ did_of (shown_host host) (answer_of peer heard line))
 line_did (Err e) n host peer heard line goes = tt
 line_did (Ok d) n host peer heard line goes = goes.did_is
 
+-- after a line that goes so, the session stands for all lines so far
 pub line_stands : {E : Type 0} (r : Result Did E) (n : Session) (host peer : List ℕ) (heard : List Heard) (line : Line) (id : Option ℕ) → IfOk r (λ did. Goes n host peer (exchanges peer heard) line did)
     → IfOk r (λ _. Stands n host peer (heard ++ record { line = line; short = false; id = id } ∷ []))
 line_stands (Err e) n host peer heard line id goes = tt
 line_stands (Ok d) n host peer heard line id goes = stands_more n host peer heard line id d goes
 
+-- after a line that goes so, what the session keeps is within its limits
 pub line_bounded : {E : Type 0} (r : Result Did E) (n : Session) (host peer : List ℕ) (heard : List Heard) (line : Line) → IfOk r (λ did. Goes n host peer (exchanges peer heard) line did)
     → IfOk r (λ _. IsBounded n)
 line_bounded (Err e) n host peer heard line goes = tt
@@ -464,6 +476,7 @@ holds_some : (g n : Gathered) (text : List ℕ) → ((all : List (List ℕ)) →
 holds_some g n text more None h = h
 holds_some g n text more (Some all) h = more all h
 
+-- a line that a gathering took is held as one line more of the message
 pub holds_more : {T E : Type 0} (r : Result T E) (m : Option Gathered) (g n : Gathered) (text : List ℕ) → m ≡ Some g → OnOk r ((all : List (List ℕ)) → Gathers g most_message all → Gathers n most_message (all ++ text ∷ []))
     → OnOk r ((lines : Option (List (List ℕ))) → Holds m lines → Holds (Some n) (with_text (DataLine text) lines))
 holds_more (Err e) m g n text is more = tt
@@ -473,6 +486,7 @@ nothing_held : (text : List ℕ) (lines : Option (List (List ℕ))) → Holds No
 nothing_held text None h = h
 nothing_held text (Some all) h = absurd h
 
+-- where no message is under way, a data line adds nothing
 pub holds_none : (m : Option Gathered) (text : List ℕ) → m ≡ None → (lines : Option (List (List ℕ))) → Holds m lines → Holds m (with_text (DataLine text) lines)
 holds_none m text is lines h = subst (λ x. Holds x (with_text (DataLine text) lines)) (sym is) (nothing_held text lines (subst (λ x. Holds x lines) is h))
 
@@ -506,19 +520,6 @@ end_whole s n host peer before kept did k new is kept_as did_is =
     subst (λ e. EndTells (shown_host host) e answer given) is (end_tells (shown_host host) (kept_in peer before) s.sender s.recipient s.message (lines_in before) k.message_is) in
     goes_end s n host peer before did k new (did_is ∙ ap (λ x. given_by x s.sender s.recipient s.message) (kept_is s host peer before kept k kept_as) ∙ sym gives)
 
--- where nothing is kept of a message, none is under way
-pub end_none : (sender recipient : Option (List ℕ)) (m : Option Gathered) → m ≡ None → end_of sender recipient m ≡ Nothing
-end_none None recipient m is = refl
-end_none (Some sender) None m is = refl
-end_none (Some sender) (Some recipient) m is = ap (end_of (Some sender) (Some recipient)) is
-
-pub cleared : (s : Session) (sender recipient : Option (List ℕ)) (message : Option Gathered) → sender ≡ None → recipient ≡ None → message ≡ None
-    → record s { sender = sender; recipient = recipient; message = message } ≡ record s { sender = None; recipient = None; message = None }
-cleared s sender recipient message no_sender no_recipient no_message =
-    ap (λ x. record s { sender = x; recipient = recipient; message = message }) no_sender
-    ∙ ap (λ x. record s { sender = None; recipient = x; message = message }) no_recipient
-    ∙ ap (λ x. record s { sender = None; recipient = None; message = x }) no_message
-
 -- ---- replies
 
 replies_from_more : (host peer : List ℕ) (before : List Exchange) (heard : List Heard) (next : Heard) → replies_from host peer before (heard ++ next ∷ [])
@@ -530,6 +531,7 @@ replies_from_more host peer before (h ∷ heard) next =
     ap (λ r. told ++ r) (replies_from_more host peer (with_heard peer before h) heard next)
     ∙ sym (append_assoc told (replies_from host peer (with_heard peer before h) heard) last)
 
+-- one line more has one reply more, where it is answered
 pub replies_more : (host peer : List ℕ) (heard : List Heard) (next : Heard) → replies_to host peer (heard ++ next ∷ []) ≡ replies_to host peer heard ++ listed (reply_by host (answer_heard peer (exchanges peer heard) next) next.id)
 replies_more host peer heard next = replies_from_more host peer [] heard next
 
@@ -542,6 +544,7 @@ told_reply host Closes = refl
 told_reply host (Gives message) = refl
 told_reply host Takes = refl
 
+-- one line more is one exchange more of the dialogue
 pub dialogue_more : (peer : List ℕ) (heard : List Heard) (next : Heard) → dialogue peer (heard ++ next ∷ []) ≡ dialogue peer heard ++ exchange_of peer (reverse (dialogue peer heard)) next ∷ []
 dialogue_more peer heard next =
     let es : List Exchange = exchanges peer heard in

@@ -34,6 +34,7 @@ end_split kept (Some sender) (Some recipient) lines are = message_split kept sen
 end_split kept None recipient lines are = tt
 end_split kept (Some sender) None lines are = tt
 
+-- a message that is given is split as the text of its lines is
 pub given_split : (peer : List ℕ) (heard : List Heard) (line : Line) (message : Received) (lines : List (List ℕ)) → answer_of peer heard line ≡ Gives message → lines_in (exchanges peer heard) ≡ Some lines
     → AreLines lines → IsSplitOf message (text_of lines)
 given_split peer heard line message lines gives is are =

@@ -18,6 +18,7 @@ no_gift given true (Ok Begin) message e = cc e
 no_gift given false (Ok Begin) message e = cc e
 no_gift given full (Ok End) message e = cc e
 
+-- a message is given at the line that ends the data
 pub gift_at_end : (peer : List ℕ) (before : List Exchange) (line : Line) (message : Received) → answer_to peer before line ≡ Gives message → line ≡ DataEnd
 gift_at_end peer before (Command text) message e = absurd (no_gift (is_some (sender_in before)) (is_some (recipient_in before)) (request_of text) message e)
 gift_at_end peer before TooLong message e = absurd (cc e)
@@ -31,6 +32,7 @@ end_kept kept (Some sender) None lines message e = absurd (cc e)
 end_kept kept (Some sender) (Some recipient) None message e = absurd (cc e)
 end_kept kept (Some sender) (Some recipient) (Some lines) message e = refl
 
+-- a line that gives a message isn't dropped
 pub gift_kept : (peer : List ℕ) (before : List Exchange) (line : Line) (message : Received) → answer_to peer before line ≡ Gives message → is_dropped before line ≡ false
 gift_kept peer before (Command text) message e = refl
 gift_kept peer before TooLong message e = refl
