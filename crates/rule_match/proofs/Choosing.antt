@@ -21,6 +21,7 @@ at_most_both (n ∷ ns) (m ∷ ms) (inl lt) (inr both) = let e = both.0 in absur
 at_most_both (n ∷ ns) (m ∷ ms) (inr both) (inl gt) = let e = both.0 in absurd (omega arith)
 at_most_both (n ∷ ns) (m ∷ ms) (inr both) (inr other) = let e = at_most_both ns ms both.1 other.1 in let d = both.0 in cc
 
+-- of what fits one choice is taken
 pub choice_once : (wants : List Want) (tokens : List Token) (ns ms : List ℕ) → Chosen wants tokens ns → Chosen wants tokens ms → ns ≡ ms
 choice_once wants tokens ns ms h k = at_most_both ns ms (h.least ms k.fits) (k.least ns h.fits)
 
@@ -41,10 +42,12 @@ pub choice_none : (want : Want) (wants : List Want) (tokens : List Token) (n : �
 choice_none want wants tokens n next none [] h = h
 choice_none want wants tokens n next none (m ∷ later) h = let rest = next.enough m later h in none rest.0 rest.1
 
+-- a front that isn't empty has one token at least
 pub some_is : (n : ℕ) (tokens : List Token) → not (is_none (take n tokens)) ≡ true → 1 ≤ n
 some_is zero tokens h = absurd cc
 some_is (suc n) tokens h = omega arith
 
+-- a front of one token at least isn't empty
 pub is_some : (n : ℕ) (tokens : List Token) → 1 ≤ n → 1 ≤ length tokens → not (is_none (take n tokens)) ≡ true
 is_some zero tokens h k = absurd (omega arith)
 is_some (suc n) [] h k = absurd (omega arith)
@@ -90,8 +93,9 @@ earlier_by want wants tokens d ns true f plain free stands le h rest = free_earl
 earlier_by want wants tokens d ns false f plain free stands le h rest =
     fixed_earlier want wants tokens d ns f stands le h (rest (or_none (has_phrases want) (list_any has_phrases wants) plain).1 (sym (ap (λ b. b || list_any is_choosing wants) f) ∙ free))
 
--- what fits from a later place fits from an earlier one where its front stands, if a `$*` or `$+` is in it and no phrase of a class
-pub fits_earlier : (wants : List Want) (d : ℕ) → list_any has_phrases wants ≡ false → list_any is_choosing wants ≡ true → (tokens : List Token) (lengths : List ℕ) → front_stands wants tokens ≡ true → d ≤ length tokens → Fits wants (drop d tokens) lengths → (others : List ℕ) × Fits wants tokens others
+-- what fits from a later place fits from an earlier one where its front stands, if a `$*` or `$+`
+-- is in it and no phrase of a class
+fits_earlier : (wants : List Want) (d : ℕ) → list_any has_phrases wants ≡ false → list_any is_choosing wants ≡ true → (tokens : List Token) (lengths : List ℕ) → front_stands wants tokens ≡ true → d ≤ length tokens → Fits wants (drop d tokens) lengths → (others : List ℕ) × Fits wants tokens others
 fits_earlier [] d p f tokens lengths stands le h = absurd cc
 fits_earlier (want ∷ wants) d p f tokens lengths stands le h = earlier_by want wants tokens d lengths (is_choosing want) refl p f stands le h (fits_earlier wants d)
 
@@ -100,6 +104,7 @@ module _ (wants : List Want) (tokens : List Token) (least w : ℕ) (whole : (mor
   place_is : (other : ℕ) (lengths : List ℕ) → other ≤ length tokens → Fits wants (drop other tokens) lengths → other ≡ length tokens - w
   place_is other lengths within h = let e = sym (length-drop other tokens) ∙ whole (drop other tokens) lengths h in omega arith
 
+  -- items of one width fit first where they end with the tokens
   pub place_fixed : w + least ≤ length tokens → IsFirst wants tokens least (length tokens - w)
   place_fixed room = record {
     from = omega arith;
@@ -110,9 +115,11 @@ module _ (wants : List Want) (tokens : List Token) (least w : ℕ) (whole : (mor
 
 -- no place, where what follows takes so many tokens at least
 module _ (wants : List Want) (tokens : List Token) (least w : ℕ) (front : (more : List Token) (lengths : List ℕ) → Fits wants more lengths → w ≤ length more) where
+  -- items that are wider than the tokens left fit nowhere
   pub no_place_wide : length tokens < w + least → (other : ℕ) (lengths : List ℕ) → least ≤ other → other ≤ length tokens → Fits wants (drop other tokens) lengths → ⊥
   no_place_wide short other lengths from within h = let e = length-drop other tokens in let le = front (drop other tokens) lengths h in omega arith
 
+  -- items whose front stands nowhere up to the last place fit nowhere
   pub no_place : (last : ℕ) → last + w ≡ length tokens → ((k : ℕ) → least ≤ k → k < last + 1 → front_stands wants (drop k tokens) ≡ false) → (other : ℕ) (lengths : List ℕ) → least ≤ other → other ≤ length tokens → Fits wants (drop other tokens) lengths → ⊥
   no_place last is none other lengths from within h =
       let size = length-drop other tokens in
@@ -131,6 +138,7 @@ module _ (wants : List Want) (tokens : List Token) (least : ℕ) where
     first_at : (other : ℕ) (lengths : List ℕ) → least ≤ other → Fits wants (drop other tokens) lengths → place ≤ other
     first_at other lengths from h = not_before other from (fits_stands wants (drop other tokens) lengths h) (cases_lt other place)
 
+    -- items with a free one fit first where their front stands first
     pub place_free : list_any has_phrases wants ≡ false → list_any is_choosing wants ≡ true → least ≤ place → place ≤ length tokens → front_stands wants (drop place tokens) ≡ true → IsFirst wants tokens least place
     place_free plain free from within stands = record {
       from = from;
@@ -146,15 +154,7 @@ module _ (wants : List Want) (tokens : List Token) (least : ℕ) where
 
 -- what the first item takes
 module _ (wants : List Want) (tokens : List Token) where
-  pub next_any : (n : ℕ) → IsFirst wants tokens 0 n → IsNext Anything wants tokens n
-  next_any n i = record {
-    within = i.within;
-    met = refl;
-    first = λ m lengths h. i.first m lengths (omega arith) h.0 h.2;
-    enough = λ m lengths h. i.enough m lengths (omega arith) h.0 h.2;
-  }
-
-  pub next_more : (n : ℕ) → IsFirst wants tokens 1 n → IsNext Something wants tokens n
+  next_more : (n : ℕ) → IsFirst wants tokens 1 n → IsNext Something wants tokens n
   next_more n i = record {
     within = i.within;
     met = let a = i.from in let b = i.within in is_some n tokens a (omega arith);
@@ -164,6 +164,7 @@ module _ (wants : List Want) (tokens : List Token) where
 
 -- an item whose matches have one length
 module _ (want : Want) (tokens : List Token) (fixed : is_choosing want ≡ false) (w : ℕ) (is : w ≡ width want) where
+  -- a want of one width that is met takes this width
   pub next_fixed : w ≤ length tokens → meets want (take w tokens) ≡ true → (wants : List Want) → IsNext want wants tokens w
   next_fixed some met wants = record {
     within = some;
@@ -172,28 +173,24 @@ module _ (want : Want) (tokens : List Token) (fixed : is_choosing want ≡ false
     enough = λ m lengths h. let p = fits_fixed want wants tokens m lengths fixed h in (lengths, subst (λ k. Fits wants (drop k tokens) lengths) (sym is) p.fits);
   }
 
+  -- a want of one width that isn't met takes no tokens
   pub no_next_fixed : meets want (take w tokens) ≡ false → (n : ℕ) → n ≤ length tokens → meets want (take n tokens) ≡ true → ⊥
   no_next_fixed differs n le h =
       let e : meets want (take w tokens) ≡ true = ap (λ k. meets want (take k tokens)) (is ∙ sym (takes_width want tokens n fixed le h)) ∙ h in
       absurd (cc (differs, e))
 
+  -- a want that is wider than the tokens left takes none
   pub no_room_fixed : length tokens < w → (n : ℕ) → n ≤ length tokens → meets want (take n tokens) ≡ true → ⊥
   no_room_fixed short n le h = let e = takes_width want tokens n fixed le h in omega arith
 
 -- the same of what was found, for a `$*` and a `$+`
 module _ (wants : List Want) (tokens : List Token) where
-  pub found_any : (o : Option ℕ) → IfSome o (λ n. IsFirst wants tokens 0 n) → IfSome o (λ n. IsNext Anything wants tokens n)
-  found_any None h = tt
-  found_any (Some n) h = next_any wants tokens n h
-
+  -- the first place from 1 on where the rest fits is what $+ takes
   pub found_more : (o : Option ℕ) → IfSome o (λ n. IsFirst wants tokens 1 n) → IfSome o (λ n. IsNext Something wants tokens n)
   found_more None h = tt
   found_more (Some n) h = next_more wants tokens n h
 
-  pub missed_any : (o : Option ℕ) → IfNone o ((n : ℕ) (later : List ℕ) → 0 ≤ n → n ≤ length tokens → Fits wants (drop n tokens) later → ⊥) → IfNone o ((n : ℕ) (later : List ℕ) → Fits (Anything ∷ wants) tokens (n ∷ later) → ⊥)
-  missed_any None none = λ n later h. none n later (omega arith) h.0 h.2
-  missed_any (Some n) none = tt
-
+  -- where the rest fits nowhere from 1 on, $+ takes nothing
   pub missed_more : (o : Option ℕ) → IfNone o ((n : ℕ) (later : List ℕ) → 1 ≤ n → n ≤ length tokens → Fits wants (drop n tokens) later → ⊥) → IfNone o ((n : ℕ) (later : List ℕ) → Fits (Something ∷ wants) tokens (n ∷ later) → ⊥)
   missed_more None none = λ n later h. none n later (some_is n tokens h.1) h.0 h.2
   missed_more (Some n) none = tt

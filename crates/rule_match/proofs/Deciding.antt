@@ -46,6 +46,7 @@ module _ (want : Want) (wants : List Want) (tokens : List Token) (rest : (n : �
   try_all : Decided (want ∷ wants) tokens
   try_all = let all : 0 + (length tokens + 1) ≡ length tokens + 1 = omega arith in try_from (length tokens + 1) 0 all (λ m later lt h. omega arith)
 
+-- either some lengths are chosen, or none fit
 pub decide : (wants : List Want) (tokens : List Token) → Decided wants tokens
 decide [] [] = inl ([], record { fits = tt; least = λ others fits. tt })
 decide [] (token ∷ tokens) = inr over

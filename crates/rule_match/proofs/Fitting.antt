@@ -42,10 +42,10 @@ pub takes_width : (want : Want) (tokens : List Token) (n : ℕ) → is_choosing 
 takes_width want tokens n f le h = sym (length-take-le n tokens le) ∙ fixed_length want (take n tokens) f h
 
 -- whether the front of the items stands at the front of the tokens, by the kind of the first item
-pub stands_free : (want : Want) (wants : List Want) (tokens : List Token) → is_choosing want ≡ true → front_stands (want ∷ wants) tokens ≡ true
+stands_free : (want : Want) (wants : List Want) (tokens : List Token) → is_choosing want ≡ true → front_stands (want ∷ wants) tokens ≡ true
 stands_free want wants tokens f = rw f refl
 
-pub stands_fixed : (want : Want) (wants : List Want) (tokens : List Token) → is_choosing want ≡ false
+stands_fixed : (want : Want) (wants : List Want) (tokens : List Token) → is_choosing want ≡ false
     → front_stands (want ∷ wants) tokens ≡ (nat_le (width want) (length tokens) && meets want (take (width want) tokens) && front_stands wants (drop (width want) tokens))
 stands_fixed want wants tokens f = rw f refl
 
@@ -55,13 +55,14 @@ pub record StandsFixed (want : Want) (wants : List Want) (tokens : List Token) :
   pub met : meets want (take (width want) tokens) ≡ true
   pub rest : front_stands wants (drop (width want) tokens) ≡ true
 
+-- where a front stands that begins with a want of fixed width, this want is met there
 pub stands_parts : (want : Want) (wants : List Want) (tokens : List Token) → is_choosing want ≡ false → front_stands (want ∷ wants) tokens ≡ true → StandsFixed want wants tokens
 stands_parts want wants tokens f h =
     let all = and_parts (nat_le (width want) (length tokens) && meets want (take (width want) tokens)) (front_stands wants (drop (width want) tokens)) (sym (stands_fixed want wants tokens f) ∙ h) in
     let both = and_parts (nat_le (width want) (length tokens)) (meets want (take (width want) tokens)) all.0 in
     record { within = leb-true (width want) (length tokens) both.0; met = both.1; rest = all.1 }
 
-pub stands_whole : (want : Want) (wants : List Want) (tokens : List Token) → is_choosing want ≡ false → StandsFixed want wants tokens → front_stands (want ∷ wants) tokens ≡ true
+stands_whole : (want : Want) (wants : List Want) (tokens : List Token) → is_choosing want ≡ false → StandsFixed want wants tokens → front_stands (want ∷ wants) tokens ≡ true
 stands_whole want wants tokens f s =
     stands_fixed want wants tokens f ∙ and_from _ (front_stands wants (drop (width want) tokens)) (and_from (nat_le (width want) (length tokens)) (meets want (take (width want) tokens)) (le-leb (width want) (length tokens) s.within) s.met) s.rest
 
@@ -72,6 +73,7 @@ pub record FitsFirst (want : Want) (wants : List Want) (tokens : List Token) (n 
   pub met : meets want (take (width want) tokens) ≡ true
   pub fits : Fits wants (drop (width want) tokens) later
 
+-- a want of fixed width that fits is met by as many tokens as it is wide
 pub fits_fixed : (want : Want) (wants : List Want) (tokens : List Token) (n : ℕ) (later : List ℕ) → is_choosing want ≡ false → Fits (want ∷ wants) tokens (n ∷ later) → FitsFirst want wants tokens n later
 fits_fixed want wants tokens n later f h =
     let e = takes_width want tokens n f h.0 h.1 in
@@ -97,6 +99,7 @@ fits_stands (want ∷ wants) tokens (n ∷ later) h = stands_by want wants token
 
 -- ---- what is known of items, whatever the classes are
 
+-- a want chooses its length if its item is a free one
 pub choosing_is : (classes : Classes) (late : List (List Token)) (item : Item) → is_choosing (want classes late item) ≡ is_free item
 choosing_is classes late Any = refl
 choosing_is classes late More = refl
@@ -117,6 +120,7 @@ class_is classes late (NotInClass name) = refl
 class_is classes late (Exact token) = refl
 class_is classes late (Late name) = refl
 
+-- a want is as wide as its item
 pub width_is : (classes : Classes) (late : List (List Token)) (item : Item) → width (want classes late item) ≡ width_of late item
 width_is classes late Any = refl
 width_is classes late More = refl
@@ -127,10 +131,12 @@ width_is classes late (NotInClass name) = refl
 width_is classes late (Exact token) = refl
 width_is classes late (Late name) = refl
 
+-- some want chooses its length if some item is free
 pub choosing_any : (classes : Classes) (late : List (List Token)) (items : List Item) → list_any is_choosing (wants classes late items) ≡ list_any is_free items
 choosing_any classes late [] = refl
 choosing_any classes late (item ∷ items) = ap (λ b. b || list_any is_choosing (wants classes (lists_after item late) items)) (choosing_is classes late item) ∙ ap (λ b. is_free item || b) (choosing_any classes (lists_after item late) items)
 
+-- some want has phrases if some item is a class
 pub class_any : (classes : Classes) (late : List (List Token)) (items : List Item) → list_any has_phrases (wants classes late items) ≡ list_any is_class items
 class_any classes late [] = refl
 class_any classes late (item ∷ items) = ap (λ b. b || list_any has_phrases (wants classes (lists_after item late) items)) (class_is classes late item) ∙ ap (λ b. is_class item || b) (class_any classes (lists_after item late) items)
@@ -179,6 +185,7 @@ fits_whole classes late (item ∷ items) tokens (n ∷ later) f h =
     let s = rest_size classes late item items tokens n later h both.0 in
     omega arith
 
+-- an item other than $*, $+ and $= has a fixed width
 pub other_fixed : (item : Item) → (item ≡ Any → ⊥) → (item ≡ More → ⊥) → ((name : List ℕ) → item ≡ InClass name → ⊥) → is_free item ≡ false
 other_fixed Any a b c = absurd (a refl)
 other_fixed More a b c = absurd (b refl)
@@ -230,15 +237,18 @@ module _ (items before : List Item) (token : Token) (are : items ≡ before ++ E
   ending : EndsWith token tokens
   ending = fits_end classes late before token tokens lengths (subst (λ is. Fits (wants classes late is) tokens lengths) are h)
 
+  -- where items fit of which the last is a token, there are tokens
   pub ends_none : length tokens ≡ 0 → ⊥
   ends_none empty = let e = ending in omega (arith, ap length e.ends, length_push e.front e.last)
 
+  -- where such items fit, the tokens don't end with another token
   pub ends_other : (front : List Token) (last : Token) → tokens ≡ front ++ last ∷ [] → same_token token last ≡ false → ⊥
   ends_other front last is differs =
       let e = ending in
       let same = same_from_push e.front front e.last last (sym e.ends ∙ is) in
       both_ways (same_token token last) differs (ap (same_token token) (sym same.1) ∙ e.same)
 
+-- what differs isn't the same
 pub not_same : (same differs : Bool) → differs ≡ not same → differs ≡ true → same ≡ false
 not_same true differs is t = absurd (cc (is, t))
 not_same false differs is t = refl
@@ -248,6 +258,7 @@ not_same false differs is t = refl
 first_differs : (token first : Token) (rest : List Want) (more : List Token) → same_token token first ≡ false → front_stands (These (token ∷ []) ∷ rest) (first ∷ more) ≡ false
 first_differs token first rest more h = and_left _ _ (and_right (nat_le 1 (length (first ∷ more))) _ (and_left (same_token token first) true h))
 
+-- items that begin with another token than the first don't stand at the front
 pub begins_other : (items after : List Item) (token : Token) → items ≡ Exact token ∷ after → (tokens : List Token) (first : Token) (more : List Token) → tokens ≡ first ∷ more → same_token token first ≡ false
     → (classes : Classes) (late : List (List Token)) → front_stands (wants classes late items) tokens ≡ false
 begins_other items after token are tokens first more is h classes late =

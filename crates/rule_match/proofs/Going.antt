@@ -16,6 +16,7 @@ use Rattle.rule_match.specs.inner.Steps.{IsNext}
 use Rattle.rule_match.proofs.Choosing.{choice_more, choice_none}
 use Rattle.rule_match.proofs.Keeping.{kept_meta, kept_other}
 
+-- what the rest takes completes what all items take, and where the rest fits nothing, nothing fits
 pub record Goes (classes : Classes) (late : List (List Token)) (items : List Item) (tokens : List Token) (lists : List (List Token)) (rest : List Item) (left : List Token) (kept : List Cut) (start : ℕ) : Type 0 where
   pub some : (lengths : List ℕ) → Chosen (wants classes lists rest) left lengths → (whole : List ℕ) × Chosen (wants classes late items) tokens whole × (kept_cuts items 0 whole ≡ kept ++ kept_cuts rest start lengths)
   pub none : ((lengths : List ℕ) → Fits (wants classes lists rest) left lengths → ⊥) → (lengths : List ℕ) → Fits (wants classes late items) tokens lengths → ⊥
@@ -27,19 +28,11 @@ pub some_with : {X : Type 0} (P : X → Type 0) (Q : Type 0) (o : Option X) → 
 some_with P Q None h q = tt
 some_with P Q (Some x) h q = (h, q)
 
--- before the first item
-pub goes_first : (classes : Classes) (late : List (List Token)) (items : List Item) (tokens : List Token) (kept : List Cut) → kept ≡ [] → count_by is_meta items ≤ 20 → Goes classes late items tokens late items tokens kept 0
-goes_first classes late items tokens kept is few = record {
-  some = λ lengths chosen. (lengths, chosen, ap (λ cs. cs ++ kept_cuts items 0 lengths) (sym is));
-  none = λ none. none;
-  room = omega (arith, ap length is);
-  place = omega arith;
-}
-
+-- a metasymbol more at the front makes their count one more
 pub count_meta : (item : Item) (items : List Item) → is_meta item ≡ true → count_by is_meta (item ∷ items) ≡ 1 + count_by is_meta items
 count_meta item items h = sum_by-cons (λ x. cond (is_meta x) 1 0) item items ∙ ap (λ b. cond b 1 0 + count_by is_meta items) h
 
-pub count_other : (item : Item) (items : List Item) → is_meta item ≡ false → count_by is_meta (item ∷ items) ≡ count_by is_meta items
+count_other : (item : Item) (items : List Item) → is_meta item ≡ false → count_by is_meta (item ∷ items) ≡ count_by is_meta items
 count_other item items h = let e = sum_by-cons (λ x. cond (is_meta x) 1 0) item items ∙ ap (λ b. cond b 1 0 + count_by is_meta items) h in e ∙ zero-add (count_by is_meta items)
 
 module _ (classes : Classes) (late : List (List Token)) (items : List Item) (tokens : List Token) (lists : List (List Token)) (all : List Item) (item : Item) (after : List Item) (is : all ≡ item ∷ after) (others : List (List Token)) (others_are : others ≡ lists_after item lists)
@@ -88,6 +81,7 @@ least_none : Chosen [] [] []
 least_none = record { fits = tt; least = λ others fits. tt }
 
 module _ (classes : Classes) (late : List (List Token)) (items : List Item) (tokens : List Token) (lists : List (List Token)) (rest : List Item) (left : List Token) (kept : List Cut) (start : ℕ) (g : Goes classes late items tokens lists rest left kept start) (ended : rest ≡ []) where
+  -- where no tokens are left, the cuts that are kept are the choice
   pub goes_end : length left ≡ 0 → IsChoice classes late items tokens kept
   goes_end empty = ends left empty g
     where
@@ -97,6 +91,7 @@ module _ (classes : Classes) (late : List (List Token)) (items : List Item) (tok
           (w.0, w.1, sym (w.2 ∙ ap (λ is. kept ++ kept_cuts is start []) ended ∙ append-nil kept))
       ends (x ∷ xs) e h = absurd (omega arith)
 
+  -- where no items are left but tokens are, nothing fits
   pub goes_over : (length left ≡ 0 → ⊥) → (lengths : List ℕ) → Fits (wants classes late items) tokens lengths → ⊥
   goes_over more = g.none (λ lengths fits. over left more lengths (subst (λ is. Fits (wants classes lists is) left lengths) ended fits))
     where
@@ -116,7 +111,8 @@ goes_stuck classes late items tokens lists all item after left kept start g is o
     stuck [] h = h
     stuck (n ∷ later) h = none n later h
 
--- the first length that leaves a match to the others, when the lengths of the first item are tried in order
+-- the first length that leaves a match to the others, when the lengths of the first item are tried
+-- in order
 module _ (classes : Classes) (late : List (List Token)) (items : List Item) (item : Item) (after : List Item) (is : items ≡ item ∷ after) (others : List (List Token)) (others_are : others ≡ lists_after item late) (left piece later : List Token) (start n : ℕ) (piece_is : piece ≡ take n left) (later_is : later ≡ drop n left)
     (within : n ≤ length left) (met : meets (want classes late item) piece ≡ true) (none : (m : ℕ) (lengths : List ℕ) → m < n → Fits (want classes late item ∷ wants classes others after) left (m ∷ lengths) → ⊥) (kept : List Cut)
     (found : (lengths : List ℕ) × Chosen (wants classes others after) later lengths × (kept ≡ kept_cuts after (start + n) lengths)) where
@@ -140,8 +136,10 @@ module _ (classes : Classes) (late : List (List Token)) (items : List Item) (ite
       let both_are : wants classes late items ≡ want classes late item ∷ wants classes others after = ap (wants classes late) is ∙ ap (λ late2. want classes late item ∷ wants classes late2 after) (sym others_are) in
       subst (λ xs. Chosen xs left (n ∷ found.0)) (sym both_are) (choice_more (want classes late item) (wants classes others after) left n found.0 next rest)
 
+  -- a metasymbol and what the rest takes are chosen, with a cut more
   pub tried_meta : is_meta item ≡ true → (lengths : List ℕ) × Chosen (wants classes late items) left lengths × (record { start = start; length = n; binds = is_binding item } ∷ kept ≡ kept_cuts items start lengths)
   tried_meta meta = (n ∷ found.0, all, ap (λ cs. record { start = start; length = n; binds = is_binding item } ∷ cs) found.2 ∙ sym (kept_meta item after start n found.0 meta) ∙ ap (λ is. kept_cuts is start (n ∷ found.0)) (sym is))
 
+  -- a token and what the rest takes are chosen, with the same cuts
   pub tried_other : is_meta item ≡ false → (lengths : List ℕ) × Chosen (wants classes late items) left lengths × (kept ≡ kept_cuts items start lengths)
   tried_other meta = (n ∷ found.0, all, found.2 ∙ sym (kept_other item after start n found.0 meta) ∙ ap (λ is. kept_cuts is start (n ∷ found.0)) (sym is))

@@ -26,9 +26,11 @@ other_one classes late (NotInClass name) items tokens n later m h = absurd cc
 other_one classes late (Exact token) items tokens n later m h = (fits_fixed (want classes late (Exact token)) (wants classes late items) tokens n later refl h).one
 other_one classes late (Late name) items tokens n later m h = absurd cc
 
+-- of a metasymbol a cut is kept
 pub kept_meta : (item : Item) (items : List Item) (at n : ℕ) (lengths : List ℕ) → is_meta item ≡ true → kept_cuts (item ∷ items) at (n ∷ lengths) ≡ record { start = at; length = n; binds = is_binding item } ∷ kept_cuts items (at + n) lengths
 kept_meta item items at n lengths h = rw h refl
 
+-- of a token no cut is kept
 pub kept_other : (item : Item) (items : List Item) (at n : ℕ) (lengths : List ℕ) → is_meta item ≡ false → kept_cuts (item ∷ items) at (n ∷ lengths) ≡ kept_cuts items (at + n) lengths
 kept_other item items at n lengths h = rw h refl
 
@@ -73,6 +75,7 @@ within_by item items at n size later false m le rest = subst (AreWithin size) (s
 room : (tokens : List Token) (at n : ℕ) → at ≤ length tokens → n ≤ length (drop at tokens) → at + n ≤ length tokens
 room tokens at n le h = let e = length-drop at tokens in omega arith
 
+-- the cuts that are kept of what fits are within the tokens
 pub kept_within : (classes : Classes) (late : List (List Token)) (items : List Item) (tokens : List Token) (at : ℕ) (lengths : List ℕ) → at ≤ length tokens → Fits (wants classes late items) (drop at tokens) lengths → AreWithin (length tokens) (kept_cuts items at lengths)
 kept_within classes late [] tokens at lengths le h = tt
 kept_within classes late (item ∷ items) tokens at [] le h = absurd h
@@ -128,6 +131,7 @@ pieces_same (item ∷ items) tokens at (n ∷ later) k =
     binds_by item items tokens at n later k (is_meta item) (is_binding item) refl refl
     (λ j. pieces_same items tokens (at + n) later j ∙ ap (λ xs. nth (bound_pieces items xs later) j) (sym (drop-drop n at tokens)))
 
+-- the piece of a number is what the cut of that number takes
 pub piece_is : (items : List Item) (tokens : List Token) (lengths : List ℕ) (number : ℕ) → number ≢ 0 → piece_behind tokens (kept_cuts items 0 lengths) (number - 1) ≡ bound_piece items tokens lengths number
 piece_is items tokens lengths zero ne = absurd (ne refl)
 piece_is items tokens lengths (suc k) ne = let back : suc k - 1 ≡ k = omega arith in ap (piece_behind tokens (kept_cuts items 0 lengths)) back ∙ pieces_same items tokens 0 lengths k

@@ -31,12 +31,14 @@ test_is : (words : List ℕ) (place : ℕ) → (bit_and (get_or words (place / 6
 unfolding has
 test_is words place = ap (λ x. x == 1) (shr_and_one (get_or words (place / 64) 0) (place % 64))
 
+-- a test of a bit in its word tells whether the row has the place
 pub has_tests : (words all : List ℕ) (place : ℕ) → words ≡ all → (bit_and (get_or words (place / 64) 0 / 2 ^ (place % 64)) 1 == 1) ≡ has all place
 has_tests words all place is = test_is words place ∙ ap (λ ws. has ws place) is
 
 zero_at : (n i nil : ℕ) → nil ≡ 0 → get_or (replicate n nil) i 0 ≡ 0
 zero_at n i nil z = elim (cases_lt i n) [ inl lt ↦ get_or-replicate n i nil 0 lt ∙ z | inr le ↦ get_or_past (replicate n nil) i 0 (omega (arith, length-replicate n nil)) ]
 
+-- a row of zero words has no place
 pub has_none : (n place nil : ℕ) → nil ≡ 0 → has (replicate n nil) place ≡ false
 unfolding has
 has_none n place nil z = ap (λ x. x == 1) (ap (λ w. bit_at w (place % 64)) (zero_at n (place / 64) nil z) ∙ bit_at-zero (place % 64))
@@ -83,11 +85,13 @@ module _ (words : List ℕ) (place other : ℕ) (within : place < 64 * length wo
       let apart : other ≢ place = λ e. ne (ap (λ x. x / 64) e) in
       ap (λ w. bit_at w (other % 64) == 1) (get_or-set_other words (place / 64) (other / 64) _ 0 ne) ∙ sym (ap (λ b. b || bit_at (get_or words (other / 64) 0) (other % 64) == 1) (ne_eqb other place apart))
 
+  -- a row in which a bit was set has this place and those it had
   pub has_set : has (set words (place / 64) (bit_or (get_or words (place / 64) 0) (1 * 2 ^ (place % 64) % 2 ^ 64))) other ≡ (other == place || has words other)
   has_set = elim (cases_eq (other / 64) (place / 64)) [ inl e ↦ set_in e | inr ne ↦ set_out ne ]
 
 -- the test of an item's places is right
 module _ (left : List Token) (place : ℕ) (row : List ℕ) where
+  -- a want of one width starts here if it is met and ends at a place of the row
   pub start_fixed : (want : Want) → is_choosing want ≡ false → (b : Bool) → starts_fixed want left place row ≡ b → IsStart want left place row b
   start_fixed want f b is = record {
     some = λ e.
@@ -103,6 +107,7 @@ module _ (left : List Token) (place : ℕ) (row : List ℕ) where
   }
 
   module _ (later : Bool) (known : IsLater row (place + 1) (place + length left) later) where
+    -- $* starts here if the row has this place or a later one
     pub start_any : (b : Bool) → (later || has row place) ≡ b → IsStart Anything left place row b
     start_any b is = record {
       some = λ e. elim (or_cases later (has row place) (is ∙ e)) [
@@ -115,6 +120,7 @@ module _ (left : List Token) (place : ℕ) (row : List ℕ) where
       ];
     }
 
+    -- $+ starts here if the row has a later place
     pub start_more : IsStart Something left place row later
     start_more = record {
       some = λ e. let s = known.some e in let a = s.1 in let z = s.2 in let n : place + (s.0 - place) ≡ s.0 = omega arith in (s.0 - place, omega arith, piece_is_some (s.0 - place) left (omega arith) (omega arith), ap (has row) n ∙ s.3);
@@ -137,7 +143,7 @@ module _ (left : List Token) (place : ℕ) (row : List ℕ) where
   start_found members None some none b is = subst (IsStart (Phrase members) left place row) (sym is) none
 
 -- before the first item from the end: the bit of the end alone
-pub row_end : (tokens : List Token) (row : List ℕ) → ((place : ℕ) → place ≤ length tokens → has row place ≡ (place == length tokens)) → IsRow tokens [] row
+row_end : (tokens : List Token) (row : List ℕ) → ((place : ℕ) → place ≤ length tokens → has row place ≡ (place == length tokens)) → IsRow tokens [] row
 row_end tokens row bits = record {
   set = λ place within h.
       let e : place ≡ length tokens = eqb-true place (length tokens) (sym (bits place within) ∙ h) in
@@ -155,6 +161,7 @@ or_false : (b : Bool) → (b || false) ≡ b
 or_false true = refl
 or_false false = refl
 
+-- the row of no wants has the place at the end alone
 pub row_first : (tokens : List Token) (fresh row : List ℕ) → ((place : ℕ) → has fresh place ≡ false) → ((place : ℕ) → has row place ≡ (place == length tokens || has fresh place)) → IsRow tokens [] row
 row_first tokens fresh row none bits = row_end tokens row (λ place within. bits place ∙ ap (λ b. place == length tokens || b) (none place) ∙ or_false (place == length tokens))
 
@@ -194,7 +201,7 @@ module _ (tokens : List Token) (want : Want) (wants : List Want) (row : List ℕ
   set_by n later true le e fits = e
   set_by n later false le e fits = absurd (is.clear (start + n) (inside n le) e later (subst (λ xs. Fits wants xs later) (rest_is n) fits))
 
-  pub next_by : (n : ℕ) → IsLeast want left start row n → IsNext want wants left n
+  next_by : (n : ℕ) → IsLeast want left start row n → IsNext want wants left n
   next_by n l = record {
     within = l.within;
     met = l.met;
@@ -202,7 +209,7 @@ module _ (tokens : List Token) (want : Want) (wants : List Want) (row : List ℕ
     enough = λ m later fits. let t = is.set (start + n) (inside n l.within) l.set in (t.0, subst (λ xs. Fits wants xs t.0) (sym (rest_is n)) t.1);
   }
 
-  pub no_next_by : IsStart want left start row false → (n : ℕ) (later : List ℕ) → Fits (want ∷ wants) left (n ∷ later) → ⊥
+  no_next_by : IsStart want left start row false → (n : ℕ) (later : List ℕ) → Fits (want ∷ wants) left (n ∷ later) → ⊥
   no_next_by s n later fits = s.none refl n fits.0 fits.1 (set_by n later (has row (start + n)) fits.0 refl fits.2)
 
 -- the rows behind an item and behind those after it
@@ -210,17 +217,18 @@ pub record RowsPopped (tokens : List Token) (wants : List Want) (row : List ℕ)
   pub one : IsRow tokens wants row
   pub rest : AreRows tokens wants rows
 
-pub rows_popped : {tokens : List Token} {want : Want} {wants : List Want} {all : List (List ℕ)} → AreRows tokens (want ∷ wants) all → is_choosing want ≡ true → (row : List ℕ) (rows : List (List ℕ)) → all ≡ rows ++ row ∷ [] → RowsPopped tokens wants row rows
+rows_popped : {tokens : List Token} {want : Want} {wants : List Want} {all : List (List ℕ)} → AreRows tokens (want ∷ wants) all → is_choosing want ≡ true → (row : List ℕ) (rows : List (List ℕ)) → all ≡ rows ++ row ∷ [] → RowsPopped tokens wants row rows
 rows_popped (fixed want wants rows f r) c row now e = absurd (cc (f, c))
 rows_popped {tokens} (choosing want wants row rows all f one r is) c now_row now e =
     let same = same_from_push rows now row now_row (sym is ∙ e) in
     record { one = subst (IsRow tokens wants) same.1 one; rest = subst (AreRows tokens wants) same.0 r }
 
+-- where a want chooses its length, rows are there
 pub rows_none : {tokens : List Token} {want : Want} {wants : List Want} {all : List (List ℕ)} → AreRows tokens (want ∷ wants) all → is_choosing want ≡ true → length all ≡ 0 → ⊥
 rows_none (fixed want wants rows f r) c e = absurd (cc (f, c))
 rows_none (choosing want wants row rows all f one r is) c e = absurd (omega (arith, ap length is, length_push rows row))
 
-pub rows_fixed : {tokens : List Token} {want : Want} {wants : List Want} {all : List (List ℕ)} → AreRows tokens (want ∷ wants) all → is_choosing want ≡ false → AreRows tokens wants all
+rows_fixed : {tokens : List Token} {want : Want} {wants : List Want} {all : List (List ℕ)} → AreRows tokens (want ∷ wants) all → is_choosing want ≡ false → AreRows tokens wants all
 rows_fixed (fixed want wants rows f r) c = r
 rows_fixed (choosing want wants row rows all f one r is) c = absurd (cc (f, c))
 
@@ -235,18 +243,22 @@ free_meta (NotInClass name) h = refl
 free_meta (Exact token) h = absurd cc
 free_meta (Late name) h = refl
 
+-- a metasymbol more at the end makes their count one more
 pub count_last : (item : Item) (before : List Item) → is_meta item ≡ true → count_by is_meta (before ++ item ∷ []) ≡ count_by is_meta before + 1
 count_last item before h = sum_by-append (λ x. cond (is_meta x) 1 0) before (item ∷ []) ∙ ap (λ n. count_by is_meta before + n) (count_meta item [] h)
 
+-- an item more at the end makes the count of metasymbols no less
 pub count_before : (item : Item) (before : List Item) → count_by is_meta before ≤ count_by is_meta (before ++ item ∷ [])
 count_before item before = let e = sum_by-append (λ x. cond (is_meta x) 1 0) before (item ∷ []) in omega arith
 
 -- an option of a length, said of what follows
 module _ (want : Want) (wants : List Want) (left : List Token) where
+  -- a want of one width that is met takes this width, whatever follows it
   pub fixed_some : (o : Option ℕ) → IfSome o (λ n. (after : List Want) → IsNext want after left n) → IfSome o (λ n. IsNext want wants left n)
   fixed_some None h = tt
   fixed_some (Some n) h = h wants
 
+  -- a want of one width that isn't met fits nowhere, whatever follows it
   pub fixed_none : (o : Option ℕ) → IfNone o ((n : ℕ) → n ≤ length left → meets want (take n left) ≡ true → ⊥) → IfNone o ((n : ℕ) (later : List ℕ) → Fits (want ∷ wants) left (n ∷ later) → ⊥)
   fixed_none None h = λ n later fits. h n fits.0 fits.1
   fixed_none (Some n) h = tt
@@ -256,12 +268,14 @@ pub record IsSetIf (old new : List ℕ) (place : ℕ) (b : Bool) : Type 0 where
   pub here : has new place ≡ b
   pub there : (other : ℕ) → other ≢ place → has new other ≡ has old other
 
+-- a row with one place more has that place set
 pub set_bits : (old new : List ℕ) (place : ℕ) → ((other : ℕ) → has new other ≡ (other == place || has old other)) → IsSetIf old new place true
 set_bits old new place bits = record {
   here = bits place ∙ ap (λ b. b || has old place) (eq-eqb place place refl);
   there = λ other ne. bits other ∙ ap (λ b. b || has old other) (ne_eqb other place ne);
 }
 
+-- a row that hasn't the place stays where none is set
 pub keep_bits : (row : List ℕ) (place : ℕ) → has row place ≡ false → IsSetIf row row place false
 keep_bits row place h = record { here = h; there = λ other ne. refl }
 
@@ -274,15 +288,18 @@ module _ (tokens : List Token) (want : Want) (after row now : List ℕ) (end pla
   start_here : IsStart want (drop place tokens) place after b
   start_here = is (subst (λ last. IsLater after (place + 1) last later) (sym last_is) (subst (λ from. IsLater after from (length tokens) later) (sym is_place) known))
 
+  -- the row so far tells of each place from here on whether the want starts there
   pub starts_now : (p : ℕ) → place ≤ p → p ≤ length tokens → IsStart want (drop p tokens) p after (has now p)
   starts_now p from inside = elim (cases_eq p place) [
     | inl e ↦ subst (λ q. IsStart want (drop q tokens) q after (has now q)) (sym e) (subst (IsStart want (drop place tokens) place after) (sym set.here) start_here)
     | inr ne ↦ subst (IsStart want (drop p tokens) p after) (sym (set.there p ne)) (old p (omega arith) inside)
   ]
 
+  -- the row so far has no place before this one
   pub fresh_now : (p : ℕ) → p < place → has now p ≡ false
   fresh_now p below = let ne : p ≢ place = omega arith in set.there p ne ∙ fresh p (omega arith)
 
+  -- a place is in the row behind from here on if it is here or later
   pub later_now : (more : Bool) → more ≡ (later || has after place) → IsLater after place (length tokens) more
   later_now more e = record {
     some = λ t. elim (or_cases later (has after place) (sym e ∙ t)) [
@@ -305,19 +322,12 @@ least_found want left place row n within met set none = record {
   least = λ m le here there. elim (cases_lt m n) [ inl lt ↦ absurd (none m lt here there) | inr ge ↦ ge ];
 }
 
+-- where no length meets a want and ends at a place of the row, nothing starts here
 pub none_found : (want : Want) (left : List Token) (place : ℕ) (row : List ℕ) → ((m : ℕ) → m < length left + 1 → meets want (take m left) ≡ true → has row (place + m) ≡ true → ⊥) → IsStart want left place row false
 none_found want left place row none = record {
   some = λ e. absurd cc;
   none = λ e n le met set. none n (omega arith) met set;
 }
-
--- one more length that isn't it
-pub none_more : (want : Want) (left : List Token) (place : ℕ) (row : List ℕ) (n : ℕ) → ((m : ℕ) → m < n → meets want (take m left) ≡ true → has row (place + m) ≡ true → ⊥) → (meets want (take n left) ≡ true → has row (place + n) ≡ true → ⊥)
-    → (m : ℕ) → m < n + 1 → meets want (take m left) ≡ true → has row (place + m) ≡ true → ⊥
-none_more want left place row n none here m below met set = elim (cases_eq m n) [
-  | inl e ↦ here (subst (λ k. meets want (take k left) ≡ true) e met) (subst (λ k. has row (place + k) ≡ true) e set)
-  | inr ne ↦ none m (omega arith) met set
-]
 
 -- the next length, of an item with a row of its own and of one without
 module _ (want : Want) (left : List Token) (place : ℕ) where
@@ -327,22 +337,27 @@ module _ (want : Want) (left : List Token) (place : ℕ) where
   abbrev pub TakesNone : Option ℕ → List (List ℕ) → Type 0
   TakesNone o old = IfNone o ((tokens : List Token) (rest : List Want) → left ≡ drop place tokens → place ≤ length tokens → AreRows tokens (want ∷ rest) old → (n : ℕ) (later : List ℕ) → Fits (want ∷ rest) left (n ∷ later) → ⊥)
 
+  -- a want of one width takes no row
   pub fixed_takes : (o : Option ℕ) (rows : List (List ℕ)) → is_choosing want ≡ false → IfSome o (λ n. (after : List Want) → IsNext want after left n) → Takes o rows rows
   fixed_takes None rows f h = tt
   fixed_takes (Some n) rows f h = λ tokens rest left_is within are. (h rest, rows_fixed are f)
 
   module _ (row : List ℕ) (old new : List (List ℕ)) (c : is_choosing want ≡ true) (popped : old ≡ new ++ row ∷ []) where
+    -- the least length that ends at a place of the row is taken, and the row with it
     pub row_takes : (o : Option ℕ) → IfSome o (λ n. IsLeast want left place row n) → Takes o old new
     row_takes None h = tt
     row_takes (Some n) h = λ tokens rest left_is within are. let p = rows_popped are c row new popped in (next_by tokens want rest row p.one left place left_is within n h, p.rest)
 
+    -- where nothing starts at a place of the row, nothing is taken
     pub row_takes_none : (o : Option ℕ) → IfNone o (IsStart want left place row false) → TakesNone o old
     row_takes_none None h = λ tokens rest left_is within are. let p = rows_popped are c row new popped in no_next_by tokens want rest row p.one left place left_is within h
     row_takes_none (Some n) h = tt
 
+-- a list whose last is taken was the rest and that one
 pub popped_is : {X : Type 0} (old new : List X) (o : Option X) (x : X) → old ≡ new ++ option_to_list o → o ≡ Some x → old ≡ new ++ x ∷ []
 popped_is old new o x e is = e ∙ ap (λ p. new ++ option_to_list p) is
 
+-- a list that isn't above zero in length is empty
 pub popped_none : {X : Type 0} (old : List X) → (0 < length old → ⊥) → length old ≡ 0
 popped_none old none = elim (cases_lt 0 (length old)) [ inl lt ↦ absurd (none lt) | inr le ↦ omega arith ]
 
@@ -362,16 +377,19 @@ phrase_within (member ∷ members) least piece h = elim (or_cases (is_cut_into p
   | inr e ↦ phrase_within members (max least (phrase_length member.tokens)) piece e
 ]
 
--- the lists that are left where the items before the last are, and those of the last item and what follows it
+-- the lists that are left where the items before the last are, and those of the last item and what
+-- follows it
 count_late : (item : Item) (before : List Item) → count_by is_late (before ++ item ∷ []) ≡ count_by is_late before + count_by is_late (item ∷ [])
 count_late item before = sum_by-append (λ x. cond (is_late x) 1 0) before (item ∷ [])
 
+-- the late lists before the last item are those of the items before it
 pub lists_last : (item : Item) (before left : List Item) (lists now : ℕ) → left ≡ before ++ item ∷ [] → lists ≡ count_by is_late left → now ≡ lists - count_by is_late (item ∷ []) → (now ≡ count_by is_late before) × (lists ≡ now + count_by is_late (item ∷ []))
 lists_last item before left lists now is old e = let c = count_late item before in let d = ap (count_by is_late) is in (omega arith, omega arith)
 
 one_late : (item : Item) → count_by is_late (item ∷ []) ≡ cond (is_late item) 1 0
 one_late item = sum_by-cons (λ x. cond (is_late x) 1 0) item [] ∙ add-zero (cond (is_late item) 1 0)
 
+-- behind an item the late lists that follow its own are left
 pub lists_next : (item : Item) (late : List (List Token)) (lists now : ℕ) → lists ≡ now + count_by is_late (item ∷ []) → lists_after item (drop now late) ≡ drop lists late
 lists_next item late lists now is = by item (is ∙ ap (λ n. now + n) (one_late item))
   where
@@ -388,6 +406,7 @@ lists_next item late lists now is = by item (is ∙ ap (λ n. now + n) (one_late
     by (Exact token) e = stays (Exact token) e refl
     by (Late name) e = drop-drop 1 now late ∙ ap (λ (k : ℕ). drop k late) (sym e)
 
+-- where no phrase up to the longest ends at a place of the row, nothing starts here
 pub no_phrase_found : (members : List Member) (left : List Token) (place : ℕ) (row : List ℕ) (most : ℕ) → ((n : ℕ) → n ≤ longest_phrase members → n ≤ length left → n ≤ most)
     → ((m : ℕ) → m < most + 1 → meets (Phrase members) (take m left) ≡ true → has row (place + m) ≡ true → ⊥) → IsStart (Phrase members) left place row false
 no_phrase_found members left place row most bound none = record {
@@ -424,6 +443,7 @@ module _ {size : ℕ} {all : List Want} (want : Want) (rest : List Want) {left :
         ),
       )
 
+  -- where nothing is taken, no lengths fit
   pub stand_none : (o : Option ℕ) → TakesNone want left start o old → IfNone o ((n : ℕ) (later : List ℕ) → Fits (want ∷ rest) left (n ∷ later) → ⊥)
   stand_none None h = h stand.tokens rest stand.left_are stand.within rows
   stand_none (Some n) h = tt
