@@ -175,6 +175,7 @@ live_below : (dirs : List (List ℕ)) (next : ℕ) (added : List Stored) (f g : 
 live_below dirs next added f g h tidy zero s k lt = absurd (omega (arith, lt))
 live_below dirs next added f g h tidy (suc n) s k lt = live_by dirs next added f g h tidy n (λ a m less. live_below dirs next added f g h tidy n a m less) s k lt (All-contains (IsRooted dirs f added) added s h.rooted k)
 
+-- control files of new entries are live
 pub added_live : (dirs : List (List ℕ)) (next : ℕ) (added : List Stored) (f g : FileMap) → IsAdded dirs next added f g → IsTidy dirs next f → (s : Stored) → Contains added s → IsLive dirs g (spot_of Qf s) s.control
 added_live dirs next added f g h tidy s k = live_below dirs next added f g h tidy (suc s.id) s k (omega arith)
 
@@ -251,6 +252,7 @@ all_from P xs to = All-weaker (Contains xs) P to xs (All-contains_itself xs)
 entries_below : (dirs : List (List ℕ)) (table : Table) (f : FileMap) → IsSettled dirs table f → All (λ s. s.id < table.next) table.entries
 entries_below dirs table f settled = All-weaker (HasFiles dirs f) (λ (s : Stored). s.id < table.next) (λ e has. settled.tidy.fresh e.id (live_named dirs f (spot_of has.kind e) e.control has.live)) table.entries settled.stands.each
 
+-- a tidy map with new entries is tidy for the next id after them
 pub added_tidy : (dirs : List (List ℕ)) (next after : ℕ) (added : List Stored) (f g : FileMap) → IsAdded dirs next added f g → IsTidy dirs next f → next ≤ after → All (λ s. s.id < after) added → IsTidy dirs after g
 added_tidy dirs next after added f g h tidy le below = record {
   whole = whole_added dirs next added f g h tidy;
@@ -275,6 +277,7 @@ added_strange dirs next added f g h tidy t k =
     let there = strange_control k in
     strange_alike dirs (λ id. id < next) f g (added_alike dirs next added f g h) t (tidy.fresh t.id (in_name t.dir t.kind there.0 there.1.spot.among there.1.spot.within there.1.there)) k
 
+-- a control file that is strange with new entries was strange before
 pub added_strange_back : (dirs : List (List ℕ)) (next : ℕ) (added : List Stored) (f g : FileMap) → IsAdded dirs next added f g → IsTidy dirs next f → (t : Spot) → IsStrange dirs g t → IsStrange dirs f t
 added_strange_back dirs next added f g h tidy t k = ⊎_elim
     (λ (lt : t.id < next). strange_alike dirs (λ id. id < next) g f (alike_back dirs (λ id. id < next) f g (added_alike dirs next added f g h)) t lt k)

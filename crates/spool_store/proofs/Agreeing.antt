@@ -69,6 +69,7 @@ all_replaced store s old new f g r a t c live = ⊎_elim
     record { held = recontrolled s.id new has.held; among = contains_map (recontrolled s.id new) has.held store.entries has.among; spot = ap spot_at is ∙ has.spot; control = ap (λ (q : Held). q.entry.control) is ∙ has.control })
     (spot_or store.dirs t s)
 
+-- a store with the new control agrees with the map in which it was replaced
 pub replaced_agrees : (store : StoreSeen) (s : Spot) (old new : Control) (f g : FileMap) → IsRaised store.dirs s old new f g → Agrees store f → Agrees (record store { entries = map (recontrolled s.id new) store.entries }) g
 replaced_agrees store s old new f g r a = record {
   each = All-map (λ (h : Held). IsLive store.dirs g (spot_at h) h.entry.control) (recontrolled s.id new) store.entries (All-weaker (λ (h : Held). IsLive store.dirs f (spot_at h) h.entry.control) (λ (h : Held). IsLive store.dirs g (spot_at (recontrolled s.id new h)) (recontrolled s.id new h).entry.control) (each_replaced store.dirs s old new f g r) store.entries a.each);

@@ -19,6 +19,7 @@ use Rattle.spool_store.proofs.Standing.{one_live}
 abbrev pub IsRead : Option FileMap → List Held → ℕ → List ℕ → Type 0
 IsRead told items id text = IfSome told (λ files. (h : Held) → Contains items h → h.entry.id ≡ id → text ≡ or_nothing (bytes_at files (h.entry.dir, name_of Df id)))
 
+-- what was read under the body's name is the body of the entry
 pub body_read : (told : Option FileMap) (items shown : List Held) (id place : ℕ) (d : Held) (name text : List ℕ) (bytes : Option (List ℕ)) → shown ≡ items → IsAscending items → IsPlaceOf items id place → name ≡ name_of Df id → text ≡ or_nothing bytes → IfSome told (λ files. bytes ≡ bytes_at files ((get_or shown place d).entry.dir, name)) → IsRead told items id text
 body_read None items shown id place d name text bytes same up at named says read = tt
 body_read (Some f) items shown id place d name text bytes same up at named says read = λ h k has.
@@ -26,6 +27,7 @@ body_read (Some f) items shown id place d name text bytes same up at named says 
     let lies : ◌≡◌ {A = Place} ((get_or shown place d).entry.dir, name) (h.entry.dir, name_of Df id) = λ i. ((one i).entry.dir, named i) in
     says ∙ ap or_nothing (read ∙ ap (bytes_at f) lies)
 
+-- the bytes that were read are those of the table's entry, where it needs a body
 pub body_bytes : (told : Option FileMap) (store : StoreSeen) (id : ℕ) (text : List ℕ) → HasId store.entries id → IsRead told store.entries id text → IfSome told (λ files. (table : Table) (s : Stored) → StandsFor store.dirs table files → Agrees store files → Contains table.entries s → s.id ≡ id → NeedsBody s.control → text ≡ s.body)
 body_bytes None store id text has read = tt
 body_bytes (Some f) store id text has read = λ table s stands a k is needs.

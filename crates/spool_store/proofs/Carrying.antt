@@ -9,6 +9,7 @@ use Rattle.mail_base.specs.States.{NeedsBody}
 use Rattle.spool_store.specs.Alike.{AreAlike}
 use Rattle.spool_store.specs.Changes.{HasLive}
 
+-- a strange control file has bytes
 pub strange_control : {dirs : List (List ℕ)} {f : FileMap} {s : Spot} → IsStrange dirs f s → (b : List ℕ) × IsControl dirs f s b
 strange_control (unread s b there none) = (b, there)
 strange_control (twice s b there twin) = (b, there)
@@ -17,15 +18,18 @@ strange_control (under s c p above read u h) = (read.bytes, read.there)
 strange_control (bodiless s c read needs none) = (read.bytes, read.there)
 strange_control (reopened s c read sf rows) = (read.bytes, read.there)
 
+-- a live control file says its control
 pub live_read : {dirs : List (List ℕ)} {f : FileMap} {s : Spot} {c : Control} → IsLive dirs f s c → IsRead dirs f s c
 live_read (alone s c read plain e) = read
 live_read (child s c p above d read plain u h le) = read
 
+-- a live control file isn't strange
 pub live_plain : {dirs : List (List ℕ)} {f : FileMap} {s : Spot} {c : Control} → IsLive dirs f s c → IsStrange dirs f s → ⊥
 live_plain (alone s c read plain e) = plain
 live_plain (child s c p above d read plain u h le) = plain
 
--- what a control file of one map is in another: its id, its bytes and what makes it strange go with it
+-- what a control file of one map is in another: its id, its bytes and what makes it strange go with
+-- it
 pub record Carries (dirs : List (List ℕ)) (f g : FileMap) (R : Spot → Spot → Type 0) : Type 0 where
   pub same_id : (s t : Spot) → R s t → t.id ≡ s.id
   pub there : (s t : Spot) (b : List ℕ) → R s t → IsControl dirs f s b → IsControl dirs g t b
@@ -34,12 +38,14 @@ pub record Carries (dirs : List (List ℕ)) (f g : FileMap) (R : Spot → Spot �
   pub finished : (s t : Spot) (c : Control) → R s t → IsRead dirs f s c → s.kind ≡ Sf → IsOpen c → t.kind ≡ Sf
   pub above : (s t : Spot) (c : Control) (p : Parent) (a : Spot) → R s t → IsRead dirs f s c → IsUnder c s p a → IsStrange dirs f a → (b : Spot) × R a b
 
+-- what a control file says is carried over with its bytes
 pub read_carries : (dirs : List (List ℕ)) (f g : FileMap) (R : Spot → Spot → Type 0) → Carries dirs f g R → (s t : Spot) (c : Control) → R s t → IsRead dirs f s c → IsRead dirs g t c
 read_carries dirs f g R h s t c r k = record { bytes = k.bytes; there = h.there s t k.bytes r k.there; says = k.says }
 
 under_carries : (c : Control) (p : Parent) (s t a b : Spot) → t.id ≡ s.id → b.id ≡ a.id → IsUnder c s p a → IsUnder c t p b
 under_carries c p s t a b e d u = record { parent = u.parent; less = omega (arith, e, u.less); id = d ∙ u.id }
 
+-- a strange control file is carried over as a strange one
 pub strange_carries : (dirs : List (List ℕ)) (f g : FileMap) (R : Spot → Spot → Type 0) → Carries dirs f g R → {s : Spot} → IsStrange dirs f s → (t : Spot) → R s t → IsStrange dirs g t
 strange_carries dirs f g R h (unread s b there none) t r = unread t b (h.there s t b r there) none
 strange_carries dirs f g R h (twice s b there twin) t r = twice t b (h.there s t b r there) (h.twin s t b r there twin)
@@ -50,13 +56,15 @@ strange_carries dirs f g R h (under s c p above read u k) t r =
 strange_carries dirs f g R h (bodiless s c read needs none) t r = bodiless t c (read_carries dirs f g R h s t c r read) needs (h.body s t c r read needs none)
 strange_carries dirs f g R h (reopened s c read sf rows) t r = reopened t c (read_carries dirs f g R h s t c r read) (h.finished s t c r read sf rows) rows
 
--- what is above a live child is carried too, or a live one with at least the child's revision stands above it in the other map
+-- what is above a live child is carried too, or a live one with at least the child's revision
+-- stands above it in the other map
 pub record CarriesLive (dirs : List (List ℕ)) (f g : FileMap) (R : Spot → Spot → Type 0) : Type 0 where
   pub same_id : (s t : Spot) → R s t → t.id ≡ s.id
   pub read : (s t : Spot) (c : Control) → R s t → IsRead dirs f s c → IsRead dirs g t c
   pub plain : (s t : Spot) (c : Control) → R s t → IsLive dirs f s c → IsStrange dirs g t → ⊥
   pub above : (s t : Spot) (c : Control) (p : Parent) (a : Spot) (d : Control) → R s t → IsRead dirs f s c → IsUnder c s p a → IsLive dirs f a d → p.revision ≤ d.revision → ((b : Spot) × R a b) ⊎ HasLive dirs g p
 
+-- a live control file is carried over as a live one
 pub live_carries : (dirs : List (List ℕ)) (f g : FileMap) (R : Spot → Spot → Type 0) → CarriesLive dirs f g R → {s : Spot} {c : Control} → IsLive dirs f s c → (t : Spot) → R s t → IsLive dirs g t c
 live_carries dirs f g R h (alone s c read plain e) t r = alone t c (h.read s t c r read) (h.plain s t c r (alone s c read plain e)) e
 live_carries dirs f g R h (child s c p above d read plain u k le) t r =
@@ -70,6 +78,7 @@ live_carries dirs f g R h (child s c p above d read plain u k le) t r =
 read_back : (dirs : List (List ℕ)) (Kept : ℕ → Type 0) (f g : FileMap) → AreAlike dirs Kept f g → (s : Spot) (c : Control) → Kept s.id → IsRead dirs g s c → IsRead dirs f s c
 read_back dirs Kept f g h s c kept read = record { bytes = read.bytes; there = record { spot = read.there.spot; there = sym (h.controls s read.there.spot kept) ∙ read.there.there }; says = read.says }
 
+-- maps that are alike are so the other way too
 pub alike_back : (dirs : List (List ℕ)) (Kept : ℕ → Type 0) (f g : FileMap) → AreAlike dirs Kept f g → AreAlike dirs Kept g f
 alike_back dirs Kept f g h = record {
   controls = λ s spot kept. sym (h.controls s spot kept);
@@ -82,9 +91,11 @@ pub record IsKept (Kept : ℕ → Type 0) (s t : Spot) : Type 0 where
   pub same : t ≡ s
   pub kept : Kept s.id
 
+-- maps that are alike have the same bytes at control files of ids that are kept
 pub control_alike : (dirs : List (List ℕ)) (Kept : ℕ → Type 0) (f g : FileMap) → AreAlike dirs Kept f g → (s : Spot) (b : List ℕ) → Kept s.id → IsControl dirs f s b → IsControl dirs g s b
 control_alike dirs Kept f g h s b kept there = record { spot = there.spot; there = h.controls s there.spot kept ∙ there.there }
 
+-- control files of ids that are kept say the same in maps that are alike
 pub read_alike : (dirs : List (List ℕ)) (Kept : ℕ → Type 0) (f g : FileMap) → AreAlike dirs Kept f g → (s : Spot) (c : Control) → Kept s.id → IsRead dirs f s c → IsRead dirs g s c
 read_alike dirs Kept f g h s c kept read = record { bytes = read.bytes; there = control_alike dirs Kept f g h s read.bytes kept read.there; says = read.says }
 

@@ -24,6 +24,7 @@ use Rattle.spool_store.proofs.Numbering.{IsFrom, numbered_from, numbered_ascends
 new_head : (dirs : List (List ℕ)) (next : ℕ) (children : List Draft) (parent : Draft) → AreDraftable dirs next children parent → IsParent (head_of next parent None)
 new_head dirs next children parent able = record { id = omega (arith, able.room); revision = able.head.valid.revision_range }
 
+-- a parent that is there already can be the parent of new entries
 pub old_head : (dirs : List (List ℕ)) (next id : ℕ) (children : List Draft) (parent : Draft) → AreDraftable dirs next children parent → id < next → IsParent (head_of next parent (Some id))
 old_head dirs next id children parent able lt = record { id = omega (arith, lt, able.room); revision = able.head.valid.revision_range }
 
@@ -67,6 +68,7 @@ put_over_base done f m g p e (control s k q holds) = control s k q holds
 put_over_base done f m g p e (body s k q holds) = body s k q holds
 put_over_base done f m g p e (other q) = other (q ∙ sym e)
 
+-- after a commit under an old parent the map is settled for the table after it
 pub old_settled : (dirs : List (List ℕ)) (table : Table) (children : List Draft) (parent : Draft) (old : Control) (id : ℕ) (b : List ℕ) (f g : FileMap) → AreDraftable dirs table.next children parent → IsOld dirs f id parent old
     → AreRaised (children_of table.next children parent b (Some id)) (stored id b parent) f g → IsSettled dirs table f → IsSettled dirs (after_commit table children parent b (Some id)) g
 old_settled dirs table children parent old id b f g able is w settled =
@@ -102,6 +104,7 @@ new_before dirs table drafted children parent b f g able w settled =
       at = w;
     }) settled.tidy settled.stands
 
+-- before the deciding renaming the map stands for the table as it was
 pub old_before : (dirs : List (List ℕ)) (table : Table) (drafted : Place → Type 0) (children : List Draft) (parent : Draft) (old : Control) (id : ℕ) (b : List ℕ) (f g : FileMap) → AreDraftable dirs table.next children parent → IsOld dirs f id parent old
     → ((p : Place) → IsMidway table.next drafted (children_of table.next children parent b (Some id)) f g p) → IsSettled dirs table f → StandsFor dirs table g
 old_before dirs table drafted children parent old id b f g able is w settled =

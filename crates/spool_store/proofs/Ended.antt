@@ -32,6 +32,7 @@ done_of store f h a k done queued = record {
 some_at : (o : Option (List ℕ)) (b : List ℕ) → o ≡ Some b → IsSome o
 some_at o b e = subst IsSome (sym e) refl
 
+-- the control file of an entry that isn't finished lies at its place
 pub there_of : (o : Option FileMap) (store : StoreSeen) (h : Held) (dir qf : List ℕ) → IfSome o (Agrees store) → Contains store.entries h → h.finished ≡ false → dir ≡ h.entry.dir → qf ≡ name_of Qf h.entry.id → IfSome o (λ files. IsSome (bytes_at files (dir, qf)))
 there_of None store h dir qf agrees k queued in_dir is = tt
 there_of (Some f) store h dir qf a k queued in_dir is =
@@ -47,6 +48,7 @@ from_agreed_run a b store P S T Q R agrees runs calls leads safe =
     (λ f e p. let agreed = at_told a.told (Agrees store) agrees f e in
     moves_weaker a b (λ g. g ≡ f) (Q f) (R f) S T (λ x q. leads f x agreed p q) (λ x r. safe f x agreed p r) (calls f agreed))
 
+-- a store with the entry finished agrees with what a finish leaves
 pub finish_agrees : (store : StoreSeen) (f g : FileMap) (id : ℕ) (h : Held) → Agrees store f → h.entry.id ≡ id → IsDone store.dirs f (spot_at h) h.entry.control → HasFinished store.dirs f (spot_at h) h.entry.control g → Agrees (record store { entries = map (refinished id) store.entries }) g
 finish_agrees store f g id h a is done e = subst (λ (n : ℕ). Agrees (record store { entries = map (refinished n) store.entries }) g) is (ended_agrees store (spot_at h) h.entry.control f g done e.ended a)
 
@@ -62,6 +64,7 @@ step id h known = ⊎_elim
     (λ ne. ap (λ (b : Bool). if b then record h { finished = true } else h) (ne_eqb h.entry.id id ne))
     (cases_eq h.entry.id id)
 
+-- entries of which that of an id is finished stay as they are
 pub already : (items : List Held) (id : ℕ) → ((h : Held) → Contains items h → h.entry.id ≡ id → h.finished ≡ true) → map (refinished id) items ≡ items
 already [] id known = refl
 already (h ∷ items) id known = λ i. step id h (known h (contains_head h items)) i ∷ already items id (λ q k. known q (contains_tail h q items k)) i
@@ -79,6 +82,7 @@ finish_run a b store id can P S T Q queued agrees runs calls leads safe = from_a
     (λ f g a p q. leads f g a (done_of store f can.held a can.among can.done queued) p q)
     (λ f g a p r. safe f g p r)
 
+-- what holds for each map holds where one is told
 pub some_any : (o : Option FileMap) (P : FileMap → Type 0) → ((f : FileMap) → P f) → IfSome o P
 some_any None P h = tt
 some_any (Some f) P h = h f

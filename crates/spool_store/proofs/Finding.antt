@@ -16,10 +16,12 @@ use Rattle.spool_disk.specs.Listings.{AreNames, IsListing}
 use Rattle.spool_store.specs.Queue.{at}
 use Rattle.spool_store.specs.inner.Finds.{AddsNamed, AddsStrays, AreForeign, AreNamed, IsOther, dir_at}
 
+-- what follows from another fact at Ok follows there
 pub on_ok : {T E P Q : Type 0} (r : Result T E) → (P → Q) → OnOk r P → OnOk r Q
 on_ok (Ok x) to h = to h
 on_ok (Err e) to h = h
 
+-- nothing is in an empty list
 pub none_in : {X : Type 0} (x : X) → Contains [] x → ⊥
 none_in x h = omega (arith, h.1)
 
@@ -31,6 +33,7 @@ adds_none i xs = record { kept = λ x c. c; each = λ x c. inl c; all = λ kind 
 named : ℕ → Kind → ℕ → Named
 named i kind id = record { dir = i; kind = kind; id = id }
 
+-- a listed name of a queue file adds it to what was found
 pub adds_named : (i : ℕ) (names : List (List ℕ)) (name : List ℕ) (kind : Kind) (id : ℕ) (old mid new : List Named) → IsId id → name ≡ name_of kind id → new ≡ mid ++ record { dir = i; kind = kind; id = id } ∷ [] → AddsNamed i names old mid → AddsNamed i (names ++ name ∷ []) old new
 adds_named i names name kind id old mid new within is e h = rw e (record {
   kept = λ x c. Contains-append_left mid (record { dir = i; kind = kind; id = id } ∷ []) x (h.kept x c);
@@ -59,6 +62,7 @@ adds_other i names name old mid other h = record {
 pub strays_none : (dir : List ℕ) (xs : List Stray) → AddsStrays dir [] xs xs
 strays_none dir xs = record { kept = λ x c. c; each = λ x c. inl c; all = λ name c other. absurd (none_in _ c) }
 
+-- a listed name of a queue file adds no stray
 pub strays_skip : (dir : List ℕ) (names : List (List ℕ)) (name : List ℕ) (kind : Kind) (id : ℕ) (old mid : List Stray) → name ≡ name_of kind id → AddsStrays dir names old mid → AddsStrays dir (names ++ name ∷ []) old mid
 strays_skip dir names name kind id old mid is h = record {
   kept = h.kept;
@@ -66,6 +70,7 @@ strays_skip dir names name kind id old mid is h = record {
   all = λ n c other. ⊎_elim (λ (was : Contains names n). h.all n was other) (λ (q : name ≡ n). absurd (other kind id (sym q ∙ is))) (Contains-push_cases names name n c);
 }
 
+-- a listed name of no queue file adds a stray
 pub strays_more : (dir : List ℕ) (names : List (List ℕ)) (name : List ℕ) (old mid new : List Stray) → IsOther name → new ≡ mid ++ record { dir = dir; name = name } ∷ [] → AddsStrays dir names old mid → AddsStrays dir (names ++ name ∷ []) old new
 strays_more dir names name old mid new other e h = rw e (record {
   kept = λ x c. Contains-append_left mid (record { dir = dir; name = name } ∷ []) x (h.kept x c);
@@ -87,6 +92,7 @@ listing_names told f dir names h e = subst (λ (q : Option FileMap). IfSome q (�
 pub named_nothing : (dirs : List (List ℕ)) (f : FileMap) (names : List Named) → names ≡ [] → AreNamed dirs f 0 names
 named_nothing dirs f names e = record { each = λ x c. absurd (none_in x (subst (λ (q : List Named). Contains q x) e c)); all = λ i kind id lt within there. absurd (omega (arith, lt)) }
 
+-- in the first 0 directories there is no file of another name
 pub foreign_nothing : (dirs : List (List ℕ)) (f : FileMap) (strays : List Stray) → strays ≡ [] → AreForeign dirs f 0 strays
 foreign_nothing dirs f strays e = record { each = λ x c. absurd (none_in x (subst (λ (q : List Stray). Contains q x) e c)); all = λ i name lt other there. absurd (omega (arith, lt)) }
 
@@ -137,6 +143,7 @@ within_more i names old new adds h x c = ⊎_elim
     (λ (n : (x.dir ≡ i) × IsId x.id × Contains names (name_of x.kind x.id)). omega (arith, n.0))
     (adds.each x c)
 
+-- no names lie within any number of directories
 pub within_nothing : (names : List Named) → names ≡ [] → (n : ℕ) (x : Named) → Contains names x → x.dir < n
 within_nothing names e n x c = absurd (none_in x (subst (λ (q : List Named). Contains q x) e c))
 
@@ -150,5 +157,6 @@ files_more told dirs f i dir names named named' strays strays' e is listing adds
 pub named_order : (dirs : List (List ℕ)) (f : FileMap) (n : ℕ) (xs ys : List Named) → IsPermutation xs ys → AreNamed dirs f n xs → AreNamed dirs f n ys
 named_order dirs f n xs ys p h = record { each = λ x c. h.each x (Contains-permutation ys xs x (IsPermutation-sym xs ys p) c); all = λ i kind id lt within there. Contains-permutation xs ys (record { dir = i; kind = kind; id = id }) p (h.all i kind id lt within there) }
 
+-- names in another order lie in the same directories
 pub within_order : (n : ℕ) (xs ys : List Named) → IsPermutation xs ys → ((x : Named) → Contains xs x → x.dir < n) → (x : Named) → Contains ys x → x.dir < n
 within_order n xs ys p h x c = h x (Contains-permutation ys xs x (IsPermutation-sym xs ys p) c)

@@ -31,6 +31,7 @@ move_of dirs f g s c dir qf sf done in_dir from to r =
     let all = subst (λ (q : List ℕ). HasRenamed s.dir (name_of s.kind s.id) q f g) to two in
     record { kind = done.kind; live = done.live; closed = done.closed; bytes = its.bytes; there = its.there; renamed = record { holds = all.holds; gone = all.gone; others = all.others } }
 
+-- the renaming of a finish ends the entry
 pub move_leads : (dirs : List (List ℕ)) (f : FileMap) (s : Spot) (c : Control) (dir qf sf : List ℕ) → IsDone dirs f s c → dir ≡ s.dir → qf ≡ name_of Qf s.id → sf ≡ name_of Sf s.id → (x g : FileMap) → x ≡ f → HasRenamed dir qf sf x g → HasEnded dirs f s g
 move_leads dirs f s c dir qf sf done in_dir from to x g e r =
     let m = move_of dirs f g s c dir qf sf done in_dir from to (subst (λ (q : FileMap). HasRenamed dir qf sf q g) e r) in
@@ -41,6 +42,7 @@ move_leads dirs f s c dir qf sf done in_dir from to x g e r =
       others = elsewhere dirs f f g s c m;
     }
 
+-- a stop at the renaming of a finish leaves a tidied map
 pub move_safe : (dirs : List (List ℕ)) (f : FileMap) (s : Spot) (c : Control) (dir qf sf : List ℕ) → IsDone dirs f s c → dir ≡ s.dir → qf ≡ name_of Qf s.id → sf ≡ name_of Sf s.id → (x g : FileMap) → x ≡ f → IsSame x g ⊎ HasRenamed dir qf sf x g → IsTidied dirs f g
 move_safe dirs f s c dir qf sf done in_dir from to x g e (inl same) = tidied_unchanged dirs f f g (subst (λ (q : FileMap). IsSame q g) e same) (tidied_none dirs f)
 move_safe dirs f s c dir qf sf done in_dir from to x g e (inr r) = (move_leads dirs f s c dir qf sf done in_dir from to x g e r).tidied
@@ -55,6 +57,7 @@ removed_at s dir df x g in_dir is r = subst (λ (q : Place). HasRemoved q x g) (
 spot_apart : (dirs : List (List ℕ)) (s t : Spot) → IsSpot dirs t → spot_place t ≢ body_place s
 spot_apart dirs s t spot = λ e. (not_kind t.kind spot.kind).0 (kinds_of t.dir s.dir t.kind Df t.id s.id e)
 
+-- the removal of the body behind that finishes the entry
 pub drop_leads : (dirs : List (List ℕ)) (f : FileMap) (s : Spot) (c : Control) (dir df : List ℕ) → IsDone dirs f s c → needs_body c ≡ false → dir ≡ s.dir → df ≡ name_of Df s.id → (x g : FileMap) → HasEnded dirs f s x → HasRemoved (dir, df) x g → HasFinished dirs f s c g
 drop_leads dirs f s c dir df done none in_dir is x g ended r =
     let its = (live_read done.live).there.spot in
@@ -69,6 +72,7 @@ drop_leads dirs f s c dir df done none in_dir is x g ended r =
       body = λ e. gone.gone;
     }
 
+-- a stop at the removal of the body leaves a tidied map
 pub drop_safe : (dirs : List (List ℕ)) (f : FileMap) (s : Spot) (c : Control) (dir df : List ℕ) → IsDone dirs f s c → needs_body c ≡ false → dir ≡ s.dir → df ≡ name_of Df s.id → (x g : FileMap) → HasEnded dirs f s x → IsSame x g ⊎ HasRemoved (dir, df) x g → IsTidied dirs f g
 drop_safe dirs f s c dir df done none in_dir is x g ended (inl same) = tidied_unchanged dirs f x g same ended.tidied
 drop_safe dirs f s c dir df done none in_dir is x g ended (inr r) = (drop_leads dirs f s c dir df done none in_dir is x g ended r).ended.tidied
@@ -119,6 +123,7 @@ found store s c f g done e a (went r m) d live =
     let is = finished_at s.id has.held here in
     record { held = refinished s.id has.held; among = contains_map (refinished s.id) has.held store.entries has.among; spot = ap spot_at is ∙ ap (as_kind Sf) has.spot; control = ap (λ (q : Held). q.entry.control) is ∙ has.control }
 
+-- a store with the entry finished agrees with the map in which it ended
 pub ended_agrees : (store : StoreSeen) (s : Spot) (c : Control) (f g : FileMap) → IsDone store.dirs f s c → HasEnded store.dirs f s g → Agrees store f → Agrees (record store { entries = map (refinished s.id) store.entries }) g
 ended_agrees store s c f g done e a = record {
   each = All-map (λ (h : Held). IsLive store.dirs g (spot_at h) h.entry.control) (refinished s.id) store.entries (All-weaker (λ (h : Held). IsLive store.dirs f (spot_at h) h.entry.control) (λ (h : Held). IsLive store.dirs g (spot_at (refinished s.id h)) (refinished s.id h).entry.control) (each_finished store.dirs s c f g done e) store.entries a.each);

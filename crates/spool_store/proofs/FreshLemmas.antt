@@ -64,12 +64,15 @@ some_to : (o : Option FileMap) (P Q : FileMap → Type 0) → ((f : FileMap) →
 some_to None P Q to h = tt
 some_to (Some f) P Q to h = to f h
 
+-- a fresh store agrees with directories without a file
 pub opened_agrees : (dirs : List (List ℕ)) (a b : Spooled) → Reads a b → IfSome a.told (AreEmpty dirs) → (store : StoreSeen) → store ≡ fresh_store dirs → IfSome b.told (Agrees store)
 opened_agrees dirs a b reads empty store is = subst (λ (o : Option FileMap). IfSome o (Agrees store)) (sym (reads_told a b reads)) (some_to a.told (AreEmpty dirs) (Agrees store) (λ f e. subst (λ (q : StoreSeen). Agrees q f) (sym is) (empty_agrees dirs f e)) empty)
 
+-- directories without a file are settled for the unused table
 pub opened_settled : (dirs : List (List ℕ)) (a b : Spooled) → Reads a b → IfSome a.told (AreEmpty dirs) → IfSome b.told (IsSettled dirs unused)
 opened_settled dirs a b reads empty = subst (λ (o : Option FileMap). IfSome o (IsSettled dirs unused)) (sym (reads_told a b reads)) (some_to a.told (AreEmpty dirs) (IsSettled dirs unused) (empty_settled dirs) empty)
 
+-- a store of no entries and no strays is the fresh one
 pub fresh_is : (dirs copied : List (List ℕ)) (shelf : Shelved) (strange : List Stray) → copied ≡ dirs → shelf ≡ record { items = []; room = 0 } → strange ≡ [] → record { dirs = copied; entries = shelf.items; strange = strange; next = 1; broken = false; room = shelf.room } ≡ fresh_store dirs
 unfolding fresh_store
 fresh_is dirs copied shelf strange d s n = λ i. record { dirs = d i; entries = (s i).items; strange = n i; next = 1; broken = false; room = (s i).room }

@@ -32,6 +32,7 @@ odd_twin dirs f found named c h read y = let is = h.each y.0 y.1 in twice (spot_
 pub odd_body : (dirs : List (List ℕ)) (f : FileMap) (names : List Named) (named : Named) (c : Control) → named.dir < length dirs → AreNamed dirs f (length dirs) names → IsRead dirs f (spot_named dirs named) c → NeedsBody c × (Contains names (record { dir = named.dir; kind = Df; id = named.id }) → ⊥) → IsStrange dirs f (spot_named dirs named)
 odd_body dirs f names named c own h read lacks = bodiless (spot_named dirs named) c read lacks.0 (none_by _ (λ some. lacks.1 (h.all named.dir Df named.id own read.there.spot.within some)))
 
+-- a finished name with a control that is still open is strange
 pub odd_open : (dirs : List (List ℕ)) (f : FileMap) (named : Named) (c : Control) → IsRead dirs f (spot_named dirs named) c → (named.kind ≡ Sf) × IsOpen c → IsStrange dirs f (spot_named dirs named)
 odd_open dirs f named c read is = reopened (spot_named dirs named) c read is.0 is.1
 
@@ -51,6 +52,7 @@ sober_by dirs f names found named c hn hf read single body closed = record {
 pub odd_unread : (dirs : List (List ℕ)) (f : FileMap) (x : Found) → x.control ≡ None → IsFound dirs f x → IsStrange dirs f (spot_named dirs x.named)
 odd_unread dirs f x e h = unread (spot_named dirs x.named) h.bytes h.there (subst (IsMeaning h.bytes) e h.means)
 
+-- a control that was found is what its file says
 pub read_by : (dirs : List (List ℕ)) (f : FileMap) (x : Found) (c : Control) → x.control ≡ Some c → IsFound dirs f x → IsRead dirs f (spot_named dirs x.named) c
 read_by dirs f x c e h = record { bytes = h.bytes; there = h.there; says = subst (IsMeaning h.bytes) e h.means }
 
@@ -61,6 +63,7 @@ zip_push R [] (b ∷ ys) x y h r = absurd h
 zip_push R (a ∷ xs) [] x y h r = absurd h
 zip_push R (a ∷ xs) (b ∷ ys) x y h r = (h.0, zip_push R xs ys x y h.1 r)
 
+-- lists that are related place by place are so at each place
 pub zip_at : {X Y : Type 0} (R : X → Y → Type 0) (xs : List X) (ys : List Y) (k : ℕ) (d : X) (e : Y) → AllZip R xs ys → k < length ys → R (get_or xs k d) (get_or ys k e)
 zip_at R [] [] k d e h lt = absurd (omega (arith, lt))
 zip_at R [] (b ∷ ys) k d e h lt = absurd h
@@ -96,8 +99,10 @@ judged_more dirs f found verdicts new i x v lt is e h k =
     let more : take (i + 1) found ≡ take i found ++ x ∷ [] = take_more found i x lt ∙ ap (λ (y : Found). take i found ++ y ∷ []) (sym is) in
     rw e (rw more (zip_push (λ y w. IsVerdict dirs f (spot_named dirs y.named) w) (take i found) verdicts x v h k))
 
+-- a control file at a place of what was found is in it
 pub found_in : (found : List Found) (i : ℕ) (x : Found) → i < length found → x ≡ get_or found i x → Contains found x
 found_in found i x lt is = (i, lt, sym is)
 
+-- a list with one more behind it is one longer
 pub one_longer : {X : Type 0} (old new : List X) (x : X) → new ≡ old ++ x ∷ [] → length new ≡ length old + 1
 one_longer old new x e = ap length e ∙ length-append old (x ∷ [])

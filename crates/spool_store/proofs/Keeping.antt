@@ -46,6 +46,7 @@ mine_not dirs next f s kind tidy mine place is (of_its_body t dir strange among 
     let m = mine_among dirs next f s mine in
     mine_apart dirs next f s tidy mine t strange (ids_of dir s.dir Df kind t.id s.id (strange_control strange).1.spot.within m.1 (sym lies ∙ is))
 
+-- a map in which only entries of our own differ keeps the files of others
 pub left_keeps : (dirs : List (List ℕ)) (next : ℕ) (own : List Stored) (f g : FileMap) → IsTidy dirs next f → ((s : Stored) → Contains own s → IsMine dirs next f s) → IsLeft own f g → KeepsOthers dirs f g
 left_keeps dirs next own f g tidy mine left = λ place nobodys. ⊎_elim (λ (e : bytes_at g place ≡ bytes_at f place). e) (λ (o : IsOwn own place). absurd (own_not place nobodys o)) (left place)
   where

@@ -38,5 +38,6 @@ lies_not p file ne = not_true (lies_at p file) (λ e.
 pub here : (file : File) (files : FileMap) (p : Place) → p ≡ (file.dir, file.name) → bytes_at (file ∷ files) p ≡ Some file.bytes
 here file files p e = ap (λ (b : Bool). if b then Some file.bytes else bytes_at files p) (lies p file e)
 
+-- a file at another place doesn't change what lies at a place
 pub later : (file : File) (files : FileMap) (p : Place) → p ≢ (file.dir, file.name) → bytes_at (file ∷ files) p ≡ bytes_at files p
 later file files p ne = ap (λ (b : Bool). if b then Some file.bytes else bytes_at files p) (lies_not p file ne)

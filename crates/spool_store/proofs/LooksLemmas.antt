@@ -23,6 +23,7 @@ looks_starved {T = T} a r is = subst (Looks {T = T} a a) (sym is) (record { read
 pub calm_ok : {T : Type 0} {a b : Spooled} (x : T) → Looks {T = T} a b (Ok x) → b.faults ≡ a.faults
 calm_ok x h = ⊎_elim (λ e. absurd (cc e)) (λ same. same) h.calm
 
+-- looks that were well and those after them are looks together
 pub looks_then : {T U : Type 0} (a b c : Spooled) (x : T) (r : Result U StoreFault) → Looks {T = T} a b (Ok x) → Looks {T = U} b c r → Looks {T = U} a c r
 looks_then {T = T} {U = U} a b c x r h k =
     let same : b.faults ≡ a.faults = calm_ok x h in

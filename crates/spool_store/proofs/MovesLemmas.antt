@@ -30,6 +30,7 @@ told_after None b P Q h f e p = cc
 told_after (Some d) None P Q h f e p = absurd h
 told_after (Some d) (Some g) P Q h f e p = let same : f ≡ d = cc e in (g, refl, h (subst P same p))
 
+-- calls that lead on, one after the other, lead to where the last does
 pub moves_join : (a b c : Spooled) (P Q S R : FileMap → Type 0) → Moves a b P Q R → Moves b c Q S R → Moves a c P S R
 moves_join a b c P Q S R h k = record {
   later = le_trans h.later k.later;
@@ -109,6 +110,7 @@ becomes_at None (Some g) f P Q p h = absurd h
 becomes_at (Some d) None f P Q p h = absurd h
 becomes_at (Some d) (Some g) f P Q p h = λ e. h (subst P (sym e) p)
 
+-- what leads on from a fact does so from a map with it
 pub moves_at : (a b : Spooled) (f : FileMap) (P Q R : FileMap → Type 0) → P f → Moves a b P Q R → Moves a b (λ g. g ≡ f) Q R
 moves_at a b f P Q R p h = record {
   later = h.later;
@@ -135,6 +137,7 @@ moves_told a b P Q R S T V h k = record {
   kept = h.kept;
 }
 
+-- what holds where a map is told holds for this map
 pub at_told : (o : Option FileMap) (P : FileMap → Type 0) → IfSome o P → (f : FileMap) → o ≡ Some f → P f
 at_told o P h f e = subst (λ (q : Option FileMap). IfSome q P) e h
 
@@ -145,8 +148,10 @@ told_now None (Some g) Q h = absurd h
 told_now (Some f) None Q h = absurd h
 told_now (Some f) (Some g) Q h = h tt
 
+-- one call is a run
 pub run_call : (a b : Spooled) (Image Done : FileMap → FileMap → Type 0) (well : Type 0) → Calls a b Image Done well → IsRun a b
 run_call a b Image Done well h = moves_by a b Image Done well (λ f. ⊥) (λ f. ⊥) (λ f. ⊥) h (λ f g p i. p) (λ f g p i d. p)
 
+-- runs, one after the other, are a run
 pub run_join : (a b c : Spooled) → IsRun a b → IsRun b c → IsRun a c
 run_join a b c h k = moves_join a b c _ _ _ _ h k

@@ -1,4 +1,5 @@
--- Why a map between calls must have no dead control file: a stopped commit with an old parent leaves one that stands for the table before, and a replace would make its children live.
+-- Why a map between calls must have no dead control file: a stopped commit with an old parent
+-- leaves one that stands for the table before, and a replace would make its children live.
 use Rattle.std.proofs.Common.{◌≡◌, ℕ, ◌<◌, List, Some, arith, Contains}
 use Rattle.std.specs.Prelude.{All}
 use Rattle.std.proofs.lemmas.List.Elements.{All-contains}

@@ -21,6 +21,7 @@ pub record IsFrom (id : ℕ) (count : ℕ) (body : List ℕ) (p : Parent) (s : S
   pub parent : s.control.parent ≡ Some p
   pub body_is : s.body ≡ body
 
+-- new entries have ids in a row, the body and the parent that were given
 pub numbered_from : (id : ℕ) (b : List ℕ) (p : Parent) (ds : List Draft) → All (IsFrom id (length ds) b p) (numbered id b (map (heir p) ds))
 numbered_from id b p [] = All-nil (IsFrom id 0 b p)
 numbered_from id b p (d ∷ ds) = All-cons (IsFrom id (length (d ∷ ds)) b p) (stored id b (heir p d)) (numbered (id + 1) b (map (heir p) ds))
@@ -31,6 +32,7 @@ less_numbered : (n id : ℕ) (b : List ℕ) (ds : List Draft) → n < id → All
 less_numbered n id b [] lt = tt
 less_numbered n id b (d ∷ ds) lt = (sym (nat_cmp_is n id Less lt), less_numbered n (id + 1) b ds (omega (arith, lt)))
 
+-- new entries are in order of id
 pub numbered_ascends : (id : ℕ) (b : List ℕ) (ds : List Draft) → IsStrictlySortedBy nat_cmp (ids (numbered id b ds))
 unfolding IsStrictlySortedBy
 numbered_ascends id b [] = tt
@@ -58,6 +60,7 @@ heir_valid p c formed h = record {
   headers_form = h.headers_form;
 }
 
+-- entries under ids from the next one on are new
 pub numbered_new : (dirs : List (List ℕ)) (next id : ℕ) (b : List ℕ) (p : Parent) (ds : List Draft) → IsParent p → next ≤ id → id + length ds ≤ 1_000_000_000_000 → All (IsDraftable dirs) ds → All (IsNew dirs next) (numbered id b (map (heir p) ds))
 numbered_new dirs next id b p [] formed le most h = All-nil (IsNew dirs next)
 numbered_new dirs next id b p (d ∷ ds) formed le most h =

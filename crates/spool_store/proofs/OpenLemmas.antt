@@ -49,6 +49,7 @@ true_if false e = absurd (true≢false e)
 pub used_if : (told : Option FileMap) (dir : List ℕ) (names : List (List ℕ)) (b : Bool) → IsListing told dir names → (names ≡ [] → b ≡ true) → not b ≡ true → IfSome told (IsUsed (dir ∷ []))
 used_if told dir names b h is e = used_by told dir names h (full_if b names is e)
 
+-- where an empty listing is told of a directory, it has no file
 pub empty_if : (told : Option FileMap) (dir : List ℕ) (names : List (List ℕ)) (b : Bool) → IsListing told dir names → (b ≡ true → names ≡ []) → not b ≡ false → IfSome told (AreEmpty (dir ∷ []))
 empty_if told dir names b h is e = empty_by told dir names h (is (true_if b e))
 
@@ -63,9 +64,11 @@ same_leads (Some f) = (refl, λ w. refl)
 told_leads : (a b : Option FileMap) → b ≡ a → Leads a b Rests Rests (Unit {0})
 told_leads a b e = subst (λ (q : Option FileMap). Leads a q Rests Rests (Unit {0})) (sym e) (same_leads a)
 
+-- no call reads only
 pub reads_none : (a : Spooled) → Reads a a
 reads_none a = record { later = le_refl a.moment; now = same_leads a.told; images = λ f e t x le left. inl left; kept = λ t x left. left }
 
+-- calls that only read, one after the other, only read
 pub reads_join : (a b c : Spooled) → Reads a b → Reads b c → Reads a c
 reads_join a b c h k = record {
   later = le_trans h.later k.later;

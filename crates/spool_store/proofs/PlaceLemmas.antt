@@ -38,6 +38,7 @@ only_own p file e =
 pub named_apart : (p : Place) (file : File) → p.1 ≢ file.name → lies_at p file ≡ false
 named_apart p file ne = false_from_ne_true (lies_at p file) (λ e. ne (ap (λ (q : Place). q.1) (only_own p file e)))
 
+-- a test is true or false
 pub decided : (b : Bool) → (b ≡ true) ⊎ (b ≡ false)
 decided true = inl refl
 decided false = inr refl
@@ -46,6 +47,7 @@ decided false = inr refl
 pub here : (file : File) (files : FileMap) (p : Place) → lies_at p file ≡ true → bytes_at (file ∷ files) p ≡ Some file.bytes
 here file files p e = ap (λ (b : Bool). if b then Some file.bytes else bytes_at files p) e
 
+-- a file that doesn't lie at a place doesn't change what lies there
 pub later : (file : File) (files : FileMap) (p : Place) → lies_at p file ≡ false → bytes_at (file ∷ files) p ≡ bytes_at files p
 later file files p e = ap (λ (b : Bool). if b then Some file.bytes else bytes_at files p) e
 

@@ -11,9 +11,11 @@ use Rattle.mail_base.proofs.FileNames.{same_kind, same_number}
 pub names_of : (d e : List ℕ) (k j : Kind) (n m : ℕ) → at d k n ≡ at e j m → name_of k n ≡ name_of j m
 names_of d e k j n m q = ap (λ (r : Place). r.1) q
 
+-- equal places are of one kind
 pub kinds_of : (d e : List ℕ) (k j : Kind) (n m : ℕ) → at d k n ≡ at e j m → k ≡ j
 kinds_of d e k j n m q = same_kind k j n m (names_of d e k j n m q)
 
+-- equal places are of one id
 pub ids_of : (d e : List ℕ) (k j : Kind) (n m : ℕ) → IsId n → IsId m → at d k n ≡ at e j m → n ≡ m
 ids_of d e k j n m a b q = same_number k j n m a b (names_of d e k j n m q)
 

@@ -68,6 +68,7 @@ judged_one dirs f found verdicts x long h c =
     let k = zip_at (λ y w. IsVerdict dirs f (spot_named dirs y.named) w) found verdicts c.0 x Strange h (omega (arith, c.1, long)) in
     subst (λ (y : Found). IsStrange dirs f (spot_named dirs y.named) ⊎ (IsDead dirs f (spot_named dirs y.named) ⊎ ((d : Control) × IsLive dirs f (spot_named dirs y.named) d))) c.2 (by_verdict dirs f (spot_named dirs (get_or found c.0 x).named) (get_or verdicts c.0 Strange) k)
 
+-- a map whose control files are all judged is decided
 pub decided_by : (dirs : List (List ℕ)) (f : FileMap) (found : List Found) (verdicts : List Verdict) → length verdicts ≡ length found → AreFound dirs f found → AreJudged dirs f found verdicts → IsDecided dirs f
 decided_by dirs f found verdicts long hf hj = record {
   verdict = λ s b there.
@@ -200,9 +201,11 @@ gone_by dirs f names found drafts dead closed bodies hf pd pk pc pb =
 pub drafts_go : (dirs : List (List ℕ)) (f : FileMap) (names drafts : List Named) (done : List Place) → AreNamed dirs f (length dirs) names → AreDrafts names drafts → (x : Named) → Contains drafts x → MayGo dirs f done x
 drafts_go dirs f names drafts done hn pd x c = let y = pd.each x c in let t = hn.each y.0 y.1 in subst (MayGo dirs f done) y.2 (a_draft y.3 t.before t.within)
 
+-- the dead control files may be removed
 pub dead_go : (dirs : List (List ℕ)) (f : FileMap) (found : List Found) (dead : List Named) (done : List Place) → AreDead dirs f found dead → (x : Named) → Contains dead x → MayGo dirs f done x
 dead_go dirs f found dead done pk x c = let y = pk.each x c in subst (MayGo dirs f done) y.2 (a_dead y.3)
 
+-- bodies that nothing wants may be removed once the dead control files are gone
 pub bodies_go : (dirs : List (List ℕ)) (f : FileMap) (names bodies : List Named) (done : List Place) → AreNamed dirs f (length dirs) names → IsDecided dirs f → ((s : Spot) → IsDead dirs f s → Contains done (spot_place s)) → AreUnwanted dirs f names bodies → (x : Named) → Contains bodies x → MayGo dirs f done x
 bodies_go dirs f names bodies done hn known dead pb x c = let y = pb.each x c in let t = hn.each y.0 y.1 in subst (MayGo dirs f done) y.2 (a_body y.3.0 t.before t.within dead y.3.1 known)
 
@@ -234,16 +237,20 @@ may_finish dirs f names found drafts dead closed pd pk pc x c =
 pub picks_next : {X : Type 0} (n : X → Named) (P Q : X → Type 0) (xs : List X) (i : ℕ) (y : X) (b : Bool) (old new : List Named) → i < length xs → y ≡ get_or xs i y → (b ≡ true → P y) → (b ≡ false → Q y) → new ≡ (if b then old ++ n y ∷ [] else old) → Picks n P Q (take i xs) old → Picks n P Q (take (i + 1) xs) new
 picks_next n P Q xs i y b old new lt is when unless e h = subst (λ q. Picks n P Q q new) (sym (take_more xs i y lt ∙ ap (λ z. take i xs ++ z ∷ []) (sym is))) (picks_by n P Q (take i xs) y b old new when unless e h)
 
+-- names that are picked by a test have what the test says
 pub each_by : (S : Named → Type 0) (x : Named) (b : Bool) (old new : List Named) → (b ≡ true → S x) → new ≡ (if b then old ++ x ∷ [] else old) → ((y : Named) → Contains old y → S y) → (y : Named) → Contains new y → S y
 each_by S x true old new when e h y c = ⊎_elim (λ (was : Contains old y). h y was) (λ (q : x ≡ y). subst S q (when refl)) (Contains-push_cases old x y (subst (λ (l : List Named). Contains l y) e c))
 each_by S x false old new when e h y c = h y (subst (λ (l : List Named). Contains l y) e c)
 
+-- the verdict at a place is that of the control file there
 pub verdict_of : (dirs : List (List ℕ)) (f : FileMap) (found : List Found) (verdicts : List Verdict) (k : ℕ) (d : Found) (v : Verdict) → length verdicts ≡ length found → AreJudged dirs f found verdicts → k < length found → IsVerdict dirs f (spot_named dirs (get_or found k d).named) (get_or verdicts k v)
 verdict_of dirs f found verdicts k d v long h lt = zip_at (λ y w. IsVerdict dirs f (spot_named dirs y.named) w) found verdicts k d v h (omega (arith, lt, long))
 
+-- the verdict at the place of a control file is its own
 pub verdict_item : (dirs : List (List ℕ)) (f : FileMap) (found : List Found) (verdicts : List Verdict) (k : ℕ) (x : Found) (v : Verdict) → length verdicts ≡ length found → AreJudged dirs f found verdicts → k < length found → x ≡ get_or found k x → IsVerdict dirs f (spot_named dirs x.named) (get_or verdicts k v)
 verdict_item dirs f found verdicts k x v long h lt is = subst (λ (y : Found). IsVerdict dirs f (spot_named dirs y.named) (get_or verdicts k v)) (sym is) (verdict_of dirs f found verdicts k x v long h lt)
 
+-- a control file with another verdict isn't dead
 pub not_dead : (dirs : List (List ℕ)) (f : FileMap) (s : Spot) (v : Verdict) → IsVerdict dirs f s v → (v ≡ Dead → ⊥) → IsDead dirs f s → ⊥
 not_dead dirs f s Strange k unless dead = dead.plain k
 not_dead dirs f s Dead k unless dead = unless refl
@@ -256,6 +263,7 @@ said (Some d) bytes c means says = ap (λ (q : Control). Some q) (says_one bytes
 same_bytes : {a b : List ℕ} → Some a ≡ Some b → a ≡ b
 same_bytes e = cc
 
+-- what was found of a control file is the control that it says
 pub found_says : (dirs : List (List ℕ)) (f : FileMap) (x : Found) (c : Control) → IsFound dirs f x → IsRead dirs f (spot_named dirs x.named) c → x.control ≡ Some c
 found_says dirs f x c h read = said x.control h.bytes c h.means (subst (λ (b : List ℕ). Says b c) (same_bytes (sym read.there.there ∙ h.there.there)) read.says)
 
@@ -266,12 +274,14 @@ none_strange dirs f s t b there plain k i = ⊎_elim
     (λ (twin : HasTwin dirs f s). plain (twice s b there twin))
     (same_or_twin dirs f s t (strange_control k).0 (strange_control k).1 i)
 
+-- a body of a dead control file's id is unwanted
 pub unwanted_dead : (dirs : List (List ℕ)) (f : FileMap) (s : Spot) (x : Named) → IsDead dirs f s → s.id ≡ x.id → IsUnwanted dirs f x
 unwanted_dead dirs f s x dead i = record {
   strange = λ t k st. none_strange dirs f s t dead.bytes dead.there dead.plain st (k ∙ sym i);
   live = λ t c d k live needs. not_of_live dirs f s t c dead live (k ∙ sym i);
 }
 
+-- a body that its live control file doesn't need there is unwanted
 pub unwanted_live : (dirs : List (List ℕ)) (f : FileMap) (s : Spot) (c : Control) (x : Named) → IsLive dirs f s c → s.id ≡ x.id → (s.dir ≡ dir_at dirs x.dir → NeedsBody c → ⊥) → IsUnwanted dirs f x
 unwanted_live dirs f s c x live i unless = record {
   strange = λ t k st. none_strange dirs f s t (live_read live).bytes (live_read live).there (live_plain live) st (k ∙ sym i);
@@ -280,12 +290,14 @@ unwanted_live dirs f s c x live i unless = record {
       unless (ap (λ (w : Spot). w.dir) (sym one.0) ∙ d) (subst NeedsBody (sym one.1) needs);
 }
 
+-- a body of an id without a control file is unwanted
 pub unwanted_none : (dirs : List (List ℕ)) (f : FileMap) (found : List Found) (x : Named) → AreFound dirs f found → ((y : Found) → Contains found y → y.named.id ≢ x.id) → IsUnwanted dirs f x
 unwanted_none dirs f found x h none = record {
   strange = λ t k st. let y = h.all t (strange_control st).0 (strange_control st).1 in none y.0 y.1 (ap (λ (w : Spot). w.id) y.2 ∙ k);
   live = λ t c d k live needs. let y = h.all t (live_read live).bytes (live_read live).there in none y.0 y.1 (ap (λ (w : Spot). w.id) y.2 ∙ k);
 }
 
+-- what isn't denied is true
 pub not_false : (b : Bool) → not b ≡ false → b ≡ true
 not_false true e = refl
 not_false false e = absurd (true≢false e)
@@ -294,5 +306,6 @@ pub not_true : (b : Bool) → not b ≡ true → b ≡ false
 not_true true e = absurd (true≢false (sym e))
 not_true false e = refl
 
+-- drafts that are picked of names lie in the same directories
 pub drafts_within : (n : ℕ) (names drafts : List Named) → AreDrafts names drafts → ((x : Named) → Contains names x → x.dir < n) → (x : Named) → Contains drafts x → x.dir < n
 drafts_within n names drafts pd h x c = let y = pd.each x c in subst (λ (w : Named). w.dir < n) y.2 (h y.0 y.1)

@@ -41,6 +41,7 @@ record IsOther (q s t : Spot) : Type 0 where
   same : t ≡ s
   apart : s ≢ q
 
+-- at other spots a control file is as it was
 pub control_but : (dirs : List (List ℕ)) (q : Spot) (f g : FileMap) → IsBut dirs q f g → (s : Spot) (b : List ℕ) → s ≢ q → IsControl dirs f s b → IsControl dirs g s b
 control_but dirs q f g h s b ne there = record { spot = there.spot; there = h.others (spot_place s) (λ e. ne (same_spot s q there.spot.within h.spot.within e)) ∙ there.there }
 
@@ -71,6 +72,7 @@ strange_but dirs q f g h plain s ne k = strange_carries dirs f g (IsOther q) (ot
 pub but_to : (dirs : List (List ℕ)) (s : Spot) (old new : Control) (f g : FileMap) → IsRaised dirs s old new f g → IsBut dirs s f g
 but_to dirs s old new f g h = record { spot = (live_read h.live).there.spot; bytes = spelled new; there = h.holds; others = h.others }
 
+-- the map before differs at that spot alone from the one after
 pub but_back : (dirs : List (List ℕ)) (s : Spot) (old new : Control) (f g : FileMap) → IsRaised dirs s old new f g → IsBut dirs s g f
 but_back dirs s old new f g h = let read = live_read h.live in record { spot = read.there.spot; bytes = read.bytes; there = read.there.there; others = λ place ne. sym (h.others place ne) }
 
@@ -118,6 +120,7 @@ raised_plain dirs s old new f g h k = raised_not dirs s old new f g h k refl
 pub raised_strange : (dirs : List (List ℕ)) (s : Spot) (old new : Control) (f g : FileMap) → IsRaised dirs s old new f g → (t : Spot) → IsStrange dirs f t → IsStrange dirs g t
 raised_strange dirs s old new f g h t k = strange_but dirs s f g (but_to dirs s old new f g h) (live_plain h.live) t (λ e. live_plain h.live (subst (λ (w : Spot). IsStrange dirs f w) e k)) k
 
+-- a control file that is strange after a replace was strange before
 pub raised_strange_back : (dirs : List (List ℕ)) (s : Spot) (old new : Control) (f g : FileMap) → IsRaised dirs s old new f g → (t : Spot) → IsStrange dirs g t → IsStrange dirs f t
 raised_strange_back dirs s old new f g h t k = strange_but dirs s g f (but_back dirs s old new f g h) (raised_plain dirs s old new f g h) t (λ e. raised_plain dirs s old new f g h (subst (λ (w : Spot). IsStrange dirs g w) e k)) k
 
@@ -129,6 +132,7 @@ at_live dirs s old new f g h (child t c p above d read plain u live le) q one =
     let up : IsUnder new s p above = record { parent = h.parent ∙ ap (λ (k : Control). k.parent) (sym one) ∙ u.parent; less = omega (arith, i, u.less); id = u.id } in
     child s new p above d (raised_read dirs s old new f g h) (raised_plain dirs s old new f g h) up (live_alike dirs (λ id. id < s.id) f g (below_alike dirs s old new f g h) above d (omega (arith, up.less, u.id)) live) le
 
+-- after a replace the new control is live
 pub raised_live : (dirs : List (List ℕ)) (s : Spot) (old new : Control) (f g : FileMap) → IsRaised dirs s old new f g → IsLive dirs g s new
 raised_live dirs s old new f g h = at_live dirs s old new f g h h.live refl refl
 
@@ -147,6 +151,7 @@ others_live dirs s old new f g h t c ne live =
           (spot_or dirs a s);
     }) live t (record { same = refl; apart = ne })
 
+-- a control file elsewhere that is live after a replace was live before
 pub others_live_back : (dirs : List (List ℕ)) (next : ℕ) (s : Spot) (old new : Control) (f g : FileMap) → IsRaised dirs s old new f g → IsTidy dirs next f → (t : Spot) (c : Control) → t ≢ s → IsLive dirs g t c → IsLive dirs f t c
 others_live_back dirs next s old new f g h tidy t c ne live =
     let read = live_read live in

@@ -13,6 +13,7 @@ use Rattle.spool_store.specs.Queue.{Spot, spot_place, IsRead}
 pub says_one : (bytes : List ℕ) (c d : Control) → Says bytes c → Says bytes d → c ≡ d
 says_one bytes c d h k = spelled_once c d h.valid k.valid (sym h.text ∙ k.text)
 
+-- a control file says one control
 pub one_control : (dirs : List (List ℕ)) (files : FileMap) (s : Spot) (c d : Control) → IsRead dirs files s c → IsRead dirs files s d → c ≡ d
 one_control dirs files s c d h k =
     let e : h.bytes ≡ k.bytes = let q = sym h.there.there ∙ k.there.there in cc in

@@ -14,6 +14,7 @@ use Rattle.spool_store.proofs.Finding.{none_in}
 pub dir_among : (dirs : List (List ℕ)) (i : ℕ) → i < length dirs → Contains dirs (dir_at dirs i)
 dir_among dirs i lt = (i, lt, get_or_default dirs i (dir_at dirs i) [] lt)
 
+-- each of the directories has a number
 pub dir_numbered : (dirs : List (List ℕ)) (dir : List ℕ) → Contains dirs dir → (i : ℕ) × (i < length dirs) × (dir_at dirs i ≡ dir)
 dir_numbered dirs dir c = (c.0, c.1, get_or_default dirs c.0 [] dir c.1 ∙ c.2)
 
@@ -21,6 +22,7 @@ dir_numbered dirs dir c = (c.0, c.1, get_or_default dirs c.0 [] dir c.1 ∙ c.2)
 pub found_none : (dirs : List (List ℕ)) (f : FileMap) (named : Named) (old : List Found) → bytes_at f (spot_place (spot_named dirs named)) ≡ None → AddsFound dirs f named old old
 found_none dirs f named old none = record { kept = λ x c. c; each = λ x c. inl c; all = λ some. absurd (let z = subst (λ (q : Option (List ℕ)). IsSome q) none some in cc z) }
 
+-- a control file that was read adds its meaning to what was found
 pub found_more : (dirs : List (List ℕ)) (f : FileMap) (named : Named) (x : Found) (bytes : List ℕ) (old new : List Found) → IsSpot dirs (spot_named dirs named) → bytes_at f (spot_place (spot_named dirs named)) ≡ Some bytes → x.named ≡ named → IsMeaning bytes x.control → new ≡ old ++ x ∷ [] → AddsFound dirs f named old new
 found_more dirs f named x bytes old new spot there is means e = rw e (record {
   kept = λ y c. Contains-append_left old (x ∷ []) y c;
@@ -75,20 +77,25 @@ read_found dirs f names found named h = record {
 pub read_one_more : (dirs : List (List ℕ)) (f : FileMap) (names : List Named) (named : Named) (old new : List Found) → IsThere dirs f (length dirs) named → AddsFound dirs f named old new → AreRead dirs f names old → AreRead dirs f (names ++ named ∷ []) new
 read_one_more dirs f names named old new there adds h = read_more dirs f (length dirs) names named old new there adds h
 
+-- a control file that is there lies at a spot of the directories
 pub spot_there : (dirs : List (List ℕ)) (f : FileMap) (x : Named) → IsThere dirs f (length dirs) x → (x.kind ≡ Qf) ⊎ (x.kind ≡ Sf) → IsSpot dirs (spot_named dirs x)
 spot_there dirs f x h kind = record { among = dir_among dirs x.dir h.before; kind = kind; within = h.within }
 
+-- what was found and the next name's is among the names with it
 pub among_more : (names : List Named) (named : Named) (old new : List Found) → ((x : Found) → Contains new x → Contains old x ⊎ (x.named ≡ named)) → AreAmong names old → AreAmong (names ++ named ∷ []) new
 among_more names named old new adds h x c = ⊎_elim
     (λ (was : Contains old x). Contains-append_left names (named ∷ []) x.named (h x was))
     (λ (is : x.named ≡ named). subst (λ (y : Named). Contains (names ++ named ∷ []) y) (sym is) (Contains-push names named))
     (adds x c)
 
+-- what was found among names is among them with one more
 pub among_skip : (names : List Named) (named : Named) (old : List Found) → AreAmong names old → AreAmong (names ++ named ∷ []) old
 among_skip names named old h x c = Contains-append_left names (named ∷ []) x.named (h x c)
 
+-- nothing found is among no names
 pub among_nothing : AreAmong [] []
 among_nothing x c = absurd (none_in x c)
 
+-- a name at a place of a list is in it
 pub named_in : (names : List Named) (i : ℕ) (x : Named) → i < length names → x ≡ get_or names i x → Contains names x
 named_in names i x lt is = (i, lt, sym is)

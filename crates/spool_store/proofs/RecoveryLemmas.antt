@@ -29,9 +29,11 @@ use Rattle.spool_store.proofs.Tidying.{tidied_stands}
 pub found_order : (dirs : List (List ℕ)) (f : FileMap) (xs ys : List Found) → IsPermutation xs ys → AreFound dirs f xs → AreFound dirs f ys
 found_order dirs f xs ys p h = record { each = λ x c. h.each x (Contains-permutation ys xs x (IsPermutation-sym xs ys p) c); all = λ s b there. let y = h.all s b there in (y.0, Contains-permutation xs ys y.0 p y.1, y.2) }
 
+-- what was read of the names, in another order, is what was found
 pub found_by : (dirs : List (List ℕ)) (f : FileMap) (names : List Named) (xs ys : List Found) → IsPermutation xs ys → AreNamed dirs f (length dirs) names → AreRead dirs f names xs → AreFound dirs f ys
 found_by dirs f names xs ys p named read = found_order dirs f xs ys p (read_found dirs f names xs named read)
 
+-- what was found lies in the directories of the names
 pub found_within : (n : ℕ) (names : List Named) (xs ys : List Found) → IsPermutation xs ys → AreAmong names xs → ((x : Named) → Contains names x → x.dir < n) → (y : Found) → Contains ys y → y.named.dir < n
 found_within n names xs ys p among within y c = within y.named (among y (Contains-permutation ys xs y (IsPermutation-sym xs ys p) c))
 
@@ -42,13 +44,16 @@ becomes_to None (Some g) P Q S to h = absurd h
 becomes_to (Some f) None P Q S to h = absurd h
 becomes_to (Some f) (Some g) P Q S to h = λ p. to g (h p)
 
+-- calls that lead somewhere lead to what follows from it
 pub moves_to : (a b : Spooled) (P Q R S : FileMap → Type 0) → ((f : FileMap) → Q f → S f) → Moves a b P Q R → Moves a b P S R
 moves_to a b P Q R S to h = record { later = h.later; now = becomes_to a.told b.told P Q S to h.now; images = h.images; kept = h.kept }
 
+-- an end in a fact is one in what follows from it
 pub ends_to : {T E : Type 0} (r : Result T E) (Q R S : FileMap → Type 0) → ((f : FileMap) → Q f → S f) → (f : FileMap) → Ends r Q R f → Ends r S R f
 ends_to (Ok x) Q R S to f h = to f h
 ends_to (Err e) Q R S to f h = h
 
+-- an end in either fact is one in the weaker
 pub ends_in : {T E : Type 0} (r : Result T E) (Q R : FileMap → Type 0) → ((f : FileMap) → Q f → R f) → (f : FileMap) → Ends r Q R f → R f
 ends_in (Ok x) Q R to f h = to f h
 ends_in (Err e) Q R to f h = h
@@ -112,15 +117,19 @@ clean_at (Some f) (Some g) dirs steps h = swept_clean dirs g (h f refl refl)
 pub within_items : (n : ℕ) (xs ys : List Found) → ys ≡ xs → ((x : Found) → Contains xs x → x.named.dir < n) → (x : Found) → Contains ys x → x.named.dir < n
 within_items n xs ys e h x c = h x (subst (λ (q : List Found). Contains q x) e c)
 
+-- equal names lie in the same directories
 pub within_named : (n : ℕ) (xs ys : List Named) → ys ≡ xs → ((x : Named) → Contains xs x → x.dir < n) → (x : Named) → Contains ys x → x.dir < n
 within_named n xs ys e h x c = h x (subst (λ (q : List Named). Contains q x) e c)
 
+-- equal names are of the same kind
 pub kinds_named : (k : Kind) (xs ys : List Named) → ys ≡ xs → ((x : Named) → Contains xs x → x.kind ≡ k) → (x : Named) → Contains ys x → x.kind ≡ k
 kinds_named k xs ys e h x c = h x (subst (λ (q : List Named). Contains q x) e c)
 
+-- equal lists of verdicts and control files are of one length
 pub long_items : (vs ws : List Verdict) (xs ys : List Found) → ws ≡ vs → ys ≡ xs → length vs ≡ length xs → length ws ≡ length ys
 long_items vs ws xs ys d e h = ap (λ (q : List Verdict). length q) d ∙ h ∙ sym (ap (λ (q : List Found). length q) e)
 
+-- names picked of control files lie in their directories
 pub stays_within : (n : ℕ) (xs ys : List Found) (out : List Named) → ys ≡ xs → ((x : Found) → Contains xs x → x.named.dir < n) → ((x : Named) → Contains out x → Stays its_name ys x) → (x : Named) → Contains out x → x.dir < n
 stays_within n xs ys out e h stays x c = let s = stays x c in subst (λ (y : Named). y.dir < n) s.is (within_items n xs ys e h s.source s.among)
 
@@ -133,6 +142,7 @@ some_told : (o : Option FileMap) (P : FileMap → Type 0) → ((f : FileMap) →
 some_told None P h = tt
 some_told (Some f) P h = h f refl
 
+-- entries that are right for each map that is told are right where it is told
 pub entries_ok : (r : Result Opened StoreFault) (o : Option FileMap) (dirs : List (List ℕ)) → ((f : FileMap) → o ≡ Some f → IfOk r (λ x. AreEntries dirs f x.entries)) → IfOk r (λ x. IfSome o (λ f. AreEntries dirs f x.entries))
 entries_ok (Ok x) o dirs h = some_told o (λ f. AreEntries dirs f x.entries) h
 entries_ok (Err e) o dirs h = tt
@@ -141,13 +151,16 @@ entries_ok (Err e) o dirs h = tt
 pub look_moves : (a b : Spooled) (dirs : List (List ℕ)) (f : FileMap) → Reads a b → Moves a b (λ g. g ≡ f) (IsSweptOf dirs f []) (IsTidied dirs f)
 look_moves a b dirs f reads = moves_read a b (λ g. g ≡ f) (IsSweptOf dirs f []) (IsTidied dirs f) reads (λ g e. subst (IsSweptOf dirs f []) (sym e) (swept_start dirs f)) (λ g e. subst (IsTidied dirs f) (sym e) (tidied_none dirs f))
 
+-- calls that only read leave a tidied map, also where they fail
 pub look_fails : (a b : Spooled) (dirs : List (List ℕ)) (f : FileMap) → Reads a b → Moves a b (λ g. g ≡ f) (IsTidied dirs f) (IsTidied dirs f)
 look_fails a b dirs f reads = moves_read a b (λ g. g ≡ f) (IsTidied dirs f) (IsTidied dirs f) reads (λ g e. subst (IsTidied dirs f) (sym e) (tidied_none dirs f)) (λ g e. subst (IsTidied dirs f) (sym e) (tidied_none dirs f))
 
+-- a next id that is right for each map that is told is right where it is told
 pub next_ok : (r : Result Opened StoreFault) (o : Option FileMap) (dirs : List (List ℕ)) → ((f : FileMap) → o ≡ Some f → IfOk r (λ x. IsNext dirs f x.next)) → IfOk r (λ x. IfSome o (λ f. IsNext dirs f x.next))
 next_ok (Ok x) o dirs h = some_told o (λ f. IsNext dirs f x.next) h
 next_ok (Err e) o dirs h = tt
 
+-- strays that are right for each map that is told are right where it is told
 pub strays_ok : (r : Result Opened StoreFault) (o : Option FileMap) (dirs : List (List ℕ)) → ((f : FileMap) → o ≡ Some f → IfOk r (λ x. AreStrays dirs f x.strange)) → IfOk r (λ x. IfSome o (λ f. AreStrays dirs f x.strange))
 strays_ok (Ok x) o dirs h = some_told o (λ f. AreStrays dirs f x.strange) h
 strays_ok (Err e) o dirs h = tt

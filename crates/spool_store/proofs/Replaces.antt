@@ -85,16 +85,19 @@ none_before dirs next s f g u table e settled =
     let u' : IsUnderWay table.next (s ∷ []) [] f g = subst (λ (n : ℕ). IsUnderWay n (s ∷ []) [] f g) (sym e) u in
     before_stands dirs table _ [] f g (record { new = All-nil (IsNew dirs table.next); waiting = All-nil (IsWaiting dirs table.next f []); at = u'.at }) settled.tidy settled.stands
 
+-- a replace that is done leaves the map settled for the table with the new control
 pub replace_leads : (store : StoreSeen) (table : Table) (f g : FileMap) (id : ℕ) (c : Control) (paper : Sheet) (can : CanReplace store.entries id c paper) → Agrees store f → Holds store table → StandsFor store.dirs table f → AreRaised [] (with_new can.held c) f g → IsSettled store.dirs (after_replace table id c) g
 replace_leads store table f g id c paper can a holds stands w =
     let is = replaced_by store f id c paper a can in
     subst (λ (n : ℕ). IsSettled store.dirs (after_replace table n c) g) can.is (replaced_settled store.dirs table (spot_of Qf (with_new can.held c)) can.held.entry.control c f g (raises_to store f g id c paper can is w) (agrees_settled store table f a holds stands))
 
+-- a replace that stops leaves a map for the table before it or after it
 pub replace_safe : (store : StoreSeen) (table : Table) (f g : FileMap) (id : ℕ) (c : Control) (paper : Sheet) (can : CanReplace store.entries id c paper) → Agrees store f → Holds store table → StandsFor store.dirs table f
     → IsUnderWay store.next (with_new can.held c ∷ []) [] f g ⊎ AreRaised [] (with_new can.held c) f g → StandsFor store.dirs table g ⊎ StandsFor store.dirs (after_replace table id c) g
 replace_safe store table f g id c paper can a holds stands (inl u) = inl (none_before store.dirs store.next (with_new can.held c) f g u table (sym holds.next) (agrees_settled store table f a holds stands))
 replace_safe store table f g id c paper can a holds stands (inr w) = inr (replace_leads store table f g id c paper can a holds stands w).stands
 
+-- a store with the new control agrees with what a replace leaves
 pub replace_agrees : (store : StoreSeen) (f g : FileMap) (id : ℕ) (c : Control) (paper : Sheet) (can : CanReplace store.entries id c paper) → Agrees store f → AreRaised [] (with_new can.held c) f g → Agrees (record store { entries = map (recontrolled id c) store.entries }) g
 replace_agrees store f g id c paper can a w =
     let is = replaced_by store f id c paper a can in
@@ -107,6 +110,7 @@ mine store f h c is s k = ⊎_elim (λ (e : with_new h c ≡ s). subst (IsMine s
 raised_left : (s : Stored) (f g : FileMap) → AreRaised [] s f g → IsLeft (s ∷ []) f g
 raised_left s f g w place = ⊎_elim (λ (e : place ≡ control_place s). inr (own_control s (0, omega arith, refl) e)) (λ (ne : place ≢ control_place s). inl (put_none f g place (w.at place ne))) (place_or place (control_place s))
 
+-- a replace keeps the files of others, wherever it stops
 pub replace_keeps : (store : StoreSeen) (f g : FileMap) (id : ℕ) (c : Control) (paper : Sheet) (can : CanReplace store.entries id c paper) → Agrees store f → IsUnderWay store.next (with_new can.held c ∷ []) [] f g ⊎ AreRaised [] (with_new can.held c) f g → KeepsOthers store.dirs f g
 replace_keeps store f g id c paper can a (inl u) = left_keeps store.dirs store.next (with_new can.held c ∷ []) f g a.tidy (mine store f can.held c (replaced_by store f id c paper a can)) u.left
 replace_keeps store f g id c paper can a (inr w) = left_keeps store.dirs store.next (with_new can.held c ∷ []) f g a.tidy (mine store f can.held c (replaced_by store f id c paper a can)) (raised_left (with_new can.held c) f g w)
@@ -129,6 +133,7 @@ from_agreed a b store s P S T Q R agrees within calls can leads safe =
 pub can_of : (store : StoreSeen) (id : ℕ) (c : Control) (paper : Sheet) (can : CanReplace store.entries id c paper) (f : FileMap) → Agrees store f → CanRaise f [] (with_new can.held c)
 can_of store id c paper can f a = can_raise_one store f can.held c (replaced_by store f id c paper a can)
 
+-- the text of a control that can be replaced fits in its buffer
 pub fits_paper : (store : StoreSeen) (id : ℕ) (c : Control) (paper : Sheet) → CanReplace store.entries id c paper → length (spelled c) ≤ paper.room
 fits_paper store id c paper can = le_trans (text_fits_room can.held.entry.control c can.texts can.valid) can.fits
 

@@ -19,6 +19,7 @@ use Rattle.spool_store.proofs.Carrying.{live_read}
 use Rattle.spool_store.proofs.Standing.{one_spot, one_live, contains_cases, contains_head, contains_tail, same_dir}
 use Rattle.spool_store.proofs.Raising.{spot_or, raised_read, raised_strange, raised_live, others_live, others_live_back, body_but, but_to, but_back, control_but}
 
+-- what a list has, its image has as the image
 pub contains_map : {X Y : Type 0} (h : X → Y) (x : X) (xs : List X) → Contains xs x → Contains (map h xs) (h x)
 contains_map h x [] k = absurd (omega (arith, k.1))
 contains_map h x (y ∷ xs) k = ⊎_elim
@@ -88,6 +89,7 @@ all_raised dirs table s old new f g h settled t c live = ⊎_elim
     })
     (spot_or dirs t s)
 
+-- places are equal or not
 pub place_or : (p q : Place) → (p ≡ q) ⊎ (p ≢ q)
 place_or p q = ⊎_elim
     (λ (d : p.0 ≡ q.0). ⊎_elim (λ (n : p.1 ≡ q.1). inl (λ j. (d j, n j))) (λ (n : p.1 ≢ q.1). inr (λ e. n (ap (λ (r : Place). r.1) e))) (same_dir p.1 q.1))
@@ -109,6 +111,7 @@ named_raised dirs s old new f g h id (as_parent t c p read e i) = ⊎_elim
     (λ (ne : t ≢ s). as_parent t c p (record { bytes = read.bytes; there = control_but dirs s g f (but_back dirs s old new f g h) t read.bytes ne read.there; says = read.says }) e i)
     (spot_or dirs t s)
 
+-- after a replace each control file that isn't strange is live
 pub whole_raised : (dirs : List (List ℕ)) (next : ℕ) (s : Spot) (old new : Control) (f g : FileMap) → IsRaised dirs s old new f g → IsTidy dirs next f → (t : Spot) (b : List ℕ) → IsControl dirs g t b → (IsStrange dirs g t → ⊥) → (c : Control) × IsLive dirs g t c
 whole_raised dirs next s old new f g h tidy t b there plain = ⊎_elim
     (λ (e : t ≡ s). (new, subst (λ (q : Spot). IsLive dirs g q new) (sym e) (raised_live dirs s old new f g h)))
@@ -117,9 +120,11 @@ whole_raised dirs next s old new f g h tidy t b there plain = ⊎_elim
     (w.0, others_live dirs s old new f g h t w.0 ne w.1))
     (spot_or dirs t s)
 
+-- after a replace no draft is there
 pub drafts_raised : (dirs : List (List ℕ)) (next : ℕ) (s : Spot) (old new : Control) (f g : FileMap) → IsRaised dirs s old new f g → IsTidy dirs next f → (dir : List ℕ) (id : ℕ) → Contains dirs dir → IsId id → bytes_at g (at dir Tf id) ≡ None
 drafts_raised dirs next s old new f g h tidy dir id among within = h.others (at dir Tf id) (λ e. (not_kind s.kind (live_read h.live).there.spot.kind).1 (sym (kinds_of dir s.dir Tf s.kind id s.id e))) ∙ tidy.drafts dir id among within
 
+-- after a replace the map is settled for the table with the new control
 pub replaced_settled : (dirs : List (List ℕ)) (table : Table) (s : Spot) (old new : Control) (f g : FileMap) → IsRaised dirs s old new f g → IsSettled dirs table f → IsSettled dirs (record { entries = with_control s.id new table.entries; next = table.next }) g
 replaced_settled dirs table s old new f g h settled = record {
   stands = record {

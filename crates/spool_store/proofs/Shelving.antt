@@ -30,10 +30,12 @@ comparisons_rise : (items : List Held) (id : ℕ) → IsAscending items → IsNo
 comparisons_rise items id up i j d le within = index_rises (get_or items i d).entry.id (get_or items j d).entry.id id
     (⊎_elim (λ (l : i < j). let less = up i j d l within in omega (arith, less)) (λ (g : j ≤ i). let e : i ≡ j = omega (arith, le, g) in let same = ap (λ (k : ℕ). (get_or items k d).entry.id) e in omega (arith, same)) (cases_lt i j))
 
+-- a search that finds an id gives the place of its entry
 pub found_at : (items : List Held) (id : ℕ) (r : Result ℕ ℕ) → IsSearchInRange r (length items) → IsBinarySearchResult (λ h. nat_cmp h.entry.id id) items r → IfOk r (IsPlaceOf items id)
 found_at items id (Ok at) bound equal = record { within = bound; has = λ d. ranked (get_or items at d).entry.id id _ (sym (equal d)) }
 found_at items id (Err at) bound parted = tt
 
+-- a search that fails shows that no entry has the id
 pub absent_at : (items : List Held) (id : ℕ) (r : Result ℕ ℕ) → IsAscending items → IsSearchInRange r (length items) → IsBinarySearchResult (λ h. nat_cmp h.entry.id id) items r → IfErr r (λ x. All (λ h. h.entry.id ≢ id) items)
 absent_at items id (Ok at) up bound equal = tt
 absent_at items id (Err at) up bound parted = λ k d lt e.
@@ -78,6 +80,7 @@ push_ascends items x up below i j d lt within =
     omega (arith, less, one, other))
     (cases_lt j (length items))
 
+-- an entry of a greater id behind the others leaves them in order of id
 pub added_ascends : (items new : List Held) (x : Held) → new ≡ items ++ x ∷ [] → IsAscending items → All (λ h. h.entry.id < x.entry.id) items → IsAscending new
 added_ascends items new x e up below = subst IsAscending (sym e) (push_ascends items x up below)
 
@@ -97,11 +100,13 @@ changed items id place h x change up at is others here = ext_get_or h (set items
     get_or-set_other items place i x h ne ∙ sym (others (get_or items i h) apart) ∙ sym mapped)
     (cases_eq i place))
 
+-- a control set at the place of an id is set for that id
 pub recontrolled_at : (items : List Held) (id place : ℕ) (h : Held) (c : Control) → IsAscending items → IsPlaceOf items id place → h ≡ get_or items place h → set items place (record h { entry = record h.entry { control = c } }) ≡ map (recontrolled id c) items
 recontrolled_at items id place h c up at is = changed items id place h (record h { entry = record h.entry { control = c } }) (recontrolled id c) up at is
     (λ q ne. ap (λ (b : Bool). if b then record q { entry = record q.entry { control = c } } else q) (ne_eqb q.entry.id id ne))
     (ap (λ (b : Bool). if b then record h { entry = record h.entry { control = c } } else h) (eq-eqb h.entry.id id (ap (λ (q : Held). q.entry.id) is ∙ at.has h)))
 
+-- a mark of finishing set at the place of an id is set for that id
 pub refinished_at : (items : List Held) (id place : ℕ) (h : Held) → IsAscending items → IsPlaceOf items id place → h ≡ get_or items place h → set items place (record h { finished = true }) ≡ map (refinished id) items
 refinished_at items id place h up at is = changed items id place h (record h { finished = true }) (refinished id) up at is
     (λ q ne. ap (λ (b : Bool). if b then record q { finished = true } else q) (ne_eqb q.entry.id id ne))
@@ -115,6 +120,7 @@ none_has items id has none = none has.among.0 has.held has.among.1 (ap (λ (q : 
 pub held_is : (items shown : List Held) (id place : ℕ) (d h : Held) → shown ≡ items → IsAscending items → IsPlaceOf items id place → Contains items h → h.entry.id ≡ id → get_or shown place d ≡ h
 held_is items shown id place d h same up at k has = ap (λ (q : List Held). get_or q place d) same ∙ one_held items id place h up at k has d
 
+-- entries in order of id have one entry of each id
 pub only_held : (items : List Held) (id : ℕ) (one : Held) → IsAscending items → Contains items one → one.entry.id ≡ id → (h : Held) → Contains items h → h.entry.id ≡ id → h ≡ one
 only_held items id one up k is h m has =
     let at : IsPlaceOf items id m.0 = record { within = m.1; has = λ d. ap (λ (q : Held). q.entry.id) (get_or_default items m.0 d h m.1 ∙ m.2) ∙ has } in

@@ -14,9 +14,11 @@ use Rattle.spool_store.proofs.Finding.{none_in}
 use Rattle.spool_store.proofs.Carrying.{strange_control}
 use Rattle.spool_store.proofs.Readings.{dir_among, dir_numbered}
 
+-- of no control files no stray is shown
 pub shown_none : (dirs : List (List ℕ)) (f : FileMap) (before : List Stray) → AreShown dirs f before [] before
 shown_none dirs f before = record { each = λ w c. inl c; kept = λ w c. c; all = λ x c k. absurd (none_in x c) }
 
+-- a control file that isn't strange adds no stray
 pub shown_skip : (dirs : List (List ℕ)) (f : FileMap) (before : List Stray) (found : List Found) (x : Found) (out : List Stray) → (IsStrange dirs f (spot_named dirs x.named) → ⊥) → AreShown dirs f before found out → AreShown dirs f before (found ++ x ∷ []) out
 shown_skip dirs f before found x out plain h = record {
   each = h.each;
@@ -24,6 +26,7 @@ shown_skip dirs f before found x out plain h = record {
   all = λ y c k. ⊎_elim (λ (was : Contains found y). h.all y was k) (λ (q : x ≡ y). absurd (plain (subst (λ (z : Found). IsStrange dirs f (spot_named dirs z.named)) (sym q) k))) (Contains-push_cases found x y c);
 }
 
+-- a strange control file adds its stray
 pub shown_more : (dirs : List (List ℕ)) (f : FileMap) (before : List Stray) (found : List Found) (x : Found) (out new : List Stray) → IsStrange dirs f (spot_named dirs x.named) → new ≡ out ++ stray_found dirs x ∷ [] → AreShown dirs f before found out → AreShown dirs f before (found ++ x ∷ []) new
 shown_more dirs f before found x out new strange e h = rw e (record {
   each = λ w c. ⊎_elim (λ (was : Contains out w). h.each w was) (λ (q : stray_found dirs x ≡ w). inr (x, strange, q)) (Contains-push_cases out (stray_found dirs x) w c);
@@ -34,6 +37,7 @@ shown_more dirs f before found x out new strange e h = rw e (record {
       (Contains-push_cases found x y c);
 })
 
+-- the strays shown of the first so many and the next are those of one more
 pub shown_next : (dirs : List (List ℕ)) (f : FileMap) (before : List Stray) (found : List Found) (i : ℕ) (x : Found) (out : List Stray) → i < length found → x ≡ get_or found i x → AreShown dirs f before (take i found ++ x ∷ []) out → AreShown dirs f before (take (i + 1) found) out
 shown_next dirs f before found i x out lt is h = subst (λ (q : List Found). AreShown dirs f before q out) (sym (take_more found i x lt ∙ ap (λ (y : Found). take i found ++ y ∷ []) (sym is))) h
 

@@ -42,6 +42,7 @@ loosely dirs table place f g un stands same = λ p among. ⊎_elim
     (λ (ne : p ≢ place). ⊎_elim (λ (e : bytes_at f p ≡ bytes_at (files_of table.entries) p). inl (same p ne ∙ e)) (λ (u : IsUnfinished table.next p.1). inr u) (stands p among))
     (place_or p place)
 
+-- a map that is clean for a table stands for it
 pub clean_stands : (dirs : List (List ℕ)) (table : Table) (f : FileMap) → IsClean dirs table f → StandsFor dirs table f
 clean_stands dirs table f clean = λ p among. inl (clean p among)
 
@@ -90,15 +91,18 @@ body_unfinished dirs table id df t e = record { id = id; free = omega (arith, t.
 draft_unfinished : (dirs : List (List ℕ)) (table : Table) (id : ℕ) (tf : List ℕ) → IsTurn dirs table id → tf ≡ name_of Tf id → IsUnfinished table.next tf
 draft_unfinished dirs table id tf t e = record { id = id; free = omega (arith, t.next); within = t.within; is = inr e }
 
+-- a stop at the writing of the body leaves the table before or after
 pub body_safe : (dirs : List (List ℕ)) (table : Table) (id : ℕ) (draft : Draft) (body df : List ℕ) → IsTurn dirs table id → df ≡ name_of Df id → (f g : FileMap) → IsClean dirs table f → IsSameBut (draft.dir, df) f g → IsEither dirs table (Accept draft body) g
 body_safe dirs table id draft body df t e f g clean same = inl (loosely dirs table (draft.dir, df) f g (body_unfinished dirs table id df t e) (clean_stands dirs table f clean) same)
 
+-- the writing of the body leads to a map with it
 pub body_leads : (dirs : List (List ℕ)) (table : Table) (id : ℕ) (draft : Draft) (body df : List ℕ) → IsTurn dirs table id → df ≡ name_of Df id → (f g : FileMap) → IsClean dirs table f → HasWritten (draft.dir, df) body f g → HasBody dirs table (stored id draft body) g
 body_leads dirs table id draft body df t e f g clean h = record {
   stands = loosely dirs table (draft.dir, df) f g (body_unfinished dirs table id df t e) (clean_stands dirs table f clean) h.others;
   exactly = written dirs (files_of table.entries) (body_file (stored id draft body)) f g (fresh_at dirs table id t draft.dir Df) clean (subst (λ (q : List ℕ). HasWritten (draft.dir, q) body f g) e h);
 }
 
+-- a stop at the writing of the draft leaves the table before or after
 pub draft_safe : (dirs : List (List ℕ)) (table : Table) (id : ℕ) (draft : Draft) (body tf : List ℕ) → IsTurn dirs table id → tf ≡ name_of Tf id → (f g : FileMap) → HasBody dirs table (stored id draft body) f → IsSameBut (draft.dir, tf) f g → IsEither dirs table (Accept draft body) g
 draft_safe dirs table id draft body tf t e f g p same = inl (loosely dirs table (draft.dir, tf) f g (draft_unfinished dirs table id tf t e) p.stands same)
 
@@ -108,6 +112,7 @@ fresh_behind_body dirs table id draft body t =
     let place : Place = (draft.dir, name_of Tf id) in
     behind (files_of table.entries) (df ∷ []) place (fresh_at dirs table id t draft.dir Tf) ∙ later df [] place (named_apart place df (tf_apart_df id id))
 
+-- the writing of the draft leads to a map with it
 pub draft_leads : (dirs : List (List ℕ)) (table : Table) (id : ℕ) (draft : Draft) (body tf control : List ℕ) → IsTurn dirs table id → tf ≡ name_of Tf id → control ≡ spelled draft.control → (f g : FileMap) → HasBody dirs table (stored id draft body) f → HasWritten (draft.dir, tf) control f g → HasDraft dirs table (stored id draft body) g
 draft_leads dirs table id draft body tf control t e k f g p h =
     let s : Stored = stored id draft body in
@@ -123,6 +128,7 @@ pub record AreNamed (id : ℕ) (tf qf : List ℕ) : Type 0 where
   pub tf_is : tf ≡ name_of Tf id
   pub qf_is : qf ≡ name_of Qf id
 
+-- the renaming of the draft leads to a map that is clean for the table after
 pub renamed_leads : (dirs : List (List ℕ)) (table : Table) (id : ℕ) (draft : Draft) (body tf qf : List ℕ) → IsTurn dirs table id → AreNamed id tf qf → (f g : FileMap) → HasDraft dirs table (stored id draft body) f → HasRenamed draft.dir tf qf f g → IsClean dirs (after table (Accept draft body)) g
 renamed_leads dirs table id draft body tf qf t n f g p r =
     let s : Stored = stored id draft body in
@@ -132,6 +138,7 @@ renamed_leads dirs table id draft body tf qf t n f g p r =
     let all : AreFiles dirs (files_of (table.entries ++ s ∷ [])) g = subst (λ (q : FileMap). AreFiles dirs q g) (sym (files_more table.entries s)) files in
     subst (λ (q : ℕ). AreFiles dirs (files_of (table.entries ++ stored q draft body ∷ [])) g) (sym t.next) all
 
+-- a stop at the renaming leaves the table before or after
 pub rename_safe : (dirs : List (List ℕ)) (table : Table) (id : ℕ) (draft : Draft) (body tf qf : List ℕ) → IsTurn dirs table id → AreNamed id tf qf → (f g : FileMap) → HasDraft dirs table (stored id draft body) f → IsSame f g ⊎ HasRenamed draft.dir tf qf f g → IsEither dirs table (Accept draft body) g
 rename_safe dirs table id draft body tf qf t n f g p (inl same) = inl (λ q among. ⊎_elim (λ (e : bytes_at f q ≡ bytes_at (files_of table.entries) q). inl (same q ∙ e)) (λ (u : IsUnfinished table.next q.1). inr u) (p.stands q among))
 rename_safe dirs table id draft body tf qf t n f g p (inr r) = inr (clean_stands dirs (after table (Accept draft body)) g (renamed_leads dirs table id draft body tf qf t n f g p r))

@@ -1,4 +1,5 @@
--- The stages of a commit, pointwise, and that each image before the deciding renaming is one of 'before'.
+-- The stages of a commit, pointwise, and that each image before the deciding renaming is one of
+-- 'before'.
 use Rattle.std.proofs.Common.{◌≡◌, ◌≢◌, ⊎_elim, ℕ, ◌≤◌, List, [], ◌∷◌, ◌++◌, Some, None, refl, sym, ◌∙◌, ap, subst, Contains}
 use Rattle.std.specs.Prelude.{All}
 use Rattle.std.proofs.lemmas.List.Elements.{All-nil, All-push, All-weaker, All-contains, All-contains_itself, Contains-append_left, Contains-push}
@@ -15,6 +16,7 @@ use Rattle.spool_store.specs.Writes.{AreWritten, HasBody, HasDraft, HasNewDraft,
 use Rattle.spool_store.proofs.Places.{kinds_of, ids_of}
 use Rattle.spool_store.proofs.Replacing.{place_or}
 
+-- a map in which nothing is written yet is the map before
 pub written_none : (f : FileMap) → AreWritten [] f f
 written_none f = record { at = λ p. other refl; holds = All-nil (HoldsBoth f) }
 
@@ -90,12 +92,14 @@ raise done s f g h within far fresh w r = record {
   control = r.holds ∙ w.draft;
 }
 
--- each of these maps, and what a write in them may leave, is one of 'before' as long as no parent has its name
+-- each of these maps, and what a write in them may leave, is one of 'before' as long as no parent
+-- has its name
 pub put_before : (next : ℕ) (drafted : Place → Type 0) (done children : List Stored) (f g : FileMap) (p : Place) → ((t : Stored) → Contains done t → Contains children t × (next ≤ t.id) × IsId t.id) → IsPut done f g p → IsMidway next drafted children f g p
 put_before next drafted done children f g p among (control t k q holds) = of_child t (among t k).0 q holds
 put_before next drafted done children f g p among (body t k q holds) = let a = among t k in IsMidway.body t.dir t.id a.1 a.2 q
 put_before next drafted done children f g p among (other q) = as_before q
 
+-- a place that didn't change is as far as it was
 pub midway_same : (next : ℕ) (drafted : Place → Type 0) (children : List Stored) (f g h : FileMap) (p : Place) → bytes_at h p ≡ bytes_at g p → IsMidway next drafted children f g p → IsMidway next drafted children f h p
 midway_same next drafted children f g h p e (as_before q) = as_before (e ∙ q)
 midway_same next drafted children f g h p e (IsMidway.body dir id le within q) = IsMidway.body dir id le within q

@@ -25,9 +25,11 @@ decided : (b : Bool) → (b ≡ true) ⊎ (b ≡ false)
 decided true = inl refl
 decided false = inr refl
 
+-- directories are equal or not
 pub same_dir : (d e : List ℕ) → (d ≡ e) ⊎ (d ≢ e)
 same_dir d e = ⊎_elim (λ (t : bytes_eq d e ≡ true). inl ((bytes_decides d e).0 t)) (λ (f : bytes_eq d e ≡ false). inr (λ q. true≢false (sym ((bytes_decides d e).1 q) ∙ f))) (decided (bytes_eq d e))
 
+-- kinds of files are equal or not
 pub kind_or : (k j : Kind) → (k ≡ j) ⊎ (k ≢ j)
 kind_or Df Df = inl refl
 kind_or Df Qf = inr (λ e. cc e)
@@ -62,6 +64,7 @@ one_spot dirs f s t c b live there e = ⊎_elim (λ (q : t ≡ s). q)
     (λ (twin : HasTwin dirs f s). absurd (live_plain live (twice s (live_read live).bytes (live_read live).there twin)))
     (same_or_twin dirs f s t b there e)
 
+-- an id has one live control file, which says one control
 pub one_live : (dirs : List (List ℕ)) (f : FileMap) (s t : Spot) (c d : Control) → IsLive dirs f s c → IsLive dirs f t d → t.id ≡ s.id → (t ≡ s) × (c ≡ d)
 one_live dirs f s t c d live other e =
     let q : t ≡ s = one_spot dirs f s t c (live_read other).bytes live (live_read other).there e in
@@ -86,6 +89,7 @@ same_stands dirs table f g h = stands_alike dirs table f g (record { controls = 
 pub contains_head : {X : Type 0} (x : X) (xs : List X) → Contains (x ∷ xs) x
 contains_head x xs = (zero, omega arith, refl)
 
+-- what a list has, the list with one more before it has
 pub contains_tail : {X : Type 0} (x y : X) (xs : List X) → Contains xs y → Contains (x ∷ xs) y
 contains_tail x y xs h = (suc h.0, omega (arith, h.1), h.2)
 
@@ -93,6 +97,7 @@ contains_at : {X : Type 0} (x y : X) (xs : List X) (k : ℕ) → k < length (x �
 contains_at x y xs zero lt e = inl e
 contains_at x y xs (suc k) lt e = inr (k, omega (arith, lt), e)
 
+-- what a list has is its first or in the rest
 pub contains_cases : {X : Type 0} (x y : X) (xs : List X) → Contains (x ∷ xs) y → (x ≡ y) ⊎ Contains xs y
 contains_cases x y xs h = contains_at x y xs h.0 h.1 h.2
 
@@ -100,10 +105,12 @@ above_head : (n : ℕ) (xs : List Stored) → AllByRecursion (λ y. nat_cmp n y 
 above_head n [] h = All-nil (λ (s : Stored). n < s.id)
 above_head n (x ∷ xs) h = All-cons (λ (s : Stored). n < s.id) x xs (ranked n x.id Less (sym h.0)) (above_head n xs h.1)
 
+-- the first of entries in order of id has the least id
 pub sorted_head : (x s : Stored) (xs : List Stored) → IsStrictlySortedBy nat_cmp (ids (x ∷ xs)) → Contains xs s → x.id < s.id
 unfolding IsStrictlySortedBy
 sorted_head x s xs h k = All-contains (λ (q : Stored). x.id < q.id) xs s (above_head x.id xs h.0) k
 
+-- without the first, entries in order of id are in order
 pub sorted_tail : (x : Stored) (xs : List Stored) → IsStrictlySortedBy nat_cmp (ids (x ∷ xs)) → IsStrictlySortedBy nat_cmp (ids xs)
 unfolding IsStrictlySortedBy
 sorted_tail x xs h = h.1

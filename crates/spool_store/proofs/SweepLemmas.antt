@@ -53,6 +53,7 @@ becomes_read None (Some g) P Q h to = absurd h
 becomes_read (Some f) None P Q h to = absurd h
 becomes_read (Some f) (Some g) P Q h to = λ p. subst Q (sym h.0) (to f p)
 
+-- calls that only read lead to what follows from the fact before
 pub moves_read : (a b : Spooled) (P Q R : FileMap → Type 0) → Reads a b → ((g : FileMap) → P g → Q g) → ((g : FileMap) → P g → R g) → Moves a b P Q R
 moves_read a b P Q R h to any = record {
   later = h.later;
@@ -65,9 +66,11 @@ moves_read a b P Q R h to any = record {
 pub counts_none : {T : Type 0} (a : Spooled) (x : T) → Counts {T = T} a a (Ok x)
 counts_none a x = record { steps = moves_none a Never Never Never (λ g n. n); later = le_refl a.faults; never = λ e. cc e; cause = λ e. absurd (cc e); calm = inr refl }
 
+-- want of memory, where no call was made, counts no fault
 pub counts_starved : {T : Type 0} (a : Spooled) (r : Result T StoreFault) → r ≡ Err NoMemory → Counts {T = T} a a r
 counts_starved {T} a r is = subst (Counts {T = T} a a) (sym is) (record { steps = moves_none a Never Never Never (λ g n. n); later = le_refl a.faults; never = λ e. cc e; cause = λ e. absurd (cc e); calm = inr refl })
 
+-- calls that went well and those after them count their faults together
 pub counts_then : {T U : Type 0} (a b c : Spooled) (x : T) (r : Result U StoreFault) → Counts {T = T} a b (Ok x) → Counts {T = U} b c r → Counts {T = U} a c r
 counts_then {T} {U} a b c x r h k =
     let same : b.faults ≡ a.faults = ⊎_elim (λ (e : IsErrOf {T = T} (Ok x) SpoolFault). absurd (cc e)) (λ (q : b.faults ≡ a.faults). q) h.calm in
@@ -79,6 +82,7 @@ counts_then {T} {U} a b c x r h k =
       calm = ⊎_elim (λ (e : IsErrOf r SpoolFault). inl e) (λ (e : c.faults ≡ b.faults). inr (e ∙ same)) k.calm;
     }
 
+-- a failure that is handed on counts as the first did
 pub counts_err : {T U : Type 0} (a b : Spooled) (e : StoreFault) (r : Result U StoreFault) → r ≡ Err e → Counts {T = T} a b (Err e) → Counts {T = U} a b r
 counts_err {T} {U} a b e r is h = subst (Counts {T = U} a b) (sym is) (record {
   steps = h.steps;
@@ -150,6 +154,7 @@ may_more dirs f done more x (a_body kind before within dead unwanted decided) = 
 one_item : {Y : Type 0} (x y : Y) → Contains (x ∷ []) y → x ≡ y
 one_item x y c = ⊎_elim (λ (was : Contains [] y). absurd (none_in y was)) (λ (e : x ≡ y). e) (Contains-push_cases [] x y c)
 
+-- what the image of a list has is the image of one that the list has
 pub of_map : {X Y : Type 0} (n : X → Y) (xs : List X) (y : Y) → Contains (map n xs) y → (x : X) × Contains xs x × (n x ≡ y)
 of_map n [] y c = absurd (none_in y c)
 of_map n (x ∷ xs) y c = ⊎_elim
@@ -219,6 +224,7 @@ finish_more dirs f done xs x kinds may = record {
 pub same_place : (d e n m : List ℕ) → d ≡ e → n ≡ m → ◌≡◌ {A = Place} (d, n) (e, m)
 same_place d e n m p q = λ i. (p i, q i)
 
+-- the removal of a file that may go leads to a map without it, or to a tidied one
 pub remove_at : {T E : Type 0} (a b : Spooled) (dirs : List (List ℕ)) (f : FileMap) (done : List Place) (x : Named) (p : Place) (r : Result T E) → place_named dirs x ≡ p → MayGo dirs f done x → Calls a b (λ g h. IsSame g h ⊎ HasRemoved p g h) (HasRemoved p) (IsOk r) → Moves a b (IsSweptOf dirs f done) (Ends r (IsSweptOf dirs f (done ++ place_named dirs x ∷ [])) (IsTidied dirs f)) (IsTidied dirs f)
 remove_at a b dirs f done x p r e may call = remove_moves a b dirs f done x r may (subst (λ (q : Place). Calls a b (λ g h. IsSame g h ⊎ HasRemoved q g h) (HasRemoved q) (IsOk r)) (sym e) call)
 
@@ -235,20 +241,26 @@ absent_moves a b dirs f done x reads none = moves_with a b (λ g. bytes_at g (pl
 pub read_moves : (a b : Spooled) (dirs : List (List ℕ)) (f : FileMap) (done : List Place) → Reads a b → Moves a b (IsSweptOf dirs f done) (IsSweptOf dirs f done) (IsTidied dirs f)
 read_moves a b dirs f done reads = moves_read a b _ _ _ reads (λ g s. s) (λ g s. s.tidied)
 
+-- a reading that fails leaves a tidied map
 pub read_fails : (a b : Spooled) (dirs : List (List ℕ)) (f : FileMap) (done : List Place) → Reads a b → Moves a b (IsSweptOf dirs f done) (IsTidied dirs f) (IsTidied dirs f)
 read_fails a b dirs f done reads = moves_read a b _ _ _ reads (λ g s. s.tidied) (λ g s. s.tidied)
 
+-- where nothing was read at a place, nothing lies there
 pub none_at : (told : Option FileMap) (p q : Place) (o : Option (List ℕ)) → p ≡ q → o ≡ None → ((f : FileMap) → told ≡ Some f → o ≡ bytes_at f q) → IfSome told (λ g. bytes_at g p ≡ None)
 none_at told p q o e none h = if_some told (λ g. bytes_at g p ≡ None) (λ f is. ap (bytes_at f) e ∙ sym (h f is) ∙ none)
 
+-- where bytes were read at a place, a file lies there
 pub some_at : (told now : Option FileMap) (p q : Place) (o : Option (List ℕ)) (b : List ℕ) → p ≡ q → now ≡ told → o ≡ Some b → ((f : FileMap) → told ≡ Some f → o ≡ bytes_at f q) → IfSome now (λ g. IsSome (bytes_at g p))
 some_at told now p q o b e same some h = if_some now (λ g. IsSome (bytes_at g p)) (λ f is. subst (λ (z : Option (List ℕ)). IsSome z) (sym (ap (bytes_at f) e ∙ sym (h f (sym same ∙ is)) ∙ some)) refl)
 
+-- the directory and the name of a queue file are its place
 pub rename_place : (dirs : List (List ℕ)) (x : Named) (kind : Kind) (dir name : List ℕ) (id : ℕ) → x.kind ≡ kind → dir ≡ dir_at dirs x.dir → x.id ≡ id → name ≡ name_of kind id → place_named dirs x ≡ (dir, name)
 rename_place dirs x kind dir name id k d i n = same_place (dir_at dirs x.dir) dir (name_of x.kind x.id) name (sym d) (ap (λ (q : Kind). name_of q x.id) k ∙ ap (λ (q : ℕ). name_of kind q) i ∙ sym n)
 
+-- no names add no places
 pub places_none : (dirs : List (List ℕ)) (done : List Place) → done ≡ done ++ places dirs []
 places_none dirs done = sym (append-nil done)
 
+-- the first so many of control files are control files
 pub kinds_take : (xs : List Named) (i : ℕ) → ((x : Named) → Contains xs x → x.kind ≡ Qf) → (x : Named) → Contains (take i xs) x → x.kind ≡ Qf
 kinds_take xs i h x c = h x (subst (λ (q : List Named). Contains q x) (take-append-drop i xs) (Contains-append_left (take i xs) (drop i xs) x c))

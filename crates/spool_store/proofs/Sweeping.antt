@@ -118,6 +118,7 @@ still_there dirs g h s spot r t b there = ⊎_elim
     (λ (ne : t ≢ s). record { spot = there.spot; there = sym (r.others (spot_place t) (apart_at dirs s t spot there.spot ne)) ∙ there.there })
     (spot_or dirs t s)
 
+-- a tidied map without a dead control file is tidied
 pub drop_control : (dirs : List (List ℕ)) (f g h : FileMap) (s : Spot) → IsDead dirs f s → IsTidied dirs f g → HasRemoved (spot_place s) g h → IsTidied dirs f h
 drop_control dirs f g h s dead tidied r =
     let its = dead.there.spot in
@@ -138,9 +139,11 @@ there_stays dirs f g s b qf there (gone e dead) = absurd (let z : Some b ≡ Non
 there_stays dirs f g s b qf there (moved m) = absurd (let z : Some b ≡ None = sym there.there ∙ m.gone in cc z)
 there_stays dirs f g s b qf there (came sf m) = absurd (let z : Qf ≡ Sf = sym qf ∙ sf in cc z)
 
+-- the spot of the finished control file of an id is one of the directories'
 pub sf_spot : (dirs : List (List ℕ)) (s : Spot) → IsSpot dirs s → IsSpot dirs (as_kind Sf s)
 sf_spot dirs s spot = record { among = spot.among; kind = inr refl; within = spot.within }
 
+-- a move to the finished name changes nothing at other spots
 pub elsewhere : (dirs : List (List ℕ)) (f g h : FileMap) (s : Spot) (c : Control) → IsMove dirs f g h s c → (t : Spot) → IsSpot dirs t → t ≢ s → t ≢ as_kind Sf s → bytes_at h (spot_place t) ≡ bytes_at g (spot_place t)
 elsewhere dirs f g h s c m t spot ne nor = m.renamed.others (spot_place t) (apart_at dirs s t m.there.spot spot ne) (apart_at dirs (as_kind Sf s) t (sf_spot dirs s m.there.spot) spot nor)
 
@@ -184,6 +187,7 @@ move_back dirs f g h s c m t b there = ⊎_elim
     (spot_or dirs t (as_kind Sf s)))
     (spot_or dirs t s)
 
+-- a tidied map in which a live control file moved to its finished name is tidied
 pub move_live : (dirs : List (List ℕ)) (f g h : FileMap) (s : Spot) (c : Control) → IsMove dirs f g h s c → IsTidied dirs f g → IsTidied dirs f h
 move_live dirs f g h s c m tidied =
     let its = m.there.spot in
@@ -224,6 +228,7 @@ named_tidied dirs f g h id (in_name dir Tf bytes among within there) = ⊎_elim
     (h.drafts dir id among within)
 named_tidied dirs f g h id (in_name dir Df bytes among within there) = named_body dirs f g dir id bytes among within there (h.bodies dir id among within)
 
+-- a tidied map of a tidy one is tidy
 pub tidied_tidy : (dirs : List (List ℕ)) (next : ℕ) (f g : FileMap) → IsTidied dirs f g → IsTidy dirs next f → IsTidy dirs next g
 tidied_tidy dirs next f g h tidy = record {
   whole = λ t b there plain.
@@ -242,11 +247,13 @@ body_stays : (dirs : List (List ℕ)) (f g : FileMap) (s : Spot) (dir : List ℕ
 body_stays dirs f g s dir id e k (IsTidiedBody.stays q) = q
 body_stays dirs f g s dir id e k (IsTidiedBody.gone q strange wanted) = absurd (strange s e k)
 
+-- a tidied map has the strange control files and the bodies of their ids as before
 pub strange_keeps : (dirs : List (List ℕ)) (f g : FileMap) → IsTidied dirs f g → (s : Spot) → IsStrange dirs f s → (bytes_at g (spot_place s) ≡ bytes_at f (spot_place s)) × ((dir : List ℕ) → Contains dirs dir → bytes_at g (at dir Df s.id) ≡ bytes_at f (at dir Df s.id))
 strange_keeps dirs f g h s k =
     let there = strange_control k in
     (strange_stays dirs f g s (h.controls s there.1.spot) k, λ dir among. body_stays dirs f g s dir s.id refl k (h.bodies dir s.id among there.1.spot.within))
 
+-- a control file that is strange in a tidied map was strange at this spot
 pub tidied_same : (dirs : List (List ℕ)) (f g : FileMap) → IsTidied dirs f g → (s : Spot) → IsStrange dirs g s → IsStrange dirs f s
 tidied_same dirs f g h s k =
     let there = strange_control k in
@@ -269,6 +276,7 @@ owner : (dirs : List (List ℕ)) (g : FileMap) (id : ℕ) (s : Spot) (c : Contro
 owner dirs g id s c i live needs (inl qf) = of_queued s (live_read live).bytes i qf (live_read live).there
 owner dirs g id s c i live needs (inr sf) = of_finished s c i sf (live_read live) (λ rows. live_plain live (reopened s c (live_read live) sf rows)) needs
 
+-- a swept map is clean
 pub swept_clean : (dirs : List (List ℕ)) (g : FileMap) → IsSwept dirs g → IsClean dirs g
 swept_clean dirs g swept = record {
   drafts = swept.drafts;

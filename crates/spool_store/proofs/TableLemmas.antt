@@ -20,6 +20,7 @@ use Rattle.spool_store.specs.Standing.{control_file, body_file, files_of}
 use Rattle.mail_base.proofs.FileNames.{same_number}
 use Rattle.spool_store.proofs.PlaceLemmas.{later, named_apart}
 
+-- commands one after the other make of a table what all of them make
 pub applied_more : (table : Table) (some more : List Command) → applied table (some ++ more) ≡ applied (applied table some) more
 applied_more table [] more = refl
 applied_more table (command ∷ some) more = applied_more (after table command) some more

@@ -21,6 +21,7 @@ use Rattle.spool_store.proofs.Finding.{none_in}
 use Rattle.spool_store.proofs.Reading.{one_control}
 use Rattle.spool_store.proofs.Carrying.{live_read}
 
+-- of no control files no entry is told
 pub told_none : (dirs : List (List ℕ)) (f : FileMap) → AreTold dirs f [] []
 told_none dirs f = record { each = λ e c. absurd (none_in e c); all = λ x c among live. absurd (none_in x among) }
 
@@ -43,6 +44,7 @@ told_more dirs f found x d out new live e h = rw e (record {
       (Contains-push_cases found x y among);
 })
 
+-- the entries told of the first so many and the next are those of one more
 pub told_next : (dirs : List (List ℕ)) (f : FileMap) (found : List Found) (i : ℕ) (x : Found) (out : List Entry) → i < length found → x ≡ get_or found i x → AreTold dirs f (take i found ++ x ∷ []) out → AreTold dirs f (take (i + 1) found) out
 told_next dirs f found i x out lt is h = subst (λ (q : List Found). AreTold dirs f q out) (sym (take_more found i x lt ∙ ap (λ (y : Found). take i found ++ y ∷ []) (sym is))) h
 
@@ -63,15 +65,18 @@ named_next xs i x old new lt is kept above h y c = ⊎_elim
     (λ (q : x ≡ y). subst (λ (z : Named). z.id < new) q above)
     (Contains-push_cases (take i xs) x y (subst (λ (l : List Named). Contains l y) (take_more xs i x lt ∙ ap (λ (z : Named). take i xs ++ z ∷ []) (sym is)) c))
 
+-- the next id is 1 or the one after an id that is named
 pub named_least : (xs : List Named) (i : ℕ) (x : Named) (old new : ℕ) → i < length xs → x ≡ get_or xs i x → (new ≡ old) ⊎ (new ≡ x.id + 1) → (old ≡ 1) ⊎ ((y : Named) × Contains xs y × (old ≡ y.id + 1)) → (new ≡ 1) ⊎ ((y : Named) × Contains xs y × (new ≡ y.id + 1))
 named_least xs i x old new lt is which h = ⊎_elim
     (λ (same : new ≡ old). ⊎_elim (λ (one : old ≡ 1). inl (same ∙ one)) (λ (y : (z : Named) × Contains xs z × (old ≡ z.id + 1)). inr (y.0, y.1, same ∙ y.2)) h)
     (λ (next : new ≡ x.id + 1). inr (x, (i, lt, sym is), next))
     which
 
+-- behind no control files the next id stays
 pub past_none : (n : ℕ) → IsPast [] n n
 past_none n = record { kept = le_refl n; above = λ x p c names. absurd (none_in x c); least = inl refl }
 
+-- a control file more puts the next id past the parents that it names
 pub past_more : (found : List Found) (x : Found) (before old new : ℕ) → old ≤ new → ((p : Parent) → Names x p → p.id < new) → (new ≡ old) ⊎ ((p : Parent) × Names x p × (new ≡ p.id + 1)) → IsPast found before old → IsPast (found ++ x ∷ []) before new
 past_more found x before old new kept above which h = record {
   kept = le_trans h.kept kept;
@@ -88,6 +93,7 @@ past_more found x before old new kept above which h = record {
       which;
 }
 
+-- a next id past the first so many and the next is past one more
 pub past_next : (found : List Found) (i : ℕ) (x : Found) (before after : ℕ) → i < length found → x ≡ get_or found i x → IsPast (take i found ++ x ∷ []) before after → IsPast (take (i + 1) found) before after
 past_next found i x before after lt is h = subst (λ (q : List Found). IsPast q before after) (sym (take_more found i x lt ∙ ap (λ (y : Found). take i found ++ y ∷ []) (sym is))) h
 
@@ -122,5 +128,6 @@ next_by dirs f names found first next hn hf above least past = record {
       past.least;
 }
 
+-- the next id stays or is the one after a number
 pub which_number : (next result number id : ℕ) → number ≡ id → (result ≡ next) ⊎ (result ≡ number + 1) → (result ≡ next) ⊎ (result ≡ id + 1)
 which_number next result number id e which = ⊎_elim (λ (q : result ≡ next). inl q) (λ (q : result ≡ number + 1). inr (q ∙ ap (λ (n : ℕ). n + 1) e)) which

@@ -19,10 +19,12 @@ pub data Went (dirs : List (List ℕ)) (f g : FileMap) : Spot → Spot → Type 
   stayed : (s : Spot) → bytes_at g (spot_place s) ≡ bytes_at f (spot_place s) → Went dirs f g s s
   went : (s : Spot) → HasMoved dirs f g s → Went dirs f g s (as_kind Sf s)
 
+-- a control file that went on keeps its id
 pub went_id : {dirs : List (List ℕ)} {f g : FileMap} {s t : Spot} → Went dirs f g s t → t.id ≡ s.id
 went_id (stayed s e) = refl
 went_id (went s m) = refl
 
+-- a control file that went on keeps its directory
 pub went_dir : {dirs : List (List ℕ)} {f g : FileMap} {s t : Spot} → Went dirs f g s t → t.dir ≡ s.dir
 went_dir (stayed s e) = refl
 went_dir (went s m) = refl
@@ -32,6 +34,7 @@ pub went_there : {dirs : List (List ℕ)} {f g : FileMap} {s t : Spot} → Went 
 went_there (stayed s e) b there = record { spot = there.spot; there = e ∙ there.there }
 went_there (went s m) b there = record { spot = record { among = there.spot.among; kind = inr refl; within = there.spot.within }; there = m.holds ∙ there.there }
 
+-- where a control file went, its bytes are those of the spot it came from
 pub went_back : {dirs : List (List ℕ)} {f g : FileMap} {s t : Spot} → Went dirs f g s t → (b : List ℕ) → IsControl dirs g t b → IsControl dirs f s b
 went_back (stayed s e) b there = record { spot = there.spot; there = sym e ∙ there.there }
 went_back (went s m) b there = record { spot = (live_read m.live).there.spot; there = sym m.holds ∙ there.there }
@@ -59,6 +62,7 @@ live_goes_by dirs f g s c (came sf m) live =
     let q : s ≡ as_kind Qf s = one_spot dirs f (as_kind Qf s) s m.control read.bytes m.live read.there refl in
     absurd (let z : Sf ≡ Qf = sym sf ∙ ap (λ (w : Spot). w.kind) q in cc z)
 
+-- each live control file went somewhere in a tidied map
 pub live_goes : (dirs : List (List ℕ)) (f g : FileMap) → IsTidied dirs f g → (s : Spot) (c : Control) → IsLive dirs f s c → (t : Spot) × Went dirs f g s t
 live_goes dirs f g h s c live = live_goes_by dirs f g s c (h.controls s (live_read live).there.spot) live
 
@@ -69,6 +73,7 @@ origin_by dirs f g t b there (gone e dead) = absurd (let z : Some b ≡ None = s
 origin_by dirs f g t b there (moved m) = absurd (let z : Some b ≡ None = sym there.there ∙ m.gone in cc z)
 origin_by dirs f g t b there (came sf m) = (as_kind Qf t, subst (Went dirs f g (as_kind Qf t)) (λ j. record { dir = t.dir; kind = sym sf j; id = t.id }) (went (as_kind Qf t) m))
 
+-- each control file of a tidied map came from somewhere
 pub origin : (dirs : List (List ℕ)) (f g : FileMap) → IsTidied dirs f g → (t : Spot) (b : List ℕ) → IsControl dirs g t b → (s : Spot) × Went dirs f g s t
 origin dirs f g h t b there = origin_by dirs f g t b there (h.controls t there.spot)
 
@@ -110,6 +115,7 @@ still_carries dirs f g h = record {
   above = λ s t c p a r read u k. (a, record { same = refl; strange = k });
 }
 
+-- strange control files are strange in a tidied map
 pub tidied_strange : (dirs : List (List ℕ)) (f g : FileMap) → IsTidied dirs f g → (s : Spot) → IsStrange dirs f s → IsStrange dirs g s
 tidied_strange dirs f g h s k = strange_carries dirs f g (IsStill dirs f) (still_carries dirs f g h) k s (record { same = refl; strange = k })
 
@@ -122,6 +128,7 @@ closed_kind : {dirs : List (List ℕ)} {f g : FileMap} {s t : Spot} → Went dir
 closed_kind (stayed s e) c read rows sf = sf
 closed_kind (went s m) c read rows sf = absurd (m.closed (subst IsOpen (one_control _ _ s c m.control read (live_read m.live)) rows))
 
+-- what a control file says where it went, it said where it came from
 pub read_back : {dirs : List (List ℕ)} {f g : FileMap} {s t : Spot} → Went dirs f g s t → (c : Control) → IsRead dirs g t c → IsRead dirs f s c
 read_back r c read = record { bytes = read.bytes; there = went_back r read.bytes read.there; says = read.says }
 
@@ -149,9 +156,11 @@ came_carries dirs f g h = record {
   above = λ t s c p a r read u k. let there = strange_control k in origin dirs f g h a there.0 there.1;
 }
 
+-- a control file that is strange in a tidied map was strange where it came from
 pub tidied_strange_back : (dirs : List (List ℕ)) (f g : FileMap) → IsTidied dirs f g → (t s : Spot) → Went dirs f g s t → IsStrange dirs g t → IsStrange dirs f s
 tidied_strange_back dirs f g h t s r k = strange_carries dirs g f (λ t s. Went dirs f g s t) (came_carries dirs f g h) k s r
 
+-- a strange control file stays at its spot
 pub strange_went : {dirs : List (List ℕ)} {f g : FileMap} {s t : Spot} → Went dirs f g s t → IsStrange dirs f s → s ≡ t
 strange_went (stayed s e) k = refl
 strange_went (went s m) k = absurd (live_plain m.live k)
@@ -165,6 +174,7 @@ tidied_live dirs f g h s t c r live = live_carries dirs f g (Went dirs f g) (rec
   above = λ s t c p a d r read u live le. inl (live_goes dirs f g h a d live);
 }) live t r
 
+-- a control file that is live in a tidied map was live where it came from
 pub tidied_live_back : (dirs : List (List ℕ)) (f g : FileMap) → IsTidied dirs f g → (t s : Spot) (c : Control) → Went dirs f g s t → IsLive dirs g t c → IsLive dirs f s c
 tidied_live_back dirs f g h t s c r live = live_carries dirs g f (λ t s. Went dirs f g s t) (record {
   same_id = λ t s r. sym (went_id r);
@@ -185,6 +195,7 @@ each_by dirs f g h e kind t r live holds =
       body = λ needs. body_back dirs f g t e.control e.dir e.id (h.bodies e.dir e.id spot.among spot.within) d i (live_read live) needs ∙ holds needs;
     }
 
+-- a tidied map stands for the tables that the map stood for
 pub tidied_stands : (dirs : List (List ℕ)) (table : Table) (f g : FileMap) → IsTidied dirs f g → StandsFor dirs table f → StandsFor dirs table g
 tidied_stands dirs table f g h stands = record {
   ascending = stands.ascending;

@@ -1,4 +1,5 @@
--- Before the renaming that decides: children wait for their parent, and the map stands for the table before.
+-- Before the renaming that decides: children wait for their parent, and the map stands for the
+-- table before.
 use Rattle.std.proofs.Common.{◌≡◌, ◌≢◌, ⊎_elim, ℕ, ◌<◌, ◌≤◌, List, Some, None, sym, ◌∙◌, ap, arith, Contains}
 use Rattle.std.proofs.lemmas.Bool.{cases_lt}
 use Rattle.std.proofs.lemmas.List.Elements.{All-contains, All-weaker}
