@@ -437,6 +437,7 @@ refused_read : (words : List (List ℕ)) (place : ℕ) (last : Result Saying ℕ
 refused_read words place (Err at) r e = inl (bad_word words place (stops words nothing 0 place (r ∙ ap (λ (p : ℕ). refused p) (same_denied at place e))))
 refused_read words place (Ok last) r e = inr (lacks words place last r (says words None None false 0 last r) last.job last.awaits_file refl refl e)
 
+-- words that the code refuses at a place are refused there
 pub is_refused : (words : List (List ℕ)) (place : ℕ) → command_line words ≡ Err place → IsRefusedAt words place
 is_refused words place e = refused_read words place (read_options nothing 0 words) refl e
 
@@ -460,12 +461,15 @@ refused_is words place (inr (inr is)) =
 
 -- ---- the law
 
+-- words are the command line of one mode
 pub one_mode : (words : List (List ℕ)) (mode other : Mode) → IsCommandLine words mode → IsCommandLine words other → mode ≡ other
 one_mode words mode other is also = same_mode mode other (sym (line_is words mode is) ∙ line_is words other also)
 
+-- words are refused at one place
 pub one_place : (words : List (List ℕ)) (place other : ℕ) → IsRefusedAt words place → IsRefusedAt words other → place ≡ other
 one_place words place other is also = same_denied place other (sym (refused_is words place is) ∙ refused_is words other also)
 
+-- words that are a command line aren't refused
 pub not_both : (words : List (List ℕ)) (mode : Mode) (place : ℕ) → IsCommandLine words mode → ¬ (IsRefusedAt words place)
 not_both words mode place line is = let both = sym (line_is words mode line) ∙ refused_is words place is in cc both
 
@@ -476,6 +480,7 @@ either_of : (words : List (List ℕ)) (read : Result Mode ℕ) → command_line 
 either_of words (Ok mode) e = inl (mode, is_line words mode e)
 either_of words (Err place) e = inr (place, is_refused words place e)
 
+-- words are a command line or are refused at a place
 pub either : (words : List (List ℕ)) → ((mode : Mode) × IsCommandLine words mode) ⊎ ((place : ℕ) × IsRefusedAt words place)
 either words = either_of words (command_line words) refl
 
@@ -485,6 +490,7 @@ fault_says : (words : List (List ℕ)) (fault : WordFault) → Fails fault (comm
 fault_says words (At place) is = is_refused words place is
 fault_says words NoMemory is = is
 
+-- what the code answers to words is what the definition says of them
 pub gives_says : (words : List (List ℕ)) (result : Result Mode WordFault) → Gives result (command_line words) → Says result words
 gives_says words (Ok mode) is = is_line words mode is
 gives_says words (Err fault) is = fault_says words fault is

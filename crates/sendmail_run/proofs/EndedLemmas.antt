@@ -29,6 +29,7 @@ match_no : (b : Bool) (P Q : Type 0) → b ≡ false → MatchBool b P Q → Q
 match_no true P Q e h = absurd (cc e)
 match_no false P Q e h = h
 
+-- where a test fails, what the other case asks for is enough
 pub no_match : (b : Bool) (P Q : Type 0) → b ≡ false → Q → MatchBool b P Q
 no_match true P Q e h = absurd (cc e)
 no_match false P Q e h = h
@@ -171,6 +172,7 @@ printed_quit maps config l ls quit = yes_match (is_quit l) _ _ quit (refl, refl)
 
 -- ---- where the answers stand
 
+-- before any byte is taken nothing is printed
 pub stands_none : (basis : Basis) (partial : Partial) → Keeps partial [] → Stands basis basis.config [] partial []
 stands_none basis partial keeps = record { raws = []; rest = []; cut = record { whole = refl; each = refl; last = refl }; printed = (refl, refl); on = refl; keeps = keeps }
 
@@ -236,9 +238,11 @@ stands_lines : (basis : Basis) (current : Config) (taken text : List ℕ) (parti
 stands_lines basis current taken text partial s =
     ap ended_lines s.cut.whole ∙ ended_lines_cut s.raws s.rest s.cut.each ∙ ap (λ (q : List ℕ). lines_of s.raws ++ physical_lines q) (ended_none s.rest s.cut.last) ∙ append-nil (lines_of s.raws)
 
+-- what is printed so far is the text of the lines that ended
 pub stands_printed : (basis : Basis) (current : Config) (taken text : List ℕ) (partial : Partial) → Stands basis current taken partial text → Printed basis.maps basis.config (ended_lines taken) text current
 stands_printed basis current taken text partial s = subst (λ (ls : List (List ℕ)). Printed basis.maps basis.config ls text current) (sym (stands_lines basis current taken text partial s)) s.printed
 
+-- the lines that ended so far have no /quit
 pub stands_on : (basis : Basis) (current : Config) (taken text : List ℕ) (partial : Partial) → Stands basis current taken partial text → holds_quit taken ≡ false
 stands_on basis current taken text partial s = ap (list_any is_quit) (stands_lines basis current taken text partial s) ∙ s.on
 
@@ -271,6 +275,7 @@ last_printed : (maps : Loaded) (config after : Config) (rest : List ℕ) (reply 
 last_printed maps config after [] reply none h = none_by maps config after reply h
 last_printed maps config after (b ∷ bs) reply none h = subst (λ (ls : List (List ℕ)). Printed maps config ls (text_of reply) after) (sym (line_last b bs none)) (last_by maps config after (b ∷ bs) reply h)
 
+-- the answer to the last line, which has no end, completes the text of all lines
 pub stands_last : (basis : Basis) (current after : Config) (taken text : List ℕ) (reply : Reply) (partial : Partial) → (s : Stands basis current taken partial text) → Answers basis.maps current s.rest reply after
     → Printed basis.maps basis.config (physical_lines taken) (text ++ text_of reply) after
 stands_last basis current after taken text reply partial s h =
@@ -280,6 +285,7 @@ stands_last basis current after taken text reply partial s h =
 
 -- ---- the first LF
 
+-- before the first LF no line ends
 pub none_before : (text : List ℕ) (k : ℕ) → IsFirstByte (is_byte 10) text (Some k) → has_end (take k text) ≡ false
 none_before text k found =
     list_any_none (is_byte 10) (take k text) (λ j d lt.
@@ -287,9 +293,11 @@ none_before text k found =
     let high : j < length text = omega (arith, found.0.high) in
     ap (is_byte 10) (get_or-take k text j d low ∙ get_or_default text j d 0 high) ∙ false_from_ne_true _ (found.0.before j (omega arith) low))
 
+-- where a search finds no LF, no line ends
 pub none_at_all : (text : List ℕ) → IsFirstByte (is_byte 10) text None → has_end text ≡ false
 none_at_all text none = list_any_none (is_byte 10) text (λ j d lt. ap (is_byte 10) (get_or_default text j d 0 lt) ∙ false_from_ne_true _ (none j (omega arith) lt))
 
+-- a text is its first line with the LF and what follows it
 pub cut_at : (text : List ℕ) (k : ℕ) → IsFirstByte (is_byte 10) text (Some k) → text ≡ (take k text ++ 10 ∷ []) ++ drop (k + 1) text
 cut_at text k found =
     let high : k < length text = found.0.high in
@@ -301,6 +309,7 @@ cut_at text k found =
 regroup4 : (a b c d : List ℕ) → ((a ++ b) ++ c) ++ d ≡ a ++ (b ++ (c ++ d))
 regroup4 a b c d = simp append_assoc
 
+-- one line more that ends is answered, and its text is printed behind the others
 pub line_step : (basis : Basis) (middle after : Config) (bytes taken text front rest x behind out0 out1 said : List ℕ) (reply : Reply) (p0 p1 p2 : Partial) → bytes ≡ front ++ rest → Stands basis middle (taken ++ front) p0 (text ++ out0)
     → has_end x ≡ false → rest ≡ (x ++ 10 ∷ []) ++ behind → ((r : List ℕ) → Keeps p0 r → Keeps p1 (r ++ x))
     → ((r : List ℕ) → Keeps p1 r → Answers basis.maps middle (strip_carriage_return r) reply after) → reply ≡ Lines said → out1 ≡ out0 ++ said → Keeps p2 []
@@ -313,6 +322,7 @@ line_step basis middle after bytes taken text front rest x behind out0 out1 said
       subst (λ (t : List ℕ). Stands basis after t p2 (text ++ out1)) (regroup4 taken front x (10 ∷ [])) line,
     )
 
+-- a line /quit that ends is answered, and completes the text
 pub quit_step : (basis : Basis) (middle after : Config) (bytes taken text front rest x behind out : List ℕ) (reply : Reply) (p0 p1 : Partial) → bytes ≡ front ++ rest → Stands basis middle (taken ++ front) p0 (text ++ out)
     → has_end x ≡ false → rest ≡ (x ++ 10 ∷ []) ++ behind → ((r : List ℕ) → Keeps p0 r → Keeps p1 (r ++ x))
     → ((r : List ℕ) → Keeps p1 r → Answers basis.maps middle (strip_carriage_return r) reply after) → reply ≡ Quit → Quits basis (taken ++ bytes) (text ++ out)
@@ -323,11 +333,13 @@ quit_step basis middle after bytes taken text front rest x behind out reply p0 p
     ap (λ (q : List ℕ). taken ++ q) (whole ∙ ap (λ (q : List ℕ). front ++ q) split) ∙ sym (ap (λ (q : List ℕ). q ++ behind) (regroup4 taken front x (10 ∷ [])) ∙ append_assoc taken (front ++ (x ++ 10 ∷ [])) behind ∙ ap (λ (q : List ℕ). taken ++ q) (append_assoc front (x ++ 10 ∷ []) behind)) in
     subst (λ (t : List ℕ). Quits basis t (text ++ out)) (sym all) quits
 
+-- what follows the last LF is kept as the front of the next line
 pub tail_step : (basis : Basis) (current : Config) (bytes taken text front rest out : List ℕ) (p0 p1 : Partial) → bytes ≡ front ++ rest → Stands basis current (taken ++ front) p0 (text ++ out)
     → has_end rest ≡ false → ((r : List ℕ) → Keeps p0 r → Keeps p1 (r ++ rest)) → Stands basis current (taken ++ bytes) p1 (text ++ out)
 tail_step basis current bytes taken text front rest out p0 p1 whole stands none keeps =
     subst (λ (t : List ℕ). Stands basis current t p1 (text ++ out)) (append_assoc taken front rest ∙ ap (λ (q : List ℕ). taken ++ q) (sym whole))
     (stands_tail basis current (taken ++ front) rest (text ++ out) p0 p1 stands none keeps)
 
+-- what stands behind a line is shorter than with it
 pub shorter : (rest x after : List ℕ) → rest ≡ (x ++ 10 ∷ []) ++ after → length after < length rest
 shorter rest x after e = omega (arith, ap length e, length-append (x ++ 10 ∷ []) after, length-append x (10 ∷ []))

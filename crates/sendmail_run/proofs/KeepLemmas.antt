@@ -74,6 +74,7 @@ kept_whole m rest front was f w no_cut =
     let le : length rest ≤ m = at_most m (length rest) below in
     f ∙ take_all m rest le
 
+-- a line that is told as cut is longer than what is kept of it
 pub kept_cut : (m : ℕ) (rest : List ℕ) (was : Bool) → was ≡ ltb m (length rest) → was ≡ true → m < length rest
 kept_cut m rest was w is = ltb-true m (length rest) (sym w ∙ is)
 
@@ -137,6 +138,7 @@ pub answer_of_whole : (maps : Loaded) (before after : Config) (partial : Partial
 answer_of_whole maps before after partial kept line r h is all =
     if_ok r _ _ (λ reply (a : Answers maps before line reply after). λ rest k. subst (λ (l : List ℕ). Answers maps before l reply after) (is ∙ ap strip_carriage_return (all rest k)) a) h
 
+-- an answer to the line that was kept whole is one to the rest of the input
 pub last_of_whole : (maps : Loaded) (before after : Config) (partial : Partial) (line : List ℕ) (r : Result Reply NoMemory) → IfOk r (λ reply. Answers maps before line reply after) → ((rest : List ℕ) → Keeps partial rest → line ≡ rest)
     → IfOk r (λ reply. (rest : List ℕ) → Keeps partial rest → Answers maps before rest reply after)
 last_of_whole maps before after partial line r h all =
@@ -148,6 +150,7 @@ pub answer_of_cut : (maps : Loaded) (config : Config) (partial : Partial) (front
 answer_of_cut maps config partial front r h f long =
     if_ok r _ _ (λ reply (e : reply ≡ Lines (cut_text front)). λ rest k. subst (λ (a : Reply). Answers maps config (strip_carriage_return rest) a config) (sym e) (cut_answers maps config rest front (long rest k) (f ∙ k.front))) h
 
+-- an answer that a line is too long is one to a rest of which only the front was kept
 pub last_of_cut : (maps : Loaded) (config : Config) (partial : Partial) (front : List ℕ) (r : Result Reply NoMemory) → IfOk r (λ reply. reply ≡ Lines (cut_text front)) → front ≡ partial.front → ((rest : List ℕ) → Keeps partial rest → most_kept < length rest)
     → IfOk r (λ reply. (rest : List ℕ) → Keeps partial rest → Answers maps config rest reply config)
 last_of_cut maps config partial front r h f long =
@@ -155,11 +158,13 @@ last_of_cut maps config partial front r h f long =
 
 -- ---- after a take
 
+-- bytes that fit are kept behind the front of the line
 pub took_all : (old : Partial) (more bytes : List ℕ) (room : ℕ) (r : Result (Unit {0}) NoMemory) → OnOk r (more ≡ old.front ++ bytes) → room ≡ most_kept - length old.front → length bytes ≤ room
     → OnOk r ((rest : List ℕ) → Keeps old rest → Keeps (record { front = more; is_cut = old.is_cut }) (rest ++ bytes))
 took_all old more bytes room r h e le = on_ok r _ _ (λ (is : more ≡ old.front ++ bytes). λ rest k.
     let kept = kept_all most_kept room rest old.front more bytes old.is_cut old.is_cut k.front k.cut e le is refl in record { front = kept.0; cut = kept.1 }) h
 
+-- of bytes that don't fit the front is kept, and the line is cut
 pub took_front : (old : Partial) (more bytes : List ℕ) (room : ℕ) → more ≡ old.front ++ take room bytes → room ≡ most_kept - length old.front → room < length bytes
     → (rest : List ℕ) → Keeps old rest → Keeps (record { front = more; is_cut = true }) (rest ++ bytes)
 took_front old more bytes room is e lt rest k =

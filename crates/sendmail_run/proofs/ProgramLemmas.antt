@@ -54,10 +54,12 @@ use Rattle.sendmail_run.proofs.ServingLemmas.{left_alone, not_used, serves_later
 untouched : (f0 f1 : FilesSeen) (i : SourceSeen) (o : SinkSeen) (l : Heard) (s : Spooled) (k : ClockSeen) → IsUntouched (world f0 i o l s k) (world f1 i o l s k)
 untouched f0 f1 i o l s k = record { idle = record { input = refl; output = refl }; alone = left_alone (core_seen l s k) }
 
+-- a run whose words are refused ends with the outcome of this fault
 pub ends_at_words : (words : List (List ℕ)) (f : FilesSeen) (i : SourceSeen) (o : SinkSeen) (l : Heard) (s : Spooled) (k : ClockSeen) (fault : WordFault) (outcome : Outcome) → outcome ≡ of_words fault → Fails fault words
     → Ends words (world f i o l s k) (world f i o l s k) outcome
 ends_at_words words f i o l s k fault outcome told fails = inl (record { fault = fault; told = told; fails = fails; untouched = untouched f f i o l s k; files = refl })
 
+-- a run whose configuration can't be read ends with the outcome of this fault
 pub ends_at_file : (words : List (List ℕ)) (f0 f1 : FilesSeen) (i : SourceSeen) (o : SinkSeen) (l : Heard) (s : Spooled) (k : ClockSeen) (mode : Mode) (fault : ConfigFault) (outcome : Outcome) → outcome ≡ of_config fault
     → IsCommandLine words mode → Begins mode.file f0 f1 (Err fault) → Ends words (world f0 i o l s k) (world f1 i o l s k) outcome
 ends_at_file words f0 f1 i o l s k mode fault outcome told said begins =
@@ -82,18 +84,21 @@ loads_since config f0 f1 f2 result map kept told asks =
     let same : f1 ≡ f0 = λ i. record { map = map i; faults = kept i } in
     subst (λ (f : FilesSeen). Loads config f f2 result) same (loads_here config f1 f2 result told asks)
 
+-- an address test whose maps can't be loaded ends with the outcome of this fault
 pub ends_at_maps : (words : List (List ℕ)) (f0 f1 f2 : FilesSeen) (i : SourceSeen) (o : SinkSeen) (l : Heard) (s : Spooled) (k : ClockSeen) (mode : Mode) (config : Config) (fault : MapsFault) (outcome : Outcome) → outcome ≡ of_maps fault
     → IsCommandLine words mode → mode.job ≡ Test → Begins mode.file f0 f1 (Ok config) → Loads config f0 f2 (Err fault) → Ends words (world f0 i o l s k) (world f2 i o l s k) outcome
 ends_at_maps words f0 f1 f2 i o l s k mode config fault outcome told said does begins loads =
     ends_at_work words (world f0 i o l s k) (world f2 i o l s k) mode Test config outcome said does begins
     (inl (record { fault = fault; told = told; loads = loads; untouched = untouched f0 f2 i o l s k }))
 
+-- an address test ends with the outcome of its end
 pub ends_tested : (words : List (List ℕ)) (f0 f1 f2 : FilesSeen) (i0 i1 : SourceSeen) (o0 o1 : SinkSeen) (l : Heard) (s : Spooled) (k : ClockSeen) (mode : Mode) (config : Config) (maps : Loaded) (how : TestEnd) (outcome : Outcome) → outcome ≡ of_test how
     → IsCommandLine words mode → mode.job ≡ Test → Begins mode.file f0 f1 (Ok config) → Loads config f0 f2 (Ok maps) → Tests (basis config maps) (streams i0 o0) (streams i1 o1) how → Ends words (world f0 i0 o0 l s k) (world f2 i1 o1 l s k) outcome
 ends_tested words f0 f1 f2 i0 i1 o0 o1 l s k mode config maps how outcome told said does begins loads tests =
     ends_at_work words (world f0 i0 o0 l s k) (world f2 i1 o1 l s k) mode Test config outcome said does begins
     (inr (record { maps = maps; loads = loads; how = how; told = told; tests = tests; alone = left_alone (core_seen l s k) }))
 
+-- session mode ends with the outcome of its end
 pub ends_served : (words : List (List ℕ)) (f0 f1 : FilesSeen) (i : SourceSeen) (o : SinkSeen) (l0 l1 : Heard) (s0 s1 : Spooled) (k0 k1 : ClockSeen) (mode : Mode) (config : Config) (how : SessionEnd) (outcome : Outcome) → outcome ≡ of_session how
     → IsCommandLine words mode → mode.job ≡ Session → Begins mode.file f0 f1 (Ok config) → Serves (site_of config) (core_seen l0 s0 k0) (core_seen l1 s1 k1) how → Ends words (world f0 i o l0 s0 k0) (world f1 i o l1 s1 k1) outcome
 ends_served words f0 f1 i o l0 l1 s0 s1 k0 k1 mode config how outcome told said does begins serves =
@@ -105,9 +110,11 @@ ends_served words f0 f1 i o l0 l1 s0 s1 k0 k1 mode config how outcome told said 
 same_count : (fault outcome : Outcome) (n : ℕ) → Counts fault outcome n n
 same_count fault outcome n = record { later = le_refl n; rises = inr refl }
 
+-- a device's count of faults rises only at the outcome that tells of it
 pub counts : (fault outcome how : Outcome) (before after : ℕ) → outcome ≡ how → before ≤ after → RisesOnlyAt fault how before after → Counts fault outcome before after
 counts fault outcome how before after told later rises = record { later = later; rises = subst (λ (o : Outcome). RisesOnlyAt fault o before after) (sym told) rises }
 
+-- a run whose words are refused leaves the files, and counts no fault
 pub stays_at_words : (f : FilesSeen) (i : SourceSeen) (o : SinkSeen) (l : Heard) (s : Spooled) (k : ClockSeen) (outcome : Outcome) → Stays (world f i o l s k) (world f i o l s k) outcome
 stays_at_words f i o l s k outcome = record {
   map = refl;
@@ -118,6 +125,7 @@ stays_at_words f i o l s k outcome = record {
   spool = same_count outcomes.SpoolFault outcome s.faults;
 }
 
+-- a run whose configuration can't be read leaves the files, and counts a fault of theirs alone
 pub stays_at_file : (f0 f1 : FilesSeen) (i : SourceSeen) (o : SinkSeen) (l : Heard) (s : Spooled) (k : ClockSeen) (outcome : Outcome) → f1.map ≡ f0.map → Counts outcomes.FilesFault outcome f0.faults f1.faults → Stays (world f0 i o l s k) (world f1 i o l s k) outcome
 stays_at_file f0 f1 i o l s k outcome map files = record {
   map = map;
@@ -134,12 +142,14 @@ maps_rise f0 f1 f2 (maps_faults.NoFile name) kept asks = inr (asks.calm refl ∙
 maps_rise f0 f1 f2 maps_faults.FilesFault kept asks = inl refl
 maps_rise f0 f1 f2 maps_faults.NoMemory kept asks = inr (asks.calm refl ∙ kept)
 
+-- a run whose maps can't be loaded leaves the files, and counts a fault of theirs alone
 pub stays_at_maps : (f0 f1 f2 : FilesSeen) (i : SourceSeen) (o : SinkSeen) (l : Heard) (s : Spooled) (k : ClockSeen) (fault : MapsFault) (outcome : Outcome) → outcome ≡ of_maps fault → f1.map ≡ f0.map → f1.faults ≡ f0.faults
     → f0.faults ≤ f1.faults → Asks f1 f2 (is_files_fault {V = Loaded} (Err fault)) → Stays (world f0 i o l s k) (world f2 i o l s k) outcome
 stays_at_maps f0 f1 f2 i o l s k fault outcome told map kept later asks =
     stays_at_file f0 f2 i o l s k outcome (asks.fixed ∙ map)
     (counts outcomes.FilesFault outcome (of_maps fault) f0.faults f2.faults told (omega (arith, later, asks.later)) (maps_rise f0 f1 f2 fault kept asks))
 
+-- an address test leaves the files, and counts a fault of a stream only where it ended by it
 pub stays_tested : (f0 f1 f2 : FilesSeen) (i0 i1 : SourceSeen) (o0 o1 : SinkSeen) (l : Heard) (s : Spooled) (k : ClockSeen) (outcome : Outcome) → f1.map ≡ f0.map → f1.faults ≡ f0.faults
     → f0.faults ≤ f1.faults → Asks f1 f2 false → Counts outcomes.ReadFault outcome i0.faults i1.faults → Counts outcomes.WriteFault outcome o0.faults o1.faults → Stays (world f0 i0 o0 l s k) (world f2 i1 o1 l s k) outcome
 stays_tested f0 f1 f2 i0 i1 o0 o1 l s k outcome map kept later asks input output = record {
@@ -151,6 +161,7 @@ stays_tested f0 f1 f2 i0 i1 o0 o1 l s k outcome map kept later asks input output
   spool = same_count outcomes.SpoolFault outcome s.faults;
 }
 
+-- session mode leaves the files, and counts a fault of floor or spool only where it ended by it
 pub stays_served : (site : Site) (f0 f1 : FilesSeen) (i : SourceSeen) (o : SinkSeen) (l0 l1 : Heard) (s0 s1 : Spooled) (k0 k1 : ClockSeen) (how : SessionEnd) (outcome : Outcome) → outcome ≡ of_session how → f1.map ≡ f0.map → f1.faults ≡ f0.faults
     → f0.faults ≤ f1.faults → Serves site (core_seen l0 s0 k0) (core_seen l1 s1 k1) how → RisesOnlyAt outcomes.FloorFault (of_session how) l0.faults l1.faults → RisesOnlyAt outcomes.SpoolFault (of_session how) s0.faults s1.faults
     → Stays (world f0 i o l0 s0 k0) (world f1 i o l1 s1 k1) outcome

@@ -55,6 +55,7 @@ same_leads (Some f) = (refl, λ w. refl)
 reads_none : (a : Spooled) → Reads a a
 reads_none a = record { later = le_refl a.moment; now = same_leads a.told; images = λ f e t x le left. inl left; kept = λ t x left. left }
 
+-- what no call changed is left alone
 pub left_alone : (a : Seen) → IsLeftAlone a a
 left_alone a = record { floor = refl; clock = refl; spool = reads_none a.spool; spool_faults = refl }
 
@@ -75,6 +76,7 @@ refused_by site s t dirs faults.SpoolFault is used rose = rose refl
 refused_by site s t dirs faults.NotYet is used rose = subst (λ (d : List (List ℕ)). IfSome s.told (IsUsed d)) is (used refl)
 refused_by site s t dirs faults.NoMemory is used rose = tt
 
+-- where no store could be opened, only a fault of the spool raises the count of its faults
 pub rises_by : (before after : ℕ) (fault : OpenFault) → IsErrOf {T = Store} (Err fault) faults.SpoolFault ⊎ (after ≡ before) → RisesOnlyAt outcomes.SpoolFault (of_opening fault) before after
 rises_by before after fault (inl is) = let same : fault ≡ faults.SpoolFault = cc (is) in inl (ap (λ (f : OpenFault). of_opening f) same)
 rises_by before after fault (inr same) = inr same
@@ -98,6 +100,7 @@ sound_brought None (Some new) session bytes h sound = absurd h
 sound_brought (Some old) (Some new) session bytes h sound =
     subst (λ (q : List FloorEvent). is_sound session q ≡ true) (sym h) (ap (is_among session) (sound_push old (Took (Brings session bytes))) ∙ sound)
 
+-- a turn that the floor told is the last of its history
 pub heard_at : (f g : Heard) (turn : Turn) (buf : List ℕ) → Gains f.told g.told (told_of turn buf ∷ []) → IfSome f.told (λ history. Follows history (told_of turn buf)) → IsHeardAt g turn
 heard_at f g (Opened session count) buf told follows = sound_opened f.told g.told session _ told
 heard_at f g (Piece session count) buf told follows = sound_brought f.told g.told session _ told follows
@@ -114,6 +117,7 @@ taken f g k l (Closed session) buf reading told follows later read counted = rec
 taken f g k l Idle buf reading told follows later read counted = record { told = told; follows = follows; faults = later; clock_told = read; readings = counted }
 taken f g k l Stop buf reading told follows later read counted = record { told = told; follows = follows; faults = later; clock_told = read; readings = counted }
 
+-- a core under way stands for the machine's state
 pub standing : (site : Site) → (core : Core) (n : ℕ) (a b : Seen) → IsUnderWay site start core n a b → IsStanding core
 standing site core n a b u = record { site = site; state = (run_over site start u.turns).state; stands = u.stands }
 
@@ -167,6 +171,7 @@ out_later site a b went is = record { floor = is.ended.headline.floor_faults; sp
 served_later : (site : Site) (n : ℕ) (a b : Seen) → IsServed site n a b → IsNoLess a b
 served_later site n a b is = record { floor = is.headline.floor_faults; spool = is.headline.spool_faults }
 
+-- what session mode leaves behind is no less than what was there
 pub serves_later : (site : Site) (a b : Seen) (how : SessionEnd) → Serves site a b how → IsNoLess a b
 serves_later site a b (ends.NotOpened fault) is = unserved_later a b is.0
 serves_later site a b ends.FloorFault is = served_later site is.count a b is.served

@@ -110,6 +110,7 @@ at_broken basis current before i o taken more partial at = record {
   };
 }
 
+-- where all input was taken, an address test may break off
 pub at_broken_last : (basis : Basis) (current : Config) (before : Streams) (i : SourceSeen) (o : SinkSeen) (taken : List ℕ) (partial : Partial)
     → At basis current before (streams i o) taken taken partial → IsBroken basis before (streams i o)
 at_broken_last basis current before i o taken partial at =
@@ -206,6 +207,7 @@ at_end_quit basis current after before i o taken partial reply over few at answe
   over = inl (over, few);
 }
 
+-- a failed write of the last line's answer ends an address test with WriteFault
 pub at_end_fault : (basis : Basis) (current after : Config) (before : Streams) (i : SourceSeen) (o0 o1 : SinkSeen) (taken : List ℕ) (partial : Partial) (reply : Reply) (out : List ℕ) → IfSome i.left (λ left. left ≡ [])
     → At basis current before (streams i o0) taken taken partial → ((rest : List ℕ) → Keeps partial rest → Answers basis.maps current rest reply after) → reply ≡ Lines out → GainsPart o0.written o1.written out → Rose o0.faults o1.faults → Tests basis before (streams i o1) ends.WriteFault
 at_end_fault basis current after before i o0 o1 taken partial reply out over at answer is part rose = (
@@ -225,6 +227,7 @@ at_end_fault basis current after before i o0 o1 taken partial reply out over at 
   rose_since before.output.faults o0.faults o1.faults at.output rose,
 )
 
+-- a failed read ends an address test with ReadFault
 pub at_read_fault : (basis : Basis) (current : Config) (before : Streams) (i0 i1 : SourceSeen) (o : SinkSeen) (taken : List ℕ) (partial : Partial)
     → At basis current before (streams i0 o) taken taken partial → length taken < 2 ^ 32 → i1.left ≡ i0.left → Rose i0.faults i1.faults → Tests basis before (streams i1 o) ends.ReadFault
 at_read_fault basis current before i0 i1 o taken partial at few same rose = record {
@@ -234,6 +237,7 @@ at_read_fault basis current before i0 i1 o taken partial at few same rose = reco
   rose = rose_since before.input.faults i0.faults i1.faults at.input rose;
 }
 
+-- after 2^32 bytes of input an address test ends with InputLarge
 pub at_large : (basis : Basis) (current : Config) (before : Streams) (i : SourceSeen) (o : SinkSeen) (taken : List ℕ) (partial : Partial)
     → At basis current before (streams i o) taken taken partial → length taken ≡ 4294967296 → Tests basis before (streams i o) ends.InputLarge
 at_large basis current before i o taken partial at large = record { taken = taken; all = large; cut = at_cut_off basis current before i i o taken partial at refl }
@@ -259,14 +263,18 @@ pub rises_since : (fault outcome : Outcome) (first before now : ℕ) → before 
 rises_since fault outcome first before now same (inl ended) = inl ended
 rises_since fault outcome first before now same (inr still) = inr (still ∙ same)
 
+-- a number is no greater than itself
 pub same_count : (n : ℕ) → n ≤ n
 same_count n = omega arith
 
+-- so many bytes more make the count of those taken so much greater
 pub taken_length : (taken bytes : List ℕ) (total count : ℕ) → length taken ≡ total → count ≤ length bytes → length (taken ++ take count bytes) ≡ total + count
 taken_length taken bytes total count is le = omega (arith, is, length-append taken (take count bytes), length-take-le count bytes le)
 
+-- bytes within the limit are taken within it
 pub taken_few : (taken bytes : List ℕ) (total count : ℕ) → length taken ≡ total → count ≤ length bytes → total + count ≤ 4294967296 → length (taken ++ take count bytes) ≤ 4294967296
 taken_few taken bytes total count is le room = omega (arith, taken_length taken bytes total count is le, room)
 
+-- a count below the limit says that fewer bytes were taken
 pub below : (taken : List ℕ) (total : ℕ) → length taken ≡ total → total < 4294967296 → length taken < 4294967296
 below taken total is lt = omega (arith, is, lt)
