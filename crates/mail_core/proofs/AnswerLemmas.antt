@@ -27,6 +27,7 @@ pub record IsReply (site : Site) (moment : ℕ) (answer : Answer) (text : List �
 abbrev same_words : (d : Did) (one other : List ℕ) (whole : Bool) → one ≡ other → says d other whole ≡ says d one whole
 same_words d one other whole e = ap (λ t. says d t whole) (sym e)
 
+-- a reply that a session gives is its answer's text, without a grant
 pub reply_is : (site : Site) (moment : ℕ) (answer : Answer) (text : List ℕ) → Replied text ≡ did_of (shown_host site.host) answer → IsReply site moment answer text false
 reply_is site moment (Says reply) text e = record { says_it = λ d whole. same_words d text (text_of reply) whole (cc e); answered = λ table. refl; grant_is = refl }
 reply_is site moment Greets text e = record { says_it = λ d whole. same_words d text _ whole (cc e); answered = λ table. refl; grant_is = refl }
@@ -35,6 +36,7 @@ reply_is site moment Closes text e = absurd (cc e)
 reply_is site moment (Gives message) text e = absurd (cc e)
 reply_is site moment Takes text e = absurd (cc e)
 
+-- a grant that a session gives is its answer's text, with a grant
 pub grant_is : (site : Site) (moment : ℕ) (answer : Answer) (text : List ℕ) → Granted text ≡ did_of (shown_host site.host) answer → IsReply site moment answer text true
 grant_is site moment (Says reply) text e = absurd (cc e)
 grant_is site moment Greets text e = absurd (cc e)
@@ -43,6 +45,7 @@ grant_is site moment Closes text e = absurd (cc e)
 grant_is site moment (Gives message) text e = absurd (cc e)
 grant_is site moment Takes text e = absurd (cc e)
 
+-- a farewell that a session gives closes with its answer's text
 pub bye_is : (site : Site) (moment : ℕ) (answer : Answer) (text : List ℕ) → Bye text ≡ did_of (shown_host site.host) answer → (d : Did) (whole : Bool) → replies site moment d answer whole ≡ closes d text whole
 bye_is site moment (Says reply) text e = absurd (cc e)
 bye_is site moment Greets text e = absurd (cc e)
@@ -66,6 +69,7 @@ pub record IsSilent (site : Site) (moment : ℕ) (answer : Answer) : Type 0 wher
   pub answered : (table : Table) → is_answered table answer ≡ true
   pub grant_is : is_grant (Some answer) ≡ false
 
+-- a line that a session takes in silence has no reply
 pub taken_is : (site : Site) (moment : ℕ) (answer : Answer) → Taken ≡ did_of (shown_host site.host) answer → IsSilent site moment answer
 taken_is site moment (Says reply) e = absurd (cc e)
 taken_is site moment Greets e = absurd (cc e)
@@ -74,6 +78,7 @@ taken_is site moment Closes e = absurd (cc e)
 taken_is site moment (Gives message) e = absurd (cc e)
 taken_is site moment Takes e = record { says_none = λ d whole. refl; answered = λ table. refl; grant_is = refl }
 
+-- a message that a session gives is its answer's
 pub message_is : (host : List ℕ) (answer : Answer) (message : Received) → Message message ≡ did_of host answer → answer ≡ Gives message
 message_is host (Says reply) message e = absurd (cc e)
 message_is host Greets message e = absurd (cc e)
@@ -88,9 +93,11 @@ message_is host Takes message e = absurd (cc e)
 abbrev pub answer_kept : Guest → Line → Bool → Option Answer
 answer_kept g line short = answer_heard g.peer (exchanges g.peer g.heard) (record { line = line; short = short; id = None })
 
+-- one line more stands behind the lines heard
 pub lines_more : (g : Guest) (line : Line) (short : Bool) (id : Option ℕ) → lines_heard (with_line g line short id) ≡ lines_heard g ++ line ∷ []
 lines_more g line short id = map-append line_in g.heard (record { line = line; short = short; id = id } ∷ [])
 
+-- one line more stands behind the grants with its own, where it has one
 pub grants_more : (g : Guest) (line : Line) (short : Bool) (id : Option ℕ) → grants_of (with_line g line short id) ≡ grants_of g ++ grant_in (record { line = line; answer = answer_kept g line short })
 grants_more g line short id =
     let h : Heard = record { line = line; short = short; id = id } in

@@ -109,6 +109,7 @@ module _ (site : Site) (m : State) (session : ℕ) (peer : List ℕ) (core : Cor
   new_is : (choice : Opening) → m.guests ≡ [] → opened site m session peer choice ≡ welcomed site m session peer choice
   new_is choice none = cond-false (is_here session m.guests) (still m) _ (ap (is_here session) none) ∙ cond-false (nat_le most_guests (length m.guests)) (turned_away m session choice) _ (free m.guests none)
 
+  -- a session whose greeting was sent is a new one
   pub opens_new : (f now : Heard) (text : List ℕ) → m.guests ≡ [] → text ≡ greeting_text (shown_host site.host) → Gains f.told now.told (heard_of (Sends session text true ∷ []))
       → Stands site core (record m { guests = m.guests ++ newcomer session peer ∷ [] }) → IsOpened site m session peer f now core
   opens_new f now text none text_is told stands =
@@ -118,6 +119,7 @@ module _ (site : Site) (m : State) (session : ℕ) (peer : List ℕ) (core : Cor
         stands = subst (λ (s : Step). Stands site core s.state) (sym step) stands;
       }
 
+  -- a session whose greeting wasn't sent whole is hung up
   pub opens_unsent : (f now : Heard) (text : List ℕ) → m.guests ≡ [] → text ≡ greeting_text (shown_host site.host) → Gains f.told now.told (heard_of (Sends session text false ∷ HangsUp session ∷ []))
       → Stands site core m → IsOpened site m session peer f now core
   opens_unsent f now text none text_is told stands =
@@ -127,6 +129,7 @@ module _ (site : Site) (m : State) (session : ℕ) (peer : List ℕ) (core : Cor
         stands = subst (λ (s : Step). Stands site core s.state) (sym step) stands;
       }
 
+  -- a session that gets no greeting is hung up
   pub opens_lacking : (f now : Heard) → m.guests ≡ [] → Gains f.told now.told (heard_of (HangsUp session ∷ [])) → Stands site core m → IsOpened site m session peer f now core
   opens_lacking f now none told stands =
       let step = new_is Dropped none in record {
@@ -352,6 +355,7 @@ at_stands site m core intake reading st is range = record {
   on = st.on;
 }
 
+-- steps of the machine at the moment that the clock told are the turn of an event
 pub turns_of : (site : Site) (m : State) (event : Event) (reading : ℕ) (before f : Heard) (s : Spooled) (clock read : ClockSeen) (b : Seen) (core : Core) (went : Result Act CoreStop) → m.over ≡ None → IsTaken before f clock read event reading
     → Steps site (at_moment m reading) event (seen f s read) b core went → Turns site m event reading (seen before s clock) b core went
 turns_of site m event reading before f s clock read b core went on taken_is h =

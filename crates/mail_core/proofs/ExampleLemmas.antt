@@ -32,6 +32,7 @@ line_at place bytes grants = slice_get (reading_of bytes grants).lines place
 abbrev pub plain : Line → Answer → Exchange
 plain line answer = record { line = line; answer = Some answer }
 
+-- a line at which memory was wanting
 abbrev pub lacked : Line → Exchange
 lacked line = record { line = line; answer = None }
 
@@ -39,6 +40,7 @@ lacked line = record { line = line; answer = None }
 abbrev pub with_lines : Guest → List Heard → Guest
 with_lines g heard = record g { heard = heard }
 
+-- a line, whether memory was wanting, and the id that it got
 abbrev pub input : Line → Bool → Option ℕ → Heard
 input line short id = record { line = line; short = short; id = id }
 
@@ -52,6 +54,7 @@ module _ (site : Site) (moment : ℕ) where
   effects_by session table (Gives message) whole = Commits (accept_of site moment message) ∷ speech session (stored_text table.next) whole
   effects_by session table Passes whole = []
 
+  -- the table after an answer, where a message is accepted
   abbrev pub table_by : Table → Answer → Table
   table_by table (Says reply) = table
   table_by table Greets = table
@@ -60,6 +63,7 @@ module _ (site : Site) (moment : ℕ) where
   table_by table (Gives message) = after table (accept_of site moment message)
   table_by table Passes = table
 
+  -- how a session goes on after an answer, by whether it was sent whole
   abbrev pub way_by : Answer → Bool → Way
   way_by (Says reply) whole = way_of whole
   way_by Greets whole = way_of whole
@@ -68,6 +72,7 @@ module _ (site : Site) (moment : ℕ) where
   way_by (Gives message) whole = way_of whole
   way_by Passes whole = GoesOn
 
+  -- what was done so far for a session
   abbrev pub so_far : Table → Guest → List Heard → Bool → List Effect → Way → Did
   so_far table guest heard may effects way = record { table = table; guest = with_lines guest heard; may_disconnect = may; effects = effects; way = way }
 
@@ -184,6 +189,7 @@ answers_in (Commits command) = Commits command ∷ []
 answers_in (Sends session text whole) = Sends session text whole ∷ []
 answers_in (HangsUp session) = HangsUp session ∷ []
 
+-- of effects, what is sent and asked for
 abbrev pub answers_of : List Effect → List Effect
 answers_of effects = flat_map answers_in effects
 

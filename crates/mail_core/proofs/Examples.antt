@@ -1,4 +1,5 @@
--- Worked examples of the machine: a session whole, with 452 4.3.1 at the end of its data, and with a send that fails.
+-- Worked examples of the machine: a session whole, with 452 4.3.1 at the end of its data, and with
+-- a send that fails.
 use Rattle.std.specs.Prelude.{◌≡◌, ℕ, List, [], ◌∷◌, ◌++◌, None, Some, true, false, drop, length, map, unwrap_or, codes, refl}
 use Rattle.mail_base.specs.Names.{digits}
 use Rattle.mail_base.specs.Limits.{most_command, most_domain, most_headers, most_local_part, most_message, most_path}

@@ -279,6 +279,7 @@ only_more old new g lines f stands turns = only_last old new f.stream lines f.st
 
 -- ---- bytes that are left
 
+-- a turn leaves the bytes that weren't read
 pub turned_left : (grant : Bool) (r : Reader) → (turned_by grant r).left ≡ r.left
 turned_left true r = refl
 turned_left false r = refl
@@ -304,6 +305,7 @@ bytes_there r g f left =
 
 -- ---- a caller with another reader
 
+-- whether a session is ready doesn't hang on its lines
 pub ready_lines : (intake : Intake) (old new : Caller) → new.number ≡ old.number → new.session ≡ old.session → IsReady intake old → IsReady intake new
 ready_lines intake old new number session r =
     let t = r.talks in
@@ -315,6 +317,7 @@ ready_lines intake old new number session r =
       talks = record { number = number ∙ t.number; session = subst (λ q. Speaks q r.site.host r.guest.peer r.guest.heard) (sym session) t.session; peer = t.peer };
     }
 
+-- after a line the reader is turned by whether a grant was given
 pub turned_lines : (caller turned : Caller) (reader : Reader) (fed : Result Next CoreStop) → turned ≡ record caller { lines = turned_by (is_granted fed) caller.lines } → caller.lines ≡ reader → turned.lines ≡ turned_by (is_granted fed) reader
 turned_lines caller turned reader fed is same = ap (λ (q : Caller). q.lines) is ∙ ap (turned_by (is_granted fed)) same
 

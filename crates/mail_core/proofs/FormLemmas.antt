@@ -36,6 +36,7 @@ some_byte : (text : List ℕ) → slice_index text 0 ≡ 60 → 0 < length text
 some_byte [] e = absurd (omega (arith, e))
 some_byte (b ∷ text) e = omega arith
 
+-- a message of the right form has a control that is valid
 pub valid_message : (moment : ℕ) (message : Received) (peer : List ℕ) → moment < 2 ^ 64 → All NotLf peer → IsFormed message peer → IsValid (control_of moment message)
 unfolding most_rows
 valid_message moment message peer fits line form = record {

@@ -44,6 +44,7 @@ speech_unread s text false = refl
 abbrev pub IsSpoken : Result Next CoreStop → Type 0
 IsSpoken fed = way_of (is_onward fed) ≡ way_after fed
 
+-- what goes on as a send did, or closes the session, went as a send does
 pub spoken_of : (next other : Next) → IsSpoken (Ok other) → (next ≡ other) ⊎ (next ≡ Closed) → IsSpoken (Ok next)
 spoken_of next other h (inl e) = subst (λ n. IsSpoken (Ok n)) (sym e) h
 spoken_of next other h (inr e) = subst (λ n. IsSpoken (Ok n)) (sym e) refl
@@ -91,6 +92,7 @@ ended_as one ending event table a b e h = let same : one ≡ ending = cc e in su
 
 -- ---- joins
 
+-- what is done for a line and then for the next joins
 pub does_join : (site : Site) (d e x : Did) (a b c : Seen) (fed : Result Next CoreStop) → Does site d e a b (Ok Continue) → Does site e x b c fed → Does site d x a c fed
 does_join site d e x a b c fed h k = record {
   more = h.more ++ k.more;
@@ -231,6 +233,7 @@ where_table : (answered : Bool) (d : Did) (line : Line) (id : Option ℕ) → (h
 where_table true d line id = refl
 where_table false d line id = refl
 
+-- what a session heard of a line, by a choice, doesn't change the table
 pub chosen_table : (table : Table) (choice : Choice) (d : Did) (line : Line) → (heard_chosen table choice d line).table ≡ d.table
 chosen_table table (Normal whole) d line = where_table (not (is_spent table)) d line (Some table.next)
 chosen_table table (OutOfMemory whole) d line = refl
@@ -241,8 +244,10 @@ accepts_case : (b : Bool) (d x : Did) → x.guest ≡ d.guest → (if b then is_
 accepts_case true d x e = refl
 accepts_case false d x e = e
 
+-- a message that is accepted doesn't change the session
 pub accepts_guest : (site : Site) (moment : ℕ) (d : Did) (message : Received) (whole : Bool) → (accepts site moment d message whole).guest ≡ d.guest
 accepts_guest site moment d message whole = accepts_case (is_spent d.table) d (says (commits site moment d message) (stored_text d.table.next) whole) refl
 
+-- a message that isn't accepted doesn't change the session
 pub fails_guest : (site : Site) (moment : ℕ) (d : Did) (message : Received) → (fails site moment d (Gives message)).guest ≡ d.guest
 fails_guest site moment d message = accepts_case (is_spent d.table) d (is_over (commits site moment d message) (By SpoolFault)) refl

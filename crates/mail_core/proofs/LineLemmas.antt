@@ -180,6 +180,7 @@ module _ (site : Site) (moment : ℕ) (d : Did) (line : Line) (message : Receive
     peer = talks.peer;
   }
 
+  -- a message that was answered is the answer to the line that gave it
   pub line_given : (a b : Seen) (intake : Intake) (old new : Caller) (fed : Result Next CoreStop) → answer_of d.guest.peer d.guest.heard line ≡ Gives message → line ≡ DataEnd → ((id : Option ℕ) → Talks site old (with_line d.guest line false id)) → new.number ≡ old.number
       → AnswersMessage site moment d message a b intake old new fed → AnswersLine site moment d line a b intake new fed
   line_given a b intake old new fed gives ends talks number m =
@@ -195,6 +196,7 @@ module _ (site : Site) (moment : ℕ) (d : Did) (line : Line) (message : Receive
 
 -- ---- what an intake is ready for stays so
 
+-- a session that goes on after a line is ready for the next
 pub ready_by : (old new : Intake) (before after : Caller) (line : Line) (a b : (k : ClockSeen) → Seen) (fed : Result Next CoreStop) → IsReady old before
     → ((site : Site) (d : Did) (k : ClockSeen) → d.way ≡ GoesOn → Serves site old d.table → Talks site before d.guest → AnswersLine site old.moment d line (a k) (b k) new after fed) → is_onward fed ≡ true → IsReady new after
 ready_by old new before after line a b fed r answers on =

@@ -1,4 +1,5 @@
--- Each step of the machine does effects that lead from its table to the next, and says the final 250 of entries alone.
+-- Each step of the machine does effects that lead from its table to the next, and says the final
+-- 250 of entries alone.
 use Rattle.std.proofs.Common.{◌≡◌, ℕ, List, [], ◌∷◌, ◌++◌, Bool, true, false, Option, Some, None, refl, sym, ◌∙◌, ap, subst, append_assoc}
 use Rattle.std.specs.Prelude.{if◌then◌else◌, nat_le, length, fold, is_some}
 use Rattle.std.proofs.lemmas.List.{append-nil}
@@ -39,6 +40,7 @@ IsOurs site (Commits command) = IsPlaced site command
 IsOurs site (Sends session text whole) = Unit {0}
 IsOurs site (HangsUp session) = Unit {0}
 
+-- effects whose entries are in the site's directories
 abbrev pub AreOurs : Site → List Effect → Type 0
 AreOurs site [] = Unit {0}
 AreOurs site (effect ∷ effects) = IsOurs site effect × AreOurs site effects
@@ -62,6 +64,7 @@ pub acked_join : (table : Table) (xs ys : List Effect) → AreAcked table xs →
 acked_join table [] ys h k = k
 acked_join table (x ∷ xs) ys h k = (h.0, acked_join (table_after table (x ∷ [])) xs ys h.1 (subst (λ t. AreAcked t ys) (table_more table (x ∷ []) xs) k))
 
+-- where each final 250 is of an entry, so it is at the front of the effects
 pub acked_front : (table : Table) (xs ys : List Effect) → AreAcked table (xs ++ ys) → AreAcked table xs
 acked_front table [] ys h = tt
 acked_front table (x ∷ xs) ys h = (h.0, acked_front (table_after table (x ∷ [])) xs ys h.1)
@@ -70,10 +73,12 @@ pub ours_join : (site : Site) (xs ys : List Effect) → AreOurs site xs → AreO
 ours_join site [] ys h k = k
 ours_join site (x ∷ xs) ys h k = (h.0, ours_join site xs ys h.1 k)
 
+-- effects that are the site's are so at their front
 pub ours_front : (site : Site) (xs ys : List Effect) → AreOurs site (xs ++ ys) → AreOurs site xs
 ours_front site [] ys h = tt
 ours_front site (x ∷ xs) ys h = (h.0, ours_front site xs ys h.1)
 
+-- effects that are the site's are so behind a front
 pub ours_back : (site : Site) (xs ys : List Effect) → AreOurs site (xs ++ ys) → AreOurs site ys
 ours_back site [] ys h = h
 ours_back site (x ∷ xs) ys h = ours_back site xs ys h.1
@@ -90,6 +95,7 @@ leads_join site one two three xs ys h k = record {
 
 -- ---- an entry stays
 
+-- no command takes an entry away
 pub entry_stays : (id : ℕ) (table : Table) (commands : List Command) → HasEntry table id → HasEntry (applied table commands) id
 entry_stays id table [] h = h
 entry_stays id table (Accept draft body ∷ commands) h = entry_stays id (after table (Accept draft body)) commands (record {

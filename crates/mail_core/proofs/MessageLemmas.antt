@@ -32,9 +32,11 @@ use Rattle.mail_core.proofs.GoingLemmas.{IsSpoken, does_says, does_spent, does_f
 
 -- ---- ids
 
+-- where the next id is past the last one, the table's ids are spent
 pub spent_is : (table : Table) (next : ℕ) → next ≡ table.next → last_id < next → is_spent table ≡ true
 spent_is table next e lt = lt-ltb last_id table.next (omega (arith, lt, e))
 
+-- where the next id is one, the table's ids aren't spent
 pub left_is : (table : Table) (next : ℕ) → next ≡ table.next → IsId next → is_spent table ≡ false
 unfolding last_id
 left_is table next e le = le-ltb last_id table.next (omega (arith, le, e))
@@ -62,11 +64,13 @@ moves_at site moment message a b r dirs draft body table ds dr bo m =
     (subst (λ q. Moves a b (IsClean (dirs_of site) table) (Ends r (IsClean (dirs_of site) (after table (Accept q body))) (IsEither (dirs_of site) table (Accept q body))) (IsEither (dirs_of site) table (Accept q body))) dr
     (subst (λ q. Moves a b (IsClean q table) (Ends r (IsClean q (after table (Accept draft body))) (IsEither q table (Accept draft body))) (IsEither q table (Accept draft body))) ds m))
 
+-- an accept that is done leads to the table with the site's draft of the message
 pub moves_done_at : (site : Site) (moment : ℕ) (message : Received) (a b : Spooled) (dirs : List (List ℕ)) (draft : Draft) (body : List ℕ) (table : Table) → dirs ≡ dirs_of site → draft ≡ draft_of site moment message → body ≡ message.body
     → Moves a b (IsClean dirs table) (IsClean dirs (after table (Accept draft body))) (IsEither dirs table (Accept draft body))
     → Moves a b (IsClean (dirs_of site) table) (IsClean (dirs_of site) (after table (accept_of site moment message))) (IsEither (dirs_of site) table (accept_of site moment message))
 moves_done_at site moment message a b dirs draft body table ds dr bo m = moves_at {T = Unit {0}} {E = Unit {0}} site moment message a b (Ok tt) dirs draft body table ds dr bo m
 
+-- an accept that fails leaves the table without the site's draft of the message or with it
 pub moves_failed_at : (site : Site) (moment : ℕ) (message : Received) (a b : Spooled) (dirs : List (List ℕ)) (draft : Draft) (body : List ℕ) (table : Table) → dirs ≡ dirs_of site → draft ≡ draft_of site moment message → body ≡ message.body
     → Moves a b (IsClean dirs table) (IsEither dirs table (Accept draft body)) (IsEither dirs table (Accept draft body))
     → Moves a b (IsClean (dirs_of site) table) (IsEither (dirs_of site) table (accept_of site moment message)) (IsEither (dirs_of site) table (accept_of site moment message))
@@ -81,6 +85,7 @@ rose_of site store table a b s (inr r) = r
 pub sound_in : (site : Site) (store : Store) (table : Table) → Stores site store table → IsSound store.dirs table
 sound_in site store table s = subst (λ q. IsSound q table) (sym s.dirs) s.sound
 
+-- the draft that is made of a message is the site's
 pub draft_is : (site : Site) (moment : ℕ) (message : Received) (dir : List ℕ) (draft : Draft) → dir ≡ site.dir → draft ≡ record { id = None; dir = dir; control = control_of moment message } → draft ≡ draft_of site moment message
 draft_is site moment message dir draft e is = is ∙ ap (λ q. record { id = None; dir = q; control = control_of moment message }) e
 

@@ -85,6 +85,7 @@ pub ran_floor : (dirs : List (List ℕ)) (table : Table) (f g : Heard) (s : Spoo
 ran_floor dirs table f g s c effects none unread floor same =
     ran_quiet dirs table f g s c c effects none floor (omega (arith, same)) (subst (Gains c.told c.told) (sym unread) (gains_none c.told)) (omega (arith, ap length unread))
 
+-- no effect was run where nothing changed
 pub ran_none : (dirs : List (List ℕ)) (table : Table) (f : Heard) (s : Spooled) (c : ClockSeen) → Ran dirs table (seen f s c) (seen f s c) [] true
 ran_none dirs table f s c = ran_floor dirs table f f s c [] refl refl (gains_none f.told) refl
 

@@ -72,6 +72,7 @@ reads_part dirs table s t reads = record {
   kept = reads.kept;
 }
 
+-- a core over a table whose spool was only read is under way, after no event
 pub under_way_begin : (site : Site) (table : Table) (core : Core) (f g : Heard) (s t : Spooled) (c : ClockSeen) → Reads s t → g.told ≡ f.told → f.faults ≤ g.faults → s.faults ≤ t.faults → Stands site core (beginning table)
     → IsUnderWay site table core 0 (seen f s c) (seen g t c)
 under_way_begin site table core f g s t c reads same floor_faults spool_faults stands = record {
@@ -102,6 +103,7 @@ ran_turn site table turns turn a b c well h k =
     subst (λ (q : Step). Ran (dirs_of site) table a c q.effects well) (sym (run_more site (beginning table) turns turn))
     (ran_join (dirs_of site) table a b c run.effects last.effects well h (subst (λ t. Ran (dirs_of site) t b c last.effects well) leads.table k))
 
+-- a core that took one event more and goes on is under way
 pub under_way_more : (site : Site) (table : Table) (core new : Core) (n : ℕ) (event : Event) (reading : ℕ) (a b c : Seen) → (u : IsUnderWay site table core n a b) → Turns site (run_over site table u.turns).state event reading b c new (Ok Went)
     → c.clock.readings ≡ b.clock.readings + 1 → IsUnderWay site table new (n + 1) a c
 under_way_more site table core new n event reading a b c u t read =
@@ -336,6 +338,7 @@ headline_of site table turns a b well sound only ran =
 
 -- ---- a run ends
 
+-- a core that took one event more and stops has ended
 pub ended_by : (site : Site) (table : Table) (core new : Core) (n : ℕ) (event : Event) (reading : ℕ) (a b c : Seen) (went : Result Act CoreStop) → (u : IsUnderWay site table core n a b)
     → Turns site (run_over site table u.turns).state event reading b c new went → IsSound (dirs_of site) table → OnlyNow a.spool → c.clock.readings ≡ b.clock.readings + 1 → IsEnded site table (n + 1) a c went
 ended_by site table core new n event reading a b c went u t sound only read =

@@ -215,6 +215,7 @@ module _ (site : Site) (s : ℕ) where
       let later = run site now.state turns in
       passes_join (guest_of s m.guests) (guest_of s now.state.guests) (guest_of s later.state.guests) now.effects later.effects (stepped_passes m turn never.0) (run_passes now.state turns never.1)
 
+  -- what a run says to a session that stays open are the replies to its lines
   pub run_told : (m : State) (turns : List Turn) (g now : Guest) → NeverOpens s turns → guest_of s m.guests ≡ Some g → guest_of s (run site m turns).state.guests ≡ Some now
       → replies_of site now ≡ replies_of site g ++ said_to s (run site m turns).effects
   run_told m turns g now never before after =

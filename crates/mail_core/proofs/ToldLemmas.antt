@@ -34,13 +34,16 @@ said_speech n text false = said_once n text false (HangsUp n ∷ [])
 said_other : (s n : ℕ) → nat_eq n s ≡ false → (text : List ℕ) (whole : Bool) (later : List Effect) → said_to s (Sends n text whole ∷ later) ≡ said_to s later
 said_other s n apart text whole later = ap (λ b. (if b then text ∷ [] else []) ++ said_to s later) apart
 
+-- what is said to one session isn't said to another
 pub speech_other : (s n : ℕ) → nat_eq n s ≡ false → (text : List ℕ) (whole : Bool) → said_to s (speech n text whole) ≡ []
 speech_other s n apart text true = said_other s n apart text true []
 speech_other s n apart text false = said_other s n apart text false (HangsUp n ∷ [])
 
+-- what closes one session isn't said to another
 pub closing_other : (s n : ℕ) → nat_eq n s ≡ false → (text : List ℕ) (whole : Bool) → said_to s (Sends n text whole ∷ HangsUp n ∷ []) ≡ []
 closing_other s n apart text whole = said_other s n apart text whole (HangsUp n ∷ [])
 
+-- what effects say to a session is what the first say and then the others
 pub said_more : (n : ℕ) (one other : List Effect) → said_to n (one ++ other) ≡ said_to n one ++ said_to n other
 said_more n one other = flat_map-append _ one other
 
@@ -87,6 +90,7 @@ module _ (site : Site) (moment : ℕ) where
 
   -- ---- what was said since a piece began are the replies to what was answered since
 
+  -- what is said to a session are the replies to its lines, and nothing is said to others
   pub record IsTold (g : Guest) (d : Did) : Type 0 where
     pub number : d.guest.number ≡ g.number
     pub told : replies_of site d.guest ≡ replies_of site g ++ said_to g.number d.effects
@@ -200,10 +204,12 @@ module _ (site : Site) (moment : ℕ) where
   fresh_told : (table : Table) (g : Guest) → IsTold g (fresh_start table g)
   fresh_told table g = record { number = refl; told = sym (append-nil (replies_of site g)); apart = λ s h. refl }
 
+  -- for a piece a session is said the replies to its lines, and others nothing
   pub piece_all : (table : Table) (g : Guest) (choices : List Choice) → IsTold g (all_answered site moment table g choices)
   piece_all table g choices =
       let d = fold (answered site moment) (fresh_start table g) choices in
       settled_told d.way (next_line d.guest) g d (all_told g (fresh_start table g) choices (fresh_told table g))
 
+  -- for a piece a session is said the replies to its lines
   pub piece_told : (table : Table) (g : Guest) (choices : List Choice) → replies_of site (all_answered site moment table g choices).guest ≡ replies_of site g ++ said_to g.number (all_answered site moment table g choices).effects
   piece_told table g choices = (piece_all table g choices).told
