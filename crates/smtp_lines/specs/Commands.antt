@@ -1,4 +1,5 @@
--- The commands of a session (RFC 5321, sections 2.4, 4.1.1 and 4.5.1; the order of the faults is our own).
+-- The commands of a session (RFC 5321, sections 2.4, 4.1.1 and 4.5.1; the order of the faults is
+-- our own).
 use Rattle.std.specs.Prelude.{◌≡◌, ◌≢◌, ℕ, ◌-◌, ◌==◌, nat_lt, Bool, true, false, not, ◌||◌, ◌&&◌, List, [], length, take, drop, Option, Some, None, Result, Ok, Err, codes}
 use Rattle.std.specs.List.{list_any, prefix_len, suffix_len}
 use Rattle.std.specs.Str.{str_eq_ignore_ascii_case}
@@ -13,7 +14,8 @@ use Rattle.smtp_lines.specs.Stream.{verb_of}
 use Rattle.smtp_lines.specs.Paths.{HasPath, is_too_long}
 use Rattle.smtp_lines.specs.Parameters.{AreGiven}
 
--- what a command line asks for: HELO, EHLO, MAIL, RCPT, DATA, RSET, NOOP, QUIT, VRFY, EXPN and HELP in turn; a path is without its angles and its route
+-- what a command line asks for: HELO, EHLO, MAIL, RCPT, DATA, RSET, NOOP, QUIT, VRFY, EXPN and HELP
+-- in turn; a path is without its angles and its route
 pub data Order : Type 0 where
   Greet : List ℕ → Order
   Extend : List ℕ → Order
@@ -87,10 +89,15 @@ keyword_of verb = None
 
 -- a line is a command
 pub data IsCommand (line : List ℕ) : Order → Type 0 where
-  helo : (argument : List ℕ) → Says line Helo argument → argument ≢ [] → IsCommand line (Greet argument)
-  ehlo : (argument : List ℕ) → Says line Ehlo argument → argument ≢ [] → IsCommand line (Extend argument)
-  mail : (argument path rest : List ℕ) (size : Option ℕ) (eight : Bool) → Says line Mail argument → HasPath (codes "FROM:") argument path rest → is_too_long path ≡ false → AreGiven rest size eight → IsCommand line (From path size eight)
-  rcpt : (argument path : List ℕ) → Says line Rcpt argument → HasPath (codes "TO:") argument path [] → is_too_long path ≡ false → IsCommand line (To path)
+  helo : (argument : List ℕ) → Says line Helo argument → argument ≢ []
+      → IsCommand line (Greet argument)
+  ehlo : (argument : List ℕ) → Says line Ehlo argument → argument ≢ []
+      → IsCommand line (Extend argument)
+  mail : (argument path rest : List ℕ) (size : Option ℕ) (eight : Bool) → Says line Mail argument
+      → HasPath (codes "FROM:") argument path rest → is_too_long path ≡ false
+      → AreGiven rest size eight → IsCommand line (From path size eight)
+  rcpt : (argument path : List ℕ) → Says line Rcpt argument → HasPath (codes "TO:") argument path []
+      → is_too_long path ≡ false → IsCommand line (To path)
   data_ : Says line Data [] → IsCommand line Begin
   rset : Says line Rset [] → IsCommand line Reset
   noop : (argument : List ℕ) → Says line Noop argument → IsCommand line Wait
@@ -99,16 +106,29 @@ pub data IsCommand (line : List ℕ) : Order → Type 0 where
   expn : (argument : List ℕ) → Says line Expn argument → IsCommand line Expand
   help : (argument : List ℕ) → Says line Help argument → IsCommand line Explain
 
--- a line is none, and this is the first of its faults in this order: what each says of the line holds, and nothing that one before it says
+-- a line is none, and this is the first of its faults in this order: what each says of the line
+-- holds, and nothing that one before it says
 pub data HasFault (line : List ℕ) : LineFault → Type 0 where
   bad_byte : list_any is_bad_byte line ≡ true → HasFault line BadByte
-  unknown : list_any is_bad_byte line ≡ false → ((verb : Verb) → ¬ IsNamed (verb_of line) verb) → HasFault line Unknown
-  lacks_argument : (verb : Verb) → needs_argument verb ≡ true → Says line verb [] → HasFault line ArgumentNeeded
-  has_argument : (verb : Verb) (argument : List ℕ) → stands_alone verb ≡ true → Says line verb argument → argument ≢ [] → HasFault line NoArgument
-  no_path : (verb : Verb) (keyword argument : List ℕ) → keyword_of verb ≡ Some keyword → Says line verb argument → ((path rest : List ℕ) → ¬ HasPath keyword argument path rest) → HasFault line (Syntax verb)
-  long_path : (verb : Verb) (keyword argument path rest : List ℕ) → keyword_of verb ≡ Some keyword → Says line verb argument → HasPath keyword argument path rest → is_too_long path ≡ true → HasFault line (PathTooLong verb)
-  mail_parameter : (argument path rest : List ℕ) → Says line Mail argument → HasPath (codes "FROM:") argument path rest → is_too_long path ≡ false → ((size : Option ℕ) (eight : Bool) → ¬ AreGiven rest size eight) → HasFault line (Parameter Mail)
-  rcpt_parameter : (argument path rest : List ℕ) → Says line Rcpt argument → HasPath (codes "TO:") argument path rest → is_too_long path ≡ false → rest ≢ [] → HasFault line (Parameter Rcpt)
+  unknown : list_any is_bad_byte line ≡ false → ((verb : Verb) → ¬ IsNamed (verb_of line) verb)
+      → HasFault line Unknown
+  lacks_argument : (verb : Verb) → needs_argument verb ≡ true → Says line verb []
+      → HasFault line ArgumentNeeded
+  has_argument : (verb : Verb) (argument : List ℕ) → stands_alone verb ≡ true
+      → Says line verb argument → argument ≢ [] → HasFault line NoArgument
+  no_path : (verb : Verb) (keyword argument : List ℕ) → keyword_of verb ≡ Some keyword
+      → Says line verb argument → ((path rest : List ℕ) → ¬ HasPath keyword argument path rest)
+      → HasFault line (Syntax verb)
+  long_path : (verb : Verb) (keyword argument path rest : List ℕ) → keyword_of verb ≡ Some keyword
+      → Says line verb argument → HasPath keyword argument path rest → is_too_long path ≡ true
+      → HasFault line (PathTooLong verb)
+  mail_parameter : (argument path rest : List ℕ) → Says line Mail argument
+      → HasPath (codes "FROM:") argument path rest → is_too_long path ≡ false
+      → ((size : Option ℕ) (eight : Bool) → ¬ AreGiven rest size eight)
+      → HasFault line (Parameter Mail)
+  rcpt_parameter : (argument path rest : List ℕ) → Says line Rcpt argument
+      → HasPath (codes "TO:") argument path rest → is_too_long path ≡ false → rest ≢ []
+      → HasFault line (Parameter Rcpt)
 
 -- how a line is read: as a command, or with its first fault
 abbrev pub IsRead : List ℕ → Result Order LineFault → Type 0

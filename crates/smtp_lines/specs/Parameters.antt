@@ -1,4 +1,5 @@
--- The parameters of MAIL (RFC 5321, section 4.1.1.11; RFC 1870, section 3, for SIZE; RFC 6152, section 2, for BODY; that each comes once at most is our own).
+-- The parameters of MAIL (RFC 5321, section 4.1.1.11; RFC 1870, section 3, for SIZE; RFC 6152,
+-- section 2, for BODY; that each comes once at most is our own).
 use Rattle.std.specs.Prelude.{◌≡◌, ◌≤◌, ◌<◌, ℕ, Bool, true, false, List, [], ◌∷◌, ◌++◌, length, Option, Some, None, unwrap_or, filter, codes, refl}
 use Rattle.std.specs.List.{list_all, slice_split}
 use Rattle.std.specs.Char.{is_ascii_digit}
@@ -22,16 +23,22 @@ pub record IsSize (digits : List ℕ) : Type 0 where
   pub most : length digits ≤ 20
   pub all : list_all is_ascii_digit digits ≡ true
 
--- a parameter, whatever its case, with what it gives: the message's size, or whether its body has bytes above 127
+-- a parameter, whatever its case, with what it gives: the message's size, or whether its body has
+-- bytes above 127
 pub data IsParameter : List ℕ → Given → Type 0 where
-  says_size : (key digits : List ℕ) → str_eq_ignore_ascii_case key (codes "SIZE=") ≡ true → IsSize digits → IsParameter (key ++ digits) (Size (digits_value 10 digits))
-  says_seven : (word : List ℕ) → str_eq_ignore_ascii_case word (codes "BODY=7BIT") ≡ true → IsParameter word (Body false)
-  says_eight : (word : List ℕ) → str_eq_ignore_ascii_case word (codes "BODY=8BITMIME") ≡ true → IsParameter word (Body true)
+  says_size : (key digits : List ℕ) → str_eq_ignore_ascii_case key (codes "SIZE=") ≡ true
+      → IsSize digits → IsParameter (key ++ digits) (Size (digits_value 10 digits))
+  says_seven : (word : List ℕ) → str_eq_ignore_ascii_case word (codes "BODY=7BIT") ≡ true
+      → IsParameter word (Body false)
+  says_eight : (word : List ℕ) → str_eq_ignore_ascii_case word (codes "BODY=8BITMIME") ≡ true
+      → IsParameter word (Body true)
 
 -- words that are parameters, with what they give in turn
 pub data AreParameters : List (List ℕ) → List Given → Type 0 where
   no_more : AreParameters [] []
-  one_more : (word : List ℕ) (words : List (List ℕ)) (given : Given) (later : List Given) → IsParameter word given → AreParameters words later → AreParameters (word ∷ words) (given ∷ later)
+  one_more : (word : List ℕ) (words : List (List ℕ)) (given : Given) (later : List Given)
+      → IsParameter word given → AreParameters words later
+      → AreParameters (word ∷ words) (given ∷ later)
 
 -- the sizes that are given, and what is said of the body
 abbrev pub sizes_in : List Given → List ℕ
@@ -48,7 +55,8 @@ abbrev pub listed : {A : Type 0} → Option A → List A
 listed None = []
 listed (Some x) = x ∷ []
 
--- the words of a text are parameters, each once at most, which give this size, if one, and whether the body has 8 bits
+-- the words of a text are parameters, each once at most, which give this size, if one, and whether
+-- the body has 8 bits
 pub record AreGiven (text : List ℕ) (size : Option ℕ) (eight : Bool) : Type 0 where
   pub given : List Given
   pub body : Option Bool

@@ -11,7 +11,8 @@ quote_length (b ∷ c ∷ text) =
     else if b == 92 then option_map (λ n. n + 2) (quote_length text)
     else option_map suc (quote_length (c ∷ text))
 
--- how many bytes stand before the > that ends a path, where so many at the front are of a quoted string
+-- how many bytes stand before the > that ends a path, where so many at the front are of a quoted
+-- string
 abbrev pub path_end : List ℕ → ℕ → Option ℕ
 path_end [] n = None
 path_end (b ∷ text) (suc n) = option_map suc (path_end text n)

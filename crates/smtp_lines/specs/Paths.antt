@@ -1,4 +1,5 @@
--- A path of MAIL or RCPT (RFC 5321, sections 4.1.1.2, 4.1.1.3, 4.1.2 and 4.5.3.1; that it may lack its angles, and that the rest is any bytes, is our own).
+-- A path of MAIL or RCPT (RFC 5321, sections 4.1.1.2, 4.1.1.3, 4.1.2 and 4.5.3.1; that it may lack
+-- its angles, and that the rest is any bytes, is our own).
 use Rattle.std.specs.Prelude.{◌≡◌, ◌≢◌, ℕ, ◌+◌, ◌-◌, slice_index, ◌==◌, nat_lt, Bool, true, false, not, ◌||◌, ◌&&◌, List, [], ◌∷◌, ◌++◌, length, take, if◌then◌else◌, codes, refl}
 use Rattle.std.specs.List.{list_any, list_all, position_or_len, suffix_len, after_first, after_last}
 use Rattle.std.specs.Str.{str_eq_ignore_ascii_case}
@@ -9,7 +10,8 @@ use Rattle.mail_base.specs.Texts.{is_blank}
 abbrev pub is_quotable : ℕ → Bool
 is_quotable b = not (b == 34) && not (b == 92)
 
--- what may stand between two double quotes; a backslash stands with the byte that it quotes, whatever that is
+-- what may stand between two double quotes; a backslash stands with the byte that it quotes,
+-- whatever that is
 pub data InQuotes : List ℕ → Type 0 where
   quote_nothing : InQuotes []
   quote_plain : (b : ℕ) (more : List ℕ) → is_quotable b ≡ true → InQuotes more → InQuotes (b ∷ more)
@@ -23,7 +25,8 @@ is_path_byte b = not (b == 34) && not (b == 62)
 pub data InAngles : List ℕ → Type 0 where
   path_nothing : InAngles []
   path_plain : (b : ℕ) (more : List ℕ) → is_path_byte b ≡ true → InAngles more → InAngles (b ∷ more)
-  path_quoted : (inside more : List ℕ) → InQuotes inside → InAngles more → InAngles (34 ∷ (inside ++ 34 ∷ more))
+  path_quoted : (inside more : List ℕ) → InQuotes inside → InAngles more
+      → InAngles (34 ∷ (inside ++ 34 ∷ more))
 
 -- a text cut in two, without what stands between
 pub record Parts : Type 0 where
@@ -35,10 +38,12 @@ pub record EndsPath (text : List ℕ) (parts : Parts) : Type 0 where
   pub whole : text ≡ parts.front ++ 62 ∷ parts.back
   pub inside : InAngles parts.front
 
--- a path as it is written, with what it is without angles; one that lacks them isn't empty and has no blank
+-- a path as it is written, with what it is without angles; one that lacks them isn't empty and has
+-- no blank
 pub data IsWritten : List ℕ → List ℕ → Type 0 where
   in_angles : (inside : List ℕ) → InAngles inside → IsWritten (60 ∷ (inside ++ 62 ∷ [])) inside
-  bare : (b : ℕ) (more : List ℕ) → b ≢ 60 → list_any is_blank (b ∷ more) ≡ false → IsWritten (b ∷ more) (b ∷ more)
+  bare : (b : ℕ) (more : List ℕ) → b ≢ 60 → list_any is_blank (b ∷ more) ≡ false
+      → IsWritten (b ∷ more) (b ∷ more)
 
 -- nothing, or a blank and more
 abbrev pub is_parted : List ℕ → Bool
@@ -54,7 +59,8 @@ has_route path colon = slice_index path 0 == 64 && nat_lt colon (length path)
 
 -- without the source route, which ends at the first colon
 abbrev pub without_route : List ℕ → List ℕ
-without_route path = if has_route path (position_or_len is_colon path) then after_first is_colon path else path
+without_route path =
+    if has_route path (position_or_len is_colon path) then after_first is_colon path else path
 
 abbrev pub is_at : ℕ → Bool
 is_at b = b == 64
@@ -73,9 +79,12 @@ domain_of path = after_last is_at path
 
 -- a path with its angles, its local part or its domain is above its limit
 abbrev pub is_too_long : List ℕ → Bool
-is_too_long path = nat_lt most_path (length path + 2) || nat_lt most_local_part (length (local_part path)) || nat_lt most_domain (length (domain_of path))
+is_too_long path = nat_lt most_path (length path + 2)
+    || nat_lt most_local_part (length (local_part path))
+    || nat_lt most_domain (length (domain_of path))
 
--- an argument is a keyword of any case, blanks if there are some, a path as it is written, and what is parted from it; the path is without its route
+-- an argument is a keyword of any case, blanks if there are some, a path as it is written, and what
+-- is parted from it; the path is without its route
 pub record HasPath (keyword argument path rest : List ℕ) : Type 0 where
   pub word : List ℕ
   pub gap : List ℕ
@@ -88,5 +97,7 @@ pub record HasPath (keyword argument path rest : List ℕ) : Type 0 where
   pub parted : is_parted rest ≡ true
   pub unrouted : path ≡ without_route inside
 
-example : (without_route (codes "@h,@i:a@c") ≡ codes "a@c") × (without_route (codes "a:b@c") ≡ codes "a:b@c") × (local_part (codes "a@b@c") ≡ codes "a@b") × (domain_of (codes "a@b@c") ≡ codes "c")
+example : (without_route (codes "@h,@i:a@c") ≡ codes "a@c")
+    × (without_route (codes "a:b@c") ≡ codes "a:b@c") × (local_part (codes "a@b@c") ≡ codes "a@b")
+    × (domain_of (codes "a@b@c") ≡ codes "c")
 example = (refl, refl, refl, refl)

@@ -28,7 +28,8 @@ most_kept Commands false = most_command
 most_kept Commands true = most_message + 3
 most_kept Message may_turn = most_message + 3
 
--- what is kept of the line under way, how it is read, and whether the stream may be turned to a message
+-- what is kept of the line under way, how it is read, and whether the stream may be turned to a
+-- message
 pub record Under : Type 0 where
   pub mode : Mode
   pub may_turn : Bool
@@ -49,19 +50,26 @@ pub record Reader : Type 0 where
 
 -- nothing was received
 abbrev pub fresh : Reader
-fresh = record { under = record { mode = Commands; may_turn = false; kept = []; after_cr = false }; left = [] }
+fresh = record {
+  under = record { mode = Commands; may_turn = false; kept = []; after_cr = false };
+  left = [];
+}
 
--- a stream so far: its bytes, the grants of the lines that asked, but for one that is still awaited, and the lines that were given
+-- a stream so far: its bytes, the grants of the lines that asked, but for one that is still
+-- awaited, and the lines that were given
 pub record Stream : Type 0 where
   pub received : List ℕ
   pub granted : List Bool
   pub lines : List Line
 
--- a reader stands for a stream where its lines were given and the bytes after them are kept or left, whatever is answered to the last one that asked
+-- a reader stands for a stream where its lines were given and the bytes after them are kept or
+-- left, whatever is answered to the last one that asked
 pub record Stands (r : Reader) (s : Stream) : Type 0 where
   pub begun : List ℕ
   pub holds : Holds r.under begun
-  pub reads : (grant : Bool) → Reads Commands s.received (s.granted ++ awaited r.under.may_turn grant) s.lines (mode_by r.under.may_turn grant r.under.mode) (begun ++ r.left)
+  pub reads : (grant : Bool)
+      → Reads Commands s.received (s.granted ++ awaited r.under.may_turn grant) s.lines
+      (mode_by r.under.may_turn grant r.under.mode) (begun ++ r.left)
 
 -- the stream of which nothing has come
 abbrev pub empty_stream : Stream
@@ -74,7 +82,8 @@ received s piece = record s { received = s.received ++ piece }
 -- lines were given; where a line came after one that asked, that one was refused
 abbrev pub given : Bool → Stream → List Line → Stream
 given may_turn s [] = s
-given may_turn s (line ∷ lines) = record s { granted = s.granted ++ awaited may_turn false; lines = s.lines ++ (line ∷ lines) }
+given may_turn s (line ∷ lines) =
+    record s { granted = s.granted ++ awaited may_turn false; lines = s.lines ++ (line ∷ lines) }
 
 -- the last line that asked was granted
 abbrev pub granted : Stream → Stream
@@ -86,7 +95,8 @@ refused s = record s { granted = s.granted ++ false ∷ [] }
 
 -- a reader after a refusal: of the line under way no more is kept than of a command
 abbrev pub refused_by : Reader → Reader
-refused_by r = record r { under = record r.under { may_turn = false; kept = take most_command r.under.kept } }
+refused_by r =
+    record r { under = record r.under { may_turn = false; kept = take most_command r.under.kept } }
 
 -- these lines stand first among all
 pub record StandsFirst (first all : List Line) : Type 0 where
@@ -99,10 +109,13 @@ HasGrants r s told = s.granted ++ awaited r.under.may_turn false ≡ told
 
 -- no line but the last asks
 abbrev pub OnlyLastAsks : List Line → Type 0
-OnlyLastAsks lines = (front : List Line) (last : Line) → lines ≡ front ++ last ∷ [] → list_any asks front ≡ false
+OnlyLastAsks lines =
+    (front : List Line) (last : Line) → lines ≡ front ++ last ∷ [] → list_any asks front ≡ false
 
--- lines were given of the stream before, whose grants were these; where the last of them asks, its grant comes next
-pub record Gives (before : Stream) (told : List Bool) (lines : List Line) (new : Reader) (after : Stream) : Type 0 where
+-- lines were given of the stream before, whose grants were these; where the last of them asks, its
+-- grant comes next
+pub record Gives (before : Stream) (told : List Bool) (lines : List Line) (new : Reader)
+    (after : Stream) : Type 0 where
   pub stands : Stands new after
   pub received_is : after.received ≡ before.received
   pub lines_are : after.lines ≡ before.lines ++ lines

@@ -40,16 +40,22 @@ verb_named word =
 abbrev pub word_end : List ℕ → ℕ
 word_end text = position_or_len is_blank text
 
--- the path at the front of a text, without its angles, and what is after it; a path without angles ends at a blank
+-- the path at the front of a text, without its angles, and what is after it; a path without angles
+-- ends at a blank
 abbrev pub path_parts : List ℕ → Option Parts
 path_parts [] = None
 path_parts (b ∷ text) =
     if b == 60 then angle_parts text
-    else Some (record { front = take (word_end (b ∷ text)) (b ∷ text); back = drop (word_end (b ∷ text)) (b ∷ text) })
+    else Some (record {
+      front = take (word_end (b ∷ text)) (b ∷ text);
+      back = drop (word_end (b ∷ text)) (b ∷ text);
+    })
 
--- a path with its angles, or its local part, is above its limit: where neither is, its domain isn't either
+-- a path with its angles, or its local part, is above its limit: where neither is, its domain isn't
+-- either
 abbrev pub is_long : List ℕ → Bool
-is_long path = nat_lt most_path (length path + 2) || nat_lt most_local_part (length (local_part path))
+is_long path =
+    nat_lt most_path (length path + 2) || nat_lt most_local_part (length (local_part path))
 
 -- the path of its parts, without its route, with the first fault in this order
 abbrev pub checked : Verb → Option Parts → Result Parts LineFault
@@ -68,7 +74,9 @@ path_after verb keyword argument =
 
 -- what a size is
 abbrev pub size_of : List ℕ → Option ℕ
-size_of digits = if is_some_text digits && (nat_le (length digits) 20 && list_all is_ascii_digit digits) then Some (digits_value 10 digits) else None
+size_of digits = if is_some_text digits
+    && (nat_le (length digits) 20 && list_all is_ascii_digit digits)
+    then Some (digits_value 10 digits) else None
 
 abbrev pub as_size : Option ℕ → Option Given
 as_size None = None
@@ -79,19 +87,23 @@ abbrev pub given_by : List ℕ → Option Given
 given_by word =
     if str_eq_ignore_ascii_case word (codes "BODY=7BIT") then Some (Body false)
     else if str_eq_ignore_ascii_case word (codes "BODY=8BITMIME") then Some (Body true)
-    else if str_eq_ignore_ascii_case (take 5 word) (codes "SIZE=") then as_size (size_of (drop 5 word))
+    else if str_eq_ignore_ascii_case (take 5 word) (codes "SIZE=")
+    then as_size (size_of (drop 5 word))
     else None
 
 -- with one parameter more, where none of its kind came before
 abbrev pub with_given : Parameters → Option Given → Option Parameters
 with_given earlier None = None
-with_given earlier (Some (Size size)) = if is_some earlier.size then None else Some (record earlier { size = Some size })
-with_given earlier (Some (Body eight)) = if is_some earlier.body then None else Some (record earlier { body = Some eight })
+with_given earlier (Some (Size size)) =
+    if is_some earlier.size then None else Some (record earlier { size = Some size })
+with_given earlier (Some (Body eight)) =
+    if is_some earlier.body then None else Some (record earlier { body = Some eight })
 
 -- with those of some words
 abbrev pub with_words : List (List ℕ) → Option Parameters → Option Parameters
 with_words [] earlier = earlier
-with_words (word ∷ words) earlier = with_words words (option_and_then (λ p. with_given p (given_by word)) earlier)
+with_words (word ∷ words) earlier =
+    with_words words (option_and_then (λ p. with_given p (given_by word)) earlier)
 
 abbrev pub no_parameters : Parameters
 no_parameters = record { size = None; body = None }
@@ -139,4 +151,5 @@ order_by (Some Help) argument = Ok Explain
 
 -- what a command line asks for, or the first fault that it has
 abbrev pub order_of : List ℕ → Result Order LineFault
-order_of line = if list_any is_bad_byte line then Err BadByte else order_by (verb_named (verb_of line)) (argument_of line)
+order_of line = if list_any is_bad_byte line then Err BadByte
+    else order_by (verb_named (verb_of line)) (argument_of line)

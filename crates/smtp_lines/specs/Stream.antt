@@ -9,7 +9,8 @@ use Rattle.smtp_lines.specs.declared.line.Line.TheVariants.{Command, TooLong, Da
 use Rattle.smtp_lines.specs.declared.line.Mode.{Mode}
 use Rattle.smtp_lines.specs.declared.line.Mode.TheVariants.{Commands, Message}
 
--- the bytes that end a line: LF in commands (own; the standard has CR LF alone), and CR LF in a message
+-- the bytes that end a line: LF in commands (own; the standard has CR LF alone), and CR LF in a
+-- message
 abbrev pub end_of : Mode → List ℕ
 end_of Commands = 10 ∷ []
 end_of Message = crlf
@@ -37,15 +38,18 @@ without_cr bytes = if ends_in_cr bytes then take (length bytes - 1) bytes else b
 
 -- the command line of the bytes before its LF, with which it is no longer than a command may be
 abbrev pub command_line : List ℕ → Line
-command_line content = if nat_le (length content + 1) most_command then Command (without_cr content) else TooLong
+command_line content =
+    if nat_le (length content + 1) most_command then Command (without_cr content) else TooLong
 
 -- without the dot that a line of a message may begin with
 abbrev pub without_dot : List ℕ → List ℕ
 without_dot bytes = if slice_index bytes 0 == 46 then drop 1 bytes else bytes
 
--- the line of a message of the bytes before its CR LF; of those after its dot stands one more than a message may have
+-- the line of a message of the bytes before its CR LF; of those after its dot stands one more than
+-- a message may have
 abbrev pub message_line : List ℕ → Line
-message_line content = if bytes_eq content (46 ∷ []) then DataEnd else Data (take (most_message + 1) (without_dot content))
+message_line content = if bytes_eq content (46 ∷ []) then DataEnd
+    else Data (take (most_message + 1) (without_dot content))
 
 -- the line of the bytes before its end
 abbrev pub line_of : Mode → List ℕ → Line
@@ -79,17 +83,22 @@ abbrev pub granted_mode : Bool → Mode
 granted_mode true = Message
 granted_mode false = Commands
 
--- the lines at the front of bytes, how the stream goes on after them, and the bytes after them; granted says of each line that asks, in order, whether a message follows it
+-- the lines at the front of bytes, how the stream goes on after them, and the bytes after them;
+-- granted says of each line that asks, in order, whether a message follows it
 pub data Reads : Mode → List ℕ → List Bool → List Line → Mode → List ℕ → Type 0 where
   nothing : (mode : Mode) (bytes : List ℕ) → Reads mode bytes [] [] mode bytes
-  plain : (mode : Mode) (content after : List ℕ) (granted : List Bool) (lines : List Line) (last : Mode) (rest : List ℕ)
+  plain : (mode : Mode) (content after : List ℕ) (granted : List Bool) (lines : List Line)
+      (last : Mode) (rest : List ℕ)
       → has_end mode content ≡ false → asks (line_of mode content) ≡ false
       → Reads (mode_after (line_of mode content)) after granted lines last rest
-      → Reads mode (content ++ (end_of mode ++ after)) granted (line_of mode content ∷ lines) last rest
-  asked : (mode : Mode) (content after : List ℕ) (grant : Bool) (granted : List Bool) (lines : List Line) (last : Mode) (rest : List ℕ)
+      → Reads mode (content ++ (end_of mode ++ after)) granted
+      (line_of mode content ∷ lines) last rest
+  asked : (mode : Mode) (content after : List ℕ) (grant : Bool) (granted : List Bool)
+      (lines : List Line) (last : Mode) (rest : List ℕ)
       → has_end mode content ≡ false → asks (line_of mode content) ≡ true
       → Reads (granted_mode grant) after granted lines last rest
-      → Reads mode (content ++ (end_of mode ++ after)) (grant ∷ granted) (line_of mode content ∷ lines) last rest
+      → Reads mode (content ++ (end_of mode ++ after)) (grant ∷ granted)
+      (line_of mode content ∷ lines) last rest
 
 -- one more byte before a line end
 abbrev pub longer : ℕ → Option (List ℕ × List ℕ) → Option (List ℕ × List ℕ)
@@ -99,7 +108,8 @@ longer b (Some parts) = Some (b ∷ parts.0, parts.1)
 -- the bytes before the first line end, and those after it
 abbrev pub cut : Mode → List ℕ → Option (List ℕ × List ℕ)
 cut mode [] = None
-cut mode (b ∷ bytes) = if begins_with_end mode (b ∷ bytes) then Some ([], drop (length (end_of mode)) (b ∷ bytes)) else longer b (cut mode bytes)
+cut mode (b ∷ bytes) = if begins_with_end mode (b ∷ bytes)
+    then Some ([], drop (length (end_of mode)) (b ∷ bytes)) else longer b (cut mode bytes)
 
 -- the lines of a stream, how it goes on after them, and its bytes after the last line end
 pub record Reading : Type 0 where
@@ -117,9 +127,14 @@ abbrev pub with_line : Line → Reading → Reading
 with_line first reading = record reading { lines = first ∷ reading.lines }
 
 -- the reading of what stands before a line end and after it, where go reads on
-abbrev pub parts_by : (Mode → List ℕ → List Bool → Reading) → Mode → List ℕ → List Bool → Option (List ℕ × List ℕ) → Reading
+abbrev pub parts_by : (Mode → List ℕ → List Bool → Reading) → Mode → List ℕ → List Bool
+    → Option (List ℕ × List ℕ) → Reading
 parts_by go mode bytes granted None = record { lines = []; mode = mode; rest = bytes }
-parts_by go mode bytes granted (Some parts) = with_line (line_of mode parts.0) (if asks (line_of mode parts.0) then go (granted_mode (first_grant granted)) parts.1 (drop 1 granted) else go (mode_after (line_of mode parts.0)) parts.1 granted)
+parts_by go mode bytes granted (Some parts) =
+    with_line (line_of mode parts.0)
+    (if asks (line_of mode parts.0)
+    then go (granted_mode (first_grant granted)) parts.1 (drop 1 granted)
+    else go (mode_after (line_of mode parts.0)) parts.1 granted)
 
 -- so many lines at most
 abbrev pub reading_by : ℕ → Mode → List ℕ → List Bool → Reading

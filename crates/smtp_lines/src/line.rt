@@ -23,8 +23,8 @@ pub enum Line {
     Command(Text),
     /// A command of more than [`MOST_COMMAND`] bytes with its end.
     TooLong,
-    /// A line of a message, without its first dot. Of one that is then longer than a message may be,
-    /// one byte more than [`MOST_MESSAGE`] stands.
+    /// A line of a message, without its first dot. Of one that is then longer than a message may
+    /// be, one byte more than [`MOST_MESSAGE`] stands.
     Data(Text),
     /// The line of one dot, which ends a message.
     DataEnd,

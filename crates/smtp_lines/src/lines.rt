@@ -10,9 +10,10 @@ use std::marker::Model;
 
 /// A reader of a stream that comes in pieces. It keeps its allocator.
 ///
-/// It holds at most 16,777,219 bytes of a line under way, and of a command at most 2,048, but for a command
-/// right after one with the verb DATA, until that is refused: it may become a line of a message. Beside these it holds the bytes
-/// of the pieces that [`Lines::more`] wasn't asked for yet.
+/// It holds at most 16,777,219 bytes of a line under way, and of a command at most 2,048, but for a
+/// command right after one with the verb DATA, until that is refused: it may become a line of a
+/// message. Beside these it holds the bytes of the pieces that [`Lines::more`] wasn't asked for
+/// yet.
 #[derive(Drop)]
 pub struct Lines {
     begun: Begun,
@@ -42,12 +43,13 @@ impl Lines {
         }
     }
 
-    /// Takes the next piece of the stream, and gives the lines that the stream completes, up to a command
-    /// with the verb DATA; what is after that is kept for [`Lines::more`]. After `NoMemory` the reader is as
-    /// before, and the piece isn't taken.
+    /// Takes the next piece of the stream, and gives the lines that the stream completes, up to a
+    /// command with the verb DATA; what is after that is kept for [`Lines::more`]. After `NoMemory`
+    /// the reader is as before, and the piece isn't taken.
     ///
-    /// Each byte is looked at once and copied once, but for those of a line that comes in several pieces,
-    /// which are copied once more when it ends, and for those after a command with the verb DATA.
+    /// Each byte is looked at once and copied once, but for those of a line that comes in several
+    /// pieces, which are copied once more when it ends, and for those after a command with the verb
+    /// DATA.
     pub fn feed(&mut self, piece: &[u8]) -> Result<Seq<Line>, NoMemory>
         ensures stands { IfOk result (λ lines. (s : Stream) → Stands self.old s
             → Stands self.new (given self.old.under.may_turn (received s piece.now) lines)) }
@@ -73,8 +75,8 @@ impl Lines {
         }
     }
 
-    /// Gives the lines that what is kept completes, up to a command with the verb DATA. After `NoMemory` the
-    /// reader is as before. Where nothing is left it takes no memory.
+    /// Gives the lines that what is kept completes, up to a command with the verb DATA. After
+    /// `NoMemory` the reader is as before. Where nothing is left it takes no memory.
     pub fn more(&mut self) -> Result<Seq<Line>, NoMemory>
         ensures stands { IfOk result (λ lines. (s : Stream) → Stands self.old s
             → Stands self.new (given self.old.under.may_turn s lines)) }
@@ -97,14 +99,17 @@ impl Lines {
     /// Turns to a message, which follows the command with the verb DATA that was given last.
     pub fn data(&mut self)
         requires { IsTrue self.old.under.may_turn }
-        ensures turned { self.new ≡ record self.old { under = record self.old.under { mode = Mode.Message; may_turn = false } } }
+        ensures turned { self.new
+            ≡ record self.old {
+              under = record self.old.under { mode = Mode.Message; may_turn = false };
+            } }
         ensures stands { (s : Stream) → Stands self.old s → Stands self.new (granted s) }
     {
         self.begun.turn();
     }
 
-    /// Refuses the message that the command with the verb DATA asks for which was given last: commands go on.
-    /// Of one that is under way no more is kept than of any other.
+    /// Refuses the message that the command with the verb DATA asks for which was given last:
+    /// commands go on. Of one that is under way no more is kept than of any other.
     pub fn refuse(&mut self)
         requires { IsTrue self.old.under.may_turn }
         ensures refused { self.new ≡ refused_by self.old }
@@ -113,8 +118,8 @@ impl Lines {
         self.begun.refuse();
     }
 
-    /// Takes a piece where nothing is left unread. The piece is read where it is, and room for what may be left of
-    /// it is made before.
+    /// Takes a piece where nothing is left unread. The piece is read where it is, and room for what
+    /// may be left of it is made before.
     fn feed_alone(&mut self, piece: &[u8]) -> Result<Seq<Line>, NoMemory>
         requires { self.old.left ≡ [] }
         ensures stands { IfOk result (λ lines. (s : Stream) → Stands self.old s
@@ -134,7 +139,8 @@ impl Lines {
         Ok(lines)
     }
 
-    /// Whether the last line that was given is a command with the verb DATA, and [`Lines::data`] wasn't called since.
+    /// Whether the last line that was given is a command with the verb DATA, and [`Lines::data`]
+    /// wasn't called since.
     pub fn may_turn(&self) -> bool
         ensures { result ≡ self.now.under.may_turn }
     {
@@ -142,7 +148,8 @@ impl Lines {
     }
 
     fn put(&mut self, piece: &[u8]) -> Result<(), NoMemory>
-        ensures ok { OnOk result (self.new ≡ record self.old { left = self.old.left ++ piece.now }) }
+        ensures ok { OnOk result
+            (self.new ≡ record self.old { left = self.old.left ++ piece.now }) }
         ensures err { OnErr result (self.new ≡ self.old) }
     {
         self.left.extend_from_slice(piece)?;
@@ -151,7 +158,8 @@ impl Lines {
 
     fn take_back(&mut self, count: usize)
         requires { count ≤ length self.old.left }
-        ensures { self.new ≡ record self.old { left = take (length self.old.left - count) self.old.left } }
+        ensures { self.new
+            ≡ record self.old { left = take (length self.old.left - count) self.old.left } }
     {
         self.left.truncate(self.left.len() - count);
     }

@@ -71,7 +71,8 @@ fn begins_in_lf(bytes: &[u8]) -> bool
 /// The line of what was kept of its front, and its last bytes with its end.
 fn line_of(alloc: Global, mode: Mode, kept: &[u8], bytes: &[u8]) -> Result<Line, NoMemory>
     ensures { (begun content : List ℕ) → IsKept mode begun kept.now → 0 < length bytes.now
-        → begun ++ bytes.now ≡ content ++ end_of mode → IfOk result (λ line. line ≡ line_of mode content) }
+        → begun ++ bytes.now ≡ content ++ end_of mode
+        → IfOk result (λ line. line ≡ line_of mode content) }
 {
     match mode {
         Mode::Commands => command_of(alloc, kept, bytes),

@@ -24,7 +24,8 @@ pub(crate) struct Begun {
 
 impl Begun {
     pub(crate) fn new(alloc: Global) -> Begun
-        ensures { under result ≡ record { mode = Mode.Commands; may_turn = false; kept = []; after_cr = false } }
+        ensures { under result
+            ≡ record { mode = Mode.Commands; may_turn = false; kept = []; after_cr = false } }
     {
         Begun {
             mode: Mode::Commands,
@@ -42,27 +43,35 @@ impl Begun {
 
     /// Turns to a message.
     pub(crate) fn turn(&mut self)
-        ensures { under self.new ≡ record (under self.old) { mode = Mode.Message; may_turn = false } }
+        ensures { under self.new
+            ≡ record (under self.old) { mode = Mode.Message; may_turn = false } }
     {
         self.mode = Mode::Message;
         self.may_turn = false;
     }
 
-    /// Goes on with commands, and keeps no more of one under way than of any other. It takes no memory.
+    /// Goes on with commands, and keeps no more of one under way than of any other. It takes no
+    /// memory.
     #[tactic(auto, unfolding(mail_base::specs::Limits::most_command))]
     pub(crate) fn refuse(&mut self)
-        ensures { under self.new ≡ record (under self.old) { may_turn = false; kept = take most_command (under self.old).kept } }
+        ensures { under self.new
+            ≡ record (under self.old) {
+              may_turn = false;
+              kept = take most_command (under self.old).kept;
+            } }
     {
         self.kept.truncate(MOST_COMMAND);
         self.may_turn = false;
     }
 
-    /// Takes the lines that end in bytes, up to one that asks, and tells how many of the bytes it took.
+    /// Takes the lines that end in bytes, up to one that asks, and tells how many of the bytes it
+    /// took.
     pub(crate) fn take(&mut self, bytes: &[u8]) -> Result<(Seq<Line>, usize), NoMemory>
         ensures used { IfOk result (λ r. r.1 ≤ length bytes.now) }
         ensures some { IfOk result (λ r. IsTrue (asked_after false r.0) → 0 < r.1) }
         ensures all { IfOk result (λ r. asked_after false r.0 ≡ false → r.1 ≡ length bytes.now) }
-        ensures turns { IfOk result (λ r. (under self.new).may_turn ≡ asked_after (under self.old).may_turn r.0) }
+        ensures turns { IfOk result
+            (λ r. (under self.new).may_turn ≡ asked_after (under self.old).may_turn r.0) }
         ensures takes { (begun : List ℕ) → Holds (under self.old) begun
             → IfOk result (λ r. Takes (under self.old) (under self.new) begun bytes.now r.0 r.1) }
         ensures err { OnErr result (under self.new ≡ under self.old) }
@@ -84,7 +93,9 @@ impl Begun {
     /// The line under way goes on with these bytes.
     fn go_on(&mut self, bytes: &[u8]) -> Result<(), NoMemory>
         ensures ok { OnOk result (under self.new ≡ record (under self.old) {
-          kept = (under self.old).kept ++ take (most_kept (under self.old).mode (under self.old).may_turn - length (under self.old).kept) bytes.now;
+          kept = (under self.old).kept
+              ++ take (most_kept (under self.old).mode (under self.old).may_turn
+              - length (under self.old).kept) bytes.now;
           after_cr = cr_after (under self.old).after_cr bytes.now;
         }) }
         ensures err { OnErr result (under self.new ≡ under self.old) }

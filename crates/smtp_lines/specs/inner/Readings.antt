@@ -30,11 +30,14 @@ pub record IsKept (mode : Mode) (begun kept : List ℕ) : Type 0 where
   pub is : kept ≡ take most begun
 
 -- the lines that end in the bytes after what was begun, up to one that asks
-pub record ReadsOn (mode : Mode) (begun bytes : List ℕ) (lines : List Line) (now : Mode) (used : ℕ) (asked : Bool) : Type 0 where
+pub record ReadsOn (mode : Mode) (begun bytes : List ℕ) (lines : List Line) (now : Mode) (used : ℕ)
+    (asked : Bool) : Type 0 where
   pub asks : asked ≡ asked_after false lines
   pub commands : asked ≡ true → now ≡ Commands
   pub none : lines ≡ [] → has_end mode (begun ++ bytes) ≡ false
-  pub some : (lines ≡ [] → ⊥) → (grant : Bool) → Reads mode (begun ++ bytes) (awaited asked grant) lines (mode_by asked grant now) (drop used bytes)
+  pub some : (lines ≡ [] → ⊥) → (grant : Bool)
+      → Reads mode (begun ++ bytes) (awaited asked grant) lines
+      (mode_by asked grant now) (drop used bytes)
   pub all : (lines ≡ [] → ⊥) → asked ≡ false → has_end now (drop used bytes) ≡ false
 
 -- whether a CR is last, where bytes come after what was there
@@ -43,8 +46,12 @@ cr_after after_cr [] = after_cr
 cr_after after_cr (b ∷ bytes) = ends_in_cr (b ∷ bytes)
 
 -- the lines that were taken from so many of the bytes, and what is kept then
-pub record Takes (old new : Under) (begun bytes : List ℕ) (lines : List Line) (used : ℕ) : Type 0 where
+pub record Takes (old new : Under) (begun bytes : List ℕ) (lines : List Line)
+    (used : ℕ) : Type 0 where
   pub begun_now : List ℕ
   pub holds : Holds new begun_now
-  pub none : lines ≡ [] → (new ≡ record old { kept = new.kept; after_cr = new.after_cr }) × (begun_now ++ drop used bytes ≡ begun ++ bytes)
-  pub some : (lines ≡ [] → ⊥) → (grant : Bool) → Reads old.mode (begun ++ bytes) (awaited new.may_turn grant) lines (mode_by new.may_turn grant new.mode) (begun_now ++ drop used bytes)
+  pub none : lines ≡ [] → (new ≡ record old { kept = new.kept; after_cr = new.after_cr })
+      × (begun_now ++ drop used bytes ≡ begun ++ bytes)
+  pub some : (lines ≡ [] → ⊥) → (grant : Bool)
+      → Reads old.mode (begun ++ bytes) (awaited new.may_turn grant) lines
+      (mode_by new.may_turn grant new.mode) (begun_now ++ drop used bytes)

@@ -26,7 +26,8 @@ pub record IsTextFront (room : ℕ) (bytes : List ℕ) : Type 0 where
   pub within : length bytes + 1 ≤ room
 
 abbrev pub IsNoText : ℕ → List ℕ → Type 0
-IsNoText room bytes = (raw left rest : List ℕ) → has_lf raw ≡ false → length raw + 1 ≤ room → bytes ++ left ≡ raw ++ 10 ∷ rest → ⊥
+IsNoText room bytes = (raw left rest : List ℕ) → has_lf raw ≡ false → length raw + 1 ≤ room
+    → bytes ++ left ≡ raw ++ 10 ∷ rest → ⊥
 
 abbrev pub IsTextSeen : ℕ → List ℕ → TextSeen → Type 0
 IsTextSeen room bytes (Ends text size) = EndsText room bytes text.now size
@@ -40,13 +41,15 @@ pub record Fits (room : ℕ) (goes more : Bool) (text tail : List ℕ) : Type 0 
   pub may : more ≡ true → goes ≡ true
 
 -- such a tail behind a code
-pub record FitsBehind (code : List ℕ) (room : ℕ) (goes more : Bool) (text line : List ℕ) : Type 0 where
+pub record FitsBehind (code : List ℕ) (room : ℕ) (goes more : Bool)
+    (text line : List ℕ) : Type 0 where
   pub tail : List ℕ
   pub whole : line ≡ code ++ tail
   pub fits : Fits room goes more text tail
 
 -- bytes begin with one
-pub record BeginsLine (code : List ℕ) (room : ℕ) (goes more : Bool) (bytes text : List ℕ) (size : ℕ) : Type 0 where
+pub record BeginsLine (code : List ℕ) (room : ℕ) (goes more : Bool) (bytes text : List ℕ)
+    (size : ℕ) : Type 0 where
   pub line : List ℕ
   pub rest : List ℕ
   pub is : FitsBehind code room goes more text line
@@ -65,16 +68,20 @@ pub record IsLineFront (code : List ℕ) (room : ℕ) (goes : Bool) (bytes : Lis
 
 -- no bytes that begin with these begin with one, nor is one a front of them
 abbrev pub IsNoLine : List ℕ → ℕ → Bool → List ℕ → Type 0
-IsNoLine code room goes bytes = (more : Bool) (text line left rest : List ℕ) → FitsBehind code room goes more text line → bytes ++ left ≡ line ++ rest → ⊥
+IsNoLine code room goes bytes = (more : Bool) (text line left rest : List ℕ)
+    → FitsBehind code room goes more text line → bytes ++ left ≡ line ++ rest → ⊥
 
 abbrev pub IsLineSeen : List ℕ → ℕ → Bool → List ℕ → LineSeen → Type 0
-IsLineSeen code room goes bytes (Last text size) = BeginsLine code room goes false bytes text.now size
-IsLineSeen code room goes bytes (More text size) = BeginsLine code room goes true bytes text.now size
+IsLineSeen code room goes bytes (Last text size) =
+    BeginsLine code room goes false bytes text.now size
+IsLineSeen code room goes bytes (More text size) =
+    BeginsLine code room goes true bytes text.now size
 IsLineSeen code room goes bytes LinePart = IsLineFront code room goes bytes
 IsLineSeen code room goes bytes LineBad = IsNoLine code room goes bytes
 
 -- bytes begin with a reply of at most n lines
-pub record BeginsLines (code : List ℕ) (n : ℕ) (bytes text : List ℕ) (eight : Bool) (size : ℕ) : Type 0 where
+pub record BeginsLines (code : List ℕ) (n : ℕ) (bytes text : List ℕ) (eight : Bool)
+    (size : ℕ) : Type 0 where
   pub later : List (List ℕ)
   pub reply : List ℕ
   pub rest : List ℕ
@@ -92,7 +99,8 @@ pub record AreFront (code : List ℕ) (n : ℕ) (bytes : List ℕ) : Type 0 wher
   pub whole : bytes ++ more ≡ reply
 
 abbrev pub AreNone : List ℕ → ℕ → List ℕ → Type 0
-AreNone code n bytes = (texts : List (List ℕ)) (reply left rest : List ℕ) → IsReply code n texts reply → bytes ++ left ≡ reply ++ rest → ⊥
+AreNone code n bytes = (texts : List (List ℕ)) (reply left rest : List ℕ)
+    → IsReply code n texts reply → bytes ++ left ≡ reply ++ rest → ⊥
 
 abbrev pub AreSeen : List ℕ → ℕ → List ℕ → Rest → Type 0
 AreSeen code n bytes (Whole text eight size) = BeginsLines code n bytes text.now eight size
