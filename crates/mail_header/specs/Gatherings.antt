@@ -31,13 +31,15 @@ pub record IsGone (g : Gathered) : Type 0 where
   pub headers : g.headers ≡ []
   pub body : g.body ≡ []
 
--- what is kept of the lines of a message with this limit: their split, or nothing where they are above it
+-- what is kept of the lines of a message with this limit: their split, or nothing where they are
+-- above it
 pub record Gathers (g : Gathered) (limit : ℕ) (lines : List (List ℕ)) : Type 0 where
   pub size : g.size ≡ counted limit (size_of lines)
   pub split : is_above limit g.size ≡ false → KeepsSplit g lines
   pub gone : is_above limit g.size ≡ true → IsGone g
 
--- the bytes that are kept are within the limits: those of the headers, each with its CR LF, and these with those of the body
+-- the bytes that are kept are within the limits: those of the headers, each with its CR LF, and
+-- these with those of the body
 pub record IsSmall (g : Gathered) (limit : ℕ) : Type 0 where
   pub headers : length (text_of g.headers) ≤ most_headers
   pub all : length (text_of g.headers) + length g.body ≤ limit

@@ -1,4 +1,5 @@
--- The headers and the body of a message (RFC 5322, sections 2.1, 2.2 and 2.2.3; that a name is any bytes from 33 to 126 but a colon is of section 3.6.8).
+-- The headers and the body of a message (RFC 5322, sections 2.1, 2.2 and 2.2.3; that a name is any
+-- bytes from 33 to 126 but a colon is of section 3.6.8).
 use Rattle.std.specs.Prelude.{◌≡◌, ℕ, slice_index, ◌==◌, nat_lt, nat_le, Bool, true, false, not, ◌||◌, ◌&&◌, List, [], ◌∷◌, ◌++◌, length}
 use Rattle.std.specs.List.{list_all, prefix_len, flat_map}
 use Rattle.mail_base.specs.Texts.{is_blank, crlf}
@@ -14,7 +15,8 @@ is_plain b = not (b == 13) && not (b == 10)
 
 -- the same, where its name has so many bytes
 abbrev pub is_header_by : List ℕ → ℕ → Bool
-is_header_by line n = (nat_lt 0 n && nat_lt n (length line)) && (slice_index line n == 58 && list_all is_plain line)
+is_header_by line n =
+    (nat_lt 0 n && nat_lt n (length line)) && (slice_index line n == 58 && list_all is_plain line)
 
 -- a header's first line: a name, a colon, bytes without CR or LF
 abbrev pub is_header : List ℕ → Bool
@@ -27,16 +29,19 @@ is_continuation line = is_blank (slice_index line 0) && list_all is_plain line
 -- lines that go on with a header, with CR LF between them
 pub data IsFolded : List ℕ → Type 0 where
   last_fold : (line : List ℕ) → is_continuation line ≡ true → IsFolded line
-  one_fold : (line more : List ℕ) → is_continuation line ≡ true → IsFolded more → IsFolded (line ++ (crlf ++ more))
+  one_fold : (line more : List ℕ) → is_continuation line ≡ true → IsFolded more
+      → IsFolded (line ++ (crlf ++ more))
 
 -- a header: its first line, and the lines that go on with it
 pub data IsHeaderText : List ℕ → Type 0 where
   unfolded : (line : List ℕ) → is_header line ≡ true → IsHeaderText line
-  folded : (line more : List ℕ) → is_header line ≡ true → IsFolded more → IsHeaderText (line ++ (crlf ++ more))
+  folded : (line more : List ℕ) → is_header line ≡ true → IsFolded more
+      → IsHeaderText (line ++ (crlf ++ more))
 
 pub data AreHeaders : List (List ℕ) → Type 0 where
   no_headers : AreHeaders []
-  one_header : (header : List ℕ) (headers : List (List ℕ)) → IsHeaderText header → AreHeaders headers → AreHeaders (header ∷ headers)
+  one_header : (header : List ℕ) (headers : List (List ℕ)) → IsHeaderText header
+      → AreHeaders headers → AreHeaders (header ∷ headers)
 
 abbrev pub with_end : List ℕ → List ℕ
 with_end line = line ++ crlf
@@ -49,16 +54,19 @@ abbrev pub is_some_line : List (List ℕ) → Bool
 is_some_line [] = false
 is_some_line (line ∷ lines) = true
 
--- a text begins with no line that would be one of the headers before it; a last line without CR LF is none
+-- a text begins with no line that would be one of the headers before it; a last line without CR LF
+-- is none
 abbrev pub EndsHeaders : List (List ℕ) → List ℕ → Type 0
-EndsHeaders headers rest = (line more : List ℕ) → rest ≡ line ++ (crlf ++ more) → (is_header line ≡ false) × (is_some_line headers ≡ true → is_continuation line ≡ false)
+EndsHeaders headers rest = (line more : List ℕ) → rest ≡ line ++ (crlf ++ more)
+    → (is_header line ≡ false) × (is_some_line headers ≡ true → is_continuation line ≡ false)
 
 -- the body of what is behind the headers: an empty line is dropped where it stands first
 pub data IsBody : List ℕ → List ℕ → Type 0 where
   behind_empty_line : (body : List ℕ) → IsBody (crlf ++ body) body
   at_once : (body : List ℕ) → ((more : List ℕ) → ¬ (body ≡ crlf ++ more)) → IsBody body body
 
--- a message's text is its headers, each with CR LF, and then its body; block is the size of the headers with these ends
+-- a message's text is its headers, each with CR LF, and then its body; block is the size of the
+-- headers with these ends
 pub record IsSplit (message : List ℕ) (split : Split) : Type 0 where
   pub rest : List ℕ
   pub whole : message ≡ text_of split.headers ++ rest
@@ -75,4 +83,5 @@ has_crlf (b ∷ text) = ((b == 13 && slice_index text 0 == 10) || has_crlf text)
 -- lines without their ends
 pub data AreLines : List (List ℕ) → Type 0 where
   no_lines : AreLines []
-  one_line : (line : List ℕ) (lines : List (List ℕ)) → has_crlf line ≡ false → AreLines lines → AreLines (line ∷ lines)
+  one_line : (line : List ℕ) (lines : List (List ℕ)) → has_crlf line ≡ false → AreLines lines
+      → AreLines (line ∷ lines)

@@ -14,13 +14,15 @@ onto_last line (header ∷ next ∷ headers) = header ∷ onto_last line (next �
 
 -- the headers with one more line of the header block
 abbrev pub header_added : List ℕ → List (List ℕ) → List (List ℕ)
-header_added line headers = if is_continuation line then onto_last line headers else headers ++ line ∷ []
+header_added line headers =
+    if is_continuation line then onto_last line headers else headers ++ line ∷ []
 
 -- a line of the header block was added, and the rest stays
 pub record AddsHeader (old new : Gathered) (line : List ℕ) : Type 0 where
   pub size : new.size ≡ old.size
   pub block : new.block ≡ counted most_headers (old.block + length line + 2)
-  pub headers : new.headers ≡ unless (is_above most_headers new.block) (header_added line old.headers)
+  pub headers : new.headers
+      ≡ unless (is_above most_headers new.block) (header_added line old.headers)
   pub has_header : new.has_header ≡ true
   pub body : new.body ≡ old.body
   pub has_body : new.has_body ≡ old.has_body

@@ -12,4 +12,5 @@ pub record BeginsLine (begun : Bool) (text : List ℕ) (end : ℕ) : Type 0 wher
 
 -- it begins with none
 abbrev pub NoLine : Bool → List ℕ → Type 0
-NoLine begun text = (line more : List ℕ) → text ≡ line ++ (crlf ++ more) → (is_header line ≡ false) × (begun ≡ true → is_continuation line ≡ false)
+NoLine begun text = (line more : List ℕ) → text ≡ line ++ (crlf ++ more)
+    → (is_header line ≡ false) × (begun ≡ true → is_continuation line ≡ false)
