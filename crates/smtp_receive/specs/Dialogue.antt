@@ -1,4 +1,5 @@
--- The replies and the messages of a session, as a function of all its lines (RFC 5321 sections 3.3 and 4.1.4).
+-- The replies and the messages of a session, as a function of all its lines (RFC 5321 sections 3.3
+-- and 4.1.4).
 use Rattle.std.specs.Prelude.{ℕ, Bool, true, false, not, ◌||◌, ◌&&◌, List, [], ◌∷◌, ◌++◌, Option, Some, None, is_some, unwrap_or, option_map, Result, Ok, Err, fold, reverse, if◌then◌else◌, codes}
 use Rattle.smtp_lines.specs.declared.line.Line.{Line}
 use Rattle.smtp_lines.specs.declared.line.Line.TheVariants.{Command, TooLong, Data as DataLine, DataEnd}
@@ -34,7 +35,8 @@ pub record Exchange : Type 0 where
   pub line : Line
   pub answer : Option Answer
 
--- what a session is given: a line, whether 452 4.3.1 was replied to it for want of memory, and the id that its message got, if it gave one that was taken in
+-- what a session is given: a line, whether 452 4.3.1 was replied to it for want of memory, and the
+-- id that its message got, if it gave one that was taken in
 pub record Heard : Type 0 where
   pub line : Line
   pub short : Bool
@@ -123,7 +125,8 @@ with_text TooLong lines = lines
 with_text (DataLine text) lines = option_map (λ earlier. earlier ++ text ∷ []) lines
 with_text DataEnd lines = lines
 
--- the transaction under way: the sender of a MAIL that is accepted, the recipient of an RCPT that is, of which there is one at most, and the lines since the 354
+-- the transaction under way: the sender of a MAIL that is accepted, the recipient of an RCPT that
+-- is, of which there is one at most, and the lines since the 354
 pub record Transaction : Type 0 where
   pub sender : Option (List ℕ)
   pub recipient : Option (List ℕ)
@@ -155,7 +158,8 @@ recipient_in before = (transaction_in before).recipient
 abbrev pub lines_in : List Exchange → Option (List (List ℕ))
 lines_in before = (transaction_in before).lines
 
--- whether a line is of data of which nothing is kept, since 452 4.3.1 ended the transaction: it gets no reply
+-- whether a line is of data of which nothing is kept, since 452 4.3.1 ended the transaction: it
+-- gets no reply
 abbrev pub is_dropped : List Exchange → Line → Bool
 is_dropped before (Command text) = false
 is_dropped before TooLong = false
@@ -183,7 +187,8 @@ rcpt_reply false reply = NeedMail
 
 -- the reply to an RCPT in the grammar, by whether there is a recipient
 abbrev pub to_reply : List ℕ → Bool → Reply
-to_reply path full = if is_nothing path then UserRequired else if full then TooManyRecipients else RecipientOk
+to_reply path full =
+    if is_nothing path then UserRequired else if full then TooManyRecipients else RecipientOk
 
 -- the answer to DATA, by whether there is a recipient
 abbrev pub data_answer : Bool → Answer
@@ -228,26 +233,38 @@ abbrev pub message_answer : Kept → List ℕ → List ℕ → List (List ℕ) �
 message_answer kept sender recipient lines =
     if is_above most_message (size_of lines) then Says MessageTooLarge
     else if is_above most_headers (size_of (block_of false lines)) then Says HeaderTooLarge
-    else Gives (record { sender = sender; recipient = recipient; headers = headers_of lines; body = body_of lines; size = size_of lines; kept = kept })
+    else Gives (record {
+      sender = sender;
+      recipient = recipient;
+      headers = headers_of lines;
+      body = body_of lines;
+      size = size_of lines;
+      kept = kept;
+    })
 
 -- the same where a message may be under way; the end of data that were dropped gets no reply
 abbrev pub end_answer : Kept → Option (List ℕ) → Option (List ℕ) → Option (List (List ℕ)) → Answer
-end_answer kept (Some sender) (Some recipient) (Some lines) = message_answer kept sender recipient lines
+end_answer kept (Some sender) (Some recipient) (Some lines) =
+    message_answer kept sender recipient lines
 end_answer kept _ _ _ = Takes
 
 -- the answer to a line after what came before it
 abbrev pub answer_to : List ℕ → List Exchange → Line → Answer
-answer_to peer before (Command text) = command_answer (is_some (sender_in before)) (is_some (recipient_in before)) (request_of text)
+answer_to peer before (Command text) =
+    command_answer (is_some (sender_in before)) (is_some (recipient_in before)) (request_of text)
 answer_to peer before TooLong = Says LineTooLong
 answer_to peer before (DataLine text) = Takes
-answer_to peer before DataEnd = end_answer (kept_in peer before) (sender_in before) (recipient_in before) (lines_in before)
+answer_to peer before DataEnd =
+    end_answer (kept_in peer before) (sender_in before) (recipient_in before) (lines_in before)
 
 -- want of memory leaves no answer, but where there is no reply in any case
 abbrev pub answer_heard : List ℕ → List Exchange → Heard → Option Answer
-answer_heard peer before heard = if heard.short && not (is_dropped before heard.line) then None else Some (answer_to peer before heard.line)
+answer_heard peer before heard = if heard.short && not (is_dropped before heard.line) then None
+    else Some (answer_to peer before heard.line)
 
 abbrev pub exchange_of : List ℕ → List Exchange → Heard → Exchange
-exchange_of peer before heard = record { line = heard.line; answer = answer_heard peer before heard }
+exchange_of peer before heard =
+    record { line = heard.line; answer = answer_heard peer before heard }
 
 abbrev pub with_heard : List ℕ → List Exchange → Heard → List Exchange
 with_heard peer before heard = exchange_of peer before heard ∷ before
@@ -269,7 +286,8 @@ did_of host Closes = Bye (closing_text host)
 did_of host (Gives message) = Message message
 did_of host Takes = Taken
 
--- the reply to a line, if it gets one: 452 4.3.1 where there was no memory for its answer; to a message its 250, where it got an id
+-- the reply to a line, if it gets one: 452 4.3.1 where there was no memory for its answer; to a
+-- message its 250, where it got an id
 abbrev pub reply_by : List ℕ → Option Answer → Option ℕ → Option (List ℕ)
 reply_by host None id = Some out_of_memory_text
 reply_by host (Some (Says reply)) id = Some (text_of reply)
@@ -282,7 +300,9 @@ reply_by host (Some Takes) id = None
 -- the replies to what is given to a session behind some exchanges
 abbrev pub replies_from : List ℕ → List ℕ → List Exchange → List Heard → List (List ℕ)
 replies_from host peer before [] = []
-replies_from host peer before (next ∷ heard) = listed (reply_by host (answer_heard peer before next) next.id) ++ replies_from host peer (with_heard peer before next) heard
+replies_from host peer before (next ∷ heard) =
+    listed (reply_by host (answer_heard peer before next) next.id)
+    ++ replies_from host peer (with_heard peer before next) heard
 
 -- the replies of a session behind its greeting
 abbrev pub replies_to : List ℕ → List ℕ → List Heard → List (List ℕ)

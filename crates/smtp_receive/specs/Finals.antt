@@ -1,4 +1,5 @@
--- Which texts a session replies with, and which of them says that a message is stored (RFC 5321 section 4.2.5).
+-- Which texts a session replies with, and which of them says that a message is stored (RFC 5321
+-- section 4.2.5).
 use Rattle.std.specs.Prelude.{◌≡◌, ℕ, List, Option, Some, None}
 use Rattle.smtp_receive.specs.declared.received.Did.{Did}
 use Rattle.smtp_receive.specs.declared.received.Did.TheVariants.{Reply as Replied, Granted, Message, Taken, Bye}

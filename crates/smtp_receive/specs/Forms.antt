@@ -1,4 +1,5 @@
--- The forms of what a received message has (RFC 5321 section 4.1.2; RFC 5322 section 2.2.3 of folded headers), and of what its headers and its body are (section 2.1).
+-- The forms of what a received message has (RFC 5321 section 4.1.2; RFC 5322 section 2.2.3 of
+-- folded headers), and of what its headers and its body are (section 2.1).
 use Rattle.std.specs.Prelude.{◌≡◌, ℕ, ◌≤◌, List, All, codes}
 use Rattle.mail_base.specs.Limits.{most_message}
 use Rattle.mail_base.specs.Texts.{IsLine, IsBracketed, IsHeader}
@@ -18,4 +19,5 @@ pub record IsFormed (message : Received) (peer : List ℕ) : Type 0 where
 -- a message has the headers and the body of this text, by the grammar of mail_header
 pub record IsSplitOf (message : Received) (text : List ℕ) : Type 0 where
   pub block : ℕ
-  pub split : IsSplit text (record { headers = message.headers; body = message.body; block = block })
+  pub split : IsSplit text
+      (record { headers = message.headers; body = message.body; block = block })

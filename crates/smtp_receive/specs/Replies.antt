@@ -1,4 +1,5 @@
--- The texts of the replies (RFC 5321 section 4.2; their words and enhanced statuses, RFC 3463, are our own).
+-- The texts of the replies (RFC 5321 section 4.2; their words and enhanced statuses, RFC 3463, are
+-- our own).
 use Rattle.std.specs.Prelude.{ℕ, List, ◌∷◌, ◌++◌, take, codes}
 use Rattle.mail_base.specs.Limits.{most_domain}
 use Rattle.mail_base.specs.Names.{id_text}
@@ -42,7 +43,8 @@ hello_text host = codes "250 " ++ host ++ codes " Hello" ++ crlf
 
 -- the reply to DATA that lines of a message follow
 abbrev pub grant_text : List ℕ
-grant_text = codes "354 Enter mail, end with " ++ 34 ∷ 46 ∷ 34 ∷ codes " on a line by itself" ++ crlf
+grant_text =
+    codes "354 Enter mail, end with " ++ 34 ∷ 46 ∷ 34 ∷ codes " on a line by itself" ++ crlf
 
 abbrev pub closing_text : List ℕ → List ℕ
 closing_text host = codes "221 2.0.0 " ++ host ++ codes " closing connection" ++ crlf

@@ -1,4 +1,5 @@
--- What a command line asks a session for (RFC 5321, section 4.1.1). What the line itself says is told by IsRead of smtp_lines, and its law one_command says that order_of has it.
+-- What a command line asks a session for (RFC 5321, section 4.1.1). What the line itself says is
+-- told by IsRead of smtp_lines, and its law one_command says that order_of has it.
 use Rattle.std.specs.Prelude.{ℕ, Bool, true, false, ◌||◌, List, take, Option, is_some, Result, Ok, Err, if◌then◌else◌, codes}
 use Rattle.std.specs.Str.{str_eq_ignore_ascii_case}
 use Rattle.mail_base.specs.declared.command.Verb.TheVariants.{Mail as VerbMail}
@@ -7,7 +8,8 @@ use Rattle.mail_base.specs.declared.command.LineFault.TheVariants.{BadByte, Unkn
 use Rattle.smtp_lines.specs.Commands.{Order, Greet as HasGreet, Extend, From as HasFrom, To as HasTo, Begin as HasBegin, Reset, Wait, End as HasEnd, Verify, Expand, Explain}
 use Rattle.smtp_lines.specs.Reading.{order_of}
 
--- what a session is asked for: HELO, MAIL, RCPT, DATA and QUIT in turn; a path is without its angles and its route
+-- what a session is asked for: HELO, MAIL, RCPT, DATA and QUIT in turn; a path is without its
+-- angles and its route
 pub data Request : Type 0 where
   Greet : List ℕ → Request
   From : List ℕ → Request
@@ -15,7 +17,8 @@ pub data Request : Type 0 where
   Begin : Request
   End : Request
 
--- whether a line begins with a verb that a session serves, whatever its case; each verb has four letters
+-- whether a line begins with a verb that a session serves, whatever its case; each verb has four
+-- letters
 abbrev pub is_served : List ℕ → Bool
 is_served line =
     str_eq_ignore_ascii_case (take 4 line) (codes "HELO")

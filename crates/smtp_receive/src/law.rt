@@ -12,16 +12,20 @@ ghost use Rattle.smtp_receive.specs.Finals.{IsFinal, text_told};
 
 /// A dialogue goes on by one exchange a line, which answers the line by the dialogue before it.
 pub fn one_exchange_a_line()
-    ensures { (peer : List ℕ) (heard : List Heard) (next : Heard) → dialogue peer (heard ++ next ∷ [])
+    ensures { (peer : List ℕ) (heard : List Heard) (next : Heard)
+        → dialogue peer (heard ++ next ∷ [])
         ≡ dialogue peer heard ++ exchange_of peer (reverse (dialogue peer heard)) next ∷ [] }
 {}
 
-/// Each line that a session is given adds its reply, if it gets one, to the session's replies. What is done at
-/// an answer says this reply; that of a message is said once it has its id.
+/// Each line that a session is given adds its reply, if it gets one, to the session's replies. What
+/// is done at an answer says this reply; that of a message is said once it has its id.
 pub fn one_reply_a_line()
-    ensures more { (host peer : List ℕ) (heard : List Heard) (next : Heard) → replies_to host peer (heard ++ next ∷ [])
-        ≡ replies_to host peer heard ++ listed (reply_by host (answer_heard peer (exchanges peer heard) next) next.id) }
-    ensures told { (host : List ℕ) (answer : Answer) → text_told (did_of host answer) ≡ reply_by host (Some answer) None }
+    ensures more { (host peer : List ℕ) (heard : List Heard) (next : Heard)
+        → replies_to host peer (heard ++ next ∷ [])
+        ≡ replies_to host peer heard
+        ++ listed (reply_by host (answer_heard peer (exchanges peer heard) next) next.id) }
+    ensures told { (host : List ℕ) (answer : Answer)
+        → text_told (did_of host answer) ≡ reply_by host (Some answer) None }
 {}
 
 /// A message that is given has its parts in their forms, whatever the lines are.
@@ -30,14 +34,17 @@ pub fn messages_have_forms()
         → answer_of peer heard line ≡ Gives message → IsFormed message peer }
 {}
 
-/// A message that is given has the headers and the body of its lines' text, where no line has an end inside.
+/// A message that is given has the headers and the body of its lines' text, where no line has an
+/// end inside.
 pub fn messages_are_split()
-    ensures { (peer : List ℕ) (heard : List Heard) (line : Line) (message : Received) (lines : List (List ℕ))
+    ensures { (peer : List ℕ) (heard : List Heard) (line : Line) (message : Received)
+        (lines : List (List ℕ))
         → answer_of peer heard line ≡ Gives message → lines_in (exchanges peer heard) ≡ Some lines
         → AreLines lines → IsSplitOf message (text_of lines) }
 {}
 
-/// Of all that is replied, the reply to a message that is stored is alone in saying so, whatever the host is.
+/// Of all that is replied, the reply to a message that is stored is alone in saying so, whatever
+/// the host is.
 pub fn no_other_reply_is_final()
     ensures lines { (host : List ℕ) (answer : Answer) (text : List ℕ)
         → text_told (did_of host answer) ≡ Some text → ¬ IsFinal text }

@@ -1,5 +1,5 @@
-//! One SMTP session, line by line: what is replied to each line, and the message at the end of data.
-//! What [`Session::line`] answers is what `specs/Dialogue.antt` says of all lines so far.
+//! One SMTP session, line by line: what is replied to each line, and the message at the end of
+//! data. What [`Session::line`] answers is what `specs/Dialogue.antt` says of all lines so far.
 #![tactic(auto)]
 
 mod ending;

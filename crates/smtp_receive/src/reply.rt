@@ -67,7 +67,8 @@ pub(crate) fn grant(alloc: Global) -> Result<Text, NoMemory>
     line_text(alloc, b"354 Enter mail, end with \".\" on a line by itself")
 }
 
-/// The reply to a line for which there is no memory, 452. Asked for early, it can be kept until then.
+/// The reply to a line for which there is no memory, 452. Asked for early, it can be kept until
+/// then.
 pub fn out_of_memory(alloc: Global) -> Result<Text, NoMemory>
     ensures { IfOk result (λ text. text ≡ out_of_memory_text) }
 {

@@ -18,8 +18,8 @@ pub(crate) enum Request<'a> {
     Quit,
 }
 
-/// What a line asks a session for, or the first fault that it has. A verb that sessions don't serve is not
-/// known, nor is a parameter of MAIL but `BODY=7BIT`, which says what holds without it.
+/// What a line asks a session for, or the first fault that it has. A verb that sessions don't serve
+/// is not known, nor is a parameter of MAIL but `BODY=7BIT`, which says what holds without it.
 pub(crate) fn read_request(line: &[u8]) -> Result<Request<'_>, LineFault>
     ensures { as_asked result ≡ spec.request_of line.now }
 {

@@ -18,8 +18,8 @@ use std::alloc::Global;
 
 /// A session with a peer, which is given the lines of its stream in turn.
 ///
-/// Of a message under way it keeps at most 16,777,216 bytes, of which at most 65,536 are of headers, with the
-/// ends of their lines. It keeps its allocator.
+/// Of a message under way it keeps at most 16,777,216 bytes, of which at most 65,536 are of
+/// headers, with the ends of their lines. It keeps its allocator.
 #[derive(Drop)]
 pub struct Session {
     /// As replies show it.
@@ -55,23 +55,28 @@ impl Session {
         self.with_host(b"220 ", b" ESMTP ready")
     }
 
-    /// Answers a line of the session's stream. After `NoMemory` the session is as before; the caller replies
-    /// 452 4.3.1 and calls [`Session::reset`]. A line that gets no reply in any case takes no memory.
+    /// Answers a line of the session's stream. After `NoMemory` the session is as before; the
+    /// caller replies 452 4.3.1 and calls [`Session::reset`]. A line that gets no reply in any case
+    /// takes no memory.
     pub fn line(&mut self, line: &Line) -> Result<Did, NoMemory>
         ensures did { (host peer : List ℕ) (heard : List Heard) → Stands self.old host peer heard
             → IfOk result (λ did. did ≡ did_of (shown_host host) (answer_of peer heard line.now)) }
-        ensures stands { (host peer : List ℕ) (heard : List Heard) (id : Option ℕ) → Stands self.old host peer heard
-            → IfOk result (λ _. Stands self.new host peer (heard ++ record { line = line.now; short = false; id = id } ∷ [])) }
+        ensures stands { (host peer : List ℕ) (heard : List Heard) (id : Option ℕ)
+            → Stands self.old host peer heard
+            → IfOk result (λ _. Stands self.new host peer
+            (heard ++ record { line = line.now; short = false; id = id } ∷ [])) }
         ensures silent { (host peer : List ℕ) (heard : List Heard) → Stands self.old host peer heard
             → is_dropped (exchanges peer heard) line.now ≡ true → result ≡ Ok Did.Taken }
-        ensures bounded { (host peer : List ℕ) (heard : List Heard) → Stands self.old host peer heard
+        ensures bounded { (host peer : List ℕ) (heard : List Heard)
+            → Stands self.old host peer heard
             → IfOk result (λ _. IsBounded self.new) }
         ensures err { OnErr result (self.new ≡ self.old) }
     {
         self.answer(line)
     }
 
-    /// The final reply, 250, to the message that the last line gave, once it is stored under this id.
+    /// The final reply, 250, to the message that the last line gave, once it is stored under this
+    /// id.
     #[tactic(auto, using(crate::proofs::ReplyLemmas::name_long))]
     pub fn stored(&self, id: &Id) -> Result<Text, NoMemory>
         ensures { IfOk result (λ text. text ≡ stored_text id.now) }
@@ -82,17 +87,24 @@ impl Session {
         host_text(self.host.allocator(), b"250 2.0.0 ", text, back)
     }
 
-    /// Ends the transaction, after 452 4.3.1 was replied to a line. It takes no memory. Of a message
-    /// under way the rest gets no reply.
+    /// Ends the transaction, after 452 4.3.1 was replied to a line. It takes no memory. Of a
+    /// message under way the rest gets no reply.
     pub fn reset(&mut self)
-        ensures stands { (host peer : List ℕ) (heard : List Heard) (line : Line) → Stands self.old host peer heard
+        ensures stands { (host peer : List ℕ) (heard : List Heard) (line : Line)
+            → Stands self.old host peer heard
             → is_dropped (exchanges peer heard) line ≡ false
-            → Stands self.new host peer (heard ++ record { line = line; short = true; id = None } ∷ []) }
-        // The same after the end of data whose message was given, also where 452 4.3.1 was replied in place of its 250.
-        ensures ended { (host peer : List ℕ) (heard : List Heard) (was is : Bool) (earlier later : Option ℕ)
-            → Stands self.old host peer (heard ++ record { line = Line.DataEnd; short = was; id = earlier } ∷ [])
-            → Stands self.new host peer (heard ++ record { line = Line.DataEnd; short = is; id = later } ∷ []) }
-        ensures reset { self.new ≡ record self.old { sender = None; recipient = None; message = None } }
+            → Stands self.new host peer
+            (heard ++ record { line = line; short = true; id = None } ∷ []) }
+        // The same after the end of data whose message was given, also where 452 4.3.1 was replied
+        // in place of its 250.
+        ensures ended { (host peer : List ℕ) (heard : List Heard) (was is : Bool)
+            (earlier later : Option ℕ)
+            → Stands self.old host peer
+            (heard ++ record { line = Line.DataEnd; short = was; id = earlier } ∷ [])
+            → Stands self.new host peer
+            (heard ++ record { line = Line.DataEnd; short = is; id = later } ∷ []) }
+        ensures reset { self.new
+            ≡ record self.old { sender = None; recipient = None; message = None } }
     {
         self.sender = None;
         self.recipient = None;
@@ -112,7 +124,8 @@ impl Session {
     }
 
     fn answer(&mut self, line: &Line) -> Result<Did, NoMemory>
-        ensures goes { (host peer : List ℕ) (before : List Exchange) → Keeps self.old host peer before
+        ensures goes { (host peer : List ℕ) (before : List Exchange)
+            → Keeps self.old host peer before
             → IfOk result (λ did. Goes self.new host peer before line.now did) }
         ensures silent { self.old.message ≡ None → is_data line.now ≡ true → result ≡ Ok Did.Taken }
         ensures err { OnErr result (self.new ≡ self.old) }
@@ -126,7 +139,8 @@ impl Session {
     }
 
     fn command(&mut self, line: &[u8]) -> Result<Did, NoMemory>
-        ensures goes { (host peer : List ℕ) (before : List Exchange) → Keeps self.old host peer before
+        ensures goes { (host peer : List ℕ) (before : List Exchange)
+            → Keeps self.old host peer before
             → IfOk result (λ did. Goes self.new host peer before (Line.Command line.now) did) }
         ensures err { OnErr result (self.new ≡ self.old) }
     {
@@ -142,7 +156,13 @@ impl Session {
 
     fn helo(&mut self, argument: &[u8]) -> Result<Did, NoMemory>
         ensures did { IfOk result (λ did. did ≡ Did.Reply (hello_text self.old.host)) }
-        ensures ok { IfOk result (λ _. self.new ≡ record self.old { helo = argument.now; sender = None; recipient = None; message = None }) }
+        ensures ok { IfOk result
+            (λ _. self.new ≡ record self.old {
+              helo = argument.now;
+              sender = None;
+              recipient = None;
+              message = None;
+            }) }
         ensures err { OnErr result (self.new ≡ self.old) }
     {
         let reply = self.with_host(b"250 ", b" Hello")?;
@@ -152,7 +172,9 @@ impl Session {
     }
 
     fn mail(&mut self, path: &[u8]) -> Result<Did, NoMemory>
-        ensures did { IfOk result (λ did. did ≡ Did.Reply (text_of (mail_reply (is_some self.old.sender) Reply.SenderOk))) }
+        ensures did { IfOk result
+            (λ did. did ≡ Did.Reply
+            (text_of (mail_reply (is_some self.old.sender) Reply.SenderOk))) }
         ensures given { IfOk result (λ _. is_some self.old.sender ≡ true → self.new ≡ self.old) }
         ensures ok { IfOk result (λ _. is_some self.old.sender ≡ false
             → self.new ≡ record self.old { sender = Some (bracketed path.now) }) }
@@ -167,11 +189,14 @@ impl Session {
     }
 
     fn rcpt(&mut self, path: &[u8]) -> Result<Did, NoMemory>
-        ensures did { IfOk result (λ did. did ≡ Did.Reply (text_of (rcpt_reply (is_some self.old.sender)
+        ensures did { IfOk result
+            (λ did. did ≡ Did.Reply (text_of (rcpt_reply (is_some self.old.sender)
             (to_reply path.now (is_some self.old.recipient))))) }
-        ensures refused { IfOk result (λ _. takes_recipient self.old.sender self.old.recipient path.now ≡ false
+        ensures refused { IfOk result
+            (λ _. takes_recipient self.old.sender self.old.recipient path.now ≡ false
             → self.new ≡ self.old) }
-        ensures ok { IfOk result (λ _. takes_recipient self.old.sender self.old.recipient path.now ≡ true
+        ensures ok { IfOk result
+            (λ _. takes_recipient self.old.sender self.old.recipient path.now ≡ true
             → self.new ≡ record self.old { recipient = Some (bracketed path.now) }) }
         ensures err { OnErr result (self.new ≡ self.old) }
     {
@@ -190,8 +215,10 @@ impl Session {
     }
 
     fn begin_data(&mut self) -> Result<Did, NoMemory>
-        ensures did { IfOk result (λ did. did ≡ did_of self.old.host (data_answer (is_some self.old.recipient))) }
-        ensures refused { IfOk result (λ _. is_some self.old.recipient ≡ false → self.new ≡ self.old) }
+        ensures did { IfOk result
+            (λ did. did ≡ did_of self.old.host (data_answer (is_some self.old.recipient))) }
+        ensures refused { IfOk result
+            (λ _. is_some self.old.recipient ≡ false → self.new ≡ self.old) }
         ensures ok { IfOk result (λ _. is_some self.old.recipient ≡ true
             → BeginsMessage self.old self.new) }
         ensures err { OnErr result (self.new ≡ self.old) }
@@ -211,7 +238,8 @@ impl Session {
     }
 
     fn data(&mut self, line: &[u8]) -> Result<Did, NoMemory>
-        ensures goes { (host peer : List ℕ) (before : List Exchange) → Keeps self.old host peer before
+        ensures goes { (host peer : List ℕ) (before : List Exchange)
+            → Keeps self.old host peer before
             → IfOk result (λ did. Goes self.new host peer before (Line.Data line.now) did) }
         ensures silent { self.old.message ≡ None → result ≡ Ok Did.Taken }
         ensures err { OnErr result (self.new ≡ self.old) }
@@ -221,7 +249,8 @@ impl Session {
     }
 
     fn data_end(&mut self) -> Result<Did, NoMemory>
-        ensures goes { (host peer : List ℕ) (before : List Exchange) → Keeps self.old host peer before
+        ensures goes { (host peer : List ℕ) (before : List Exchange)
+            → Keeps self.old host peer before
             → IfOk result (λ did. Goes self.new host peer before (Line.DataEnd) did) }
         ensures silent { self.old.message ≡ None → result ≡ Ok Did.Taken }
         ensures err { OnErr result (self.new ≡ self.old) }
@@ -255,7 +284,8 @@ impl Session {
     // Gives the message under way, which ends the transaction.
     fn give(&mut self, kept: Kept) -> Did
         ensures did { result ≡ given_by kept self.old.sender self.old.recipient self.old.message }
-        ensures reset { self.new ≡ record self.old { sender = None; recipient = None; message = None } }
+        ensures reset { self.new
+            ≡ record self.old { sender = None; recipient = None; message = None } }
     {
         let sender = self.sender.take();
         let recipient = self.recipient.take();
@@ -269,7 +299,12 @@ impl Session {
     }
 
     fn kept(&self) -> Result<Kept, NoMemory>
-        ensures { IfOk result (λ kept. kept ≡ record { protocol = codes "SMTP"; helo = self.now.helo; client = self.now.peer }) }
+        ensures { IfOk result
+            (λ kept. kept ≡ record {
+              protocol = codes "SMTP";
+              helo = self.now.helo;
+              client = self.now.peer;
+            }) }
     {
         Ok(Kept {
             protocol: Text::of(self.host.allocator(), b"SMTP")?,

@@ -19,9 +19,11 @@ use Rattle.smtp_receive.specs.declared.reply.Reply.TheVariants.{MessageTooLarge,
 use Rattle.smtp_receive.specs.declared.session.Session.{Session}
 
 -- a line is answered after some exchanges, and the session keeps what it has then
-pub record Goes (s : Session) (host peer : List ℕ) (before : List Exchange) (line : Line) (did : Did) : Type 0 where
+pub record Goes (s : Session) (host peer : List ℕ) (before : List Exchange) (line : Line)
+    (did : Did) : Type 0 where
   pub did_is : did ≡ did_of (shown_host host) (answer_to peer before line)
-  pub keeps : Keeps s host peer (record { line = line; answer = Some (answer_to peer before line) } ∷ before)
+  pub keeps : Keeps s host peer
+      (record { line = line; answer = Some (answer_to peer before line) } ∷ before)
 
 -- a message of no lines is under way, and the rest stays
 pub record BeginsMessage (old new : Session) : Type 0 where
@@ -30,7 +32,8 @@ pub record BeginsMessage (old new : Session) : Type 0 where
 
 -- whether an RCPT of that path is accepted
 abbrev pub takes_recipient : Option (List ℕ) → Option (List ℕ) → List ℕ → Bool
-takes_recipient sender recipient path = is_some sender && not (is_nothing path) && not (is_some recipient)
+takes_recipient sender recipient path =
+    is_some sender && not (is_nothing path) && not (is_some recipient)
 
 -- whether a line is of data
 abbrev pub is_data : Line → Bool
@@ -53,9 +56,17 @@ end_of _ _ _ = Nothing
 
 -- the message of the lines that are kept
 abbrev pub received_of : Gathered → List ℕ → List ℕ → Kept → Received
-received_of g sender recipient kept = record { sender = sender; recipient = recipient; headers = g.headers; body = g.body; size = g.size; kept = kept }
+received_of g sender recipient kept = record {
+  sender = sender;
+  recipient = recipient;
+  headers = g.headers;
+  body = g.body;
+  size = g.size;
+  kept = kept;
+}
 
 -- what is done where a message is given
 abbrev pub given_by : Kept → Option (List ℕ) → Option (List ℕ) → Option Gathered → Did
-given_by kept (Some sender) (Some recipient) (Some g) = Message (received_of g sender recipient kept)
+given_by kept (Some sender) (Some recipient) (Some g) =
+    Message (received_of g sender recipient kept)
 given_by kept _ _ _ = Taken
