@@ -1,4 +1,5 @@
--- The search for the match that is taken, item by item: whatever is taken of the rest completes what is taken of all.
+-- The search for the match that is taken, item by item: whatever is taken of the rest completes
+-- what is taken of all.
 use Rattle.std.proofs.Common.{◌≡◌, ℕ, ◌+◌, ◌<◌, ◌≤◌, ◌⊎◌, inl, inr, List, [], ◌∷◌, ◌++◌, length, take, drop, true, false, cond, zero-add, refl, sym, ◌∙◌, ap, subst, arith}
 use Rattle.std.specs.Prelude.{count_by, Option, Some, None, IfSome}
 use Rattle.std.proofs.lemmas.Bool.{cases_lt}

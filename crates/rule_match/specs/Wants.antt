@@ -1,4 +1,5 @@
--- What an item of a rule's left side stands for once its class or its macro is known, and what that matches (Sendmail Operation Guide, R and S: rewriting rules).
+-- What an item of a rule's left side stands for once its class or its macro is known, and what that
+-- matches (Sendmail Operation Guide, R and S: rewriting rules).
 use Rattle.std.specs.Prelude.{List, [], ◌∷◌, drop, Bool, true, false, not, ◌&&◌}
 use Rattle.mail_base.specs.declared.token.Token.{Token}
 use Rattle.mail_base.specs.declared.class.Member.{Member}
@@ -9,7 +10,8 @@ use Rattle.mail_base.specs.Catalogs.{value_at, members_of}
 use Rattle.mail_base.specs.Classes.{is_phrase}
 use Rattle.mail_base.specs.Tokens.{same_tokens}
 
--- any tokens, at least one, exactly one, none, a phrase of these members, one token that is no phrase of these, or these tokens
+-- any tokens, at least one, exactly one, none, a phrase of these members, one token that is no
+-- phrase of these, or these tokens
 pub data Want : Type 0 where
   Anything : Want
   Something : Want
@@ -29,7 +31,8 @@ abbrev pub lists_after : Item → List (List Token) → List (List Token)
 lists_after (Late name) late = drop 1 late
 lists_after _ late = late
 
--- what an item stands for: a class for its members, `$&x` for the first of the lists, and a token for itself
+-- what an item stands for: a class for its members, `$&x` for the first of the lists, and a token
+-- for itself
 abbrev pub want : Classes → List (List Token) → Item → Want
 want classes late Any = Anything
 want classes late More = Something
@@ -43,7 +46,8 @@ want classes late (Late name) = These (first_list late)
 -- what the items stand for, where each `$&x` in turn has the next of the lists
 abbrev pub wants : Classes → List (List Token) → List Item → List Want
 wants classes late [] = []
-wants classes late (item ∷ items) = want classes late item ∷ wants classes (lists_after item late) items
+wants classes late (item ∷ items) =
+    want classes late item ∷ wants classes (lists_after item late) items
 
 abbrev pub is_none : List Token → Bool
 is_none [] = true

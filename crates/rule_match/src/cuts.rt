@@ -50,10 +50,14 @@ impl Cuts {
     /// What the n-th binding item takes, which `$n` stands for; n counts from 1. It is empty where
     /// fewer items bind.
     pub fn piece<'a>(&self, tokens: &'a Seq<Token>, number: u8) -> &'a [Token]
-        requires { (classes : Classes) × (late : List (List Token)) × (items : List Item) × (lengths : List ℕ)
-            × Fits (wants classes late items) tokens.now lengths × (self.now ≡ kept_cuts items 0 lengths) }
-        ensures { (classes : Classes) (late : List (List Token)) (items : List Item) (lengths : List ℕ)
-            → Fits (wants classes late items) tokens.now lengths → self.now ≡ kept_cuts items 0 lengths
+        requires { (classes : Classes) × (late : List (List Token)) × (items : List Item)
+            × (lengths : List ℕ)
+            × Fits (wants classes late items) tokens.now lengths
+            × (self.now ≡ kept_cuts items 0 lengths) }
+        ensures { (classes : Classes) (late : List (List Token))
+            (items : List Item) (lengths : List ℕ)
+            → Fits (wants classes late items) tokens.now lengths
+            → self.now ≡ kept_cuts items 0 lengths
             → result.now ≡ bound_piece items tokens.now lengths number }
     {
         if number == 0 {

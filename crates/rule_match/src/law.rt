@@ -15,11 +15,14 @@ pub fn one_choice()
 /// A match is taken, or none fits.
 pub fn each_choice()
     ensures { (items : List Want) (tokens : List Token)
-        → ((lengths : List ℕ) × Chosen items tokens lengths) ⊎ ((lengths : List ℕ) → Fits items tokens lengths → ⊥) }
+        → ((lengths : List ℕ) × Chosen items tokens lengths)
+        ⊎ ((lengths : List ℕ) → Fits items tokens lengths → ⊥) }
 {}
 
 /// The cuts that are kept of a match tell it whole: the others have length one.
 pub fn put_in()
-    ensures { (classes : Classes) (late : List (List Token)) (items : List Item) (tokens : List Token) (lengths : List ℕ)
-        → Fits (wants classes late items) tokens lengths → lengths_of items (kept_cuts items 0 lengths) ≡ lengths }
+    ensures { (classes : Classes) (late : List (List Token)) (items : List Item)
+        (tokens : List Token) (lengths : List ℕ)
+        → Fits (wants classes late items) tokens lengths
+        → lengths_of items (kept_cuts items 0 lengths) ≡ lengths }
 {}

@@ -27,8 +27,11 @@ pub fn find(
     late: &Seq<Seq<Token>>,
 ) -> Option<Cuts>
     requires { length late.now ≡ count_by is_late pattern.now }
-    ensures some { IfSome result (λ cuts. IsChoice classes.now late.now pattern.now tokens.now cuts) }
-    ensures none { IfNone result ((lengths : List ℕ) → Fits (wants classes.now late.now pattern.now) tokens.now lengths → ⊥) }
+    ensures some { IfSome result
+        (λ cuts. IsChoice classes.now late.now pattern.now tokens.now cuts) }
+    ensures none { IfNone result
+        ((lengths : List ℕ)
+        → Fits (wants classes.now late.now pattern.now) tokens.now lengths → ⊥) }
 {
     let items = pattern.items();
     if ends_otherwise(items, tokens.items()) {
@@ -54,7 +57,8 @@ pub fn lists_wanted(pattern: &Pattern) -> usize
 
 /// Whether the last item is a token, and the tokens end with none or with another.
 fn ends_otherwise(items: &[Item], tokens: &[Token]) -> bool
-    ensures { result ≡ true → (classes : Classes) (late : List (List Token)) (lengths : List ℕ) → Fits (wants classes late items.now) tokens.now lengths → ⊥ }
+    ensures { result ≡ true → (classes : Classes) (late : List (List Token)) (lengths : List ℕ)
+        → Fits (wants classes late items.now) tokens.now lengths → ⊥ }
 {
     let Some((item, _before)) = items.split_last() else {
         return false;
@@ -102,8 +106,11 @@ fn find_plain(
 ) -> Option<Cuts>
     requires few { count_by is_meta pattern.now ≤ 20 }
     requires plain { list_any is_class pattern.now ≡ false }
-    ensures some { IfSome result (λ cuts. IsChoice classes.now late.now pattern.now tokens.now cuts) }
-    ensures none { IfNone result ((lengths : List ℕ) → Fits (wants classes.now late.now pattern.now) tokens.now lengths → ⊥) }
+    ensures some { IfSome result
+        (λ cuts. IsChoice classes.now late.now pattern.now tokens.now cuts) }
+    ensures none { IfNone result
+        ((lengths : List ℕ)
+        → Fits (wants classes.now late.now pattern.now) tokens.now lengths → ⊥) }
 {
     let mut lengths = ByFronts;
     found_by(&mut lengths, classes, late, pattern, tokens)
@@ -118,8 +125,11 @@ fn find_phrases(
 ) -> Option<Cuts>
     requires few { count_by is_meta pattern.now ≤ 20 }
     requires lists { length late.now ≡ count_by is_late pattern.now }
-    ensures some { IfSome result (λ cuts. IsChoice classes.now late.now pattern.now tokens.now cuts) }
-    ensures none { IfNone result ((lengths : List ℕ) → Fits (wants classes.now late.now pattern.now) tokens.now lengths → ⊥) }
+    ensures some { IfSome result
+        (λ cuts. IsChoice classes.now late.now pattern.now tokens.now cuts) }
+    ensures none { IfNone result
+        ((lengths : List ℕ)
+        → Fits (wants classes.now late.now pattern.now) tokens.now lengths → ⊥) }
 {
     if !front_stands(classes, late, pattern, tokens) {
         return None;
@@ -145,8 +155,11 @@ fn find_by_rows<const W: usize>(
     requires lists { length late.now ≡ count_by is_late pattern.now }
     requires small { W ≤ 32 }
     requires short { length tokens.now < 64 * W }
-    ensures some { IfSome result (λ cuts. IsChoice classes.now late.now pattern.now tokens.now cuts) }
-    ensures none { IfNone result ((lengths : List ℕ) → Fits (wants classes.now late.now pattern.now) tokens.now lengths → ⊥) }
+    ensures some { IfSome result
+        (λ cuts. IsChoice classes.now late.now pattern.now tokens.now cuts) }
+    ensures none { IfNone result
+        ((lengths : List ℕ)
+        → Fits (wants classes.now late.now pattern.now) tokens.now lengths → ⊥) }
 {
     let mut lengths = ByRows {
         rows: rows_of::<W>(classes, late, pattern, tokens),
@@ -165,8 +178,13 @@ fn length_of(
     left: &[Token],
 ) -> Option<usize>
     requires { list_any is_class (item.now ∷ after.now) ≡ false }
-    ensures some { IfSome result (λ n. IsNext (want classes.now late.now item.now) (wants classes.now others.now after.now) left.now n) }
-    ensures none { IfNone result ((n : ℕ) (later : List ℕ) → Fits (want classes.now late.now item.now ∷ wants classes.now others.now after.now) left.now (n ∷ later) → ⊥) }
+    ensures some { IfSome result
+        (λ n. IsNext (want classes.now late.now item.now)
+        (wants classes.now others.now after.now) left.now n) }
+    ensures none { IfNone result
+        ((n : ℕ) (later : List ℕ)
+        → Fits (want classes.now late.now item.now ∷ wants classes.now others.now after.now)
+        left.now (n ∷ later) → ⊥) }
 {
     match item {
         Item::Any => place_of(classes, others, after, left, 0),
@@ -185,8 +203,11 @@ fn place_of(
     least: usize,
 ) -> Option<usize>
     requires { list_any is_class after.now ≡ false }
-    ensures some { IfSome result (λ place. IsFirst (wants classes.now late.now after.now) left.now least place) }
-    ensures none { IfNone result ((other : ℕ) (lengths : List ℕ) → least ≤ other → other ≤ length left.now → Fits (wants classes.now late.now after.now) (drop other left.now) lengths → ⊥) }
+    ensures some { IfSome result
+        (λ place. IsFirst (wants classes.now late.now after.now) left.now least place) }
+    ensures none { IfNone result
+        ((other : ℕ) (lengths : List ℕ) → least ≤ other → other ≤ length left.now
+        → Fits (wants classes.now late.now after.now) (drop other left.now) lengths → ⊥) }
 {
     if least > left.len() {
         return None;
@@ -207,7 +228,9 @@ fn place_of(
 /// How many tokens the items before the first of several possible lengths take together, and
 /// whether there is one of these, or `None` where they take more than so many.
 fn front_width(late: &[Seq<Token>], items: &[Item], most: usize) -> Option<(usize, bool)>
-    ensures some { IfSome result (λ front. (front.0 ≡ front_width late.now items.now) × (front.1 ≡ list_any is_free items.now) × (front.0 ≤ most)) }
+    ensures some { IfSome result
+        (λ front. (front.0 ≡ front_width late.now items.now)
+        × (front.1 ≡ list_any is_free items.now) × (front.0 ≤ most)) }
     ensures none { IfNone result (most < front_width late.now items.now) }
 {
     let mut room = most;
@@ -236,10 +259,11 @@ fn front_stands(classes: &Classes, late: &[Seq<Token>], items: &[Item], tokens: 
     front_meets(classes, late, items, tokens)
 }
 
-/// Whether the first item is a token, and the tokens begin with another. Most fronts that don't stand
-/// are seen by this alone.
+/// Whether the first item is a token, and the tokens begin with another. Most fronts that don't
+/// stand are seen by this alone.
 fn begins_otherwise(items: &[Item], tokens: &[Token]) -> bool
-    ensures { result ≡ true → (classes : Classes) (late : List (List Token)) → front_stands (wants classes late items.now) tokens.now ≡ false }
+    ensures { result ≡ true → (classes : Classes) (late : List (List Token))
+        → front_stands (wants classes late items.now) tokens.now ≡ false }
 {
     let Some((item, _after)) = items.split_first() else {
         return false;

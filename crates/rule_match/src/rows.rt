@@ -65,7 +65,8 @@ fn row_before<const W: usize>(
 ) -> Row<W>
     requires small { W ≤ 32 }
     requires short { length tokens.now < 64 * W }
-    ensures { (rest : List Want) → IsRow tokens.now rest after.now → IsRow tokens.now (want classes.now late.now item.now ∷ rest) result }
+    ensures { (rest : List Want) → IsRow tokens.now rest after.now
+        → IsRow tokens.now (want classes.now late.now item.now ∷ rest) result }
 {
     let mut row = Row::new();
     let mut later = false;
@@ -95,7 +96,8 @@ fn is_start<const W: usize>(
 ) -> bool
     requires small { W ≤ 32 }
     requires short { place + length left.now < 64 * W }
-    ensures { IsLater after.now (place + 1) (place + length left.now) later → IsStart (want classes.now late.now item.now) left.now place after.now result }
+    ensures { IsLater after.now (place + 1) (place + length left.now) later
+        → IsStart (want classes.now late.now item.now) left.now place after.now result }
 {
     match item {
         Item::Any => later || after.has(place),
@@ -133,8 +135,12 @@ fn phrase_length<const W: usize>(
 ) -> Option<usize>
     requires small { W ≤ 32 }
     requires short { place + length left.now < 64 * W }
-    ensures some { IfSome result (λ n. IsLeast (Phrase (members_of (value_at name.now classes.now))) left.now place after.now n) }
-    ensures none { IfNone result (IsStart (Phrase (members_of (value_at name.now classes.now))) left.now place after.now false) }
+    ensures some { IfSome result
+        (λ n. IsLeast (Phrase (members_of (value_at name.now classes.now)))
+        left.now place after.now n) }
+    ensures none { IfNone result
+        (IsStart (Phrase (members_of (value_at name.now classes.now)))
+        left.now place after.now false) }
 {
     let most = classes.longest_phrase(name).min(left.len());
     for length in 1..most + 1 {
@@ -184,10 +190,18 @@ fn next_length<const W: usize>(
 ) -> Option<usize>
     requires small { W ≤ 32 }
     requires short { place + length left.now < 64 * W }
-    ensures some { IfSome result (λ n. (tokens : List Token) (rest : List Want) → left.now ≡ drop place tokens → place ≤ length tokens
-        → AreRows tokens (want classes.now late.now item.now ∷ rest) rows.old.items → IsNext (want classes.now late.now item.now) rest left.now n × AreRows tokens rest rows.new.items) }
-    ensures none { IfNone result ((tokens : List Token) (rest : List Want) → left.now ≡ drop place tokens → place ≤ length tokens
-        → AreRows tokens (want classes.now late.now item.now ∷ rest) rows.old.items → (n : ℕ) (later : List ℕ) → Fits (want classes.now late.now item.now ∷ rest) left.now (n ∷ later) → ⊥) }
+    ensures some { IfSome result
+        (λ n. (tokens : List Token) (rest : List Want) → left.now ≡ drop place tokens
+        → place ≤ length tokens
+        → AreRows tokens (want classes.now late.now item.now ∷ rest) rows.old.items
+        → IsNext (want classes.now late.now item.now) rest left.now n
+        × AreRows tokens rest rows.new.items) }
+    ensures none { IfNone result
+        ((tokens : List Token) (rest : List Want) → left.now ≡ drop place tokens
+        → place ≤ length tokens
+        → AreRows tokens (want classes.now late.now item.now ∷ rest) rows.old.items
+        → (n : ℕ) (later : List ℕ)
+        → Fits (want classes.now late.now item.now ∷ rest) left.now (n ∷ later) → ⊥) }
 {
     if !is_free(item) {
         return fixed_length(classes, late, item, left);
@@ -204,8 +218,11 @@ pub fn fixed_length(
     left: &[Token],
 ) -> Option<usize>
     requires { is_free item.now ≡ false }
-    ensures some { IfSome result (λ n. (after : List Want) → IsNext (want classes.now late.now item.now) after left.now n) }
-    ensures none { IfNone result ((n : ℕ) → n ≤ length left.now → meets (want classes.now late.now item.now) (take n left.now) ≡ true → ⊥) }
+    ensures some { IfSome result
+        (λ n. (after : List Want) → IsNext (want classes.now late.now item.now) after left.now n) }
+    ensures none { IfNone result
+        ((n : ℕ) → n ≤ length left.now
+        → meets (want classes.now late.now item.now) (take n left.now) ≡ true → ⊥) }
 {
     let width = width(late, item);
     if width > left.len() {
@@ -230,8 +247,10 @@ fn least_length<const W: usize>(
 ) -> Option<usize>
     requires small { W ≤ 32 }
     requires short { place + length left.now < 64 * W }
-    ensures some { IfSome result (λ n. IsLeast (want classes.now late.now item.now) left.now place after.now n) }
-    ensures none { IfNone result (IsStart (want classes.now late.now item.now) left.now place after.now false) }
+    ensures some { IfSome result
+        (λ n. IsLeast (want classes.now late.now item.now) left.now place after.now n) }
+    ensures none { IfNone result
+        (IsStart (want classes.now late.now item.now) left.now place after.now false) }
 {
     if let Item::InClass(name) = item {
         return phrase_length(classes, name, left, place, after);

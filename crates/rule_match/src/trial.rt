@@ -20,8 +20,11 @@ pub fn find_by_trial(
     late: &Seq<Seq<Token>>,
 ) -> Option<Cuts>
     requires { length late.now ≡ count_by is_late pattern.now }
-    ensures some { IfSome result (λ cuts. IsChoice classes.now late.now pattern.now tokens.now cuts) }
-    ensures none { IfNone result ((lengths : List ℕ) → Fits (wants classes.now late.now pattern.now) tokens.now lengths → ⊥) }
+    ensures some { IfSome result
+        (λ cuts. IsChoice classes.now late.now pattern.now tokens.now cuts) }
+    ensures none { IfNone result
+        ((lengths : List ℕ)
+        → Fits (wants classes.now late.now pattern.now) tokens.now lengths → ⊥) }
 {
     let kept = least(classes, late.items(), pattern.items(), tokens.items(), 0)?;
     Some(Cuts::of(kept))
@@ -37,8 +40,11 @@ pub(crate) fn least(
 ) -> Option<ArrayVec<Cut, 20>>
     requires few { count_by is_meta items.now ≤ 20 }
     requires place { start + length left.now < 2 ^ 64 }
-    ensures some { IfSome result (λ kept. (lengths : List ℕ) × Chosen (wants classes.now late.now items.now) left.now lengths × (kept.items ≡ kept_cuts items.now start lengths)) }
-    ensures none { IfNone result ((lengths : List ℕ) → Fits (wants classes.now late.now items.now) left.now lengths → ⊥) }
+    ensures some { IfSome result
+        (λ kept. (lengths : List ℕ) × Chosen (wants classes.now late.now items.now) left.now lengths
+        × (kept.items ≡ kept_cuts items.now start lengths)) }
+    ensures none { IfNone result
+        ((lengths : List ℕ) → Fits (wants classes.now late.now items.now) left.now lengths → ⊥) }
     ensures room { IfSome result (λ kept. length kept.items ≤ count_by is_meta items.now) }
 {
     let Some((item, after)) = items.split_first() else {

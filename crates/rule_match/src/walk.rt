@@ -36,7 +36,8 @@ pub(crate) trait Lengths {
         requires lists { others.now ≡ lists_after item.now late.now }
         ensures some { IfSome result (λ n.
             IsNext (want classes.now late.now item.now) (wants classes.now others.now after.now)
-            left.now n × serves self.new classes.now others.now after.now (drop n left.now) (start + n)) }
+            left.now n
+            × serves self.new classes.now others.now after.now (drop n left.now) (start + n)) }
         ensures none { IfNone result ((n : ℕ) (later : List ℕ)
             → Fits (want classes.now late.now item.now ∷ wants classes.now others.now after.now)
             left.now (n ∷ later) → ⊥) };

@@ -29,23 +29,30 @@ width _ = 0
 -- whether the items before the first of several possible lengths meet the first tokens
 abbrev pub front_stands : List Want → List Token → Bool
 front_stands [] tokens = true
-front_stands (want ∷ wants) tokens = if is_choosing want then true else (nat_le (width want) (length tokens) && meets want (take (width want) tokens) && front_stands wants (drop (width want) tokens))
+front_stands (want ∷ wants) tokens = if is_choosing want then true
+    else (nat_le (width want) (length tokens) && meets want (take (width want) tokens)
+    && front_stands wants (drop (width want) tokens))
 
 -- the place is the first from the least on from which the items fit, if they fit from any
 pub record IsFirst (wants : List Want) (tokens : List Token) (least place : ℕ) : Type 0 where
   pub from : least ≤ place
   pub within : place ≤ length tokens
-  pub first : (other : ℕ) (lengths : List ℕ) → least ≤ other → other ≤ length tokens → Fits wants (drop other tokens) lengths → place ≤ other
-  pub enough : (other : ℕ) (lengths : List ℕ) → least ≤ other → other ≤ length tokens → Fits wants (drop other tokens) lengths → (rest : List ℕ) × Fits wants (drop place tokens) rest
+  pub first : (other : ℕ) (lengths : List ℕ) → least ≤ other → other ≤ length tokens
+      → Fits wants (drop other tokens) lengths → place ≤ other
+  pub enough : (other : ℕ) (lengths : List ℕ) → least ≤ other → other ≤ length tokens
+      → Fits wants (drop other tokens) lengths
+      → (rest : List ℕ) × Fits wants (drop place tokens) rest
 
 -- the item takes so many tokens in the match that is taken, if there is any
 pub record IsNext (want : Want) (wants : List Want) (tokens : List Token) (n : ℕ) : Type 0 where
   pub within : n ≤ length tokens
   pub met : IsTrue (meets want (take n tokens))
   pub first : (m : ℕ) (lengths : List ℕ) → Fits (want ∷ wants) tokens (m ∷ lengths) → n ≤ m
-  pub enough : (m : ℕ) (lengths : List ℕ) → Fits (want ∷ wants) tokens (m ∷ lengths) → (rest : List ℕ) × Fits wants (drop n tokens) rest
+  pub enough : (m : ℕ) (lengths : List ℕ) → Fits (want ∷ wants) tokens (m ∷ lengths)
+      → (rest : List ℕ) × Fits wants (drop n tokens) rest
 
--- what of this is known of items, whatever the classes are: an item of several possible lengths, a phrase of a class
+-- what of this is known of items, whatever the classes are: an item of several possible lengths, a
+-- phrase of a class
 abbrev pub is_free : Item → Bool
 is_free Any = true
 is_free More = true
@@ -66,12 +73,17 @@ width_of late _ = 0
 -- how many tokens the items before the first of several possible lengths take
 abbrev pub front_width : List (List Token) → List Item → ℕ
 front_width late [] = 0
-front_width late (item ∷ items) = if is_free item then 0 else width_of late item + front_width (lists_after item late) items
+front_width late (item ∷ items) =
+    if is_free item then 0 else width_of late item + front_width (lists_after item late) items
 
 -- the piece of the binding cut behind so many others
 abbrev pub piece_behind : List Token → List Cut → ℕ → List Token
 piece_behind tokens [] k = []
-piece_behind tokens (cut ∷ cuts) k = if cut.binds then (if k == 0 then slice_range tokens cut.start (cut.start + cut.length) else piece_behind tokens cuts (k - 1)) else piece_behind tokens cuts k
+piece_behind tokens (cut ∷ cuts) k =
+    if cut.binds
+    then (if k == 0 then slice_range tokens cut.start (cut.start + cut.length)
+    else piece_behind tokens cuts (k - 1))
+    else piece_behind tokens cuts k
 
 -- no cut ends behind the tokens
 abbrev pub AreWithin : ℕ → List Cut → Type 0
