@@ -9,7 +9,7 @@ use Rattle.mail_base.specs.declared.control.Parent.{Parent}
 use Rattle.qf_format.specs.Valid.{IsParent}
 use Rattle.spool_store.specs.Entries.{Stored, Table, with_control}
 use Rattle.spool_store.specs.Settled.{spot_of, StandsFor, IsSettled}
-use Rattle.spool_store.specs.Changes.{control_place, IsRaised, IsNew, IsRooted, of_none, of_added, of_live, IsPut, control, body, other, HoldsBoth, not_yet, lower, IsWaiting, IsMidway}
+use Rattle.spool_store.specs.Changes.{control_place, IsRaised, IsAdded, IsNew, IsRooted, of_none, of_added, of_live, IsPut, control, body, other, HoldsBoth, not_yet, lower, IsWaiting, IsMidway}
 use Rattle.mail_base.specs.declared.control.Draft.{Draft}
 use Rattle.spool_store.specs.Writes.{stored, heir, head_of, children_of, after_commit, control_file, AreWritten, AreDraftable, IsOld, AreRaised}
 use Rattle.spool_store.proofs.Standing.{contains_cases, contains_head, contains_tail}
@@ -21,7 +21,7 @@ use Rattle.spool_store.proofs.Lists.{here, later}
 use Rattle.spool_store.proofs.Numbering.{IsFrom, numbered_from, numbered_ascends, first_ascends, numbered_new}
 
 -- the control under which the children of a commit stand
-new_head : (dirs : List (List ℕ)) (next : ℕ) (children : List Draft) (parent : Draft) → AreDraftable dirs next children parent → IsParent (head_of next parent None)
+pub new_head : (dirs : List (List ℕ)) (next : ℕ) (children : List Draft) (parent : Draft) → AreDraftable dirs next children parent → IsParent (head_of next parent None)
 new_head dirs next children parent able = record { id = omega (arith, able.room); revision = able.head.valid.revision_range }
 
 -- a parent that is there already can be the parent of new entries
@@ -40,28 +40,39 @@ written_of xs ys f g to back h = record {
   holds = All-weaker (Contains ys) (HoldsBoth g) (λ s k. All-contains (HoldsBoth g) xs s h.holds (back s k)) ys (All-contains_itself ys);
 }
 
-front : (x : Stored) (xs : List Stored) (s : Stored) → Contains (xs ++ x ∷ []) s → Contains (x ∷ xs) s
+pub front : (x : Stored) (xs : List Stored) (s : Stored) → Contains (xs ++ x ∷ []) s → Contains (x ∷ xs) s
 front x xs s k = ⊎_elim (λ (a : Contains xs s). contains_tail x s xs a) (λ (a : Contains (x ∷ []) s). ⊎_elim (λ (e : x ≡ s). subst (Contains (x ∷ xs)) e (contains_head x xs)) (λ (n : Contains [] s). absurd (omega (arith, n.1))) (contains_cases x s [] a)) (Contains-append_cases xs (x ∷ []) s k)
 
 unfront : (x : Stored) (xs : List Stored) (s : Stored) → Contains (x ∷ xs) s → Contains (xs ++ x ∷ []) s
 unfront x xs s k = ⊎_elim (λ (e : x ≡ s). subst (Contains (xs ++ x ∷ [])) e (Contains-push xs x)) (λ (a : Contains xs s). Contains-append_left xs (x ∷ []) s a) (contains_cases x s xs k)
 
 -- with a new parent
-pub new_settled : (dirs : List (List ℕ)) (table : Table) (children : List Draft) (parent : Draft) (b : List ℕ) (f g : FileMap) → AreDraftable dirs table.next children parent → parent.control.parent ≡ None
-    → AreWritten (children_of table.next children parent b None ++ stored table.next b parent ∷ []) f g → IsSettled dirs table f → IsSettled dirs (after_commit table children parent b None) g
-new_settled dirs table children parent b f g able alone w settled =
-    let s : Stored = stored table.next b parent in
-    let p : Parent = head_of table.next parent None in
-    let rest : List Stored = children_of table.next children parent b None in
-    let from : All (IsFrom (table.next + 1) (length children) b p) rest = numbered_from (table.next + 1) b p children in
+pub new_added : (dirs : List (List ℕ)) (next : ℕ) (children : List Draft) (parent : Draft) (b : List ℕ) (f g : FileMap) → AreDraftable dirs next children parent → parent.control.parent ≡ None
+    → AreWritten (children_of next children parent b None ++ stored next b parent ∷ []) f g → IsAdded dirs next (stored next b parent ∷ children_of next children parent b None) f g
+new_added dirs next children parent b f g able alone w =
+    let s : Stored = stored next b parent in
+    let p : Parent = head_of next parent None in
+    let rest : List Stored = children_of next children parent b None in
+    let from : All (IsFrom (next + 1) (length children) b p) rest = numbered_from (next + 1) b p children in
     let its = written_of (rest ++ s ∷ []) (s ∷ rest) f g (front s rest) (unfront s rest) w in
-    added_settled dirs table (table.next + 1 + length children) (s ∷ rest) f g (record {
+    record {
       ascending = first_ascends s b (map (heir p) children);
-      new = All-cons (IsNew dirs table.next) s rest (record { free = omega arith; within = omega (arith, able.room); among = able.head.among; valid = able.head.valid }) (numbered_new dirs table.next (table.next + 1) b p children (new_head dirs table.next children parent able) (omega arith) able.room able.each);
-      rooted = All-cons (IsRooted dirs f (s ∷ rest)) s rest (of_none alone) (All-weaker (IsFrom (table.next + 1) (length children) b p) (IsRooted dirs f (s ∷ rest)) (λ t h. of_added p s h.parent (omega (arith, h.least)) (contains_head s rest) refl (omega arith)) rest from);
+      new = All-cons (IsNew dirs next) s rest (record { free = omega arith; within = omega (arith, able.room); among = able.head.among; valid = able.head.valid }) (numbered_new dirs next (next + 1) b p children (new_head dirs next children parent able) (omega arith) able.room able.each);
+      rooted = All-cons (IsRooted dirs f (s ∷ rest)) s rest (of_none alone) (All-weaker (IsFrom (next + 1) (length children) b p) (IsRooted dirs f (s ∷ rest)) (λ t h. of_added p s h.parent (omega (arith, h.least)) (contains_head s rest) refl (omega arith)) rest from);
       holds = its.holds;
       at = its.at;
-    }) (omega arith) (All-cons (λ (t : Stored). t.id < table.next + 1 + length children) s rest (omega arith) (All-weaker (IsFrom (table.next + 1) (length children) b p) (λ (t : Stored). t.id < table.next + 1 + length children) (λ t h. h.below) rest from)) settled
+    }
+
+-- and their ids are below the next free one
+pub new_below : (next : ℕ) (children : List Draft) (parent : Draft) (b : List ℕ) → All (λ (t : Stored). t.id < next + 1 + length children) (stored next b parent ∷ children_of next children parent b None)
+new_below next children parent b =
+    let p : Parent = head_of next parent None in
+    let rest : List Stored = children_of next children parent b None in
+    All-cons (λ (t : Stored). t.id < next + 1 + length children) (stored next b parent) rest (omega arith) (All-weaker (IsFrom (next + 1) (length children) b p) (λ (t : Stored). t.id < next + 1 + length children) (λ t h. h.below) rest (numbered_from (next + 1) b p children))
+
+pub new_settled : (dirs : List (List ℕ)) (table : Table) (children : List Draft) (parent : Draft) (b : List ℕ) (f g : FileMap) → AreDraftable dirs table.next children parent → parent.control.parent ≡ None
+    → AreWritten (children_of table.next children parent b None ++ stored table.next b parent ∷ []) f g → IsSettled dirs table f → IsSettled dirs (after_commit table children parent b None) g
+new_settled dirs table children parent b f g able alone w settled = added_settled dirs table (table.next + 1 + length children) (stored table.next b parent ∷ children_of table.next children parent b None) f g (new_added dirs table.next children parent b f g able alone w) (omega arith) (new_below table.next children parent b) settled
 
 put_over_base : (done : List Stored) (f m g : FileMap) (p : Place) → bytes_at m p ≡ bytes_at f p → IsPut done f g p → IsPut done m g p
 put_over_base done f m g p e (control s k q holds) = control s k q holds

@@ -27,10 +27,11 @@ mod Keeping
 mod Finishing
 mod Shelving
 mod Replaces
-mod FreshLemmas
 mod Bodies
 mod Ended
 mod Drafting
+mod ParcelLemmas
+mod HoldingLemmas
 mod Finding
 mod SweepLemmas
 mod Judgements
@@ -41,3 +42,5 @@ mod PlanLemmas
 mod RecoveryLemmas
 mod TellingLemmas
 mod ShowingLemmas
+mod OrderLemmas
+mod Reopening

@@ -37,6 +37,9 @@ found_by dirs f names xs ys p named read = found_order dirs f xs ys p (read_foun
 pub found_within : (n : ℕ) (names : List Named) (xs ys : List Found) → IsPermutation xs ys → AreAmong names xs → ((x : Named) → Contains names x → x.dir < n) → (y : Found) → Contains ys y → y.named.dir < n
 found_within n names xs ys p among within y c = within y.named (among y (Contains-permutation ys xs y (IsPermutation-sym xs ys p) c))
 
+pub found_among : (names shown : List Named) (xs ys : List Found) → shown ≡ names → IsPermutation xs ys → AreAmong shown xs → AreAmong names ys
+found_among names shown xs ys e p among = λ y c. subst (λ (q : List Named). Contains q y.named) e (among y (Contains-permutation ys xs y (IsPermutation-sym xs ys p) c))
+
 -- what is so of the end
 becomes_to : (a b : Option FileMap) (P Q S : FileMap → Type 0) → ((f : FileMap) → Q f → S f) → Becomes a b P Q → Becomes a b P S
 becomes_to None None P Q S to h = tt

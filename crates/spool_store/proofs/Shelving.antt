@@ -7,6 +7,7 @@ use Rattle.std.proofs.lemmas.Bool.{cases_eq, cases_lt}
 use Rattle.std.proofs.lemmas.Bool.Decides.{nat_tests}
 use Rattle.std.proofs.lemmas.Cmp.{ranked}
 use Rattle.std.proofs.lemmas.List.{length_push, length-set, length-map, get_or_append_left, get_or_push, get_or-map, get_or_default, get_or-set_same, get_or-set_other, ext_get_or}
+use Rattle.std.proofs.lemmas.List.Elements.{All-map, All-push, All-weaker}
 use Rattle.mail_base.specs.Names.{name_of, digits}
 use Rattle.mail_base.specs.declared.id.Kind.{Kind}
 use Rattle.mail_base.specs.declared.id.Kind.TheVariants.{Df, Qf, Tf, Sf}
@@ -84,6 +85,10 @@ push_ascends items x up below i j d lt within =
 pub added_ascends : (items new : List Held) (x : Held) → new ≡ items ++ x ∷ [] → IsAscending items → All (λ h. h.entry.id < x.entry.id) items → IsAscending new
 added_ascends items new x e up below = subst IsAscending (sym e) (push_ascends items x up below)
 
+pub added_below : (items new : List Held) (x : Held) (n : ℕ) → new ≡ items ++ x ∷ [] → x.entry.id ≡ n → All (λ (h : Held). h.entry.id < n) items → All (λ (h : Held). h.entry.id < n + 1) new
+added_below items new x n e at below = subst (λ (q : List Held). All (λ (h : Held). h.entry.id < n + 1) q) (sym e)
+    (All-push (λ (h : Held). h.entry.id < n + 1) items x (All-weaker (λ (h : Held). h.entry.id < n) (λ (h : Held). h.entry.id < n + 1) (λ h lt. omega (arith, lt)) items below) (omega (arith, at)))
+
 -- one is changed where it has that id
 changed : (items : List Held) (id place : ℕ) (h x : Held) (change : Held → Held) → IsAscending items → IsPlaceOf items id place → h ≡ get_or items place h → ((q : Held) → q.entry.id ≢ id → change q ≡ q) → change h ≡ x → set items place x ≡ map change items
 changed items id place h x change up at is others here = ext_get_or h (set items place x) (map change items) (length-set items place x ∙ sym (length-map items change)) (λ i lt.
@@ -111,6 +116,35 @@ pub refinished_at : (items : List Held) (id place : ℕ) (h : Held) → IsAscend
 refinished_at items id place h up at is = changed items id place h (record h { finished = true }) (refinished id) up at is
     (λ q ne. ap (λ (b : Bool). if b then record q { finished = true } else q) (ne_eqb q.entry.id id ne))
     (ap (λ (b : Bool). if b then record h { finished = true } else h) (eq-eqb h.entry.id id (ap (λ (q : Held). q.entry.id) is ∙ at.has h)))
+
+-- a change of entries that leaves their ids
+same_ascends : (change : Held → Held) (items : List Held) → ((h : Held) → (change h).entry.id ≡ h.entry.id) → IsAscending items → IsAscending (map change items)
+same_ascends change items same up i j d lt within =
+    let long = length-map items change in
+    let less = up i j d lt (omega (arith, within, long)) in
+    let one = ap (λ (q : Held). q.entry.id) (get_or-map change items i d d (omega (arith, lt, within, long))) in
+    let other = ap (λ (q : Held). q.entry.id) (get_or-map change items j d d (omega (arith, within, long))) in
+    let first = same (get_or items i d) in
+    let second = same (get_or items j d) in
+    omega (arith, less, one, other, first, second)
+
+pub same_kept : (change : Held → Held) (items new : List Held) (n room cap : ℕ) → ((h : Held) → (change h).entry.id ≡ h.entry.id) → new ≡ map change items → length items + room ≤ cap → IsAscending items → All (λ (h : Held). h.entry.id < n) items → (length new + room ≤ cap) × (IsAscending new × All (λ (h : Held). h.entry.id < n) new)
+same_kept change items new n room cap same e fits up below =
+    let long = length-map items change in
+    subst (λ (q : List Held). (length q + room ≤ cap) × (IsAscending q × All (λ (h : Held). h.entry.id < n) q)) (sym e)
+    (omega (arith, fits, long), (same_ascends change items same up, All-map (λ (h : Held). h.entry.id < n) change items (All-weaker (λ (h : Held). h.entry.id < n) (λ (h : Held). (change h).entry.id < n) (λ h lt. let k = same h in omega (arith, lt, k)) items below)))
+
+pub recontrolled_id : (id : ℕ) (c : Control) (h : Held) → (recontrolled id c h).entry.id ≡ h.entry.id
+recontrolled_id id c h = ⊎_elim
+    (λ (e : h.entry.id ≡ id). ap (λ (b : Bool). (if b then record h { entry = record h.entry { control = c } } else h).entry.id) (eq-eqb h.entry.id id e))
+    (λ (ne : h.entry.id ≢ id). ap (λ (b : Bool). (if b then record h { entry = record h.entry { control = c } } else h).entry.id) (ne_eqb h.entry.id id ne))
+    (cases_eq h.entry.id id)
+
+pub refinished_id : (id : ℕ) (h : Held) → (refinished id h).entry.id ≡ h.entry.id
+refinished_id id h = ⊎_elim
+    (λ (e : h.entry.id ≡ id). ap (λ (b : Bool). (if b then record h { finished = true } else h).entry.id) (eq-eqb h.entry.id id e))
+    (λ (ne : h.entry.id ≢ id). ap (λ (b : Bool). (if b then record h { finished = true } else h).entry.id) (ne_eqb h.entry.id id ne))
+    (cases_eq h.entry.id id)
 
 -- no entry of an id, against one
 pub none_has : (items : List Held) (id : ℕ) → HasId items id → All (λ h. h.entry.id ≢ id) items → ⊥

@@ -262,15 +262,15 @@ tidied_same dirs f g h s k =
     subst (λ (q : Spot). IsStrange dirs f q) (strange_went o.1 was) was
 
 -- an opening that has ended
-pub swept_settled : (dirs : List (List ℕ)) (table : Table) (f g : FileMap) → IsTidied dirs f g → StandsFor dirs table f → ((id : ℕ) → IsNamed dirs f id → id < table.next) → IsSwept dirs g → IsSettled dirs table g
-swept_settled dirs table f g h stands fresh swept = record {
-  stands = tidied_stands dirs table f g h stands;
-  tidy = record {
-    whole = λ t b there plain. ⊎_elim (λ (k : IsStrange dirs g t). absurd (plain k)) (λ (w : (c : Control) × IsLive dirs g t c). w) (swept.known t b there);
-    fresh = λ id named. fresh id (named_tidied dirs f g h id named);
-    drafts = swept.drafts;
-  };
+pub swept_tidy : (dirs : List (List ℕ)) (next : ℕ) (f g : FileMap) → IsTidied dirs f g → ((id : ℕ) → IsNamed dirs f id → id < next) → IsSwept dirs g → IsTidy dirs next g
+swept_tidy dirs next f g h fresh swept = record {
+  whole = λ t b there plain. ⊎_elim (λ (k : IsStrange dirs g t). absurd (plain k)) (λ (w : (c : Control) × IsLive dirs g t c). w) (swept.known t b there);
+  fresh = λ id named. fresh id (named_tidied dirs f g h id named);
+  drafts = swept.drafts;
 }
+
+pub swept_settled : (dirs : List (List ℕ)) (table : Table) (f g : FileMap) → IsTidied dirs f g → StandsFor dirs table f → ((id : ℕ) → IsNamed dirs f id → id < table.next) → IsSwept dirs g → IsSettled dirs table g
+swept_settled dirs table f g h stands fresh swept = record { stands = tidied_stands dirs table f g h stands; tidy = swept_tidy dirs table.next f g h fresh swept }
 
 owner : (dirs : List (List ℕ)) (g : FileMap) (id : ℕ) (s : Spot) (c : Control) → s.id ≡ id → IsLive dirs g s c → NeedsBody c → (s.kind ≡ Qf) ⊎ (s.kind ≡ Sf) → HasOwner dirs g id
 owner dirs g id s c i live needs (inl qf) = of_queued s (live_read live).bytes i qf (live_read live).there

@@ -1,5 +1,5 @@
 -- The store of parts: what is seen of it, and when its calls may be made (own).
-use Rattle.std.specs.Prelude.{◌≡◌, ◌≤◌, ℕ, ◌+◌, ◌-◌, ◌^◌, List, [], min, Option, None, Some, Contains, IsSome, true, false}
+use Rattle.std.specs.Prelude.{◌≡◌, ◌≤◌, ℕ, ◌+◌, ◌-◌, ◌^◌, List, [], map, min, Option, None, Some, Contains, IsSome, true, false}
 use Rattle.mail_base.specs.declared.control.Control.{Control}
 use Rattle.mail_base.specs.Names.{name_of}
 use Rattle.mail_base.specs.States.{is_finished, needs_body}
@@ -9,6 +9,7 @@ use Rattle.qf_format.specs.Sheets.{Sheet}
 use Rattle.qf_format.specs.Valid.{IsValid}
 use Rattle.spool_disk.specs.Disk.{FileMap, bytes_at}
 use Rattle.spool_store.specs.Entries.{Stored, Table, with_control}
+use Rattle.spool_store.specs.Openings.{AreEntries, AreStrays, IsNext}
 use Rattle.spool_store.specs.Queue.{IsOpen}
 use Rattle.spool_store.specs.Stores.{StoreSeen}
 use Rattle.spool_store.specs.declared.held.Held.{Held}
@@ -16,11 +17,13 @@ use Rattle.spool_store.specs.declared.queue.Queue.{Queue}
 
 -- all that is seen of a store
 abbrev pub seen : Queue → StoreSeen
-seen q = record { dirs = q.dirs; entries = q.shelf.items; strange = q.strange; next = q.next; broken = q.broken; room = q.shelf.room }
+seen q = record { dirs = q.dirs; entries = q.shelf.items; strange = q.strange; next = q.shelf.next; broken = q.broken; room = q.shelf.room }
 
--- the table of a queue that was never used
-abbrev pub unused : Table
-unused = record { entries = []; next = 1 }
+-- what a store is of a map that its opening read
+pub record IsReading (dirs : List (List ℕ)) (f : FileMap) (store : StoreSeen) : Type 0 where
+  pub entries : AreEntries dirs f (map (λ h. h.entry) store.entries)
+  pub strange : AreStrays dirs f store.strange
+  pub next : IsNext dirs f store.next
 
 -- the bytes of a file, or none where it isn't there
 abbrev pub or_nothing : Option (List ℕ) → List ℕ

@@ -1,5 +1,5 @@
 -- What an opening tells of a map (own; an entry is that of the Sendmail Installation and Operation Guide, "The queue").
-use Rattle.std.specs.Prelude.{◌≡◌, ◌⊎◌, List, ℕ, ◌+◌, ◌<◌, ◌≢◌, IsSome, Contains}
+use Rattle.std.specs.Prelude.{◌≡◌, ◌⊎◌, List, ℕ, ◌+◌, ◌<◌, ◌≢◌, All, AllPairs, IsSome, Contains}
 use Rattle.mail_base.specs.declared.id.Kind.{Kind}
 use Rattle.mail_base.specs.declared.control.Control.{Control}
 use Rattle.mail_base.specs.declared.control.Entry.{Entry}
@@ -13,6 +13,15 @@ use Rattle.spool_store.specs.Queue.{Spot, IsLive, IsStrange}
 pub record AreEntries (dirs : List (List ℕ)) (f : FileMap) (entries : List Entry) : Type 0 where
   pub each : (e : Entry) → Contains entries e → (kind : Kind) × IsLive dirs f (record { dir = e.dir; kind = kind; id = e.id }) e.control
   pub all : (s : Spot) (c : Control) → IsLive dirs f s c → Contains entries (record { id = s.id; dir = s.dir; control = c })
+
+-- each id is less than those behind it
+abbrev pub AreAscending : List Entry → Type 0
+AreAscending entries = AllPairs (λ (one : Entry) (another : Entry). one.id < another.id) entries
+
+-- in order of id, each once, and below the first free one
+pub record AreOrdered (entries : List Entry) (next : ℕ) : Type 0 where
+  pub ascending : AreAscending entries
+  pub below : All (λ (e : Entry). e.id < next) entries
 
 -- the first free id: above each id that is named, and 1 or just above one
 pub record IsNext (dirs : List (List ℕ)) (f : FileMap) (next : ℕ) : Type 0 where

@@ -1,8 +1,8 @@
 -- What is asked of drafts of new entries, and what a parcel of them is (own).
-use Rattle.std.specs.Prelude.{◌≡◌, ◌≤◌, ℕ, ◌+◌, List, map, length, None, All}
+use Rattle.std.specs.Prelude.{◌≡◌, ◌≤◌, ℕ, ◌+◌, ◌-◌, List, [], ◌∷◌, ◌++◌, map, length, None, All}
 use Rattle.mail_base.specs.declared.control.Draft.{Draft}
 use Rattle.spool_store.specs.Parts.{entry_of}
-use Rattle.spool_store.specs.Stores.{StoreSeen}
+use Rattle.spool_store.specs.Stores.{StoreSeen, entered}
 use Rattle.spool_store.specs.Writes.{IsDraftable, AreDraftable, children_of, stored}
 use Rattle.spool_store.specs.declared.parcel.Parcel.{Parcel}
 
@@ -20,3 +20,13 @@ pub record IsParcel (store : StoreSeen) (children : List Draft) (parent : Draft)
   pub parts : (b : List ℕ) → map (entry_of b) parcel.children ≡ children_of store.next children parent b None
   pub head : (b : List ℕ) → entry_of b parcel.parent ≡ stored store.next b parent
   pub room : length parcel.children + 1 ≤ store.room
+
+-- a parcel was made of some drafts, and nothing was committed since
+pub record IsReady (store : StoreSeen) (parcel : Parcel) : Type 0 where
+  pub children : List Draft
+  pub parent : Draft
+  pub is : IsParcel store children parent parcel.body parcel
+
+-- the store after a commit: the parent under the first free id, and its children under the next ones
+abbrev pub with_commit : StoreSeen → List Draft → Draft → StoreSeen
+with_commit store children parent = record store { entries = store.entries ++ map entered (stored store.next [] parent ∷ children_of store.next children parent [] None); next = store.next + 1 + length children; room = store.room - (length children + 1) }

@@ -13,9 +13,10 @@ use Rattle.spool_store.specs.Openings.{IsStray}
 use Rattle.spool_store.specs.Settled.{IsTidy}
 use Rattle.spool_store.specs.Tidying.{IsForeign}
 
--- entries in reserved room
+-- entries in reserved room, and the first free id
 pub record Shelved : Type 0 where
   pub items : List Held
+  pub next : ℕ
   pub room : ℕ
 
 abbrev pub held_ids : List Held → List ℕ

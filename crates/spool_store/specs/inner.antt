@@ -1,3 +1,4 @@
+pub mod Commits
 pub mod Finds
 pub mod Looks
 pub mod Judging
@@ -5,3 +6,4 @@ pub mod Sweeps
 pub mod Plans
 pub mod Recovering
 pub mod Telling
+pub mod Opening

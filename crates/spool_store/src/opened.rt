@@ -1,12 +1,13 @@
-ghost use Rattle.std.specs.Prelude.{◌≡◌, ◌⊎◌, ◌+◌, ◌<◌, ◌≤◌, ◌++◌, ◌∷◌, [], List, IfOk, OnOk, Some, Contains, length};
+ghost use Rattle.std.specs.Prelude.{◌≡◌, ◌⊎◌, ◌+◌, ◌<◌, ◌≤◌, ◌++◌, ◌∷◌, [], ℕ, List, true, false, All, IfOk, OnOk, Some, Contains, length};
+ghost use Rattle.std.specs.List.Sorted.{IsNonDecreasingBy};
 ghost use Rattle.mail_base.specs.declared.control.Control.{Control as ControlSeen};
 ghost use Rattle.spool_disk.specs.Disk.{FileMap};
-ghost use Rattle.spool_store.specs.Openings.{AreEntries, AreStrays, IsNext};
+ghost use Rattle.spool_store.specs.Openings.{AreAscending, AreEntries, AreOrdered, AreStrays, IsNext};
 ghost use Rattle.spool_store.specs.Verdicts.{IsVerdict};
 ghost use Rattle.spool_store.specs.inner.Finds.{AreForeign, AreFound, IsFound, spot_named};
 ghost use Rattle.spool_store.specs.inner.Judging.{AreJudged};
 ghost use Rattle.spool_store.specs.inner.Recovering.{HasLooked, IsLook};
-ghost use Rattle.spool_store.specs.inner.Telling.{AreShown, AreTold, IsPast, Names};
+ghost use Rattle.spool_store.specs.inner.Telling.{AreShown, AreTold, ComeFrom, HasEntry, IsAdding, IsPast, IsRising, Names};
 ghost use Rattle.mail_base.specs.Names.{name_of};
 ghost use Rattle.mail_base.specs.declared.control.Stray.{Stray as StraySeen};
 ghost use Rattle.mail_base.specs.declared.control.Parent.{Parent as ParentSeen};
@@ -40,12 +41,38 @@ fn entry_of(dir: &Text, id: Id, control: &Control) -> Result<Entry, NoMemory>
 
 // Adds the entry of a control file.
 fn add_live(dir: &Text, x: &Found, out: &mut Seq<Entry>) -> Result<(), NoMemory>
-    ensures { (c : ControlSeen) → x.now.control ≡ Some c → OnOk result (out.new ≡ out.old ++ record { id = x.now.named.id; dir = dir.now; control = c } ∷ []) }
+    ensures told { (c : ControlSeen) → x.now.control ≡ Some c → OnOk result (out.new ≡ out.old ++ record { id = x.now.named.id; dir = dir.now; control = c } ∷ []) }
+    ensures adds { OnOk result (IsAdding out.old out.new x.now.named.id) }
 {
     match &x.control {
         None => Ok(()),
         Some(control) => out.push(entry_of(dir, x.named.id, control)?),
     }
+}
+
+// Whether the last of these entries has that id.
+fn is_last(entries: &[Entry], id: Id) -> bool
+    ensures yes { result ≡ true → HasEntry entries.now id }
+    ensures no { result ≡ false → (n : ℕ) → IsRising entries.now n → n ≤ id → All (λ e. e.id < id) entries.now }
+{
+    let count = entries.len();
+    if count == 0 {
+        return false;
+    }
+    entries[count - 1].id.number() == id.number()
+}
+
+// Adds the entry of a control file, unless it is there: a directory may be listed twice.
+fn add_once(dir: &Text, x: &Found, out: &mut Seq<Entry>) -> Result<(), NoMemory>
+    ensures told { (c : ControlSeen) → x.now.control ≡ Some c → OnOk result (((out.new ≡ out.old) × HasEntry out.old x.now.named.id) ⊎ (out.new ≡ out.old ++ record { id = x.now.named.id; dir = dir.now; control = c } ∷ [])) }
+    ensures rises { (n : ℕ) → IsRising out.old n → n ≤ x.now.named.id → OnOk result (IsRising out.new x.now.named.id) }
+    ensures adds { OnOk result (IsAdding out.old out.new x.now.named.id) }
+{
+    if is_last(out.items(), x.named.id) {
+        return Ok(());
+    }
+    add_live(dir, x, out)?;
+    Ok(())
 }
 
 // Adds the entry of a control file, if it is live.
@@ -56,12 +83,14 @@ fn add_entry(
     out: &mut Seq<Entry>,
 ) -> Result<(), NoMemory>
     requires own { x.now.named.dir < length dirs.now }
-    ensures { (f : FileMap) (found : List FoundSeen) → IsFound dirs.now f x.now → IsVerdict dirs.now f (spot_named dirs.now x.now.named) verdict.now → AreTold dirs.now f found out.old → OnOk result (AreTold dirs.now f (found ++ x.now ∷ []) out.new) }
+    ensures told { (f : FileMap) (found : List FoundSeen) → IsFound dirs.now f x.now → IsVerdict dirs.now f (spot_named dirs.now x.now.named) verdict.now → AreTold dirs.now f found out.old → OnOk result (AreTold dirs.now f (found ++ x.now ∷ []) out.new) }
+    ensures rises { (n : ℕ) → IsRising out.old n → n ≤ x.now.named.id → OnOk result (IsRising out.new x.now.named.id) }
+    ensures adds { OnOk result (IsAdding out.old out.new x.now.named.id) }
 {
     match verdict {
         Verdict::Strange => Ok(()),
         Verdict::Dead => Ok(()),
-        Verdict::Live(_) => add_live(&dirs[x.named.dir], x, out),
+        Verdict::Live(_) => add_once(&dirs[x.named.dir], x, out),
     }
 }
 
@@ -93,7 +122,7 @@ fn add_strange(
     }
 }
 
-// The entries of the live control files.
+// The entries of the live control files, in order of id.
 fn entries_of(
     alloc: Global,
     dirs: &[Text],
@@ -102,7 +131,10 @@ fn entries_of(
 ) -> Result<Seq<Entry>, NoMemory>
     requires within { (x : FoundSeen) → Contains found.now x → x.named.dir < length dirs.now }
     requires long { length verdicts.now ≡ length found.now }
-    ensures { (f : FileMap) → AreFound dirs.now f found.now → AreJudged dirs.now f found.now verdicts.now → IfOk result (AreEntries dirs.now f) }
+    requires order { IsNonDecreasingBy (λ (x : FoundSeen). x.named.id) found.now }
+    ensures told { (f : FileMap) → AreFound dirs.now f found.now → AreJudged dirs.now f found.now verdicts.now → IfOk result (AreEntries dirs.now f) }
+    ensures ascending { IfOk result AreAscending }
+    ensures source { IfOk result (ComeFrom found.now) }
 {
     let mut entries = Seq::new(alloc);
     for place in 0..found.len() {
@@ -183,6 +215,7 @@ fn past_parents(found: &[Found], next: u64) -> u64
 /// What an opening found, for its caller.
 pub(crate) fn opened_of(alloc: Global, dirs: &[Text], looked: &Looked) -> Result<Opened, NoMemory>
     requires look { IsLook dirs.now looked.now }
+    ensures order { IfOk result (λ opened. AreOrdered opened.entries opened.next) }
     ensures entries { (f : FileMap) → HasLooked dirs.now f looked.now → IfOk result (λ opened. AreEntries dirs.now f opened.entries) }
     ensures strange { (f : FileMap) → HasLooked dirs.now f looked.now → IfOk result (λ opened. AreStrays dirs.now f opened.strange) }
     ensures next { (f : FileMap) → HasLooked dirs.now f looked.now → IfOk result (λ opened. IsNext dirs.now f opened.next) }

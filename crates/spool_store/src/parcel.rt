@@ -29,4 +29,16 @@ impl Parcel {
     {
         self.parent.entry.id
     }
+
+    // Its children and their parent.
+    pub(crate) fn into_parts(self) -> (Seq<Part>, Part)
+        ensures { result ≡ (self.children, self.parent) }
+    {
+        let Parcel {
+            children,
+            parent,
+            body: _,
+        } = self;
+        (children, parent)
+    }
 }

@@ -1,8 +1,9 @@
-ghost use Rattle.std.specs.Prelude.{◌≡◌};
+ghost use Rattle.std.specs.Prelude.{◌≡◌, false};
 ghost use Rattle.mail_base.specs.Names.{name_of};
 ghost use Rattle.mail_base.specs.declared.id.Kind.TheVariants.{Df as BodyKind, Qf as ControlKind, Tf as DraftKind};
 ghost use Rattle.qf_format.specs.Spelling.{spelled};
 
+use crate::Held;
 use mail_base::{Entry, Text};
 
 /// An entry of a change, with every text that a commit writes for it.
@@ -28,5 +29,24 @@ impl Drop for Part {
             tf: _,
             qf: _,
         } = self;
+    }
+}
+
+impl Part {
+    // What the store holds of it once it is committed.
+    pub(crate) fn into_held(self) -> Held
+        ensures { result ≡ record { entry = self.entry; finished = false } }
+    {
+        let Part {
+            entry,
+            control: _,
+            df: _,
+            tf: _,
+            qf: _,
+        } = self;
+        Held {
+            entry,
+            finished: false,
+        }
     }
 }

@@ -3,10 +3,14 @@ ghost use Rattle.mail_base.specs.Histories.{HasCause};
 ghost use Rattle.spool_disk.specs.Disk.{FileMap, bytes_at};
 ghost use Rattle.spool_store.specs.Entries.{Stored};
 ghost use Rattle.spool_store.specs.Moves.{Moves, Ends};
+ghost use Rattle.mail_base.specs.declared.control.Draft.{Draft};
+ghost use Rattle.spool_store.specs.Parcels.{IsParcel};
 ghost use Rattle.spool_store.specs.Parts.{AreAmong, AreNew, CanFollow, IsUnderWay, entry_of};
+ghost use Rattle.spool_store.specs.Stores.{StoreSeen};
 ghost use Rattle.spool_store.specs.Writes.{AreWritten, HasBody, HasDraft};
+ghost use Rattle.spool_store.specs.inner.Commits.{HasNoDraft, IsCommitted, IsCommitting};
 
-use crate::Part;
+use crate::{Parcel, Part};
 use mail_base::{Failed, Text};
 use spool_disk::Spool;
 
@@ -125,4 +129,18 @@ pub(crate) fn put_all<D: Spool>(
     put_body(spool, parent, body)?;
     put_draft(spool, parent)?;
     decide(spool, parent)
+}
+
+/// Writes the files of a parcel. It takes no memory.
+pub(crate) fn put_parcel<D: Spool>(spool: &mut D, parcel: &Parcel) -> Result<(), Failed>
+    ensures moves { (store : StoreSeen) (children : List Draft) (parent : Draft) (f : FileMap) → IsParcel store children parent parcel.now.body parcel.now → HasNoDraft store.dirs store.next f → Moves
+        (D.seen spool.old)
+        (D.seen spool.new)
+        (λ g. g ≡ f)
+        (Ends result (IsCommitted store.next children parent parcel.now.body f) (IsCommitting store.next children parent parcel.now.body f))
+        (IsCommitting store.next children parent parcel.now.body f) }
+    ensures cause { HasCause (D.seen spool.old).faults (D.seen spool.new).faults result }
+    ensures calm { OnOk result ((D.seen spool.new).faults ≡ (D.seen spool.old).faults) }
+{
+    put_all(spool, parcel.children.items(), &parcel.parent, &parcel.body)
 }

@@ -1,8 +1,9 @@
-ghost use Rattle.std.specs.Prelude.{◌≡◌, ◌⊎◌, ◌↔◌, ◌+◌, ◌<◌, ◌≤◌, ◌∷◌, [], length, IfOk, IfSome, IsErrOf, OnOk, OnErr, Contains, List, ℕ, true, false, Err, map};
+ghost use Rattle.std.specs.Prelude.{◌≡◌, ◌⊎◌, ◌↔◌, ◌+◌, ◌<◌, ◌≤◌, ◌∷◌, [], length, IfOk, IfSome, IsErrOf, OnOk, OnErr, Contains, List, ℕ, Some, None, true, false, Err, map};
 ghost use Rattle.mail_base.specs.Histories.{HasCause, Rose};
 ghost use Rattle.mail_base.specs.Names.{name_of};
 ghost use Rattle.mail_base.specs.States.{NeedsBody};
 ghost use Rattle.mail_base.specs.declared.control.Control.{Control};
+ghost use Rattle.mail_base.specs.declared.control.Draft.{Draft as DraftSeen};
 ghost use Rattle.mail_base.specs.declared.fault.StoreFault.TheVariants.{SpoolFault as Broke, IdsSpent as Spent};
 ghost use Rattle.mail_base.specs.declared.id.Kind.TheVariants.{Df};
 ghost use Rattle.qf_format.specs.Room.{room_of};
@@ -10,27 +11,29 @@ ghost use Rattle.qf_format.specs.Spelling.{spelled};
 ghost use Rattle.spool_disk.specs.Disk.{FileMap, bytes_at};
 ghost use Rattle.spool_disk.specs.Spooled.{Reads};
 ghost use Rattle.spool_store.specs.Entries.{Stored, Table};
-ghost use Rattle.spool_store.specs.Keepers.{CanFinish, CanReplace, IsFiled, after_replace, or_nothing, seen, unused, with_new};
+ghost use Rattle.spool_store.specs.Keepers.{CanFinish, CanReplace, IsFiled, IsReading, after_replace, or_nothing, seen, with_new};
 ghost use Rattle.spool_store.specs.Finishing.{HasFinished, IsDone};
 ghost use Rattle.spool_store.specs.Moves.{IsRun, Moves, Ends};
 ghost use Rattle.spool_store.specs.Parts.{CanRaise, IsEitherTable, IsUnderWay};
-ghost use Rattle.spool_store.specs.Parcels.{CanPrepare, IsParcel};
+ghost use Rattle.spool_store.specs.Openings.{AreOrdered};
+ghost use Rattle.spool_store.specs.Parcels.{CanPrepare, IsParcel, IsReady, with_commit};
 ghost use Rattle.spool_store.specs.Settled.{IsSettled, StandsFor};
-ghost use Rattle.spool_store.specs.Standing.{IsUsed};
 ghost use Rattle.spool_store.specs.Stores.{Agrees, HasId, Holds, IsAscending, KeepsOthers, recontrolled, refinished, spot_at};
-ghost use Rattle.spool_store.specs.Tidying.{IsTidied};
-ghost use Rattle.spool_store.specs.Writes.{AreRaised};
-ghost use Rattle.spool_store.specs.declared.fault.OpenFault.TheVariants.{NotYet, SpoolFault as OpenBroke};
+ghost use Rattle.spool_store.specs.Tidying.{IsClean, IsTidied};
+ghost use Rattle.spool_store.specs.Writes.{AreRaised, after_commit};
 ghost use Rattle.spool_store.specs.declared.held.Held.{Held};
+ghost use Rattle.spool_store.specs.inner.Opening.{opened_store};
 
 use crate::fault::store_fault;
 use crate::finishes::{drop_body, end};
 use crate::label::Label;
 use crate::making::{heirs, part_of};
-use crate::opening::find_empty;
+use crate::opened::Opened;
+use crate::parts::put_parcel;
 use crate::raises::put_raised;
+use crate::recovery::reopen;
 use crate::shelf::Shelf;
-use crate::{Held, OpenFault, Parcel, Room, SpoolFault};
+use crate::{Held, Parcel, Room, SpoolFault};
 use mail_base::{Draft, Failed, Id, Kind, NoMemory, Parent, Seq, StoreFault, Stray, Text, TryCopy};
 use qf_format::{Paper, print_into, room};
 use spool_disk::Spool;
@@ -44,38 +47,47 @@ pub struct Queue {
     pub(crate) dirs: Seq<Text>,
     pub(crate) shelf: Shelf,
     pub(crate) strange: Seq<Stray>,
-    pub(crate) next: u64,
     pub(crate) broken: bool,
     pub(crate) from: Label,
     pub(crate) to: Label,
 }
 
 impl Queue {
-    /// Opens a spool whose directories have no file yet. It changes nothing. `NotYet` comes exactly where
-    /// the listing of a directory has a name, in the order of the directories; a listing before it may
-    /// fail or find no memory.
+    /// Opens a spool, whatever its directories hold: [`recover`](crate::recover) says what becomes of the
+    /// files, and what is read of them. After a fault it can be called again. `IdsSpent` never comes.
     pub fn open<D: Spool>(
         alloc: Global,
         spool: &mut D,
         dirs: &Seq<Text>,
-    ) -> Result<Queue, OpenFault>
-        ensures store { IfOk result (λ q. seen q ≡ record { dirs = dirs.now; entries = []; strange = []; next = 1; broken = false; room = 0 }) }
+    ) -> Result<Queue, StoreFault>
+        ensures store { IfOk result (λ q. ((seen q).dirs ≡ dirs.now) × ((seen q).broken ≡ false) × ((seen q).room ≡ 0)) }
+        ensures read { (f : FileMap) → (D.seen spool.old).told ≡ Some f → IfOk result (λ q. IsReading dirs.now f (seen q)) }
         ensures agrees { IfOk result (λ q. IfSome (D.seen spool.new).told (Agrees (seen q))) }
-        ensures stands { IfOk result (λ _. IfSome (D.seen spool.new).told (IsSettled dirs.now unused)) }
-        ensures used { IsErrOf result NotYet → IfSome (D.seen spool.old).told (IsUsed dirs.now) }
-        ensures untouched { Reads (D.seen spool.old) (D.seen spool.new) }
+        ensures settled { (table : Table) (f : FileMap) → (D.seen spool.old).told ≡ Some f → StandsFor dirs.now table f → IfOk result (λ q. IfSome (D.seen spool.new).told (IsSettled dirs.now (record { entries = table.entries; next = (seen q).next }))) }
+        ensures stands { (table : Table) → Moves (D.seen spool.old) (D.seen spool.new) (StandsFor dirs.now table) (StandsFor dirs.now table) (StandsFor dirs.now table) }
+        ensures tidied { (f : FileMap) → (D.seen spool.old).told ≡ Some f → Moves (D.seen spool.old) (D.seen spool.new) (λ g. g ≡ f) (IsTidied dirs.now f) (IsTidied dirs.now f) }
+        ensures clean { IfOk result (λ _. IfSome (D.seen spool.new).told (IsClean dirs.now)) }
         ensures later { (D.seen spool.old).faults ≤ (D.seen spool.new).faults }
-        ensures cause { IsErrOf result OpenBroke → Rose (D.seen spool.old).faults (D.seen spool.new).faults }
-        ensures calm { IsErrOf result OpenBroke ⊎ ((D.seen spool.new).faults ≡ (D.seen spool.old).faults) }
+        ensures never { IsErrOf result Spent → ⊥ }
+        ensures cause { IsErrOf result Broke → Rose (D.seen spool.old).faults (D.seen spool.new).faults }
+        ensures calm { IsErrOf result Broke ⊎ ((D.seen spool.new).faults ≡ (D.seen spool.old).faults) }
     {
-        find_empty(alloc, spool, dirs)?;
+        reopen(alloc, spool, dirs)
+    }
+
+    // The store of what an opening found.
+    pub(crate) fn of(alloc: Global, dirs: &Seq<Text>, opened: Opened) -> Result<Queue, NoMemory>
+        requires order { AreOrdered opened.entries opened.next }
+        ensures { IfOk result (λ q. seen q ≡ opened_store dirs.now opened) }
+    {
+        let dirs = dirs.copy()?;
         let from = Label::new(alloc)?;
         let to = Label::new(alloc)?;
+        let shelf = Shelf::of(alloc, opened.entries, opened.next)?;
         Ok(Queue {
-            dirs: dirs.copy()?,
-            shelf: Shelf::new(alloc),
-            strange: Seq::new(alloc),
-            next: 1,
+            dirs,
+            shelf,
+            strange: opened.strange,
             broken: false,
             from,
             to,
@@ -100,7 +112,7 @@ impl Queue {
     pub fn next(&self) -> u64
         ensures { result ≡ (seen self.now).next }
     {
-        self.next
+        self.shelf.next()
     }
 
     /// A copy of the control of the entry of an id, with memory for what takes its place. Nothing is
@@ -312,7 +324,7 @@ impl Queue {
         ensures never { IsErrOf result Broke → ⊥ }
     {
         let count = children.len();
-        if self.next.saturating_add(count as u64) > Id::MOST {
+        if self.shelf.next().saturating_add(count as u64) > Id::MOST {
             return Err(StoreFault::IdsSpent);
         }
         self.shelf.reserve(count + 1)?;
@@ -327,17 +339,66 @@ impl Queue {
         ensures { IfOk result (IsParcel (seen self.now) children.now parent.now body) }
     {
         let alloc = self.dirs.allocator();
-        let id = Id::new(self.next);
+        let next = self.shelf.next();
+        let id = Id::new(next);
         let under = Parent {
             id,
             revision: parent.control.revision,
         };
-        let children = heirs(alloc, self.next + 1, &under, children.items())?;
+        let children = heirs(alloc, next + 1, &under, children.items())?;
         let parent = part_of(alloc, id, parent, None)?;
         Ok(Parcel {
             children,
             parent,
             body,
         })
+    }
+
+    /// Commits a parcel: each child's body, then its control text, each whole before the next, and the
+    /// renaming that gives it its name; then the parent's, whose renaming decides. A stop at any moment
+    /// leaves the table before or after. It takes no memory. The parcel is one that [`Queue::prepare`]
+    /// made since the last commit.
+    pub fn commit<D: Spool>(&mut self, spool: &mut D, parcel: Parcel) -> Result<Id, SpoolFault>
+        requires agrees { (seen self.old).broken ≡ false → IfSome (D.seen spool.old).told (Agrees (seen self.old)) }
+        requires ready { IsReady (seen self.old) parcel }
+        ensures moves { (table : Table) (children : List DraftSeen) (parent : DraftSeen) → Holds (seen self.old) table → IsParcel (seen self.old) children parent parcel.body parcel → Moves
+            (D.seen spool.old)
+            (D.seen spool.new)
+            (StandsFor (seen self.old).dirs table)
+            (Ends result (IsSettled (seen self.old).dirs (after_commit table children parent parcel.body None)) (IsEitherTable (seen self.old).dirs table (after_commit table children parent parcel.body None)))
+            (IsEitherTable (seen self.old).dirs table (after_commit table children parent parcel.body None)) }
+        ensures frame { (f : FileMap) → Moves (D.seen spool.old) (D.seen spool.new) (λ g. g ≡ f) (KeepsOthers (seen self.old).dirs f) (KeepsOthers (seen self.old).dirs f) }
+        ensures agrees { OnOk result (IfSome (D.seen spool.new).told (Agrees (seen self.new))) }
+        ensures id { IfOk result (λ id. id ≡ (seen self.old).next) }
+        ensures ok { (children : List DraftSeen) (parent : DraftSeen) → IsParcel (seen self.old) children parent parcel.body parcel → OnOk result (seen self.new ≡ with_commit (seen self.old) children parent) }
+        ensures err { OnErr result (seen self.new ≡ record (seen self.old) { broken = true }) }
+        ensures broken { (seen self.old).broken ≡ true → (result ≡ Err record {}) × (spool.new ≡ spool.old) }
+        ensures later { (D.seen spool.old).faults ≤ (D.seen spool.new).faults }
+        ensures calm { OnOk result ((D.seen spool.new).faults ≡ (D.seen spool.old).faults) }
+        ensures cause { OnErr result (((seen self.old).broken ≡ true) ⊎ Rose (D.seen spool.old).faults (D.seen spool.new).faults) }
+    {
+        if self.broken {
+            return Err(SpoolFault);
+        }
+        match put_parcel(spool, &parcel) {
+            Ok(()) => Ok(self.take_in(parcel)),
+            Err(_failed) => {
+                self.broken = true;
+                Err(SpoolFault)
+            }
+        }
+    }
+
+    // Takes in the entries of a parcel whose files are written.
+    fn take_in(&mut self, parcel: Parcel) -> Id
+        requires ready { IsReady (seen self.old) parcel }
+        ensures id { result ≡ (seen self.old).next }
+        ensures is { (children : List DraftSeen) (parent : DraftSeen) → IsParcel (seen self.old) children parent parcel.body parcel → seen self.new ≡ with_commit (seen self.old) children parent }
+    {
+        let id = parcel.id();
+        let (children, parent) = parcel.into_parts();
+        self.shelf.add(parent.into_held());
+        self.shelf.add_all(children);
+        id
     }
 }

@@ -1,4 +1,4 @@
-ghost use Rattle.std.specs.Prelude.{◌≡◌, ◌≢◌, ◌∷◌, [], Some, None, ◌<◌, ◌≤◌, ◌++◌, All, Any, Contains, List, ℕ};
+ghost use Rattle.std.specs.Prelude.{◌≡◌, ◌≢◌, ◌∷◌, [], Some, None, ◌<◌, ◌≤◌, ◌++◌, All, Any, Contains, List, ℕ, map};
 ghost use Rattle.spool_disk.specs.Disk.{FileMap, Place, bytes_at};
 ghost use Rattle.mail_base.specs.declared.id.Kind.TheVariants.{Df, Sf, Tf};
 ghost use Rattle.mail_base.specs.Limits.{IsId};
@@ -20,6 +20,9 @@ ghost use Rattle.spool_store.specs.Alike.{AreAlike};
 ghost use Rattle.spool_store.specs.Changes.{IsRaised, IsAdded, IsBefore, IsMidway, IsPut, control_place, body_at, draft_place};
 ghost use Rattle.spool_store.specs.Settled.{StandsFor, IsTidy, IsNamed, IsSettled};
 ghost use Rattle.spool_store.specs.Entries.{Stored, Table, AreSameEntries, with_control};
+ghost use Rattle.spool_store.specs.Keepers.{after_replace};
+ghost use Rattle.spool_store.specs.Parcels.{with_commit};
+ghost use Rattle.spool_store.specs.Stores.{Agrees, Holds, StoreSeen, recontrolled, refinished};
 
 /// A control file says one control.
 pub fn one_control()
@@ -147,4 +150,13 @@ pub fn a_dead_child_may_come_alive()
     ensures { (dirs : List (List ℕ)) (table : Table) (children : List Draft) (parent : Draft) (old : Control) (id : ℕ) (b : List ℕ) (f m g : FileMap) → AreDraftable dirs table.next children parent → IsOld dirs f id parent old → IsSettled dirs table f
         → AreWritten (children_of table.next children parent b (Some id)) f m → bytes_at g (control_place (stored id b parent)) ≡ Some (spelled parent.control) → IsSameBut (control_place (stored id b parent)) m g
         → StandsFor dirs table m × StandsFor dirs (after_commit table children parent b (Some id)) g }
+{}
+
+/// A store goes on to hold what the table has after a commit, a replaced control and a finish, and holds it with any room. So a store that agrees with a map does so with any room.
+pub fn holding_goes_on()
+    ensures commit { (store : StoreSeen) (table : Table) (children : List Draft) (parent : Draft) (b : List ℕ) → Holds store table → Holds (with_commit store children parent) (after_commit table children parent b None) }
+    ensures replace { (store : StoreSeen) (table : Table) (id : ℕ) (c : Control) → Holds store table → Holds (record store { entries = map (recontrolled id c) store.entries }) (after_replace table id c) }
+    ensures finish { (store : StoreSeen) (table : Table) (id : ℕ) → Holds store table → Holds (record store { entries = map (refinished id) store.entries }) table }
+    ensures room { (store : StoreSeen) (table : Table) (room : ℕ) → Holds store table → Holds (record store { room = room }) table }
+    ensures agrees { (store : StoreSeen) (f : FileMap) (room : ℕ) → Agrees store f → Agrees (record store { room = room }) f }
 {}

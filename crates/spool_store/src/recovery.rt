@@ -1,12 +1,14 @@
-ghost use Rattle.std.specs.Prelude.{◌≡◌, ◌<◌, ◌≤◌, ◌⊎◌, [], IfOk, IfSome, IsErrOf, Some, Contains, length};
+ghost use Rattle.std.specs.Prelude.{◌≡◌, ◌<◌, ◌≤◌, ◌⊎◌, [], false, IfOk, IfSome, IsErrOf, Some, Contains, length};
 ghost use Rattle.std.specs.List.Sorted.{IsNonDecreasingBy, IsPermutation};
 ghost use Rattle.mail_base.specs.Histories.{Rose};
 ghost use Rattle.mail_base.specs.declared.fault.StoreFault.TheVariants.{SpoolFault as Broke, IdsSpent as Spent};
 ghost use Rattle.spool_disk.specs.Disk.{FileMap};
 ghost use Rattle.spool_store.specs.Moves.{Moves, Ends};
 ghost use Rattle.spool_store.specs.Entries.{Table};
-ghost use Rattle.spool_store.specs.Openings.{AreEntries, AreStrays, IsNext};
-ghost use Rattle.spool_store.specs.Settled.{StandsFor};
+ghost use Rattle.spool_store.specs.Openings.{AreEntries, AreOrdered, AreStrays, IsNext};
+ghost use Rattle.spool_store.specs.Keepers.{IsReading, seen};
+ghost use Rattle.spool_store.specs.Settled.{IsSettled, StandsFor};
+ghost use Rattle.spool_store.specs.Stores.{Agrees};
 ghost use Rattle.spool_store.specs.Tidying.{IsClean, IsSwept, IsTidied};
 ghost use Rattle.spool_store.specs.inner.Finds.{AreForeign, AreNamed};
 ghost use Rattle.spool_store.specs.inner.Looks.{Looks};
@@ -23,6 +25,7 @@ use crate::looking::read_all;
 use crate::named::Found;
 use crate::opened::{Opened, opened_of};
 use crate::plan::{bodies, closed, dead, drafts};
+use crate::queue::Queue;
 use crate::swept::{finish_all, remove_all};
 use mail_base::{NoMemory, Seq, StoreFault, Text};
 use spool_disk::Spool;
@@ -134,14 +137,19 @@ fn sweep<D: Spool>(
     carry_out(alloc, spool, dirs, &plan)
 }
 
-// Opens: what is found is told of the map as it was.
-fn take_over<D: Spool>(alloc: Global, spool: &mut D, dirs: &[Text]) -> Result<Opened, StoreFault>
+/// Opens: what is found is told of the map as it was.
+pub(crate) fn take_over<D: Spool>(
+    alloc: Global,
+    spool: &mut D,
+    dirs: &[Text],
+) -> Result<Opened, StoreFault>
     ensures tidied { (f : FileMap) → (D.seen spool.old).told ≡ Some f → Moves
         (D.seen spool.old)
         (D.seen spool.new)
         (λ g. g ≡ f)
         (Ends result (λ g. IsTidied dirs.now f g × IsSwept dirs.now g) (IsTidied dirs.now f))
         (IsTidied dirs.now f) }
+    ensures order { IfOk result (λ opened. AreOrdered opened.entries opened.next) }
     ensures entries { (f : FileMap) → (D.seen spool.old).told ≡ Some f → IfOk result (λ opened. AreEntries dirs.now f opened.entries) }
     ensures strange { (f : FileMap) → (D.seen spool.old).told ≡ Some f → IfOk result (λ opened. AreStrays dirs.now f opened.strange) }
     ensures next { (f : FileMap) → (D.seen spool.old).told ≡ Some f → IfOk result (λ opened. IsNext dirs.now f opened.next) }
@@ -174,6 +182,7 @@ pub fn recover<D: Spool>(
         (λ g. g ≡ f)
         (IsTidied dirs.now f)
         (IsTidied dirs.now f) }
+    ensures order { IfOk result (λ opened. AreOrdered opened.entries opened.next) }
     ensures entries { IfOk result (λ opened. IfSome (D.seen spool.old).told (λ f. AreEntries dirs.now f opened.entries)) }
     ensures strange { IfOk result (λ opened. IfSome (D.seen spool.old).told (λ f. AreStrays dirs.now f opened.strange)) }
     ensures next { IfOk result (λ opened. IfSome (D.seen spool.old).told (λ f. IsNext dirs.now f opened.next)) }
@@ -184,4 +193,24 @@ pub fn recover<D: Spool>(
     ensures calm { IsErrOf result Broke ⊎ ((D.seen spool.new).faults ≡ (D.seen spool.old).faults) }
 {
     take_over(alloc, spool, dirs.items())
+}
+
+/// Opens, and makes the store of what was found.
+pub(crate) fn reopen<D: Spool>(
+    alloc: Global,
+    spool: &mut D,
+    dirs: &Seq<Text>,
+) -> Result<Queue, StoreFault>
+    ensures store { IfOk result (λ q. ((seen q).dirs ≡ dirs.now) × ((seen q).broken ≡ false) × ((seen q).room ≡ 0)) }
+    ensures read { (f : FileMap) → (D.seen spool.old).told ≡ Some f → IfOk result (λ q. IsReading dirs.now f (seen q)) }
+    ensures agrees { IfOk result (λ q. IfSome (D.seen spool.new).told (Agrees (seen q))) }
+    ensures settled { (table : Table) (f : FileMap) → (D.seen spool.old).told ≡ Some f → StandsFor dirs.now table f → IfOk result (λ q. IfSome (D.seen spool.new).told (IsSettled dirs.now (record { entries = table.entries; next = (seen q).next }))) }
+    ensures stands { (table : Table) → Moves (D.seen spool.old) (D.seen spool.new) (StandsFor dirs.now table) (StandsFor dirs.now table) (StandsFor dirs.now table) }
+    ensures tidied { (f : FileMap) → (D.seen spool.old).told ≡ Some f → Moves (D.seen spool.old) (D.seen spool.new) (λ g. g ≡ f) (IsTidied dirs.now f) (IsTidied dirs.now f) }
+    ensures clean { IfOk result (λ _. IfSome (D.seen spool.new).told (IsClean dirs.now)) }
+    ensures counts { Counts (D.seen spool.old) (D.seen spool.new) result }
+{
+    let opened = take_over(alloc, spool, dirs.items())?;
+    let queue = Queue::of(alloc, dirs, opened)?;
+    Ok(queue)
 }

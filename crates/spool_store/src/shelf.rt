@@ -1,53 +1,81 @@
 ghost use Rattle.std.specs.Prelude.{◌≡◌, ◌≢◌, ◌+◌, ◌<◌, ◌≤◌, ◌++◌, ◌∷◌, [], IfSome, IfNone, IfOk, IfErr, OnOk, OnErr, All, map, length};
 ghost use Rattle.mail_base.specs.Limits.{IsId};
 ghost use Rattle.spool_store.specs.Stores.{HasId, IsAscending, IsPlaceOf, Shelved, recontrolled, refinished};
+ghost use Rattle.spool_store.specs.Openings.{AreOrdered};
+ghost use Rattle.spool_store.specs.inner.Commits.{IsRow, queued};
+ghost use Rattle.spool_store.specs.inner.Opening.{taken_over};
 
-use crate::Held;
-use mail_base::{Control, Id, NoMemory};
+use crate::{Held, Part};
+use mail_base::{Control, Entry, Id, NoMemory, Seq};
 use std::alloc::Global;
 use std::marker::Model;
 
-/// Entries in order of id, with room for more. A contract sees it as its entries and its room, the
-/// number of entries that it takes without memory.
+/// Entries in order of id, with room for more, and the first free id, which is greater than each of
+/// theirs. A contract sees it as its entries, that id and its room, the number of entries that it takes
+/// without memory.
 #[derive(Drop)]
 pub struct Shelf {
     held: Vec<Held>,
+    next: u64,
     room: usize,
 }
 
 impl Model for Shelf {
-    ghost use Rattle.std.specs.Prelude.{◌+◌, ◌≤◌, length};
+    ghost use Rattle.std.specs.Prelude.{◌+◌, ◌<◌, ◌≤◌, All, length};
     ghost use Rattle.std.specs.Vec.{vec_capacity};
     ghost use Rattle.spool_store.specs.Stores.{IsAscending, Shelved};
 
     ghost Value = { Shelved };
 
-    ghost view = { λ s. record { items = s.held.items; room = s.room } };
+    ghost view = { λ s. record { items = s.held.items; next = s.next; room = s.room } };
 
-    ghost invariant = { λ s. (length s.held.items + s.room ≤ vec_capacity s.held) × IsAscending s.held.items };
+    ghost invariant = { λ s. (length s.held.items + s.room ≤ vec_capacity s.held) × (IsAscending s.held.items × All (λ h. h.entry.id < s.next) s.held.items) };
+}
+
+// Entries that an opening found.
+fn all_held(alloc: Global, entries: Seq<Entry>) -> Result<Vec<Held>, NoMemory>
+    ensures { IfOk result (λ held. held.items ≡ map taken_over entries) }
+{
+    let mut held = Vec::new(alloc);
+    for entry in entries.into_vec() {
+        held.push(Held::of(entry))?;
+    }
+    Ok(held)
 }
 
 impl Shelf {
-    /// No entry, and no room. It takes no memory.
-    pub(crate) fn new(alloc: Global) -> Shelf
-        ensures { result ≡ record { items = []; room = 0 } }
+    /// These entries, with no room for more.
+    pub(crate) fn of(alloc: Global, entries: Seq<Entry>, next: u64) -> Result<Shelf, NoMemory>
+        requires order { AreOrdered entries next }
+        ensures { IfOk result (λ shelf. shelf ≡ record { items = map taken_over entries; next = next; room = 0 }) }
     {
-        Shelf {
-            held: Vec::new(alloc),
+        let held = all_held(alloc, entries)?;
+        Ok(Shelf {
+            held,
+            next,
             room: 0,
-        }
+        })
     }
 
     pub(crate) fn items(&self) -> &[Held]
         ensures items { result.now ≡ self.now.items }
         ensures ascending { IsAscending self.now.items }
+        ensures below { All (λ h. h.entry.id < self.now.next) self.now.items }
     {
         &self.held
+    }
+
+    /// The first free id.
+    pub(crate) fn next(&self) -> u64
+        ensures { result ≡ self.now.next }
+    {
+        self.next
     }
 
     /// Makes room for at least so many entries. After `NoMemory` it is as before.
     pub(crate) fn reserve(&mut self, more: usize) -> Result<(), NoMemory>
         ensures items { self.new.items ≡ self.old.items }
+        ensures next { self.new.next ≡ self.old.next }
         ensures ok { OnOk result (more ≤ self.new.room) }
         ensures least { self.old.room ≤ self.new.room }
         ensures err { OnErr result (self.new ≡ self.old) }
@@ -60,15 +88,30 @@ impl Shelf {
         Ok(())
     }
 
-    /// Adds an entry of a greater id at the end, for which there is room. It takes no memory.
+    /// Adds an entry under the first free id, for which there is room. It takes no memory.
     pub(crate) fn add(&mut self, held: Held)
         requires room { 0 < self.old.room }
-        requires last { All (λ h. h.entry.id < held.entry.id) self.old.items }
+        requires next { held.entry.id ≡ self.old.next }
         ensures items { self.new.items ≡ self.old.items ++ held ∷ [] }
+        ensures next { self.new.next ≡ self.old.next + 1 }
         ensures room { self.new.room + 1 ≡ self.old.room }
     {
         self.held.push_reserved(held);
+        self.next += 1;
         self.room -= 1;
+    }
+
+    /// Adds entries under the first free ids, in their order, for which there is room. It takes no memory.
+    pub(crate) fn add_all(&mut self, parts: Seq<Part>)
+        requires room { length parts ≤ self.old.room }
+        requires next { IsRow self.old.next parts }
+        ensures items { self.new.items ≡ self.old.items ++ map queued parts }
+        ensures next { self.new.next ≡ self.old.next + length parts }
+        ensures room { self.new.room + length parts ≡ self.old.room }
+    {
+        for part in parts.into_vec() {
+            self.add(part.into_held());
+        }
     }
 
     /// Where the entry of an id is. It halves the entries.

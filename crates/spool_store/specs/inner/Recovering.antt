@@ -5,7 +5,7 @@ use Rattle.spool_disk.specs.Disk.{FileMap}
 use Rattle.spool_store.specs.declared.named.Named.{Named}
 use Rattle.spool_store.specs.declared.looked.Looked.{Looked}
 use Rattle.spool_store.specs.declared.looked.Plan.{Plan}
-use Rattle.spool_store.specs.inner.Finds.{AreForeign, AreFound, AreNamed}
+use Rattle.spool_store.specs.inner.Finds.{AreAmong, AreForeign, AreFound, AreNamed}
 use Rattle.spool_store.specs.inner.Judging.{AreJudged, IsIndexed}
 use Rattle.spool_store.specs.inner.Plans.{AreDead, AreDone, AreDrafts, AreUnwanted}
 
@@ -14,6 +14,7 @@ pub record IsLook (dirs : List (List ℕ)) (l : Looked) : Type 0 where
   pub indexed : IsIndexed dirs l.named l.found
   pub named : (x : Named) → Contains l.named x → x.dir < length dirs
   pub long : length l.verdicts ≡ length l.found
+  pub among : AreAmong l.named l.found
 
 -- it is exactly what a map has
 pub record HasLooked (dirs : List (List ℕ)) (f : FileMap) (l : Looked) : Type 0 where

@@ -1,11 +1,12 @@
 -- The entries that an opening tells, one control file after another (own).
-use Rattle.std.specs.Prelude.{◌≡◌, ◌⊎◌, List, ℕ, ◌+◌, ◌<◌, ◌≤◌, Some, Contains}
+use Rattle.std.specs.Prelude.{◌≡◌, ◌⊎◌, List, [], ◌∷◌, ◌++◌, ℕ, ◌+◌, ◌<◌, ◌≤◌, All, Some, Contains}
 use Rattle.mail_base.specs.declared.control.Control.{Control}
 use Rattle.mail_base.specs.declared.control.Entry.{Entry}
 use Rattle.mail_base.specs.declared.control.Parent.{Parent}
 use Rattle.mail_base.specs.declared.control.Stray.{Stray}
 use Rattle.mail_base.specs.Names.{name_of}
 use Rattle.spool_disk.specs.Disk.{FileMap}
+use Rattle.spool_store.specs.Openings.{AreAscending}
 use Rattle.spool_store.specs.Queue.{IsLive, IsStrange}
 use Rattle.spool_store.specs.declared.named.Found.{Found}
 use Rattle.spool_store.specs.inner.Finds.{dir_at, spot_named}
@@ -18,6 +19,25 @@ entry_found dirs x c = record { id = x.named.id; dir = dir_at dirs x.named.dir; 
 pub record AreTold (dirs : List (List ℕ)) (f : FileMap) (found : List Found) (entries : List Entry) : Type 0 where
   pub each : (e : Entry) → Contains entries e → (x : Found) × (c : Control) × IsLive dirs f (spot_named dirs x.named) c × (e ≡ entry_found dirs x c)
   pub all : (x : Found) (c : Control) → Contains found x → IsLive dirs f (spot_named dirs x.named) c → Contains entries (entry_found dirs x c)
+
+-- an entry of that id is among them
+pub record HasEntry (entries : List Entry) (id : ℕ) : Type 0 where
+  pub entry : Entry
+  pub among : Contains entries entry
+  pub is : entry.id ≡ id
+
+-- they ascend, up to an id
+pub record IsRising (entries : List Entry) (most : ℕ) : Type 0 where
+  pub ascending : AreAscending entries
+  pub most_is : All (λ (e : Entry). e.id ≤ most) entries
+
+-- nothing is added, or an entry of that id
+abbrev pub IsAdding : List Entry → List Entry → ℕ → Type 0
+IsAdding old new id = (new ≡ old) ⊎ ((e : Entry) × (e.id ≡ id) × (new ≡ old ++ e ∷ []))
+
+-- each has the id of one of these control files
+abbrev pub ComeFrom : List Found → List Entry → Type 0
+ComeFrom found entries = (e : Entry) → Contains entries e → (x : Found) × Contains found x × (e.id ≡ x.named.id)
 
 -- a control file names a parent
 pub record Names (x : Found) (p : Parent) : Type 0 where

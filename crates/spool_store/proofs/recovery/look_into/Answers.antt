@@ -4,7 +4,7 @@ use Rattle.spool_store.specs.declared.named.Found.{Found}
 use Rattle.spool_store.specs.declared.named.Named.{Named}
 use Rattle.spool_store.specs.inner.Finds.{AreFound, AreNamed}
 use Rattle.spool_store.specs.inner.Judging.{AreJudged, IsIndexed}
-use Rattle.spool_store.proofs.RecoveryLemmas.{found_by, found_within, within_named}
+use Rattle.spool_store.proofs.RecoveryLemmas.{found_among, found_by, found_within, within_named}
 use Rattle.spool_store.proofs.recovery.look_into.Goals as goal
 
 pub read_all-requires : goal.read_all-requires
@@ -20,6 +20,7 @@ returns-clause-look g c = record {
   indexed = record { names_order = c.requires.order; found_order = c.sorted-found.ensures.order; within = found_within (length c.args.dirs.now) c.items.result.now c.in_ok-read_all.field-0 c.sorted-found.result c.sorted-found.ensures.same c.in_ok-read_all.ensures.among (within_named (length c.args.dirs.now) c.args.listed.named c.items.result.now c.items.ensures c.requires.within) };
   named = c.requires.within;
   long = subst (λ (q : List Found). length c.in_ok-verdicts.verdicts ≡ length q) c.items-3.ensures c.in_ok-verdicts.ensures.long;
+  among = found_among c.args.listed.named c.items.result.now c.in_ok-read_all.field-0 c.sorted-found.result c.items.ensures c.sorted-found.ensures.same c.in_ok-read_all.ensures.among;
 }
 
 pub returns-clause-looked : goal.returns-clause-looked

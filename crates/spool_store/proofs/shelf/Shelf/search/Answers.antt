@@ -14,4 +14,4 @@ pub returns-clause-absent : goal.returns-clause-absent
 returns-clause-absent c =
     let facts = c.binary_search_by_key.ensures in
     let by_key = facts.position (λ h. h.entry.id) (answers_always _ _ _ (λ f a r g called. search rules)) in
-    rw (← c.self.view_is, ← c.deref.ensures.value) (absent_at _ c.args.id _ (rw c.deref.ensures.value c.self.invariant.1) facts.bound by_key)
+    rw (← c.self.view_is, ← c.deref.ensures.value) (absent_at _ c.args.id _ (rw c.deref.ensures.value c.self.invariant.1.0) facts.bound by_key)

@@ -1,11 +1,18 @@
 -- The entry at its place is the only one of its id.
 use Rattle.std.proofs.Common.{sym, subst}
-use Rattle.spool_store.specs.Stores.{IsPlaceOf, Shelved}
-use Rattle.spool_store.proofs.Shelving.{recontrolled_at}
+use Rattle.spool_store.specs.Stores.{IsPlaceOf, Shelved, recontrolled}
+use Rattle.spool_store.proofs.Shelving.{recontrolled_at, recontrolled_id, same_kept}
 use Rattle.spool_store.proofs.shelf.Shelf.set_control.Goals as goal
 
 pub returns : goal.returns
 returns c =
     let at = subst (λ (q : Shelved). IsPlaceOf q.items c.args.id c.place-place.result) (sym c.self.view_is) c.place-place.ensures.at in
-    let done = recontrolled_at c.self.inside.held.items c.args.id c.place-place.result c.index_mut.result.now c.args.control c.self.invariant.1 at c.index_mut.ensures.value in
-    rw (← c.self.view_is) (λ i. record { items = done i; room = c.self.inside.room })
+    let done = recontrolled_at c.self.inside.held.items c.args.id c.place-place.result c.index_mut.result.now c.args.control c.self.invariant.1.0 at c.index_mut.ensures.value in
+    rw (← c.self.view_is) (λ i. record { items = done i; next = c.self.inside.next; room = c.self.inside.room })
+
+pub invariant_of-self : goal.invariant_of-self
+invariant_of-self c =
+    let items = c.self.inside.held.items in
+    let at = subst (λ (q : Shelved). IsPlaceOf q.items c.args.id c.place-place.result) (sym c.self.view_is) c.place-place.ensures.at in
+    let done = recontrolled_at items c.args.id c.place-place.result c.index_mut.result.now c.args.control c.self.invariant.1.0 at c.index_mut.ensures.value in
+    same_kept (recontrolled c.args.id c.args.control) items _ c.self.inside.next c.self.inside.room c.self.inside.held.cap (recontrolled_id c.args.id c.args.control) done c.self.invariant.0 c.self.invariant.1.0 c.self.invariant.1.1
