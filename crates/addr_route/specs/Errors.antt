@@ -75,7 +75,7 @@ numbered_status exit =
     else if exit == 67 then codes "5.1.1"
     else if exit == 68 then codes "5.1.2"
     else if exit == 75 then codes "4.3.0"
-    else if exit == 76 then codes "5.5.4"
+    else if exit == 76 then codes "5.5.0"
     else if exit == 77 then codes "5.7.0"
     else if exit == 78 then codes "5.3.5"
     else codes "5.3.0"

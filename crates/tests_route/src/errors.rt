@@ -17,7 +17,7 @@ static ROWS: [Row; 55] = [
     ("$#error $@ unavailable $: no", "550 5.3.0 no"),
     ("$#error $@ software $: no", "550 5.3.0 no"),
     ("$#error $@ tempfail $: no", "450 4.3.0 no"),
-    ("$#error $@ protocol $: no", "550 5.5.4 no"),
+    ("$#error $@ protocol $: no", "550 5.5.0 no"),
     ("$#error $@ config $: no", "550 5.3.5 no"),
     ("$#ERROR $@ TempFail $: no", "450 4.3.0 no"),
     // Others have no name.
@@ -38,7 +38,7 @@ static ROWS: [Row; 55] = [
     ("$#error $@ 73 $: no", "550 5.3.0 no"),
     ("$#error $@ 74 $: no", "550 5.3.0 no"),
     ("$#error $@ 75 $: no", "450 4.3.0 no"),
-    ("$#error $@ 76 $: no", "550 5.5.4 no"),
+    ("$#error $@ 76 $: no", "550 5.5.0 no"),
     ("$#error $@ 77 $: no", "550 5.7.0 no"),
     ("$#error $@ 78 $: no", "550 5.3.5 no"),
     ("$#error $@ 79 $: no", "550 5.0.0 no"),
