@@ -16,12 +16,13 @@ use Rattle.ruleset_run.specs.Runs.{Outcome, RunsSet}
 use Rattle.ruleset_run.specs.Sites.{Site, Macros, site_of}
 use Rattle.addr_route.specs.declared.aim.Aim.{Aim}
 use Rattle.addr_route.specs.declared.form.Form.{Form}
+use Rattle.addr_route.specs.declared.rewritten.Rewritten.{Rewritten}
 use Rattle.addr_route.specs.declared.form.Form.TheVariants.{Program, File, Plain}
 use Rattle.addr_route.specs.Aims.{aim_of, is_error, said_by, is_file, asks_five, is_nil, with_host, triple_of}
 use Rattle.addr_route.specs.Errors.{error_of}
 use Rattle.addr_route.specs.Forms.{form_of}
 use Rattle.addr_route.specs.Routes.{LeadsTo, files, no_user, unwritten, written, Leads, says_error, unknown_mailer, known_mailer, Turns, five_fails, stays, turned, Lands, rules_fail, not_resolved, refused, goes, by_five, Routes, program, file, by_rules, program_by}
-use Rattle.addr_route.specs.Sets.{Through, no_set, set_fails, goes_on, Passes, no_tokens, passes, cut, run_cause, user_sets}
+use Rattle.addr_route.specs.Sets.{Through, no_set, set_fails, goes_on, Passes, no_tokens, passes, Rewrites, rewrites, rewritten, cut, run_cause, user_sets}
 
 -- a run has an outcome
 abbrev pub SomeOutcome : Type 0
@@ -46,6 +47,9 @@ module _ (law : SomeOutcome) where
 
     some_passes : (sets : List (List ℕ)) (address : List ℕ) → (answer : Result (List Token) Cause) × Passes site macros sets address answer
     some_passes sets address = some_cut sets address (cut site.operators address) refl
+
+    pub some_rewrites : (sets : List (List ℕ)) (address : List ℕ) → (r : Rewritten) × Rewrites site macros sets address r
+    some_rewrites sets address = let w = some_passes sets address in (rewritten w.0, rewrites w.0 w.1)
 
   module _ (config : Config) (maps : Loaded) (macros : Macros) where
     abbrev site : Site

@@ -30,6 +30,14 @@ pub fn one_route()
     one_outcome();
 }
 
+/// Rulesets make a text of an address, or refuse it, whatever their names are.
+pub fn some_rewriting()
+    ensures { (site : Site) (macros : Macros) (sets : List (List ℕ)) (address : List ℕ) → (rewritten : Rewritten) × Rewrites site macros sets address rewritten }
+{
+    // A law: a run has an outcome.
+    each_run_ends();
+}
+
 /// Rulesets make one text of an address, or refuse it for one cause.
 pub fn one_rewriting()
     ensures { (site : Site) (macros : Macros) (sets : List (List ℕ)) (address : List ℕ) (one another : Rewritten)

@@ -21,7 +21,7 @@ mod through;
 mod triple;
 
 pub use checking::check;
-pub use law::{one_check, one_rewriting, one_route, one_sender, some_route};
+pub use law::{one_check, one_rewriting, one_route, one_sender, some_rewriting, some_route};
 pub use rewritten::{Rewritten, rewrite};
 pub use routing::route;
 pub use sender::sender_for;
