@@ -1,3 +1,4 @@
 mod ListingLemmas
 mod PrintingLemmas
+mod RouteLemmas
 mod RunLemmas

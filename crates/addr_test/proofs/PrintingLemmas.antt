@@ -2,19 +2,20 @@
 use Rattle.std.proofs.Common.{◌≡◌, ℕ, zero, suc, ◌+◌, List, [], ◌∷◌, ◌++◌, drop, Bool, true, false, refl, sym, ap, ◌∙◌, arith, subst}
 use Rattle.std.specs.Prelude.{MatchBool, slice_get}
 use Rattle.std.proofs.lemmas.List.{append_assoc}
-use Rattle.mail_base.specs.Catalogs.{value_at, members_of}
+use Rattle.mail_base.specs.Catalogs.{value_at, value_like, members_of}
 use Rattle.mail_base.specs.declared.config.Config.{Config}
 use Rattle.mail_base.specs.declared.mailer.Mailer.{Mailer}
 use Rattle.map_tables.specs.Answers.{Loaded}
 use Rattle.addr_test.specs.declared.answers.Reply.{Reply}
 use Rattle.addr_test.specs.declared.answers.Reply.TheVariants.{Lines, Quit}
 use Rattle.addr_test.specs.Answers.{Answers, Says, config_after, typed}
-use Rattle.addr_test.specs.Forms.{Form, Quiet, TooLong, Runs, NotYet, Lookup, Rules, Mailers, Value, Members, Defines, Adds, Unknown, form_of, is_quit, names_in}
+use Rattle.addr_test.specs.Forms.{Form, Quiet, TooLong, Runs, Parse, Try, Lookup, Rules, Mailers, Value, Members, Defines, Adds, Unknown, form_of, is_quit, names_in}
 use Rattle.addr_test.specs.Printing.{Printed}
 use Rattle.addr_test.specs.Texts.{lines_text, mailers_text}
 use Rattle.addr_test.specs.Words.{texts_of}
 use Rattle.addr_test.specs.inner.Telling.{mailer_text_at}
 use Rattle.addr_test.proofs.ListingLemmas.{one_listing, some_listing}
+use Rattle.addr_test.proofs.RouteLemmas.{IsOneRoute, IsOneRewriting, HasRoute, HasRewriting, one_route_told, one_try_told, some_route_told, some_try_told}
 use Rattle.addr_test.proofs.RunLemmas.{IsOneOutcome, HasOutcome, one_of_typed, some_of_typed}
 
 -- ---- mailers
@@ -36,12 +37,13 @@ mailer_more mailers k text new whole is so =
 
 -- ---- one answer
 
-module _ (unique : IsOneOutcome) (maps : Loaded) where
+module _ (unique : IsOneOutcome) (routes : IsOneRoute) (rewritings : IsOneRewriting) (maps : Loaded) where
   one_said : (config : Config) (form : Form) (one another : List ℕ) → Says maps config form one → Says maps config form another → one ≡ another
   one_said config Quiet one another a b = a ∙ sym b
   one_said config TooLong one another a b = a ∙ sym b
   one_said config (Runs sets address) one another a b = one_of_typed unique maps config (names_in sets) (typed config address) one another a b
-  one_said config NotYet one another a b = a ∙ sym b
+  one_said config (Parse address) one another a b = one_route_told maps config routes address one another a b
+  one_said config (Try name address) one another a b = one_try_told maps config rewritings name address (value_like name config.mailers) one another a b
   one_said config (Lookup name key) one another a b = a ∙ sym b
   one_said config (Rules name) one another a b = a ∙ sym b
   one_said config Mailers one another a b = a ∙ sym b
@@ -65,12 +67,13 @@ module _ (unique : IsOneOutcome) (maps : Loaded) where
 
 -- ---- some answer
 
-module _ (ends : HasOutcome) (maps : Loaded) where
+module _ (ends : HasOutcome) (routes : HasRoute) (rewritings : HasRewriting) (maps : Loaded) where
   some_said : (config : Config) (form : Form) → (text : List ℕ) × Says maps config form text
   some_said config Quiet = (_, refl)
   some_said config TooLong = (_, refl)
   some_said config (Runs sets address) = some_of_typed ends maps config (names_in sets) (typed config address)
-  some_said config NotYet = (_, refl)
+  some_said config (Parse address) = some_route_told maps config routes address
+  some_said config (Try name address) = some_try_told maps config rewritings name address (value_like name config.mailers)
   some_said config (Lookup name key) = (_, refl)
   some_said config (Rules name) = (_, refl)
   some_said config Mailers = (_, refl)

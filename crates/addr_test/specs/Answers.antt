@@ -1,9 +1,12 @@
 -- What address test mode answers a line with, and what the line changes (Sendmail Installation and Operation Guide, "Address Testing Mode").
-use Rattle.std.specs.Prelude.{◌≡◌, ℕ, true, List, [], ◌∷◌, ◌++◌, Option, None, Some, Result, Ok, Err, MatchBool, codes}
+use Rattle.std.specs.Prelude.{◌≡◌, ℕ, true, false, List, [], ◌∷◌, ◌++◌, Option, None, Some, Result, Ok, Err, MatchBool, codes}
 use Rattle.std.specs.List.{find}
-use Rattle.mail_base.specs.Catalogs.{value_at, with_value, members_of}
+use Rattle.mail_base.specs.Catalogs.{value_at, value_like, with_value, members_of}
 use Rattle.mail_base.specs.Rulesets.{is_named}
 use Rattle.mail_base.specs.declared.config.Config.{Config}
+use Rattle.mail_base.specs.declared.mailer.Mailer.{Mailer}
+use Rattle.mail_base.specs.declared.route.Cause.TheVariants.{UnknownMailer}
+use Rattle.mail_base.specs.declared.route.Resolved.{Resolved}
 use Rattle.mail_base.specs.declared.token.Token.{Token}
 use Rattle.addr_tokens.specs.declared.fault.ScanFault.{ScanFault}
 use Rattle.addr_tokens.specs.declared.lexeme.Dollars.TheVariants.{Typed}
@@ -15,10 +18,13 @@ use Rattle.map_tables.specs.Answers.{Loaded, map_answer, told}
 use Rattle.ruleset_run.specs.declared.fault.RunFault.{RunFault}
 use Rattle.ruleset_run.specs.Runs.{Done, Outcome, RunsSet}
 use Rattle.ruleset_run.specs.Sites.{site_of}
+use Rattle.addr_route.specs.declared.rewritten.Rewritten.{Rewritten}
+use Rattle.addr_route.specs.Routes.{Routes}
+use Rattle.addr_route.specs.Sets.{Rewrites, recipient_sets, sender_sets}
 use Rattle.addr_test.specs.declared.answers.Reply.{Reply}
 use Rattle.addr_test.specs.declared.answers.Reply.TheVariants as replies
-use Rattle.addr_test.specs.Forms.{Form, Quiet, TooLong, Runs, NotYet, Lookup, Rules, Mailers, Value, Members, Defines, Adds, Unknown, form_of, is_quit, names_in}
-use Rattle.addr_test.specs.Texts.{bad_address_text, line_of, lines_text, lookup_text, mailers_text, refused_text, returned_text, rules_text}
+use Rattle.addr_test.specs.Forms.{Form, Quiet, TooLong, Runs, Parse, Try, Lookup, Rules, Mailers, Value, Members, Defines, Adds, Unknown, form_of, is_quit, names_in}
+use Rattle.addr_test.specs.Texts.{bad_address_text, error_text, line_of, lines_text, lookup_text, mailers_text, refused_text, returned_text, route_text, rules_text, try_text}
 use Rattle.addr_test.specs.Words.{IsListing, class_words, texts_of, with_words}
 
 -- ---- lists of sets
@@ -42,6 +48,29 @@ typed config address = tokens_or_fault (alphabet_of config.options.operator_char
 abbrev pub RunsTyped : Loaded → Config → List (List ℕ) → Result (List Token) ScanFault → List ℕ → Type 0
 RunsTyped maps config names (Ok tokens) text = RunsSets maps config names tokens text
 RunsTyped maps config names (Err fault) text = text ≡ bad_address_text fault
+
+-- ---- routes
+
+-- what is printed for the route of an address, as of one for which an alias may stand
+abbrev pub TellsRoute : Loaded → Config → List ℕ → List ℕ → Type 0
+TellsRoute maps config address text = (resolved : Resolved) × Routes config maps config.macros address false resolved × (text ≡ route_text resolved)
+
+-- an address through these sets, with the macros of the configuration
+abbrev pub RewritesUnder : Loaded → Config → List (List ℕ) → List ℕ → Rewritten → Type 0
+RewritesUnder maps config sets address rewritten = Rewrites (site_of config maps) config.macros sets address rewritten
+
+-- what is printed for an address as the sender and as the recipient of a mailer
+abbrev pub TellsBoth : Loaded → Config → List ℕ → Mailer → List ℕ → Type 0
+TellsBoth maps config address mailer text =
+    (sender : Rewritten) × (recipient : Rewritten)
+    × RewritesUnder maps config (sender_sets mailer) address sender
+    × RewritesUnder maps config (recipient_sets mailer) address recipient
+    × (text ≡ try_text sender recipient)
+
+-- the same for the mailer of a name, which an M line has or not
+abbrev pub TellsTry : Loaded → Config → List ℕ → List ℕ → Option Mailer → List ℕ → Type 0
+TellsTry maps config name address None text = text ≡ error_text (UnknownMailer name)
+TellsTry maps config name address (Some mailer) text = TellsBoth maps config address mailer text
 
 -- ---- macros and classes
 
@@ -74,7 +103,8 @@ abbrev pub Says : Loaded → Config → Form → List ℕ → Type 0
 Says maps config Quiet text = text ≡ []
 Says maps config TooLong text = text ≡ line_of (codes "line too long")
 Says maps config (Runs sets address) text = RunsTyped maps config (names_in sets) (typed config address) text
-Says maps config NotYet text = text ≡ line_of (codes "not yet")
+Says maps config (Parse address) text = TellsRoute maps config address text
+Says maps config (Try name address) text = TellsTry maps config name address (value_like name config.mailers) text
 Says maps config (Lookup name key) text = text ≡ lookup_text (told (map_answer maps name key []))
 Says maps config (Rules name) text = text ≡ rules_text name (find (is_named name) config.book)
 Says maps config Mailers text = text ≡ mailers_text config.mailers

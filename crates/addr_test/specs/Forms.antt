@@ -1,5 +1,5 @@
 -- The forms of a line of address test mode (Sendmail Installation and Operation Guide, "Address Testing Mode"; where words and names end, and what isn't a form, is our own).
-use Rattle.std.specs.Prelude.{◌≡◌, ℕ, List, [], ◌∷◌, length, take, drop, bytes_eq, Bool, ◌==◌, ◌&&◌, ◌||◌, not, nat_lt, if◌then◌else◌, codes, refl}
+use Rattle.std.specs.Prelude.{◌≡◌, ℕ, List, [], ◌∷◌, length, take, drop, bytes_eq, Bool, ◌==◌, ◌&&◌, not, nat_lt, if◌then◌else◌, codes, refl}
 use Rattle.std.specs.List.{list_any, position_or_len, prefix_len, slice_split}
 use Rattle.mail_base.specs.Limits.{most_line}
 use Rattle.mail_base.specs.Whites.{is_white}
@@ -12,8 +12,10 @@ pub data Form : Type 0 where
   TooLong : Form
   -- runs of sets, by their list, on an address
   Runs : (sets address : List ℕ) → Form
-  -- `/parse` and `/try`
-  NotYet : Form
+  -- `/parse`
+  Parse : (address : List ℕ) → Form
+  -- `/try`, with a mailer's name
+  Try : (mailer address : List ℕ) → Form
   -- `/map`
   Lookup : (name key : List ℕ) → Form
   -- `=S`
@@ -68,11 +70,20 @@ sets_form words = if lacks_name words.0 then Unknown else Runs words.0 words.1
 abbrev pub lookup_form : List ℕ × List ℕ → Form
 lookup_form words = if is_nothing words.1 then Unknown else Lookup words.0 words.1
 
+-- an address
+abbrev pub parse_form : List ℕ → Form
+parse_form address = if is_nothing address then Unknown else Parse address
+
+-- the name of a mailer, and an address behind it
+abbrev pub try_form : List ℕ × List ℕ → Form
+try_form words = if is_nothing words.1 then Unknown else Try words.0 words.1
+
 -- a command that begins with `/`, and what is behind it
 abbrev pub command_form : List ℕ × List ℕ → Form
 command_form words =
     if bytes_eq words.0 (codes "/map") then lookup_form (split_word words.1)
-    else if bytes_eq words.0 (codes "/parse") || bytes_eq words.0 (codes "/try") then NotYet
+    else if bytes_eq words.0 (codes "/parse") then parse_form words.1
+    else if bytes_eq words.0 (codes "/try") then try_form (split_word words.1)
     else Unknown
 
 -- behind a `=`: `S` (83) with a name, or `M` (77)
@@ -124,9 +135,12 @@ example :
     (split_word (codes "3,0 \ta b") ≡ (codes "3,0", codes "a b"))
     × (names_in (codes "3,canon") ≡ codes "3" ∷ codes "canon" ∷ [])
     × (form_by 47 (codes "map t a b") ≡ Lookup (codes "t") (codes "a b"))
+    × (form_by 47 (codes "parse <a b>") ≡ Parse (codes "<a b>"))
+    × (form_by 47 (codes "try smtp a") ≡ Try (codes "smtp") (codes "a"))
+    × (form_by 47 (codes "try smtp ") ≡ Unknown)
     × (form_by 61 (codes "S3") ≡ Rules (codes "3"))
     × (form_by 36 (codes "{x}") ≡ Value (codes "x"))
     × (form_by 36 (codes "=wx") ≡ Unknown)
     × (form_by 46 (codes "Dx1") ≡ Defines (codes "x") (codes "1"))
     × (form_by 51 (codes ",,0 a") ≡ Unknown)
-example = (refl, refl, refl, refl, refl, refl, refl, refl)
+example = (refl, refl, refl, refl, refl, refl, refl, refl, refl, refl, refl)

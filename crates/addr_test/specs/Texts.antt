@@ -2,7 +2,12 @@
 use Rattle.std.specs.Prelude.{◌≡◌, ℕ, List, [], ◌∷◌, ◌++◌, length, Option, None, Some, Result, Ok, Err, codes, refl}
 use Rattle.std.specs.Fmt.{decimal}
 use Rattle.std.specs.List.{flat_map}
+use Rattle.mail_base.specs.Refusals.{cause_name}
 use Rattle.mail_base.specs.declared.mailer.Mailer.{Mailer}
+use Rattle.mail_base.specs.declared.route.Cause.{Cause}
+use Rattle.mail_base.specs.declared.route.Cause.TheVariants.{NoUser}
+use Rattle.mail_base.specs.declared.route.Resolved.{Resolved}
+use Rattle.mail_base.specs.declared.route.Resolved.TheVariants.{Goes, Refuses}
 use Rattle.mail_base.specs.declared.rule.RuleSet.{RuleSet}
 use Rattle.mail_base.specs.declared.token.Token.{Token}
 use Rattle.mail_base.specs.declared.token.Token.TheVariants.{Word, Op}
@@ -15,6 +20,8 @@ use Rattle.map_tables.specs.declared.found.MapFault.{MapFault}
 use Rattle.map_tables.specs.declared.found.MapFault.TheVariants as maps
 use Rattle.ruleset_run.specs.declared.fault.RunFault.{RunFault}
 use Rattle.ruleset_run.specs.declared.fault.RunFault.TheVariants as runs
+use Rattle.addr_route.specs.declared.rewritten.Rewritten.{Rewritten}
+use Rattle.addr_route.specs.declared.rewritten.Rewritten.TheVariants as addresses
 
 -- a text, on a line of its own
 abbrev pub line_of : List ℕ → List ℕ
@@ -56,6 +63,23 @@ scan_text scans.NoMemory = codes "NoMemory"
 abbrev pub bad_address_text : ScanFault → List ℕ
 bad_address_text fault = line_of (codes "bad address: " ++ scan_text fault)
 
+-- ---- routes
+
+-- where an address goes, or the error that refuses it
+abbrev pub route_text : Resolved → List ℕ
+route_text (Goes triple) = line_of (codes "mailer " ++ (triple.mailer ++ (codes ", host " ++ (triple.host ++ (codes ", user " ++ triple.user)))))
+route_text (Refuses error) = line_of (codes "error " ++ (decimal error.code ++ 32 ∷ (error.status ++ 32 ∷ error.text)))
+
+-- why an address can't be rewritten
+abbrev pub error_text : Cause → List ℕ
+error_text cause = line_of (codes "error: " ++ cause_name cause)
+
+-- an address as the sender and as the recipient of a mailer; the first cause stands for both
+abbrev pub try_text : Rewritten → Rewritten → List ℕ
+try_text (addresses.Gives sender) (addresses.Gives recipient) = line_of (codes "sender: " ++ sender) ++ line_of (codes "recipient: " ++ recipient)
+try_text (addresses.Gives sender) (addresses.Refuses cause) = error_text cause
+try_text (addresses.Refuses cause) recipient = error_text cause
+
 -- ---- maps, sets and mailers
 
 -- what a look-up tells
@@ -87,5 +111,7 @@ example :
     × (returned_text (codes "3") [] ≡ line_of (codes "3 returns:"))
     × (refused_text (codes "9") (runs.NoRuleset (codes "9")) ≡ line_of (codes "9 error: NoRuleset"))
     × (bad_address_text scans.Long ≡ line_of (codes "bad address: Long"))
+    × (route_text (Goes (record { mailer = codes "smtp"; host = codes "far"; user = codes "a@far" })) ≡ line_of (codes "mailer smtp, host far, user a@far"))
+    × (try_text (addresses.Gives (codes "a")) (addresses.Refuses NoUser) ≡ line_of (codes "error: NoUser"))
     × (lookup_text (Ok (finds.Value (codes "v"))) ≡ line_of (codes "found: v"))
-example = (refl, refl, refl, refl, refl)
+example = (refl, refl, refl, refl, refl, refl, refl)

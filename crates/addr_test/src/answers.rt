@@ -7,6 +7,7 @@ use crate::changes::{add, define};
 use crate::form::{Form, form_of};
 use crate::members::listed;
 use crate::printing::line_of;
+use crate::routes::{parse, try_mailer};
 use crate::runs::runs;
 use mail_base::{Config, NoMemory, Text};
 use map_tables::Maps;
@@ -50,7 +51,8 @@ fn said(alloc: Global, form: &Form<'_>, config: &mut Config, maps: &Maps) -> Res
         Form::Quiet => Ok(Text::new(alloc)),
         Form::TooLong => line_of(alloc, b"line too long"),
         Form::Runs(sets, address) => runs(alloc, config, maps, sets, address),
-        Form::NotYet => line_of(alloc, b"not yet"),
+        Form::Parse(address) => parse(alloc, address, config, maps),
+        Form::Try(mailer, address) => try_mailer(alloc, mailer, address, config, maps),
         Form::Lookup(name, key) => lookup(alloc, name, key, maps),
         Form::Rules(name) => rules(alloc, name, &config.book),
         Form::Mailers => mailers(alloc, &config.mailers),

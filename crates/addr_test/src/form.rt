@@ -15,8 +15,10 @@ pub(crate) enum Form<'a> {
     TooLong,
     /// Runs of sets, by their list, on an address.
     Runs(&'a [u8], &'a [u8]),
-    /// `/parse` and `/try`.
-    NotYet,
+    /// `/parse`, with an address.
+    Parse(&'a [u8]),
+    /// `/try`, with a mailer's name and an address.
+    Try(&'a [u8], &'a [u8]),
     /// `/map`, with the map's name and a key.
     Lookup(&'a [u8], &'a [u8]),
     /// `=S`, with a set's name.
@@ -82,10 +84,33 @@ fn command_form(line: &[u8]) -> Form<'_>
     if word == b"/map".as_slice() {
         return lookup_form(behind);
     }
-    if word == b"/parse".as_slice() || word == b"/try".as_slice() {
-        return Form::NotYet;
+    if word == b"/parse".as_slice() {
+        return parse_form(behind);
+    }
+    if word == b"/try".as_slice() {
+        return try_form(behind);
     }
     Form::Unknown
+}
+
+fn parse_form(address: &[u8]) -> Form<'_>
+    ensures { seen result ≡ spec.parse_form address.now }
+{
+    if address.is_empty() {
+        return Form::Unknown;
+    }
+    Form::Parse(address)
+}
+
+// The name of a mailer, and an address behind it.
+fn try_form(text: &[u8]) -> Form<'_>
+    ensures { seen result ≡ spec.try_form (spec.split_word text.now) }
+{
+    let (mailer, address) = split_word(text);
+    if address.is_empty() {
+        return Form::Unknown;
+    }
+    Form::Try(mailer, address)
 }
 
 // The name of a map, and a key behind it.

@@ -5,13 +5,17 @@ ghost use Rattle.addr_test.specs.declared.answers.Reply.{Reply};
 ghost use Rattle.addr_test.specs.Answers.{Answers};
 ghost use Rattle.addr_test.specs.Printing.{Printed};
 
+use addr_route::{one_rewriting, one_route, some_rewriting, some_route};
 use ruleset_run::{each_run_ends, one_outcome};
 
 /// Each line has an answer, whatever the configuration and the maps are.
 pub fn some_answer()
     ensures { (maps : Loaded) (config : Config) (line : List ℕ) → (reply : Reply) × (after : Config) × Answers maps config line reply after }
 {
+    // Laws: a run, a route and a rewriting have an outcome.
     each_run_ends();
+    some_route();
+    some_rewriting();
 }
 
 /// A line has one answer alone, and leaves one configuration.
@@ -21,7 +25,10 @@ pub fn one_answer()
     ensures config { (maps : Loaded) (config : Config) (line : List ℕ) (one another : Reply) (after later : Config)
         → Answers maps config line one after → Answers maps config line another later → after ≡ later }
 {
+    // Laws: they have one outcome alone.
     one_outcome();
+    one_route();
+    one_rewriting();
 }
 
 /// Lines have a printed text.

@@ -10,6 +10,7 @@ mod law;
 mod members;
 mod name;
 mod printing;
+mod routes;
 mod runs;
 mod words;
 
