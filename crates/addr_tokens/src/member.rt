@@ -4,9 +4,9 @@ ghost use Rattle.addr_tokens.specs.Members as spec;
 ghost use Rattle.addr_tokens.specs.Pieces.{plain};
 ghost use Rattle.addr_tokens.specs.Reader.{tokens_or_fault};
 
+use crate::ScanFault;
 use crate::law::computed;
 use crate::scan::tokens;
-use crate::ScanFault;
 use mail_base::{Member, NoMemory, Seq, Text, Token};
 use std::alloc::Global;
 

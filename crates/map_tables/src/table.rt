@@ -11,9 +11,7 @@ ghost use Rattle.map_tables.specs.inner.FilePlaces.{first_places};
 use crate::Named;
 use crate::lines::{begins_with, column, without_margin, word_len};
 use crate::texts::text_of;
-use mail_base::{
-    Catalog, MapClass, MapLine, NoMemory, Seq, Text, TryCopy, is_white, split_line,
-};
+use mail_base::{Catalog, MapClass, MapLine, NoMemory, Seq, Text, TryCopy, is_white, split_line};
 use std::alloc::Global;
 
 /// A K line with the table of its file.
