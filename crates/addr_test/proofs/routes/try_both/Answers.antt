@@ -1,4 +1,4 @@
-use Rattle.std.proofs.Common.{◌≡◌, ℕ, List, subst}
+use Rattle.std.proofs.Common.{ℕ, List, subst}
 use Rattle.addr_route.specs.Sets.{recipient_sets, sender_sets}
 use Rattle.addr_test.specs.Answers.{RewritesUnder}
 use Rattle.addr_test.proofs.RouteLemmas.{both_told}
