@@ -1,12 +1,17 @@
 #!/usr/bin/env python3
-"""Compares results of rulesets with those of Sendmail's own program, over compared/configurations.txt.
+"""Compares rulesets, routes and rewritten addresses with Sendmail's own program, over compared/*.txt.
 
-Use: bench/compared.py OURS THEIRS, where OURS is the proved program and THEIRS a command that runs
-Sendmail's own. Only what a ruleset that was asked for returns is compared, token by token: banner,
-prompts and the lines of rulesets that are called have other forms there. This is no part of the gate.
+Use: bench/compared.py OURS THEIRS [WHICH ...], where OURS is the proved program, THEIRS a command that
+runs Sendmail's own, and WHICH a configuration's name in compared/*.txt or a whole one's file. Where one
+of the programs isn't there it says so and compares nothing. Of a set list only what a ruleset that was
+asked for returns is compared, token by token; of `/parse` the mailer, the host and the user, and whether
+there is an error; of `/try` the addresses, there by `/tryflags`, without the frame that they stand in
+there. Banner, prompts and the lines of rulesets that are called have other forms there. This is no part
+of the gate.
 """
 
 import re
+import shutil
 import subprocess
 import sys
 import tempfile
@@ -22,10 +27,10 @@ OPERATORS = "O OperatorChars=.:@!^/[]+"
 
 
 class Case:
-    """One configuration, the set lists that are called, and further lines."""
+    """One configuration, the words that addresses are asked with, and further lines."""
 
-    def __init__(self, name, sets):
-        self.name, self.sets, self.lines, self.more, self.files = name, sets, [], [], {}
+    def __init__(self, name, asked):
+        self.name, self.asked, self.lines, self.more, self.files = name, asked, [], [], {}
 
     def text(self, folder):
         own = any(line.startswith("O OperatorChars") for line in self.lines)
@@ -33,15 +38,26 @@ class Case:
         return "\n".join(head + self.lines).replace("@DIR@", str(folder)) + "\n"
 
     def inputs(self, addresses):
-        return [f"{self.sets} {address}" for address in addresses] + self.more
+        return [f"{words} {address}" for words in self.asked for address in addresses] + self.more
+
+
+class Whole(Case):
+    """The configuration of a file, as it is."""
+
+    def __init__(self, path):
+        super().__init__(path.name, ["/parse", "/try local", "/try esmtp"])
+        self.path = path
+
+    def text(self, folder):
+        return self.path.read_text()
 
 
 def cases(path):
     found = []
     for line in path.read_text().splitlines():
         if line.startswith("== "):
-            name, sets = line[3:].rsplit(": ", 1)
-            found.append(Case(name, sets))
+            name, asked = line[3:].rsplit(": ", 1)
+            found.append(Case(name, asked.split(" | ")))
         elif not found:
             continue
         elif line.startswith("+ "):
@@ -68,15 +84,58 @@ def ours(program, config, lines):
     return answers
 
 
-def our_results(said):
+def our_results(line, said):
     found = []
+    if line.startswith("/parse "):
+        return [it if it.startswith("mailer ") else "error" for it in said]
+    if line.startswith("/try "):
+        return [it if it.startswith(("sender: ", "recipient: ")) else "error" for it in said]
     for line in said:
         returned = re.match(r"\S+ returns:(.*)$", line)
         found.append(" ".join(returned[1].split()) if returned else "error")
     return found
 
 
-def their_results(said):
+def typed(line):
+    """What is typed there for a line; the frame of an address is told by `/parse`."""
+    if line.startswith("/try "):
+        address = line.split(" ", 2)[2]
+        return [f"/parse {address}", "/tryflags es", line, "/tryflags er", line]
+    return [line]
+
+
+def their_results(line, said):
+    if line.startswith("/parse "):
+        return [their_route(said[0])]
+    if line.startswith("/try "):
+        sides = [their_address(said[0], chunk) for chunk in (said[2], said[4])]
+        if "error" in sides:
+            return ["error"]
+        return [f"sender: {sides[0]}", f"recipient: {sides[1]}"]
+    return their_returns("\n".join(said))
+
+
+def their_route(said):
+    """The mailer, the host, which is left out where it is empty, and the user."""
+    routed = re.search(r"^mailer (\S+?)(?:, host (.*?))?, user (.*)$", said, re.MULTILINE)
+    if routed is None or routed[1] == "*error*" or any(map(is_error, said.splitlines())):
+        return "error"
+    return f"mailer {routed[1]}, host {routed[2] or ''}, user {routed[3]}"
+
+
+def their_address(parsed, said):
+    """An address as it was rewritten, without its frame."""
+    tried = re.search(r"^Rcode = \d+, addr = (.*)$", said, re.MULTILINE)
+    if tried is None or any(map(is_error, said.splitlines())):
+        return "error"
+    frame = re.search(r"^Cracked address = (.*)\$g(.*)$", parsed, re.MULTILINE)
+    address = tried[1]
+    if frame and address.startswith(frame[1]) and address.endswith(frame[2]):
+        address = address[len(frame[1]) : len(address) - len(frame[2])]
+    return address
+
+
+def their_returns(said):
     """What the rulesets return that aren't called by others; a refusal or an error ends it."""
     found, depth = [], 0
     for line in said.splitlines():
@@ -119,23 +178,39 @@ def compare(our_program, their_command, case, addresses):
         config = folder / "sendmail.cf"
         config.write_text(case.text(folder))
         lines = case.inputs(addresses)
-        asked = "".join(f"{line}\n" for line in lines)
-        theirs = answered(run([*their_command.split(), "-bt", "-C", str(config)], asked))
-        for line, our, their in zip(lines, ours(our_program, config, lines), theirs):
-            yield line, our_results(our), their_results(their)
+        asked = "".join(f"{it}\n" for line in lines for it in typed(line))
+        chunks = answered(run([*their_command.split(), "-bt", "-C", str(config)], asked))
+        for line, our in zip(lines, ours(our_program, config, lines)):
+            count = len(typed(line))
+            theirs, chunks = chunks[:count], chunks[count:]
+            yield line, our_results(line, our), their_results(line, theirs)
+
+
+def all_cases(here, wanted):
+    named = cases(here / "configurations.txt") + cases(here / "routes.txt")
+    whole = [Whole(Path(name)) for name in wanted if Path(name).is_file()]
+    return [case for case in named if not wanted or case.name in wanted] + whole
+
+
+def missing(arguments):
+    """Why nothing can be compared."""
+    if len(arguments) < 2:
+        return "Sendmail's own program isn't named"
+    for command in arguments[:2]:
+        if shutil.which(command.split()[0]) is None:
+            return f"no program {command.split()[0]}"
+    return None
 
 
 def main():
-    if len(sys.argv) < 3:
-        print("skipped: Sendmail's own program isn't named")
+    why = missing(sys.argv[1:])
+    if why:
+        print(f"skipped: {why}")
         return 0
     here = Path(__file__).parent / "compared"
     addresses = (here / "addresses.txt").read_text().splitlines()
-    wanted = sys.argv[3:]
     same = other = 0
-    for case in cases(here / "configurations.txt"):
-        if wanted and case.name not in wanted:
-            continue
+    for case in all_cases(here, sys.argv[3:]):
         for line, our, their in compare(sys.argv[1], sys.argv[2], case, addresses):
             if our == their:
                 same += 1
