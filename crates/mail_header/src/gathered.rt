@@ -43,6 +43,7 @@ impl Gathered {
 
     /// Takes a line without its end, of a message that may have so many bytes. After `NoMemory`
     /// all is as before.
+    #[inline(always)]
     pub(crate) fn add(&mut self, line: &[u8], limit: u64) -> Result<(), NoMemory>
         requires { limit ≤ most_message }
         ensures ok { OnOk result ((lines : List (List ℕ)) → Gathers self.old limit lines
@@ -68,6 +69,7 @@ impl Gathered {
         self.size = size;
     }
 
+    #[inline(always)]
     fn take(&mut self, line: &[u8]) -> Result<(), NoMemory>
         ensures ok { OnOk result ((lines : List (List ℕ)) → KeepsSplit self.old lines
             → KeepsSplit self.new (lines ++ line.now ∷ [])) }

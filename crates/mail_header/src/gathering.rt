@@ -39,6 +39,7 @@ impl Gathering {
 
     /// Takes a line without its end, of a message that may have so many bytes. After `NoMemory`
     /// all is as before.
+    #[inline(always)]
     pub fn add(&mut self, line: &[u8], limit: u64) -> Result<(), NoMemory>
         requires { limit ≤ most_message }
         ensures ok { OnOk result ((lines : List (List ℕ)) → Gathers self.old limit lines
