@@ -28,8 +28,8 @@ pub(crate) fn answer(alloc: Global, part: Part, size: Option<&str>, rounds: u32)
     Ok(format!(in alloc; "{kept} bytes")?)
 }
 
-/// Lines of 78 bytes and their ends.
-fn message(alloc: Global, part: Part) -> Result<Vec<u8>, NoMemory> {
+/// Lines of 78 bytes and their ends: 65,520 bytes of headers, or 16,777,200 of body.
+pub(crate) fn message(alloc: Global, part: Part) -> Result<Vec<u8>, NoMemory> {
     match part {
         Part::Headers => lines(alloc, b"name: ", 819),
         Part::Body => lines(alloc, b"text  ", 209_715),

@@ -1,6 +1,7 @@
-//! Does one thing over much input, so that its time can be measured. The first word says what: `lines`, `headers`,
-//! `body`, `tokens`, `control`, `conf`, `maps`, `matches`, `rules`, `classes` or `spool`. The second says over what, as each module tells, and the
-//! third how many times it is done, once where it is left out. The scripts in `bench/` measure it.
+//! Does one thing over much input, so that its time can be measured. The first word says what:
+//! `lines`, `headers`, `body`, `receipt`, `tokens`, `control`, `conf`, `maps`, `matches`, `rules`,
+//! `classes` or `spool`. The second says over what, as each module tells, and the third how many
+//! times it is done, once where it is left out. The scripts in `bench/` measure it.
 #![tactic(auto)]
 
 mod classes;
@@ -10,6 +11,7 @@ mod gather;
 mod lines;
 mod maps;
 mod matches;
+mod receipt;
 mod rules;
 mod spool;
 mod tokens;
@@ -35,6 +37,7 @@ fn main(rt: HostRuntime) -> Result<()> {
         "lines" => lines::answer(alloc, over.as_deref(), rounds)?,
         "headers" => gather::answer(alloc, Part::Headers, over.as_deref(), rounds)?,
         "body" => gather::answer(alloc, Part::Body, over.as_deref(), rounds)?,
+        "receipt" => receipt::answer(alloc, over.as_deref(), rounds)?,
         "tokens" => tokens::answer(alloc, over.as_deref(), rounds)?,
         "conf" => conf::answer(&rt, over.as_deref(), rounds)?,
         "control" => control::answer(alloc, over.as_deref(), rounds)?,
