@@ -10,8 +10,9 @@ ghost use Rattle.rule_match.specs.inner.Glances as spec;
 
 use mail_base::{Item, Pattern, Seq, Token};
 
-/// Whether a left side can match tokens, by its own tokens alone: each must stand behind the one before it.
-/// Where it answers `false` the left side has no `$&x`, and no match, whatever the classes are.
+/// Whether a left side can match tokens, by its own tokens alone: each must stand behind the one
+/// before it. Where it answers `false` the left side has no `$&x`, and no match, whatever the
+/// classes are.
 ///
 /// It takes no memory, and its time grows with the items and the tokens.
 pub fn may_fit(pattern: &Pattern, tokens: &Seq<Token>) -> bool

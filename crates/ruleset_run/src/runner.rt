@@ -41,9 +41,10 @@ pub struct Ran {
 
 /// Runs the ruleset of a name over tokens (Sendmail Operation Guide, R and S: rewriting rules).
 ///
-/// A rule that can't match, since its anchor isn't among the tokens, costs nothing, and one that doesn't
-/// its search alone; an application makes one new list, which its calls take over. What a `$&x` stands for is cut
-/// once, until a look-up changes a macro. Macros are copied when that happens for the first time.
+/// A rule whose own tokens don't stand in order among the others is passed by without a search; of
+/// more than 64 rules one whose anchor isn't among them costs nothing. An application makes one new
+/// list, which its calls take over. What a `$&x` stands for is cut once, until a look-up changes a
+/// macro. Macros are copied when that happens for the first time.
 ///
 /// The faults of one application come in this order: `Loop`, `Work`, a `$&x` of the right side that can't be
 /// cut, its look-ups from the left to the right, `Long`, its calls from the right to the left, each with

@@ -1,7 +1,7 @@
 // Which match a left side takes, and what its items take in it.
 use crate::signs::{Broken, are_signs, pattern_of, repeated, tokens_of};
 use mail_base::{Classes, Pattern, Seq, Token};
-use rule_match::{Cuts, find, find_by_trial, lists_wanted};
+use rule_match::{Cuts, find, find_by_trial, lists_wanted, may_fit};
 use std::alloc::Global;
 
 /// Where the part of each item begins, and how long it is.
@@ -24,7 +24,8 @@ fn is_wanted(found: &Option<Cuts>, wanted: Option<Pairs>) -> bool {
     }
 }
 
-/// Whether the search and the trial of all lengths both take these cuts, or both none.
+/// Whether the search and the trial of all lengths both take these cuts, or both none. What is taken
+/// may fit.
 pub fn is_taken(
     pattern: &Pattern,
     tokens: &Seq<Token>,
@@ -33,6 +34,7 @@ pub fn is_taken(
     wanted: Option<Pairs>,
 ) -> bool {
     lists_wanted(pattern) == late.len()
+        && (wanted.is_none() || may_fit(pattern, tokens))
         && is_wanted(&find(pattern, tokens, classes, late), wanted)
         && is_wanted(&find_by_trial(pattern, tokens, classes, late), wanted)
 }
@@ -84,6 +86,34 @@ fn is_least(alloc: Global, row: &Row) -> Result<bool, Broken> {
 fn takes_the_least_match(rt: HostRuntime) -> Result<(), Broken> {
     for row in LEAST {
         assert!(rt; is_least(rt.alloc(), row)?, "{} on {}", row.0, row.1);
+    }
+    Ok(())
+}
+
+// A left side, tokens, and whether it may fit these: its own tokens stand in order among them, or it
+// has a `$&x`.
+const GLANCES: &[(&str, &str, bool)] = &[
+    ("*a*b", "ab", true),
+    ("*a*b", "Acb", true),
+    ("*a*b", "ba", false),
+    ("*a*a", "a", false),
+    ("*.a*.", "a..", false),
+    ("a", "\"", false),
+    ("*@<", "<@", false),
+    ("-", "", true),
+    ("b&a", "", true),
+    ("*b*", "", false),
+];
+
+fn is_glance(alloc: Global, row: &(&str, &str, bool)) -> Result<bool, Broken> {
+    let pattern = pattern_of(alloc, row.0)?;
+    Ok(may_fit(&pattern, &tokens_of(alloc, row.1)?) == row.2)
+}
+
+#[test]
+fn may_fit_by_the_order_of_tokens(rt: HostRuntime) -> Result<(), Broken> {
+    for row in GLANCES {
+        assert!(rt; is_glance(rt.alloc(), row)?, "{} on {}", row.0, row.1);
     }
     Ok(())
 }

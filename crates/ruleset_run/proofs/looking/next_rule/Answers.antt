@@ -1,4 +1,4 @@
-use Rattle.std.proofs.Common.{arith, true}
+use Rattle.std.proofs.Common.{arith}
 use Rattle.ruleset_run.proofs.Skipping.{ahead_later, passed_more}
 use Rattle.ruleset_run.proofs.looking.next_rule.Goals as goal
 
