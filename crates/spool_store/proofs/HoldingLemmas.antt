@@ -1,12 +1,19 @@
 -- What a store holds goes on with the table.
-use Rattle.std.proofs.Common.{ℕ, List, [], ◌∷◌, map, Bool, true, false, if◌then◌else◌, ap, refl, subst}
+use Rattle.std.proofs.Common.{◌≡◌, ℕ, ◌+◌, ◌-◌, List, [], ◌∷◌, ◌++◌, map, None, Bool, true, false, if◌then◌else◌, ap, arith, refl, subst}
 use Rattle.std.specs.Prelude.{eqb}
 use Rattle.std.specs.List.{AllZip}
+use Rattle.std.proofs.lemmas.List.{map_push}
 use Rattle.mail_base.specs.declared.control.Control.{Control}
+use Rattle.mail_base.specs.declared.control.Draft.{Draft}
 use Rattle.spool_disk.specs.Disk.{FileMap}
 use Rattle.spool_store.specs.Entries.{Stored, Table, replaced}
 use Rattle.spool_store.specs.Keepers.{after_replace}
-use Rattle.spool_store.specs.Stores.{Agrees, Holds, IsHeld, StoreSeen, recontrolled, refinished}
+use Rattle.spool_store.specs.Parcels.{with_commit}
+use Rattle.spool_store.specs.Stores.{Agrees, Holds, IsHeld, StoreSeen, entered, recontrolled, refinished}
+use Rattle.spool_store.specs.Tables.{Table as Older, after, stored as taken_in}
+use Rattle.spool_store.specs.Tables.Command.{Accept}
+use Rattle.spool_store.specs.Accepts.{as_part, parts_of}
+use Rattle.spool_store.specs.Writes.{after_commit, stored}
 use Rattle.spool_store.specs.declared.held.Held.{Held}
 
 zip_both : (f : Held → Held) (k : Stored → Stored) → ((h : Held) (s : Stored) → IsHeld h s → IsHeld (f h) (k s)) → (hs : List Held) (ss : List Stored) → AllZip IsHeld hs ss → AllZip IsHeld (map f hs) (map k ss)
@@ -44,3 +51,20 @@ room_holds store table room holds = record { entries = holds.entries; next = hol
 
 pub room_agrees : (store : StoreSeen) (f : FileMap) (room : ℕ) → Agrees store f → Agrees (record store { room = room }) f
 room_agrees store f room a = record { each = a.each; all = a.all; strange = a.strange; tidy = a.tidy }
+
+-- a commit of one entry
+pub one_after : (table : Table) (d : Draft) (b : List ℕ) → after_commit table [] d b None ≡ record { entries = table.entries ++ stored table.next b d ∷ []; next = table.next + 1 }
+one_after table d b = let n : table.next + 1 + 0 ≡ table.next + 1 = omega arith in λ i. record { entries = table.entries ++ stored table.next b d ∷ []; next = n i }
+
+pub one_with : (store : StoreSeen) (d : Draft) → with_commit store [] d ≡ record store { entries = store.entries ++ entered (stored store.next [] d) ∷ []; next = store.next + 1; room = store.room - 1 }
+one_with store d =
+    let n : store.next + 1 + 0 ≡ store.next + 1 = omega arith in
+    let m : store.room - (0 + 1) ≡ store.room - 1 = omega arith in
+    λ i. record store { entries = store.entries ++ entered (stored store.next [] d) ∷ []; next = n i; room = m i }
+
+-- a table of new entries as one of parts
+pub accept_parts : (table : Older) (d : Draft) (b : List ℕ) → parts_of (after table (Accept d b)) ≡ after_commit (parts_of table) [] d b None
+accept_parts table d b =
+    let es = map_push as_part table.entries (taken_in table.next d b) in
+    let n : table.next + 1 ≡ table.next + 1 + 0 = omega arith in
+    λ i. record { entries = es i; next = n i }

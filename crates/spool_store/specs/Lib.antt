@@ -17,3 +17,4 @@ pub mod Keepers
 pub mod Finishing
 pub mod Parcels
 pub mod Openings
+pub mod Accepts

@@ -40,10 +40,10 @@ pub use parcel::Parcel;
 pub use part::Part;
 pub use queue::Queue;
 pub use queue_law::{
-    a_dead_child_may_come_alive, a_read_map_has_a_table, adding_leaves_strange, adding_settles,
-    before_stands, commit_settles, files_alike, finish_settles, holding_goes_on, one_control,
-    one_table, opening_settles, raised_alike, replace_settles, samples_settle, stages_follow,
-    steps_tidy, tidied_settles, tidied_stands, verdicts_follow,
+    a_commit_of_one, a_dead_child_may_come_alive, a_read_map_has_a_table, adding_leaves_strange,
+    adding_settles, before_stands, commit_settles, files_alike, finish_settles, holding_goes_on,
+    one_control, one_table, opening_settles, raised_alike, replace_settles, samples_settle,
+    stages_follow, steps_tidy, tidied_settles, tidied_stands, verdicts_follow,
 };
 pub use recovery::recover;
 pub use room::Room;

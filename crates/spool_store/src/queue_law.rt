@@ -1,4 +1,4 @@
-ghost use Rattle.std.specs.Prelude.{◌≡◌, ◌≢◌, ◌∷◌, [], Some, None, ◌<◌, ◌≤◌, ◌++◌, All, Any, Contains, List, ℕ, map};
+ghost use Rattle.std.specs.Prelude.{◌≡◌, ◌≢◌, ◌∷◌, [], Some, None, ◌<◌, ◌≤◌, ◌++◌, All, Any, Contains, ◌+◌, ◌-◌, List, ℕ, map};
 ghost use Rattle.spool_disk.specs.Disk.{FileMap, Place, bytes_at};
 ghost use Rattle.mail_base.specs.declared.id.Kind.TheVariants.{Df, Sf, Tf};
 ghost use Rattle.mail_base.specs.Limits.{IsId};
@@ -22,7 +22,10 @@ ghost use Rattle.spool_store.specs.Settled.{StandsFor, IsTidy, IsNamed, IsSettle
 ghost use Rattle.spool_store.specs.Entries.{Stored, Table, AreSameEntries, with_control};
 ghost use Rattle.spool_store.specs.Keepers.{after_replace};
 ghost use Rattle.spool_store.specs.Parcels.{with_commit};
-ghost use Rattle.spool_store.specs.Stores.{Agrees, Holds, StoreSeen, recontrolled, refinished};
+ghost use Rattle.spool_store.specs.Accepts.{parts_of};
+ghost use Rattle.spool_store.specs.Stores.{Agrees, Holds, StoreSeen, entered, recontrolled, refinished};
+ghost use Rattle.spool_store.specs.Tables.{Table as OlderTable, after};
+ghost use Rattle.spool_store.specs.Tables.Command.{Accept};
 
 /// A control file says one control.
 pub fn one_control()
@@ -159,4 +162,11 @@ pub fn holding_goes_on()
     ensures finish { (store : StoreSeen) (table : Table) (id : ℕ) → Holds store table → Holds (record store { entries = map (refinished id) store.entries }) table }
     ensures room { (store : StoreSeen) (table : Table) (room : ℕ) → Holds store table → Holds (record store { room = room }) table }
     ensures agrees { (store : StoreSeen) (f : FileMap) (room : ℕ) → Agrees store f → Agrees (record store { room = room }) f }
+{}
+
+/// A commit of one entry adds it, and is what an older table's command is.
+pub fn a_commit_of_one()
+    ensures table { (table : Table) (d : Draft) (b : List ℕ) → after_commit table [] d b None ≡ record { entries = table.entries ++ stored table.next b d ∷ []; next = table.next + 1 } }
+    ensures store { (store : StoreSeen) (d : Draft) → with_commit store [] d ≡ record store { entries = store.entries ++ entered (stored store.next [] d) ∷ []; next = store.next + 1; room = store.room - 1 } }
+    ensures accept { (table : OlderTable) (d : Draft) (b : List ℕ) → parts_of (after table (Accept d b)) ≡ after_commit (parts_of table) [] d b None }
 {}
