@@ -9,12 +9,17 @@ use std::test::Fail;
 /// A configuration, lines of input, and what is written.
 type Answer = (&'static [u8], &'static [u8], &'static [u8]);
 
-static ANSWERS: [Answer; 24] = [
+static ANSWERS: [Answer; 26] = [
     // Items of a left side: nothing, any tokens, and at least one.
     (
         b"SA\nR$@\t$@ zero\nSB\nR$*\t$@ star\nSC\nR$+\t$@ plus\n",
         b"A\nB\nC\n",
         b"A returns: zero\nB returns: star\nC returns:\n",
+    ),
+    (
+        b"CwMX.example\nS1\nR$+ < @ $=w >\t$@ $2 $1\n",
+        b"1 ann < @ mx . EXAMPLE >\n",
+        b"1 returns: mx . EXAMPLE ann\n",
     ),
     (
         b"CwMX.example\nS1\nR$+ < @ $=w >\t$@ $2 $1\nS2\nR$+@$+\t$@ $>1 $1 < @ $2 >\n",
@@ -33,6 +38,11 @@ static ANSWERS: [Answer; 24] = [
         b"acl returns: $# error $@ 5 . 7 . 1 $: \"550 denied\"\n",
     ),
     // Lines as a generated file has them: the file of a class is absent, and a key loses its quotes.
+    (
+        b"V10/Berkeley\nFw-o /etc/mail/local-host-names\nKdequote dequote\nTroot\nO NoSuchThing=1\nScanonify=3\nR$*\t$@ $(dequote $1 $)\t# plain\n",
+        b"3 \"ann.smith\"\n",
+        b"warning: line 1 ignored\nwarning: line 4 ignored\nwarning: line 5 ignored\n3 returns: ann . smith\n",
+    ),
     (
         b"V10/Berkeley\nFw-o /etc/mail/local-host-names\nKdequote dequote\nTroot\nO NoSuchThing=1\nScanonify=3\nR$*\t$@ $(dequote $1 $)\t# plain\nS4\nR$*\t$@ $>3 \"ann.smith\"\n",
         b"4\n3 ann.smith\n",
