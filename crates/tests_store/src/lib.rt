@@ -4,3 +4,5 @@
 
 #[cfg(test)]
 mod openings;
+#[cfg(test)]
+mod stops;
