@@ -4,7 +4,7 @@ use Rattle.mail_base.specs.Limits.{most_message, most_command}
 use Rattle.smtp_lines.specs.declared.line.Line.{Line}
 use Rattle.smtp_lines.specs.declared.line.Mode.{Mode}
 use Rattle.smtp_lines.specs.declared.line.Mode.TheVariants.{Commands, Message}
-use Rattle.smtp_lines.specs.Stream.{end_of, has_end, ends_in_cr, asks, Reads}
+use Rattle.smtp_lines.specs.Stream.{end_of, has_end, ends_in_cr, Reads}
 use Rattle.smtp_lines.specs.Reader.{Holds, Under, asked_after, awaited, mode_by}
 
 -- a line ends in the first n bytes after what was begun
