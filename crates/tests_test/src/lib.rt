@@ -10,3 +10,5 @@ mod lines;
 mod memory;
 #[cfg(test)]
 mod printed;
+#[cfg(test)]
+mod routes;

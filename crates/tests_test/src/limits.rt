@@ -4,6 +4,9 @@ use mail_base::{NoMemory, Text};
 use std::alloc::Global;
 use std::test::Fail;
 
+// A mailer to be tried.
+const MAILER: &[u8] = b"Mm, P=/x, A=x\n";
+
 // A front, and a part so many times behind it.
 fn line(alloc: Global, front: &[u8], part: &[u8], times: u32) -> Result<Text, NoMemory> {
     let mut line = Text::of(alloc, front)?;
@@ -16,7 +19,7 @@ fn line(alloc: Global, front: &[u8], part: &[u8], times: u32) -> Result<Text, No
 // How many bytes are printed for such a line.
 fn size(alloc: Global, front: &[u8], part: &[u8], times: u32) -> Result<usize, Fail> {
     let line = line(alloc, front, part, times)?;
-    Ok(printed(alloc, b"", line.bytes())?.len())
+    Ok(printed(alloc, MAILER, line.bytes())?.len())
 }
 
 // Whether this is printed for such a line.
@@ -28,7 +31,7 @@ fn is_told(
     text: &[u8],
 ) -> Result<bool, Fail> {
     let line = line(alloc, front, part, times)?;
-    Ok(printed(alloc, b"", line.bytes())?.bytes() == text)
+    Ok(printed(alloc, MAILER, line.bytes())?.bytes() == text)
 }
 
 #[test]
@@ -36,6 +39,8 @@ fn an_address_has_two_thousand_tokens(rt: HostRuntime) -> Result<(), Fail> {
     let alloc = rt.alloc();
     assert_eq!(rt; size(alloc, b"5 ", b"a.", 1_000)?, 10 + 4_000 + 1);
     assert!(rt; is_told(alloc, b"5 b", b".a", 1_000, b"bad address: Long\n")?);
+    assert!(rt; is_told(alloc, b"/parse b", b".a", 1_000, b"error 553 5.1.3 Bad address\n")?);
+    assert!(rt; is_told(alloc, b"/try m b", b".a", 1_000, b"error: Long\n")?);
     Ok(())
 }
 

@@ -62,7 +62,7 @@ static ADDRESSES: [Row; 9] = [
 const MAPS: &[u8] =
     b"Kt text /t\nKs sequence t\nKo ldap x\nKm macro\nDxval\nS1\nR$*\t$@ $(m {z} $@ v $) a\n";
 
-static COMMANDS: [Row; 12] = [
+static COMMANDS: [Row; 11] = [
     (
         MAPS,
         b"/map t K\n/map t z\n/map u k",
@@ -89,13 +89,8 @@ static COMMANDS: [Row; 12] = [
     (MAPS, b"1 a\n$z", b"1 returns: a\nundefined\n"),
     (
         MAPS,
-        b"/parse x\n/try smtp x\n/parse",
-        b"not yet\nnot yet\nnot yet\n",
-    ),
-    (
-        MAPS,
-        b"/parsex\n/tryflags x\n/\n/Map t k",
-        b"unknown line\nunknown line\nunknown line\nunknown line\n",
+        b"/maps t k\n/\n/Map t k",
+        b"unknown line\nunknown line\nunknown line\n",
     ),
     (MAPS, b"$x\n/quit\n$x", b"val\n"),
     (
