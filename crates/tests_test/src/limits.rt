@@ -39,7 +39,15 @@ fn an_address_has_two_thousand_tokens(rt: HostRuntime) -> Result<(), Fail> {
     let alloc = rt.alloc();
     assert_eq!(rt; size(alloc, b"5 ", b"a.", 1_000)?, 10 + 4_000 + 1);
     assert!(rt; is_told(alloc, b"5 b", b".a", 1_000, b"bad address: Long\n")?);
-    assert!(rt; is_told(alloc, b"/parse b", b".a", 1_000, b"error 553 5.1.3 Bad address\n")?);
+    assert!(rt;
+        is_told(
+            alloc,
+            b"/parse b",
+            b".a",
+            1_000,
+            b"error 553 5.1.3 Bad address\n"
+        )?
+    );
     assert!(rt; is_told(alloc, b"/try m b", b".a", 1_000, b"error: Long\n")?);
     Ok(())
 }
