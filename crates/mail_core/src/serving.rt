@@ -20,7 +20,7 @@ use crate::caller::Caller;
 use crate::intake::{Intake, part};
 use crate::speech::say;
 use link_edge::{Floor, Turn};
-use mail_base::{NoMemory, Text};
+use mail_base::{NoMemory, Text, TryCopy};
 use smtp_lines::Lines;
 use smtp_receive::{Session, out_of_memory, too_many_sessions};
 use spool_disk::Spool;
@@ -60,6 +60,15 @@ pub struct Site {
     pub host: Text,
     /// The directory of the queue.
     pub dir: Text,
+}
+
+impl TryCopy for Site {
+    fn copy(&self) -> Result<Site, NoMemory> {
+        Ok(Site {
+            host: self.host.copy()?,
+            dir: self.dir.copy()?,
+        })
+    }
 }
 
 /// The sessions that are open, one at most, and the store of the queue.

@@ -44,7 +44,7 @@ use Rattle.sendmail_run.specs.Outcomes.{of_config, of_maps, of_opening, of_sessi
 use Rattle.sendmail_run.specs.Printing.{Basis, basis}
 use Rattle.sendmail_run.specs.Rises.{Counts, RisesOnlyAt}
 use Rattle.sendmail_run.specs.Runs.{Completes, Ends, EndsAtFile, EndsAtWords, EndsAtWork, Finds, IsReady, IsShort, IsQueueEmpty, IsSound, IsUntouched, IsWhole, NoneFailed, Stays, Works}
-use Rattle.sendmail_run.specs.Serving.{IsServedOut, Serves, site_of}
+use Rattle.sendmail_run.specs.Serving.{IsServedOut, Serves, session_site}
 use Rattle.sendmail_run.specs.Testing.{IsLarge, Tests}
 use Rattle.sendmail_run.proofs.CommandLemmas.{one_mode, not_both}
 use Rattle.sendmail_run.proofs.ServingLemmas.{left_alone, not_used, serves_later}
@@ -100,7 +100,7 @@ ends_tested words f0 f1 f2 i0 i1 o0 o1 l s k mode config maps how outcome told s
 
 -- session mode ends with the outcome of its end
 pub ends_served : (words : List (List ℕ)) (f0 f1 : FilesSeen) (i : SourceSeen) (o : SinkSeen) (l0 l1 : Heard) (s0 s1 : Spooled) (k0 k1 : ClockSeen) (mode : Mode) (config : Config) (how : SessionEnd) (outcome : Outcome) → outcome ≡ of_session how
-    → IsCommandLine words mode → mode.job ≡ Session → Begins mode.file f0 f1 (Ok config) → Serves (site_of config) (core_seen l0 s0 k0) (core_seen l1 s1 k1) how → Ends words (world f0 i o l0 s0 k0) (world f1 i o l1 s1 k1) outcome
+    → IsCommandLine words mode → mode.job ≡ Session → Begins mode.file f0 f1 (Ok config) → Serves (session_site config) (core_seen l0 s0 k0) (core_seen l1 s1 k1) how → Ends words (world f0 i o l0 s0 k0) (world f1 i o l1 s1 k1) outcome
 ends_served words f0 f1 i o l0 l1 s0 s1 k0 k1 mode config how outcome told said does begins serves =
     ends_at_work words (world f0 i o l0 s0 k0) (world f1 i o l1 s1 k1) mode Session config outcome said does begins
     (record { how = how; told = told; serves = serves; idle = record { input = refl; output = refl } })
@@ -241,20 +241,20 @@ test_whole : (config : Config) (before after : World) (map : FileMap) (outcome :
 test_whole config before after map outcome told finds sound (inl is) = subst (λ (o : Outcome). IsWhole Test o) (sym is.told) (maps_whole config before after map is.fault told finds.0 sound.files is.loads)
 test_whole config before after map outcome told finds sound (inr is) = subst (λ (o : Outcome). IsWhole Test o) (sym is.told) (lines_whole (basis config is.maps) before after is.how finds.1 sound.own is.tests)
 
-not_opened_whole : (config : Config) (before after : World) (fault : OpenFault) → IsQueueEmpty config before.spool.told → NoneFailed Session before after → Serves (site_of config) (core_of before) (core_of after) (session_ends.NotOpened fault) → IsWhole Session (of_opening fault)
+not_opened_whole : (config : Config) (before after : World) (fault : OpenFault) → IsQueueEmpty config before.spool.told → NoneFailed Session before after → Serves (session_site config) (core_of before) (core_of after) (session_ends.NotOpened fault) → IsWhole Session (of_opening fault)
 not_opened_whole config before after open_faults.SpoolFault empty sound is = absurd (sound.1 is.1)
-not_opened_whole config before after open_faults.NotYet empty sound is = absurd (not_used (site_of config) before.spool.told empty.map empty.told empty.empty is.1)
+not_opened_whole config before after open_faults.NotYet empty sound is = absurd (not_used (session_site config) before.spool.told empty.map empty.told empty.empty is.1)
 not_opened_whole config before after open_faults.NoMemory empty sound is = inr (inl refl)
 
 over_whole : (site : Site) (before after : World) (stop : CoreStop) → NoneFailed Session before after → IsServedOut site (core_of before) (core_of after) (Err stop) → IsWhole Session (of_session (session_ends.Over stop))
 over_whole site before after stops.SpoolFault sound is = absurd (sound.1 (is.ended.ended SpoolFault refl).cause)
 over_whole site before after stops.IdsSpent sound is = inr (inr (inl refl))
 
-session_whole : (config : Config) (before after : World) (how : SessionEnd) → IsQueueEmpty config before.spool.told → NoneFailed Session before after → Serves (site_of config) (core_of before) (core_of after) how → IsWhole Session (of_session how)
+session_whole : (config : Config) (before after : World) (how : SessionEnd) → IsQueueEmpty config before.spool.told → NoneFailed Session before after → Serves (session_site config) (core_of before) (core_of after) how → IsWhole Session (of_session how)
 session_whole config before after (session_ends.NotOpened fault) empty sound is = not_opened_whole config before after fault empty sound is
 session_whole config before after session_ends.FloorFault empty sound is = absurd (sound.0 is.rose)
 session_whole config before after session_ends.Stopped empty sound is = inl refl
-session_whole config before after (session_ends.Over stop) empty sound is = over_whole (site_of config) before after stop sound is
+session_whole config before after (session_ends.Over stop) empty sound is = over_whole (session_site config) before after stop sound is
 session_whole config before after (session_ends.TurnsSpent count) empty sound is = inr (inr (inr (ap (λ (n : ℕ). outcomes.TurnsSpent n) is.0)))
 
 work_whole : (words : List (List ℕ)) (config : Config) (before after : World) (job : Job) (outcome : Outcome) (ready : IsReady words before job) → ready.config ≡ config → IsSound job before after → Works job config before after outcome → IsWhole job outcome

@@ -24,7 +24,7 @@ use Rattle.sendmail_run.specs.MapFiles.{Loads, first_missing}
 use Rattle.sendmail_run.specs.Outcomes.{of_config, of_maps, of_session, of_test, of_words}
 use Rattle.sendmail_run.specs.Printing.{basis}
 use Rattle.sendmail_run.specs.Rises.{Counts}
-use Rattle.sendmail_run.specs.Serving.{IsLeftAlone, Serves, site_of}
+use Rattle.sendmail_run.specs.Serving.{IsLeftAlone, Serves, session_site}
 use Rattle.sendmail_run.specs.Testing.{Tests}
 
 -- ---- how a run ends
@@ -76,7 +76,7 @@ pub record HasTested (config : Config) (before after : World) (outcome : Outcome
 pub record HasServed (config : Config) (before after : World) (outcome : Outcome) : Type 0 where
   pub how : SessionEnd
   pub told : outcome ≡ of_session how
-  pub serves : Serves (site_of config) (core_of before) (core_of after) how
+  pub serves : Serves (session_site config) (core_of before) (core_of after) how
   pub idle : IsIdle (streams_of before) (streams_of after)
 
 -- how the work of a mode ends
@@ -119,7 +119,7 @@ pub record IsShort (left : Option (List ℕ)) : Type 0 where
 pub record IsQueueEmpty (config : Config) (files : Option SpoolMap) : Type 0 where
   pub map : SpoolMap
   pub told : files ≡ Some map
-  pub empty : AreEmpty (dirs_of (site_of config)) map
+  pub empty : AreEmpty (dirs_of (session_site config)) map
 
 -- what a mode wants of its devices under a configuration, over these files
 abbrev pub Finds : Job → Config → FileMap → World → Type 0

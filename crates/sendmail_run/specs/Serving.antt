@@ -32,8 +32,8 @@ abbrev pub host_of : List (List ℕ × List ℕ) → List ℕ
 host_of macros = take 255 (shown (value (codes "$j") macros))
 
 -- what sessions are served with under a configuration
-abbrev pub site_of : Config → Site
-site_of config = record { host = host_of config.macros; dir = config.options.queue_directory }
+abbrev pub session_site : Config → Site
+session_site config = record { host = host_of config.macros; dir = config.options.queue_directory }
 
 -- the floor, the spool and the clock are as before
 pub record IsLeftAlone (a b : Seen) : Type 0 where

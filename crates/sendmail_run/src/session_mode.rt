@@ -8,11 +8,11 @@ ghost use Rattle.mail_core.specs.Standing.{Stands, Stores};
 ghost use Rattle.mail_core.specs.Messages.{dirs_of};
 ghost use Rattle.sendmail_run.specs.Outcomes.{of_opening, of_session};
 ghost use Rattle.sendmail_run.specs.Rises.{RisesOnlyAt};
-ghost use Rattle.sendmail_run.specs.Serving.{HasRefused, Serves, site_of};
+ghost use Rattle.sendmail_run.specs.Serving.{HasRefused, Serves, session_site};
 ghost use Rattle.sendmail_run.specs.declared.outcome.Outcome.TheVariants.{FloorFault, SpoolFault};
 
 use crate::buffer::zeros;
-use crate::site::site_of;
+use crate::site::session_site;
 use link_edge::{Floor, Place};
 use mail_base::{Config, MOST_PIECE, NoMemory, Seq, Text, TryCopy};
 use mail_core::{Act, Core, CoreStop, Site};
@@ -55,9 +55,9 @@ pub fn session_mode<D: Spool, L: Floor, C: Clock>(
     requires { (C.seen clock.old).readings ≤ 2 ^ 63 }
     ensures rises_floor { RisesOnlyAt FloorFault (of_session result) (L.seen floor.old).faults (L.seen floor.new).faults }
     ensures rises_spool { RisesOnlyAt SpoolFault (of_session result) (D.seen spool.old).faults (D.seen spool.new).faults }
-    ensures serves { Serves (site_of config.now) (seen (L.seen floor.old) (D.seen spool.old) (C.seen clock.old)) (seen (L.seen floor.new) (D.seen spool.new) (C.seen clock.new)) result }
+    ensures serves { Serves (session_site config.now) (seen (L.seen floor.old) (D.seen spool.old) (C.seen clock.old)) (seen (L.seen floor.new) (D.seen spool.new) (C.seen clock.new)) result }
 {
-    let Ok(site) = site_of(alloc, config) else {
+    let Ok(site) = session_site(alloc, config) else {
         return SessionEnd::NotOpened(OpenFault::NoMemory);
     };
     let Ok(mut buffer) = zeros(alloc, MOST_PIECE) else {
@@ -137,15 +137,6 @@ fn core_over(alloc: Global, site: &Site, store: Store) -> Result<Core, NoMemory>
     requires { Stores site.now store start }
     ensures { IfOk result (λ core. Stands site.now core (beginning start)) }
 {
-    let own = copied(site)?;
+    let own = site.copy()?;
     Core::new(alloc, own, store)
-}
-
-fn copied(site: &Site) -> Result<Site, NoMemory>
-    ensures { IfOk result (λ own. own ≡ site.now) }
-{
-    Ok(Site {
-        host: site.host.copy()?,
-        dir: site.dir.copy()?,
-    })
 }

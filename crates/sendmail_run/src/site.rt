@@ -11,8 +11,8 @@ const MOST_HOST: usize = 255;
 
 /// What sessions are served with under a configuration: the host that replies name is the value of `$j`, or the
 /// empty text where that can't be expanded.
-pub fn site_of(alloc: Global, config: &Config) -> Result<Site, NoMemory>
-    ensures { IfOk result (λ site. site ≡ spec.site_of config.now) }
+pub fn session_site(alloc: Global, config: &Config) -> Result<Site, NoMemory>
+    ensures { IfOk result (λ site. site ≡ spec.session_site config.now) }
 {
     Ok(Site {
         host: host_of(alloc, &config.macros)?,
