@@ -98,6 +98,7 @@ fits_stand classes late (NotInClass name ∷ items) tokens lengths fits = behind
 
 -- ---- both facts of what doesn't stand
 
+-- where a left side's own tokens don't stand in order, none of its items is late
 pub no_late : (items : List Item) (tokens : List Token) → stand_in_order items tokens ≡ false → list_any is_late items ≡ false
 no_late items tokens out = at (list_any is_late items) refl
   where
@@ -105,5 +106,6 @@ no_late items tokens out = at (list_any is_late items) refl
     at true q = absurd (true≢false (sym (late_stands items tokens q) ∙ out))
     at false q = refl
 
+-- where a left side's own tokens don't stand in order, nothing fits it, whatever the classes are
 pub no_fit : (items : List Item) (tokens : List Token) → stand_in_order items tokens ≡ false → (classes : Classes) (late : List (List Token)) (lengths : List ℕ) → Fits (wants classes late items) tokens lengths → ⊥
 no_fit items tokens out classes late lengths fits = true≢false (sym (fits_stand classes late items tokens lengths fits) ∙ out)
