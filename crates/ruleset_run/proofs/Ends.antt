@@ -140,5 +140,6 @@ unfolding RunsAt
 at_ends decides site zero name tokens work macros le = (Err faults.Deep, refl, tt)
 at_ends decides site (suc left) name tokens work macros le = named_ends decides site (RunsAt site left) (at_ends decides site left) name tokens work macros le (rules_called site name) refl
 
+-- any set's run ends, with whatever number of calls left
 pub set_ends : Decides → (site : Site) (left : ℕ) → CallsEnd (SetRuns site (RunsAt site left))
 set_ends decides site left name tokens work macros le = named_ends decides site (RunsAt site left) (at_ends decides site left) name tokens work macros le (rules_called site name) refl

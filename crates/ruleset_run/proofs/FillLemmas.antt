@@ -21,10 +21,6 @@ pub put_put : (a b : List Part) (f : Filling) → put a (put b f) ≡ put (a ++ 
 put_put a b (Ok full) = ap (λ ps. Ok (record full { parts = ps })) (sym (append_assoc a b full.parts))
 put_put a b (Err fault) = refl
 
-pub put_none : (f : Filling) → put [] f ≡ f
-put_none (Ok full) = refl
-put_none (Err fault) = refl
-
 -- the operators and the macros are as they were
 pub step_as_before : (maps : Loaded) (o o' : List ℕ) (m m' : Macros) → o ≡ o' → m ≡ m' → (found : Matched) (step : Step) (old : Parts) (before : Macros) (new : Parts) (after : Macros) (r : Result (Unit {0}) RunFault)
     → StepFills (filled maps o (late_tokens o m) found) step old before new after r → StepFills (filled maps o' (late_tokens o' m') found) step old before new after r
@@ -54,6 +50,7 @@ gain_long old new added is same given h =
     let long : StandBy true old.kept old.count given = subst (λ b. StandBy b old.kept old.count given) is h in
     subst (λ (p : Parts). Stand p (given ++ added)) (sym same) (subst (λ b. StandBy b old.kept old.count (given ++ added)) (sym is) (stand_longer given added long))
 
+-- tokens that are parts hold as many tokens as they are
 pub tokens_mapped : (tokens : List Token) → tokens_in (map OneToken tokens) ≡ length tokens
 tokens_mapped [] = refl
 tokens_mapped (t ∷ tokens) = let e = tokens_mapped tokens in omega arith
@@ -91,5 +88,6 @@ pub fill_last : (loaded : Loaded) (o : List ℕ) (late : Lates) (found : Matched
 fill_last loaded o late found steps i start now end given over whole is =
     whole ∙ ap (λ s. put given (filled loaded o late found s now)) (drop_all i steps over) ∙ ap (λ ps. Ok (record { parts = ps; macros = now })) (append-nil given) ∙ ap (λ x. Ok (record { parts = given; macros = x })) (sym is)
 
+-- the steps from a place on are the step there and those after it
 pub ahead_at : (steps : List Step) (i : ℕ) (step : Step) → i < length steps → step ≡ get_or steps i step → drop i steps ≡ step ∷ drop (i + 1) steps
 ahead_at steps i step below is = drop_more steps i step below ∙ ap (λ x. x ∷ drop (i + 1) steps) (sym is)

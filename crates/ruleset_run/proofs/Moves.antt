@@ -24,21 +24,25 @@ pub fault_weaker : (e : RunFault) (P Q : Outcome → Type 0) → ((f : RunFault)
 fault_weaker faults.NoMemory P Q f h = tt
 fault_weaker e P Q f h = f e h
 
+-- what a run ends with may be said more weakly
 pub ends_weaker : (macros : Macros) (r : Result Ran RunFault) (P Q : Outcome → Type 0) → ((o : Outcome) → P o → Q o) → Ends macros r P → Ends macros r Q
 ends_weaker macros (Ok ran) P Q f h = f _ h
 ends_weaker macros (Err e) P Q f h = fault_weaker e P Q (λ g. f (Err g)) h
 
+-- what a run ends with is what it gives, with some macros
 pub gives_some : (macros : Macros) (r : Result Ran RunFault) (P Q : Outcome → Type 0) → ((o : Outcome) → P o → Q o) → Ends macros r P → Gives r Q
 gives_some macros (Ok ran) P Q f h = (macros, f _ h)
 gives_some macros (Err e) P Q f h = fault_weaker e P Q (λ g. f (Err g)) h
 
 -- ---- the calls that are left
 
+-- where no call is left, a set's run is refused as too deep
 pub deep_at : (site : Site) (left : ℕ) (name : Option (List ℕ)) (tokens : List Token) (work : ℕ) (macros : Macros) → left ≡ 0 → RunsAt site left name tokens work macros (Err faults.Deep)
 unfolding RunsAt
 deep_at site zero name tokens work macros e = refl
 deep_at site (suc left) name tokens work macros e = absurd (omega arith)
 
+-- where a call is left, a set's run is one whose calls have one less
 pub set_at : (site : Site) (left : ℕ) (name : Option (List ℕ)) (tokens : List Token) (work : ℕ) (macros : Macros) (o : Outcome) → left ≢ 0 → SetRuns site (RunsAt site (left - 1)) name tokens work macros o → RunsAt site left name tokens work macros o
 unfolding RunsAt
 set_at site zero name tokens work macros o ne h = absurd (ne refl)
@@ -74,6 +78,7 @@ module _ (site : Site) (called : Called) (rule : Rule) (tokens : List Token) (wo
 
 -- ---- the calls of a right side
 
+-- joined parts hold the tokens of both
 pub tokens_append : (a b : List Part) → tokens_in (a ++ b) ≡ tokens_in a + tokens_in b
 tokens_append [] b = omega arith
 tokens_append (OneToken t ∷ a) b = let e = tokens_append a b in omega arith

@@ -4,7 +4,7 @@ use Rattle.std.specs.Prelude.{IfNone, IfSome, Option, slice_get, count_by, ◌==
 use Rattle.std.specs.List.{list_any}
 use Rattle.std.proofs.lemmas.List.Concat.{flat_map-cons}
 use Rattle.std.proofs.lemmas.List.Recursion.{is_count_by}
-use Rattle.std.proofs.lemmas.Bool.{cases_order, eq-eqb, ne_eqb, cond-true, cond-false, cond_both}
+use Rattle.std.proofs.lemmas.Bool.{cases_order, eq-eqb, ne_eqb, cond-true, cond-false}
 use Rattle.mail_base.specs.declared.token.Token.{Token}
 use Rattle.mail_base.specs.declared.rule.Rule.{Rule}
 use Rattle.mail_base.specs.declared.rule.Item.{Item}
@@ -23,6 +23,7 @@ drop_suc [] n rule is = absurd (cc is)
 drop_suc (r ∷ rules) zero rule is = let e : r ≡ rule = cc is in ap (λ (x : Rule). x ∷ rules) e
 drop_suc (r ∷ rules) (suc n) rule is = drop_suc rules n rule is
 
+-- the rules from a place on are the rule there and those after it
 pub drop_at : (rules : List Rule) (n : ℕ) (rule : Rule) → slice_get rules n ≡ Some rule → drop n rules ≡ rule ∷ drop (n + 1) rules
 drop_at rules n rule is = drop_suc rules n rule is ∙ ap (λ (k : ℕ). rule ∷ drop k rules) {x = suc n} {y = n + 1} (omega arith)
 
@@ -31,6 +32,7 @@ get_below [] n lt = absurd (omega (arith, lt))
 get_below (rule ∷ rules) zero lt = (rule, refl)
 get_below (rule ∷ rules) (suc n) lt = get_below rules n (omega (arith, lt))
 
+-- a place where a rule stands is below the number of rules
 pub below_length : (rules : List Rule) (n : ℕ) (rule : Rule) → slice_get rules n ≡ Some rule → n < length rules
 below_length [] n rule is = absurd (cc is)
 below_length (r ∷ rules) zero rule is = omega arith
@@ -111,10 +113,6 @@ ahead_by_anchor rules from tokens number rule next = record {
   first = λ k other le lt is. no_candidate other tokens (next.first k other le lt is);
 }
 
--- a rule from which the search begins
-pub ahead_here : (rules : List Rule) (from : ℕ) (tokens : List Token) (rule : Rule) → slice_get rules from ≡ Some rule → IsAhead rules from tokens from rule
-ahead_here rules from tokens rule is = record { above = omega arith; is = is; first = λ k other le lt at. absurd (omega (arith, le, lt)) }
-
 none_beyond : (rules : List Rule) (from k : ℕ) (rule : Rule) → from ≤ k → slice_get rules k ≡ Some rule → slice_get rules from ≡ None → ⊥
 none_beyond [] from k rule le is none = absurd (cc is)
 none_beyond (r ∷ rules) zero k rule le is none = absurd (cc none)
@@ -150,28 +148,15 @@ passed_more rules from tokens number rule ahead cannot k other le lt is = at (ca
     at (inr (inl less)) = ahead.first k other le less is
     at (inr (inr more)) = absurd (omega (arith, lt, more))
 
--- none can match from there on, nor before
-pub none_later : (rules : List Rule) (from at : ℕ) (tokens : List Token) → ((k : ℕ) (other : Rule) → from ≤ k → k < at → slice_get rules k ≡ Some other → CannotMatch tokens other)
-    → ((k : ℕ) (rule : Rule) → at ≤ k → slice_get rules k ≡ Some rule → CannotMatch tokens rule) → (k : ℕ) (rule : Rule) → from ≤ k → slice_get rules k ≡ Some rule → CannotMatch tokens rule
-none_later rules from at tokens before after k rule le is = by (cases_order k at)
-  where
-    by : (k ≡ at) ⊎ ((k < at) ⊎ (at < k)) → CannotMatch tokens rule
-    by (inl e) = after k rule (omega (arith, e)) is
-    by (inr (inl less)) = before k rule le less is
-    by (inr (inr more)) = after k rule (omega (arith, more)) is
-
 -- what holds of an answer, if there is one, from what is known of it
 pub some_weaker : {T : Type 0} (found : Option T) (P Q : T → Type 0) → ((x : T) → P x → Q x) → IfSome found P → IfSome found Q
 some_weaker (Some x) P Q f h = f x h
 some_weaker None P Q f h = tt
 
+-- what a search that found none says may be said more weakly
 pub none_weaker : {T : Type 0} (found : Option T) (P Q : Type 0) → (P → Q) → IfNone found P → IfNone found Q
 none_weaker (Some x) P Q f h = tt
 none_weaker None P Q f h = f h
-
--- no more successive applications than before
-pub few_times : (number from times now : ℕ) → now ≡ times_at number from times → times ≤ 100 → now ≤ 100
-few_times number from times now is few = cond_both (number == from) times 0 (λ (n : ℕ). now ≡ n → now ≤ 100) (λ e q. omega (arith, q, few)) (λ e q. omega (arith, q)) is
 
 one_list : (late : Lates) (item : Item) (lists : List (List Token)) → length (item_lists late item ++ lists) ≡ cond (is_late item) (1 + length lists) (length lists)
 one_list late (Late name) lists = omega arith

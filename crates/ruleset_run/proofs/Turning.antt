@@ -10,6 +10,7 @@ use Rattle.ruleset_run.specs.Sites.{Site, Macros}
 use Rattle.ruleset_run.specs.Runs.{name_of, rest_of, SetRuns, unknown, RunsAt, Ends}
 use Rattle.ruleset_run.proofs.Moves.{set_at, ends_weaker}
 
+-- a token more at the end stands first in the reversed order
 pub turned_more : (back new : List Token) (t : Token) → new ≡ back ++ t ∷ [] → reverse new ≡ t ∷ reverse back
 turned_more back new t is = ap reverse is ∙ reverse-append back (t ∷ [])
 
@@ -19,6 +20,7 @@ name_popped old new t is = ap name_of (turned_more new old t is)
 pub rest_popped : (old new : List Token) (t : Token) → old ≡ new ++ t ∷ [] → rest_of (reverse old) ≡ reverse new
 rest_popped old new t is = ap rest_of (turned_more new old t is)
 
+-- tokens reversed twice stand as before
 pub turned_back : (tokens back : List Token) → back ≡ reverse tokens → reverse back ≡ tokens
 turned_back tokens back is = ap reverse is ∙ reverse-reverse tokens
 

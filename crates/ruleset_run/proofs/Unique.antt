@@ -174,5 +174,6 @@ unfolding RunsAt
 one_at site zero name tokens work macros a b h k = h ∙ sym k
 one_at site (suc left) name tokens work macros a b h k = one_set_run site (RunsAt site left) (one_at site left) h k
 
+-- a set's run has one outcome
 pub one_top : (site : Site) (name : Option (List ℕ)) (tokens : List Token) (work : ℕ) (macros : Macros) (left : ℕ) (a b : Outcome) → SetRuns site (RunsAt site left) name tokens work macros a → SetRuns site (RunsAt site left) name tokens work macros b → a ≡ b
 one_top site name tokens work macros left a b h k = one_set_run site (RunsAt site left) (one_at site left) h k

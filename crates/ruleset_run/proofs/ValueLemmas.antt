@@ -20,6 +20,7 @@ use Rattle.ruleset_run.specs.inner.Values.{AreCuts, with_new, probe_of, is_chang
 
 -- ---- texts that are cut
 
+-- a text that is scanned to tokens is cut to them
 pub cut_some : (operators text : List ℕ) (tokens : List Token) → tokens_or_fault (plain operators) false text ≡ Ok tokens → Some tokens ≡ cut operators text
 unfolding cut
 cut_some operators text tokens e = sym (ap tokens_of e)
@@ -28,6 +29,7 @@ pub cut_none : (operators text : List ℕ) (fault : ScanFault) → outcome_of (p
 unfolding cut
 cut_none operators text fault e = sym (ap (λ a. tokens_of (tokens_among a)) e)
 
+-- a text that the scanner refuses isn't cut, unless memory was lacking
 pub cut_refused : (operators text : List ℕ) → ((fault : ScanFault) → HasFault (plain operators) false text fault → outcome_of (plain operators) false text ≡ Err fault)
     → (fault : ScanFault) → fault ≢ scans.NoMemory → ExplainsFault (plain operators) false text fault → None ≡ cut operators text
 cut_refused operators text law (scans.Unbalanced place) other h = cut_none operators text _ (law _ h)
@@ -38,10 +40,12 @@ cut_refused operators text law scans.NoMemory other h = absurd (other refl)
 
 -- ---- values that are expanded
 
+-- a late macro without a value has an empty text
 pub late_unset : (macros : Macros) (name : List ℕ) → value_at name macros ≡ None → [] ≡ late_text macros name
 unfolding late_text
 late_unset macros name is = sym (ap (text_in macros) is)
 
+-- a late macro's text is its value expanded
 pub late_given : (macros : Macros) (name text given : List ℕ) → value_at name macros ≡ Some text → value text macros ≡ Ok given → given ≡ late_text macros name
 unfolding late_text
 late_given macros name text given is e = sym (ap (text_in macros) is ∙ ap text_of e)
@@ -52,12 +56,14 @@ refused_text text macros expands.Deep other h = ap text_of h
 refused_text text macros expands.Large other h = ap text_of h
 refused_text text macros expands.NoMemory other h = absurd (other refl)
 
+-- a late macro whose value is refused has an empty text, unless memory was lacking
 pub late_refused : (macros : Macros) (name text : List ℕ) (fault : ExpandFault) → value_at name macros ≡ Some text → fault ≢ expands.NoMemory → IsRefused fault (value text macros) → [] ≡ late_text macros name
 unfolding late_text
 late_refused macros name text fault is other h = sym (ap (text_in macros) is ∙ refused_text text macros fault other h)
 
 -- ---- what was cut
 
+-- kept cuts stay those of the macros' values when one more is kept
 pub cuts_more : (operators : List ℕ) (macros : Macros) (name : List ℕ) (tokens : Option (List Token)) (old new : List (List ℕ × Option (List Token))) → AreCuts operators macros old → SetsValue name (Some tokens) old new
     → tokens ≡ late_tokens operators macros name → AreCuts operators macros new
 cuts_more operators macros name tokens old new are sets is other given at = by (bytes_eq other name) refl

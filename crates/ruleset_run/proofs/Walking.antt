@@ -117,6 +117,7 @@ module _ (site : Site) (called : Called) (rules : List Rule) (from number times 
 
 -- ---- the match of a rule
 
+-- a rule whose late macros are cut is matched as its choice says, or nothing fits
 pub match_found : (is_cut : Bool) (classes : Classes) (late lists : List (List Token)) (items : List Item) (tokens : List Token) (found : Option (List Cut)) → is_cut ≡ true → lists ≡ late → IfSome found (λ cuts. IsChoice classes lists items tokens cuts)
     → IfNone found ((lengths : List ℕ) → Fits (wants classes lists items) tokens lengths → ⊥) → MatchFound is_cut classes late items tokens found
 match_found is_cut classes late lists items tokens (Some cuts) is are some none = (is, subst (λ (ls : List (List Token)). IsChoice classes ls items tokens cuts) are some)

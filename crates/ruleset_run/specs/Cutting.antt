@@ -1,4 +1,5 @@
--- The tokens that a `$&x` stands for as the rule runs (Sendmail Operation Guide, macros; R and S: rewriting rules).
+-- The tokens that a `$&x` stands for as the rule runs (Sendmail Operation Guide, macros; R and S:
+-- rewriting rules).
 use Rattle.std.specs.Prelude.{ℕ, List, [], ◌∷◌, Bool, true, false, Option, None, Some, is_some, Result, Ok, Err, unwrap_or}
 use Rattle.std.specs.List.{list_all, flat_map}
 use Rattle.mail_base.specs.declared.token.Token.{Token}

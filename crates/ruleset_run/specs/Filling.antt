@@ -1,4 +1,5 @@
--- What a rule's right side gives before its calls are made (Sendmail Operation Guide, R and S: rewriting rules; the order of errors is own).
+-- What a rule's right side gives before its calls are made (Sendmail Operation Guide, R and S:
+-- rewriting rules; the order of errors is own).
 use Rattle.std.specs.Prelude.{ℕ, ◌+◌, ◌-◌, List, [], ◌∷◌, ◌++◌, Bool, true, false, ◌&&◌, Option, None, Some, is_some, Result, Ok, Err, map, length, take, drop, unwrap_or}
 use Rattle.std.specs.List.{list_all, flat_map}
 use Rattle.mail_base.specs.declared.token.Token.{Token}
@@ -42,14 +43,17 @@ is_cut_fallback late (Some pieces) = list_all (is_cut_piece late) pieces
 
 abbrev pub is_cut_step : Lates → Step → Bool
 is_cut_step late (Plain piece) = is_cut_piece late piece
-is_cut_step late (Lookup name key args fallback) = list_all (is_cut_piece late) key && list_all (list_all (is_cut_piece late)) args && is_cut_fallback late fallback
+is_cut_step late (Lookup name key args fallback) =
+    list_all (is_cut_piece late) key && list_all (list_all (is_cut_piece late)) args
+    && is_cut_fallback late fallback
 is_cut_step late Call = true
 
 -- each `$&x` of a right side can be cut
 abbrev pub is_cut_right : Lates → List Step → Bool
 is_cut_right late steps = list_all (is_cut_step late) steps
 
--- what a piece stands for: a token itself, `$n` what the n-th binding item took, or nothing where fewer items bind, and `$&x` the tokens of the macro
+-- what a piece stands for: a token itself, `$n` what the n-th binding item took, or nothing where
+-- fewer items bind, and `$&x` the tokens of the macro
 abbrev pub piece_tokens : Lates → Matched → Piece → List Token
 piece_tokens late found (Give token) = token ∷ []
 piece_tokens late found (Cut number) = bound_piece found.left found.tokens found.lengths number
@@ -69,10 +73,13 @@ abbrev pub scanned : Macros → Option (List Token) → Result Told RunFault
 scanned macros (Some tokens) = Ok (record { tokens = tokens; macros = macros })
 scanned macros None = Err BadScan
 
--- what a map tells comes to this: the tokens of its value; where the key is absent, those of the default, or of the key where there is none. No map tells want of memory
-abbrev pub told_by : List ℕ → List ℕ → List Token → Option (List Token) → Macros → Result Found MapFault → Result Told RunFault
+-- what a map tells comes to this: the tokens of its value; where the key is absent, those of the
+-- default, or of the key where there is none. No map tells want of memory
+abbrev pub told_by : List ℕ → List ℕ → List Token → Option (List Token) → Macros
+    → Result Found MapFault → Result Told RunFault
 told_by operators name key fallback macros (Ok (Value text)) = scanned macros (cut operators text)
-told_by operators name key fallback macros (Ok Absent) = Ok (record { tokens = unwrap_or fallback key; macros = macros })
+told_by operators name key fallback macros (Ok Absent) =
+    Ok (record { tokens = unwrap_or fallback key; macros = macros })
 told_by operators name key fallback macros (Err maps.MapClass) = Err (MapClass name)
 told_by operators name key fallback macros (Err maps.NoSuchMap) = Err (NoSuchMap name)
 told_by operators name key fallback macros (Err maps.NoMemory) = Err NoMemory
@@ -81,10 +88,12 @@ told_by operators name key fallback macros (Err maps.NoMemory) = Err NoMemory
 abbrev pub asked : List Token → List ℕ
 asked tokens = joined (Some 32) tokens
 
-abbrev pub looked_up : Loaded → List ℕ → List ℕ → List Token → List (List Token) → Option (List Token) → Macros → Result Told RunFault
+abbrev pub looked_up : Loaded → List ℕ → List ℕ → List Token → List (List Token)
+    → Option (List Token) → Macros → Result Told RunFault
 looked_up maps operators name key args fallback macros =
     let answer = map_answer maps name (asked key) (map asked args) in
-    told_by operators name key fallback (macros_after answer (asked key) (map asked args) macros) (told answer)
+    told_by operators name key fallback
+    (macros_after answer (asked key) (map asked args) macros) (told answer)
 
 abbrev pub fallback_tokens : Lates → Matched → Option (List Piece) → Option (List Token)
 fallback_tokens late found None = None
@@ -111,10 +120,15 @@ put_told (Err fault) more = Err fault
 -- the steps of a right side filled, or the first fault of a look-up
 abbrev pub filled : Loaded → List ℕ → Lates → Matched → List Step → Macros → Filling
 filled maps operators late found [] macros = Ok (record { parts = []; macros = macros })
-filled maps operators late found (Plain piece ∷ steps) macros = put (map OneToken (piece_tokens late found piece)) (filled maps operators late found steps macros)
+filled maps operators late found (Plain piece ∷ steps) macros =
+    put (map OneToken (piece_tokens late found piece))
+    (filled maps operators late found steps macros)
 filled maps operators late found (Lookup name key args fallback ∷ steps) macros =
-    put_told (looked_up maps operators name (pieces_tokens late found key) (map (pieces_tokens late found) args) (fallback_tokens late found fallback) macros) (λ now. filled maps operators late found steps now)
-filled maps operators late found (Call ∷ steps) macros = put (OneCall ∷ []) (filled maps operators late found steps macros)
+    put_told (looked_up maps operators name (pieces_tokens late found key)
+    (map (pieces_tokens late found) args) (fallback_tokens late found fallback) macros)
+    (λ now. filled maps operators late found steps now)
+filled maps operators late found (Call ∷ steps) macros =
+    put (OneCall ∷ []) (filled maps operators late found steps macros)
 
 -- the number of tokens among parts
 abbrev pub tokens_in : List Part → ℕ

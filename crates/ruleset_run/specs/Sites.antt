@@ -17,4 +17,9 @@ abbrev pub Macros : Type 0
 Macros = List (List ℕ × List ℕ)
 
 abbrev pub site_of : Config → Loaded → Site
-site_of config maps = record { book = config.book; classes = config.classes; operators = config.options.operator_chars; maps = maps }
+site_of config maps = record {
+  book = config.book;
+  classes = config.classes;
+  operators = config.options.operator_chars;
+  maps = maps;
+}

@@ -60,7 +60,8 @@ fn is_cut_fallback(values: &mut Values, fallback: &Option<Seq<Piece>>) -> Result
 }
 
 fn all_cut(values: &mut Values, args: &[Seq<Piece>]) -> Result<bool, NoMemory>
-    ensures value { IfOk result (λ is. is ≡ list_all (list_all (is_cut_piece (lates values.old))) args.now) }
+    ensures value { IfOk result
+        (λ is. is ≡ list_all (list_all (is_cut_piece (lates values.old))) args.now) }
     ensures same { values.new ≡ values.old }
 {
     for pieces in args {
@@ -101,18 +102,22 @@ pub struct Match<'a> {
     pub tokens: &'a Seq<Token>,
 }
 
-/// The parts of a right side, filled from a match, where each `$&x` can be cut. A look-up that is refused goes
-/// before too many tokens.
+/// The parts of a right side, filled from a match, where each `$&x` can be cut. A look-up that is
+/// refused goes before too many tokens.
 pub fn fill(
     maps: &Maps,
     values: &mut Values,
     source: &Match,
     steps: &[Step],
 ) -> Result<Parts, RunFault>
-    requires cuts { (found : Matched) × IsCutAs source.now.left.now source.now.tokens.now source.now.cuts.now found }
+    requires cuts { (found : Matched)
+        × IsCutAs source.now.left.now source.now.tokens.now source.now.cuts.now found }
     requires settled { values.old.after ≡ values.old.macros }
-    ensures fills { (found : Matched) → IsCutAs source.now.left.now source.now.tokens.now source.now.cuts.now found
-        → Fills result values.new.macros (filled maps.now values.old.operators (lates values.old) found steps.now values.old.macros) }
+    ensures fills { (found : Matched)
+        → IsCutAs source.now.left.now source.now.tokens.now source.now.cuts.now found
+        → Fills result values.new.macros
+        (filled maps.now values.old.operators (lates values.old) found steps.now
+        values.old.macros) }
     ensures operators { values.new.operators ≡ values.old.operators }
     ensures settled { OnOk result (values.new.after ≡ values.new.macros) }
 {
@@ -132,9 +137,12 @@ fn fill_step(
     step: &Step,
     parts: &mut Parts,
 ) -> Result<(), RunFault>
-    requires { (found : Matched) × IsCutAs source.now.left.now source.now.tokens.now source.now.cuts.now found }
-    ensures fills { (found : Matched) → IsCutAs source.now.left.now source.now.tokens.now source.now.cuts.now found
-        → StepFills (filled maps.now values.old.operators (lates values.old) found) step.now parts.old values.old.after parts.new values.new.after result }
+    requires { (found : Matched)
+        × IsCutAs source.now.left.now source.now.tokens.now source.now.cuts.now found }
+    ensures fills { (found : Matched)
+        → IsCutAs source.now.left.now source.now.tokens.now source.now.cuts.now found
+        → StepFills (filled maps.now values.old.operators (lates values.old) found) step.now
+        parts.old values.old.after parts.new values.new.after result }
     ensures operators { values.new.operators ≡ values.old.operators }
     ensures macros { values.new.macros ≡ values.old.macros }
 {
@@ -166,9 +174,12 @@ fn add_piece(
     piece: &Piece,
     parts: &mut Parts,
 ) -> Result<(), NoMemory>
-    requires { (found : Matched) × IsCutAs source.now.left.now source.now.tokens.now source.now.cuts.now found }
-    ensures gain { (found : Matched) → IsCutAs source.now.left.now source.now.tokens.now source.now.cuts.now found
-        → OnOk result (Gain parts.old parts.new (map OneToken (piece_tokens (lates values.old) found piece.now))) }
+    requires { (found : Matched)
+        × IsCutAs source.now.left.now source.now.tokens.now source.now.cuts.now found }
+    ensures gain { (found : Matched)
+        → IsCutAs source.now.left.now source.now.tokens.now source.now.cuts.now found
+        → OnOk result (Gain parts.old parts.new
+        (map OneToken (piece_tokens (lates values.old) found piece.now))) }
     ensures same { values.new ≡ values.old }
 {
     match piece {
@@ -182,8 +193,11 @@ fn add_piece(
 
 // What a piece other than `$&x` stands for.
 fn plain_tokens<'a>(source: &Match<'a>, piece: &'a Piece) -> &'a [Token]
-    requires { (found : Matched) × IsCutAs source.now.left.now source.now.tokens.now source.now.cuts.now found }
-    ensures { (found : Matched) (late : Lates) → IsCutAs source.now.left.now source.now.tokens.now source.now.cuts.now found → is_plain piece.now ≡ true
+    requires { (found : Matched)
+        × IsCutAs source.now.left.now source.now.tokens.now source.now.cuts.now found }
+    ensures { (found : Matched) (late : Lates)
+        → IsCutAs source.now.left.now source.now.tokens.now source.now.cuts.now found
+        → is_plain piece.now ≡ true
         → result.now ≡ piece_tokens late found piece.now }
 {
     match piece {
@@ -203,9 +217,15 @@ fn look_up(
     args: &Seq<Seq<Piece>>,
     fallback: &Option<Seq<Piece>>,
 ) -> Result<Seq<Token>, RunFault>
-    requires { (found : Matched) × IsCutAs source.now.left.now source.now.tokens.now source.now.cuts.now found }
-    ensures looks { (found : Matched) → IsCutAs source.now.left.now source.now.tokens.now source.now.cuts.now found
-        → Looks result values.new.after (looked_up maps.now values.old.operators name.now (pieces_tokens (lates values.old) found key.now) (map (pieces_tokens (lates values.old) found) args.now) (fallback_tokens (lates values.old) found fallback.now) values.old.after) }
+    requires { (found : Matched)
+        × IsCutAs source.now.left.now source.now.tokens.now source.now.cuts.now found }
+    ensures looks { (found : Matched)
+        → IsCutAs source.now.left.now source.now.tokens.now source.now.cuts.now found
+        → Looks result values.new.after
+        (looked_up maps.now values.old.operators name.now
+        (pieces_tokens (lates values.old) found key.now)
+        (map (pieces_tokens (lates values.old) found) args.now)
+        (fallback_tokens (lates values.old) found fallback.now) values.old.after) }
     ensures operators { values.new.operators ≡ values.old.operators }
     ensures macros { values.new.macros ≡ values.old.macros }
 {
@@ -229,8 +249,10 @@ fn look_up(
 
 // The tokens that pieces stand for.
 fn tokens_of(values: &mut Values, source: &Match, pieces: &[Piece]) -> Result<Seq<Token>, NoMemory>
-    requires { (found : Matched) × IsCutAs source.now.left.now source.now.tokens.now source.now.cuts.now found }
-    ensures tokens { (found : Matched) → IsCutAs source.now.left.now source.now.tokens.now source.now.cuts.now found
+    requires { (found : Matched)
+        × IsCutAs source.now.left.now source.now.tokens.now source.now.cuts.now found }
+    ensures tokens { (found : Matched)
+        → IsCutAs source.now.left.now source.now.tokens.now source.now.cuts.now found
         → IfOk result (λ tokens. tokens ≡ pieces_tokens (lates values.old) found pieces.now) }
     ensures same { values.new ≡ values.old }
 {
@@ -247,8 +269,10 @@ fn push_piece(
     piece: &Piece,
     given: &mut Seq<Token>,
 ) -> Result<(), NoMemory>
-    requires { (found : Matched) × IsCutAs source.now.left.now source.now.tokens.now source.now.cuts.now found }
-    ensures gain { (found : Matched) → IsCutAs source.now.left.now source.now.tokens.now source.now.cuts.now found
+    requires { (found : Matched)
+        × IsCutAs source.now.left.now source.now.tokens.now source.now.cuts.now found }
+    ensures gain { (found : Matched)
+        → IsCutAs source.now.left.now source.now.tokens.now source.now.cuts.now found
         → OnOk result (given.new ≡ given.old ++ piece_tokens (lates values.old) found piece.now) }
     ensures same { values.new ≡ values.old }
 {
@@ -272,9 +296,12 @@ fn push_all(given: &mut Seq<Token>, more: &[Token]) -> Result<(), NoMemory>
 
 // The arguments of a look-up as texts.
 fn texts_of(values: &mut Values, source: &Match, args: &[Seq<Piece>]) -> Result<Seq<Text>, NoMemory>
-    requires { (found : Matched) × IsCutAs source.now.left.now source.now.tokens.now source.now.cuts.now found }
-    ensures texts { (found : Matched) → IsCutAs source.now.left.now source.now.tokens.now source.now.cuts.now found
-        → IfOk result (λ texts. texts ≡ map asked (map (pieces_tokens (lates values.old) found) args.now)) }
+    requires { (found : Matched)
+        × IsCutAs source.now.left.now source.now.tokens.now source.now.cuts.now found }
+    ensures texts { (found : Matched)
+        → IsCutAs source.now.left.now source.now.tokens.now source.now.cuts.now found
+        → IfOk result (λ texts. texts
+        ≡ map asked (map (pieces_tokens (lates values.old) found) args.now)) }
     ensures same { values.new ≡ values.old }
 {
     let mut texts = Seq::new(values.allocator());

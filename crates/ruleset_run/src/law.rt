@@ -13,13 +13,16 @@ use rule_match::each_choice;
 
 /// A run has one outcome.
 pub fn one_outcome()
-    ensures { (site : Site) (macros : Macros) (name : List ℕ) (tokens : List Token) (one another : Outcome)
-        → RunsSet site macros name tokens one → RunsSet site macros name tokens another → one ≡ another }
+    ensures { (site : Site) (macros : Macros) (name : List ℕ) (tokens : List Token)
+        (one another : Outcome)
+        → RunsSet site macros name tokens one
+        → RunsSet site macros name tokens another → one ≡ another }
 {}
 
 /// A run has an outcome.
 pub fn each_run_ends()
-    ensures { (site : Site) (macros : Macros) (name : List ℕ) (tokens : List Token) → (outcome : Outcome) × RunsSet site macros name tokens outcome }
+    ensures { (site : Site) (macros : Macros) (name : List ℕ) (tokens : List Token)
+        → (outcome : Outcome) × RunsSet site macros name tokens outcome }
 {
     // A law: a match is taken, or none fits.
     each_choice();
@@ -30,5 +33,6 @@ pub fn each_run_ends()
 pub fn candidates_lose_no_match()
     ensures { (rule : Rule) (tokens : List Token) → is_candidate tokens rule ≡ false
         → (list_any is_late rule.left ≡ false)
-        × ((classes : Classes) (late : List (List Token)) (lengths : List ℕ) → Fits (wants classes late rule.left) tokens lengths → ⊥) }
+        × ((classes : Classes) (late : List (List Token)) (lengths : List ℕ)
+        → Fits (wants classes late rule.left) tokens lengths → ⊥) }
 {}

@@ -9,11 +9,14 @@ use rule_match::may_fit;
 /// Rulesets of at most so many rules are gone through rule by rule, and larger ones by their index.
 const FEW_RULES: u32 = 64;
 
-/// The first rule from a number on that may match the tokens, with its number, or `None` where there
-/// is none. Rules count from 0.
+/// The first rule from a number on that may match the tokens, with its number, or `None` where
+/// there is none. Rules count from 0.
 pub fn next_rule<'a>(set: &'a RuleSet, from: u32, tokens: &Seq<Token>) -> Option<(u32, &'a Rule)>
-    ensures some { IfSome result (λ found. IsAhead set.now.rules from tokens.now found.0 found.1.now) }
-    ensures none { IfNone result ((k : ℕ) (rule : TheRule) → from ≤ k → slice_get set.now.rules k ≡ Some rule → CannotMatch tokens.now rule) }
+    ensures some { IfSome result
+        (λ found. IsAhead set.now.rules from tokens.now found.0 found.1.now) }
+    ensures none { IfNone result
+        ((k : ℕ) (rule : TheRule) → from ≤ k → slice_get set.now.rules k ≡ Some rule
+        → CannotMatch tokens.now rule) }
 {
     // Only its range is used: a set has fewer than 2^32 rules, so `number + 1` is within its type.
     let _count = set.count();
@@ -29,8 +32,11 @@ pub fn next_rule<'a>(set: &'a RuleSet, from: u32, tokens: &Seq<Token>) -> Option
 
 /// The first from a number on, by its anchor where the ruleset is large, or whichever it is.
 fn candidate<'a>(set: &'a RuleSet, from: u32, tokens: &Seq<Token>) -> Option<(u32, &'a Rule)>
-    ensures some { IfSome result (λ found. IsAhead set.now.rules from tokens.now found.0 found.1.now) }
-    ensures none { IfNone result ((k : ℕ) (rule : TheRule) → from ≤ k → slice_get set.now.rules k ≡ Some rule → CannotMatch tokens.now rule) }
+    ensures some { IfSome result
+        (λ found. IsAhead set.now.rules from tokens.now found.0 found.1.now) }
+    ensures none { IfNone result
+        ((k : ℕ) (rule : TheRule) → from ≤ k → slice_get set.now.rules k ≡ Some rule
+        → CannotMatch tokens.now rule) }
 {
     if set.count() > FEW_RULES {
         return next(set, from, tokens);

@@ -46,9 +46,9 @@ pub struct Ran {
 /// list, which its calls take over. What a `$&x` stands for is cut once, until a look-up changes a
 /// macro. Macros are copied when that happens for the first time.
 ///
-/// The faults of one application come in this order: `Loop`, `Work`, a `$&x` of the right side that can't be
-/// cut, its look-ups from the left to the right, `Long`, its calls from the right to the left, each with
-/// `Long` behind it.
+/// The faults of one application come in this order: `Loop`, `Work`, a `$&x` of the right side that
+/// can't be cut, its look-ups from the left to the right, `Long`, its calls from the right to the
+/// left, each with `Long` behind it.
 pub fn run(
     alloc: Global,
     config: &Config,
@@ -57,8 +57,11 @@ pub fn run(
     set: &Text,
     tokens: &Seq<Token>,
 ) -> Result<Ran, RunFault>
-    ensures run { Gives result (RunsSet (site_of config.now maps.now) macros.now set.now tokens.now) }
-    ensures only { (outcome : Outcome) → RunsSet (site_of config.now maps.now) macros.now set.now tokens.now outcome → Gives result (λ given. given ≡ outcome) }
+    ensures run { Gives result
+        (RunsSet (site_of config.now maps.now) macros.now set.now tokens.now) }
+    ensures only { (outcome : Outcome)
+        → RunsSet (site_of config.now maps.now) macros.now set.now tokens.now outcome
+        → Gives result (λ given. given ≡ outcome) }
 {
     let mut values = Values::new(alloc, &config.options.operator_chars, macros);
     let tokens = tokens.copy()?;
@@ -79,7 +82,9 @@ fn run_set(
     requires operators { values.old.operators ≡ config.now.options.operator_chars }
     requires settled { values.old.after ≡ values.old.macros }
     requires work { start.work ≤ 10000 }
-    ensures run { Ends values.new.macros result (SetRuns (site_of config.now maps.now) (RunsAt (site_of config.now maps.now) left) (Some name.now) start.tokens start.work values.old.macros) }
+    ensures run { Ends values.new.macros result
+        (SetRuns (site_of config.now maps.now) (RunsAt (site_of config.now maps.now) left)
+        (Some name.now) start.tokens start.work values.old.macros) }
     ensures operators { values.new.operators ≡ values.old.operators }
     ensures settled { OnOk result (values.new.after ≡ values.new.macros) }
     ensures work { IfOk result (λ ran. (start.work ≤ ran.work) × (ran.work ≤ 10000)) }
@@ -92,7 +97,10 @@ fn run_set(
 
 /// Runs a ruleset that isn't there: one from 0 to 5 is empty.
 fn run_absent(name: &Text, start: Ran) -> Result<Ran, RunFault>
-    ensures run { (site : Site) (left : ℕ) (macros : TheMacros) → find (is_named name.now) site.book ≡ None → Ends macros result (SetRuns site (RunsAt site left) (Some name.now) start.tokens start.work macros) }
+    ensures run { (site : Site) (left : ℕ) (macros : TheMacros)
+        → find (is_named name.now) site.book ≡ None
+        → Ends macros result
+        (SetRuns site (RunsAt site left) (Some name.now) start.tokens start.work macros) }
     ensures work { IfOk result (λ ran. ran.work ≡ start.work) }
 {
     if is_standard(name) {
@@ -114,12 +122,15 @@ fn run_rules(
     requires operators { values.old.operators ≡ config.now.options.operator_chars }
     requires settled { values.old.after ≡ values.old.macros }
     requires work { start.work ≤ 10000 }
-    ensures run { Ends values.new.macros result (Runs (site_of config.now maps.now) (RunsAt (site_of config.now maps.now) left) set.now.rules 0 start.tokens start.work values.old.macros) }
+    ensures run { Ends values.new.macros result
+        (Runs (site_of config.now maps.now) (RunsAt (site_of config.now maps.now) left)
+        set.now.rules 0 start.tokens start.work values.old.macros) }
     ensures operators { values.new.operators ≡ values.old.operators }
     ensures settled { OnOk result (values.new.after ≡ values.new.macros) }
     ensures work { IfOk result (λ ran. (start.work ≤ ran.work) × (ran.work ≤ 10000)) }
 {
-    // Only its range is used: a set has fewer than 2^32 rules, so that `number + 1` is within its type.
+    // Only its range is used: a set has fewer than 2^32 rules, so that `number + 1` is within its
+    // type.
     let _count = set.count();
     let mut from: u32 = 0;
     let mut times: u32 = 0;
@@ -158,14 +169,17 @@ fn times_at(number: u32, from: u32, times: u32) -> u32
     if number == from { times } else { 0 }
 }
 
-/// The match that a rule takes, if it has any, or `BadScan` where a `$&x` of its left side can't be cut.
+/// The match that a rule takes, if it has any, or `BadScan` where a `$&x` of its left side can't be
+/// cut.
 fn match_of(
     values: &mut Values,
     rule: &Rule,
     tokens: &Seq<Token>,
     classes: &Classes,
 ) -> Result<Option<Cuts>, RunFault>
-    ensures found { IfOk result (MatchFound (is_cut_left (lates values.old) rule.now.left) classes.now (left_lists (lates values.old) rule.now.left) rule.now.left tokens.now) }
+    ensures found { IfOk result
+        (MatchFound (is_cut_left (lates values.old) rule.now.left) classes.now
+        (left_lists (lates values.old) rule.now.left) rule.now.left tokens.now) }
     ensures refused { IfErr result (LeftFault (is_cut_left (lates values.old) rule.now.left)) }
     ensures same { values.new ≡ values.old }
 {
@@ -175,7 +189,9 @@ fn match_of(
 
 /// The tokens of each `$&x` of a left side, in order, or `BadScan` where one can't be cut.
 fn lists_of(values: &mut Values, items: &[Item]) -> Result<Seq<Seq<Token>>, RunFault>
-    ensures lists { IfOk result (λ lists. (is_cut_left (lates values.old) items.now ≡ true) × (lists ≡ left_lists (lates values.old) items.now)) }
+    ensures lists { IfOk result
+        (λ lists. (is_cut_left (lates values.old) items.now ≡ true)
+        × (lists ≡ left_lists (lates values.old) items.now)) }
     ensures refused { IfErr result (LeftFault (is_cut_left (lates values.old) items.now)) }
     ensures same { values.new ≡ values.old }
 {
@@ -188,7 +204,9 @@ fn lists_of(values: &mut Values, items: &[Item]) -> Result<Seq<Seq<Token>>, RunF
 
 /// Adds the tokens of an item that is a `$&x`.
 fn push_list(values: &mut Values, item: &Item, lists: &mut Seq<Seq<Token>>) -> Result<(), RunFault>
-    ensures lists { OnOk result ((is_cut_item (lates values.old) item.now ≡ true) × (lists.new ≡ lists.old ++ item_lists (lates values.old) item.now)) }
+    ensures lists { OnOk result
+        ((is_cut_item (lates values.old) item.now ≡ true)
+        × (lists.new ≡ lists.old ++ item_lists (lates values.old) item.now)) }
     ensures refused { IfErr result (LeftFault (is_cut_item (lates values.old) item.now)) }
     ensures same { values.new ≡ values.old }
 {
@@ -229,9 +247,13 @@ fn apply(
     requires operators { values.old.operators ≡ config.now.options.operator_chars }
     requires settled { values.old.after ≡ values.old.macros }
     requires cut { is_cut_left (lates values.old) rule.now.left ≡ true }
-    requires choice { IsChoice config.now.classes (left_lists (lates values.old) rule.now.left) rule.now.left now.now.tokens cuts.now }
+    requires choice { IsChoice config.now.classes (left_lists (lates values.old) rule.now.left)
+        rule.now.left now.now.tokens cuts.now }
     requires work { now.now.work < 10000 }
-    ensures takes { (times : ℕ) → times < 100 → Ends values.new.macros result (Takes (site_of config.now maps.now) (RunsAt (site_of config.now maps.now) left) rule.now times now.now.tokens now.now.work values.old.macros) }
+    ensures takes { (times : ℕ) → times < 100
+        → Ends values.new.macros result
+        (Takes (site_of config.now maps.now) (RunsAt (site_of config.now maps.now) left) rule.now
+        times now.now.tokens now.now.work values.old.macros) }
     ensures operators { values.new.operators ≡ values.old.operators }
     ensures settled { OnOk result (values.new.after ≡ values.new.macros) }
     ensures work { IfOk result (λ ran. (now.now.work < ran.work) × (ran.work ≤ 10000)) }
@@ -267,7 +289,8 @@ fn replace(
     requires parts { Stand parts parts.kept }
     requires short { parts.is_long ≡ false }
     requires work { work ≤ 10000 }
-    ensures run { Ends values.new.macros result (Replaced (RunsAt (site_of config.now maps.now) left) 0 parts.kept work values.old.macros) }
+    ensures run { Ends values.new.macros result
+        (Replaced (RunsAt (site_of config.now maps.now) left) 0 parts.kept work values.old.macros) }
     ensures operators { values.new.operators ≡ values.old.operators }
     ensures settled { OnOk result (values.new.after ≡ values.new.macros) }
     ensures work { IfOk result (λ ran. (work ≤ ran.work) × (ran.work ≤ 10000)) }
@@ -312,7 +335,9 @@ fn call(
     requires operators { values.old.operators ≡ config.now.options.operator_chars }
     requires settled { values.old.after ≡ values.old.macros }
     requires work { work ≤ 10000 }
-    ensures run { Ends values.new.macros result (RunsAt (site_of config.now maps.now) left (name_of (reverse back.items)) (rest_of (reverse back.items)) work values.old.macros) }
+    ensures run { Ends values.new.macros result
+        (RunsAt (site_of config.now maps.now) left (name_of (reverse back.items))
+        (rest_of (reverse back.items)) work values.old.macros) }
     ensures operators { values.new.operators ≡ values.old.operators }
     ensures settled { OnOk result (values.new.after ≡ values.new.macros) }
     ensures work { IfOk result (λ ran. (work ≤ ran.work) × (ran.work ≤ 10000)) }

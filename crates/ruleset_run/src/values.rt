@@ -14,8 +14,9 @@ use std::mem;
 /// The macros of a run, with what their `$&x` stand for, each cut once. They are copied when one is
 /// changed for the first time.
 ///
-/// What look-ups change waits until [`Values::settle`]: in one right side each `$&x` is put in before
-/// its look-ups are made. A contract sees the operators, the macros, and the macros with what waits.
+/// What look-ups change waits until [`Values::settle`]: in one right side each `$&x` is put in
+/// before its look-ups are made. A contract sees the operators, the macros, and the macros with
+/// what waits.
 #[derive(Drop)]
 pub struct Values<'a> {
     operators: &'a Text,
@@ -38,7 +39,11 @@ impl<'a> Model for Values<'a> {
 
     ghost Value = { Known };
 
-    ghost view = { λ v. record { operators = v.operators.now; macros = current v.given.now v.changed; after = fold with_change (current v.given.now v.changed) v.waiting } };
+    ghost view = { λ v. record {
+      operators = v.operators.now;
+      macros = current v.given.now v.changed;
+      after = fold with_change (current v.given.now v.changed) v.waiting;
+    } };
 
     ghost invariant = { λ v. AreCuts v.operators.now (current v.given.now v.changed) v.cuts };
 }
@@ -46,7 +51,11 @@ impl<'a> Model for Values<'a> {
 impl<'a> Values<'a> {
     /// The macros that are given, of which none was changed. It takes no memory.
     pub fn new(alloc: Global, operators: &'a Text, macros: &'a Macros) -> Values<'a>
-        ensures { result ≡ record { operators = operators.now; macros = macros.now; after = macros.now } }
+        ensures { result ≡ record {
+          operators = operators.now;
+          macros = macros.now;
+          after = macros.now;
+        } }
     {
         Values {
             operators,
@@ -112,7 +121,11 @@ impl<'a> Values<'a> {
         args: &Seq<Text>,
     ) -> Result<Found, MapFault>
         ensures answer { TellsOr (told (map_answer maps.now map.now key.now args.now)) result }
-        ensures after { OnOk result (self.new ≡ record self.old { after = macros_after (map_answer maps.now map.now key.now args.now) key.now args.now self.old.after }) }
+        ensures after { OnOk result
+            (self.new ≡ record self.old {
+              after = macros_after
+                  (map_answer maps.now map.now key.now args.now) key.now args.now self.old.after;
+            }) }
         ensures same { OnErr result (self.new ≡ self.old) }
     {
         let name = Text::of(self.allocator(), macro_name(key.bytes()))?;
@@ -127,7 +140,11 @@ impl<'a> Values<'a> {
 
     // The first argument is the macro's value, which isn't set where there is none; it waits.
     fn change(&mut self, name: Text, args: &Seq<Text>) -> Result<(), NoMemory>
-        ensures ok { OnOk result (self.new ≡ record self.old { after = with_new name (slice_get args.now 0) self.old.after }) }
+        ensures ok { OnOk result
+            (self.new ≡ record self.old {
+              after = with_new name (slice_get args.now 0)
+                  self.old.after;
+            }) }
         ensures err { OnErr result (self.new ≡ self.old) }
     {
         let value = match args.get(0) {

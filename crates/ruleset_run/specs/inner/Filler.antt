@@ -18,7 +18,8 @@ use Rattle.ruleset_run.specs.Sites.{Macros}
 use Rattle.ruleset_run.specs.Filling.{Matched, Told, Filling, put, tokens_in}
 
 -- the cuts are those of a match of a left side, whatever its classes are
-pub record IsCutAs (left : List Item) (tokens : List Token) (cuts : List Cut) (found : Matched) : Type 0 where
+pub record IsCutAs (left : List Item) (tokens : List Token) (cuts : List Cut)
+    (found : Matched) : Type 0 where
   pub left_is : found.left ≡ left
   pub tokens_are : found.tokens ≡ tokens
   pub classes : Classes
@@ -58,7 +59,8 @@ FillsFault fault filling = filling ≡ Err fault
 
 -- the parts are those of a right side that was filled, with these macros after it
 abbrev pub Fills : Result Parts RunFault → Macros → Filling → Type 0
-Fills (Ok parts) macros filling = (given : List Part) × Stand parts given × (filling ≡ Ok (record { parts = given; macros = macros }))
+Fills (Ok parts) macros filling = (given : List Part) × Stand parts given
+    × (filling ≡ Ok (record { parts = given; macros = macros }))
 Fills (Err fault) macros filling = FillsFault fault filling
 
 abbrev pub StepFault : RunFault → (Filling → Type 0) → Type 0
@@ -66,6 +68,10 @@ StepFault faults.NoMemory P = Unit {0}
 StepFault fault P = P (Err fault)
 
 -- a step has added parts, which stand before whatever the steps after it give
-abbrev pub StepFills : (List Step → Macros → Filling) → Step → Parts → Macros → Parts → Macros → Result (Unit {0}) RunFault → Type 0
-StepFills fill step old before new after (Ok _) = (added : List Part) × Gain old new added × ((more : List Step) → fill (step ∷ more) before ≡ put added (fill more after))
-StepFills fill step old before new after (Err fault) = StepFault fault (λ filling. (more : List Step) → fill (step ∷ more) before ≡ filling)
+abbrev pub StepFills : (List Step → Macros → Filling) → Step → Parts → Macros → Parts → Macros
+    → Result (Unit {0}) RunFault → Type 0
+StepFills fill step old before new after (Ok _) =
+    (added : List Part) × Gain old new added
+    × ((more : List Step) → fill (step ∷ more) before ≡ put added (fill more after))
+StepFills fill step old before new after (Err fault) =
+    StepFault fault (λ filling. (more : List Step) → fill (step ∷ more) before ≡ filling)

@@ -15,15 +15,20 @@ use Rattle.ruleset_run.specs.declared.fault.RunFault.TheVariants as faults
 
 -- the rule has no `$&x` on its left side, and no match with the tokens, whatever the classes are
 abbrev pub CannotMatch : List Token → Rule → Type 0
-CannotMatch tokens rule = (list_any is_late rule.left ≡ false) × ((classes : Classes) (late : List (List Token)) (lengths : List ℕ) → Fits (wants classes late rule.left) tokens lengths → ⊥)
+CannotMatch tokens rule = (list_any is_late rule.left ≡ false)
+    × ((classes : Classes) (late : List (List Token)) (lengths : List ℕ)
+    → Fits (wants classes late rule.left) tokens lengths → ⊥)
 
 -- the rule of a number, at or behind another, where those from that on before it can't match
-pub record IsAhead (rules : List Rule) (from : ℕ) (tokens : List Token) (number : ℕ) (rule : Rule) : Type 0 where
+pub record IsAhead (rules : List Rule) (from : ℕ) (tokens : List Token) (number : ℕ)
+    (rule : Rule) : Type 0 where
   pub above : from ≤ number
   pub is : slice_get rules number ≡ Some rule
-  pub first : (k : ℕ) (other : Rule) → from ≤ k → k < number → slice_get rules k ≡ Some other → CannotMatch tokens other
+  pub first : (k : ℕ) (other : Rule) → from ≤ k → k < number → slice_get rules k ≡ Some other
+      → CannotMatch tokens other
 
--- how often the rule of a number was applied in succession, where that from which the search began was so often
+-- how often the rule of a number was applied in succession, where that from which the search began
+-- was so often
 abbrev pub times_at : ℕ → ℕ → ℕ → ℕ
 times_at number from times = if number == from then times else 0
 
@@ -40,6 +45,9 @@ LimitFault times work faults.Work = (times < 100) × (10000 ≤ work)
 LimitFault times work _ = ⊥
 
 -- the match that a left side takes, or that none fits, once it can be read
-abbrev pub MatchFound : Bool → Classes → List (List Token) → List Item → List Token → Option (List Cut) → Type 0
-MatchFound is_cut classes late items tokens (Some cuts) = (is_cut ≡ true) × IsChoice classes late items tokens cuts
-MatchFound is_cut classes late items tokens None = (is_cut ≡ true) × ((lengths : List ℕ) → Fits (wants classes late items) tokens lengths → ⊥)
+abbrev pub MatchFound : Bool → Classes → List (List Token) → List Item → List Token
+    → Option (List Cut) → Type 0
+MatchFound is_cut classes late items tokens (Some cuts) =
+    (is_cut ≡ true) × IsChoice classes late items tokens cuts
+MatchFound is_cut classes late items tokens None =
+    (is_cut ≡ true) × ((lengths : List ℕ) → Fits (wants classes late items) tokens lengths → ⊥)

@@ -6,7 +6,8 @@ use Rattle.ruleset_run.specs.declared.values.Change.{Change}
 use Rattle.ruleset_run.specs.Sites.{Macros}
 use Rattle.ruleset_run.specs.Cutting.{Lates, late_tokens}
 
--- the operators, the macros by which texts are put in, and those after what look-ups have changed since
+-- the operators, the macros by which texts are put in, and those after what look-ups have changed
+-- since
 pub record Known : Type 0 where
   pub operators : List ℕ
   pub macros : Macros
@@ -31,9 +32,11 @@ with_change macros change = with_new change.name change.value macros
 
 -- what was cut is what the macros stand for
 abbrev pub AreCuts : List ℕ → Macros → List (List ℕ × Option (List Token)) → Type 0
-AreCuts operators macros cuts = (name : List ℕ) (tokens : Option (List Token)) → value_at name cuts ≡ Some tokens → tokens ≡ late_tokens operators macros name
+AreCuts operators macros cuts = (name : List ℕ) (tokens : Option (List Token))
+    → value_at name cuts ≡ Some tokens → tokens ≡ late_tokens operators macros name
 
--- macros that show whether a look-up changes one: that of the name is set where a change would unset it
+-- macros that show whether a look-up changes one: that of the name is set where a change would
+-- unset it
 abbrev pub probe_of : List ℕ → List (List ℕ) → Macros
 probe_of name [] = with_value name name []
 probe_of name (value ∷ args) = []
