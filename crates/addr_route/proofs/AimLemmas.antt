@@ -13,6 +13,7 @@ step : (t : Token) (ts front rest : List Token) (b : Bool) → length rest ≤ l
 step t ts front rest true short same = let z : length (t ∷ ts) - length (t ∷ ts) ≡ 0 = omega arith in ap (λ n. take n (t ∷ ts)) z
 step t ts front rest false short same = let z : length (t ∷ ts) - length rest ≡ suc (length ts - length rest) = omega arith in ap (λ n. take n (t ∷ ts)) z ∙ ap (λ xs. t ∷ xs) same
 
+-- tokens without their end, taken by its length, are those before the end
 pub before_is : (hosts : Bool) (tokens : List Token) → take (length tokens - length (from_end hosts tokens)) tokens ≡ before_end hosts tokens
 before_is hosts [] = refl
 before_is hosts (t ∷ ts) = step t ts (before_end hosts ts) (from_end hosts ts) (is_end hosts t) (from_short hosts ts) (before_is hosts ts)

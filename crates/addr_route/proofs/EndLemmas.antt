@@ -33,10 +33,12 @@ stops_so P Q go (stops.Because why) h = go (error_of why) h
 stops_so P Q go (stops.Says error) h = go error h
 stops_so P Q go stops.NoMemory h = tt
 
+-- what the code tells of a resolved address may be said more weakly
 pub tells_so : (P Q : Resolved → Type 0) → ((resolved : Resolved) → P resolved → Q resolved) → (result : Result Triple Stop) → Tells result P → Tells result Q
 tells_so P Q go (Ok triple) h = go (Goes triple) h
 tells_so P Q go (Err stop) h = stops_so P Q (λ error. go (Refuses error)) stop h
 
+-- what is said of a result's value may be said more weakly
 pub if_ok : {A E : Type 0} (P Q : A → Type 0) → ((x : A) → P x → Q x) → (r : Result A E) → IfOk r P → IfOk r Q
 if_ok P Q go (Ok x) h = go x h
 if_ok P Q go (Err e) h = tt

@@ -13,14 +13,17 @@ blanked_by : (b : ℕ) (t : Bool) → (b == 10 || b == 13) ≡ t → IsLineByte 
 blanked_by b true e = rw e (grind arith)
 blanked_by b false e = rw e (grind (arith, e))
 
+-- bytes with CR and LF blanked fit in a line
 pub all_blanked : (bytes : List ℕ) → All IsLineByte (map blanked bytes)
 all_blanked [] = All-nil IsLineByte
 all_blanked (b ∷ bytes) = All-cons IsLineByte (blanked b) (map blanked bytes) (blanked_by b (b == 10 || b == 13) refl) (all_blanked bytes)
 
+-- what is said of a refusal has the form of a reply's text
 pub said_form : (text : List ℕ) → IsSaid (said text)
 said_form [] = all_blanked (codes "Refused")
 said_form (b ∷ bytes) = all_blanked (b ∷ bytes)
 
+-- what is said of a refusal is never empty
 pub said_some : (text : List ℕ) → 0 < length (said text)
 said_some [] = omega arith
 said_some (b ∷ bytes) = omega arith
@@ -43,6 +46,7 @@ pub exit_form : (exit : Option ℕ) → IsTrue (is_status (exit_status exit))
 exit_form None = refl
 exit_form (Some exit) = numbered_form exit
 
+-- the status that an error's host gives has a status's form
 pub host_form : (host : List ℕ) → IsTrue (is_status (host_status host))
 host_form host = cond_both (is_status host) host (exit_status (exit_of host)) (λ s. IsTrue (is_status s)) (λ e. e) (λ _. exit_form (exit_of host))
 
@@ -51,14 +55,17 @@ before_form None text place e = absurd (cc e)
 before_form (Some at) text place e = cond_both (is_status (take at text)) (Some at) None (λ (o : Option ℕ). o ≡ Some place → IsTrue (is_status (take place text)))
     (λ t same. let is : at ≡ place = cc same in subst (λ p. IsTrue (is_status (take p text))) is t) (λ _ none. absurd (cc none)) e
 
+-- what stands before the end of a text's status has a status's form
 pub end_form : (text : List ℕ) (place : ℕ) → status_end text ≡ Some place → IsTrue (is_status (take place text))
 end_form text place e = before_form (position (λ byte. byte == 32) text) text place e
 
 -- ---- codes
 
+-- a reply code from 400 to 599
 abbrev pub IsCode : ℕ → Type 0
 IsCode code = (400 ≤ code) × (code ≤ 599)
 
+-- the code that a status's class gives is from 400 to 599
 pub class_form : (status : List ℕ) → IsCode (class_code status)
 class_form status = cond_both _ 450 550 IsCode (λ _. (omega arith, omega arith)) (λ _. (omega arith, omega arith))
 
@@ -87,6 +94,7 @@ code_form class tens ones blank code e =
     subst IsCode is (number_form class tens ones (class_is class p.0) (digit_form tens q.0) (digit_form ones r.0)))
     (λ _ none. absurd (cc none)) e
 
+-- a code read at a text's front is from 400 to 599
 pub code_at_form : (text : List ℕ) (code : ℕ) → code_at text ≡ Some code → IsCode code
 code_at_form [] code e = absurd (cc e)
 code_at_form (class ∷ []) code e = absurd (cc e)

@@ -45,6 +45,7 @@ pub through_fails : (site : Site) (macros : Macros) (set : List ℕ) (sets : Lis
 through_fails site macros set sets tokens why (set_fails _ _ _ fault run) = set_fails set sets tokens fault run
 through_fails site macros set sets tokens why (goes_on _ _ _ done _ _ none) = elim none [ ]
 
+-- the rulesets from a place on are the set there and those after it
 pub ahead_at : (sets : List (List ℕ)) (i : ℕ) (set : List ℕ) → i < length sets → set ≡ get_or sets i set → drop i sets ≡ set ∷ drop (i + 1) sets
 ahead_at sets i set below is = drop_more sets i set below ∙ ap (λ x. x ∷ drop (i + 1) sets) (sym is)
 
@@ -66,6 +67,7 @@ module _ (site : Site) (macros : Macros) (sets : List (List ℕ)) (i : ℕ) (tok
 
 -- ---- addresses that are cut
 
+-- an address that is scanned to tokens is cut to them
 pub cut_some : (operators text : List ℕ) (tokens : List Token) → tokens_or_fault (plain operators) true text ≡ Ok tokens → Ok tokens ≡ cut operators text
 unfolding cut
 cut_some operators text tokens e = sym (ap scanned e)
@@ -74,6 +76,7 @@ cut_none : (operators text : List ℕ) (fault : ScanFault) → outcome_of (plain
 unfolding cut
 cut_none operators text fault e = sym (ap (λ a. scanned (tokens_among a)) e)
 
+-- an address that the scanner refuses is cut to that refusal, unless memory was lacking
 pub cut_refused : (operators text : List ℕ) → ((fault : ScanFault) → HasFault (plain operators) true text fault → outcome_of (plain operators) true text ≡ Err fault)
     → (fault : ScanFault) → ExplainsFault (plain operators) true text fault → MeetsFault (of_scan fault) (λ answer. answer ≡ cut operators text)
 cut_refused operators text law (scans.Unbalanced place) h = cut_none operators text _ (law _ h)
@@ -84,11 +87,13 @@ cut_refused operators text law scans.NoMemory h = tt
 
 -- ---- addresses that go through rulesets
 
+-- what an answer meets may be said more weakly
 pub meets_so : (P Q : Result (List Token) Cause → Type 0) → ((answer : Result (List Token) Cause) → P answer → Q answer) → (result : Result (List Token) Refusal) → Meets result P → Meets result Q
 meets_so P Q go (Ok tokens) h = go (Ok tokens) h
 meets_so P Q go (Err (refusals.Because why)) h = go (Err why) h
 meets_so P Q go (Err refusals.NoMemory) h = tt
 
+-- an address that can't be cut passes through no ruleset: its refusal is the answer
 pub cut_stops : (site : Site) (macros : Macros) (sets : List (List ℕ)) (address : List ℕ) (refusal : Refusal) → MeetsFault refusal (λ answer. answer ≡ cut site.operators address) → MeetsFault refusal (Passes site macros sets address)
 cut_stops site macros sets address (refusals.Because why) e = no_tokens why (sym e)
 cut_stops site macros sets address refusals.NoMemory e = tt

@@ -1,4 +1,5 @@
--- What a list that begins with `$#` says: a mailer, a host and a user (Sendmail Installation and Operation Guide, R and S: rewriting rules; M: define mailer, its flags).
+-- What a list that begins with `$#` says: a mailer, a host and a user (Sendmail Installation and
+-- Operation Guide, R and S: rewriting rules; M: define mailer, its flags).
 use Rattle.std.specs.Prelude.{◌≡◌, ℕ, ◌==◌, ◌||◌, ◌&&◌, not, Bool, true, false, List, [], ◌∷◌, Option, None, Some, filter, drop, codes, refl, if◌then◌else◌}
 use Rattle.std.specs.List.{list_any}
 use Rattle.std.specs.Str.{str_to_ascii_lowercase}
@@ -25,21 +26,28 @@ is_end hosts token = false
 -- the tokens before the first of these signs
 abbrev pub before_end : Bool → List Token → List Token
 before_end hosts [] = []
-before_end hosts (token ∷ tokens) = if is_end hosts token then [] else token ∷ before_end hosts tokens
+before_end hosts (token ∷ tokens) =
+    if is_end hosts token then [] else token ∷ before_end hosts tokens
 
 -- those from it on
 abbrev pub from_end : Bool → List Token → List Token
 from_end hosts [] = []
-from_end hosts (token ∷ tokens) = if is_end hosts token then token ∷ tokens else from_end hosts tokens
+from_end hosts (token ∷ tokens) =
+    if is_end hosts token then token ∷ tokens else from_end hosts tokens
 
 -- what a `$@` at the front has up to the `$:`
 abbrev pub host_tokens : List Token → List Token
 host_tokens (Sign mark.Host ∷ tokens) = before_end false tokens
 host_tokens tokens = []
 
--- the mailer stands up to the first `$@` or `$:`, the host from there to the first `$:`, if a `$@` begins it, and the user behind the first `$:`
+-- the mailer stands up to the first `$@` or `$:`, the host from there to the first `$:`, if a `$@`
+-- begins it, and the user behind the first `$:`
 abbrev pub aim_at : List Token → Aim
-aim_at tokens = record { mailer = joined None (before_end true tokens); host = joined None (host_tokens (from_end true tokens)); user = drop 1 (from_end false tokens) }
+aim_at tokens = record {
+  mailer = joined None (before_end true tokens);
+  host = joined None (host_tokens (from_end true tokens));
+  user = drop 1 (from_end false tokens);
+}
 
 abbrev pub aim_of : List Token → Aim
 aim_of tokens = aim_at (drop 1 tokens)
@@ -48,9 +56,22 @@ abbrev word : List ℕ → Token
 word text = Word text
 
 example :
-    (aim_of (Sign mark.Mailer ∷ word (codes "smtp") ∷ Sign mark.Host ∷ word (codes "far") ∷ Op 46 ∷ word (codes "example") ∷ Sign mark.User ∷ word (codes "ann") ∷ []) ≡ record { mailer = codes "smtp"; host = codes "far.example"; user = word (codes "ann") ∷ [] })
-    × (aim_of (Sign mark.Mailer ∷ word (codes "local") ∷ Sign mark.User ∷ word (codes "ann") ∷ Sign mark.Host ∷ []) ≡ record { mailer = codes "local"; host = []; user = word (codes "ann") ∷ Sign mark.Host ∷ [] })
-    × (aim_of (Sign mark.Mailer ∷ word (codes "smtp") ∷ Sign mark.Host ∷ word (codes "far") ∷ []) ≡ record { mailer = codes "smtp"; host = codes "far"; user = [] })
+    (aim_of (Sign mark.Mailer ∷ word (codes "smtp") ∷ Sign mark.Host ∷ word (codes "far") ∷ Op 46
+    ∷ word (codes "example") ∷ Sign mark.User ∷ word (codes "ann") ∷ [])
+    ≡ record {
+      mailer = codes "smtp";
+      host = codes "far.example";
+      user = word (codes "ann") ∷ [];
+    })
+    × (aim_of (Sign mark.Mailer ∷ word (codes "local") ∷ Sign mark.User ∷ word (codes "ann")
+    ∷ Sign mark.Host ∷ [])
+    ≡ record {
+      mailer = codes "local";
+      host = [];
+      user = word (codes "ann") ∷ Sign mark.Host ∷ [];
+    })
+    × (aim_of (Sign mark.Mailer ∷ word (codes "smtp") ∷ Sign mark.Host ∷ word (codes "far") ∷ [])
+    ≡ record { mailer = codes "smtp"; host = codes "far"; user = [] })
 example = (refl, refl, refl)
 
 -- ---- mailers
@@ -100,7 +121,8 @@ is_unquoting byte = not (byte == 34 || byte == 92)
 abbrev pub stripped : Bool → List ℕ → List ℕ
 stripped strips text = if strips then filter is_unquoting text else text
 
--- the mailer's name, the host and the user: the flag h (104) keeps the case of the host and u (117) that of the user, and s (115) takes quotes and backslashes out of the user
+-- the mailer's name, the host and the user: the flag h (104) keeps the case of the host and u (117)
+-- that of the user, and s (115) takes quotes and backslashes out of the user
 abbrev pub triple_of : Mailer → List ℕ → List Token → Triple
 triple_of mailer host user = record {
   mailer = mailer.name;

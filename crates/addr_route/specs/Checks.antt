@@ -1,4 +1,5 @@
--- What a check set says of an address (cf/README, the sets check_mail and check_rcpt; the code of another answer is own).
+-- What a check set says of an address (cf/README, the sets check_mail and check_rcpt; the code of
+-- another answer is own).
 use Rattle.std.specs.Prelude.{◌≡◌, ℕ, List, [], ◌∷◌, Option, None, Some, Result, Ok, Err, codes, if◌then◌else◌}
 use Rattle.std.specs.List.{find}
 use Rattle.mail_base.specs.Refusals.{IsRefusal}
@@ -19,7 +20,9 @@ use Rattle.addr_route.specs.Sets.{Passes}
 
 -- `$#ok` accepts, `$#error` refuses as it says, and another mailer is an error of the configuration
 abbrev pub verdict_of : Aim → Option RouteError
-verdict_of aim = if is_like aim.mailer (codes "ok") then None else if is_error aim.mailer then Some (said_by aim) else Some (error_with (reply_to BadScan) (UnknownMailer aim.mailer))
+verdict_of aim = if is_like aim.mailer (codes "ok") then None
+    else if is_error aim.mailer then Some (said_by aim)
+    else Some (error_with (reply_to BadScan) (UnknownMailer aim.mailer))
 
 -- a list that doesn't begin with `$#` accepts
 abbrev pub verdict : Result (List Token) Cause → Option RouteError
@@ -27,9 +30,12 @@ verdict (Err cause) = Some (error_of cause)
 verdict (Ok list) = if is_resolved list then verdict_of (aim_of list) else None
 
 -- the error with which an address is refused, or none; a set that no S line names accepts
-pub data Checks (config : Config) (maps : Loaded) (macros : Macros) (set address : List ℕ) : Option RouteError → Type 0 where
+pub data Checks (config : Config) (maps : Loaded) (macros : Macros) (set address : List ℕ)
+    : Option RouteError → Type 0 where
   unchecked : find (is_named set) config.book ≡ None → Checks config maps macros set address None
-  checked : (rules : RuleSet) (answer : Result (List Token) Cause) → find (is_named set) config.book ≡ Some rules → Passes (site_of config maps) macros (set ∷ []) address answer
+  checked : (rules : RuleSet) (answer : Result (List Token) Cause)
+      → find (is_named set) config.book ≡ Some rules
+      → Passes (site_of config maps) macros (set ∷ []) address answer
       → Checks config maps macros set address (verdict answer)
 
 -- what a check says can stand in a reply

@@ -1,4 +1,6 @@
--- What is said of a refused address (RFC 5321, section 4.2; RFC 3463; sysexits; Sendmail Installation and Operation Guide, the mailer error; the texts, and the statuses of exits, are own).
+-- What is said of a refused address (RFC 5321, section 4.2; RFC 3463; sysexits; Sendmail
+-- Installation and Operation Guide, the mailer error; the texts, and the statuses of exits, are
+-- own).
 use Rattle.std.specs.Prelude.{◌≡◌, ℕ, ◌+◌, ◌*◌, ◌-◌, ◌==◌, ◌&&◌, ◌||◌, nat_le, Bool, List, [], ◌∷◌, ◌++◌, Option, None, Some, map, take, drop, position, slice_index, codes, refl, if◌then◌else◌}
 use Rattle.std.specs.Str.{str_eq_ignore_ascii_case}
 use Rattle.mail_base.specs.Notes.{blanked, is_digit, is_status}
@@ -30,13 +32,15 @@ abbrev pub reply_to : Cause → Reply
 reply_to BadAddress = reply 553 (codes "5.1.3") (codes "Bad address")
 reply_to LongAddress = reply 553 (codes "5.1.3") (codes "Bad address")
 reply_to NotResolved = reply 554 (codes "5.3.5") (codes "Address does not resolve")
-reply_to (UnknownMailer name) = reply 554 (codes "5.3.5") (codes "Unknown mailer " ++ map blanked name)
+reply_to (UnknownMailer name) =
+    reply 554 (codes "5.3.5") (codes "Unknown mailer " ++ map blanked name)
 reply_to NoUser = reply 553 (codes "5.1.1") (codes "User required")
 reply_to FileMailer = reply 550 (codes "5.2.4") (codes "File delivery not supported")
 reply_to cause = reply 451 (codes "4.3.5") (codes "Configuration error")
 
 abbrev pub error_with : Reply → Cause → RouteError
-error_with reply cause = record { code = reply.code; status = reply.status; text = reply.text; cause = cause }
+error_with reply cause =
+    record { code = reply.code; status = reply.status; text = reply.text; cause = cause }
 
 abbrev pub error_of : Cause → RouteError
 error_of cause = error_with (reply_to cause) cause
@@ -67,7 +71,8 @@ exit_of host =
     else if is_like host (codes "config") then Some 78
     else exit_numbered host
 
--- 64 usage, 65 dataerr, 66 noinput, 67 nouser, 68 nohost, 69 unavailable, 70 software, 71 oserr, 72 osfile, 73 cantcreat, 74 ioerr, 75 tempfail, 76 protocol, 77 noperm, 78 config
+-- 64 usage, 65 dataerr, 66 noinput, 67 nouser, 68 nohost, 69 unavailable, 70 software, 71 oserr, 72
+-- osfile, 73 cantcreat, 74 ioerr, 75 tempfail, 76 protocol, 77 noperm, 78 config
 abbrev pub numbered_status : ℕ → List ℕ
 numbered_status exit =
     if exit == 64 then codes "5.5.4"
@@ -88,7 +93,8 @@ exit_status (Some exit) = numbered_status exit
 abbrev pub host_status : List ℕ → List ℕ
 host_status host = if is_status host then host else exit_status (exit_of host)
 
--- the code where the message has none: one of an error that passes (450) where the status begins with a 4 (52)
+-- the code where the message has none: one of an error that passes (450) where the status begins
+-- with a 4 (52)
 abbrev pub class_code : List ℕ → ℕ
 class_code status = if slice_index status 0 == 52 then 450 else 550
 
@@ -106,7 +112,8 @@ message_of user = joined (Some 32) (map bare user)
 -- a code at the front: three digits, of which the first is 4 or 5, and a blank
 abbrev pub code_of : ℕ → ℕ → ℕ → ℕ → Option ℕ
 code_of class tens ones blank =
-    if (class == 52 || class == 53) && (is_digit tens && (is_digit ones && blank == 32)) then Some ((class - 48) * 100 + ((tens - 48) * 10 + (ones - 48))) else None
+    if (class == 52 || class == 53) && (is_digit tens && (is_digit ones && blank == 32))
+    then Some ((class - 48) * 100 + ((tens - 48) * 10 + (ones - 48))) else None
 
 abbrev pub code_at : List ℕ → Option ℕ
 code_at (class ∷ tens ∷ ones ∷ blank ∷ rest) = code_of class tens ones blank
@@ -126,7 +133,8 @@ said [] = codes "Refused"
 said (byte ∷ bytes) = map blanked (byte ∷ bytes)
 
 abbrev pub refusal : ℕ → List ℕ → List ℕ → RouteError
-refusal code status text = record { code = code; status = status; text = said text; cause = ErrorMailer }
+refusal code status text =
+    record { code = code; status = status; text = said text; cause = ErrorMailer }
 
 -- behind a code a status may stand, which ends in a blank at this place
 abbrev pub with_status : ℕ → List ℕ → Option ℕ → List ℕ → RouteError
@@ -136,7 +144,8 @@ with_status code status (Some place) text = refusal code (take place text) (drop
 -- the code takes four bytes with its blank
 abbrev pub with_code : List ℕ → Option ℕ → List ℕ → RouteError
 with_code status None message = refusal (class_code status) status message
-with_code status (Some code) message = with_status code status (status_end (drop 4 message)) (drop 4 message)
+with_code status (Some code) message =
+    with_status code status (status_end (drop 4 message)) (drop 4 message)
 
 -- what the mailer `error` says by a host and a message
 abbrev pub error_by : List ℕ → List ℕ → RouteError
@@ -146,11 +155,14 @@ abbrev shown : RouteError → ℕ × (List ℕ × List ℕ)
 shown error = (error.code, (error.status, error.text))
 
 example :
-    (shown (error_by (codes "nouser") (codes "551 5.7.9 gone")) ≡ (551, (codes "5.7.9", codes "gone")))
+    (shown (error_by (codes "nouser") (codes "551 5.7.9 gone"))
+    ≡ (551, (codes "5.7.9", codes "gone")))
     × (shown (error_by (codes "TempFail") (codes "later")) ≡ (450, (codes "4.3.0", codes "later")))
-    × (shown (error_by (codes "5.7.1") (codes "550 denied")) ≡ (550, (codes "5.7.1", codes "denied")))
+    × (shown (error_by (codes "5.7.1") (codes "550 denied"))
+    ≡ (550, (codes "5.7.1", codes "denied")))
     × (shown (error_by (codes "77") (codes "421 ")) ≡ (421, (codes "5.7.0", codes "Refused")))
-    × (shown (error_by (codes "79") (codes "250 5.1.1 ok")) ≡ (550, (codes "5.0.0", codes "250 5.1.1 ok")))
+    × (shown (error_by (codes "79") (codes "250 5.1.1 ok"))
+    ≡ (550, (codes "5.0.0", codes "250 5.1.1 ok")))
     × (shown (error_by (codes "4.2.1") []) ≡ (450, (codes "4.2.1", codes "Refused")))
     × (message_of (Word (codes "no") ∷ Quoted (codes "\"mail here\"") ∷ []) ≡ codes "no mail here")
 example = (refl, refl, refl, refl, refl, refl, refl)

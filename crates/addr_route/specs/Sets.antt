@@ -1,4 +1,5 @@
--- An address that goes through rulesets (Sendmail Installation and Operation Guide, R and S: rewriting rules; M: define mailer, its fields S and R).
+-- An address that goes through rulesets (Sendmail Installation and Operation Guide, R and S:
+-- rewriting rules; M: define mailer, its fields S and R).
 use Rattle.std.specs.Prelude.{◌≡◌, ℕ, List, [], ◌∷◌, ◌++◌, true, map, Option, None, Some, Result, Ok, Err, codes, refl}
 use Rattle.mail_base.specs.declared.mailer.Mailer.{Mailer}
 use Rattle.mail_base.specs.declared.route.Cause.{Cause}
@@ -45,17 +46,27 @@ cut operators address = scanned (tokens_or_fault (plain operators) true address)
 
 -- ---- rulesets in order
 
--- tokens go through the rulesets of these names, each on the list that the one before gives; the first error ends that
-pub data Through (site : Site) (macros : Macros) : List (List ℕ) → List Token → Result (List Token) Cause → Type 0 where
+-- tokens go through the rulesets of these names, each on the list that the one before gives; the
+-- first error ends that
+pub data Through (site : Site) (macros : Macros) : List (List ℕ) → List Token
+    → Result (List Token) Cause → Type 0 where
   no_set : (tokens : List Token) → Through site macros [] tokens (Ok tokens)
-  set_fails : (set : List ℕ) (sets : List (List ℕ)) (tokens : List Token) (fault : RunFault) → RunsSet site macros set tokens (Err fault) → Through site macros (set ∷ sets) tokens (Err (run_cause fault))
-  goes_on : (set : List ℕ) (sets : List (List ℕ)) (tokens : List Token) (done : Done) (answer : Result (List Token) Cause) → RunsSet site macros set tokens (Ok done) → Through site macros sets done.tokens answer
+  set_fails : (set : List ℕ) (sets : List (List ℕ)) (tokens : List Token) (fault : RunFault)
+      → RunsSet site macros set tokens (Err fault)
+      → Through site macros (set ∷ sets) tokens (Err (run_cause fault))
+  goes_on : (set : List ℕ) (sets : List (List ℕ)) (tokens : List Token) (done : Done)
+      (answer : Result (List Token) Cause) → RunsSet site macros set tokens (Ok done)
+      → Through site macros sets done.tokens answer
       → Through site macros (set ∷ sets) tokens answer
 
 -- an address is cut, and its tokens go through the rulesets
-pub data Passes (site : Site) (macros : Macros) (sets : List (List ℕ)) (address : List ℕ) : Result (List Token) Cause → Type 0 where
-  no_tokens : (why : Cause) → cut site.operators address ≡ Err why → Passes site macros sets address (Err why)
-  passes : (tokens : List Token) (answer : Result (List Token) Cause) → cut site.operators address ≡ Ok tokens → Through site macros sets tokens answer → Passes site macros sets address answer
+pub data Passes (site : Site) (macros : Macros) (sets : List (List ℕ)) (address : List ℕ)
+    : Result (List Token) Cause → Type 0 where
+  no_tokens : (why : Cause) → cut site.operators address ≡ Err why
+      → Passes site macros sets address (Err why)
+  passes : (tokens : List Token) (answer : Result (List Token) Cause)
+      → cut site.operators address ≡ Ok tokens → Through site macros sets tokens answer
+      → Passes site macros sets address answer
 
 -- ---- an address rewritten
 
@@ -64,8 +75,10 @@ abbrev pub rewritten : Result (List Token) Cause → Rewritten
 rewritten (Ok tokens) = Gives (joined None tokens)
 rewritten (Err why) = Refuses why
 
-pub data Rewrites (site : Site) (macros : Macros) (sets : List (List ℕ)) (address : List ℕ) : Rewritten → Type 0 where
-  rewrites : (answer : Result (List Token) Cause) → Passes site macros sets address answer → Rewrites site macros sets address (rewritten answer)
+pub data Rewrites (site : Site) (macros : Macros) (sets : List (List ℕ))
+    (address : List ℕ) : Rewritten → Type 0 where
+  rewrites : (answer : Result (List Token) Cause) → Passes site macros sets address answer
+      → Rewrites site macros sets address (rewritten answer)
 
 -- ---- the rulesets of a mailer
 
@@ -75,7 +88,8 @@ listed (Some set) = set ∷ []
 
 -- the sets of these digits, one that a mailer may name, and again some of digits
 abbrev pub sets_around : List ℕ → Option (List ℕ) → List ℕ → List (List ℕ)
-sets_around front set back = map (λ digit. digit ∷ []) front ++ (listed set ++ map (λ digit. digit ∷ []) back)
+sets_around front set back =
+    map (λ digit. digit ∷ []) front ++ (listed set ++ map (λ digit. digit ∷ []) back)
 
 -- those of a sender: 3, 1, the one of the field S for the envelope, and 4
 abbrev pub sender_sets : Mailer → List (List ℕ)
@@ -89,5 +103,7 @@ recipient_sets mailer = sets_around (codes "32") mailer.envelope_to (codes "4")
 abbrev pub user_sets : Mailer → List (List ℕ)
 user_sets mailer = sets_around (codes "2") mailer.envelope_to (codes "4")
 
-example : (sets_around (codes "31") (Some (codes "out")) (codes "4") ≡ codes "3" ∷ codes "1" ∷ codes "out" ∷ codes "4" ∷ []) × (sets_around (codes "2") None (codes "4") ≡ codes "2" ∷ codes "4" ∷ [])
+example : (sets_around (codes "31") (Some (codes "out")) (codes "4")
+    ≡ codes "3" ∷ codes "1" ∷ codes "out" ∷ codes "4" ∷ [])
+    × (sets_around (codes "2") None (codes "4") ≡ codes "2" ∷ codes "4" ∷ [])
 example = (refl, refl)

@@ -34,7 +34,9 @@ pub fn check(
     address: &Text,
 ) -> Result<Option<RouteError>, NoMemory>
     ensures check { IfOk result (Checks config.now maps.now macros.now set.now address.now) }
-    ensures only { (error : Option TheError) → Checks config.now maps.now macros.now set.now address.now error → IfOk result (λ given. given ≡ error) }
+    ensures only { (error : Option TheError)
+        → Checks config.now maps.now macros.now set.now address.now error
+        → IfOk result (λ given. given ≡ error) }
     ensures bounded { IfOk result IsBoundedIf }
 {
     // A law: a check has one answer.
@@ -66,7 +68,10 @@ fn judged(
     set: &Text,
     address: &Text,
 ) -> Result<Option<RouteError>, NoMemory>
-    ensures { IfOk result (λ error. (answer : Result (List TheToken) TheCause) × Passes (site_of config.now maps.now) macros.now (set.now ∷ []) address.now answer × (error ≡ verdict answer)) }
+    ensures { IfOk result
+        (λ error. (answer : Result (List TheToken) TheCause)
+        × Passes (site_of config.now maps.now) macros.now (set.now ∷ []) address.now answer
+        × (error ≡ verdict answer)) }
 {
     match passed(alloc, config, maps, macros, slice::from_ref(set), address) {
         Ok(list) => verdict(alloc, list.items()),

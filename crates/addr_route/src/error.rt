@@ -31,7 +31,8 @@ pub fn error_of(alloc: Global, cause: Cause) -> Result<RouteError, NoMemory>
 
 /// The error of a check set that answers with a mailer which says nothing to it.
 pub fn answer_error(alloc: Global, mailer: &Text) -> Result<RouteError, NoMemory>
-    ensures { IfOk result (λ error. error ≡ spec.error_with (spec.reply_to BadScan) (UnknownMailer mailer.now)) }
+    ensures { IfOk result
+        (λ error. error ≡ spec.error_with (spec.reply_to BadScan) (UnknownMailer mailer.now)) }
 {
     let name = mailer.copy()?;
     let text = Text::of(alloc, b"Configuration error")?;
@@ -47,7 +48,8 @@ fn reply_to(cause: &Cause) -> Reply
     ensures code { result.code ≡ (spec.reply_to cause.now).code }
     ensures status { result.status.now ≡ (spec.reply_to cause.now).status }
     ensures form { IsTrue (is_status result.status.now) }
-    ensures text { result.text.now ++ map blanked (name_in cause.now) ≡ (spec.reply_to cause.now).text }
+    ensures text { result.text.now ++ map blanked (name_in cause.now)
+        ≡ (spec.reply_to cause.now).text }
 {
     match cause {
         Cause::Loop => reply_with(451, b"4.3.5", b"Configuration error"),

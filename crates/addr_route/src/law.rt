@@ -15,7 +15,8 @@ use ruleset_run::{each_run_ends, one_outcome};
 
 /// An address has a route, whatever the configuration, the maps and the macros are.
 pub fn some_route()
-    ensures { (config : Config) (maps : Loaded) (macros : Macros) (address : List ℕ) (leaf : Bool) → (resolved : Resolved) × Routes config maps macros address leaf resolved }
+    ensures { (config : Config) (maps : Loaded) (macros : Macros) (address : List ℕ) (leaf : Bool)
+        → (resolved : Resolved) × Routes config maps macros address leaf resolved }
 {
     // A law: a run has an outcome.
     each_run_ends();
@@ -23,8 +24,10 @@ pub fn some_route()
 
 /// It has one alone.
 pub fn one_route()
-    ensures { (config : Config) (maps : Loaded) (macros : Macros) (address : List ℕ) (leaf : Bool) (one another : Resolved)
-        → Routes config maps macros address leaf one → Routes config maps macros address leaf another → one ≡ another }
+    ensures { (config : Config) (maps : Loaded) (macros : Macros) (address : List ℕ) (leaf : Bool)
+        (one another : Resolved)
+        → Routes config maps macros address leaf one
+        → Routes config maps macros address leaf another → one ≡ another }
 {
     // A law: a run has one outcome.
     one_outcome();
@@ -32,7 +35,8 @@ pub fn one_route()
 
 /// Rulesets make a text of an address, or refuse it, whatever their names are.
 pub fn some_rewriting()
-    ensures { (site : Site) (macros : Macros) (sets : List (List ℕ)) (address : List ℕ) → (rewritten : Rewritten) × Rewrites site macros sets address rewritten }
+    ensures { (site : Site) (macros : Macros) (sets : List (List ℕ)) (address : List ℕ)
+        → (rewritten : Rewritten) × Rewrites site macros sets address rewritten }
 {
     // A law: a run has an outcome.
     each_run_ends();
@@ -40,8 +44,10 @@ pub fn some_rewriting()
 
 /// Rulesets make one text of an address, or refuse it for one cause.
 pub fn one_rewriting()
-    ensures { (site : Site) (macros : Macros) (sets : List (List ℕ)) (address : List ℕ) (one another : Rewritten)
-        → Rewrites site macros sets address one → Rewrites site macros sets address another → one ≡ another }
+    ensures { (site : Site) (macros : Macros) (sets : List (List ℕ)) (address : List ℕ)
+        (one another : Rewritten)
+        → Rewrites site macros sets address one
+        → Rewrites site macros sets address another → one ≡ another }
 {
     // A law: a run has one outcome.
     one_outcome();
@@ -49,8 +55,10 @@ pub fn one_rewriting()
 
 /// A mailer is given one sender for the sender of a message.
 pub fn one_sender()
-    ensures { (config : Config) (maps : Loaded) (macros : Macros) (mailer : Mailer) (sender : List ℕ) (one another : List ℕ)
-        → Sends config maps macros mailer sender one → Sends config maps macros mailer sender another → one ≡ another }
+    ensures { (config : Config) (maps : Loaded) (macros : Macros) (mailer : Mailer)
+        (sender : List ℕ) (one another : List ℕ)
+        → Sends config maps macros mailer sender one
+        → Sends config maps macros mailer sender another → one ≡ another }
 {
     // A law: a run has one outcome.
     one_outcome();
@@ -58,8 +66,10 @@ pub fn one_sender()
 
 /// A check set says one thing of an address.
 pub fn one_check()
-    ensures { (config : Config) (maps : Loaded) (macros : Macros) (set address : List ℕ) (one another : Option RouteError)
-        → Checks config maps macros set address one → Checks config maps macros set address another → one ≡ another }
+    ensures { (config : Config) (maps : Loaded) (macros : Macros) (set address : List ℕ)
+        (one another : Option RouteError)
+        → Checks config maps macros set address one
+        → Checks config maps macros set address another → one ≡ another }
 {
     // A law: a run has one outcome.
     one_outcome();

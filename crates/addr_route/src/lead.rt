@@ -72,7 +72,9 @@ fn written(
     mailer: &Mailer,
     aim: &Aim,
 ) -> Result<Seq<Token>, Refusal>
-    ensures { Meets result (Through (site_of config.now maps.now) (with_host aim.now.host macros.now) (user_sets mailer.now) aim.now.user) }
+    ensures { Meets result
+        (Through (site_of config.now maps.now) (with_host aim.now.host macros.now)
+        (user_sets mailer.now) aim.now.user) }
 {
     let sets = user_sets(alloc, mailer)?;
     let macros = with_host(alloc, &aim.host, macros)?;
@@ -88,7 +90,9 @@ pub fn five(
     macros: &Macros,
     aim: &Aim,
 ) -> Result<Seq<Token>, Refusal>
-    ensures { Meets result (Through (site_of config.now maps.now) (with_host aim.now.host macros.now) (codes "5" ∷ []) aim.now.user) }
+    ensures { Meets result
+        (Through (site_of config.now maps.now) (with_host aim.now.host macros.now)
+        (codes "5" ∷ []) aim.now.user) }
 {
     let sets = sets_of(alloc, b"5")?;
     let macros = with_host(alloc, &aim.host, macros)?;

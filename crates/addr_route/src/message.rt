@@ -99,7 +99,8 @@ fn is_digit(byte: u8) -> bool
 // A refusal behind its code, whose status may stand at the front of the text.
 fn with_status(alloc: Global, code: u16, status: &[u8], text: &[u8]) -> Result<RouteError, NoMemory>
     requires { IsTrue (is_status status.now) }
-    ensures { IfOk result (λ error. error ≡ spec.with_status code status.now (spec.status_end text.now) text.now) }
+    ensures { IfOk result
+        (λ error. error ≡ spec.with_status code status.now (spec.status_end text.now) text.now) }
 {
     match status_end(text) {
         Some(place) => refusal(alloc, code, &text[..place], &text[place + 1..]),
@@ -110,7 +111,8 @@ fn with_status(alloc: Global, code: u16, status: &[u8], text: &[u8]) -> Result<R
 // The place of the first blank, where a status stands before it.
 fn status_end(text: &[u8]) -> Option<usize>
     ensures place { result ≡ spec.status_end text.now }
-    ensures form { IfSome result (λ place. IsTrue (is_status (take place text.now)) × (place < length text.now)) }
+    ensures form { IfSome result
+        (λ place. IsTrue (is_status (take place text.now)) × (place < length text.now)) }
 {
     match first_blank(text) {
         Some(place) => {

@@ -32,8 +32,11 @@ pub fn rewrite(
     sets: &Seq<Text>,
     address: &Text,
 ) -> Result<Rewritten, NoMemory>
-    ensures rewrite { IfOk result (Rewrites (site_of config.now maps.now) macros.now sets.now address.now) }
-    ensures only { (rewritten : TheRewritten) → Rewrites (site_of config.now maps.now) macros.now sets.now address.now rewritten → IfOk result (λ given. given ≡ rewritten) }
+    ensures rewrite { IfOk result
+        (Rewrites (site_of config.now maps.now) macros.now sets.now address.now) }
+    ensures only { (rewritten : TheRewritten)
+        → Rewrites (site_of config.now maps.now) macros.now sets.now address.now rewritten
+        → IfOk result (λ given. given ≡ rewritten) }
 {
     // A law: an address is rewritten in one way.
     one_rewriting();

@@ -42,7 +42,9 @@ pub fn route(
     leaf: bool,
 ) -> Result<Resolved, NoMemory>
     ensures route { IfOk result (Routes config.now maps.now macros.now address.now leaf) }
-    ensures only { (resolved : TheResolved) → Routes config.now maps.now macros.now address.now leaf resolved → IfOk result (λ given. given ≡ resolved) }
+    ensures only { (resolved : TheResolved)
+        → Routes config.now maps.now macros.now address.now leaf resolved
+        → IfOk result (λ given. given ≡ resolved) }
     ensures bounded { IfOk result IsBounded }
 {
     // A law: an address has one route.
@@ -89,7 +91,8 @@ fn went(
 
 // A program goes to the mailer `prog`.
 fn program(alloc: Global, config: &Config, command: Text) -> Result<Triple, Stop>
-    ensures { Tells result (λ resolved. resolved ≡ program_by command (value_like (codes "prog") config.now.mailers)) }
+    ensures { Tells result
+        (λ resolved. resolved ≡ program_by command (value_like (codes "prog") config.now.mailers)) }
 {
     let name = Text::of(alloc, b"prog")?;
     match config.mailer(&name) {
@@ -121,7 +124,10 @@ fn by_rules(
     text: &Text,
     leaf: bool,
 ) -> Result<Triple, Stop>
-    ensures { Tells result (λ resolved. (answer : Result (List TheToken) TheCause) × Passes (site_of config.now maps.now) macros.now (codes "3" ∷ codes "0" ∷ []) text.now answer × Lands config.now maps.now macros.now leaf answer resolved) }
+    ensures { Tells result
+        (λ resolved. (answer : Result (List TheToken) TheCause)
+        × Passes (site_of config.now maps.now) macros.now (codes "3" ∷ codes "0" ∷ []) text.now
+        answer × Lands config.now maps.now macros.now leaf answer resolved) }
 {
     let list = resolved(alloc, config, maps, macros, text)?;
     land(alloc, config, maps, macros, list.items(), leaf)
@@ -134,7 +140,8 @@ fn resolved(
     macros: &Macros,
     text: &Text,
 ) -> Result<Seq<Token>, Refusal>
-    ensures { Meets result (Passes (site_of config.now maps.now) macros.now (codes "3" ∷ codes "0" ∷ []) text.now) }
+    ensures { Meets result
+        (Passes (site_of config.now maps.now) macros.now (codes "3" ∷ codes "0" ∷ []) text.now) }
 {
     let sets = sets_of(alloc, b"30")?;
     passed(alloc, config, maps, macros, sets.items(), text)
@@ -171,7 +178,11 @@ fn turned(
     aim: &Aim,
     triple: Triple,
 ) -> Result<Triple, Stop>
-    ensures { Tells result (λ resolved. (answer : Result (List TheToken) TheCause) × Through (site_of config.now maps.now) (with_host aim.now.host macros.now) (codes "5" ∷ []) aim.now.user answer × Turns config.now maps.now macros.now triple answer resolved) }
+    ensures { Tells result
+        (λ resolved. (answer : Result (List TheToken) TheCause)
+        × Through (site_of config.now maps.now) (with_host aim.now.host macros.now)
+        (codes "5" ∷ []) aim.now.user answer
+        × Turns config.now maps.now macros.now triple answer resolved) }
 {
     let list = five(alloc, config, maps, macros, aim)?;
     if !is_resolved(list.items()) {

@@ -24,7 +24,8 @@ pub fn sender_for(
     sender: &Text,
 ) -> Result<Text, NoMemory>
     ensures sender { IfOk result (Sends config.now maps.now macros.now mailer.now sender.now) }
-    ensures only { (text : List ℕ) → Sends config.now maps.now macros.now mailer.now sender.now text → IfOk result (λ given. given ≡ text) }
+    ensures only { (text : List ℕ) → Sends config.now maps.now macros.now mailer.now sender.now text
+        → IfOk result (λ given. given ≡ text) }
 {
     // A law: a mailer has one sender.
     one_sender();

@@ -52,7 +52,8 @@ fn ran(
     set: &Text,
     tokens: &Seq<Token>,
 ) -> Result<Seq<Token>, Refusal>
-    ensures { Meets result (Through (site_of config.now maps.now) macros.now (set.now ∷ []) tokens.now) }
+    ensures { Meets result
+        (Through (site_of config.now maps.now) macros.now (set.now ∷ []) tokens.now) }
 {
     match run(alloc, config, maps, macros, set, tokens) {
         Ok(ran) => Ok(ran.tokens),
@@ -62,7 +63,8 @@ fn ran(
 
 // The tokens of an address, whose angles are checked.
 fn cut(alloc: Global, config: &Config, address: &Text) -> Result<Seq<Token>, Refusal>
-    ensures { Meets result (λ answer. answer ≡ spec.cut config.now.options.operator_chars address.now) }
+    ensures { Meets result
+        (λ answer. answer ≡ spec.cut config.now.options.operator_chars address.now) }
 {
     // A law: the tokens that are cut are those that the definition computes.
     computed();
