@@ -84,6 +84,7 @@ two_lists (x ∷ xs) (y ∷ ys) a b f g =
     let rest : xs ≡ ys = two_lists xs ys a.1 b.1 (tails x y xs ys same a.0 f) (tails y x ys xs (sym same) b.0 g) in
     λ i. same i ∷ rest i
 
+-- texts have one listing
 pub one_listing : (texts one another : Texts) → IsListing texts one → IsListing texts another → one ≡ another
 one_listing texts one another a b =
     two_lists one another a.ascending b.ascending (λ text h. (b.same text).0 ((a.same text).1 h)) (λ text h. (a.same text).0 ((b.same text).1 h))
@@ -153,6 +154,7 @@ out_of_put text (x ∷ xs) = by (by_bytes text x) (out_of_put text xs) where
 behind_first : (text : List ℕ) (xs ys : Texts) → Within xs ys → Within (text ∷ xs) (text ∷ ys)
 behind_first text xs ys f = λ t h. ⊎_elim (λ e. subst (Contains (text ∷ ys)) e (first_in text ys)) (λ k. later_in text t ys (f t k)) (which text t xs h)
 
+-- any texts have a listing
 pub some_listing : (texts : Texts) → (listed : Texts) × IsListing texts listed
 unfolding IsStrictlySortedBy
 some_listing [] = ([], record { ascending = tt; same = λ text. (λ h. h, λ h. h) })

@@ -26,6 +26,7 @@ mailers_from [] (suc k) = refl
 mailers_from (mailer ∷ mailers) zero = refl
 mailers_from (mailer ∷ mailers) (suc k) = mailers_from mailers k
 
+-- a mailer's text printed more, the rest of the mailers' text completes the whole
 pub mailer_more : (mailers : List (List ℕ × Mailer)) (k : ℕ) (text new whole : List ℕ) → new ≡ text ++ mailer_text_at (slice_get mailers k) → text ++ mailers_text (drop k mailers) ≡ whole → new ++ mailers_text (drop (k + 1) mailers) ≡ whole
 mailer_more mailers k text new whole is so =
     let next : k + 1 ≡ suc k = omega arith in

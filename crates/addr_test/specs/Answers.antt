@@ -1,4 +1,5 @@
--- What address test mode answers a line with, and what the line changes (Sendmail Installation and Operation Guide, "Address Testing Mode").
+-- What address test mode answers a line with, and what the line changes (Sendmail Installation and
+-- Operation Guide, "Address Testing Mode").
 use Rattle.std.specs.Prelude.{◌≡◌, ℕ, true, false, List, [], ◌∷◌, ◌++◌, Option, None, Some, Result, Ok, Err, MatchBool, codes}
 use Rattle.std.specs.List.{find}
 use Rattle.mail_base.specs.Catalogs.{value_at, value_like, with_value, members_of}
@@ -31,21 +32,29 @@ use Rattle.addr_test.specs.Words.{IsListing, class_words, texts_of, with_words}
 
 -- a run of the set of a name, with the macros of the configuration
 abbrev pub RunsUnder : Loaded → Config → List ℕ → List Token → Outcome → Type 0
-RunsUnder maps config name tokens outcome = RunsSet (site_of config maps) config.macros name tokens outcome
+RunsUnder maps config name tokens outcome =
+    RunsSet (site_of config maps) config.macros name tokens outcome
 
--- what the runs of these sets print, in turn, each on the tokens that the one before it returned; the first that is refused is the last
-pub data RunsSets (maps : Loaded) (config : Config) : List (List ℕ) → List Token → List ℕ → Type 0 where
+-- what the runs of these sets print, in turn, each on the tokens that the one before it returned;
+-- the first that is refused is the last
+pub data RunsSets (maps : Loaded) (config : Config) : List (List ℕ) → List Token
+    → List ℕ → Type 0 where
   no_set : (tokens : List Token) → RunsSets maps config [] tokens []
-  returned : (name : List ℕ) (names : List (List ℕ)) (tokens : List Token) (done : Done) (rest : List ℕ) → RunsUnder maps config name tokens (Ok done)
-      → RunsSets maps config names done.tokens rest → RunsSets maps config (name ∷ names) tokens (returned_text name done.tokens ++ rest)
-  refused : (name : List ℕ) (names : List (List ℕ)) (tokens : List Token) (fault : RunFault) → RunsUnder maps config name tokens (Err fault)
+  returned : (name : List ℕ) (names : List (List ℕ)) (tokens : List Token) (done : Done)
+      (rest : List ℕ) → RunsUnder maps config name tokens (Ok done)
+      → RunsSets maps config names done.tokens rest
+      → RunsSets maps config (name ∷ names) tokens (returned_text name done.tokens ++ rest)
+  refused : (name : List ℕ) (names : List (List ℕ)) (tokens : List Token) (fault : RunFault)
+      → RunsUnder maps config name tokens (Err fault)
       → RunsSets maps config (name ∷ names) tokens (refused_text name fault)
 
 -- the tokens of an address that is typed, or its first fault; angles are checked
 abbrev pub typed : Config → List ℕ → Result (List Token) ScanFault
-typed config address = tokens_or_fault (alphabet_of config.options.operator_chars Typed) true address
+typed config address =
+    tokens_or_fault (alphabet_of config.options.operator_chars Typed) true address
 
-abbrev pub RunsTyped : Loaded → Config → List (List ℕ) → Result (List Token) ScanFault → List ℕ → Type 0
+abbrev pub RunsTyped : Loaded → Config → List (List ℕ)
+    → Result (List Token) ScanFault → List ℕ → Type 0
 RunsTyped maps config names (Ok tokens) text = RunsSets maps config names tokens text
 RunsTyped maps config names (Err fault) text = text ≡ bad_address_text fault
 
@@ -53,11 +62,13 @@ RunsTyped maps config names (Err fault) text = text ≡ bad_address_text fault
 
 -- what is printed for the route of an address, as of one for which an alias may stand
 abbrev pub TellsRoute : Loaded → Config → List ℕ → List ℕ → Type 0
-TellsRoute maps config address text = (resolved : Resolved) × Routes config maps config.macros address false resolved × (text ≡ route_text resolved)
+TellsRoute maps config address text = (resolved : Resolved)
+    × Routes config maps config.macros address false resolved × (text ≡ route_text resolved)
 
 -- an address through these sets, with the macros of the configuration
 abbrev pub RewritesUnder : Loaded → Config → List (List ℕ) → List ℕ → Rewritten → Type 0
-RewritesUnder maps config sets address rewritten = Rewrites (site_of config maps) config.macros sets address rewritten
+RewritesUnder maps config sets address rewritten =
+    Rewrites (site_of config maps) config.macros sets address rewritten
 
 -- what is printed for an address as the sender and as the recipient of a mailer
 abbrev pub TellsBoth : Loaded → Config → List ℕ → Mailer → List ℕ → Type 0
@@ -86,7 +97,9 @@ value_text macros (Some written) = line_of (text_or_nothing (value written macro
 
 -- members in order; a class that isn't there has none
 abbrev pub ListsMembers : Config → List ℕ → List ℕ → Type 0
-ListsMembers config class text = (listed : List (List ℕ)) × IsListing (texts_of (members_of (value_at class config.classes))) listed × (text ≡ lines_text listed)
+ListsMembers config class text = (listed : List (List ℕ))
+    × IsListing (texts_of (members_of (value_at class config.classes))) listed
+    × (text ≡ lines_text listed)
 
 abbrev pub added_text : Option (List (List ℕ)) → List ℕ
 added_text None = line_of (codes "unknown line")
@@ -94,7 +107,8 @@ added_text (Some all) = []
 
 abbrev pub added : List ℕ → Config → Option (List (List ℕ)) → Config
 added class config None = config
-added class config (Some all) = record config { classes = with_words config.options.operator_chars class all config.classes }
+added class config (Some all) =
+    record config { classes = with_words config.options.operator_chars class all config.classes }
 
 -- ---- any form
 
@@ -102,9 +116,11 @@ added class config (Some all) = record config { classes = with_words config.opti
 abbrev pub Says : Loaded → Config → Form → List ℕ → Type 0
 Says maps config Quiet text = text ≡ []
 Says maps config TooLong text = text ≡ line_of (codes "line too long")
-Says maps config (Runs sets address) text = RunsTyped maps config (names_in sets) (typed config address) text
+Says maps config (Runs sets address) text =
+    RunsTyped maps config (names_in sets) (typed config address) text
 Says maps config (Parse address) text = TellsRoute maps config address text
-Says maps config (Try name address) text = TellsTry maps config name address (value_like name config.mailers) text
+Says maps config (Try name address) text =
+    TellsTry maps config name address (value_like name config.mailers) text
 Says maps config (Lookup name key) text = text ≡ lookup_text (told (map_answer maps name key []))
 Says maps config (Rules name) text = text ≡ rules_text name (find (is_named name) config.book)
 Says maps config Mailers text = text ≡ mailers_text config.mailers
@@ -116,7 +132,8 @@ Says maps config Unknown text = text ≡ line_of (codes "unknown line")
 
 -- the configuration behind the line; only `.D` and `.C` change it
 abbrev pub config_after : Config → Form → Config
-config_after config (Defines name written) = record config { macros = with_value name written config.macros }
+config_after config (Defines name written) =
+    record config { macros = with_value name written config.macros }
 config_after config (Adds class text) = added class config (class_words text config.macros)
 config_after config form = config
 
@@ -126,4 +143,5 @@ config_after config form = config
 abbrev pub Answers : Loaded → Config → List ℕ → Reply → Config → Type 0
 Answers maps config line reply after =
     MatchBool (is_quit line) ((reply ≡ replies.Quit) × (after ≡ config))
-    ((text : List ℕ) × Says maps config (form_of line) text × (reply ≡ replies.Lines text) × (after ≡ config_after config (form_of line)))
+    ((text : List ℕ) × Says maps config (form_of line) text × (reply ≡ replies.Lines text)
+    × (after ≡ config_after config (form_of line)))

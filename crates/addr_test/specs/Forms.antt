@@ -1,4 +1,5 @@
--- The forms of a line of address test mode (Sendmail Installation and Operation Guide, "Address Testing Mode"; where words and names end, and what isn't a form, is our own).
+-- The forms of a line of address test mode (Sendmail Installation and Operation Guide, "Address
+-- Testing Mode"; where words and names end, and what isn't a form, is our own).
 use Rattle.std.specs.Prelude.{◌≡◌, ℕ, List, [], ◌∷◌, length, take, drop, bytes_eq, Bool, ◌==◌, ◌&&◌, not, nat_lt, if◌then◌else◌, codes, refl}
 use Rattle.std.specs.List.{list_any, position_or_len, prefix_len, slice_split}
 use Rattle.mail_base.specs.Limits.{most_line}
@@ -39,7 +40,10 @@ without_whites text = drop (prefix_len is_white text) text
 
 -- what stands before the first white space, and what stands behind that white space
 abbrev pub split_word : List ℕ → List ℕ × List ℕ
-split_word text = (take (position_or_len is_white text) text, without_whites (drop (position_or_len is_white text) text))
+split_word text = (
+  take (position_or_len is_white text) text,
+  without_whites (drop (position_or_len is_white text) text),
+)
 
 abbrev pub is_nothing : List ℕ → Bool
 is_nothing text = length text == 0
@@ -89,7 +93,8 @@ command_form words =
 -- behind a `=`: `S` (83) with a name, or `M` (77)
 abbrev pub shown_form : List ℕ → Form
 shown_form [] = Unknown
-shown_form (b ∷ name) = if b == 83 then Rules name else if b == 77 && is_nothing name then Mailers else Unknown
+shown_form (b ∷ name) =
+    if b == 83 then Rules name else if b == 77 && is_nothing name then Mailers else Unknown
 
 abbrev pub members_form : List ℕ × List ℕ → Form
 members_form parts = if is_name parts then Members parts.0 else Unknown
@@ -100,7 +105,8 @@ value_form parts = if is_name parts then Value parts.0 else Unknown
 -- behind a `$`: `=` (61) with a class, or a macro
 abbrev pub asked_form : List ℕ → Form
 asked_form [] = Unknown
-asked_form (b ∷ text) = if b == 61 then members_form (split_name text) else value_form (split_name (b ∷ text))
+asked_form (b ∷ text) =
+    if b == 61 then members_form (split_name text) else value_form (split_name (b ∷ text))
 
 abbrev pub defines_form : List ℕ × List ℕ → Form
 defines_form parts = if is_nothing parts.0 then Unknown else Defines parts.0 parts.1
@@ -111,7 +117,8 @@ adds_form parts = if is_nothing parts.0 then Unknown else Adds parts.0 parts.1
 -- behind a `.`: `D` (68) with a macro and its value, or `C` (67) with a class and words
 abbrev pub change_form : List ℕ → Form
 change_form [] = Unknown
-change_form (b ∷ text) = if b == 68 then defines_form (split_name text) else if b == 67 then adds_form (split_name text) else Unknown
+change_form (b ∷ text) = if b == 68 then defines_form (split_name text)
+    else if b == 67 then adds_form (split_name text) else Unknown
 
 -- by the first byte: `/` (47), `=` (61), `$` (36), `.` (46) or another
 abbrev pub form_by : ℕ → List ℕ → Form
@@ -125,7 +132,8 @@ form_by b rest =
 -- what a line asks for; one that begins with `#` (35) is a comment, however long it is
 abbrev pub form_of : List ℕ → Form
 form_of [] = Quiet
-form_of (b ∷ rest) = if b == 35 then Quiet else if nat_lt most_line (length (b ∷ rest)) then TooLong else form_by b rest
+form_of (b ∷ rest) = if b == 35 then Quiet else if nat_lt most_line (length (b ∷ rest)) then TooLong
+    else form_by b rest
 
 -- the line that ends the input
 abbrev pub is_quit : List ℕ → Bool

@@ -1,4 +1,5 @@
--- The texts of answers (Sendmail Installation and Operation Guide, "Address Testing Mode"; the printed forms are our own).
+-- The texts of answers (Sendmail Installation and Operation Guide, "Address Testing Mode"; the
+-- printed forms are our own).
 use Rattle.std.specs.Prelude.{◌≡◌, ℕ, List, [], ◌∷◌, ◌++◌, length, Option, None, Some, Result, Ok, Err, codes, refl}
 use Rattle.std.specs.Fmt.{decimal}
 use Rattle.std.specs.List.{flat_map}
@@ -67,8 +68,11 @@ bad_address_text fault = line_of (codes "bad address: " ++ scan_text fault)
 
 -- where an address goes, or the error that refuses it
 abbrev pub route_text : Resolved → List ℕ
-route_text (Goes triple) = line_of (codes "mailer " ++ (triple.mailer ++ (codes ", host " ++ (triple.host ++ (codes ", user " ++ triple.user)))))
-route_text (Refuses error) = line_of (codes "error " ++ (decimal error.code ++ 32 ∷ (error.status ++ 32 ∷ error.text)))
+route_text (Goes triple) = line_of
+    (codes "mailer " ++ (triple.mailer
+    ++ (codes ", host " ++ (triple.host ++ (codes ", user " ++ triple.user)))))
+route_text (Refuses error) =
+    line_of (codes "error " ++ (decimal error.code ++ 32 ∷ (error.status ++ 32 ∷ error.text)))
 
 -- why an address can't be rewritten
 abbrev pub error_text : Cause → List ℕ
@@ -76,7 +80,8 @@ error_text cause = line_of (codes "error: " ++ cause_name cause)
 
 -- an address as the sender and as the recipient of a mailer; the first cause stands for both
 abbrev pub try_text : Rewritten → Rewritten → List ℕ
-try_text (addresses.Gives sender) (addresses.Gives recipient) = line_of (codes "sender: " ++ sender) ++ line_of (codes "recipient: " ++ recipient)
+try_text (addresses.Gives sender) (addresses.Gives recipient) =
+    line_of (codes "sender: " ++ sender) ++ line_of (codes "recipient: " ++ recipient)
 try_text (addresses.Gives sender) (addresses.Refuses cause) = error_text cause
 try_text (addresses.Refuses cause) recipient = error_text cause
 
@@ -92,7 +97,8 @@ lookup_text (Err maps.NoMemory) = line_of (codes "error: NoMemory")
 
 -- how many rules a set has, by the name under which it was asked for
 abbrev pub rules_text : List ℕ → Option RuleSet → List ℕ
-rules_text name (Some set) = line_of (name ++ (codes ": " ++ (decimal (length set.rules) ++ codes " rules")))
+rules_text name (Some set) =
+    line_of (name ++ (codes ": " ++ (decimal (length set.rules) ++ codes " rules")))
 rules_text name None = line_of (name ++ codes ": none")
 
 abbrev pub mailer_text : List ℕ × Mailer → List ℕ
@@ -107,11 +113,17 @@ abbrev pub lines_text : List (List ℕ) → List ℕ
 lines_text texts = flat_map line_of texts
 
 example :
-    (returned_text (codes "3") (Word (codes "ann") ∷ Op 64 ∷ Word (codes "b") ∷ []) ≡ line_of (codes "3 returns: ann @ b"))
+    (returned_text (codes "3") (Word (codes "ann") ∷ Op 64 ∷ Word (codes "b") ∷ [])
+    ≡ line_of (codes "3 returns: ann @ b"))
     × (returned_text (codes "3") [] ≡ line_of (codes "3 returns:"))
     × (refused_text (codes "9") (runs.NoRuleset (codes "9")) ≡ line_of (codes "9 error: NoRuleset"))
     × (bad_address_text scans.Long ≡ line_of (codes "bad address: Long"))
-    × (route_text (Goes (record { mailer = codes "smtp"; host = codes "far"; user = codes "a@far" })) ≡ line_of (codes "mailer smtp, host far, user a@far"))
-    × (try_text (addresses.Gives (codes "a")) (addresses.Refuses NoUser) ≡ line_of (codes "error: NoUser"))
+    × (route_text (Goes (record {
+      mailer = codes "smtp";
+      host = codes "far";
+      user = codes "a@far";
+    })) ≡ line_of (codes "mailer smtp, host far, user a@far"))
+    × (try_text (addresses.Gives (codes "a")) (addresses.Refuses NoUser)
+    ≡ line_of (codes "error: NoUser"))
     × (lookup_text (Ok (finds.Value (codes "v"))) ≡ line_of (codes "found: v"))
 example = (refl, refl, refl, refl, refl, refl, refl)

@@ -1,4 +1,5 @@
--- The members that `.C` adds to a class, and how members are listed (Sendmail Installation and Operation Guide, "C and F: Define Classes"; which words are refused is our own).
+-- The members that `.C` adds to a class, and how members are listed (Sendmail Installation and
+-- Operation Guide, "C and F: Define Classes"; which words are refused is our own).
 use Rattle.std.specs.Prelude.{◌↔◌, ℕ, List, map, Contains, Option, None, Result, Ok, Err}
 use Rattle.std.specs.List.Sorted.{IsStrictlySortedBy}
 use Rattle.std.specs.Cmp.Lexicographic.{slice_cmp}
@@ -17,15 +18,18 @@ abbrev pub words_in : Result (List ℕ) ExpandFault → Option (List (List ℕ))
 words_in (Ok text) = words_or_none (words_of text)
 words_in (Err fault) = None
 
--- the words of a text once it is expanded, or nothing where it can't be expanded, or one of them can't be cut
+-- the words of a text once it is expanded, or nothing where it can't be expanded, or one of them
+-- can't be cut
 abbrev pub class_words : List ℕ → List (List ℕ × List ℕ) → Option (List (List ℕ))
 class_words text macros = words_in (value text macros)
 
 -- ---- members
 
 -- the classes with these words in one of them
-abbrev pub with_words : List ℕ → List ℕ → List (List ℕ) → List (List ℕ × List Member) → List (List ℕ × List Member)
-with_words operators class all classes = with_value class (with_members (members_of (value_at class classes)) (map (member_of operators) all)) classes
+abbrev pub with_words : List ℕ → List ℕ → List (List ℕ) → List (List ℕ × List Member)
+    → List (List ℕ × List Member)
+with_words operators class all classes = with_value class
+    (with_members (members_of (value_at class classes)) (map (member_of operators) all)) classes
 
 -- ---- members in order
 

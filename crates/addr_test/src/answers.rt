@@ -24,8 +24,9 @@ pub enum Reply {
 
 /// Answers a line of address test mode, without its end (Sendmail Installation and Operation Guide,
 /// "Address Testing Mode"). `.D` and `.C` change the configuration, and what they change is seen by
-/// later lines; a macro that a look-up sets lives as long as its run. A line above 65,536 bytes is too
-/// long, whatever it holds, unless it is a comment. After `NoMemory` the configuration is as before.
+/// later lines; a macro that a look-up sets lives as long as its run. A line above 65,536 bytes is
+/// too long, whatever it holds, unless it is a comment. After `NoMemory` the configuration is as
+/// before.
 pub fn answer(
     alloc: Global,
     line: &[u8],
@@ -44,7 +45,9 @@ pub fn answer(
 }
 
 fn said(alloc: Global, form: &Form<'_>, config: &mut Config, maps: &Maps) -> Result<Text, NoMemory>
-    ensures ok { IfOk result (λ text. Says maps.now config.old (seen form.now) text × (config.new ≡ config_after config.old (seen form.now))) }
+    ensures ok { IfOk result
+        (λ text. Says maps.now config.old (seen form.now) text
+        × (config.new ≡ config_after config.old (seen form.now))) }
     ensures err { OnErr result (config.new ≡ config.old) }
 {
     match form {

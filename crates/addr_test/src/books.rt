@@ -15,7 +15,8 @@ use std::alloc::Global;
 
 /// What the map of a name tells of a key.
 pub(crate) fn lookup(alloc: Global, name: &[u8], key: &[u8], maps: &Maps) -> Result<Text, NoMemory>
-    ensures { IfOk result (λ text. text ≡ spec.lookup_text (told (map_answer maps.now name.now key.now []))) }
+    ensures { IfOk result
+        (λ text. text ≡ spec.lookup_text (told (map_answer maps.now name.now key.now []))) }
 {
     let name = Text::of(alloc, name)?;
     let key = Text::of(alloc, key)?;
@@ -40,7 +41,8 @@ fn found(alloc: Global, value: &[u8]) -> Result<Text, NoMemory>
 
 /// How many rules the set of a name has.
 pub(crate) fn rules(alloc: Global, name: &[u8], book: &Book) -> Result<Text, NoMemory>
-    ensures { IfOk result (λ text. text ≡ spec.rules_text name.now (find (is_named name.now) book.now)) }
+    ensures { IfOk result
+        (λ text. text ≡ spec.rules_text name.now (find (is_named name.now) book.now)) }
 {
     let name = Text::of(alloc, name)?;
     match book.get(&name) {
@@ -88,7 +90,8 @@ fn push_mailer_at(mailers: &Catalog<Mailer>, index: usize, text: &mut Text) -> R
 }
 
 fn push_mailer(mailer: &Mailer, text: &mut Text) -> Result<(), NoMemory>
-    ensures { OnOk result (text.new ≡ text.old ++ spec.line_of (mailer.now.name ++ 32 ∷ mailer.now.path)) }
+    ensures { OnOk result
+        (text.new ≡ text.old ++ spec.line_of (mailer.now.name ++ 32 ∷ mailer.now.path)) }
 {
     text.extend(mailer.name.bytes())?;
     text.push(b' ')?;
@@ -98,7 +101,8 @@ fn push_mailer(mailer: &Mailer, text: &mut Text) -> Result<(), NoMemory>
 
 /// The value of a macro, expanded.
 pub(crate) fn value(alloc: Global, name: &[u8], macros: &Macros) -> Result<Text, NoMemory>
-    ensures { IfOk result (λ text. text ≡ answers.value_text macros.now (value_at name.now macros.now)) }
+    ensures { IfOk result
+        (λ text. text ≡ answers.value_text macros.now (value_at name.now macros.now)) }
 {
     let name = Text::of(alloc, name)?;
     match macros.get(&name) {

@@ -12,7 +12,8 @@ use cf_macros::{ExpandFault, expand};
 use mail_base::{Config, Macros, NoMemory, Seq, Text};
 use std::alloc::Global;
 
-/// Sets a macro. Its value isn't expanded until it is used. After `NoMemory` the macros are as before.
+/// Sets a macro. Its value isn't expanded until it is used. After `NoMemory` the macros are as
+/// before.
 pub(crate) fn define(
     alloc: Global,
     name: &[u8],
@@ -27,17 +28,19 @@ pub(crate) fn define(
     macros.set(&name, &value)
 }
 
-/// Adds the words of a text, once it is expanded, to a class, all of them or none. Where it can't be
-/// expanded, or one of the words can't be cut, the line is unknown. After `NoMemory` the configuration
-/// is as before.
+/// Adds the words of a text, once it is expanded, to a class, all of them or none. Where it can't
+/// be expanded, or one of the words can't be cut, the line is unknown. After `NoMemory` the
+/// configuration is as before.
 pub(crate) fn add(
     alloc: Global,
     class: &[u8],
     text: &[u8],
     config: &mut Config,
 ) -> Result<Text, NoMemory>
-    ensures said { IfOk result (λ said. said ≡ added_text (class_words text.now config.old.macros)) }
-    ensures ok { OnOk result (config.new ≡ added class.now config.old (class_words text.now config.old.macros)) }
+    ensures said { IfOk result
+        (λ said. said ≡ added_text (class_words text.now config.old.macros)) }
+    ensures ok { OnOk result
+        (config.new ≡ added class.now config.old (class_words text.now config.old.macros)) }
     ensures err { OnErr result (config.new ≡ config.old) }
 {
     match words_of(alloc, text, &config.macros)? {

@@ -10,7 +10,8 @@ use ruleset_run::{each_run_ends, one_outcome};
 
 /// Each line has an answer, whatever the configuration and the maps are.
 pub fn some_answer()
-    ensures { (maps : Loaded) (config : Config) (line : List ℕ) → (reply : Reply) × (after : Config) × Answers maps config line reply after }
+    ensures { (maps : Loaded) (config : Config) (line : List ℕ)
+        → (reply : Reply) × (after : Config) × Answers maps config line reply after }
 {
     // Laws: a run, a route and a rewriting have an outcome.
     each_run_ends();
@@ -20,10 +21,14 @@ pub fn some_answer()
 
 /// A line has one answer alone, and leaves one configuration.
 pub fn one_answer()
-    ensures reply { (maps : Loaded) (config : Config) (line : List ℕ) (one another : Reply) (after later : Config)
-        → Answers maps config line one after → Answers maps config line another later → one ≡ another }
-    ensures config { (maps : Loaded) (config : Config) (line : List ℕ) (one another : Reply) (after later : Config)
-        → Answers maps config line one after → Answers maps config line another later → after ≡ later }
+    ensures reply { (maps : Loaded) (config : Config) (line : List ℕ) (one another : Reply)
+        (after later : Config)
+        → Answers maps config line one after
+        → Answers maps config line another later → one ≡ another }
+    ensures config { (maps : Loaded) (config : Config) (line : List ℕ) (one another : Reply)
+        (after later : Config)
+        → Answers maps config line one after
+        → Answers maps config line another later → after ≡ later }
 {
     // Laws: they have one outcome alone.
     one_outcome();
@@ -33,17 +38,22 @@ pub fn one_answer()
 
 /// Lines have a printed text.
 pub fn some_text()
-    ensures { (maps : Loaded) (config : Config) (lines : List (List ℕ)) → (text : List ℕ) × (last : Config) × Printed maps config lines text last }
+    ensures { (maps : Loaded) (config : Config) (lines : List (List ℕ))
+        → (text : List ℕ) × (last : Config) × Printed maps config lines text last }
 {
     some_answer();
 }
 
 /// Lines have one printed text alone, and leave one configuration.
 pub fn one_text()
-    ensures text { (maps : Loaded) (config : Config) (lines : List (List ℕ)) (one another : List ℕ) (last later : Config)
-        → Printed maps config lines one last → Printed maps config lines another later → one ≡ another }
-    ensures config { (maps : Loaded) (config : Config) (lines : List (List ℕ)) (one another : List ℕ) (last later : Config)
-        → Printed maps config lines one last → Printed maps config lines another later → last ≡ later }
+    ensures text { (maps : Loaded) (config : Config) (lines : List (List ℕ)) (one another : List ℕ)
+        (last later : Config)
+        → Printed maps config lines one last
+        → Printed maps config lines another later → one ≡ another }
+    ensures config { (maps : Loaded) (config : Config) (lines : List (List ℕ))
+        (one another : List ℕ) (last later : Config)
+        → Printed maps config lines one last
+        → Printed maps config lines another later → last ≡ later }
 {
     one_answer();
 }

@@ -70,7 +70,9 @@ pub(crate) fn try_mailer(
     config: &Config,
     maps: &Maps,
 ) -> Result<Text, NoMemory>
-    ensures { IfOk result (TellsTry maps.now config.now name.now address.now (value_like name.now config.now.mailers)) }
+    ensures { IfOk result
+        (TellsTry maps.now config.now name.now address.now
+        (value_like name.now config.now.mailers)) }
 {
     let name = Text::of(alloc, name)?;
     match config.mailer(&name) {
@@ -101,7 +103,8 @@ fn as_sender(
     config: &Config,
     maps: &Maps,
 ) -> Result<Rewritten, NoMemory>
-    ensures { IfOk result (RewritesUnder maps.now config.now (sets.sender_sets mailer.now) address.now) }
+    ensures { IfOk result
+        (RewritesUnder maps.now config.now (sets.sender_sets mailer.now) address.now) }
 {
     let sets = sender_sets(alloc, mailer)?;
     rewrite(alloc, config, maps, &config.macros, &sets, address)
@@ -114,7 +117,8 @@ fn as_recipient(
     config: &Config,
     maps: &Maps,
 ) -> Result<Rewritten, NoMemory>
-    ensures { IfOk result (RewritesUnder maps.now config.now (sets.recipient_sets mailer.now) address.now) }
+    ensures { IfOk result
+        (RewritesUnder maps.now config.now (sets.recipient_sets mailer.now) address.now) }
 {
     let sets = recipient_sets(alloc, mailer)?;
     rewrite(alloc, config, maps, &config.macros, &sets, address)

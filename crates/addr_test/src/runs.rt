@@ -21,7 +21,8 @@ pub(crate) fn runs(
     sets: &[u8],
     address: &[u8],
 ) -> Result<Text, NoMemory>
-    ensures { IfOk result (RunsTyped maps.now config.now (names_in sets.now) (typed config.now address.now)) }
+    ensures { IfOk result
+        (RunsTyped maps.now config.now (names_in sets.now) (typed config.now address.now)) }
 {
     computed();
     let address = Text::of(alloc, address)?;
@@ -56,7 +57,8 @@ fn run_all(
     Ok(text)
 }
 
-// Runs a set and adds what is printed for it. Gives what it returned, or `None` where it was refused.
+// Runs a set and adds what is printed for it. Gives what it returned, or `None` where it was
+// refused.
 fn run_one(
     alloc: Global,
     config: &Config,
@@ -65,7 +67,8 @@ fn run_one(
     tokens: &Seq<Token>,
     text: &mut Text,
 ) -> Result<Option<Seq<Token>>, NoMemory>
-    ensures { IfOk result (λ given. Tells maps.now config.now name.now tokens.now given text.old text.new) }
+    ensures { IfOk result
+        (λ given. Tells maps.now config.now name.now tokens.now given text.old text.new) }
 {
     match run(alloc, config, maps, &config.macros, name, tokens) {
         Ok(ran) => {

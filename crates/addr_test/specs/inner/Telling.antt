@@ -10,9 +10,14 @@ use Rattle.addr_test.specs.Answers.{RunsUnder}
 use Rattle.addr_test.specs.Texts.{mailer_text, refused_text, returned_text}
 
 -- the run of a set returned these tokens, or was refused, and that was added to the text
-abbrev pub Tells : Loaded → Config → List ℕ → List Token → Option (List Token) → List ℕ → List ℕ → Type 0
-Tells maps config name tokens (Some given) old new = (done : Done) × RunsUnder maps config name tokens (Ok done) × (given ≡ done.tokens) × (new ≡ old ++ returned_text name done.tokens)
-Tells maps config name tokens None old new = (fault : RunFault) × RunsUnder maps config name tokens (Err fault) × (new ≡ old ++ refused_text name fault)
+abbrev pub Tells : Loaded → Config → List ℕ → List Token → Option (List Token)
+    → List ℕ → List ℕ → Type 0
+Tells maps config name tokens (Some given) old new =
+    (done : Done) × RunsUnder maps config name tokens (Ok done) × (given ≡ done.tokens)
+    × (new ≡ old ++ returned_text name done.tokens)
+Tells maps config name tokens None old new =
+    (fault : RunFault) × RunsUnder maps config name tokens (Err fault)
+    × (new ≡ old ++ refused_text name fault)
 
 -- the line of a mailer at a place, and none where no mailer stands
 abbrev pub mailer_text_at : Option (List ℕ × Mailer) → List ℕ
