@@ -1,14 +1,14 @@
 -- The first rules of buckets, and the first of all.
-use Rattle.std.proofs.Common.{◌≡◌, inl, inr, ℕ, ◌+◌, ◌<◌, ◌≤◌, List, [], ◌∷◌, ◌++◌, length, take, get_or, Bool, true, false, refl, sym, ap, ◌∙◌, subst, arith, Some, None, zero, suc, Option}
+use Rattle.std.proofs.Common.{◌≡◌, ℕ, ◌+◌, ◌<◌, ◌≤◌, List, [], ◌∷◌, ◌++◌, length, take, get_or, Bool, true, false, refl, sym, ap, ◌∙◌, subst, arith, Some, None, zero, suc, Option}
 use Rattle.std.specs.Prelude.{cond, filter, slice_get, nat_le, nat_lt, ◌||◌}
 use Rattle.std.specs.List.{find, list_any}
-use Rattle.std.proofs.lemmas.Bool.{cases_order, cond-true, cond-false, ltb-true, ltb-false, leb-true, leb-false, le-leb, lt-leb, or_from}
+use Rattle.std.proofs.lemmas.Bool.{cond-true, cond-false, ltb-true, ltb-false, leb-true, leb-false, le-leb, lt-leb, or_from}
 use Rattle.std.proofs.lemmas.List.Folds.{list_any-append}
 use Rattle.std.proofs.Math.Seq.{take-suc}
 use Rattle.mail_base.specs.declared.token.Token.{Token}
 use Rattle.mail_base.specs.declared.rule.Rule.{Rule}
 use Rattle.mail_base.specs.declared.rule.Numbered.{Numbered}
-use Rattle.mail_base.specs.Candidates.{has_anchor, is_free, is_candidate, numbered_from, anchored, free, IsNext}
+use Rattle.mail_base.specs.Candidates.{has_anchor, is_free, is_candidate, numbered_from, anchored, free}
 use Rattle.rule_index.specs.inner.Firsts.{earlier, is_from, IsAscending}
 
 -- of the rules that stand from a number on, the first that passes, at or above another number
@@ -119,14 +119,17 @@ ascending test n (rule ∷ rules) i j one other lt h k = at (λ x y l g m. ascen
     at go true (suc i) zero lt h k = absurd (omega (arith, lt))
     at go true (suc i) (suc j) lt h k = go i j (omega (arith, lt)) h k
 
+-- the bucket of free rules ascends by number
 pub ascends_free : (rules : List Rule) (bucket : List Numbered) → bucket ≡ free rules → IsAscending bucket
 ascends_free rules bucket is = subst IsAscending (sym is) (ascending (λ rule. is_free rule) 0 rules)
 
+-- a token's bucket of anchored rules ascends by number
 pub ascends_anchored : (token : Token) (rules : List Rule) (bucket : List Numbered) → bucket ≡ anchored token rules → IsAscending bucket
 ascends_anchored token rules bucket is = subst IsAscending (sym is) (ascending (λ rule. has_anchor token rule) 0 rules)
 
 -- ---- the halving
 
+-- a place with lower numbers before it and none from it on has the first one from a number on
 pub found_at : (from : ℕ) (bucket : List Numbered) (low : ℕ) → ((k : ℕ) (one : Numbered) → k < low → slice_get bucket k ≡ Some one → one.number < from)
     → ((k : ℕ) (one : Numbered) → low ≤ k → slice_get bucket k ≡ Some one → from ≤ one.number) → slice_get bucket low ≡ find (is_from from) bucket
 found_at from [] low before after = refl
@@ -134,21 +137,6 @@ found_at from (one ∷ bucket) zero before after = sym (cond-true (nat_le from o
 found_at from (one ∷ bucket) (suc low) before after =
     found_at from bucket low (λ k x lt is. before (suc k) x (omega (arith, lt)) is) (λ k x le is. after (suc k) x (omega (arith, le)) is)
     ∙ sym (cond-false (nat_le from one.number) (Some one) (find (is_from from) bucket) (lt-leb from one.number (before 0 one (omega arith) refl)))
-
-module _ (bucket : List Numbered) (middle : ℕ) (one : Numbered) (ascends : IsAscending bucket) (here : slice_get bucket middle ≡ Some one) where
-  pub low_moves : (from : ℕ) → one.number < from → (k : ℕ) (x : Numbered) → k < middle + 1 → slice_get bucket k ≡ Some x → x.number < from
-  low_moves from below k x lt is = elim (cases_order k middle) [
-    | inl e ↦ let same : x ≡ one = cc (sym is ∙ ap (slice_get bucket) e ∙ here) in let n : x.number ≡ one.number = ap (λ (y : Numbered). y.number) same in omega (arith, n, below)
-    | inr (inl less) ↦ let n = ascends k middle x one less is here in omega (arith, n, below)
-    | inr (inr more) ↦ absurd (omega (arith, lt, more))
-  ]
-
-  pub high_moves : (from : ℕ) → from ≤ one.number → (k : ℕ) (x : Numbered) → middle ≤ k → slice_get bucket k ≡ Some x → from ≤ x.number
-  high_moves from above k x le is = elim (cases_order k middle) [
-    | inl e ↦ let same : x ≡ one = cc (sym is ∙ ap (slice_get bucket) e ∙ here) in let n : x.number ≡ one.number = ap (λ (y : Numbered). y.number) same in omega (arith, n, above)
-    | inr (inl less) ↦ absurd (omega (arith, le, less))
-    | inr (inr more) ↦ let n = ascends middle k one x more here is in omega (arith, n, above)
-  ]
 
 -- ---- the next candidate
 
@@ -162,11 +150,13 @@ or_moves false true z = refl
 or_moves false false true = refl
 or_moves false false false = refl
 
+-- the first free rule from a number on is the first candidate for no tokens
 pub starts : (rules : List Rule) (from : ℕ) (o : Option Numbered) (bucket : List Numbered) → bucket ≡ free rules → o ≡ find (is_from from) bucket → IsFirst (is_candidate []) 0 rules from o
 starts rules from o bucket is found =
     first_agree is_free (is_candidate []) (λ rule. sym (or_nothing (is_free rule))) rules from o
     (subst (IsFirst is_free 0 rules from) (sym (found ∙ ap (find (is_from from)) is)) (first_of (λ rule. is_free rule) 0 rules from))
 
+-- with a token more, the earlier of both is the first candidate
 pub goes_on : (rules : List Rule) (from : ℕ) (before after : List Token) (token : Token) (a b now : Option Numbered) (bucket : List Numbered) → IsFirst (is_candidate before) 0 rules from a
     → bucket ≡ anchored token rules → b ≡ find (is_from from) bucket → now ≡ earlier a b → after ≡ before ++ token ∷ [] → IsFirst (is_candidate after) 0 rules from now
 goes_on rules from before after token a b now bucket first is found joined more =
@@ -180,21 +170,6 @@ goes_on rules from before after token a b now bucket first is found joined more 
         or_moves (is_free rule) (list_any (λ t. has_anchor t rule) before) (has_anchor token rule)
         ∙ ap (λ (b : Bool). is_free rule || b) (sym (list_any-append (λ t. has_anchor t rule) before (token ∷ [])))
         ∙ ap (λ (ts : List Token). is_free rule || list_any (λ t. has_anchor t rule) ts) (sym more)
-
-pub ends_some : (rules : List Rule) (from : ℕ) (tokens : List Token) (o : Option Numbered) (one : Numbered) → o ≡ Some one → IsFirst (is_candidate tokens) 0 rules from o → IsNext rules from tokens one.number one.rule
-ends_some rules from tokens o one is first = at (subst (IsFirst (is_candidate tokens) 0 rules from) is first)
-  where
-    at : IsFirst (is_candidate tokens) 0 rules from (Some one) → IsNext rules from tokens one.number one.rule
-    at (i, number, le, here, passes, before) = record {
-      above = omega (arith, number, le);
-      is = ap (slice_get rules) {x = one.number} {y = i} (omega (arith, number)) ∙ here;
-      candidate = passes;
-      first = λ k other l lt at. before k other (omega (arith, l)) (omega (arith, lt, number)) at;
-    }
-
-pub ends_none : (rules : List Rule) (from : ℕ) (tokens : List Token) (o : Option Numbered) → o ≡ None → IsFirst (is_candidate tokens) 0 rules from o
-    → (k : ℕ) (rule : Rule) → from ≤ k → slice_get rules k ≡ Some rule → is_candidate tokens rule ≡ false
-ends_none rules from tokens o is first k rule le here = (subst (IsFirst (is_candidate tokens) 0 rules from) is first) k rule (omega (arith, le)) here
 
 -- one token more
 pub taken : (tokens : List Token) (i : ℕ) (token : Token) → i < length tokens → token ≡ get_or tokens i token → take (i + 1) tokens ≡ take i tokens ++ token ∷ []

@@ -7,11 +7,14 @@ ghost use Rattle.rule_index.specs.inner.Firsts.{earlier, is_from, IsAscending};
 
 use mail_base::{Numbered, Rule, RuleSet, Seq, Token};
 
-/// The least candidate for tokens from a number on, with its number, or `None` where there is none. Rules
-/// count from 0. It takes no memory, and looks at one bucket for each token.
+/// The least candidate for tokens from a number on, with its number, or `None` where there is none.
+/// Rules count from 0. It takes no memory, and looks at one bucket for each token.
 pub fn next<'a>(set: &'a RuleSet, from: u32, tokens: &Seq<Token>) -> Option<(u32, &'a Rule)>
-    ensures some { IfSome result (λ found. IsNext set.now.rules from tokens.now found.0 found.1.now) }
-    ensures none { IfNone result ((k : ℕ) (rule : Rule) → from ≤ k → slice_get set.now.rules k ≡ Some rule → is_candidate tokens.now rule ≡ false) }
+    ensures some { IfSome result
+        (λ found. IsNext set.now.rules from tokens.now found.0 found.1.now) }
+    ensures none { IfNone result
+        ((k : ℕ) (rule : Rule) → from ≤ k → slice_get set.now.rules k ≡ Some rule
+        → is_candidate tokens.now rule ≡ false) }
 {
     let mut least = first_from(set.free(), from);
     for token in tokens.items() {

@@ -1,5 +1,5 @@
-//! The rules of a ruleset by their anchors: the index that is built of them, and the next rule that may
-//! match a list of tokens.
+//! The rules of a ruleset by their anchors: the index that is built of them, and the next rule that
+//! may match a list of tokens.
 #![tactic(auto)]
 
 mod builder;

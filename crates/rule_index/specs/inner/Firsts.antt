@@ -7,7 +7,8 @@ is_from from one = nat_le from one.number
 
 -- the numbers ascend
 abbrev pub IsAscending : List Numbered → Type 0
-IsAscending bucket = (i j : ℕ) (one other : Numbered) → i < j → slice_get bucket i ≡ Some one → slice_get bucket j ≡ Some other → one.number < other.number
+IsAscending bucket = (i j : ℕ) (one other : Numbered) → i < j → slice_get bucket i ≡ Some one
+    → slice_get bucket j ≡ Some other → one.number < other.number
 
 -- the one of the lesser number
 abbrev pub earlier : Option Numbered → Option Numbered → Option Numbered
