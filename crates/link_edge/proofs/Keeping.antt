@@ -4,7 +4,6 @@ use Rattle.std.specs.Prelude.{count_by}
 use mathlib.Core.Bool.{true≢false}
 use Rattle.std.proofs.lemmas.Bool.{ne_eqb}
 use Rattle.std.proofs.lemmas.List.{length-append}
-use Rattle.std.proofs.lemmas.List.Sums.{count_by-le-length}
 use Rattle.link_edge.specs.declared.event.Event.TheVariants.{Opens, Brings, Closes, Rests, Stops}
 use Rattle.link_edge.specs.declared.event.FloorEvent.{FloorEvent}
 use Rattle.link_edge.specs.declared.event.FloorEvent.TheVariants.{Took, Sent, Unsent, HungUp}
@@ -55,10 +54,6 @@ leaves_all (Took Stops) h = record { live = λ xs. refl; sound = λ xs. refl; op
 leaves_all (Sent s bytes) h = record { live = λ xs. refl; sound = λ xs. refl; opening = refl; unused = λ n. refl }
 leaves_all (Unsent s) h = absurd (true≢false (sym h))
 leaves_all (HungUp s) h = absurd (true≢false (sym h))
-
--- no more sessions were opened than events are told
-pub opened_few : (told : List FloorEvent) (live sound : List ℕ) (opened capacity : ℕ) → IsKept told live sound opened capacity → opened ≤ length told
-opened_few told live sound opened capacity kept = omega (arith, kept.opened_is, count_by-le-length is_opening told)
 
 -- an event that leaves each session as it is
 pub kept_quiet : (told now : List FloorEvent) (event : FloorEvent) (live sound : List ℕ) (opened before after : ℕ) → IsKept told live sound opened before → is_quiet event ≡ true → now ≡ told ++ event ∷ [] → length now + length live + length sound ≤ after → IsKept now live sound opened after

@@ -4,7 +4,8 @@ use Rattle.link_edge.specs.declared.begun.Calls.{Calls}
 use Rattle.link_edge.specs.declared.begun.Calls.TheVariants.{Zero, One, Many}
 use Rattle.link_edge.specs.declared.place.Place.{Place}
 
--- how a floor was begun so far: not yet, once, at that place and for so many sessions, or more than once
+-- how a floor was begun so far: not yet, once, at that place and for so many sessions, or more than
+-- once
 pub data Beginnings : Type 0 where
   Never : Beginnings
   Once : (place : Place) (most : ℕ) → Beginnings

@@ -4,7 +4,8 @@ use Rattle.link_edge.specs.declared.event.FloorEvent.{FloorEvent}
 use Rattle.link_edge.specs.Begins.{Beginnings}
 use Rattle.link_edge.specs.Sessions.{is_open, is_sound}
 
--- what happened so far, in order, where that is told; how it was begun, which every floor tells; how often begin and turn failed; and for each session how often a send to it failed
+-- what happened so far, in order, where that is told; how it was begun, which every floor tells;
+-- how often begin and turn failed; and for each session how often a send to it failed
 pub record Heard : Type 0 where
   pub told : Option (List FloorEvent)
   pub begun : Beginnings

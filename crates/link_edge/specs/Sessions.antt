@@ -9,7 +9,8 @@ use Rattle.link_edge.specs.declared.event.FloorEvent.TheVariants.{Took, Sent, Un
 abbrev pub without : ℕ → List ℕ → List ℕ
 without session sessions = filter (λ other. not (nat_eq other session)) sessions
 
--- the open sessions after one event more: an opening adds a session, its end or its hang-up takes it away
+-- the open sessions after one event more: an opening adds a session, its end or its hang-up takes
+-- it away
 abbrev pub open_after : List ℕ → FloorEvent → List ℕ
 open_after sessions (Took (Opens session peer)) = sessions ++ session ∷ []
 open_after sessions (Took (Brings session bytes)) = sessions
@@ -62,7 +63,8 @@ opens session (HungUp other) = false
 abbrev pub NumbersOnce : List FloorEvent → Type 0
 NumbersOnce history = (session : ℕ) → count_by (opens session) history ≤ 1
 
--- an event that may stand behind a history: an opening has a number that wasn't used, an end or a hang-up is of an open session, and a piece or a send of one to which no send has failed
+-- an event that may stand behind a history: an opening has a number that wasn't used, an end or a
+-- hang-up is of an open session, and a piece or a send of one to which no send has failed
 abbrev pub Follows : List FloorEvent → FloorEvent → Type 0
 Follows history (Took (Opens session peer)) = count_by (opens session) history ≡ 0
 Follows history (Took (Brings session bytes)) = is_sound session history ≡ true
@@ -76,7 +78,8 @@ Follows history (HungUp session) = is_open session history ≡ true
 -- events that may stand behind a history, each behind those before it
 abbrev pub AllFollow : List FloorEvent → List FloorEvent → Type 0
 AllFollow history [] = Unit {0}
-AllFollow history (event ∷ events) = Follows history event × AllFollow (history ++ event ∷ []) events
+AllFollow history (event ∷ events) =
+    Follows history event × AllFollow (history ++ event ∷ []) events
 
 -- a send, and whether all of it was sent
 abbrev pub send_event : ℕ → List ℕ → Bool → FloorEvent

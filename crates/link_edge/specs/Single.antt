@@ -10,9 +10,15 @@ use Rattle.link_edge.specs.declared.one_floor.Stage.TheVariants.{Before, During,
 use Rattle.link_edge.specs.declared.turn.Turn.{Turn}
 use Rattle.link_edge.specs.declared.turn.Turn.TheVariants.{Opened, Piece, Closed, Idle, Stop}
 
--- what is seen of the floor, by how it was begun and what is seen of its sink: it tells nothing else, the session's count is the sink's, and that of any other number stands at the greatest
+-- what is seen of the floor, by how it was begun and what is seen of its sink: it tells nothing
+-- else, the session's count is the sink's, and that of any other number stands at the greatest
 abbrev pub one_heard : Beginnings → SinkSeen → Heard
-one_heard begun sink = record { told = None; begun = begun; faults = 0; session_faults = λ session. if nat_eq session 1 then sink.faults else 2 ^ 64 - 1 }
+one_heard begun sink = record {
+  told = None;
+  begun = begun;
+  faults = 0;
+  session_faults = λ session. if nat_eq session 1 then sink.faults else 2 ^ 64 - 1;
+}
 
 -- the source gave these bytes, with no fault, and the session goes on
 pub record GoesOn (now : Stage) (session : ℕ) (bytes : List ℕ) (old new : SourceSeen) : Type 0 where
@@ -38,7 +44,8 @@ pub record IsEnded (now : Stage) (session : ℕ) (old new : SourceSeen) : Type 0
   pub stage : now ≡ After
   pub cause : IsAtEnd old new ⊎ HasFailed old new
 
--- what a turn says of the source: first the opening, then what the source gives, then its end, and then nothing more
+-- what a turn says of the source: first the opening, then what the source gives, then its end, and
+-- then nothing more
 abbrev pub Hears : Stage → Stage → Turn → SourceSeen → SourceSeen → List ℕ → Type 0
 Hears Before now turn old new buf = (turn ≡ Opened 1 0) × (now ≡ During) × (new ≡ old)
 Hears During now (Opened session count) old new buf = ⊥

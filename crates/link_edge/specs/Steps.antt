@@ -21,15 +21,20 @@ is_peer bytes = nat_le (length bytes) 64 && not (list_any (λ byte. nat_eq byte 
 abbrev pub can_come : List FloorEvent → ℕ → List ℕ → Bool
 can_come told session bytes = is_sound session told && nat_lt 0 (length bytes)
 
--- what the turn of a step tells, at a buffer of that size: what can't be, as bytes of a session that isn't open, is an idle turn
+-- what the turn of a step tells, at a buffer of that size: what can't be, as bytes of a session
+-- that isn't open, is an idle turn
 abbrev pub step_event : List FloorEvent → ℕ → Step → FloorEvent
-step_event told room (Open peer) = if is_peer peer then Took (Opens (next_number told) peer) else Took Rests
-step_event told room (Say session bytes) = if can_come told session bytes then Took (Brings session (take room bytes)) else Took Rests
-step_event told room (Close session) = if is_open session told then Took (Closes session) else Took Rests
+step_event told room (Open peer) =
+    if is_peer peer then Took (Opens (next_number told) peer) else Took Rests
+step_event told room (Say session bytes) =
+    if can_come told session bytes then Took (Brings session (take room bytes)) else Took Rests
+step_event told room (Close session) =
+    if is_open session told then Took (Closes session) else Took Rests
 step_event told room Rest = Took Rests
 
 -- a turn is told as this event, and fits and follows
-pub record IsHeard (old new : List FloorEvent) (event : FloorEvent) (turn : Turn) (buf : List ℕ) : Type 0 where
+pub record IsHeard (old new : List FloorEvent) (event : FloorEvent) (turn : Turn)
+    (buf : List ℕ) : Type 0 where
   pub event_is : told_of turn buf ≡ event
   pub told : new ≡ old ++ event ∷ []
   pub fits : Fits turn buf
@@ -38,7 +43,9 @@ pub record IsHeard (old new : List FloorEvent) (event : FloorEvent) (turn : Turn
 -- what is left of a step after its turn: the bytes that the buffer had no room for
 abbrev pub step_rest : List FloorEvent → ℕ → Step → List Step
 step_rest told room (Open peer) = []
-step_rest told room (Say session bytes) = if is_sound session told && nat_lt room (length bytes) then Say session (drop room bytes) ∷ [] else []
+step_rest told room (Say session bytes) =
+    if is_sound session told && nat_lt room (length bytes)
+    then Say session (drop room bytes) ∷ [] else []
 step_rest told room (Close session) = []
 step_rest told room Rest = []
 
@@ -77,4 +84,5 @@ session_count told session = count_by (is_unsent session) told
 
 -- what is seen of the floor
 abbrev pub script_heard : List FloorEvent → Beginnings → ℕ → Heard
-script_heard told begun faults = record { told = Some told; begun = begun; faults = faults; session_faults = session_count told }
+script_heard told begun faults =
+    record { told = Some told; begun = begun; faults = faults; session_faults = session_count told }

@@ -31,6 +31,7 @@ told_of Idle buf = Took Rests
 told_of Stop buf = Took Stops
 
 -- a turn is told with its bytes, and one that failed isn't told
-abbrev pub GainsTurn : Option (List FloorEvent) → Option (List FloorEvent) → Result Turn Failed → List ℕ → Type 0
+abbrev pub GainsTurn : Option (List FloorEvent) → Option (List FloorEvent)
+    → Result Turn Failed → List ℕ → Type 0
 GainsTurn old new (Ok turn) buf = Gains old new (told_of turn buf ∷ [])
 GainsTurn old new (Err fault) buf = Gains old new []

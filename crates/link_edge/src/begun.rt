@@ -5,8 +5,8 @@ use crate::Place;
 use std::marker::Model;
 use std::snapshot::Snapshot;
 
-/// How a floor was begun so far. A contract sees the place and the number of the first call; the program sees
-/// neither, and it takes no memory.
+/// How a floor was begun so far. A contract sees the place and the number of the first call; the
+/// program sees neither, and it takes no memory.
 #[derive(Drop)]
 pub struct Begun {
     calls: Calls,

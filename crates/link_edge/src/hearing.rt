@@ -9,8 +9,8 @@ use crate::telling::Telling;
 use crate::{Event, FloorEvent, Step, Turn};
 use mail_base::{NoMemory, Text};
 
-// The turn of a step of which the first bytes came before, and how many came by now where the step isn't
-// done. Where there is no memory to tell it, nothing changes but the buffer.
+// The turn of a step of which the first bytes came before, and how many came by now where the step
+// isn't done. Where there is no memory to tell it, nothing changes but the buffer.
 pub(crate) fn hear(
     told: &mut Telling,
     step: &Step,
@@ -18,8 +18,12 @@ pub(crate) fn hear(
     buf: &mut [u8],
 ) -> Result<(Turn, Option<usize>), NoMemory>
     requires { 64 ≤ length buf.old }
-    ensures heard { IfOk result (λ turn. IsHeard told.old told.new (step_event told.old (length buf.old) (without_said said step.now)) turn.0 buf.new) }
-    ensures left { IfOk result (λ turn. rest_at step.now turn.1 ≡ step_rest told.old (length buf.old) (without_said said step.now)) }
+    ensures heard { IfOk result
+        (λ turn. IsHeard told.old told.new
+        (step_event told.old (length buf.old) (without_said said step.now)) turn.0 buf.new) }
+    ensures left { IfOk result
+        (λ turn. rest_at step.now turn.1
+        ≡ step_rest told.old (length buf.old) (without_said said step.now)) }
     ensures kept { OnErr result (told.new ≡ told.old) }
 {
     match step {
@@ -45,7 +49,9 @@ fn rest(told: &mut Telling, buf: &mut [u8]) -> Result<Turn, NoMemory>
 // A session that is opened.
 fn hear_opening(told: &mut Telling, peer: &Text, buf: &mut [u8]) -> Result<Turn, NoMemory>
     requires { 64 ≤ length buf.old }
-    ensures heard { IfOk result (λ turn. IsHeard told.old told.new (step_event told.old (length buf.old) (Open peer.now)) turn buf.new) }
+    ensures heard { IfOk result
+        (λ turn. IsHeard told.old told.new
+        (step_event told.old (length buf.old) (Open peer.now)) turn buf.new) }
     ensures kept { OnErr result (told.new ≡ told.old) }
 {
     if !is_peer(peer.bytes()) {
@@ -65,8 +71,13 @@ fn hear_bytes(
     buf: &mut [u8],
 ) -> Result<(Turn, Option<usize>), NoMemory>
     requires { 64 ≤ length buf.old }
-    ensures heard { IfOk result (λ turn. IsHeard told.old told.new (step_event told.old (length buf.old) (Say session (drop said bytes.now))) turn.0 buf.new) }
-    ensures left { IfOk result (λ turn. rest_at (Say session bytes.now) turn.1 ≡ step_rest told.old (length buf.old) (Say session (drop said bytes.now))) }
+    ensures heard { IfOk result
+        (λ turn. IsHeard told.old told.new
+        (step_event told.old (length buf.old)
+        (Say session (drop said bytes.now))) turn.0 buf.new) }
+    ensures left { IfOk result
+        (λ turn. rest_at (Say session bytes.now) turn.1
+        ≡ step_rest told.old (length buf.old) (Say session (drop said bytes.now))) }
     ensures kept { OnErr result (told.new ≡ told.old) }
 {
     let left = behind(bytes.bytes(), said);
@@ -85,7 +96,9 @@ fn hear_bytes(
 
 // A session that is ended by its peer.
 fn hear_end(told: &mut Telling, session: u64, buf: &mut [u8]) -> Result<Turn, NoMemory>
-    ensures heard { IfOk result (λ turn. IsHeard told.old told.new (step_event told.old (length buf.old) (Close session)) turn buf.new) }
+    ensures heard { IfOk result
+        (λ turn. IsHeard told.old told.new
+        (step_event told.old (length buf.old) (Close session)) turn buf.new) }
     ensures kept { OnErr result (told.new ≡ told.old) }
 {
     if !told.is_open(session) {

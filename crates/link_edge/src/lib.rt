@@ -1,5 +1,5 @@
-//! The floor of the program: sessions with those who connect, as turns, sends and hang-ups. A floor counts
-//! its faults and may tell what happened, as the forms in memory do.
+//! The floor of the program: sessions with those who connect, as turns, sends and hang-ups. A floor
+//! counts its faults and may tell what happened, as the forms in memory do.
 #![tactic(auto)]
 
 mod begun;

@@ -22,10 +22,11 @@ pub enum Stage {
     After,
 }
 
-/// One session, number 1, over a source and a sink: its opening, the bytes that the source gives, whole
-/// and in order, its end, and then `Stop` alone. A source that ends or fails ends the session. Its own
-/// count of faults is 0, and its session's is the sink's. A send to any other number fails and writes
-/// nothing; the count of those stands at the greatest `u64`. It tells nothing, and takes no memory.
+/// One session, number 1, over a source and a sink: its opening, the bytes that the source gives,
+/// whole and in order, its end, and then `Stop` alone. A source that ends or fails ends the
+/// session. Its own count of faults is 0, and its session's is the sink's. A send to any other
+/// number fails and writes nothing; the count of those stands at the greatest `u64`. It tells
+/// nothing, and takes no memory.
 #[derive(Drop)]
 pub struct OneFloor<I, O> {
     pub source: I,
@@ -61,7 +62,8 @@ impl<I: Source, O: Sink> OneFloor<I, O> {
         ensures sink { self.new.sink ≡ self.old.sink }
         ensures begun { self.new.begun ≡ self.old.begun }
         ensures fits { Fits result buf.new }
-        ensures heard { Hears self.old.stage self.new.stage result (I.seen self.old.source) (I.seen self.new.source) buf.new }
+        ensures heard { Hears self.old.stage self.new.stage result (I.seen self.old.source)
+            (I.seen self.new.source) buf.new }
     {
         let Ok(count) = self.source.take(buf) else {
             self.stage = Stage::After;
@@ -80,7 +82,8 @@ impl<I: Source, O: Sink> Floor for OneFloor<I, O> {
 
     fn begin(&mut self, place: &Place, most: u64) -> Result<(), Failed>
         ensures sure { IsOk result }
-        ensures same { self.new ≡ record self.old { begun = begun_after self.old.begun place.now most } }
+        ensures same { self.new
+            ≡ record self.old { begun = begun_after self.old.begun place.now most } }
     {
         self.begun.note(place, most);
         Ok(())
@@ -92,7 +95,9 @@ impl<I: Source, O: Sink> Floor for OneFloor<I, O> {
         ensures sink { self.new.sink ≡ self.old.sink }
         ensures begun { self.new.begun ≡ self.old.begun }
         ensures fits { IfOk result (λ turn. Fits turn buf.new) }
-        ensures heard { IfOk result (λ turn. Hears self.old.stage self.new.stage turn (I.seen self.old.source) (I.seen self.new.source) buf.new) }
+        ensures heard { IfOk result
+            (λ turn. Hears self.old.stage self.new.stage turn (I.seen self.old.source)
+            (I.seen self.new.source) buf.new) }
     {
         match self.stage {
             Stage::Before => {
@@ -108,11 +113,21 @@ impl<I: Source, O: Sink> Floor for OneFloor<I, O> {
         ensures stage { self.new.stage ≡ self.old.stage }
         ensures begun { self.new.begun ≡ self.old.begun }
         ensures source { self.new.source ≡ self.old.source }
-        ensures written { session ≡ 1 → OnOk result (Gains (O.seen self.old.sink).written (O.seen self.new.sink).written bytes.now) }
-        ensures part { session ≡ 1 → OnErr result (GainsPart (O.seen self.old.sink).written (O.seen self.new.sink).written bytes.now) }
-        ensures cause { HasCause ((one_heard self.old.begun (O.seen self.old.sink)).session_faults session) ((one_heard self.new.begun (O.seen self.new.sink)).session_faults session) result }
-        ensures calm { OnOk result ((one_heard self.new.begun (O.seen self.new.sink)).session_faults session ≡ (one_heard self.old.begun (O.seen self.old.sink)).session_faults session) }
-        ensures others { (other : ℕ) → (one_heard self.old.begun (O.seen self.old.sink)).session_faults other ≤ (one_heard self.new.begun (O.seen self.new.sink)).session_faults other }
+        ensures written { session ≡ 1
+            → OnOk result (Gains (O.seen self.old.sink).written
+            (O.seen self.new.sink).written bytes.now) }
+        ensures part { session ≡ 1
+            → OnErr result (GainsPart (O.seen self.old.sink).written
+            (O.seen self.new.sink).written bytes.now) }
+        ensures cause { HasCause
+            ((one_heard self.old.begun (O.seen self.old.sink)).session_faults session)
+            ((one_heard self.new.begun (O.seen self.new.sink)).session_faults session) result }
+        ensures calm { OnOk result
+            ((one_heard self.new.begun (O.seen self.new.sink)).session_faults session
+            ≡ (one_heard self.old.begun (O.seen self.old.sink)).session_faults session) }
+        ensures others { (other : ℕ)
+            → (one_heard self.old.begun (O.seen self.old.sink)).session_faults other
+            ≤ (one_heard self.new.begun (O.seen self.new.sink)).session_faults other }
         ensures strange { session ≢ 1 → self.new.sink ≡ self.old.sink }
         ensures refused { session ≢ 1 → IsErr result }
     {

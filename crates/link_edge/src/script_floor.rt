@@ -14,14 +14,14 @@ use crate::{Begun, Event, Floor, FloorEvent, Place, Step, Turn};
 use mail_base::{Failed, NoMemory, Script, Seq, Text, TryCopy};
 use std::alloc::Global;
 
-/// A floor in memory, whose turns are a list of steps; after the last of them comes `Stop` alone. It numbers
-/// its sessions itself, from 1. A step that can't be, as bytes of a session that is not open or to which a
-/// send has failed, is an idle turn. It tells what happened.
+/// A floor in memory, whose turns are a list of steps; after the last of them comes `Stop` alone.
+/// It numbers its sessions itself, from 1. A step that can't be, as bytes of a session that is not
+/// open or to which a send has failed, is an idle turn. It tells what happened.
 ///
-/// Some of its calls fail: those of `begin` and `turn`, which are counted together from 0, as `turns` lists
-/// them, and those of `send` as `sends` does. A call also fails where it finds no memory, and `starved` counts
-/// those. A call that fails takes no step and sends nothing. The count of a session is the number of sends to it
-/// that failed.
+/// Some of its calls fail: those of `begin` and `turn`, which are counted together from 0, as
+/// `turns` lists them, and those of `send` as `sends` does. A call also fails where it finds no
+/// memory, and `starved` counts those. A call that fails takes no step and sends nothing. The count
+/// of a session is the number of sends to it that failed.
 pub struct ScriptFloor {
     steps: Seq<Step>,
     at: usize,
@@ -50,8 +50,8 @@ impl Drop for ScriptFloor {
 }
 
 impl ScriptFloor {
-    /// A floor of these steps, and which of its calls are to fail: of `begin` and `turn`, and of `send`,
-    /// each counted from 0. It takes no memory.
+    /// A floor of these steps, and which of its calls are to fail: of `begin` and `turn`, and of
+    /// `send`, each counted from 0. It takes no memory.
     pub fn new(
         alloc: Global,
         steps: Seq<Step>,
@@ -101,8 +101,14 @@ impl ScriptFloor {
     // The turn of the next step. Where there is no memory to tell it, it is taken by the next turn.
     fn next(&mut self, buf: &mut [u8]) -> Result<Turn, NoMemory>
         requires { 64 ≤ length buf.old }
-        ensures heard { IfOk result (λ turn. IsHeard self.old.told self.new.told (next_event self.old.told (length buf.old) (unsaid self.old.said (drop self.old.at self.old.steps))) turn buf.new) }
-        ensures later { OnOk result (unsaid self.new.said (drop self.new.at self.new.steps) ≡ later_steps self.old.told (length buf.old) (unsaid self.old.said (drop self.old.at self.old.steps))) }
+        ensures heard { IfOk result
+            (λ turn. IsHeard self.old.told self.new.told
+            (next_event self.old.told (length buf.old)
+            (unsaid self.old.said (drop self.old.at self.old.steps))) turn buf.new) }
+        ensures later { OnOk result
+            (unsaid self.new.said (drop self.new.at self.new.steps)
+            ≡ later_steps self.old.told (length buf.old)
+            (unsaid self.old.said (drop self.old.at self.old.steps))) }
         ensures kept { OnErr result (self.new ≡ self.old) }
         ensures turns { self.new.turns ≡ self.old.turns }
         ensures sends { self.new.sends ≡ self.old.sends }
@@ -130,13 +136,26 @@ impl ScriptFloor {
     // Takes a turn that isn't listed to fail.
     fn fed_turn(&mut self, buf: &mut [u8]) -> Result<Turn, Failed>
         requires { 64 ≤ length buf.old }
-        ensures heard { IfOk result (λ turn. IsHeard self.old.told self.new.told (next_event self.old.told (length buf.old) (unsaid self.old.said (drop self.old.at self.old.steps))) turn buf.new) }
-        ensures later { OnOk result (unsaid self.new.said (drop self.new.at self.new.steps) ≡ later_steps self.old.told (length buf.old) (unsaid self.old.said (drop self.old.at self.old.steps))) }
-        ensures kept { OnErr result (unsaid self.new.said (drop self.new.at self.new.steps) ≡ unsaid self.old.said (drop self.old.at self.old.steps)) }
+        ensures heard { IfOk result
+            (λ turn. IsHeard self.old.told self.new.told
+            (next_event self.old.told (length buf.old)
+            (unsaid self.old.said (drop self.old.at self.old.steps))) turn buf.new) }
+        ensures later { OnOk result
+            (unsaid self.new.said (drop self.new.at self.new.steps)
+            ≡ later_steps self.old.told (length buf.old)
+            (unsaid self.old.said (drop self.old.at self.old.steps))) }
+        ensures kept { OnErr result
+            (unsaid self.new.said (drop self.new.at self.new.steps)
+            ≡ unsaid self.old.said (drop self.old.at self.old.steps)) }
         ensures silent { OnErr result (self.new.told ≡ self.old.told) }
-        ensures turns { self.new.turns ≡ record self.old.turns { faults = if is_err result then one_more self.old.turns.faults else self.old.turns.faults } }
+        ensures turns { self.new.turns
+            ≡ record self.old.turns {
+              faults = if is_err result then one_more self.old.turns.faults
+                  else self.old.turns.faults;
+            } }
         ensures sends { self.new.sends ≡ self.old.sends }
-        ensures starved { self.new.starved ≡ (if is_err result then one_more self.old.starved else self.old.starved) }
+        ensures starved { self.new.starved
+            ≡ (if is_err result then one_more self.old.starved else self.old.starved) }
         ensures begun { self.new.begun ≡ self.old.begun }
         ensures cause { HasCause self.old.turns.faults self.new.turns.faults result }
     {
@@ -153,13 +172,19 @@ impl ScriptFloor {
     // Takes a send that isn't listed to fail.
     fn fed_send(&mut self, session: u64, bytes: &Text) -> Result<(), Failed>
         requires sound { is_sound session self.old.told ≡ true }
-        ensures told { self.new.told ≡ self.old.told ++ send_event session bytes.now (is_ok result) ∷ [] }
+        ensures told { self.new.told
+            ≡ self.old.told ++ send_event session bytes.now (is_ok result) ∷ [] }
         ensures steps { self.new.steps ≡ self.old.steps }
         ensures at { self.new.at ≡ self.old.at }
         ensures said { self.new.said ≡ self.old.said }
         ensures turns { self.new.turns ≡ self.old.turns }
-        ensures sends { self.new.sends ≡ record self.old.sends { faults = if is_err result then one_more self.old.sends.faults else self.old.sends.faults } }
-        ensures starved { self.new.starved ≡ (if is_err result then one_more self.old.starved else self.old.starved) }
+        ensures sends { self.new.sends
+            ≡ record self.old.sends {
+              faults = if is_err result then one_more self.old.sends.faults
+                  else self.old.sends.faults;
+            } }
+        ensures starved { self.new.starved
+            ≡ (if is_err result then one_more self.old.starved else self.old.starved) }
         ensures begun { self.new.begun ≡ self.old.begun }
     {
         if tell_sent(&mut self.told, session, bytes).is_err() {
@@ -201,7 +226,11 @@ impl Floor for ScriptFloor {
 
     fn begin(&mut self, place: &Place, most: u64) -> Result<(), Failed>
         ensures fails { is_err result ≡ is_listed self.old.turns }
-        ensures counted { self.new ≡ record self.old { begun = begun_after self.old.begun place.now most; turns = after_call self.old.turns (is_err result) } }
+        ensures counted { self.new
+            ≡ record self.old {
+              begun = begun_after self.old.begun place.now most;
+              turns = after_call self.old.turns (is_err result);
+            } }
         ensures cause { HasCause self.old.turns.faults self.new.turns.faults result }
         ensures calm { OnOk result (self.new.turns.faults ≡ self.old.turns.faults) }
     {
@@ -213,11 +242,21 @@ impl Floor for ScriptFloor {
         requires { 64 ≤ length buf.old }
         ensures listed { is_listed self.old.turns ≡ true → IsErr result }
         ensures counted { self.new.turns ≡ after_call self.old.turns (is_err result) }
-        ensures starved { self.new.starved ≡ (if is_err result && not (is_listed self.old.turns) then one_more self.old.starved else self.old.starved) }
+        ensures starved { self.new.starved
+            ≡ (if is_err result && not (is_listed self.old.turns) then one_more self.old.starved
+            else self.old.starved) }
         ensures begun { self.new.begun ≡ self.old.begun }
-        ensures heard { IfOk result (λ turn. IsHeard self.old.told self.new.told (next_event self.old.told (length buf.old) (unsaid self.old.said (drop self.old.at self.old.steps))) turn buf.new) }
-        ensures later { OnOk result (unsaid self.new.said (drop self.new.at self.new.steps) ≡ later_steps self.old.told (length buf.old) (unsaid self.old.said (drop self.old.at self.old.steps))) }
-        ensures kept { OnErr result (unsaid self.new.said (drop self.new.at self.new.steps) ≡ unsaid self.old.said (drop self.old.at self.old.steps)) }
+        ensures heard { IfOk result
+            (λ turn. IsHeard self.old.told self.new.told
+            (next_event self.old.told (length buf.old)
+            (unsaid self.old.said (drop self.old.at self.old.steps))) turn buf.new) }
+        ensures later { OnOk result
+            (unsaid self.new.said (drop self.new.at self.new.steps)
+            ≡ later_steps self.old.told (length buf.old)
+            (unsaid self.old.said (drop self.old.at self.old.steps))) }
+        ensures kept { OnErr result
+            (unsaid self.new.said (drop self.new.at self.new.steps)
+            ≡ unsaid self.old.said (drop self.old.at self.old.steps)) }
         ensures silent { OnErr result (self.new.told ≡ self.old.told) }
         ensures sends { self.new.sends ≡ self.old.sends }
         ensures told { GainsTurn (Some self.old.told) (Some self.new.told) result buf.new }
@@ -225,7 +264,9 @@ impl Floor for ScriptFloor {
         ensures follows { IfOk result (λ turn. Follows self.old.told (told_of turn buf.new)) }
         ensures cause { HasCause self.old.turns.faults self.new.turns.faults result }
         ensures calm { OnOk result (self.new.turns.faults ≡ self.old.turns.faults) }
-        ensures counts { KeepsCounts (script_heard self.old.told self.old.begun self.old.turns.faults) (script_heard self.new.told self.new.begun self.new.turns.faults) }
+        ensures counts { KeepsCounts
+            (script_heard self.old.told self.old.begun self.old.turns.faults)
+            (script_heard self.new.told self.new.begun self.new.turns.faults) }
     {
         self.turns.call()?;
         self.fed_turn(buf)
@@ -235,14 +276,21 @@ impl Floor for ScriptFloor {
         requires sound { is_sound session self.old.told ≡ true }
         ensures listed { is_listed self.old.sends ≡ true → IsErr result }
         ensures counted { self.new.sends ≡ after_call self.old.sends (is_err result) }
-        ensures starved { self.new.starved ≡ (if is_err result && not (is_listed self.old.sends) then one_more self.old.starved else self.old.starved) }
+        ensures starved { self.new.starved
+            ≡ (if is_err result && not (is_listed self.old.sends) then one_more self.old.starved
+            else self.old.starved) }
         ensures begun { self.new.begun ≡ self.old.begun }
-        ensures told { self.new.told ≡ self.old.told ++ send_event session bytes.now (is_ok result) ∷ [] }
-        ensures steps { unsaid self.new.said (drop self.new.at self.new.steps) ≡ unsaid self.old.said (drop self.old.at self.old.steps) }
+        ensures told { self.new.told
+            ≡ self.old.told ++ send_event session bytes.now (is_ok result) ∷ [] }
+        ensures steps { unsaid self.new.said (drop self.new.at self.new.steps)
+            ≡ unsaid self.old.said (drop self.old.at self.old.steps) }
         ensures turns { self.new.turns ≡ self.old.turns }
-        ensures cause { HasCause (session_count self.old.told session) (session_count self.new.told session) result }
-        ensures calm { OnOk result (session_count self.new.told session ≡ session_count self.old.told session) }
-        ensures others { (other : ℕ) → session_count self.old.told other ≤ session_count self.new.told other }
+        ensures cause { HasCause (session_count self.old.told session)
+            (session_count self.new.told session) result }
+        ensures calm { OnOk result
+            (session_count self.new.told session ≡ session_count self.old.told session) }
+        ensures others { (other : ℕ)
+            → session_count self.old.told other ≤ session_count self.new.told other }
     {
         if self.sends.call().is_err() {
             self.lose(session);
@@ -254,12 +302,15 @@ impl Floor for ScriptFloor {
     fn hang_up(&mut self, session: u64)
         requires live { is_open session self.old.told ≡ true }
         ensures told { self.new.told ≡ self.old.told ++ HungUp session ∷ [] }
-        ensures steps { unsaid self.new.said (drop self.new.at self.new.steps) ≡ unsaid self.old.said (drop self.old.at self.old.steps) }
+        ensures steps { unsaid self.new.said (drop self.new.at self.new.steps)
+            ≡ unsaid self.old.said (drop self.old.at self.old.steps) }
         ensures turns { self.new.turns ≡ self.old.turns }
         ensures sends { self.new.sends ≡ self.old.sends }
         ensures starved { self.new.starved ≡ self.old.starved }
         ensures begun { self.new.begun ≡ self.old.begun }
-        ensures counts { KeepsCounts (script_heard self.old.told self.old.begun self.old.turns.faults) (script_heard self.new.told self.new.begun self.new.turns.faults) }
+        ensures counts { KeepsCounts
+            (script_heard self.old.told self.old.begun self.old.turns.faults)
+            (script_heard self.new.told self.new.begun self.new.turns.faults) }
     {
         self.told.hang_up(session);
     }

@@ -1,7 +1,7 @@
 use mail_base::Text;
 
-/// What comes in a turn of a [`ScriptFloor`](crate::ScriptFloor). Its sessions have the numbers 1, 2 and so
-/// on, in the order in which they are opened.
+/// What comes in a turn of a [`ScriptFloor`](crate::ScriptFloor). Its sessions have the numbers 1,
+/// 2 and so on, in the order in which they are opened.
 #[derive(Drop)]
 pub enum Step {
     /// A session is opened by the peer of that address: at most 64 bytes, none of them LF.

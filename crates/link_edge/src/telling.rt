@@ -10,8 +10,8 @@ use mail_base::{NoMemory, Text};
 use std::alloc::Global;
 use std::marker::Model;
 
-/// The history of a floor in memory. It keeps room for what can't fail: a hang-up of each open session, and
-/// a failed send to each to which none has failed. A contract sees the history.
+/// The history of a floor in memory. It keeps room for what can't fail: a hang-up of each open
+/// session, and a failed send to each to which none has failed. A contract sees the history.
 #[derive(Drop)]
 pub(crate) struct Telling {
     told: Vec<FloorEvent>,
@@ -29,7 +29,8 @@ impl Model for Telling {
 
     ghost view = { λ t. t.told.items };
 
-    ghost invariant = { λ t. IsKept t.told.items t.live.items t.sound.items t.opened (vec_capacity t.told) };
+    ghost invariant = { λ t. IsKept t.told.items t.live.items t.sound.items t.opened
+        (vec_capacity t.told) };
 }
 
 impl Telling {
@@ -65,7 +66,8 @@ impl Telling {
 
     // Tells that a session was opened, and gives it its number.
     pub(crate) fn open(&mut self, peer: &[u8]) -> Result<u64, NoMemory>
-        ensures told { IfOk result (λ session. self.new ≡ self.old ++ Took (Opens session peer.now) ∷ []) }
+        ensures told { IfOk result
+            (λ session. self.new ≡ self.old ++ Took (Opens session peer.now) ∷ []) }
         ensures number { IfOk result (λ session. session ≡ next_number self.old) }
         ensures unused { IfOk result (λ session. count_by (opens session) self.old ≡ 0) }
         ensures kept { OnErr result (self.new ≡ self.old) }
@@ -180,7 +182,8 @@ fn add(
 fn leave(sessions: &mut Vec<u64>, session: u64)
     ensures without { sessions.new.items ≡ without session sessions.old.items }
     ensures fewer { length sessions.new.items ≤ length sessions.old.items }
-    ensures one_less { is_among session sessions.old.items ≡ true → length sessions.new.items + 1 ≤ length sessions.old.items }
+    ensures one_less { is_among session sessions.old.items ≡ true
+        → length sessions.new.items + 1 ≤ length sessions.old.items }
 {
     sessions.retain(|other| *other != session);
 }

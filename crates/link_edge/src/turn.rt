@@ -1,5 +1,5 @@
-/// What a turn of a floor brought. A session is named by a number that is never used twice; a count is of
-/// the bytes that stand at the front of the buffer.
+/// What a turn of a floor brought. A session is named by a number that is never used twice; a count
+/// is of the bytes that stand at the front of the buffer.
 #[derive(Clone, Copy, Debug, PartialEq, Eq)]
 pub enum Turn {
     /// A session was opened, and so many bytes are its peer's address: at most 64, none of them LF.

@@ -1,4 +1,5 @@
--- What is left of one step after its turn: what the loop over the steps goes by. It need not be believed: no public contract cites it.
+-- What is left of one step after its turn: what the loop over the steps goes by. It need not be
+-- believed: no public contract cites it.
 use Rattle.std.specs.Prelude.{ℕ, List, [], ◌∷◌, Option, Some, None}
 use Rattle.link_edge.specs.declared.step.Step.{Step}
 use Rattle.link_edge.specs.Steps.{without_said}
