@@ -14,7 +14,7 @@ use Rattle.sendmail_run.specs.declared.command_line.Saying.{Saying}
 use Rattle.sendmail_run.specs.declared.command_line.WordFault.{WordFault}
 use Rattle.sendmail_run.specs.declared.command_line.WordFault.TheVariants.{At, NoMemory}
 use Rattle.sendmail_run.specs.inner.Words.{command_line, job_said, judged, nothing, read_options, Gives, Fails}
-use Rattle.sendmail_run.specs.CommandLines.{Flag, Does, Joined, Apart, word_of, spelling, jobs_in, files_in, IsFile, IsCommandLine, AreOptions, BeginsOptions, IsBadWord, LacksFile, LacksMode, IsRefusedAt, Fails as Refuses, Gives as Says}
+use Rattle.sendmail_run.specs.CommandLines.{Flag, Does, Joined, Apart, word_of, spelling, jobs_in, files_in, IsFile, IsCommandLine, AreOptions, BeginsOptions, IsBadWord, LacksFile, LacksMode, IsRefusedAt, Gives as Says}
 
 abbrev said : Option Job → Option (List ℕ) → Bool → Saying
 said job file awaits = record { job = job; file = file; awaits_file = awaits }
@@ -472,9 +472,6 @@ one_place words place other is also = same_denied place other (sym (refused_is w
 -- words that are a command line aren't refused
 pub not_both : (words : List (List ℕ)) (mode : Mode) (place : ℕ) → IsCommandLine words mode → ¬ (IsRefusedAt words place)
 not_both words mode place line is = let both = sym (line_is words mode line) ∙ refused_is words place is in cc both
-
-pub not_failed : (words : List (List ℕ)) (mode : Mode) (fault : WordFault) (place : ℕ) → IsCommandLine words mode → fault ≡ At place → ¬ (Refuses fault words)
-not_failed words mode fault place line at is = not_both words mode place line (subst (λ (f : WordFault). Refuses f words) at is)
 
 either_of : (words : List (List ℕ)) (read : Result Mode ℕ) → command_line words ≡ read → ((mode : Mode) × IsCommandLine words mode) ⊎ ((place : ℕ) × IsRefusedAt words place)
 either_of words (Ok mode) e = inl (mode, is_line words mode e)

@@ -35,7 +35,7 @@ use Rattle.mail_core.specs.Events.{IsTaken, IsHeardAt, Turns, event_of}
 use Rattle.mail_core.specs.Machine.{beginning}
 use Rattle.mail_core.specs.Runs.{run_over}
 use Rattle.mail_core.specs.inner.UnderWay.{IsUnderWay}
-use Rattle.mail_core.specs.Seen.{Seen, seen}
+use Rattle.mail_core.specs.Seen.{Seen}
 use Rattle.mail_core.specs.Standing.{Stands, Stores, IsStanding}
 use Rattle.mail_core.specs.Messages.{dirs_of}
 use Rattle.sendmail_run.specs.declared.session_mode.SessionEnd.{SessionEnd}
@@ -58,17 +58,6 @@ reads_none a = record { later = le_refl a.moment; now = same_leads a.told; image
 -- what no call changed is left alone
 pub left_alone : (a : Seen) → IsLeftAlone a a
 left_alone a = record { floor = refl; clock = refl; spool = reads_none a.spool; spool_faults = refl }
-
-unserved : (f : Heard) (s t : Spooled) (k : ClockSeen) → Reads s t → s.faults ≤ t.faults → IsUnserved (seen f s k) (seen f t k)
-unserved f s t k reads later = record { floor = refl; clock = refl; spool = reads; spool_faults = later }
-
--- there was no memory for the buffer
-pub serves_none : (site : Site) → (f : Heard) (s : Spooled) (k : ClockSeen) → Serves site (seen f s k) (seen f s k) (ends.NotOpened faults.NoMemory)
-serves_none site f s k = (unserved f s s k (reads_none s) (le_refl s.faults), tt)
-
--- the queue wasn't opened
-pub serves_refused : (site : Site) → (f : Heard) (s t : Spooled) (k : ClockSeen) (fault : OpenFault) → Reads s t → s.faults ≤ t.faults → HasRefused site s t fault → Serves site (seen f s k) (seen f t k) (ends.NotOpened fault)
-serves_refused site f s t k fault reads later is = (unserved f s t k reads later, is)
 
 -- the store wasn't opened
 pub refused_by : (site : Site) → (s t : Spooled) (dirs : List (List ℕ)) (fault : OpenFault) → dirs ≡ dirs_of site → (IsErrOf {T = Store} (Err fault) faults.NotYet → IfSome s.told (IsUsed dirs)) → (IsErrOf {T = Store} (Err fault) faults.SpoolFault → Rose s.faults t.faults) → HasRefused site s t fault

@@ -9,7 +9,8 @@ use Rattle.cf_reader.specs.Configuration.{configuration}
 use Rattle.sendmail_run.specs.declared.fault.ConfigFault.{ConfigFault}
 use Rattle.sendmail_run.specs.declared.fault.ConfigFault.TheVariants as faults
 
--- the configuration that the file of that name says, or its first faulty line; nothing where there is no such file
+-- the configuration that the file of that name says, or its first faulty line; nothing where there
+-- is no such file
 abbrev pub said_by : FileMap → List ℕ → Option (Result Config CfFault)
 said_by files name = option_map (configuration files) (text_of files name)
 
@@ -21,7 +22,8 @@ Says files name said = IfSome files.map (λ map. said_by map name ≡ said)
 abbrev pub Refuses : List ℕ → FilesSeen → FilesSeen → ConfigFault → Type 0
 Refuses name before after (faults.NoFile missing) = (missing ≡ name) × Says before name None
 Refuses name before after faults.FilesFault = Rose before.faults after.faults
-Refuses name before after (faults.Refused line fault) = Says before name (Some (Err (reasons.Refused line fault)))
+Refuses name before after (faults.Refused line fault) =
+    Says before name (Some (Err (reasons.Refused line fault)))
 Refuses name before after faults.NoMemory = Unit {0}
 
 -- the configuration that the file of that name gives, or why it gives none

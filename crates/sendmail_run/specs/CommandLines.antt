@@ -1,4 +1,5 @@
--- Command lines (Sendmail Installation and Operation Guide, "Command Line Flags"), as far as their modes are built: `-bt` and `-bs`, with `-C file` or `-Cfile`.
+-- Command lines (Sendmail Installation and Operation Guide, "Command Line Flags"), as far as their
+-- modes are built: `-bt` and `-bs`, with `-C file` or `-Cfile`.
 use Rattle.std.specs.Prelude.{◌≡◌, ◌≤◌, ℕ, List, [], ◌∷◌, ◌++◌, length, codes, Result, Ok, Err, ◌⊎◌}
 use Rattle.std.specs.List.{flat_map}
 use Rattle.sendmail_run.specs.declared.command_line.Job.{Job}
@@ -7,7 +8,8 @@ use Rattle.sendmail_run.specs.declared.command_line.Mode.{Mode}
 use Rattle.sendmail_run.specs.declared.command_line.WordFault.{WordFault}
 use Rattle.sendmail_run.specs.declared.command_line.WordFault.TheVariants as faults
 
--- an option as it is written: a mode; `-C` with a name that isn't empty in the same word; `-C` with the next word as the name, whatever it is
+-- an option as it is written: a mode; `-C` with a name that isn't empty in the same word; `-C` with
+-- the next word as the name, whatever it is
 pub data Flag : Type 0 where
   Does : (job : Job) → Flag
   Joined : (first : ℕ) (others : List ℕ) → Flag
@@ -55,11 +57,13 @@ pub record AreOptions (flags : List Flag) (words : List (List ℕ)) : Type 0 whe
 
 -- the words begin options: with more words, or with none, they are options
 abbrev pub BeginsOptions : List (List ℕ) → Type 0
-BeginsOptions words = (more : List (List ℕ)) × (flags : List Flag) × AreOptions flags (words ++ more)
+BeginsOptions words =
+    (more : List (List ℕ)) × (flags : List Flag) × AreOptions flags (words ++ more)
 
 -- The refusals, in their order: each says that none before it applies.
 
--- 1. The word at this place is no option, or is the second of its kind: those before it begin options, and with it they begin none.
+-- 1. The word at this place is no option, or is the second of its kind: those before it begin
+-- options, and with it they begin none.
 pub record IsBadWord (words : List (List ℕ)) (place : ℕ) : Type 0 where
   pub front : List (List ℕ)
   pub word : List ℕ
@@ -69,7 +73,8 @@ pub record IsBadWord (words : List (List ℕ)) (place : ℕ) : Type 0 where
   pub good : BeginsOptions front
   pub bad : ¬ (BeginsOptions (front ++ word ∷ []))
 
--- 2. The words begin options and are none: the name of a file is missing, which would stand at their number.
+-- 2. The words begin options and are none: the name of a file is missing, which would stand at
+-- their number.
 pub record LacksFile (words : List (List ℕ)) (place : ℕ) : Type 0 where
   pub at : place ≡ length words
   pub good : BeginsOptions words

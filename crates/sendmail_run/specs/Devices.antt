@@ -14,7 +14,15 @@ pub record World : Type 1 where
   pub clock : ClockSeen
 
 abbrev pub world : FilesSeen → SourceSeen → SinkSeen → Heard → Spooled → ClockSeen → World
-world files input output floor spool clock = record { files = files; input = input; output = output; floor = floor; spool = spool; clock = clock }
+world files input output floor spool clock =
+    record {
+      files = files;
+      input = input;
+      output = output;
+      floor = floor;
+      spool = spool;
+      clock = clock;
+    }
 
 -- what is seen of the input and the output
 pub record Streams : Type 0 where

@@ -1,5 +1,6 @@
--- The maps that a mode reads before its work: the files of K lines in their order, and then the host table (Sendmail Installation and Operation Guide, K; hosts(5); that a file
--- without `-o` must be there is own).
+-- The maps that a mode reads before its work: the files of K lines in their order, and then the
+-- host table (Sendmail Installation and Operation Guide, K; hosts(5); that a file without `-o` must
+-- be there is own).
 use Rattle.std.specs.Prelude.{◌≡◌, List, [], Bool, ◌&&◌, not, Option, Some, None, option_map, is_none, unwrap_or, IfSome, Result, Ok, Err, ℕ}
 use Rattle.std.specs.List.{find, filter_map}
 use Rattle.mail_base.specs.declared.config.Config.{Config}
@@ -42,7 +43,8 @@ hosts_in files name = unwrap_or (text_of files name) []
 
 -- the maps of a configuration over files
 abbrev pub maps_of : FileMap → Config → Loaded
-maps_of files config = loaded config.maps (found_among files (wanted_files config.maps)) (hosts_in files config.options.hosts_file)
+maps_of files config = loaded config.maps (found_among files (wanted_files config.maps))
+    (hosts_in files config.options.hosts_file)
 
 module _ {V : Type 0} where
   -- a value, or the name of a file that is missing

@@ -1,4 +1,5 @@
--- The outcomes of a run: what each step's own result is told as, and the status of each (sysexits; 76 and up where it has none; the outcomes are own).
+-- The outcomes of a run: what each step's own result is told as, and the status of each (sysexits;
+-- 76 and up where it has none; the outcomes are own).
 use Rattle.std.specs.Prelude.{ℕ}
 use Rattle.spool_store.specs.declared.fault.OpenFault.{OpenFault}
 use Rattle.spool_store.specs.declared.fault.OpenFault.TheVariants as open_faults

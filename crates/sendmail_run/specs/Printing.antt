@@ -1,4 +1,5 @@
--- What address test mode prints (Sendmail Installation and Operation Guide, "Address Testing Mode"; the warnings are own).
+-- What address test mode prints (Sendmail Installation and Operation Guide, "Address Testing Mode";
+-- the warnings are own).
 use Rattle.std.specs.Prelude.{◌≡◌, ℕ, List, ◌++◌, codes}
 use Rattle.std.specs.Fmt.{decimal}
 use Rattle.std.specs.List.{flat_map}
@@ -22,6 +23,9 @@ pub record Basis : Type 0 where
 abbrev pub basis : Config → Loaded → Basis
 basis config maps = record { config = config; maps = maps }
 
--- what is printed for lines of input: the warnings of the configuration first, and then the answers, the first under that configuration
+-- what is printed for lines of input: the warnings of the configuration first, and then the
+-- answers, the first under that configuration
 abbrev pub Prints : Basis → List (List ℕ) → List ℕ → Type 0
-Prints basis lines text = (answers : List ℕ) × (last : Config) × Printed basis.maps basis.config lines answers last × (text ≡ warnings_text basis.config.warnings ++ answers)
+Prints basis lines text = (answers : List ℕ) × (last : Config)
+    × Printed basis.maps basis.config lines answers last
+    × (text ≡ warnings_text basis.config.warnings ++ answers)

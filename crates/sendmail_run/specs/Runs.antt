@@ -1,4 +1,5 @@
--- How a run ends, what stays as it was, and where the whole work of a mode is done (Sendmail Installation and Operation Guide, "Command Line Flags"; the outcomes are own).
+-- How a run ends, what stays as it was, and where the whole work of a mode is done (Sendmail
+-- Installation and Operation Guide, "Command Line Flags"; the outcomes are own).
 use Rattle.std.specs.Prelude.{◌≡◌, ℕ, ◌^◌, ◌<◌, List, length, Option, Some, None, Ok, Err, ◌⊎◌}
 use Rattle.mail_base.specs.declared.config.Config.{Config}
 use Rattle.mail_base.specs.Histories.{Rose}
@@ -40,7 +41,8 @@ pub record IsUntouched (before after : World) : Type 0 where
   pub alone : IsLeftAlone (core_of before) (core_of after)
 
 -- the words were refused, and the files left alone too
-pub record EndsAtWords (words : List (List ℕ)) (before after : World) (outcome : Outcome) : Type 0 where
+pub record EndsAtWords (words : List (List ℕ)) (before after : World)
+    (outcome : Outcome) : Type 0 where
   pub fault : WordFault
   pub told : outcome ≡ of_words fault
   pub fails : Fails fault words
@@ -48,7 +50,8 @@ pub record EndsAtWords (words : List (List ℕ)) (before after : World) (outcome
   pub files : after.files ≡ before.files
 
 -- the words were taken, and the file that they name gave no configuration
-pub record EndsAtFile (words : List (List ℕ)) (before after : World) (outcome : Outcome) : Type 0 where
+pub record EndsAtFile (words : List (List ℕ)) (before after : World)
+    (outcome : Outcome) : Type 0 where
   pub mode : Mode
   pub said : IsCommandLine words mode
   pub fault : ConfigFault
@@ -81,11 +84,13 @@ pub record HasServed (config : Config) (before after : World) (outcome : Outcome
 
 -- how the work of a mode ends
 abbrev pub Works : Job → Config → World → World → Outcome → Type 0
-Works Test config before after outcome = EndsAtMaps config before after outcome ⊎ HasTested config before after outcome
+Works Test config before after outcome =
+    EndsAtMaps config before after outcome ⊎ HasTested config before after outcome
 Works Session config before after outcome = HasServed config before after outcome
 
 -- the words were taken, the file that they name is a configuration, and the mode's work was done
-pub record EndsAtWork (words : List (List ℕ)) (before after : World) (outcome : Outcome) : Type 0 where
+pub record EndsAtWork (words : List (List ℕ)) (before after : World)
+    (outcome : Outcome) : Type 0 where
   pub mode : Mode
   pub said : IsCommandLine words mode
   pub config : Config
@@ -94,11 +99,13 @@ pub record EndsAtWork (words : List (List ℕ)) (before after : World) (outcome 
 
 -- a run ends at the first of its steps that refuses, or with its mode's work
 abbrev pub Ends : List (List ℕ) → World → World → Outcome → Type 0
-Ends words before after outcome = EndsAtWords words before after outcome ⊎ EndsAtFile words before after outcome ⊎ EndsAtWork words before after outcome
+Ends words before after outcome = EndsAtWords words before after outcome
+    ⊎ EndsAtFile words before after outcome ⊎ EndsAtWork words before after outcome
 
 -- ---- what stays
 
--- the files stay as they are; no count of faults falls, and one that has risen ended the run with that device's fault
+-- the files stay as they are; no count of faults falls, and one that has risen ended the run with
+-- that device's fault
 pub record Stays (before after : World) (outcome : Outcome) : Type 0 where
   pub map : after.files.map ≡ before.files.map
   pub files : Counts ends.FilesFault outcome before.files.faults after.files.faults
@@ -126,7 +133,8 @@ abbrev pub Finds : Job → Config → FileMap → World → Type 0
 Finds Test config files before = (first_missing files config ≡ None) × IsShort before.input.left
 Finds Session config files before = IsQueueEmpty config before.spool.told
 
--- the words say this mode, they, the file and its lines are all taken, of files that are told, and the mode finds what it wants
+-- the words say this mode, they, the file and its lines are all taken, of files that are told, and
+-- the mode finds what it wants
 pub record IsReady (words : List (List ℕ)) (before : World) (job : Job) : Type 0 where
   pub mode : Mode
   pub said : IsCommandLine words mode
@@ -139,19 +147,24 @@ pub record IsReady (words : List (List ℕ)) (before : World) (job : Job) : Type
 
 -- no device of a mode failed; a send may have
 abbrev pub NoneFailed : Job → World → World → Type 0
-NoneFailed Test before after = ¬ (Rose before.input.faults after.input.faults) × ¬ (Rose before.output.faults after.output.faults)
-NoneFailed Session before after = ¬ (Rose before.floor.faults after.floor.faults) × ¬ (Rose before.spool.faults after.spool.faults)
+NoneFailed Test before after = ¬ (Rose before.input.faults after.input.faults)
+    × ¬ (Rose before.output.faults after.output.faults)
+NoneFailed Session before after = ¬ (Rose before.floor.faults after.floor.faults)
+    × ¬ (Rose before.spool.faults after.spool.faults)
 
 -- neither the files nor a device of the mode failed
 pub record IsSound (job : Job) (before after : World) : Type 0 where
   pub files : ¬ (Rose before.files.faults after.files.faults)
   pub own : NoneFailed job before after
 
--- the whole work of a mode was done, or memory ran out; in session mode 2^60 turns or the ids may have been spent
+-- the whole work of a mode was done, or memory ran out; in session mode 2^60 turns or the ids may
+-- have been spent
 abbrev pub IsWhole : Job → Outcome → Type 0
 IsWhole Test outcome = (outcome ≡ ends.Done) ⊎ (outcome ≡ ends.NoMemory)
-IsWhole Session outcome = (outcome ≡ ends.Done) ⊎ (outcome ≡ ends.NoMemory) ⊎ (outcome ≡ ends.IdsSpent) ⊎ (outcome ≡ ends.TurnsSpent (2 ^ 60))
+IsWhole Session outcome = (outcome ≡ ends.Done) ⊎ (outcome ≡ ends.NoMemory)
+    ⊎ (outcome ≡ ends.IdsSpent) ⊎ (outcome ≡ ends.TurnsSpent (2 ^ 60))
 
 -- a run that is ready for its mode, and in which no device of it fails, does the mode's whole work
 abbrev pub Completes : List (List ℕ) → World → World → Outcome → Type 0
-Completes words before after outcome = (job : Job) → IsReady words before job → IsSound job before after → IsWhole job outcome
+Completes words before after outcome =
+    (job : Job) → IsReady words before job → IsSound job before after → IsWhole job outcome

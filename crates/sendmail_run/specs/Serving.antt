@@ -1,4 +1,5 @@
--- How session mode ends, and what was served by then (Sendmail Installation and Operation Guide, "Command Line Flags": -bs; the replies are those of RFC 5321; the ends are own).
+-- How session mode ends, and what was served by then (Sendmail Installation and Operation Guide,
+-- "Command Line Flags": -bs; the replies are those of RFC 5321; the ends are own).
 use Rattle.std.specs.Prelude.{◌≡◌, ℕ, ◌+◌, ◌^◌, ◌≤◌, List, [], length, take, None, IfSome, Result, Ok, Err, codes, true}
 use Rattle.mail_base.specs.declared.config.Config.{Config}
 use Rattle.mail_base.specs.Histories.{Rose}
@@ -42,14 +43,16 @@ pub record IsLeftAlone (a b : Seen) : Type 0 where
   pub spool : Reads a.spool b.spool
   pub spool_faults : b.spool.faults ≡ a.spool.faults
 
--- nothing was served: the spool was only read, and the floor and the clock are as before, so the floor was not begun
+-- nothing was served: the spool was only read, and the floor and the clock are as before, so the
+-- floor was not begun
 pub record IsUnserved (a b : Seen) : Type 0 where
   pub floor : b.floor ≡ a.floor
   pub clock : b.clock ≡ a.clock
   pub spool : Reads a.spool b.spool
   pub spool_faults : a.spool.faults ≤ b.spool.faults
 
--- where the files of the spool are told, the queue was empty, and so they were exactly those of the unused table
+-- where the files of the spool are told, the queue was empty, and so they were exactly those of the
+-- unused table
 abbrev pub BeganEmpty : Site → Seen → Type 0
 BeganEmpty site a = IfSome a.spool.told (IsClean (dirs_of site) start)
 
@@ -57,7 +60,9 @@ BeganEmpty site a = IfSome a.spool.told (IsClean (dirs_of site) start)
 abbrev pub IsBegun : Seen → Seen → Type 0
 IsBegun a b = b.floor.begun ≡ begun_after a.floor.begun Standard 1
 
--- the floor was begun so, so many turns were served, and the run goes on after them: what floor and clock tell since is the machine's run of these turns, the files are those of its table, and each final 250 names an entry whose two files are there (`Headline`)
+-- the floor was begun so, so many turns were served, and the run goes on after them: what floor and
+-- clock tell since is the machine's run of these turns, the files are those of its table, and each
+-- final 250 names an entry whose two files are there (`Headline`)
 pub record IsServed (site : Site) (count : ℕ) (a b : Seen) : Type 0 where
   pub turns : List Turn
   pub events : length turns ≡ count

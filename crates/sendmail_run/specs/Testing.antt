@@ -1,4 +1,5 @@
--- How address test mode ends, and what it took and wrote by then (Sendmail Installation and Operation Guide, "Address Testing Mode"; the ends are own).
+-- How address test mode ends, and what it took and wrote by then (Sendmail Installation and
+-- Operation Guide, "Address Testing Mode"; the ends are own).
 use Rattle.std.specs.Prelude.{◌≡◌, ℕ, ◌^◌, ◌<◌, ◌≤◌, List, [], ◌∷◌, ◌++◌, length, Bool, true, false, ◌==◌, if◌then◌else◌, IfSome, ◌⊎◌}
 use Rattle.std.specs.List.{list_any}
 use Rattle.mail_base.specs.Histories.{Gains, Rose}
@@ -37,7 +38,8 @@ IsAtEnd after = IfSome after.input.left (λ left. left ≡ [])
 
 -- the input came to its end before 2^32 bytes of it, or to the line `/quit` within these
 abbrev pub IsOver : Streams → List ℕ → Type 0
-IsOver after taken = (IsAtEnd after × (length taken < 2 ^ 32)) ⊎ ((holds_quit taken ≡ true) × (length taken ≤ 2 ^ 32))
+IsOver after taken = (IsAtEnd after × (length taken < 2 ^ 32))
+    ⊎ ((holds_quit taken ≡ true) × (length taken ≤ 2 ^ 32))
 
 -- all lines up to the end of the input or `/quit` were answered
 pub record IsDone (basis : Basis) (before after : Streams) : Type 0 where
@@ -58,7 +60,8 @@ pub record IsCutOff (basis : Basis) (before after : Streams) (taken : List ℕ) 
 
 -- these lines stand first among those that an LF ends, or at the input's end among all
 abbrev pub StandFirst : Streams → List ℕ → List (List ℕ) → List (List ℕ) → Type 0
-StandFirst after taken first later = (ended_lines taken ≡ first ++ later) ⊎ (IsAtEnd after × (physical_lines taken ≡ first ++ later))
+StandFirst after taken first later =
+    (ended_lines taken ≡ first ++ later) ⊎ (IsAtEnd after × (physical_lines taken ≡ first ++ later))
 
 -- what was written is a front of what the first lines of the input are answered with
 pub record WritesFront (basis : Basis) (taken : List ℕ) (before after : Streams) : Type 0 where
@@ -94,5 +97,6 @@ abbrev pub Tests : Basis → Streams → Streams → TestEnd → Type 0
 Tests basis before after ends.Done = IsDone basis before after
 Tests basis before after ends.ReadFault = HasLostInput basis before after
 Tests basis before after ends.InputLarge = IsLarge basis before after
-Tests basis before after ends.WriteFault = IsBroken basis before after × Rose before.output.faults after.output.faults
+Tests basis before after ends.WriteFault =
+    IsBroken basis before after × Rose before.output.faults after.output.faults
 Tests basis before after ends.NoMemory = IsBroken basis before after

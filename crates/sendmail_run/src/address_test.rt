@@ -37,8 +37,9 @@ pub enum TestEnd {
     NoMemory,
 }
 
-/// Gives the warnings of the configuration on the output, and then answers each line of input, up to
-/// the end of the input or the line `/quit`. A line may change the configuration for those behind it.
+/// Gives the warnings of the configuration on the output, and then answers each line of input, up
+/// to the end of the input or the line `/quit`. A line may change the configuration for those
+/// behind it.
 pub fn address_test<I: Source, O: Sink>(
     alloc: Global,
     config: &mut Config,
@@ -46,11 +47,15 @@ pub fn address_test<I: Source, O: Sink>(
     input: &mut I,
     output: &mut O,
 ) -> TestEnd
-    ensures tests { Tests (basis config.old maps.now) (streams (I.seen input.old) (O.seen output.old)) (streams (I.seen input.new) (O.seen output.new)) result }
+    ensures tests { Tests (basis config.old maps.now)
+        (streams (I.seen input.old) (O.seen output.old))
+        (streams (I.seen input.new) (O.seen output.new)) result }
     ensures input { (I.seen input.old).faults ≤ (I.seen input.new).faults }
     ensures output { (O.seen output.old).faults ≤ (O.seen output.new).faults }
-    ensures read { RisesOnlyAt ReadFault (of_test result) (I.seen input.old).faults (I.seen input.new).faults }
-    ensures written { RisesOnlyAt WriteFault (of_test result) (O.seen output.old).faults (O.seen output.new).faults }
+    ensures read { RisesOnlyAt ReadFault (of_test result) (I.seen input.old).faults
+        (I.seen input.new).faults }
+    ensures written { RisesOnlyAt WriteFault (of_test result) (O.seen output.old).faults
+        (O.seen output.new).faults }
 {
     let Ok(mut buffer) = zeros(alloc, MOST_PIECE) else {
         return TestEnd::NoMemory;
@@ -68,11 +73,15 @@ fn answer_all<I: Source, O: Sink>(
     buffer: &mut [u8],
 ) -> TestEnd
     requires buffer { 0 < length buffer.old }
-    ensures tests { Tests (basis config.old maps.now) (streams (I.seen input.old) (O.seen output.old)) (streams (I.seen input.new) (O.seen output.new)) result }
+    ensures tests { Tests (basis config.old maps.now)
+        (streams (I.seen input.old) (O.seen output.old))
+        (streams (I.seen input.new) (O.seen output.new)) result }
     ensures input { (I.seen input.old).faults ≤ (I.seen input.new).faults }
     ensures output { (O.seen output.old).faults ≤ (O.seen output.new).faults }
-    ensures read { RisesOnlyAt ReadFault (of_test result) (I.seen input.old).faults (I.seen input.new).faults }
-    ensures written { RisesOnlyAt WriteFault (of_test result) (O.seen output.old).faults (O.seen output.new).faults }
+    ensures read { RisesOnlyAt ReadFault (of_test result) (I.seen input.old).faults
+        (I.seen input.new).faults }
+    ensures written { RisesOnlyAt WriteFault (of_test result) (O.seen output.old).faults
+        (O.seen output.new).faults }
 {
     let Ok(warnings) = warnings_of(alloc, config) else {
         return TestEnd::NoMemory;
@@ -105,8 +114,10 @@ fn take_most<I: Source>(input: &mut I, buffer: &mut [u8], most: u64) -> Result<u
     requires most { 0 < most }
     ensures bound { IfOk result (λ count. count ≤ length buffer.new) }
     ensures most { IfOk result (λ count. count ≤ most) }
-    ensures taken { IfOk result (λ count. Loses (I.seen input.old).left (I.seen input.new).left (take count buffer.new)) }
-    ensures end { IfOk result (λ count. IfSome (I.seen input.old).left (λ bytes. (count ≡ 0) ↔ (bytes ≡ []))) }
+    ensures taken { IfOk result
+        (λ count. Loses (I.seen input.old).left (I.seen input.new).left (take count buffer.new)) }
+    ensures end { IfOk result
+        (λ count. IfSome (I.seen input.old).left (λ bytes. (count ≡ 0) ↔ (bytes ≡ []))) }
     ensures kept { OnErr result ((I.seen input.new).left ≡ (I.seen input.old).left) }
     ensures cause { HasCause (I.seen input.old).faults (I.seen input.new).faults result }
     ensures calm { OnOk result ((I.seen input.new).faults ≡ (I.seen input.old).faults) }
@@ -130,7 +141,11 @@ fn answer_piece<O: Sink>(
     bytes: &[u8],
     output: &mut O,
 ) -> Step
-    ensures went { (start : Config) (before : Streams) (input : SourceSeen) (taken : List ℕ) → At (basis start maps.now) config.old before (streams input (O.seen output.old)) (taken ++ bytes.now) taken partial.old → Went (basis start maps.now) config.new before (streams input (O.seen output.new)) (taken ++ bytes.now) partial.new result }
+    ensures went { (start : Config) (before : Streams) (input : SourceSeen) (taken : List ℕ)
+        → At (basis start maps.now) config.old before (streams input (O.seen output.old))
+        (taken ++ bytes.now) taken partial.old
+        → Went (basis start maps.now) config.new before (streams input (O.seen output.new))
+        (taken ++ bytes.now) partial.new result }
     ensures later { (O.seen output.old).faults ≤ (O.seen output.new).faults }
     ensures rises { RisesOnlyIn result (O.seen output.old).faults (O.seen output.new).faults }
 {
@@ -150,8 +165,10 @@ fn answer_piece<O: Sink>(
 }
 
 fn give<O: Sink>(output: &mut O, text: &Text) -> Result<(), Failed>
-    ensures written { OnOk result (Gains (O.seen output.old).written (O.seen output.new).written text.now) }
-    ensures part { OnErr result (GainsPart (O.seen output.old).written (O.seen output.new).written text.now) }
+    ensures written { OnOk result
+        (Gains (O.seen output.old).written (O.seen output.new).written text.now) }
+    ensures part { OnErr result
+        (GainsPart (O.seen output.old).written (O.seen output.new).written text.now) }
     ensures cause { HasCause (O.seen output.old).faults (O.seen output.new).faults result }
     ensures calm { OnOk result ((O.seen output.new).faults ≡ (O.seen output.old).faults) }
 {
@@ -176,7 +193,11 @@ fn answer_lines(
     partial: &mut Partial,
     bytes: &[u8],
 ) -> Result<Answers, NoMemory>
-    ensures { IfOk result (λ answers. (start : Config) (taken text : List ℕ) → Stands (basis start maps.now) config.old taken partial.old text → Answered (basis start maps.now) config.new (taken ++ bytes.now) partial.new (text ++ answers.text) answers.is_quit) }
+    ensures { IfOk result
+        (λ answers. (start : Config) (taken text : List ℕ)
+        → Stands (basis start maps.now) config.old taken partial.old text
+        → Answered (basis start maps.now) config.new (taken ++ bytes.now) partial.new
+        (text ++ answers.text) answers.is_quit) }
 {
     let mut text = Text::new(alloc);
     let mut rest = bytes;
@@ -205,7 +226,9 @@ fn answer_lines(
 
 // What stands before the first LF, and what stands after it.
 fn split_end(text: &[u8]) -> Option<(&[u8], &[u8])>
-    ensures { MatchOption result (has_end text.now ≡ false) (λ parts. (has_end parts.0.now ≡ false) × (text.now ≡ (parts.0.now ++ 10 ∷ []) ++ parts.1.now)) }
+    ensures { MatchOption result (has_end text.now ≡ false)
+        (λ parts. (has_end parts.0.now ≡ false)
+        × (text.now ≡ (parts.0.now ++ 10 ∷ []) ++ parts.1.now)) }
 {
     match memchr(b'\n', text) {
         Some(end) => Some((&text[..end], &text[end + 1..])),
@@ -221,9 +244,14 @@ fn end<O: Sink>(
     partial: &Partial,
     output: &mut O,
 ) -> TestEnd
-    ensures tests { (start : Config) (before : Streams) (input : SourceSeen) (taken : List ℕ) → IfSome input.left (λ left. left ≡ []) → length taken < 2 ^ 32 → At (basis start maps.now) config.old before (streams input (O.seen output.old)) taken taken partial.now → Tests (basis start maps.now) before (streams input (O.seen output.new)) result }
+    ensures tests { (start : Config) (before : Streams) (input : SourceSeen) (taken : List ℕ)
+        → IfSome input.left (λ left. left ≡ []) → length taken < 2 ^ 32
+        → At (basis start maps.now) config.old before (streams input (O.seen output.old)) taken
+        taken partial.now
+        → Tests (basis start maps.now) before (streams input (O.seen output.new)) result }
     ensures later { (O.seen output.old).faults ≤ (O.seen output.new).faults }
-    ensures rises { RisesOnlyAt WriteFault (of_test result) (O.seen output.old).faults (O.seen output.new).faults }
+    ensures rises { RisesOnlyAt WriteFault (of_test result) (O.seen output.old).faults
+        (O.seen output.new).faults }
 {
     let Ok(reply) = partial.answer_last(alloc, config, maps) else {
         return TestEnd::NoMemory;

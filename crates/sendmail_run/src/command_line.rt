@@ -94,7 +94,9 @@ impl Saying {
     // Takes a word, unless it is no option or the second of its kind.
     fn take(&mut self, alloc: Global, word: &Text, place: u32) -> Result<(), WordFault>
         requires { place < 2 ^ 32 }
-        ensures { (words : List (List ℕ)) → Takes result (read_options self.old place (word.now ∷ words)) (read_options self.new (place + 1) words) }
+        ensures { (words : List (List ℕ))
+            → Takes result (read_options self.old place (word.now ∷ words))
+            (read_options self.new (place + 1) words) }
     {
         if self.awaits_file {
             self.file = Some(word.copy()?);

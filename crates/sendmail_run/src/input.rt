@@ -12,8 +12,8 @@ use std::alloc::Global;
 /// The most bytes that are kept of a line: its own, and a CR that may stand before its end.
 const MOST_KEPT: usize = MOST_LINE + 1;
 
-/// What came of a line of input that isn't ended yet. Of a line that is too long only the front is kept, so
-/// it holds at most [`MOST_KEPT`] bytes.
+/// What came of a line of input that isn't ended yet. Of a line that is too long only the front is
+/// kept, so it holds at most [`MOST_KEPT`] bytes.
 #[derive(Drop)]
 pub struct Partial {
     front: Text,
@@ -33,7 +33,8 @@ impl Partial {
 
     /// Takes more of the line. After `NoMemory` it is as before.
     pub fn take(&mut self, bytes: &[u8]) -> Result<(), NoMemory>
-        ensures ok { OnOk result ((rest : List ℕ) → Keeps self.old rest → Keeps self.new (rest ++ bytes.now)) }
+        ensures ok { OnOk result
+            ((rest : List ℕ) → Keeps self.old rest → Keeps self.new (rest ++ bytes.now)) }
         ensures err { OnErr result (self.new ≡ self.old) }
     {
         let room = MOST_KEPT.saturating_sub(self.front.len());
@@ -56,7 +57,9 @@ impl Partial {
 
     /// Answers the line, which is ended now.
     pub fn answer(&self, alloc: Global, config: &mut Config, maps: &Maps) -> Result<Reply, NoMemory>
-        ensures { IfOk result (λ reply. (rest : List ℕ) → Keeps self.now rest → Answers maps.now config.old (strip_carriage_return rest) reply config.new) }
+        ensures { IfOk result
+            (λ reply. (rest : List ℕ) → Keeps self.now rest
+            → Answers maps.now config.old (strip_carriage_return rest) reply config.new) }
     {
         match self.whole() {
             Some(line) => answer(alloc, without_return(line), config, maps),
@@ -64,14 +67,17 @@ impl Partial {
         }
     }
 
-    /// Answers the last line, which the end of the input ends. An empty one is answered with nothing.
+    /// Answers the last line, which the end of the input ends. An empty one is answered with
+    /// nothing.
     pub fn answer_last(
         &self,
         alloc: Global,
         config: &mut Config,
         maps: &Maps,
     ) -> Result<Reply, NoMemory>
-        ensures { IfOk result (λ reply. (rest : List ℕ) → Keeps self.now rest → Answers maps.now config.old rest reply config.new) }
+        ensures { IfOk result
+            (λ reply. (rest : List ℕ) → Keeps self.now rest
+            → Answers maps.now config.old rest reply config.new) }
     {
         match self.whole() {
             Some(line) => answer(alloc, line, config, maps),
@@ -81,7 +87,8 @@ impl Partial {
 
     // What came of the line, unless it is too long.
     fn whole(&self) -> Option<&[u8]>
-        ensures { (rest : List ℕ) → Keeps self.now rest → MatchOption result (most_kept < length rest) (λ line. line.now ≡ rest) }
+        ensures { (rest : List ℕ) → Keeps self.now rest
+            → MatchOption result (most_kept < length rest) (λ line. line.now ≡ rest) }
     {
         if self.is_cut {
             None

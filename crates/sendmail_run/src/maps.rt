@@ -45,7 +45,8 @@ fn take_file<F: Files>(
     files: &mut F,
     texts: &mut Seq<Named>,
 ) -> Result<(), MapsFault>
-    ensures told { IfSome (F.seen files.old).map (λ map. Takes wanted.now (text_of map wanted.now.name) texts.old texts.new result) }
+    ensures told { IfSome (F.seen files.old).map
+        (λ map. Takes wanted.now (text_of map wanted.now.name) texts.old texts.new result) }
     ensures asks { Asks (F.seen files.old) (F.seen files.new) (is_files_fault result) }
 {
     let name = wanted.name.copy()?;
@@ -60,7 +61,8 @@ fn take_file<F: Files>(
 
 // The text of the host table, which is empty where there is no such file.
 fn hosts_of<F: Files>(alloc: Global, name: &Text, files: &mut F) -> Result<Text, MapsFault>
-    ensures told { IfSome (F.seen files.old).map (λ map. Gives result (Ok (hosts_in map name.now))) }
+    ensures told { IfSome (F.seen files.old).map
+        (λ map. Gives result (Ok (hosts_in map name.now))) }
     ensures asks { Asks (F.seen files.old) (F.seen files.new) (is_files_fault result) }
 {
     match files.read(alloc, name) {

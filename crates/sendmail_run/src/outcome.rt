@@ -13,9 +13,11 @@ use spool_store::OpenFault;
 /// How a run ends.
 #[derive(Drop)]
 pub enum Outcome {
-    /// The input came to its end, or to the line `/quit`; or the floor told that nothing comes any more.
+    /// The input came to its end, or to the line `/quit`; or the floor told that nothing comes any
+    /// more.
     Done,
-    /// The words are refused at this place, counted from 0; a word that is missing stands at their number.
+    /// The words are refused at this place, counted from 0; a word that is missing stands at their
+    /// number.
     Usage(u32),
     /// There is no file of this name: that of the configuration, or that of a map without `-o`.
     NoFile(Text),
@@ -30,15 +32,18 @@ pub enum Outcome {
     InputLarge,
     /// The configuration's line of this number, counted from 1, is refused.
     ConfigLine(u32, Fault),
-    /// The floor could not begin, or a turn of it failed; one that fails to send only ends that session.
+    /// The floor could not begin, or a turn of it failed; one that fails to send only ends that
+    /// session.
     FloorFault,
-    /// So many turns of the floor were served, which are all that a run takes, and none of them ended it.
+    /// So many turns of the floor were served, which are all that a run takes, and none of them
+    /// ended it.
     TurnsSpent(u64),
     /// A call of the spool failed: the queue could not be opened, or a message could not be kept.
     SpoolFault,
     /// A message came that needs an id above 999,999,999,999.
     IdsSpent,
-    /// A directory of the queue holds a file when the spool is opened. This program can't take it over yet.
+    /// A directory of the queue holds a file when the spool is opened. This program can't take it
+    /// over yet.
     NotYet,
 }
 

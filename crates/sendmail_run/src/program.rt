@@ -21,9 +21,9 @@ use std::alloc::Global;
 
 /// The whole program, over its words without the program's name, and its devices.
 ///
-/// The steps are taken in this order, and the first refusal ends the run: the words, the configuration
-/// file, its lines, and then in address test mode the files of maps in the order of K lines, the host table
-/// and the lines of input, and in session mode the steps of [`session_mode`].
+/// The steps are taken in this order, and the first refusal ends the run: the words, the
+/// configuration file, its lines, and then in address test mode the files of maps in the order of K
+/// lines, the host table and the lines of input, and in session mode the steps of [`session_mode`].
 pub fn sendmail<F: Files, D: Spool, L: Floor, C: Clock, I: Source, O: Sink>(
     alloc: Global,
     arguments: &Seq<Text>,
@@ -110,7 +110,9 @@ fn configuration<F: Files>(alloc: Global, name: Text, files: &mut F) -> Result<C
     ensures map { (F.seen files.new).map ≡ (F.seen files.old).map }
     ensures later { (F.seen files.old).faults ≤ (F.seen files.new).faults }
     ensures kept { OnOk result ((F.seen files.new).faults ≡ (F.seen files.old).faults) }
-    ensures rises { IfErr result (λ fault. RisesOnlyAt FilesFault (of_config fault) (F.seen files.old).faults (F.seen files.new).faults) }
+    ensures rises { IfErr result
+        (λ fault. RisesOnlyAt FilesFault (of_config fault) (F.seen files.old).faults
+        (F.seen files.new).faults) }
 {
     let text = match files.read(alloc, &name) {
         Ok(Some(text)) => text,

@@ -29,7 +29,8 @@ pub const MOST_TURNS: u64 = 1 << 60;
 pub enum SessionEnd {
     /// The queue could not be opened, or there was no memory before that.
     NotOpened(OpenFault),
-    /// The floor could not begin, or a turn of it failed; one that fails to send only ends that session.
+    /// The floor could not begin, or a turn of it failed; one that fails to send only ends that
+    /// session.
     FloorFault,
     /// The floor told `Stop`.
     Stopped,
@@ -39,12 +40,12 @@ pub enum SessionEnd {
     TurnsSpent(u64),
 }
 
-/// Serves one session at the standard place of the floor, and takes its messages into the queue. It ends
-/// when the floor tells `Stop`. The configuration says the directory of the queue, and by `$j` the host that
-/// replies name.
+/// Serves one session at the standard place of the floor, and takes its messages into the queue. It
+/// ends when the floor tells `Stop`. The configuration says the directory of the queue, and by `$j`
+/// the host that replies name.
 ///
-/// The steps are taken in this order, and the first refusal ends the run: the queue is opened, the floor
-/// begins, and then for each turn of the floor the clock is read once and the turn is served.
+/// The steps are taken in this order, and the first refusal ends the run: the queue is opened, the
+/// floor begins, and then for each turn of the floor the clock is read once and the turn is served.
 pub fn session_mode<D: Spool, L: Floor, C: Clock>(
     alloc: Global,
     config: &Config,
@@ -53,9 +54,13 @@ pub fn session_mode<D: Spool, L: Floor, C: Clock>(
     clock: &mut C,
 ) -> SessionEnd
     requires { (C.seen clock.old).readings ≤ 2 ^ 63 }
-    ensures rises_floor { RisesOnlyAt FloorFault (of_session result) (L.seen floor.old).faults (L.seen floor.new).faults }
-    ensures rises_spool { RisesOnlyAt SpoolFault (of_session result) (D.seen spool.old).faults (D.seen spool.new).faults }
-    ensures serves { Serves (session_site config.now) (seen (L.seen floor.old) (D.seen spool.old) (C.seen clock.old)) (seen (L.seen floor.new) (D.seen spool.new) (C.seen clock.new)) result }
+    ensures rises_floor { RisesOnlyAt FloorFault (of_session result) (L.seen floor.old).faults
+        (L.seen floor.new).faults }
+    ensures rises_spool { RisesOnlyAt SpoolFault (of_session result) (D.seen spool.old).faults
+        (D.seen spool.new).faults }
+    ensures serves { Serves (session_site config.now)
+        (seen (L.seen floor.old) (D.seen spool.old) (C.seen clock.old))
+        (seen (L.seen floor.new) (D.seen spool.new) (C.seen clock.new)) result }
 {
     let Ok(site) = session_site(alloc, config) else {
         return SessionEnd::NotOpened(OpenFault::NoMemory);
@@ -66,7 +71,8 @@ pub fn session_mode<D: Spool, L: Floor, C: Clock>(
     serve(alloc, &site, spool, floor, clock, &mut buffer)
 }
 
-// Opens the queue, begins the floor and serves its turns, taking as many bytes at once as the buffer holds.
+// Opens the queue, begins the floor and serves its turns, taking as many bytes at once as the
+// buffer holds.
 fn serve<D: Spool, L: Floor, C: Clock>(
     alloc: Global,
     site: &Site,
@@ -77,9 +83,12 @@ fn serve<D: Spool, L: Floor, C: Clock>(
 ) -> SessionEnd
     requires readings { (C.seen clock.old).readings ≤ 2 ^ 63 }
     requires room { 64 ≤ length buffer.old }
-    ensures rises_floor { RisesOnlyAt FloorFault (of_session result) (L.seen floor.old).faults (L.seen floor.new).faults }
-    ensures rises_spool { RisesOnlyAt SpoolFault (of_session result) (D.seen spool.old).faults (D.seen spool.new).faults }
-    ensures serves { Serves site.now (seen (L.seen floor.old) (D.seen spool.old) (C.seen clock.old)) (seen (L.seen floor.new) (D.seen spool.new) (C.seen clock.new)) result }
+    ensures rises_floor { RisesOnlyAt FloorFault (of_session result) (L.seen floor.old).faults
+        (L.seen floor.new).faults }
+    ensures rises_spool { RisesOnlyAt SpoolFault (of_session result) (D.seen spool.old).faults
+        (D.seen spool.new).faults }
+    ensures serves { Serves site.now (seen (L.seen floor.old) (D.seen spool.old) (C.seen clock.old))
+        (seen (L.seen floor.new) (D.seen spool.new) (C.seen clock.new)) result }
 {
     let mut core = match opened(alloc, site, spool) {
         Ok(core) => core,
@@ -107,10 +116,13 @@ fn opened<D: Spool>(alloc: Global, site: &Site, spool: &mut D) -> Result<Core, O
     ensures reads { Reads (D.seen spool.old) (D.seen spool.new) }
     ensures later { (D.seen spool.old).faults ≤ (D.seen spool.new).faults }
     ensures core { IfOk result (λ core. Stands site.now core (beginning start)) }
-    ensures empty { IfOk result (λ _. IfSome (D.seen spool.old).told (IsClean (dirs_of site.now) start)) }
+    ensures empty { IfOk result
+        (λ _. IfSome (D.seen spool.old).told (IsClean (dirs_of site.now) start)) }
     ensures refused { IfErr result (HasRefused site.now (D.seen spool.old) (D.seen spool.new)) }
     ensures kept { OnOk result ((D.seen spool.new).faults ≡ (D.seen spool.old).faults) }
-    ensures rises { IfErr result (λ fault. RisesOnlyAt SpoolFault (of_opening fault) (D.seen spool.old).faults (D.seen spool.new).faults) }
+    ensures rises { IfErr result
+        (λ fault. RisesOnlyAt SpoolFault (of_opening fault) (D.seen spool.old).faults
+        (D.seen spool.new).faults) }
 {
     let Ok(dirs) = queue_dirs(alloc, site) else {
         return Err(OpenFault::NoMemory);

@@ -9,8 +9,8 @@ use std::alloc::Global;
 /// The most bytes of a host that replies name.
 const MOST_HOST: usize = 255;
 
-/// What sessions are served with under a configuration: the host that replies name is the value of `$j`, or the
-/// empty text where that can't be expanded.
+/// What sessions are served with under a configuration: the host that replies name is the value of
+/// `$j`, or the empty text where that can't be expanded.
 pub fn session_site(alloc: Global, config: &Config) -> Result<Site, NoMemory>
     ensures { IfOk result (λ site. site ≡ spec.session_site config.now) }
 {

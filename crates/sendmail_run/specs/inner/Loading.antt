@@ -33,8 +33,11 @@ behind texts (Ok more) = Ok (texts ++ more)
 behind texts (Err name) = Err name
 
 -- a file was read in which this was found: it stands behind the others where it is there
-abbrev pub Takes : MapFile → Option (List ℕ) → List Named → List Named → Result (Unit {0}) MapsFault → Type 0
-Takes wanted text old new (Ok u) = (lacks wanted text ≡ false) × (new ≡ old ++ cons_option (named wanted text) [])
-Takes wanted text old new (Err (faults.NoFile name)) = (lacks wanted text ≡ true) × (name ≡ wanted.name)
+abbrev pub Takes : MapFile → Option (List ℕ) → List Named → List Named
+    → Result (Unit {0}) MapsFault → Type 0
+Takes wanted text old new (Ok u) =
+    (lacks wanted text ≡ false) × (new ≡ old ++ cons_option (named wanted text) [])
+Takes wanted text old new (Err (faults.NoFile name)) =
+    (lacks wanted text ≡ true) × (name ≡ wanted.name)
 Takes wanted text old new (Err faults.FilesFault) = Unit {0}
 Takes wanted text old new (Err faults.NoMemory) = Unit {0}

@@ -42,8 +42,10 @@ pub record Cut (taken : List ℕ) (raws : List (List ℕ)) (rest : List ℕ) : T
   pub each : list_any has_end raws ≡ false
   pub last : has_end rest ≡ false
 
--- the ended lines of what was taken are answered with the text, and leave this configuration; the rest is kept
-pub record Stands (basis : Basis) (current : Config) (taken : List ℕ) (partial : Partial) (text : List ℕ) : Type 0 where
+-- the ended lines of what was taken are answered with the text, and leave this configuration; the
+-- rest is kept
+pub record Stands (basis : Basis) (current : Config) (taken : List ℕ) (partial : Partial)
+    (text : List ℕ) : Type 0 where
   pub raws : List (List ℕ)
   pub rest : List ℕ
   pub cut : Cut taken raws rest
@@ -63,13 +65,16 @@ abbrev pub cut_text : List ℕ → List ℕ
 cut_text [] = line_of (codes "line too long")
 cut_text (b ∷ bs) = if b == 35 then [] else line_of (codes "line too long")
 
--- the text holds the answers to the lines that bytes end, up to the line `/quit` where that is among them
+-- the text holds the answers to the lines that bytes end, up to the line `/quit` where that is
+-- among them
 abbrev pub Answered : Basis → Config → List ℕ → Partial → List ℕ → Bool → Type 0
 Answered basis current taken partial text true = Quits basis taken text
 Answered basis current taken partial text false = Stands basis current taken partial text
 
--- all these bytes were taken since the start, and the warnings and the answers to the ended lines of a front of them were written
-pub record At (basis : Basis) (current : Config) (before now : Streams) (all taken : List ℕ) (partial : Partial) : Type 0 where
+-- all these bytes were taken since the start, and the warnings and the answers to the ended lines
+-- of a front of them were written
+pub record At (basis : Basis) (current : Config) (before now : Streams) (all taken : List ℕ)
+    (partial : Partial) : Type 0 where
   pub few : length all ≤ 2 ^ 32
   pub text : List ℕ
   pub takes : Takes before now all

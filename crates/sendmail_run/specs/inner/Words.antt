@@ -1,5 +1,6 @@
--- How the code reads a command line word by word (Sendmail Installation and Operation Guide, "Command Line Flags"): what its
--- private contracts cite. What a command line is, `CommandLines` says, and what is read here is proved to be that.
+-- How the code reads a command line word by word (Sendmail Installation and Operation Guide,
+-- "Command Line Flags"): what its private contracts cite. What a command line is, `CommandLines`
+-- says, and what is read here is proved to be that.
 use Rattle.std.specs.Prelude.{◌≡◌, ℕ, ◌+◌, List, [], ◌∷◌, length, drop, bytes_eq, nat_eq, true, false, not, ◌==◌, if◌then◌else◌, codes, Option, Some, None, Result, Ok, Err}
 use Rattle.std.specs.Option.{is_some, unwrap_or}
 use Rattle.std.specs.List.{starts_with}
@@ -20,21 +21,27 @@ job_said word =
 
 abbrev pub whole : Option Job → Option (List ℕ) → ℕ → Result Mode ℕ
 whole None file count = Err count
-whole (Some job) file count = Ok (record { file = unwrap_or file (codes "/etc/mail/sendmail.cf"); job = job })
+whole (Some job) file count =
+    Ok (record { file = unwrap_or file (codes "/etc/mail/sendmail.cf"); job = job })
 
--- What the words from a place on say, after what those before it said, or the place of the first that is no option or
--- is the second of its kind.
+-- What the words from a place on say, after what those before it said, or the place of the first
+-- that is no option or is the second of its kind.
 abbrev pub read_options : Saying → ℕ → List (List ℕ) → Result Saying ℕ
 read_options said place [] = Ok said
 read_options said place (word ∷ words) =
-    if said.awaits_file then read_options (record said { file = Some word; awaits_file = false }) (place + 1) words
-    else if is_some (job_said word) then (if is_some said.job then Err place else read_options (record said { job = job_said word }) (place + 1) words)
+    if said.awaits_file
+    then read_options (record said { file = Some word; awaits_file = false }) (place + 1) words
+    else if is_some (job_said word)
+    then (if is_some said.job then Err place
+    else read_options (record said { job = job_said word }) (place + 1) words)
     else if not (starts_with nat_eq word (codes "-C")) then Err place
     else if is_some said.file then Err place
-    else if length word == 2 then read_options (record said { awaits_file = true }) (place + 1) words
+    else if length word == 2
+    then read_options (record said { awaits_file = true }) (place + 1) words
     else read_options (record said { file = Some (drop 2 word) }) (place + 1) words
 
--- what so many words come to: a `-C` without a file, and words without a mode, are refused at their number
+-- what so many words come to: a `-C` without a file, and words without a mode, are refused at their
+-- number
 abbrev pub judged : ℕ → Result Saying ℕ → Result Mode ℕ
 judged count (Err place) = Err place
 judged count (Ok said) = if said.awaits_file then Err count else whole said.job said.file count
