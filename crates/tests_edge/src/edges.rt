@@ -69,8 +69,10 @@ fn drained<S: Source>(alloc: Global, source: &mut S) -> Result<Text, EdgeFault>
 // Gives one text and then the other.
 #[tactic(auto, using(mail_edge::proofs::Giving::part_more, mail_edge::proofs::Giving::part_join, mail_base::proofs::Gaining::gains_join))]
 fn give_both<K: Sink>(sink: &mut K, one: &[u8], other: &[u8]) -> Result<(), Failed>
-    ensures written { OnOk result (Gains (K.seen sink.old).written (K.seen sink.new).written (one.now ++ other.now)) }
-    ensures part { OnErr result (GainsPart (K.seen sink.old).written (K.seen sink.new).written (one.now ++ other.now)) }
+    ensures written { OnOk result
+        (Gains (K.seen sink.old).written (K.seen sink.new).written (one.now ++ other.now)) }
+    ensures part { OnErr result
+        (GainsPart (K.seen sink.old).written (K.seen sink.new).written (one.now ++ other.now)) }
     ensures cause { HasCause (K.seen sink.old).faults (K.seen sink.new).faults result }
 {
     sink.give(one)?;
@@ -78,7 +80,8 @@ fn give_both<K: Sink>(sink: &mut K, one: &[u8], other: &[u8]) -> Result<(), Fail
 }
 
 fn text_in<F: Files>(alloc: Global, files: &mut F, name: &[u8]) -> Result<Option<Text>, EdgeFault>
-    ensures text { IfOk result (λ text. IfSome (F.seen files.old).map (λ map. text ≡ text_of map name.now)) }
+    ensures text { IfOk result
+        (λ text. IfSome (F.seen files.old).map (λ map. text ≡ text_of map name.now)) }
     ensures fixed { (F.seen files.new).map ≡ (F.seen files.old).map }
     ensures cause { HasEdgeCause (F.seen files.old).faults (F.seen files.new).faults result }
 {
@@ -88,7 +91,8 @@ fn text_in<F: Files>(alloc: Global, files: &mut F, name: &[u8]) -> Result<Option
 
 fn two_readings<C: Clock>(clock: &mut C) -> (u64, u64)
     requires { (C.seen clock.old).readings + 1 < 2 ^ 64 - 1 }
-    ensures told { Gains (C.seen clock.old).told (C.seen clock.new).told (result.0 ∷ result.1 ∷ []) }
+    ensures told { Gains (C.seen clock.old).told (C.seen clock.new).told
+        (result.0 ∷ result.1 ∷ []) }
     ensures counted { (C.seen clock.new).readings ≡ (C.seen clock.old).readings + 2 }
 {
     let first = clock.now();
@@ -106,8 +110,9 @@ struct Told {
     faults: u64,
 }
 
-// A source, by the list of its failing calls where it has one; how often it is drained, and a last time
-// where its content isn't told; and what each time gave, with `|` behind it, or `!` where it failed.
+// A source, by the list of its failing calls where it has one; how often it is drained, and a last
+// time where its content isn't told; and what each time gave, with `|` behind it, or `!` where it
+// failed.
 #[derive(Clone, Copy)]
 struct SourceRow {
     bytes: &'static [u8],
@@ -194,8 +199,8 @@ fn a_source_gives_what_is_left_and_fails_as_listed(rt: HostRuntime) -> Result<()
     Ok(())
 }
 
-// A sink by its failing calls; what it is given, two texts at once; whether each two went, `.` or `!`, and a
-// last two where its content isn't told; and what was written.
+// A sink by its failing calls; what it is given, two texts at once; whether each two went, `.` or
+// `!`, and a last two where its content isn't told; and what was written.
 #[derive(Clone, Copy)]
 struct SinkRow {
     failing: &'static [u64],
@@ -259,8 +264,9 @@ fn three_files(alloc: Global) -> Result<SureFiles, Fail> {
     Ok(SureFiles::new(Seq::from_vec(files)).ok_or("a large text")?)
 }
 
-// These files, by the list of their failing calls where they have one; the names that are asked, and `b`
-// where their content isn't told; and what each name gave, with `|` behind it, or `-` or `!`.
+// These files, by the list of their failing calls where they have one; the names that are asked,
+// and `b` where their content isn't told; and what each name gave, with `|` behind it, or `-` or
+// `!`.
 #[derive(Clone, Copy)]
 struct FilesRow {
     failing: Option<&'static [u64]>,

@@ -80,7 +80,8 @@ impl Driven for OneFloor<MemSource, MemSink> {
     }
 }
 
-// Does these acts, and gives what was heard, a word for each turn and for each call that failed or may not be made.
+// Does these acts, and gives what was heard, a word for each turn and for each call that failed or
+// may not be made.
 fn heard<F: Driven>(alloc: Global, floor: &mut F, acts: &[Act]) -> Result<Text, NoMemory> {
     let mut text = Text::new(alloc);
     for act in acts {
@@ -172,8 +173,8 @@ impl Move {
     }
 }
 
-// A floor by its steps and its failing turns and sends, and what is done with it; what was heard of it, what it
-// told, and its counts of faults: of turns, of sends, and of those for want of memory.
+// A floor by its steps and its failing turns and sends, and what is done with it; what was heard of
+// it, what it told, and its counts of faults: of turns, of sends, and of those for want of memory.
 #[derive(Clone, Copy)]
 struct ScriptRow {
     moves: &'static [Move],
@@ -294,8 +295,8 @@ fn a_script_is_played_as_its_steps_and_lists_say(rt: HostRuntime) -> Result<(), 
     Ok(())
 }
 
-// The failing calls of a source of `some bytes` and of a sink, and what is done with the floor over both; what was
-// heard of it, and what was written.
+// The failing calls of a source of `some bytes` and of a sink, and what is done with the floor over
+// both; what was heard of it, and what was written.
 #[derive(Clone, Copy)]
 struct OneRow {
     takes: &'static [u64],
@@ -402,7 +403,10 @@ fn a_place_is_copied(rt: HostRuntime) -> Result<(), Fail> {
     };
     let copy = place.copy()?;
     assert!(rt;
-        matches!(&copy, Place::Port { address, port: 25 } if address.bytes() == b"127.0.0.1".as_slice())
+        matches!(
+            &copy,
+            Place::Port { address, port: 25 } if address.bytes() == b"127.0.0.1".as_slice()
+        )
     );
     assert!(rt; matches!(Place::Standard.copy()?, Place::Standard));
     Ok(())

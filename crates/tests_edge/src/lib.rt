@@ -1,5 +1,5 @@
-//! Tests of the devices in memory, as tables. They stand apart from the libraries, which a check would
-//! else prove twice.
+//! Tests of the devices in memory, as tables. They stand apart from the libraries, which a check
+//! would else prove twice.
 #![tactic(auto)]
 
 #[cfg(test)]

@@ -1,5 +1,6 @@
-// Calls of any device, each made once: where it answers, its count of faults is as before. The edits in must-fail/
-// make a call that failed once more, as no body over a device can do without a trace in that count.
+// Calls of any device, each made once: where it answers, its count of faults is as before. The
+// edits in must-fail/ make a call that failed once more, as no body over a device can do without a
+// trace in that count.
 ghost use Rattle.std.specs.Prelude.{◌≡◌, ◌<◌, ◌≤◌, OnOk, length};
 
 use link_edge::{Floor, Turn};

@@ -19,7 +19,12 @@ struct Quiet {
 }
 
 impl Spool for Quiet {
-    ghost seen = { λ q. record { told = None; moment = 0; left_since = λ t c. ⊥; faults = q.faults } };
+    ghost seen = { λ q. record {
+      told = None;
+      moment = 0;
+      left_since = λ t c. ⊥;
+      faults = q.faults;
+    } };
 
     ghost only_now = { λ s c h. absurd h };
 
@@ -69,7 +74,9 @@ fn bytes_in<S: Spool>(
     dir: &Text,
     name: &Text,
 ) -> Result<Option<Text>, EdgeFault>
-    ensures bytes { IfOk result (λ bytes. IfSome (S.seen spool.old).told (λ files. bytes ≡ bytes_at files (dir.now, name.now))) }
+    ensures bytes { IfOk result
+        (λ bytes. IfSome (S.seen spool.old).told
+        (λ files. bytes ≡ bytes_at files (dir.now, name.now))) }
     ensures call { Reads (S.seen spool.old) (S.seen spool.new) }
     ensures cause { HasEdgeCause (S.seen spool.old).faults (S.seen spool.new).faults result }
 {
@@ -77,14 +84,17 @@ fn bytes_in<S: Spool>(
 }
 
 fn written<S: Spool>(spool: &mut S, dir: &Text, name: &Text, bytes: &Text) -> Result<(), Failed>
-    ensures call { Calls (S.seen spool.old) (S.seen spool.new) (IsImage (Write dir.now name.now bytes.now)) (IsDone (Write dir.now name.now bytes.now)) (IsOk result) }
+    ensures call { Calls (S.seen spool.old) (S.seen spool.new)
+        (IsImage (Write dir.now name.now bytes.now))
+        (IsDone (Write dir.now name.now bytes.now)) (IsOk result) }
     ensures cause { HasCause (S.seen spool.old).faults (S.seen spool.new).faults result }
 {
     spool.write_new(dir, name, bytes)
 }
 
 fn removed<S: Spool>(spool: &mut S, dir: &Text, name: &Text) -> Result<(), Failed>
-    ensures call { Calls (S.seen spool.old) (S.seen spool.new) (IsImage (Remove dir.now name.now)) (IsDone (Remove dir.now name.now)) (IsOk result) }
+    ensures call { Calls (S.seen spool.old) (S.seen spool.new) (IsImage (Remove dir.now name.now))
+        (IsDone (Remove dir.now name.now)) (IsOk result) }
     ensures cause { HasCause (S.seen spool.old).faults (S.seen spool.new).faults result }
 {
     spool.remove(dir, name)
@@ -92,8 +102,11 @@ fn removed<S: Spool>(spool: &mut S, dir: &Text, name: &Text) -> Result<(), Faile
 
 fn renamed<S: Spool>(spool: &mut S, dir: &Text, from: &Text, to: &Text) -> Result<(), Failed>
     requires apart { from.now ≢ to.now }
-    requires there { IfSome (S.seen spool.old).told (λ files. IsSome (bytes_at files (dir.now, from.now))) }
-    ensures call { Calls (S.seen spool.old) (S.seen spool.new) (IsImage (Rename dir.now from.now to.now)) (IsDone (Rename dir.now from.now to.now)) (IsOk result) }
+    requires there { IfSome (S.seen spool.old).told
+        (λ files. IsSome (bytes_at files (dir.now, from.now))) }
+    ensures call { Calls (S.seen spool.old) (S.seen spool.new)
+        (IsImage (Rename dir.now from.now to.now))
+        (IsDone (Rename dir.now from.now to.now)) (IsOk result) }
     ensures cause { HasCause (S.seen spool.old).faults (S.seen spool.new).faults result }
 {
     spool.rename(dir, from, to)
