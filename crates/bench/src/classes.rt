@@ -1,5 +1,5 @@
-//! Extends one class by so many lines of one member each, 10,000 where that is left out, and tells how many members
-//! it has then.
+//! Extends one class by so many lines of one member each, 10,000 where that is left out, and tells
+//! how many members it has then.
 
 use anyhow::Result;
 use mail_base::{Classes, Member, NoMemory, Seq, Text, Token};

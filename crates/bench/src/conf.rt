@@ -1,6 +1,7 @@
-//! Reads a configuration of so many lines, 100,000 where that is left out, or one of a file, where a path is given, and
-//! tells how many of its warnings, rulesets, rules, maps, mailers and headers there are, or what is wrong with it. The file that F
-//! lines name has two words, and each other is absent.
+//! Reads a configuration of so many lines, 100,000 where that is left out, or one of a file, where
+//! a path is given, and tells how many of its warnings, rulesets, rules, maps, mailers and headers
+//! there are, or what is wrong with it. The file that F lines name has two words, and each other is
+//! absent.
 
 use anyhow::{Context, Result, bail};
 use cf_reader::{CfFault, read};

@@ -1,4 +1,5 @@
-//! Parses and prints a control text of so many rows, 10,000 where that is left out, and tells how many bytes it has.
+//! Parses and prints a control text of so many rows, 10,000 where that is left out, and tells how
+//! many bytes it has.
 
 use anyhow::{Result, ensure};
 use mail_base::{NoMemory, Text};

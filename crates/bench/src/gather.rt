@@ -1,6 +1,6 @@
-//! Feeds a message to a reader of lines, in pieces of so many bytes, 65,536 where that is left out, and
-//! gathers its lines. It tells how many bytes of headers and of body were kept. Each time a message is
-//! fed: one of 65,520 bytes of headers, or one of 16,777,200 bytes of body.
+//! Feeds a message to a reader of lines, in pieces of so many bytes, 65,536 where that is left out,
+//! and gathers its lines. It tells how many bytes of headers and of body were kept. Each time a
+//! message is fed: one of 65,520 bytes of headers, or one of 16,777,200 bytes of body.
 
 ghost use Rattle.std.specs.Prelude.{◌<◌};
 

@@ -1,5 +1,5 @@
-//! Feeds a message to a reader of lines, in pieces of so many bytes, 65,536 where that is left out, and tells how
-//! many lines it gave. Each time 1,048,560 bytes are fed.
+//! Feeds a message to a reader of lines, in pieces of so many bytes, 65,536 where that is left out,
+//! and tells how many lines it gave. Each time 1,048,560 bytes are fed.
 
 ghost use Rattle.std.specs.Prelude.{◌<◌};
 

@@ -1,5 +1,5 @@
-//! Loads a hash map's file of so many lines, 100,000 where that is left out, and looks so many of its keys up, and
-//! tells how many were found.
+//! Loads a hash map's file of so many lines, 100,000 where that is left out, and looks so many of
+//! its keys up, and tells how many were found.
 
 use anyhow::Result;
 use mail_base::{Config, Macros, MapClass, MapLine, NoMemory, Seq, Text};

@@ -1,6 +1,6 @@
-//! Searches for the matches of left sides, of the kind `common` (300 rules of three items over six tokens, the first
-//! where that is left out) or `class` (the same with a class in each), or of twenty classes over so many tokens, of
-//! which they take 60 at most, and tells how many match.
+//! Searches for the matches of left sides, of the kind `common` (300 rules of three items over six
+//! tokens, the first where that is left out) or `class` (the same with a class in each), or of
+//! twenty classes over so many tokens, of which they take 60 at most, and tells how many match.
 
 use anyhow::{Result, bail};
 use mail_base::{Classes, Item, Member, NoMemory, Pattern, Seq, Text, Token};

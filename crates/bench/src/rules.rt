@@ -1,4 +1,5 @@
-//! Makes a ruleset of so many rules of different anchors, 3,000 where that is left out, and tells how many it has.
+//! Makes a ruleset of so many rules of different anchors, 3,000 where that is left out, and tells
+//! how many it has.
 
 use anyhow::{Result, bail};
 use mail_base::{

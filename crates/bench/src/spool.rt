@@ -1,5 +1,5 @@
-//! Writes so many entries into a spool in memory, 500 where that is left out, each as two files, of a body and of a
-//! control text. Then it reads each file once, and tells how many bytes they are.
+//! Writes so many entries into a spool in memory, 500 where that is left out, each as two files, of
+//! a body and of a control text. Then it reads each file once, and tells how many bytes they are.
 
 use anyhow::{Result, bail};
 use mail_base::{Seq, Text};

@@ -1,5 +1,6 @@
-//! Cuts a text of a mebibyte into tokens, of the kind `mixed`, `words` or `comment`, the first where that is left
-//! out, or as sides of rules, of the kind `sides` or `side_words`, and tells what it gave.
+//! Cuts a text of a mebibyte into tokens, of the kind `mixed`, `words` or `comment`, the first
+//! where that is left out, or as sides of rules, of the kind `sides` or `side_words`, and tells
+//! what it gave.
 
 use addr_tokens::{ScanFault, lexemes, tokens};
 use anyhow::{Result, bail};
