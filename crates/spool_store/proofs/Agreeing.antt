@@ -92,6 +92,7 @@ all_entered store added f g h a t c live = ⊎_elim
     record { held = entered r.0; among = Contains-append_right store.entries (map entered added) (entered r.0) (contains_map entered r.0 added r.1); spot = sym r.2; control = sym r.3 })
     (cases_lt t.id store.next)
 
+-- a store that agrees with a map and takes in added entries agrees with the map with them
 pub added_agrees : (store : StoreSeen) (added : List Stored) (after room : ℕ) (f g : FileMap) → IsAdded store.dirs store.next added f g → store.next ≤ after → All (λ s. s.id < after) added → Agrees store f → Agrees (record store { entries = store.entries ++ map entered added; next = after; room = room }) g
 added_agrees store added after room f g h le below a = record {
   each = All-append (λ (e : Held). IsLive store.dirs g (spot_at e) e.entry.control) store.entries (map entered added)

@@ -40,6 +40,7 @@ written_of xs ys f g to back h = record {
   holds = All-weaker (Contains ys) (HoldsBoth g) (λ s k. All-contains (HoldsBoth g) xs s h.holds (back s k)) ys (All-contains_itself ys);
 }
 
+-- what is in a list with an element put behind it is in the one with it put before it
 pub front : (x : Stored) (xs : List Stored) (s : Stored) → Contains (xs ++ x ∷ []) s → Contains (x ∷ xs) s
 front x xs s k = ⊎_elim (λ (a : Contains xs s). contains_tail x s xs a) (λ (a : Contains (x ∷ []) s). ⊎_elim (λ (e : x ≡ s). subst (Contains (x ∷ xs)) e (contains_head x xs)) (λ (n : Contains [] s). absurd (omega (arith, n.1))) (contains_cases x s [] a)) (Contains-append_cases xs (x ∷ []) s k)
 
@@ -70,6 +71,7 @@ new_below next children parent b =
     let rest : List Stored = children_of next children parent b None in
     All-cons (λ (t : Stored). t.id < next + 1 + length children) (stored next b parent) rest (omega arith) (All-weaker (IsFrom (next + 1) (length children) b p) (λ (t : Stored). t.id < next + 1 + length children) (λ t h. h.below) rest (numbered_from (next + 1) b p children))
 
+-- a whole commit under a new parent leads from a settled map to one of the table after
 pub new_settled : (dirs : List (List ℕ)) (table : Table) (children : List Draft) (parent : Draft) (b : List ℕ) (f g : FileMap) → AreDraftable dirs table.next children parent → parent.control.parent ≡ None
     → AreWritten (children_of table.next children parent b None ++ stored table.next b parent ∷ []) f g → IsSettled dirs table f → IsSettled dirs (after_commit table children parent b None) g
 new_settled dirs table children parent b f g able alone w settled = added_settled dirs table (table.next + 1 + length children) (stored table.next b parent ∷ children_of table.next children parent b None) f g (new_added dirs table.next children parent b f g able alone w) (omega arith) (new_below table.next children parent b) settled

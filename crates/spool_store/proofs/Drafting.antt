@@ -50,6 +50,7 @@ one_heir first next b p drafts i r parts more part lt at all so its =
     ∙ ap (numbered first b) (sym (map_push (heir p) (take i drafts) d))
     ∙ ap (λ (q : List Draft). numbered first b (map (heir p) q)) (sym taken)
 
+-- as many entries are numbered as there are drafts
 pub numbered_long : (id : ℕ) (b : List ℕ) (ds : List Draft) → length (numbered id b ds) ≡ length ds
 numbered_long id b [] = refl
 numbered_long id b (d ∷ ds) = ap suc (numbered_long (id + 1) b ds)

@@ -67,6 +67,7 @@ told_again dirs f found x c out new live same has h =
           (Contains-push_cases found x z among);
     })
 
+-- a live file's entry is told where it is added, and where its id was there already
 pub told_once : (dirs : List (List ℕ)) (f : FileMap) (found : List Found) (x : Found) (c : Control) (out new : List Entry) (dir : List ℕ) → IsLive dirs f (spot_named dirs x.named) c → dir ≡ dir_at dirs x.named.dir
     → ((new ≡ out) × HasEntry out x.named.id) ⊎ (new ≡ out ++ record { id = x.named.id; dir = dir; control = c } ∷ []) → AreTold dirs f found out → AreTold dirs f (found ++ x ∷ []) new
 told_once dirs f found x c out new dir live at (inl again) h = told_again dirs f found x c out new live again.0 again.1 h
@@ -85,15 +86,18 @@ listed_nil found = record {
   source = λ e k. absurd (none_in e k);
 }
 
+-- before the first file no entry is listed
 pub listed_none : (found : List Found) (entries : List Entry) → entries ≡ [] → IsListed found 0 entries
 listed_none found entries e = subst (λ (q : List Entry). IsListed found 0 q) (sym e) (listed_nil found)
 
+-- entries listed up to a file rise up to its id
 pub listed_rising : (found : List Found) (place : ℕ) (x : Found) (entries : List Entry) → place < length found → x ≡ get_or found place x → IsListed found place entries → IsRising entries x.named.id
 listed_rising found place x entries lt is h = record {
   ascending = h.ascending;
   most_is = subst (λ (y : Found). All (λ (e : Entry). e.id ≤ y.named.id) entries) (sym is) (h.low place x (le_refl place) lt);
 }
 
+-- entries listed up to a file, to which it adds its own, are listed up to the next
 pub listed_more : (found : List Found) (place : ℕ) (x : Found) (old new : List Entry) → IsNonDecreasingBy (λ (y : Found). y.named.id) found → place < length found → x ≡ get_or found place x → IsListed found place old → IsRising new x.named.id → IsAdding old new x.named.id → IsListed found (place + 1) new
 listed_more found place x old new order lt is h rises adds = record {
   ascending = rises.ascending;

@@ -94,9 +94,11 @@ from_told a c store C P S T Q R agrees none calls can leads safe =
     (λ f e p. let agreed = at_told a.told (Agrees store) agrees f e in
     moves_weaker a c (λ g. g ≡ f) (Q f) (R f) S T (λ x q. leads f x agreed p q) (λ x r. safe f x agreed p r) (calls f (can f agreed)))
 
+-- a map that a store agrees with has no draft from its first free id on
 pub agrees_fresh : (store : StoreSeen) (f : FileMap) → Agrees store f → HasNoDraft store.dirs store.next f
 agrees_fresh store f a = λ s new. a.tidy.drafts s.dir s.id new.among new.within
 
+-- the map of no file has no draft
 pub none_fresh : (dirs : List (List ℕ)) (next : ℕ) → HasNoDraft dirs next []
 none_fresh dirs next = λ s new. refl
 
@@ -108,6 +110,7 @@ commit_leads store table children parent parcel f g is a holds stands w =
     (subst (λ (n : ℕ). AreWritten (children_of n children parent parcel.body None ++ stored n parcel.body parent ∷ []) f g) holds.next w)
     (agrees_settled store table f a holds stands)
 
+-- what a commit may leave at any moment stands for the table before or after
 pub commit_safe : (store : StoreSeen) (table : Table) (children : List Draft) (parent : Draft) (parcel : Parcel) (f g : FileMap) → IsParcel store children parent parcel.body parcel → Agrees store f → Holds store table → StandsFor store.dirs table f → IsCommitting store.next children parent parcel.body f g
     → StandsFor store.dirs table g ⊎ StandsFor store.dirs (after_commit table children parent parcel.body None) g
 commit_safe store table children parent parcel f g is a holds stands (inl u) = inl (new_before store.dirs table (λ (p : Place). Any (λ (s : Stored). p ≡ draft_place s) (stored store.next parcel.body parent ∷ children_of store.next children parent parcel.body None)) children parent parcel.body f g
@@ -122,6 +125,7 @@ written_left xs f g place (control t k e holds) = inr (own_control t k e)
 written_left xs f g place (body t k e holds) = inr (own_body t k e)
 written_left xs f g place (other e) = inl e
 
+-- what a commit may leave at any moment has each place that no call touches as it was
 pub commit_keeps : (store : StoreSeen) (children : List Draft) (parent : Draft) (parcel : Parcel) (f g : FileMap) → IsParcel store children parent parcel.body parcel → Agrees store f → IsCommitting store.next children parent parcel.body f g → KeepsOthers store.dirs f g
 commit_keeps store children parent parcel f g is a (inl u) =
     let b : List ℕ = parcel.body in
@@ -138,6 +142,7 @@ entered_same : (id : ℕ) (b c : List ℕ) (ds : List Draft) → map entered (nu
 entered_same id b c [] = refl
 entered_same id b c (d ∷ ds) = λ i. entered (stored id c d) ∷ entered_same (id + 1) b c ds i
 
+-- the store after a commit agrees with the map of the whole commit
 pub commit_agrees : (store : StoreSeen) (children : List Draft) (parent : Draft) (parcel : Parcel) (f g : FileMap) → IsParcel store children parent parcel.body parcel → Agrees store f → IsCommitted store.next children parent parcel.body f g → Agrees (with_commit store children parent) g
 commit_agrees store children parent parcel f g is a w =
     let b : List ℕ = parcel.body in
@@ -160,15 +165,19 @@ row_of id b ds parts made i d lt =
     let its : (get_or (numbered id b ds) i (entry_of b d)).id ≡ id + i = numbered_at id b ds i (entry_of b d) (omega (arith, lt, long)) in
     ap (λ (s : Stored). s.id) (sym mapped ∙ ap (λ (q : List Stored). get_or q i (entry_of b d)) made) ∙ its
 
+-- parts that stand in a row do so under an equal first id
 pub row_at : (n m : ℕ) (xs ys : List Part) → xs ≡ ys → m ≡ n → IsRow n ys → IsRow m xs
 row_at n m xs ys e at row = subst (λ (q : List Part). IsRow m q) (sym e) (subst (λ (k : ℕ). IsRow k ys) (sym at) row)
 
+-- the children of a parcel stand in a row behind the first free id
 pub parcel_row : (store : StoreSeen) (children : List Draft) (parent : Draft) (b : List ℕ) (parcel : Parcel) → IsParcel store children parent b parcel → IsRow (store.next + 1) parcel.children
 parcel_row store children parent b parcel is = row_of (store.next + 1) [] (map (heir (head_of store.next parent None)) children) parcel.children (is.parts [])
 
+-- the parent of a parcel has the first free id
 pub parcel_id : (store : StoreSeen) (children : List Draft) (parent : Draft) (b : List ℕ) (parcel : Parcel) → IsParcel store children parent b parcel → parcel.parent.entry.id ≡ store.next
 parcel_id store children parent b parcel is = ap (λ (s : Stored). s.id) (is.head [])
 
+-- a shelf that has taken in all parts of a parcel has what the store has after the commit
 pub taken_in : (store : StoreSeen) (children : List Draft) (parent : Draft) (b : List ℕ) (parcel : Parcel) (one more : Shelved) → IsParcel store children parent b parcel
     → one.items ≡ store.entries ++ queued parcel.parent ∷ [] → one.next ≡ store.next + 1 → one.room + 1 ≡ store.room
     → more.items ≡ one.items ++ map queued parcel.children → more.next ≡ one.next + length parcel.children → more.room + length parcel.children ≡ one.room
@@ -195,6 +204,7 @@ zip_append R [] vs (y ∷ ys) ws h k = absurd h
 zip_append R (x ∷ xs) vs [] ws h k = absurd h
 zip_append R (x ∷ xs) vs (y ∷ ys) ws h k = (h.0, zip_append R xs vs ys ws h.1 k)
 
+-- a store that holds a table holds the table after a commit once it has done it too
 pub commit_holds : (store : StoreSeen) (table : Table) (children : List Draft) (parent : Draft) (b : List ℕ) → Holds store table → Holds (with_commit store children parent) (after_commit table children parent b None)
 commit_holds store table children parent b holds =
     let p : Parent = head_of store.next parent None in

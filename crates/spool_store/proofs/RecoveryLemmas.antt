@@ -37,6 +37,7 @@ found_by dirs f names xs ys p named read = found_order dirs f xs ys p (read_foun
 pub found_within : (n : ℕ) (names : List Named) (xs ys : List Found) → IsPermutation xs ys → AreAmong names xs → ((x : Named) → Contains names x → x.dir < n) → (y : Found) → Contains ys y → y.named.dir < n
 found_within n names xs ys p among within y c = within y.named (among y (Contains-permutation ys xs y (IsPermutation-sym xs ys p) c))
 
+-- what is found stays among the files when it is sorted
 pub found_among : (names shown : List Named) (xs ys : List Found) → shown ≡ names → IsPermutation xs ys → AreAmong shown xs → AreAmong names ys
 found_among names shown xs ys e p among = λ y c. subst (λ (q : List Named). Contains q y.named) e (among y (Contains-permutation ys xs y (IsPermutation-sym xs ys p) c))
 

@@ -103,6 +103,7 @@ pub record HasOpened (a b : Spooled) (dirs : List (List ℕ)) (o : Opened) : Typ
   pub strange : (f : FileMap) → a.told ≡ Some f → AreStrays dirs f o.strange
   pub next : (f : FileMap) → a.told ≡ Some f → IsNext dirs f o.next
 
+-- the store that an opening gives agrees with the map that the opening leaves
 pub agrees_now : (a b : Spooled) (dirs : List (List ℕ)) (o : Opened) → HasOpened a b dirs o → IfSome b.told (Agrees (opened_store dirs o))
 agrees_now a b dirs o h = some_by b.told (Agrees (opened_store dirs o)) (λ g e. let k = becomes_opened a.told b.told dirs o h.steps h.leads h.entries h.strange h.next g e in opened_agrees dirs k.0 g o k.2)
 
@@ -110,11 +111,13 @@ some_is : (o : Option FileMap) (f g : FileMap) → o ≡ Some f → o ≡ Some g
 some_is None f g p q = cc
 some_is (Some x) f g p q = let one : x ≡ f = cc p in let other : x ≡ g = cc q in sym other ∙ one
 
+-- the map that an opening leaves is settled with the table that the old one stood for
 pub settled_now : (a b : Spooled) (dirs : List (List ℕ)) (o : Opened) (table : Table) (f : FileMap) → HasOpened a b dirs o → a.told ≡ Some f → StandsFor dirs table f → IfSome b.told (IsSettled dirs (record { entries = table.entries; next = o.next }))
 settled_now a b dirs o table f h e stands = some_by b.told (IsSettled dirs (record { entries = table.entries; next = o.next })) (λ g q.
     let k = becomes_opened a.told b.told dirs o h.steps h.leads h.entries h.strange h.next g q in
     opened_settled dirs k.0 g o table k.2 (subst (λ (x : FileMap). StandsFor dirs table x) (some_is a.told k.0 f k.1 e) stands))
 
+-- the map that an opening leaves is clean
 pub clean_now : (a b : Spooled) (dirs : List (List ℕ)) (o : Opened) → HasOpened a b dirs o → IfSome b.told (IsClean dirs)
 clean_now a b dirs o h = some_by b.told (IsClean dirs) (λ g e. swept_clean dirs g (becomes_opened a.told b.told dirs o h.steps h.leads h.entries h.strange h.next g e).2.swept)
 
@@ -123,6 +126,7 @@ entries_back : (es : List Entry) → map (λ (h : Held). h.entry) (map taken_ove
 entries_back [] = refl
 entries_back (e ∷ es) = λ i. e ∷ entries_back es i
 
+-- the store that an opening gives is a reading of the map that was found
 pub reading_of : (a b : Spooled) (dirs : List (List ℕ)) (o : Opened) (f : FileMap) → HasOpened a b dirs o → a.told ≡ Some f → IsReading dirs f (opened_store dirs o)
 reading_of a b dirs o f h e = record { entries = subst (AreEntries dirs f) (sym (entries_back o.entries)) (h.entries f e); strange = h.strange f e; next = h.next f e }
 
@@ -137,5 +141,6 @@ taken_ascends es up i j d lt within =
     let second = ap (λ (h : Held). h.entry.id) other in
     omega (arith, less, first, second)
 
+-- entries that are in order below an id stay so on the shelf
 pub shelf_ordered : (es : List Entry) (next : ℕ) (held : List Held) → held ≡ map taken_over es → AreOrdered es next → IsAscending held × All (λ (h : Held). h.entry.id < next) held
 shelf_ordered es next held is h = subst (λ (q : List Held). IsAscending q × All (λ (x : Held). x.entry.id < next) q) (sym is) (taken_ascends es h.ascending, All-map (λ (x : Held). x.entry.id < next) taken_over es h.below)

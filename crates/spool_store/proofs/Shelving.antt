@@ -85,6 +85,7 @@ push_ascends items x up below i j d lt within =
 pub added_ascends : (items new : List Held) (x : Held) → new ≡ items ++ x ∷ [] → IsAscending items → All (λ h. h.entry.id < x.entry.id) items → IsAscending new
 added_ascends items new x e up below = subst IsAscending (sym e) (push_ascends items x up below)
 
+-- where an entry of the id n is added to entries below it, all are below n + 1
 pub added_below : (items new : List Held) (x : Held) (n : ℕ) → new ≡ items ++ x ∷ [] → x.entry.id ≡ n → All (λ (h : Held). h.entry.id < n) items → All (λ (h : Held). h.entry.id < n + 1) new
 added_below items new x n e at below = subst (λ (q : List Held). All (λ (h : Held). h.entry.id < n + 1) q) (sym e)
     (All-push (λ (h : Held). h.entry.id < n + 1) items x (All-weaker (λ (h : Held). h.entry.id < n) (λ (h : Held). h.entry.id < n + 1) (λ h lt. omega (arith, lt)) items below) (omega (arith, at)))
@@ -128,18 +129,21 @@ same_ascends change items same up i j d lt within =
     let second = same (get_or items j d) in
     omega (arith, less, one, other, first, second)
 
+-- a shelf keeps its order, its bound and its room where a change leaves each entry's id as it is
 pub same_kept : (change : Held → Held) (items new : List Held) (n room cap : ℕ) → ((h : Held) → (change h).entry.id ≡ h.entry.id) → new ≡ map change items → length items + room ≤ cap → IsAscending items → All (λ (h : Held). h.entry.id < n) items → (length new + room ≤ cap) × (IsAscending new × All (λ (h : Held). h.entry.id < n) new)
 same_kept change items new n room cap same e fits up below =
     let long = length-map items change in
     subst (λ (q : List Held). (length q + room ≤ cap) × (IsAscending q × All (λ (h : Held). h.entry.id < n) q)) (sym e)
     (omega (arith, fits, long), (same_ascends change items same up, All-map (λ (h : Held). h.entry.id < n) change items (All-weaker (λ (h : Held). h.entry.id < n) (λ (h : Held). (change h).entry.id < n) (λ h lt. let k = same h in omega (arith, lt, k)) items below)))
 
+-- a replaced control leaves each entry's id as it is
 pub recontrolled_id : (id : ℕ) (c : Control) (h : Held) → (recontrolled id c h).entry.id ≡ h.entry.id
 recontrolled_id id c h = ⊎_elim
     (λ (e : h.entry.id ≡ id). ap (λ (b : Bool). (if b then record h { entry = record h.entry { control = c } } else h).entry.id) (eq-eqb h.entry.id id e))
     (λ (ne : h.entry.id ≢ id). ap (λ (b : Bool). (if b then record h { entry = record h.entry { control = c } } else h).entry.id) (ne_eqb h.entry.id id ne))
     (cases_eq h.entry.id id)
 
+-- a finish leaves each entry's id as it is
 pub refinished_id : (id : ℕ) (h : Held) → (refinished id h).entry.id ≡ h.entry.id
 refinished_id id h = ⊎_elim
     (λ (e : h.entry.id ≡ id). ap (λ (b : Bool). (if b then record h { finished = true } else h).entry.id) (eq-eqb h.entry.id id e))

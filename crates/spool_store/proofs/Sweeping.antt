@@ -269,6 +269,7 @@ swept_tidy dirs next f g h fresh swept = record {
   drafts = swept.drafts;
 }
 
+-- what an opening that has ended leaves is settled, under a first free id above every name
 pub swept_settled : (dirs : List (List ℕ)) (table : Table) (f g : FileMap) → IsTidied dirs f g → StandsFor dirs table f → ((id : ℕ) → IsNamed dirs f id → id < table.next) → IsSwept dirs g → IsSettled dirs table g
 swept_settled dirs table f g h stands fresh swept = record { stands = tidied_stands dirs table f g h stands; tidy = swept_tidy dirs table.next f g h fresh swept }
 

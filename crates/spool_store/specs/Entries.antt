@@ -1,4 +1,5 @@
--- The message table with entries of several parts, in order of id (own; an entry is that of the Sendmail Installation and Operation Guide, "The queue").
+-- The message table with entries of several parts, in order of id (own; an entry is that of the
+-- Sendmail Installation and Operation Guide, "The queue").
 use Rattle.std.specs.Prelude.{◌≡◌, ℕ, List, map, eqb, if◌then◌else◌}
 use Rattle.std.specs.List.{AllZip}
 use Rattle.mail_base.specs.declared.control.Control.{Control}
@@ -30,7 +31,8 @@ AreSameEntries = AllZip IsSameEntry
 
 -- an entry with another control, where it has that id
 abbrev pub replaced : ℕ → Control → Stored → Stored
-replaced id c s = if eqb s.id id then record { id = s.id; dir = s.dir; control = c; body = s.body } else s
+replaced id c s =
+    if eqb s.id id then record { id = s.id; dir = s.dir; control = c; body = s.body } else s
 
 -- the entries with another control of that id
 abbrev pub with_control : ℕ → Control → List Stored → List Stored

@@ -18,9 +18,11 @@ pub record HasEnded (dirs : List (List ℕ)) (f : FileMap) (s : Spot) (g : FileM
   pub tidied : IsTidied dirs f g
   pub gone : bytes_at g (spot_place s) ≡ None
   pub holds : bytes_at g (spot_place (as_kind Sf s)) ≡ bytes_at f (spot_place s)
-  pub others : (t : Spot) → IsSpot dirs t → t ≢ s → t ≢ as_kind Sf s → bytes_at g (spot_place t) ≡ bytes_at f (spot_place t)
+  pub others : (t : Spot) → IsSpot dirs t → t ≢ s → t ≢ as_kind Sf s
+      → bytes_at g (spot_place t) ≡ bytes_at f (spot_place t)
 
 -- and its body is gone unless it is wanted
-pub record HasFinished (dirs : List (List ℕ)) (f : FileMap) (s : Spot) (c : Control) (g : FileMap) : Type 0 where
+pub record HasFinished (dirs : List (List ℕ)) (f : FileMap) (s : Spot) (c : Control)
+    (g : FileMap) : Type 0 where
   pub ended : HasEnded dirs f s g
   pub body : needs_body c ≡ false → bytes_at g (body_place s) ≡ None

@@ -17,7 +17,15 @@ use Rattle.spool_store.specs.declared.queue.Queue.{Queue}
 
 -- all that is seen of a store
 abbrev pub seen : Queue → StoreSeen
-seen q = record { dirs = q.dirs; entries = q.shelf.items; strange = q.strange; next = q.shelf.next; broken = q.broken; room = q.shelf.room }
+seen q =
+    record {
+      dirs = q.dirs;
+      entries = q.shelf.items;
+      strange = q.strange;
+      next = q.shelf.next;
+      broken = q.broken;
+      room = q.shelf.room;
+    }
 
 -- what a store is of a map that its opening read
 pub record IsReading (dirs : List (List ℕ)) (f : FileMap) (store : StoreSeen) : Type 0 where
@@ -34,8 +42,10 @@ or_nothing (Some bytes) = bytes
 abbrev pub raised : ℕ → ℕ
 raised revision = min (revision + 1) (2 ^ 64 - 1)
 
--- a control may take the place of that of an entry: it says the same rows, raised by one, and has room
-pub record CanReplace (entries : List Held) (id : ℕ) (control : Control) (paper : Sheet) : Type 0 where
+-- a control may take the place of that of an entry: it says the same rows, raised by one, and has
+-- room
+pub record CanReplace (entries : List Held) (id : ℕ) (control : Control)
+    (paper : Sheet) : Type 0 where
   pub held : Held
   pub among : Contains entries held
   pub is : held.entry.id ≡ id
@@ -62,8 +72,10 @@ after_replace table id c = record { entries = with_control id c table.entries; n
 abbrev pub with_new : Held → Control → Stored
 with_new h c = record { id = h.entry.id; dir = h.entry.dir; control = c; body = [] }
 
--- the control file of an entry has the name of a finished one's alone, and its body is there only where a row is dead
+-- the control file of an entry has the name of a finished one's alone, and its body is there only
+-- where a row is dead
 pub record IsFiled (h : Held) (g : FileMap) : Type 0 where
   pub queued : bytes_at g (h.entry.dir, name_of Qf h.entry.id) ≡ None
   pub finished : IsSome (bytes_at g (h.entry.dir, name_of Sf h.entry.id))
-  pub body : needs_body h.entry.control ≡ false → bytes_at g (h.entry.dir, name_of Df h.entry.id) ≡ None
+  pub body : needs_body h.entry.control ≡ false
+      → bytes_at g (h.entry.dir, name_of Df h.entry.id) ≡ None

@@ -1,4 +1,5 @@
--- What an opening tells of a map (own; an entry is that of the Sendmail Installation and Operation Guide, "The queue").
+-- What an opening tells of a map (own; an entry is that of the Sendmail Installation and Operation
+-- Guide, "The queue").
 use Rattle.std.specs.Prelude.{◌≡◌, ◌⊎◌, List, ℕ, ◌+◌, ◌<◌, ◌≢◌, All, AllPairs, IsSome, Contains}
 use Rattle.mail_base.specs.declared.id.Kind.{Kind}
 use Rattle.mail_base.specs.declared.control.Control.{Control}
@@ -11,8 +12,10 @@ use Rattle.spool_store.specs.Queue.{Spot, IsLive, IsStrange}
 
 -- exactly the entries of the live control files
 pub record AreEntries (dirs : List (List ℕ)) (f : FileMap) (entries : List Entry) : Type 0 where
-  pub each : (e : Entry) → Contains entries e → (kind : Kind) × IsLive dirs f (record { dir = e.dir; kind = kind; id = e.id }) e.control
-  pub all : (s : Spot) (c : Control) → IsLive dirs f s c → Contains entries (record { id = s.id; dir = s.dir; control = c })
+  pub each : (e : Entry) → Contains entries e
+      → (kind : Kind) × IsLive dirs f (record { dir = e.dir; kind = kind; id = e.id }) e.control
+  pub all : (s : Spot) (c : Control) → IsLive dirs f s c
+      → Contains entries (record { id = s.id; dir = s.dir; control = c })
 
 -- each id is less than those behind it
 abbrev pub AreAscending : List Entry → Type 0
@@ -30,8 +33,10 @@ pub record IsNext (dirs : List (List ℕ)) (f : FileMap) (next : ℕ) : Type 0 w
 
 -- a file that is left alone: of another name, or a strange control file
 pub data IsStray (dirs : List (List ℕ)) (f : FileMap) (x : Stray) : Type 0 where
-  other_name : Contains dirs x.dir → ((kind : Kind) (id : ℕ) → x.name ≢ name_of kind id) → IsSome (bytes_at f (x.dir, x.name)) → IsStray dirs f x
-  strange_file : (s : Spot) → IsStrange dirs f s → s.dir ≡ x.dir → name_of s.kind s.id ≡ x.name → IsStray dirs f x
+  other_name : Contains dirs x.dir → ((kind : Kind) (id : ℕ) → x.name ≢ name_of kind id)
+      → IsSome (bytes_at f (x.dir, x.name)) → IsStray dirs f x
+  strange_file : (s : Spot) → IsStrange dirs f s → s.dir ≡ x.dir → name_of s.kind s.id ≡ x.name
+      → IsStray dirs f x
 
 -- exactly these
 pub record AreStrays (dirs : List (List ℕ)) (f : FileMap) (strays : List Stray) : Type 0 where

@@ -10,7 +10,8 @@ use Rattle.spool_store.specs.declared.part.Part.{Part}
 
 -- the entry that a part writes, with the body of its change
 abbrev pub entry_of : List ℕ → Part → Stored
-entry_of body part = record { id = part.entry.id; dir = part.entry.dir; control = part.entry.control; body = body }
+entry_of body part =
+    record { id = part.entry.id; dir = part.entry.dir; control = part.entry.control; body = body }
 
 -- one more entry can be written over a map: its id is free, and no other's, and it has no draft
 pub record CanFollow (f : FileMap) (next : ℕ) (done : List Stored) (s : Stored) : Type 0 where
@@ -35,9 +36,11 @@ pub data IsOwn (own : List Stored) (place : Place) : Type 0 where
 abbrev pub IsLeft : List Stored → FileMap → FileMap → Type 0
 IsLeft own f g = (place : Place) → (bytes_at g place ≡ bytes_at f place) ⊎ IsOwn own place
 
--- what a stop leaves before the renaming that decides: each place is as it was, or is unfinished, or holds a child
+-- what a stop leaves before the renaming that decides: each place is as it was, or is unfinished,
+-- or holds a child
 pub record IsUnderWay (next : ℕ) (own children : List Stored) (f g : FileMap) : Type 0 where
-  pub at : (place : Place) → IsMidway next (λ p. Any (λ s. p ≡ draft_place s) own) children f g place
+  pub at : (place : Place)
+      → IsMidway next (λ p. Any (λ s. p ≡ draft_place s) own) children f g place
   pub left : IsLeft own f g
 
 -- entries that are new over a map
@@ -49,7 +52,8 @@ pub record AreNew (f : FileMap) (next : ℕ) (these : List Stored) : Type 0 wher
 
 -- the entries so far are new ones among the children
 abbrev pub AreAmong : ℕ → List Stored → List Stored → Type 0
-AreAmong next done children = (t : Stored) → Contains done t → Contains children t × (next ≤ t.id) × IsId t.id
+AreAmong next done children =
+    (t : Stored) → Contains done t → Contains children t × (next ≤ t.id) × IsId t.id
 
 -- the files stand for the table before or after
 abbrev pub IsEitherTable : List (List ℕ) → Table → Table → FileMap → Type 0

@@ -1,4 +1,5 @@
--- Reading a queue: its control files, which of them are left alone, and which are entries of the table (own; qf and df are those of the Sendmail Installation and Operation Guide, "The queue").
+-- Reading a queue: its control files, which of them are left alone, and which are entries of the
+-- table (own; qf and df are those of the Sendmail Installation and Operation Guide, "The queue").
 use Rattle.std.specs.Prelude.{◌≡◌, ◌≢◌, ◌⊎◌, ℕ, ◌<◌, ◌≤◌, List, Some, None, Contains, false}
 use Rattle.mail_base.specs.declared.id.Kind.{Kind}
 use Rattle.mail_base.specs.declared.id.Kind.TheVariants.{Df, Qf, Sf}
@@ -38,7 +39,8 @@ pub record IsSpot (dirs : List (List ℕ)) (s : Spot) : Type 0 where
   pub within : IsId s.id
 
 -- a control file, and its bytes
-pub record IsControl (dirs : List (List ℕ)) (files : FileMap) (s : Spot) (bytes : List ℕ) : Type 0 where
+pub record IsControl (dirs : List (List ℕ)) (files : FileMap) (s : Spot)
+    (bytes : List ℕ) : Type 0 where
   pub spot : IsSpot dirs s
   pub there : bytes_at files (spot_place s) ≡ Some bytes
 
@@ -64,15 +66,23 @@ pub record IsUnder (c : Control) (s : Spot) (p : Parent) (above : Spot) : Type 0
 
 -- why a control file is left alone
 pub data IsStrange (dirs : List (List ℕ)) (files : FileMap) : Spot → Type 0 where
-  unread : (s : Spot) (bytes : List ℕ) → IsControl dirs files s bytes → ((c : Control) → Says bytes c → ⊥) → IsStrange dirs files s
-  twice : (s : Spot) (bytes : List ℕ) → IsControl dirs files s bytes → HasTwin dirs files s → IsStrange dirs files s
-  upward : (s : Spot) (c : Control) (p : Parent) → IsRead dirs files s c → c.parent ≡ Some p → s.id ≤ p.id → IsStrange dirs files s
-  under : (s : Spot) (c : Control) (p : Parent) (above : Spot) → IsRead dirs files s c → IsUnder c s p above → IsStrange dirs files above → IsStrange dirs files s
-  bodiless : (s : Spot) (c : Control) → IsRead dirs files s c → NeedsBody c → bytes_at files (body_place s) ≡ None → IsStrange dirs files s
-  reopened : (s : Spot) (c : Control) → IsRead dirs files s c → s.kind ≡ Sf → IsOpen c → IsStrange dirs files s
+  unread : (s : Spot) (bytes : List ℕ) → IsControl dirs files s bytes
+      → ((c : Control) → Says bytes c → ⊥) → IsStrange dirs files s
+  twice : (s : Spot) (bytes : List ℕ) → IsControl dirs files s bytes → HasTwin dirs files s
+      → IsStrange dirs files s
+  upward : (s : Spot) (c : Control) (p : Parent) → IsRead dirs files s c → c.parent ≡ Some p
+      → s.id ≤ p.id → IsStrange dirs files s
+  under : (s : Spot) (c : Control) (p : Parent) (above : Spot) → IsRead dirs files s c
+      → IsUnder c s p above → IsStrange dirs files above → IsStrange dirs files s
+  bodiless : (s : Spot) (c : Control) → IsRead dirs files s c → NeedsBody c
+      → bytes_at files (body_place s) ≡ None → IsStrange dirs files s
+  reopened : (s : Spot) (c : Control) → IsRead dirs files s c → s.kind ≡ Sf → IsOpen c
+      → IsStrange dirs files s
 
 -- a control file whose entry is in the table
 pub data IsLive (dirs : List (List ℕ)) (files : FileMap) : Spot → Control → Type 0 where
-  alone : (s : Spot) (c : Control) → IsRead dirs files s c → (IsStrange dirs files s → ⊥) → c.parent ≡ None → IsLive dirs files s c
-  child : (s : Spot) (c : Control) (p : Parent) (above : Spot) (d : Control) → IsRead dirs files s c → (IsStrange dirs files s → ⊥) → IsUnder c s p above
+  alone : (s : Spot) (c : Control) → IsRead dirs files s c → (IsStrange dirs files s → ⊥)
+      → c.parent ≡ None → IsLive dirs files s c
+  child : (s : Spot) (c : Control) (p : Parent) (above : Spot) (d : Control) → IsRead dirs files s c
+      → (IsStrange dirs files s → ⊥) → IsUnder c s p above
       → IsLive dirs files above d → p.revision ≤ d.revision → IsLive dirs files s c

@@ -1,4 +1,5 @@
--- The files that a table of parts stands in (own; qf, df and tf are those of the Sendmail Installation and Operation Guide, "The queue").
+-- The files that a table of parts stands in (own; qf, df and tf are those of the Sendmail
+-- Installation and Operation Guide, "The queue").
 use Rattle.std.specs.Prelude.{◌≡◌, ℕ, ◌<◌, List, Some, None, Contains, All}
 use Rattle.std.specs.List.Sorted.{IsStrictlySortedBy}
 use Rattle.std.specs.Ordering.{nat_cmp}
@@ -39,14 +40,18 @@ pub record StandsFor (dirs : List (List ℕ)) (table : Table) (files : FileMap) 
 
 -- some name of the four forms has that id, or some control file names it as parent
 pub data IsNamed (dirs : List (List ℕ)) (files : FileMap) (id : ℕ) : Type 0 where
-  in_name : (dir : List ℕ) (kind : Kind) (bytes : List ℕ) → Contains dirs dir → IsId id → bytes_at files (dir, name_of kind id) ≡ Some bytes → IsNamed dirs files id
-  as_parent : (s : Spot) (c : Control) (p : Parent) → IsRead dirs files s c → c.parent ≡ Some p → p.id ≡ id → IsNamed dirs files id
+  in_name : (dir : List ℕ) (kind : Kind) (bytes : List ℕ) → Contains dirs dir → IsId id
+      → bytes_at files (dir, name_of kind id) ≡ Some bytes → IsNamed dirs files id
+  as_parent : (s : Spot) (c : Control) (p : Parent) → IsRead dirs files s c → c.parent ≡ Some p
+      → p.id ≡ id → IsNamed dirs files id
 
 -- no file is half done: what is between two calls that went well, beside the table itself
 pub record IsTidy (dirs : List (List ℕ)) (next : ℕ) (files : FileMap) : Type 0 where
-  pub whole : (s : Spot) (bytes : List ℕ) → IsControl dirs files s bytes → (IsStrange dirs files s → ⊥) → (c : Control) × IsLive dirs files s c
+  pub whole : (s : Spot) (bytes : List ℕ) → IsControl dirs files s bytes
+      → (IsStrange dirs files s → ⊥) → (c : Control) × IsLive dirs files s c
   pub fresh : (id : ℕ) → IsNamed dirs files id → id < next
-  pub drafts : (dir : List ℕ) (id : ℕ) → Contains dirs dir → IsId id → bytes_at files (dir, name_of Tf id) ≡ None
+  pub drafts : (dir : List ℕ) (id : ℕ) → Contains dirs dir → IsId id
+      → bytes_at files (dir, name_of Tf id) ≡ None
 
 -- between calls
 pub record IsSettled (dirs : List (List ℕ)) (table : Table) (files : FileMap) : Type 0 where

@@ -1,4 +1,5 @@
--- What a store knows of a map: its entries without their bodies, and the files that it leaves alone (own).
+-- What a store knows of a map: its entries without their bodies, and the files that it leaves alone
+-- (own).
 use Rattle.std.specs.Prelude.{◌≡◌, ◌↔◌, ℕ, ◌<◌, List, map, length, Bool, true, false, Contains, All, AllPairs, eqb, if◌then◌else◌, get_or}
 use Rattle.std.specs.List.{AllZip}
 use Rattle.mail_base.specs.declared.id.Kind.{Kind}
@@ -81,7 +82,8 @@ pub record Holds (store : StoreSeen) (table : Table) : Type 0 where
 
 -- an entry with another control, where it has that id
 abbrev pub recontrolled : ℕ → Control → Held → Held
-recontrolled id c h = if eqb h.entry.id id then record h { entry = record h.entry { control = c } } else h
+recontrolled id c h =
+    if eqb h.entry.id id then record h { entry = record h.entry { control = c } } else h
 
 -- an entry whose control file has its other name, where it has that id
 abbrev pub refinished : ℕ → Held → Held
@@ -89,13 +91,17 @@ refinished id h = if eqb h.entry.id id then record h { finished = true } else h
 
 -- a new entry
 abbrev pub entered : Stored → Held
-entered s = record { entry = record { id = s.id; dir = s.dir; control = s.control }; finished = false }
+entered s =
+    record { entry = record { id = s.id; dir = s.dir; control = s.control }; finished = false }
 
--- a place that no call touches: of no file of the queue, of a strange file, and of each body of its id
+-- a place that no call touches: of no file of the queue, of a strange file, and of each body of its
+-- id
 pub data IsNobodys (dirs : List (List ℕ)) (f : FileMap) (place : Place) : Type 0 where
   of_none : IsForeign dirs place → IsNobodys dirs f place
   of_strange : (s : Spot) → IsStrange dirs f s → place ≡ spot_place s → IsNobodys dirs f place
-  of_its_body : (s : Spot) (dir : List ℕ) → IsStrange dirs f s → Contains dirs dir → place ≡ at dir Df s.id → IsNobodys dirs f place
+  of_its_body : (s : Spot) (dir : List ℕ) → IsStrange dirs f s → Contains dirs dir
+      → place ≡ at dir Df s.id → IsNobodys dirs f place
 
 abbrev pub KeepsOthers : List (List ℕ) → FileMap → FileMap → Type 0
-KeepsOthers dirs f g = (place : Place) → IsNobodys dirs f place → bytes_at g place ≡ bytes_at f place
+KeepsOthers dirs f g =
+    (place : Place) → IsNobodys dirs f place → bytes_at g place ≡ bytes_at f place

@@ -1,4 +1,5 @@
--- The message table: its entries in order of id, and the commands that change it (own; an entry is that of the Sendmail Installation and Operation Guide, "The queue").
+-- The message table: its entries in order of id, and the commands that change it (own; an entry is
+-- that of the Sendmail Installation and Operation Guide, "The queue").
 use Rattle.std.specs.Prelude.{ℕ, ◌+◌, ◌<◌, List, [], ◌∷◌, ◌++◌, map, All, Contains}
 use Rattle.std.specs.List.Sorted.{IsStrictlySortedBy}
 use Rattle.std.specs.Ordering.{nat_cmp}
@@ -25,11 +26,13 @@ pub data Command : Type 0 where
 
 -- the entry that a draft becomes under an id
 abbrev pub stored : ℕ → Draft → List ℕ → Stored
-stored id draft body = record { entry = record { id = id; dir = draft.dir; control = draft.control }; body = body }
+stored id draft body =
+    record { entry = record { id = id; dir = draft.dir; control = draft.control }; body = body }
 
 -- the table after a command: a new entry has the first free id
 abbrev pub after : Table → Command → Table
-after table (Accept draft body) = record { entries = table.entries ++ stored table.next draft body ∷ []; next = table.next + 1 }
+after table (Accept draft body) =
+    record { entries = table.entries ++ stored table.next draft body ∷ []; next = table.next + 1 }
 
 -- the table after these commands, in their order
 abbrev pub applied : Table → List Command → Table

@@ -15,7 +15,8 @@ use Rattle.spool_store.specs.Queue.{IsLive}
 use Rattle.spool_store.specs.Entries.{Stored, Table, with_control}
 use Rattle.spool_store.specs.Changes.{control_place, body_at, draft_place, IsPut, HoldsBoth}
 
--- what is asked to be stored: new entries under a new parent or an old one, or an old entry's new control
+-- what is asked to be stored: new entries under a new parent or an old one, or an old entry's new
+-- control
 pub data Write : Type 0 where
   Commits : (children : List Draft) (parent : Draft) (body : List ℕ) → Write
   Replaces : (id : ℕ) (control : Control) → Write
@@ -39,16 +40,29 @@ head_of next parent None = record { id = next; revision = parent.control.revisio
 head_of next parent (Some id) = record { id = id; revision = parent.control.revision }
 
 abbrev pub children_of : ℕ → List Draft → Draft → List ℕ → Option ℕ → List Stored
-children_of next children parent body None = numbered (next + 1) body (map (heir (head_of next parent None)) children)
-children_of next children parent body (Some id) = numbered next body (map (heir (head_of next parent (Some id))) children)
+children_of next children parent body None =
+    numbered (next + 1) body (map (heir (head_of next parent None)) children)
+children_of next children parent body (Some id) =
+    numbered next body (map (heir (head_of next parent (Some id))) children)
 
 abbrev pub after_commit : Table → List Draft → Draft → List ℕ → Option ℕ → Table
-after_commit table children parent body None = record { entries = table.entries ++ stored table.next body parent ∷ children_of table.next children parent body None; next = table.next + 1 + length children }
-after_commit table children parent body (Some id) = record { entries = with_control id parent.control table.entries ++ children_of table.next children parent body (Some id); next = table.next + length children }
+after_commit table children parent body None =
+    record {
+      entries = table.entries ++ stored table.next body parent
+          ∷ children_of table.next children parent body None;
+      next = table.next + 1 + length children;
+    }
+after_commit table children parent body (Some id) =
+    record {
+      entries = with_control id parent.control table.entries
+          ++ children_of table.next children parent body (Some id);
+      next = table.next + length children;
+    }
 
 abbrev pub after_write : Table → Write → Table
 after_write table (Commits children parent body) = after_commit table children parent body parent.id
-after_write table (Replaces id control) = record { entries = with_control id control table.entries; next = table.next }
+after_write table (Replaces id control) =
+    record { entries = with_control id control table.entries; next = table.next }
 
 -- files
 abbrev pub control_file : Stored → File
@@ -91,13 +105,15 @@ abbrev pub IsFurther : List Stored → Stored → Type 0
 IsFurther done s = All (λ t. IsId t.id × (t.id ≢ s.id)) done
 
 -- what is asked of the drafts of a commit
-pub record AreDraftable (dirs : List (List ℕ)) (next : ℕ) (children : List Draft) (parent : Draft) : Type 0 where
+pub record AreDraftable (dirs : List (List ℕ)) (next : ℕ) (children : List Draft)
+    (parent : Draft) : Type 0 where
   pub each : All (IsDraftable dirs) children
   pub head : IsDraftable dirs parent
   pub room : next + 1 + length children ≤ 1_000_000_000_000
 
 -- with an old one: its entry, and that its files are raised
-pub record IsOld (dirs : List (List ℕ)) (f : FileMap) (id : ℕ) (parent : Draft) (old : Control) : Type 0 where
+pub record IsOld (dirs : List (List ℕ)) (f : FileMap) (id : ℕ) (parent : Draft)
+    (old : Control) : Type 0 where
   pub live : IsLive dirs f (record { dir = parent.dir; kind = Qf; id = id }) old
   pub same : parent.control.parent ≡ old.parent
   pub wanted : NeedsBody parent.control → NeedsBody old

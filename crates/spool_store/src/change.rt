@@ -9,8 +9,8 @@ use mail_base::{Control, Draft, Id, Kind, NoMemory, Text};
 use qf_format::print;
 use std::alloc::Global;
 
-/// A new entry with its id, ready to be committed: it holds every text that the commit writes. Dropped,
-/// it leaves the store and the spool as they were.
+/// A new entry with its id, ready to be committed: it holds every text that the commit writes.
+/// Dropped, it leaves the store and the spool as they were.
 pub struct Change {
     pub(crate) id: Id,
     pub(crate) draft: Draft,
@@ -69,12 +69,18 @@ impl Change {
         })
     }
 
-    // The texts of an entry's commit: its control text, and the names of its body, its draft and its
-    // control file.
+    // The texts of an entry's commit: its control text, and the names of its body, its draft and
+    // its control file.
     fn texts(alloc: Global, id: Id, control: &Control) -> Result<(Text, Text, Text, Text), NoMemory>
         requires within { IsId id }
         requires valid { IsValid control.now }
-        ensures { IfOk result (λ texts. texts ≡ (spelled control.now, name_of BodyKind id, name_of DraftKind id, name_of ControlKind id)) }
+        ensures { IfOk result
+            (λ texts. texts ≡ (
+              spelled control.now,
+              name_of BodyKind id,
+              name_of DraftKind id,
+              name_of ControlKind id,
+            )) }
     {
         let control = print(control)?;
         let df = Text::of(alloc, id.name(Kind::Df).bytes())?;

@@ -13,11 +13,14 @@ use spool_disk::Spool;
 
 // Writes the body.
 fn put_body<D: Spool>(spool: &mut D, change: &Change) -> Result<(), Failed>
-    ensures moves { (dirs : List (List ℕ)) (table : Table) → IsSound dirs table → table.next ≡ change.now.id → Moves
+    ensures moves { (dirs : List (List ℕ)) (table : Table) → IsSound dirs table
+        → table.next ≡ change.now.id → Moves
         (D.seen spool.old)
         (D.seen spool.new)
         (IsClean dirs table)
-        (Ends result (HasBody dirs table (stored change.now.id change.now.draft change.now.body)) (IsEither dirs table (Accept change.now.draft change.now.body)))
+        (Ends result
+        (HasBody dirs table (stored change.now.id change.now.draft change.now.body))
+        (IsEither dirs table (Accept change.now.draft change.now.body)))
         (IsEither dirs table (Accept change.now.draft change.now.body)) }
     ensures cause { HasCause (D.seen spool.old).faults (D.seen spool.new).faults result }
     ensures calm { OnOk result ((D.seen spool.new).faults ≡ (D.seen spool.old).faults) }
@@ -27,13 +30,18 @@ fn put_body<D: Spool>(spool: &mut D, change: &Change) -> Result<(), Failed>
 
 // Writes the control text under the name that opening takes away.
 fn put_draft<D: Spool>(spool: &mut D, change: &Change) -> Result<(), Failed>
-    ensures moves { (dirs : List (List ℕ)) (table : Table) → IsSound dirs table → table.next ≡ change.now.id → Moves
+    ensures moves { (dirs : List (List ℕ)) (table : Table) → IsSound dirs table
+        → table.next ≡ change.now.id → Moves
         (D.seen spool.old)
         (D.seen spool.new)
         (HasBody dirs table (stored change.now.id change.now.draft change.now.body))
-        (Ends result (HasDraft dirs table (stored change.now.id change.now.draft change.now.body)) (IsEither dirs table (Accept change.now.draft change.now.body)))
+        (Ends result
+        (HasDraft dirs table (stored change.now.id change.now.draft change.now.body))
+        (IsEither dirs table (Accept change.now.draft change.now.body)))
         (IsEither dirs table (Accept change.now.draft change.now.body)) }
-    ensures there { OnOk result (IfSome (D.seen spool.new).told (λ files. IsSome (bytes_at files (change.now.draft.dir, change.now.tf)))) }
+    ensures there { OnOk result
+        (IfSome (D.seen spool.new).told
+        (λ files. IsSome (bytes_at files (change.now.draft.dir, change.now.tf)))) }
     ensures cause { HasCause (D.seen spool.old).faults (D.seen spool.new).faults result }
     ensures calm { OnOk result ((D.seen spool.new).faults ≡ (D.seen spool.old).faults) }
 {
@@ -42,12 +50,16 @@ fn put_draft<D: Spool>(spool: &mut D, change: &Change) -> Result<(), Failed>
 
 // Gives the control text its own name, which decides.
 fn publish<D: Spool>(spool: &mut D, change: &Change) -> Result<(), Failed>
-    requires there { IfSome (D.seen spool.old).told (λ files. IsSome (bytes_at files (change.now.draft.dir, change.now.tf))) }
-    ensures moves { (dirs : List (List ℕ)) (table : Table) → IsSound dirs table → table.next ≡ change.now.id → Moves
+    requires there { IfSome (D.seen spool.old).told
+        (λ files. IsSome (bytes_at files (change.now.draft.dir, change.now.tf))) }
+    ensures moves { (dirs : List (List ℕ)) (table : Table) → IsSound dirs table
+        → table.next ≡ change.now.id → Moves
         (D.seen spool.old)
         (D.seen spool.new)
         (HasDraft dirs table (stored change.now.id change.now.draft change.now.body))
-        (Ends result (IsClean dirs (after table (Accept change.now.draft change.now.body))) (IsEither dirs table (Accept change.now.draft change.now.body)))
+        (Ends result
+        (IsClean dirs (after table (Accept change.now.draft change.now.body)))
+        (IsEither dirs table (Accept change.now.draft change.now.body)))
         (IsEither dirs table (Accept change.now.draft change.now.body)) }
     ensures cause { HasCause (D.seen spool.old).faults (D.seen spool.new).faults result }
     ensures calm { OnOk result ((D.seen spool.new).faults ≡ (D.seen spool.old).faults) }
@@ -57,11 +69,14 @@ fn publish<D: Spool>(spool: &mut D, change: &Change) -> Result<(), Failed>
 
 /// Writes the files of a change, each whole before the next. It takes no memory.
 pub(crate) fn put_entry<D: Spool>(spool: &mut D, change: &Change) -> Result<(), Failed>
-    ensures moves { (dirs : List (List ℕ)) (table : Table) → IsSound dirs table → table.next ≡ change.now.id → Moves
+    ensures moves { (dirs : List (List ℕ)) (table : Table) → IsSound dirs table
+        → table.next ≡ change.now.id → Moves
         (D.seen spool.old)
         (D.seen spool.new)
         (IsClean dirs table)
-        (Ends result (IsClean dirs (after table (Accept change.now.draft change.now.body))) (IsEither dirs table (Accept change.now.draft change.now.body)))
+        (Ends result
+        (IsClean dirs (after table (Accept change.now.draft change.now.body)))
+        (IsEither dirs table (Accept change.now.draft change.now.body)))
         (IsEither dirs table (Accept change.now.draft change.now.body)) }
     ensures cause { HasCause (D.seen spool.old).faults (D.seen spool.new).faults result }
     ensures calm { OnOk result ((D.seen spool.new).faults ≡ (D.seen spool.old).faults) }

@@ -16,8 +16,11 @@ use spool_disk::Spool;
 /// Gives the control file of an entry whose rows are all done its other name. It takes no memory.
 pub(crate) fn end<D: Spool>(spool: &mut D, dir: &Text, qf: &Text, sf: &Text) -> Result<(), Failed>
     requires apart { qf.now ≢ sf.now }
-    requires there { IfSome (D.seen spool.old).told (λ files. IsSome (bytes_at files (dir.now, qf.now))) }
-    ensures moves { (dirs : List (List ℕ)) (f : FileMap) (s : Spot) (control : Control) → IsDone dirs f s control → dir.now ≡ s.dir → qf.now ≡ name_of ControlKind s.id → sf.now ≡ name_of FinishedKind s.id → Moves
+    requires there { IfSome (D.seen spool.old).told
+        (λ files. IsSome (bytes_at files (dir.now, qf.now))) }
+    ensures moves { (dirs : List (List ℕ)) (f : FileMap) (s : Spot) (control : Control)
+        → IsDone dirs f s control → dir.now ≡ s.dir → qf.now ≡ name_of ControlKind s.id
+        → sf.now ≡ name_of FinishedKind s.id → Moves
         (D.seen spool.old)
         (D.seen spool.new)
         (λ g. g ≡ f)
@@ -32,7 +35,9 @@ pub(crate) fn end<D: Spool>(spool: &mut D, dir: &Text, qf: &Text, sf: &Text) -> 
 
 /// Takes away the body that is wanted no more. It takes no memory.
 pub(crate) fn drop_body<D: Spool>(spool: &mut D, dir: &Text, df: &Text) -> Result<(), Failed>
-    ensures moves { (dirs : List (List ℕ)) (f : FileMap) (s : Spot) (control : Control) → IsDone dirs f s control → needs_body control ≡ false → dir.now ≡ s.dir → df.now ≡ name_of BodyKind s.id → Moves
+    ensures moves { (dirs : List (List ℕ)) (f : FileMap) (s : Spot) (control : Control)
+        → IsDone dirs f s control → needs_body control ≡ false → dir.now ≡ s.dir
+        → df.now ≡ name_of BodyKind s.id → Moves
         (D.seen spool.old)
         (D.seen spool.new)
         (HasEnded dirs f s)

@@ -22,7 +22,8 @@ fn first_named(names: &[Named], id: u64) -> usize
     requires order { IsNonDecreasingBy (λ (x : NamedSeen). x.id) names.now }
     ensures bound { result ≤ length names.now }
     ensures before { (k : ℕ) (d : NamedSeen) → k < result → (slice_index_or names.now k d).id < id }
-    ensures from { (k : ℕ) (d : NamedSeen) → result ≤ k → k < length names.now → id ≤ (slice_index_or names.now k d).id }
+    ensures from { (k : ℕ) (d : NamedSeen) → result ≤ k → k < length names.now
+        → id ≤ (slice_index_or names.now k d).id }
 {
     names.partition_point(|x| x.id.number() < id)
 }
@@ -31,8 +32,10 @@ fn first_named(names: &[Named], id: u64) -> usize
 fn first_found(found: &[Found], id: u64) -> usize
     requires order { IsNonDecreasingBy (λ (x : FoundSeen). x.named.id) found.now }
     ensures bound { result ≤ length found.now }
-    ensures before { (k : ℕ) (d : FoundSeen) → k < result → (slice_index_or found.now k d).named.id < id }
-    ensures from { (k : ℕ) (d : FoundSeen) → result ≤ k → k < length found.now → id ≤ (slice_index_or found.now k d).named.id }
+    ensures before { (k : ℕ) (d : FoundSeen) → k < result
+        → (slice_index_or found.now k d).named.id < id }
+    ensures from { (k : ℕ) (d : FoundSeen) → result ≤ k → k < length found.now
+        → id ≤ (slice_index_or found.now k d).named.id }
 {
     found.partition_point(|x| x.named.id.number() < id)
 }
@@ -48,8 +51,10 @@ fn is_body(named: &Named, dir: usize) -> bool
 // Whether a body of that id is in that directory.
 fn has_body(names: &[Named], dir: usize, id: Id) -> bool
     requires order { IsNonDecreasingBy (λ (x : NamedSeen). x.id) names.now }
-    ensures yes { result ≡ true → Contains names.now (record { dir = dir; kind = BodyKind; id = id }) }
-    ensures no { result ≡ false → Contains names.now (record { dir = dir; kind = BodyKind; id = id }) → ⊥ }
+    ensures yes { result ≡ true
+        → Contains names.now (record { dir = dir; kind = BodyKind; id = id }) }
+    ensures no { result ≡ false
+        → Contains names.now (record { dir = dir; kind = BodyKind; id = id }) → ⊥ }
 {
     let number = id.number();
     for place in first_named(names, number)..names.len() {
@@ -69,7 +74,8 @@ fn is_apart(dirs: &[Text], one: &Named, other: &Named) -> bool
     requires one { one.now.dir < length dirs.now }
     requires other { other.now.dir < length dirs.now }
     ensures yes { result ≡ true → spot_named dirs.now other.now ≢ spot_named dirs.now one.now }
-    ensures no { result ≡ false → other.now.id ≡ one.now.id → spot_named dirs.now other.now ≡ spot_named dirs.now one.now }
+    ensures no { result ≡ false → other.now.id ≡ one.now.id
+        → spot_named dirs.now other.now ≡ spot_named dirs.now one.now }
 {
     other.kind != one.kind || dirs[other.dir] != dirs[one.dir]
 }
@@ -79,8 +85,11 @@ fn has_twin(dirs: &[Text], found: &[Found], named: &Named) -> bool
     requires order { IsNonDecreasingBy (λ (x : FoundSeen). x.named.id) found.now }
     requires within { (x : FoundSeen) → Contains found.now x → x.named.dir < length dirs.now }
     requires own { named.now.dir < length dirs.now }
-    ensures yes { result ≡ true → (y : FoundSeen) × Contains found.now y × (y.named.id ≡ named.now.id) × (spot_named dirs.now y.named ≢ spot_named dirs.now named.now) }
-    ensures no { result ≡ false → (y : FoundSeen) → Contains found.now y → y.named.id ≡ named.now.id → spot_named dirs.now y.named ≡ spot_named dirs.now named.now }
+    ensures yes { result ≡ true
+        → (y : FoundSeen) × Contains found.now y × (y.named.id ≡ named.now.id)
+        × (spot_named dirs.now y.named ≢ spot_named dirs.now named.now) }
+    ensures no { result ≡ false → (y : FoundSeen) → Contains found.now y → y.named.id ≡ named.now.id
+        → spot_named dirs.now y.named ≡ spot_named dirs.now named.now }
 {
     let number = named.id.number();
     for place in first_found(found, number)..found.len() {
@@ -98,7 +107,9 @@ fn has_twin(dirs: &[Text], found: &[Found], named: &Named) -> bool
 // The place of a control file of that id.
 pub(crate) fn place_of(found: &[Found], id: Id) -> Option<usize>
     requires order { IsNonDecreasingBy (λ (x : FoundSeen). x.named.id) found.now }
-    ensures some { IfSome result (λ k. (k < length found.now) × ((d : FoundSeen) → (slice_index_or found.now k d).named.id ≡ id)) }
+    ensures some { IfSome result
+        (λ k. (k < length found.now)
+        × ((d : FoundSeen) → (slice_index_or found.now k d).named.id ≡ id)) }
     ensures none { IfNone result ((y : FoundSeen) → Contains found.now y → y.named.id ≢ id) }
 {
     let number = id.number();
@@ -112,8 +123,12 @@ pub(crate) fn place_of(found: &[Found], id: Id) -> Option<usize>
 // Whether the body is wanted and isn't there.
 fn lacks_body(names: &[Named], named: &Named, control: &Control) -> bool
     requires order { IsNonDecreasingBy (λ (x : NamedSeen). x.id) names.now }
-    ensures yes { result ≡ true → NeedsBody control.now × (Contains names.now (record { dir = named.now.dir; kind = BodyKind; id = named.now.id }) → ⊥) }
-    ensures no { result ≡ false → NeedsBody control.now → Contains names.now (record { dir = named.now.dir; kind = BodyKind; id = named.now.id }) }
+    ensures yes { result ≡ true
+        → NeedsBody control.now
+        × (Contains names.now
+        (record { dir = named.now.dir; kind = BodyKind; id = named.now.id }) → ⊥) }
+    ensures no { result ≡ false → NeedsBody control.now
+        → Contains names.now (record { dir = named.now.dir; kind = BodyKind; id = named.now.id }) }
 {
     if control.needs_body() {
         return !has_body(names, named.dir, named.id);
@@ -136,8 +151,14 @@ fn is_reopened(kind: Kind, control: &Control) -> bool
 fn is_odd(dirs: &[Text], names: &[Named], found: &[Found], named: &Named, control: &Control) -> bool
     requires indexed { IsIndexed dirs.now names.now found.now }
     requires own { named.now.dir < length dirs.now }
-    ensures odd { (f : FileMap) → AreNamed dirs.now f (length dirs.now) names.now → AreFound dirs.now f found.now → IsRead dirs.now f (spot_named dirs.now named.now) control.now → result ≡ true → IsStrange dirs.now f (spot_named dirs.now named.now) }
-    ensures sober { (f : FileMap) → AreNamed dirs.now f (length dirs.now) names.now → AreFound dirs.now f found.now → IsRead dirs.now f (spot_named dirs.now named.now) control.now → result ≡ false → IsSober dirs.now f (spot_named dirs.now named.now) control.now }
+    ensures odd { (f : FileMap) → AreNamed dirs.now f (length dirs.now) names.now
+        → AreFound dirs.now f found.now
+        → IsRead dirs.now f (spot_named dirs.now named.now) control.now → result ≡ true
+        → IsStrange dirs.now f (spot_named dirs.now named.now) }
+    ensures sober { (f : FileMap) → AreNamed dirs.now f (length dirs.now) names.now
+        → AreFound dirs.now f found.now
+        → IsRead dirs.now f (spot_named dirs.now named.now) control.now → result ≡ false
+        → IsSober dirs.now f (spot_named dirs.now named.now) control.now }
 {
     if has_twin(dirs, found, named) {
         return true;
@@ -150,7 +171,10 @@ fn is_odd(dirs: &[Text], names: &[Named], found: &[Found], named: &Named, contro
 
 // The verdict on a child by the one on the control file above it.
 fn below(above: &Verdict, parent: &Parent, revision: u64) -> Verdict
-    ensures { (dirs : List (List ℕ)) (f : FileMap) (s a : SpotSeen) (c : ControlSeen) → IsSober dirs f s c → c.parent ≡ Some parent.now → parent.now.id < s.id → c.revision ≡ revision → a.id ≡ parent.now.id → IsVerdict dirs f a above.now → IsVerdict dirs f s result }
+    ensures { (dirs : List (List ℕ)) (f : FileMap) (s a : SpotSeen) (c : ControlSeen)
+        → IsSober dirs f s c → c.parent ≡ Some parent.now → parent.now.id < s.id
+        → c.revision ≡ revision → a.id ≡ parent.now.id → IsVerdict dirs f a above.now
+        → IsVerdict dirs f s result }
 {
     match above {
         Verdict::Strange => Verdict::Strange,
@@ -167,8 +191,13 @@ fn below(above: &Verdict, parent: &Parent, revision: u64) -> Verdict
 // The verdict on a child.
 fn under(found: &[Found], verdicts: &[Verdict], parent: &Parent, revision: u64) -> Verdict
     requires order { IsNonDecreasingBy (λ (x : FoundSeen). x.named.id) found.now }
-    requires far { (k : ℕ) (d : FoundSeen) → k < length found.now → (slice_index_or found.now k d).named.id ≡ parent.now.id → k < length verdicts.now }
-    ensures { (dirs : List (List ℕ)) (f : FileMap) (s : SpotSeen) (c : ControlSeen) → AreFound dirs f found.now → AreJudged dirs f (take (length verdicts.now) found.now) verdicts.now → IsSober dirs f s c → c.parent ≡ Some parent.now → parent.now.id < s.id → c.revision ≡ revision → IsVerdict dirs f s result }
+    requires far { (k : ℕ) (d : FoundSeen) → k < length found.now
+        → (slice_index_or found.now k d).named.id ≡ parent.now.id → k < length verdicts.now }
+    ensures { (dirs : List (List ℕ)) (f : FileMap) (s : SpotSeen) (c : ControlSeen)
+        → AreFound dirs f found.now
+        → AreJudged dirs f (take (length verdicts.now) found.now) verdicts.now → IsSober dirs f s c
+        → c.parent ≡ Some parent.now → parent.now.id < s.id → c.revision ≡ revision
+        → IsVerdict dirs f s result }
 {
     match place_of(found, parent.id) {
         None => Verdict::Dead,
@@ -179,8 +208,12 @@ fn under(found: &[Found], verdicts: &[Verdict], parent: &Parent, revision: u64) 
 // The verdict on a control file that isn't strange for a reason of its own.
 fn by_parent(found: &[Found], verdicts: &[Verdict], named: &Named, control: &Control) -> Verdict
     requires order { IsNonDecreasingBy (λ (x : FoundSeen). x.named.id) found.now }
-    requires far { (k : ℕ) (d : FoundSeen) → k < length found.now → (slice_index_or found.now k d).named.id < named.now.id → k < length verdicts.now }
-    ensures { (dirs : List (List ℕ)) (f : FileMap) → AreFound dirs f found.now → AreJudged dirs f (take (length verdicts.now) found.now) verdicts.now → IsSober dirs f (spot_named dirs named.now) control.now → IsVerdict dirs f (spot_named dirs named.now) result }
+    requires far { (k : ℕ) (d : FoundSeen) → k < length found.now
+        → (slice_index_or found.now k d).named.id < named.now.id → k < length verdicts.now }
+    ensures { (dirs : List (List ℕ)) (f : FileMap) → AreFound dirs f found.now
+        → AreJudged dirs f (take (length verdicts.now) found.now) verdicts.now
+        → IsSober dirs f (spot_named dirs named.now) control.now
+        → IsVerdict dirs f (spot_named dirs named.now) result }
 {
     match &control.parent {
         None => Verdict::Live(control.revision),
@@ -203,8 +236,12 @@ fn verdict_on(
 ) -> Verdict
     requires indexed { IsIndexed dirs.now names.now found.now }
     requires own { x.now.named.dir < length dirs.now }
-    requires far { (k : ℕ) (d : FoundSeen) → k < length found.now → (slice_index_or found.now k d).named.id < x.now.named.id → k < length verdicts.now }
-    ensures { (f : FileMap) → AreNamed dirs.now f (length dirs.now) names.now → AreFound dirs.now f found.now → AreJudged dirs.now f (take (length verdicts.now) found.now) verdicts.now → Contains found.now x.now → IsVerdict dirs.now f (spot_named dirs.now x.now.named) result }
+    requires far { (k : ℕ) (d : FoundSeen) → k < length found.now
+        → (slice_index_or found.now k d).named.id < x.now.named.id → k < length verdicts.now }
+    ensures { (f : FileMap) → AreNamed dirs.now f (length dirs.now) names.now
+        → AreFound dirs.now f found.now
+        → AreJudged dirs.now f (take (length verdicts.now) found.now) verdicts.now
+        → Contains found.now x.now → IsVerdict dirs.now f (spot_named dirs.now x.now.named) result }
 {
     match &x.control {
         None => Verdict::Strange,
@@ -226,7 +263,8 @@ pub(crate) fn judge(
 ) -> Result<Seq<Verdict>, NoMemory>
     requires indexed { IsIndexed dirs.now names.now found.now }
     ensures long { IfOk result (λ verdicts. length verdicts ≡ length found.now) }
-    ensures judged { (f : FileMap) → AreNamed dirs.now f (length dirs.now) names.now → AreFound dirs.now f found.now → IfOk result (AreJudged dirs.now f found.now) }
+    ensures judged { (f : FileMap) → AreNamed dirs.now f (length dirs.now) names.now
+        → AreFound dirs.now f found.now → IfOk result (AreJudged dirs.now f found.now) }
 {
     let mut verdicts = Seq::new(alloc);
     for x in found {

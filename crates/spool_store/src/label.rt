@@ -5,7 +5,8 @@ use mail_base::{Id, Kind, NoMemory, Text};
 use std::alloc::Global;
 use std::marker::Model;
 
-/// Memory for the name of a file of the queue, which is written over it. A contract sees it as that name.
+/// Memory for the name of a file of the queue, which is written over it. A contract sees it as that
+/// name.
 #[derive(Drop)]
 pub struct Label {
     name: Text,

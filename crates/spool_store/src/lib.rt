@@ -1,5 +1,6 @@
-//! The store of the queue over a [`Spool`](spool_disk::Spool): an entry is committed whole or not at
-//! all, at whatever call the run stops. Which files stand for a table is in `specs/Standing.antt`.
+//! The store of the queue over a [`Spool`](spool_disk::Spool): an entry is committed whole or not
+//! at all, at whatever call the run stops. Which files stand for a table is in
+//! `specs/Standing.antt`.
 #![tactic(auto)]
 
 mod change;

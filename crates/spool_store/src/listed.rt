@@ -15,7 +15,8 @@ use std::alloc::Global;
 
 // Adds the file of the queue that a name of a directory is of, if it is of one.
 fn add_name(name: &Text, dir: usize, out: &mut Seq<Named>) -> Result<(), NoMemory>
-    ensures { (names : List (List ℕ)) (old : List NamedSeen) → AddsNamed dir names old out.old → OnOk result (AddsNamed dir (names ++ name.now ∷ []) old out.new) }
+    ensures { (names : List (List ℕ)) (old : List NamedSeen) → AddsNamed dir names old out.old
+        → OnOk result (AddsNamed dir (names ++ name.now ∷ []) old out.new) }
 {
     match Id::of(name) {
         None => Ok(()),
@@ -42,7 +43,8 @@ fn add_named(names: &[Text], dir: usize, out: &mut Seq<Named>) -> Result<(), NoM
 
 // Adds a name of a directory, if it is of no file of the queue.
 fn add_stray(name: &Text, dir: &Text, out: &mut Seq<Stray>) -> Result<(), NoMemory>
-    ensures { (names : List (List ℕ)) (old : List StraySeen) → AddsStrays dir.now names old out.old → OnOk result (AddsStrays dir.now (names ++ name.now ∷ []) old out.new) }
+    ensures { (names : List (List ℕ)) (old : List StraySeen) → AddsStrays dir.now names old out.old
+        → OnOk result (AddsStrays dir.now (names ++ name.now ∷ []) old out.new) }
 {
     match Id::of(name) {
         Some(_) => Ok(()),
@@ -85,7 +87,10 @@ fn list_dir<D: Spool>(
     number: usize,
     listed: &mut Listed,
 ) -> Result<(), StoreFault>
-    ensures files { OnOk result ((names : List (List ℕ)) × IsListing (D.seen spool.old).told dir.now names × AddsNamed number names listed.old.named listed.new.named × AddsStrays dir.now names listed.old.strays listed.new.strays) }
+    ensures files { OnOk result
+        ((names : List (List ℕ)) × IsListing (D.seen spool.old).told dir.now names
+        × AddsNamed number names listed.old.named listed.new.named
+        × AddsStrays dir.now names listed.old.strays listed.new.strays) }
     ensures looks { Looks (D.seen spool.old) (D.seen spool.new) result }
 {
     match spool.list(alloc, dir) {
@@ -117,8 +122,11 @@ fn list_dirs<D: Spool>(
 ) -> Result<(), StoreFault>
     requires named { listed.old.named ≡ [] }
     requires strays { listed.old.strays ≡ [] }
-    ensures within { OnOk result ((x : NamedSeen) → Contains listed.new.named x → x.dir < length dirs.now) }
-    ensures named { (f : FileMap) → (D.seen spool.old).told ≡ Some f → OnOk result (AreNamed dirs.now f (length dirs.now) listed.new.named × AreForeign dirs.now f (length dirs.now) listed.new.strays) }
+    ensures within { OnOk result
+        ((x : NamedSeen) → Contains listed.new.named x → x.dir < length dirs.now) }
+    ensures named { (f : FileMap) → (D.seen spool.old).told ≡ Some f
+        → OnOk result (AreNamed dirs.now f (length dirs.now) listed.new.named
+        × AreForeign dirs.now f (length dirs.now) listed.new.strays) }
     ensures looks { Looks (D.seen spool.old) (D.seen spool.new) result }
 {
     for number in 0..dirs.len() {
@@ -133,9 +141,13 @@ pub(crate) fn list_all<D: Spool>(
     spool: &mut D,
     dirs: &[Text],
 ) -> Result<Listed, StoreFault>
-    ensures within { IfOk result (λ listed. (x : NamedSeen) → Contains listed.named x → x.dir < length dirs.now) }
-    ensures order { IfOk result (λ listed. IsNonDecreasingBy (λ (x : NamedSeen). x.id) listed.named) }
-    ensures named { (f : FileMap) → (D.seen spool.old).told ≡ Some f → IfOk result (λ listed. AreNamed dirs.now f (length dirs.now) listed.named × AreForeign dirs.now f (length dirs.now) listed.strays) }
+    ensures within { IfOk result
+        (λ listed. (x : NamedSeen) → Contains listed.named x → x.dir < length dirs.now) }
+    ensures order { IfOk result
+        (λ listed. IsNonDecreasingBy (λ (x : NamedSeen). x.id) listed.named) }
+    ensures named { (f : FileMap) → (D.seen spool.old).told ≡ Some f
+        → IfOk result (λ listed. AreNamed dirs.now f (length dirs.now) listed.named
+        × AreForeign dirs.now f (length dirs.now) listed.strays) }
     ensures looks { Looks (D.seen spool.old) (D.seen spool.new) result }
 {
     let mut listed = Listed {

@@ -2,8 +2,8 @@ use crate::named::{Found, Named};
 use crate::verdict::Verdict;
 use mail_base::{Seq, Stray};
 
-/// What an opening has found: the files of the queue, the files of other names, the control files in order
-/// of id, and the verdicts on these.
+/// What an opening has found: the files of the queue, the files of other names, the control files
+/// in order of id, and the verdicts on these.
 pub(crate) struct Looked {
     pub(crate) named: Seq<Named>,
     pub(crate) strays: Seq<Stray>,
@@ -23,7 +23,8 @@ impl Drop for Looked {
     }
 }
 
-/// What an opening is to take away, in this order, but for the control files that are to be finished.
+/// What an opening is to take away, in this order, but for the control files that are to be
+/// finished.
 pub(crate) struct Plan {
     pub(crate) drafts: Seq<Named>,
     pub(crate) dead: Seq<Named>,

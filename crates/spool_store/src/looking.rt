@@ -34,7 +34,8 @@ pub(crate) fn read_bytes<D: Spool>(
     dir: &Text,
     named: &Named,
 ) -> Result<Option<Text>, StoreFault>
-    ensures bytes { (f : FileMap) → (D.seen spool.old).told ≡ Some f → IfOk result (λ bytes. bytes ≡ bytes_at f (at dir.now named.now.kind named.now.id)) }
+    ensures bytes { (f : FileMap) → (D.seen spool.old).told ≡ Some f
+        → IfOk result (λ bytes. bytes ≡ bytes_at f (at dir.now named.now.kind named.now.id)) }
     ensures looks { Looks (D.seen spool.old) (D.seen spool.new) result }
 {
     let name = Text::of(alloc, named.id.name(named.kind).bytes())?;
@@ -75,8 +76,11 @@ fn read_one<D: Spool>(
     found: &mut Seq<Found>,
 ) -> Result<(), StoreFault>
     requires within { named.now.dir < length dirs.now }
-    ensures found { (f : FileMap) → (D.seen spool.old).told ≡ Some f → IsSpot dirs.now (spot_named dirs.now named.now) → OnOk result (AddsFound dirs.now f named.now found.old found.new) }
-    ensures among { OnOk result ((x : FoundSeen) → Contains found.new x → Contains found.old x ⊎ (x.named ≡ named.now)) }
+    ensures found { (f : FileMap) → (D.seen spool.old).told ≡ Some f
+        → IsSpot dirs.now (spot_named dirs.now named.now)
+        → OnOk result (AddsFound dirs.now f named.now found.old found.new) }
+    ensures among { OnOk result
+        ((x : FoundSeen) → Contains found.new x → Contains found.old x ⊎ (x.named ≡ named.now)) }
     ensures looks { Looks (D.seen spool.old) (D.seen spool.new) result }
 {
     match read_bytes(alloc, spool, &dirs[named.dir], named)? {
@@ -108,8 +112,11 @@ fn read_named<D: Spool>(
     found: &mut Seq<Found>,
 ) -> Result<(), StoreFault>
     requires within { named.now.dir < length dirs.now }
-    ensures found { (f : FileMap) (names : List NamedSeen) → (D.seen spool.old).told ≡ Some f → IsThere dirs.now f (length dirs.now) named.now → AreRead dirs.now f names found.old → OnOk result (AreRead dirs.now f (names ++ named.now ∷ []) found.new) }
-    ensures among { (names : List NamedSeen) → AreAmong names found.old → OnOk result (AreAmong (names ++ named.now ∷ []) found.new) }
+    ensures found { (f : FileMap) (names : List NamedSeen) → (D.seen spool.old).told ≡ Some f
+        → IsThere dirs.now f (length dirs.now) named.now → AreRead dirs.now f names found.old
+        → OnOk result (AreRead dirs.now f (names ++ named.now ∷ []) found.new) }
+    ensures among { (names : List NamedSeen) → AreAmong names found.old
+        → OnOk result (AreAmong (names ++ named.now ∷ []) found.new) }
     ensures looks { Looks (D.seen spool.old) (D.seen spool.new) result }
 {
     if is_control(named.kind) {
@@ -126,7 +133,9 @@ pub(crate) fn read_all<D: Spool>(
     names: &[Named],
 ) -> Result<Seq<Found>, StoreFault>
     requires within { (x : NamedSeen) → Contains names.now x → x.dir < length dirs.now }
-    ensures found { (f : FileMap) → (D.seen spool.old).told ≡ Some f → AreNamed dirs.now f (length dirs.now) names.now → IfOk result (AreRead dirs.now f names.now) }
+    ensures found { (f : FileMap) → (D.seen spool.old).told ≡ Some f
+        → AreNamed dirs.now f (length dirs.now) names.now
+        → IfOk result (AreRead dirs.now f names.now) }
     ensures among { IfOk result (AreAmong names.now) }
     ensures looks { Looks (D.seen spool.old) (D.seen spool.new) result }
 {

@@ -16,7 +16,13 @@ pub(crate) fn part_of(
     parent: Option<Parent>,
 ) -> Result<Part, NoMemory>
     requires valid { IsValid (record draft.now.control { parent = parent }) }
-    ensures { IfOk result (λ part. part.entry ≡ record { id = id; dir = draft.now.dir; control = record draft.now.control { parent = parent } }) }
+    ensures { IfOk result
+        (λ part. part.entry
+        ≡ record {
+          id = id;
+          dir = draft.now.dir;
+          control = record draft.now.control { parent = parent };
+        }) }
 {
     let dir = draft.dir.copy()?;
     let mut control = draft.control.copy()?;
@@ -44,7 +50,9 @@ pub(crate) fn heirs(
     requires valid { All (λ d. IsValid d.control) drafts.now }
     requires parent { IsParent parent.now }
     requires room { first + length drafts.now ≤ 1_000_000_000_000 }
-    ensures { IfOk result (λ parts. (body : List ℕ) → map (entry_of body) parts ≡ numbered first body (map (heir parent.now) drafts.now)) }
+    ensures { IfOk result
+        (λ parts. (body : List ℕ)
+        → map (entry_of body) parts ≡ numbered first body (map (heir parent.now) drafts.now)) }
 {
     let mut parts = Seq::new(alloc);
     let mut next = first;

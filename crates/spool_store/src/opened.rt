@@ -20,7 +20,8 @@ use crate::verdict::Verdict;
 use mail_base::{Control, Entry, Id, NoMemory, Seq, Stray, Text, TryCopy};
 use std::alloc::Global;
 
-/// What an opening found: the entries in order of id, the files that it left alone, and the first free id.
+/// What an opening found: the entries in order of id, the files that it left alone, and the first
+/// free id.
 #[derive(Drop)]
 pub struct Opened {
     pub entries: Seq<Entry>,
@@ -41,7 +42,9 @@ fn entry_of(dir: &Text, id: Id, control: &Control) -> Result<Entry, NoMemory>
 
 // Adds the entry of a control file.
 fn add_live(dir: &Text, x: &Found, out: &mut Seq<Entry>) -> Result<(), NoMemory>
-    ensures told { (c : ControlSeen) → x.now.control ≡ Some c → OnOk result (out.new ≡ out.old ++ record { id = x.now.named.id; dir = dir.now; control = c } ∷ []) }
+    ensures told { (c : ControlSeen) → x.now.control ≡ Some c
+        → OnOk result (out.new
+        ≡ out.old ++ record { id = x.now.named.id; dir = dir.now; control = c } ∷ []) }
     ensures adds { OnOk result (IsAdding out.old out.new x.now.named.id) }
 {
     match &x.control {
@@ -53,7 +56,8 @@ fn add_live(dir: &Text, x: &Found, out: &mut Seq<Entry>) -> Result<(), NoMemory>
 // Whether the last of these entries has that id.
 fn is_last(entries: &[Entry], id: Id) -> bool
     ensures yes { result ≡ true → HasEntry entries.now id }
-    ensures no { result ≡ false → (n : ℕ) → IsRising entries.now n → n ≤ id → All (λ e. e.id < id) entries.now }
+    ensures no { result ≡ false → (n : ℕ) → IsRising entries.now n → n ≤ id
+        → All (λ e. e.id < id) entries.now }
 {
     let count = entries.len();
     if count == 0 {
@@ -64,8 +68,12 @@ fn is_last(entries: &[Entry], id: Id) -> bool
 
 // Adds the entry of a control file, unless it is there: a directory may be listed twice.
 fn add_once(dir: &Text, x: &Found, out: &mut Seq<Entry>) -> Result<(), NoMemory>
-    ensures told { (c : ControlSeen) → x.now.control ≡ Some c → OnOk result (((out.new ≡ out.old) × HasEntry out.old x.now.named.id) ⊎ (out.new ≡ out.old ++ record { id = x.now.named.id; dir = dir.now; control = c } ∷ [])) }
-    ensures rises { (n : ℕ) → IsRising out.old n → n ≤ x.now.named.id → OnOk result (IsRising out.new x.now.named.id) }
+    ensures told { (c : ControlSeen) → x.now.control ≡ Some c
+        → OnOk result (((out.new ≡ out.old) × HasEntry out.old x.now.named.id)
+        ⊎ (out.new ≡ out.old
+        ++ record { id = x.now.named.id; dir = dir.now; control = c } ∷ [])) }
+    ensures rises { (n : ℕ) → IsRising out.old n → n ≤ x.now.named.id
+        → OnOk result (IsRising out.new x.now.named.id) }
     ensures adds { OnOk result (IsAdding out.old out.new x.now.named.id) }
 {
     if is_last(out.items(), x.named.id) {
@@ -83,8 +91,12 @@ fn add_entry(
     out: &mut Seq<Entry>,
 ) -> Result<(), NoMemory>
     requires own { x.now.named.dir < length dirs.now }
-    ensures told { (f : FileMap) (found : List FoundSeen) → IsFound dirs.now f x.now → IsVerdict dirs.now f (spot_named dirs.now x.now.named) verdict.now → AreTold dirs.now f found out.old → OnOk result (AreTold dirs.now f (found ++ x.now ∷ []) out.new) }
-    ensures rises { (n : ℕ) → IsRising out.old n → n ≤ x.now.named.id → OnOk result (IsRising out.new x.now.named.id) }
+    ensures told { (f : FileMap) (found : List FoundSeen) → IsFound dirs.now f x.now
+        → IsVerdict dirs.now f (spot_named dirs.now x.now.named) verdict.now
+        → AreTold dirs.now f found out.old
+        → OnOk result (AreTold dirs.now f (found ++ x.now ∷ []) out.new) }
+    ensures rises { (n : ℕ) → IsRising out.old n → n ≤ x.now.named.id
+        → OnOk result (IsRising out.new x.now.named.id) }
     ensures adds { OnOk result (IsAdding out.old out.new x.now.named.id) }
 {
     match verdict {
@@ -95,7 +107,8 @@ fn add_entry(
 }
 
 fn stray_of(dir: &Text, named: &Named) -> Result<Stray, NoMemory>
-    ensures { IfOk result (λ x. x ≡ record { dir = dir.now; name = name_of named.now.kind named.now.id }) }
+    ensures { IfOk result
+        (λ x. x ≡ record { dir = dir.now; name = name_of named.now.kind named.now.id }) }
 {
     let dir = dir.copy()?;
     let alloc = dir.allocator();
@@ -113,7 +126,10 @@ fn add_strange(
     out: &mut Seq<Stray>,
 ) -> Result<(), NoMemory>
     requires own { x.now.named.dir < length dirs.now }
-    ensures { (f : FileMap) (before : List StraySeen) (found : List FoundSeen) → IsVerdict dirs.now f (spot_named dirs.now x.now.named) verdict.now → AreShown dirs.now f before found out.old → OnOk result (AreShown dirs.now f before (found ++ x.now ∷ []) out.new) }
+    ensures { (f : FileMap) (before : List StraySeen) (found : List FoundSeen)
+        → IsVerdict dirs.now f (spot_named dirs.now x.now.named) verdict.now
+        → AreShown dirs.now f before found out.old
+        → OnOk result (AreShown dirs.now f before (found ++ x.now ∷ []) out.new) }
 {
     match verdict {
         Verdict::Strange => out.push(stray_of(&dirs[x.named.dir], &x.named)?),
@@ -132,7 +148,8 @@ fn entries_of(
     requires within { (x : FoundSeen) → Contains found.now x → x.named.dir < length dirs.now }
     requires long { length verdicts.now ≡ length found.now }
     requires order { IsNonDecreasingBy (λ (x : FoundSeen). x.named.id) found.now }
-    ensures told { (f : FileMap) → AreFound dirs.now f found.now → AreJudged dirs.now f found.now verdicts.now → IfOk result (AreEntries dirs.now f) }
+    ensures told { (f : FileMap) → AreFound dirs.now f found.now
+        → AreJudged dirs.now f found.now verdicts.now → IfOk result (AreEntries dirs.now f) }
     ensures ascending { IfOk result AreAscending }
     ensures source { IfOk result (ComeFrom found.now) }
 {
@@ -152,7 +169,9 @@ fn strange_of(
 ) -> Result<Seq<Stray>, NoMemory>
     requires within { (x : FoundSeen) → Contains found.now x → x.named.dir < length dirs.now }
     requires long { length verdicts.now ≡ length found.now }
-    ensures { (f : FileMap) → AreForeign dirs.now f (length dirs.now) strays.now → AreFound dirs.now f found.now → AreJudged dirs.now f found.now verdicts.now → IfOk result (AreStrays dirs.now f) }
+    ensures { (f : FileMap) → AreForeign dirs.now f (length dirs.now) strays.now
+        → AreFound dirs.now f found.now → AreJudged dirs.now f found.now verdicts.now
+        → IfOk result (AreStrays dirs.now f) }
 {
     let mut strange = strays.copy()?;
     for place in 0..found.len() {
@@ -216,9 +235,12 @@ fn past_parents(found: &[Found], next: u64) -> u64
 pub(crate) fn opened_of(alloc: Global, dirs: &[Text], looked: &Looked) -> Result<Opened, NoMemory>
     requires look { IsLook dirs.now looked.now }
     ensures order { IfOk result (λ opened. AreOrdered opened.entries opened.next) }
-    ensures entries { (f : FileMap) → HasLooked dirs.now f looked.now → IfOk result (λ opened. AreEntries dirs.now f opened.entries) }
-    ensures strange { (f : FileMap) → HasLooked dirs.now f looked.now → IfOk result (λ opened. AreStrays dirs.now f opened.strange) }
-    ensures next { (f : FileMap) → HasLooked dirs.now f looked.now → IfOk result (λ opened. IsNext dirs.now f opened.next) }
+    ensures entries { (f : FileMap) → HasLooked dirs.now f looked.now
+        → IfOk result (λ opened. AreEntries dirs.now f opened.entries) }
+    ensures strange { (f : FileMap) → HasLooked dirs.now f looked.now
+        → IfOk result (λ opened. AreStrays dirs.now f opened.strange) }
+    ensures next { (f : FileMap) → HasLooked dirs.now f looked.now
+        → IfOk result (λ opened. IsNext dirs.now f opened.next) }
 {
     let found = looked.found.items();
     let verdicts = looked.verdicts.items();

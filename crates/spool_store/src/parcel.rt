@@ -3,8 +3,8 @@ ghost use Rattle.std.specs.Prelude.{◌≡◌};
 use crate::Part;
 use mail_base::{Id, Seq, Text};
 
-/// New entries ready to be committed: the children, their parent, and the body of each. It holds every
-/// text that the commit writes. Dropped, it leaves the store and the spool as they were.
+/// New entries ready to be committed: the children, their parent, and the body of each. It holds
+/// every text that the commit writes. Dropped, it leaves the store and the spool as they were.
 pub struct Parcel {
     pub(crate) children: Seq<Part>,
     pub(crate) parent: Part,

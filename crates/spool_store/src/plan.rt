@@ -70,8 +70,10 @@ pub(crate) fn dead(
     verdicts: &[Verdict],
 ) -> Result<Seq<Named>, NoMemory>
     requires long { length verdicts.now ≡ length found.now }
-    ensures stays { IfOk result (λ out. (x : NamedSeen) → Contains out x → Stays its_name found.now x) }
-    ensures picks { (dirs : List (List ℕ)) (f : FileMap) → AreJudged dirs f found.now verdicts.now → IfOk result (AreDead dirs f found.now) }
+    ensures stays { IfOk result
+        (λ out. (x : NamedSeen) → Contains out x → Stays its_name found.now x) }
+    ensures picks { (dirs : List (List ℕ)) (f : FileMap) → AreJudged dirs f found.now verdicts.now
+        → IfOk result (AreDead dirs f found.now) }
 {
     let mut out = Seq::new(alloc);
     for place in 0..found.len() {
@@ -84,7 +86,8 @@ pub(crate) fn dead(
 fn is_spent(x: &Found) -> bool
     ensures kind { result ≡ true → x.now.named.kind ≡ ControlKind }
     ensures yes { (c : ControlSeen) → x.now.control ≡ Some c → result ≡ true → IsOpen c → ⊥ }
-    ensures no { (c : ControlSeen) → x.now.control ≡ Some c → result ≡ false → x.now.named.kind ≡ ControlKind → IsOpen c }
+    ensures no { (c : ControlSeen) → x.now.control ≡ Some c → result ≡ false
+        → x.now.named.kind ≡ ControlKind → IsOpen c }
 {
     if x.named.kind == Kind::Qf {
         return match &x.control {
@@ -98,8 +101,12 @@ fn is_spent(x: &Found) -> bool
 // Whether a control file is that of a live entry that is to be finished.
 fn is_closed(x: &Found, verdict: &Verdict) -> bool
     ensures kind { result ≡ true → x.now.named.kind ≡ ControlKind }
-    ensures yes { (dirs : List (List ℕ)) (f : FileMap) → IsFound dirs f x.now → IsVerdict dirs f (spot_named dirs x.now.named) verdict.now → result ≡ true → IsDone dirs f x.now.named }
-    ensures no { (dirs : List (List ℕ)) (f : FileMap) → IsFound dirs f x.now → IsVerdict dirs f (spot_named dirs x.now.named) verdict.now → result ≡ false → IsDone dirs f x.now.named → ⊥ }
+    ensures yes { (dirs : List (List ℕ)) (f : FileMap) → IsFound dirs f x.now
+        → IsVerdict dirs f (spot_named dirs x.now.named) verdict.now → result ≡ true
+        → IsDone dirs f x.now.named }
+    ensures no { (dirs : List (List ℕ)) (f : FileMap) → IsFound dirs f x.now
+        → IsVerdict dirs f (spot_named dirs x.now.named) verdict.now → result ≡ false
+        → IsDone dirs f x.now.named → ⊥ }
 {
     match verdict {
         Verdict::Strange => false,
@@ -115,9 +122,11 @@ pub(crate) fn closed(
     verdicts: &[Verdict],
 ) -> Result<Seq<Named>, NoMemory>
     requires long { length verdicts.now ≡ length found.now }
-    ensures stays { IfOk result (λ out. (x : NamedSeen) → Contains out x → Stays its_name found.now x) }
+    ensures stays { IfOk result
+        (λ out. (x : NamedSeen) → Contains out x → Stays its_name found.now x) }
     ensures kinds { IfOk result (λ out. (x : NamedSeen) → Contains out x → x.kind ≡ ControlKind) }
-    ensures picks { (dirs : List (List ℕ)) (f : FileMap) → AreFound dirs f found.now → AreJudged dirs f found.now verdicts.now → IfOk result (AreDone dirs f found.now) }
+    ensures picks { (dirs : List (List ℕ)) (f : FileMap) → AreFound dirs f found.now
+        → AreJudged dirs f found.now verdicts.now → IfOk result (AreDone dirs f found.now) }
 {
     let mut out = Seq::new(alloc);
     for place in 0..found.len() {
@@ -134,8 +143,10 @@ pub(crate) fn closed(
 fn wants(dirs: &[Text], x: &Found, named: &Named) -> bool
     requires one { x.now.named.dir < length dirs.now }
     requires other { named.now.dir < length dirs.now }
-    ensures yes { (c : ControlSeen) → x.now.control ≡ Some c → result ≡ true → (dir_at dirs.now x.now.named.dir ≡ dir_at dirs.now named.now.dir) × NeedsBody c }
-    ensures no { (c : ControlSeen) → x.now.control ≡ Some c → result ≡ false → dir_at dirs.now x.now.named.dir ≡ dir_at dirs.now named.now.dir → NeedsBody c → ⊥ }
+    ensures yes { (c : ControlSeen) → x.now.control ≡ Some c → result ≡ true
+        → (dir_at dirs.now x.now.named.dir ≡ dir_at dirs.now named.now.dir) × NeedsBody c }
+    ensures no { (c : ControlSeen) → x.now.control ≡ Some c → result ≡ false
+        → dir_at dirs.now x.now.named.dir ≡ dir_at dirs.now named.now.dir → NeedsBody c → ⊥ }
 {
     if dirs[x.named.dir] == dirs[named.dir] {
         return match &x.control {
@@ -152,8 +163,12 @@ fn is_wanted(dirs: &[Text], found: &[Found], verdicts: &[Verdict], named: &Named
     requires within { (x : FoundSeen) → Contains found.now x → x.named.dir < length dirs.now }
     requires own { named.now.dir < length dirs.now }
     requires long { length verdicts.now ≡ length found.now }
-    ensures yes { (f : FileMap) → AreFound dirs.now f found.now → AreJudged dirs.now f found.now verdicts.now → result ≡ true → IsWanted dirs.now f named.now }
-    ensures no { (f : FileMap) → AreFound dirs.now f found.now → AreJudged dirs.now f found.now verdicts.now → result ≡ false → IsUnwanted dirs.now f named.now }
+    ensures yes { (f : FileMap) → AreFound dirs.now f found.now
+        → AreJudged dirs.now f found.now verdicts.now → result ≡ true
+        → IsWanted dirs.now f named.now }
+    ensures no { (f : FileMap) → AreFound dirs.now f found.now
+        → AreJudged dirs.now f found.now verdicts.now → result ≡ false
+        → IsUnwanted dirs.now f named.now }
 {
     match place_of(found, named.id) {
         None => false,
@@ -165,8 +180,12 @@ fn is_wanted(dirs: &[Text], found: &[Found], verdicts: &[Verdict], named: &Named
 fn is_wanted_by(dirs: &[Text], x: &Found, verdict: &Verdict, named: &Named) -> bool
     requires one { x.now.named.dir < length dirs.now }
     requires other { named.now.dir < length dirs.now }
-    ensures yes { (f : FileMap) → IsFound dirs.now f x.now → x.now.named.id ≡ named.now.id → IsVerdict dirs.now f (spot_named dirs.now x.now.named) verdict.now → result ≡ true → IsWanted dirs.now f named.now }
-    ensures no { (f : FileMap) → IsFound dirs.now f x.now → x.now.named.id ≡ named.now.id → IsVerdict dirs.now f (spot_named dirs.now x.now.named) verdict.now → result ≡ false → IsUnwanted dirs.now f named.now }
+    ensures yes { (f : FileMap) → IsFound dirs.now f x.now → x.now.named.id ≡ named.now.id
+        → IsVerdict dirs.now f (spot_named dirs.now x.now.named) verdict.now → result ≡ true
+        → IsWanted dirs.now f named.now }
+    ensures no { (f : FileMap) → IsFound dirs.now f x.now → x.now.named.id ≡ named.now.id
+        → IsVerdict dirs.now f (spot_named dirs.now x.now.named) verdict.now → result ≡ false
+        → IsUnwanted dirs.now f named.now }
 {
     match verdict {
         Verdict::Strange => true,
@@ -181,8 +200,12 @@ fn is_stray_body(dirs: &[Text], found: &[Found], verdicts: &[Verdict], named: &N
     requires within { (x : FoundSeen) → Contains found.now x → x.named.dir < length dirs.now }
     requires own { named.now.dir < length dirs.now }
     requires long { length verdicts.now ≡ length found.now }
-    ensures yes { (f : FileMap) → AreFound dirs.now f found.now → AreJudged dirs.now f found.now verdicts.now → result ≡ true → (named.now.kind ≡ BodyKind) × IsUnwanted dirs.now f named.now }
-    ensures no { (f : FileMap) → AreFound dirs.now f found.now → AreJudged dirs.now f found.now verdicts.now → result ≡ false → named.now.kind ≡ BodyKind → IsWanted dirs.now f named.now }
+    ensures yes { (f : FileMap) → AreFound dirs.now f found.now
+        → AreJudged dirs.now f found.now verdicts.now → result ≡ true
+        → (named.now.kind ≡ BodyKind) × IsUnwanted dirs.now f named.now }
+    ensures no { (f : FileMap) → AreFound dirs.now f found.now
+        → AreJudged dirs.now f found.now verdicts.now → result ≡ false → named.now.kind ≡ BodyKind
+        → IsWanted dirs.now f named.now }
 {
     if named.kind == Kind::Df {
         return !is_wanted(dirs, found, verdicts, named);
@@ -203,7 +226,9 @@ pub(crate) fn bodies(
     requires own { (x : NamedSeen) → Contains names.now x → x.dir < length dirs.now }
     requires long { length verdicts.now ≡ length found.now }
     ensures stays { IfOk result (λ out. (x : NamedSeen) → Contains out x → Contains names.now x) }
-    ensures picks { (f : FileMap) → AreFound dirs.now f found.now → AreJudged dirs.now f found.now verdicts.now → IfOk result (AreUnwanted dirs.now f names.now) }
+    ensures picks { (f : FileMap) → AreFound dirs.now f found.now
+        → AreJudged dirs.now f found.now verdicts.now
+        → IfOk result (AreUnwanted dirs.now f names.now) }
 {
     let mut out = Seq::new(alloc);
     for named in names {

@@ -39,9 +39,9 @@ use qf_format::{Paper, print_into, room};
 use spool_disk::Spool;
 use std::alloc::Global;
 
-/// The entries of a spool in order of id, whose commits may have several parts. It is broken exactly
-/// after a call that changes files and answered `SpoolFault`; then each call that takes the spool answers
-/// that and touches nothing, until the spool is opened again.
+/// The entries of a spool in order of id, whose commits may have several parts. It is broken
+/// exactly after a call that changes files and answered `SpoolFault`; then each call that takes the
+/// spool answers that and touches nothing, until the spool is opened again.
 #[derive(Drop)]
 pub struct Queue {
     pub(crate) dirs: Seq<Text>,
@@ -53,24 +53,36 @@ pub struct Queue {
 }
 
 impl Queue {
-    /// Opens a spool, whatever its directories hold: [`recover`](crate::recover) says what becomes of the
-    /// files, and what is read of them. After a fault it can be called again. `IdsSpent` never comes.
+    /// Opens a spool, whatever its directories hold: [`recover`](crate::recover) says what becomes
+    /// of the files, and what is read of them. After a fault it can be called again. `IdsSpent`
+    /// never comes.
     pub fn open<D: Spool>(
         alloc: Global,
         spool: &mut D,
         dirs: &Seq<Text>,
     ) -> Result<Queue, StoreFault>
-        ensures store { IfOk result (λ q. ((seen q).dirs ≡ dirs.now) × ((seen q).broken ≡ false) × ((seen q).room ≡ 0)) }
-        ensures read { (f : FileMap) → (D.seen spool.old).told ≡ Some f → IfOk result (λ q. IsReading dirs.now f (seen q)) }
+        ensures store { IfOk result
+            (λ q. ((seen q).dirs ≡ dirs.now) × ((seen q).broken ≡ false) × ((seen q).room ≡ 0)) }
+        ensures read { (f : FileMap) → (D.seen spool.old).told ≡ Some f
+            → IfOk result (λ q. IsReading dirs.now f (seen q)) }
         ensures agrees { IfOk result (λ q. IfSome (D.seen spool.new).told (Agrees (seen q))) }
-        ensures settled { (table : Table) (f : FileMap) → (D.seen spool.old).told ≡ Some f → StandsFor dirs.now table f → IfOk result (λ q. IfSome (D.seen spool.new).told (IsSettled dirs.now (record { entries = table.entries; next = (seen q).next }))) }
-        ensures stands { (table : Table) → Moves (D.seen spool.old) (D.seen spool.new) (StandsFor dirs.now table) (StandsFor dirs.now table) (StandsFor dirs.now table) }
-        ensures tidied { (f : FileMap) → (D.seen spool.old).told ≡ Some f → Moves (D.seen spool.old) (D.seen spool.new) (λ g. g ≡ f) (IsTidied dirs.now f) (IsTidied dirs.now f) }
+        ensures settled { (table : Table) (f : FileMap) → (D.seen spool.old).told ≡ Some f
+            → StandsFor dirs.now table f
+            → IfOk result (λ q. IfSome (D.seen spool.new).told
+            (IsSettled dirs.now (record { entries = table.entries; next = (seen q).next }))) }
+        ensures stands { (table : Table)
+            → Moves (D.seen spool.old) (D.seen spool.new) (StandsFor dirs.now table)
+            (StandsFor dirs.now table) (StandsFor dirs.now table) }
+        ensures tidied { (f : FileMap) → (D.seen spool.old).told ≡ Some f
+            → Moves (D.seen spool.old) (D.seen spool.new) (λ g. g ≡ f) (IsTidied dirs.now f)
+            (IsTidied dirs.now f) }
         ensures clean { IfOk result (λ _. IfSome (D.seen spool.new).told (IsClean dirs.now)) }
         ensures later { (D.seen spool.old).faults ≤ (D.seen spool.new).faults }
         ensures never { IsErrOf result Spent → ⊥ }
-        ensures cause { IsErrOf result Broke → Rose (D.seen spool.old).faults (D.seen spool.new).faults }
-        ensures calm { IsErrOf result Broke ⊎ ((D.seen spool.new).faults ≡ (D.seen spool.old).faults) }
+        ensures cause { IsErrOf result Broke
+            → Rose (D.seen spool.old).faults (D.seen spool.new).faults }
+        ensures calm { IsErrOf result Broke
+            ⊎ ((D.seen spool.new).faults ≡ (D.seen spool.old).faults) }
     {
         reopen(alloc, spool, dirs)
     }
@@ -115,13 +127,16 @@ impl Queue {
         self.shelf.next()
     }
 
-    /// A copy of the control of the entry of an id, with memory for what takes its place. Nothing is
-    /// written.
+    /// A copy of the control of the entry of an id, with memory for what takes its place. Nothing
+    /// is written.
     pub fn reserve(&self, id: &Id) -> Result<Room, NoMemory>
         requires entry { HasId (seen self.now).entries id.now }
         ensures id { IfOk result (λ r. r.id ≡ id.now) }
-        ensures control { IfOk result (λ r. (h : Held) → Contains (seen self.now).entries h → h.entry.id ≡ id.now → r.control ≡ h.entry.control) }
-        ensures paper { IfOk result (λ r. (r.paper.bytes ≡ []) × (room_of r.control ≤ r.paper.room)) }
+        ensures control { IfOk result
+            (λ r. (h : Held) → Contains (seen self.now).entries h → h.entry.id ≡ id.now
+            → r.control ≡ h.entry.control) }
+        ensures paper { IfOk result
+            (λ r. (r.paper.bytes ≡ []) × (room_of r.control ≤ r.paper.room)) }
     {
         let place = self.shelf.place(*id);
         let control = self.shelf.items()[place].entry.control.copy()?;
@@ -137,18 +152,29 @@ impl Queue {
         })
     }
 
-    /// The body of the entry of an id, or no bytes where its file isn't there. A fault doesn't break the
-    /// store.
+    /// The body of the entry of an id, or no bytes where its file isn't there. A fault doesn't
+    /// break the store.
     pub fn body<D: Spool>(&self, spool: &mut D, id: &Id) -> Result<Text, StoreFault>
         requires entry { HasId (seen self.now).entries id.now }
-        ensures read { IfOk result (λ text. IfSome (D.seen spool.old).told (λ files. (h : Held) → Contains (seen self.now).entries h → h.entry.id ≡ id.now → text ≡ or_nothing (bytes_at files (h.entry.dir, name_of Df id.now)))) }
-        ensures bytes { IfOk result (λ text. IfSome (D.seen spool.old).told (λ files. (table : Table) (s : Stored) → StandsFor (seen self.now).dirs table files → Agrees (seen self.now) files → Contains table.entries s → s.id ≡ id.now → NeedsBody s.control → text ≡ s.body)) }
+        ensures read { IfOk result
+            (λ text. IfSome (D.seen spool.old).told
+            (λ files. (h : Held) → Contains (seen self.now).entries h → h.entry.id ≡ id.now
+            → text ≡ or_nothing (bytes_at files (h.entry.dir, name_of Df id.now)))) }
+        ensures bytes { IfOk result
+            (λ text. IfSome (D.seen spool.old).told
+            (λ files. (table : Table) (s : Stored) → StandsFor (seen self.now).dirs table files
+            → Agrees (seen self.now) files → Contains table.entries s → s.id ≡ id.now
+            → NeedsBody s.control → text ≡ s.body)) }
         ensures untouched { Reads (D.seen spool.old) (D.seen spool.new) }
-        ensures broken { (seen self.now).broken ≡ true → (result ≡ Err Broke) × (spool.new ≡ spool.old) }
+        ensures broken { (seen self.now).broken ≡ true
+            → (result ≡ Err Broke) × (spool.new ≡ spool.old) }
         ensures never { IsErrOf result Spent → ⊥ }
         ensures later { (D.seen spool.old).faults ≤ (D.seen spool.new).faults }
-        ensures cause { IsErrOf result Broke → ((seen self.now).broken ≡ true) ⊎ Rose (D.seen spool.old).faults (D.seen spool.new).faults }
-        ensures calm { IsErrOf result Broke ⊎ ((D.seen spool.new).faults ≡ (D.seen spool.old).faults) }
+        ensures cause { IsErrOf result Broke
+            → ((seen self.now).broken ≡ true)
+            ⊎ Rose (D.seen spool.old).faults (D.seen spool.new).faults }
+        ensures calm { IsErrOf result Broke
+            ⊎ ((D.seen spool.new).faults ≡ (D.seen spool.old).faults) }
     {
         if self.broken {
             return Err(StoreFault::SpoolFault);
@@ -163,25 +189,37 @@ impl Queue {
         }
     }
 
-    /// Gives an entry the control of its room: it writes the text whole, and then the renaming decides. It
-    /// takes no memory.
+    /// Gives an entry the control of its room: it writes the text whole, and then the renaming
+    /// decides. It takes no memory.
     pub fn replace<D: Spool>(&mut self, spool: &mut D, room: Room) -> Result<(), SpoolFault>
-        requires agrees { (seen self.old).broken ≡ false → IfSome (D.seen spool.old).told (Agrees (seen self.old)) }
+        requires agrees { (seen self.old).broken ≡ false
+            → IfSome (D.seen spool.old).told (Agrees (seen self.old)) }
         requires can { CanReplace (seen self.old).entries room.id room.control room.paper }
         ensures moves { (table : Table) → Holds (seen self.old) table → Moves
             (D.seen spool.old)
             (D.seen spool.new)
             (StandsFor (seen self.old).dirs table)
-            (Ends result (IsSettled (seen self.old).dirs (after_replace table room.id room.control)) (IsEitherTable (seen self.old).dirs table (after_replace table room.id room.control)))
+            (Ends result
+            (IsSettled (seen self.old).dirs (after_replace table room.id room.control))
+            (IsEitherTable (seen self.old).dirs table
+            (after_replace table room.id room.control)))
             (IsEitherTable (seen self.old).dirs table (after_replace table room.id room.control)) }
-        ensures frame { (f : FileMap) → Moves (D.seen spool.old) (D.seen spool.new) (λ g. g ≡ f) (KeepsOthers (seen self.old).dirs f) (KeepsOthers (seen self.old).dirs f) }
+        ensures frame { (f : FileMap)
+            → Moves (D.seen spool.old) (D.seen spool.new) (λ g. g ≡ f)
+            (KeepsOthers (seen self.old).dirs f) (KeepsOthers (seen self.old).dirs f) }
         ensures agrees { OnOk result (IfSome (D.seen spool.new).told (Agrees (seen self.new))) }
-        ensures ok { OnOk result (seen self.new ≡ record (seen self.old) { entries = map (recontrolled room.id room.control) (seen self.old).entries }) }
+        ensures ok { OnOk result
+            (seen self.new ≡ record (seen self.old) {
+              entries = map (recontrolled room.id room.control) (seen self.old).entries;
+            }) }
         ensures err { OnErr result (seen self.new ≡ record (seen self.old) { broken = true }) }
-        ensures broken { (seen self.old).broken ≡ true → (result ≡ Err record {}) × (spool.new ≡ spool.old) }
+        ensures broken { (seen self.old).broken ≡ true
+            → (result ≡ Err record {}) × (spool.new ≡ spool.old) }
         ensures later { (D.seen spool.old).faults ≤ (D.seen spool.new).faults }
         ensures calm { OnOk result ((D.seen spool.new).faults ≡ (D.seen spool.old).faults) }
-        ensures cause { OnErr result (((seen self.old).broken ≡ true) ⊎ Rose (D.seen spool.old).faults (D.seen spool.new).faults) }
+        ensures cause { OnErr result
+            (((seen self.old).broken ≡ true)
+            ⊎ Rose (D.seen spool.old).faults (D.seen spool.new).faults) }
     {
         if self.broken {
             return Err(SpoolFault);
@@ -205,12 +243,18 @@ impl Queue {
     fn write_control<D: Spool>(&mut self, spool: &mut D, id: Id, text: &Text) -> Result<(), Failed>
         requires entry { HasId (seen self.old).entries id }
         ensures same { seen self.new ≡ seen self.old }
-        ensures moves { (f : FileMap) (h : Held) (control : Control) → Contains (seen self.old).entries h → h.entry.id ≡ id → text.now ≡ spelled control → CanRaise f [] (with_new h control) → Moves
+        ensures moves { (f : FileMap) (h : Held) (control : Control)
+            → Contains (seen self.old).entries h → h.entry.id ≡ id → text.now ≡ spelled control
+            → CanRaise f [] (with_new h control) → Moves
             (D.seen spool.old)
             (D.seen spool.new)
             (λ g. g ≡ f)
-            (Ends result (AreRaised [] (with_new h control) f) (λ g. IsUnderWay (seen self.old).next (with_new h control ∷ []) [] f g ⊎ AreRaised [] (with_new h control) f g))
-            (λ g. IsUnderWay (seen self.old).next (with_new h control ∷ []) [] f g ⊎ AreRaised [] (with_new h control) f g) }
+            (Ends result
+            (AreRaised [] (with_new h control) f)
+            (λ g. IsUnderWay (seen self.old).next (with_new h control ∷ []) [] f g
+            ⊎ AreRaised [] (with_new h control) f g))
+            (λ g. IsUnderWay (seen self.old).next (with_new h control ∷ []) [] f g
+            ⊎ AreRaised [] (with_new h control) f g) }
         ensures cause { HasCause (D.seen spool.old).faults (D.seen spool.new).faults result }
         ensures calm { OnOk result ((D.seen spool.new).faults ≡ (D.seen spool.old).faults) }
     {
@@ -227,24 +271,41 @@ impl Queue {
         )
     }
 
-    /// Gives the control file of an entry whose rows are all done the name of a finished one's, and then
-    /// takes its body away unless a row is dead. An entry that has that name already stays as it is. It
-    /// takes no memory.
+    /// Gives the control file of an entry whose rows are all done the name of a finished one's, and
+    /// then takes its body away unless a row is dead. An entry that has that name already stays as
+    /// it is. It takes no memory.
     pub fn finish<D: Spool>(&mut self, spool: &mut D, id: &Id) -> Result<(), SpoolFault>
-        requires agrees { (seen self.old).broken ≡ false → IfSome (D.seen spool.old).told (Agrees (seen self.old)) }
+        requires agrees { (seen self.old).broken ≡ false
+            → IfSome (D.seen spool.old).told (Agrees (seen self.old)) }
         requires can { CanFinish (seen self.old).entries id.now }
-        ensures moves { (f : FileMap) → Moves (D.seen spool.old) (D.seen spool.new) (λ g. g ≡ f) (IsTidied (seen self.old).dirs f) (IsTidied (seen self.old).dirs f) }
-        ensures stands { (table : Table) → Moves (D.seen spool.old) (D.seen spool.new) (StandsFor (seen self.old).dirs table) (StandsFor (seen self.old).dirs table) (StandsFor (seen self.old).dirs table) }
-        ensures frame { (f : FileMap) → Moves (D.seen spool.old) (D.seen spool.new) (λ g. g ≡ f) (KeepsOthers (seen self.old).dirs f) (KeepsOthers (seen self.old).dirs f) }
-        ensures files { OnOk result (IfSome (D.seen spool.new).told (λ g. (h : Held) → Contains (seen self.old).entries h → h.entry.id ≡ id.now → h.finished ≡ false → IsFiled h g)) }
-        ensures already { (h : Held) → Contains (seen self.old).entries h → h.entry.id ≡ id.now → h.finished ≡ true → spool.new ≡ spool.old }
+        ensures moves { (f : FileMap)
+            → Moves (D.seen spool.old) (D.seen spool.new) (λ g. g ≡ f)
+            (IsTidied (seen self.old).dirs f) (IsTidied (seen self.old).dirs f) }
+        ensures stands { (table : Table)
+            → Moves (D.seen spool.old) (D.seen spool.new) (StandsFor (seen self.old).dirs table)
+            (StandsFor (seen self.old).dirs table) (StandsFor (seen self.old).dirs table) }
+        ensures frame { (f : FileMap)
+            → Moves (D.seen spool.old) (D.seen spool.new) (λ g. g ≡ f)
+            (KeepsOthers (seen self.old).dirs f) (KeepsOthers (seen self.old).dirs f) }
+        ensures files { OnOk result
+            (IfSome (D.seen spool.new).told
+            (λ g. (h : Held) → Contains (seen self.old).entries h → h.entry.id ≡ id.now
+            → h.finished ≡ false → IsFiled h g)) }
+        ensures already { (h : Held) → Contains (seen self.old).entries h → h.entry.id ≡ id.now
+            → h.finished ≡ true → spool.new ≡ spool.old }
         ensures agrees { OnOk result (IfSome (D.seen spool.new).told (Agrees (seen self.new))) }
-        ensures ok { OnOk result (seen self.new ≡ record (seen self.old) { entries = map (refinished id.now) (seen self.old).entries }) }
+        ensures ok { OnOk result
+            (seen self.new ≡ record (seen self.old) {
+              entries = map (refinished id.now) (seen self.old).entries;
+            }) }
         ensures err { OnErr result (seen self.new ≡ record (seen self.old) { broken = true }) }
-        ensures broken { (seen self.old).broken ≡ true → (result ≡ Err record {}) × (spool.new ≡ spool.old) }
+        ensures broken { (seen self.old).broken ≡ true
+            → (result ≡ Err record {}) × (spool.new ≡ spool.old) }
         ensures later { (D.seen spool.old).faults ≤ (D.seen spool.new).faults }
         ensures calm { OnOk result ((D.seen spool.new).faults ≡ (D.seen spool.old).faults) }
-        ensures cause { OnErr result (((seen self.old).broken ≡ true) ⊎ Rose (D.seen spool.old).faults (D.seen spool.new).faults) }
+        ensures cause { OnErr result
+            (((seen self.old).broken ≡ true)
+            ⊎ Rose (D.seen spool.old).faults (D.seen spool.new).faults) }
     {
         if self.broken {
             return Err(SpoolFault);
@@ -267,7 +328,8 @@ impl Queue {
     // Whether the control file of an entry has the name of a finished one's.
     fn is_finished(&self, id: Id) -> bool
         requires entry { HasId (seen self.now).entries id }
-        ensures is { (h : Held) → Contains (seen self.now).entries h → h.entry.id ≡ id → result ≡ h.finished }
+        ensures is { (h : Held) → Contains (seen self.now).entries h → h.entry.id ≡ id
+            → result ≡ h.finished }
         ensures ascending { IsAscending (seen self.now).entries }
     {
         let place = self.shelf.place(id);
@@ -279,13 +341,17 @@ impl Queue {
     fn write_finished<D: Spool>(&mut self, spool: &mut D, id: Id) -> Result<(), Failed>
         requires agrees { IfSome (D.seen spool.old).told (Agrees (seen self.old)) }
         requires can { CanFinish (seen self.old).entries id }
-        requires queued { (h : Held) → Contains (seen self.old).entries h → h.entry.id ≡ id → h.finished ≡ false }
+        requires queued { (h : Held) → Contains (seen self.old).entries h → h.entry.id ≡ id
+            → h.finished ≡ false }
         ensures same { seen self.new ≡ seen self.old }
-        ensures moves { (f : FileMap) (h : Held) → Contains (seen self.old).entries h → h.entry.id ≡ id → IsDone (seen self.old).dirs f (spot_at h) h.entry.control → Moves
+        ensures moves { (f : FileMap) (h : Held) → Contains (seen self.old).entries h
+            → h.entry.id ≡ id → IsDone (seen self.old).dirs f (spot_at h) h.entry.control → Moves
             (D.seen spool.old)
             (D.seen spool.new)
             (λ g. g ≡ f)
-            (Ends result (HasFinished (seen self.old).dirs f (spot_at h) h.entry.control) (IsTidied (seen self.old).dirs f))
+            (Ends result
+            (HasFinished (seen self.old).dirs f (spot_at h) h.entry.control)
+            (IsTidied (seen self.old).dirs f))
             (IsTidied (seen self.old).dirs f) }
         ensures runs { IsRun (D.seen spool.old) (D.seen spool.new) }
         ensures cause { HasCause (D.seen spool.old).faults (D.seen spool.new).faults result }
@@ -309,8 +375,8 @@ impl Queue {
         drop_body(spool, &items[place].entry.dir, self.from.text())
     }
 
-    /// Makes a new parent and its children ready to be committed under the first free ids. Nothing is
-    /// written. `IdsSpent` comes exactly where an id would pass [`Id::MOST`].
+    /// Makes a new parent and its children ready to be committed under the first free ids. Nothing
+    /// is written. `IdsSpent` comes exactly where an id would pass [`Id::MOST`].
     pub fn prepare(
         &mut self,
         children: &Seq<Draft>,
@@ -320,7 +386,8 @@ impl Queue {
         requires can { CanPrepare (seen self.old).dirs children.now parent.now }
         ensures is { IfOk result (IsParcel (seen self.new) children.now parent.now body) }
         ensures same { seen self.new ≡ record (seen self.old) { room = (seen self.new).room } }
-        ensures spent { IsErrOf result Spent ↔ (Id.MOST < (seen self.old).next + length children.now) }
+        ensures spent { IsErrOf result Spent
+            ↔ (Id.MOST < (seen self.old).next + length children.now) }
         ensures never { IsErrOf result Broke → ⊥ }
     {
         let count = children.len();
@@ -354,28 +421,43 @@ impl Queue {
         })
     }
 
-    /// Commits a parcel: each child's body, then its control text, each whole before the next, and the
-    /// renaming that gives it its name; then the parent's, whose renaming decides. A stop at any moment
-    /// leaves the table before or after. It takes no memory. The parcel is one that [`Queue::prepare`]
-    /// made since the last commit.
+    /// Commits a parcel: each child's body, then its control text, each whole before the next, and
+    /// the renaming that gives it its name; then the parent's, whose renaming decides. A stop at
+    /// any moment leaves the table before or after. It takes no memory. The parcel is one that
+    /// [`Queue::prepare`] made since the last commit.
     pub fn commit<D: Spool>(&mut self, spool: &mut D, parcel: Parcel) -> Result<Id, SpoolFault>
-        requires agrees { (seen self.old).broken ≡ false → IfSome (D.seen spool.old).told (Agrees (seen self.old)) }
+        requires agrees { (seen self.old).broken ≡ false
+            → IfSome (D.seen spool.old).told (Agrees (seen self.old)) }
         requires ready { IsReady (seen self.old) parcel }
-        ensures moves { (table : Table) (children : List DraftSeen) (parent : DraftSeen) → Holds (seen self.old) table → IsParcel (seen self.old) children parent parcel.body parcel → Moves
+        ensures moves { (table : Table) (children : List DraftSeen) (parent : DraftSeen)
+            → Holds (seen self.old) table
+            → IsParcel (seen self.old) children parent parcel.body parcel → Moves
             (D.seen spool.old)
             (D.seen spool.new)
             (StandsFor (seen self.old).dirs table)
-            (Ends result (IsSettled (seen self.old).dirs (after_commit table children parent parcel.body None)) (IsEitherTable (seen self.old).dirs table (after_commit table children parent parcel.body None)))
-            (IsEitherTable (seen self.old).dirs table (after_commit table children parent parcel.body None)) }
-        ensures frame { (f : FileMap) → Moves (D.seen spool.old) (D.seen spool.new) (λ g. g ≡ f) (KeepsOthers (seen self.old).dirs f) (KeepsOthers (seen self.old).dirs f) }
+            (Ends result
+            (IsSettled (seen self.old).dirs
+            (after_commit table children parent parcel.body None))
+            (IsEitherTable (seen self.old).dirs table
+            (after_commit table children parent parcel.body None)))
+            (IsEitherTable (seen self.old).dirs table
+            (after_commit table children parent parcel.body None)) }
+        ensures frame { (f : FileMap)
+            → Moves (D.seen spool.old) (D.seen spool.new) (λ g. g ≡ f)
+            (KeepsOthers (seen self.old).dirs f) (KeepsOthers (seen self.old).dirs f) }
         ensures agrees { OnOk result (IfSome (D.seen spool.new).told (Agrees (seen self.new))) }
         ensures id { IfOk result (λ id. id ≡ (seen self.old).next) }
-        ensures ok { (children : List DraftSeen) (parent : DraftSeen) → IsParcel (seen self.old) children parent parcel.body parcel → OnOk result (seen self.new ≡ with_commit (seen self.old) children parent) }
+        ensures ok { (children : List DraftSeen) (parent : DraftSeen)
+            → IsParcel (seen self.old) children parent parcel.body parcel
+            → OnOk result (seen self.new ≡ with_commit (seen self.old) children parent) }
         ensures err { OnErr result (seen self.new ≡ record (seen self.old) { broken = true }) }
-        ensures broken { (seen self.old).broken ≡ true → (result ≡ Err record {}) × (spool.new ≡ spool.old) }
+        ensures broken { (seen self.old).broken ≡ true
+            → (result ≡ Err record {}) × (spool.new ≡ spool.old) }
         ensures later { (D.seen spool.old).faults ≤ (D.seen spool.new).faults }
         ensures calm { OnOk result ((D.seen spool.new).faults ≡ (D.seen spool.old).faults) }
-        ensures cause { OnErr result (((seen self.old).broken ≡ true) ⊎ Rose (D.seen spool.old).faults (D.seen spool.new).faults) }
+        ensures cause { OnErr result
+            (((seen self.old).broken ≡ true)
+            ⊎ Rose (D.seen spool.old).faults (D.seen spool.new).faults) }
     {
         if self.broken {
             return Err(SpoolFault);
@@ -393,7 +475,9 @@ impl Queue {
     fn take_in(&mut self, parcel: Parcel) -> Id
         requires ready { IsReady (seen self.old) parcel }
         ensures id { result ≡ (seen self.old).next }
-        ensures is { (children : List DraftSeen) (parent : DraftSeen) → IsParcel (seen self.old) children parent parcel.body parcel → seen self.new ≡ with_commit (seen self.old) children parent }
+        ensures is { (children : List DraftSeen) (parent : DraftSeen)
+            → IsParcel (seen self.old) children parent parcel.body parcel
+            → seen self.new ≡ with_commit (seen self.old) children parent }
     {
         let id = parcel.id();
         let (children, parent) = parcel.into_parts();

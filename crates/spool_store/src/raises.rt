@@ -22,13 +22,18 @@ pub(crate) fn put_control<D: Spool>(
     tf: &Text,
     control: &Text,
 ) -> Result<(), Failed>
-    ensures moves { (f : FileMap) (next : ℕ) (these : List Stored) (s : Stored) → dir.now ≡ s.dir → tf.now ≡ name_of DraftKind s.id → control.now ≡ spelled s.control → CanRaise f these s → Moves
+    ensures moves { (f : FileMap) (next : ℕ) (these : List Stored) (s : Stored) → dir.now ≡ s.dir
+        → tf.now ≡ name_of DraftKind s.id → control.now ≡ spelled s.control
+        → CanRaise f these s → Moves
         (D.seen spool.old)
         (D.seen spool.new)
         (λ g. AreWritten these f g × IsUnderWay next (s ∷ these) these f g)
-        (Ends result (λ g. HasNewDraft these s f g × IsUnderWay next (s ∷ these) these f g) (IsUnderWay next (s ∷ these) these f))
+        (Ends result
+        (λ g. HasNewDraft these s f g × IsUnderWay next (s ∷ these) these f g)
+        (IsUnderWay next (s ∷ these) these f))
         (IsUnderWay next (s ∷ these) these f) }
-    ensures there { OnOk result (IfSome (D.seen spool.new).told (λ files. IsSome (bytes_at files (dir.now, tf.now)))) }
+    ensures there { OnOk result
+        (IfSome (D.seen spool.new).told (λ files. IsSome (bytes_at files (dir.now, tf.now)))) }
     ensures cause { HasCause (D.seen spool.old).faults (D.seen spool.new).faults result }
     ensures calm { OnOk result ((D.seen spool.new).faults ≡ (D.seen spool.old).faults) }
 {
@@ -38,12 +43,17 @@ pub(crate) fn put_control<D: Spool>(
 /// Gives it the name of the entry's control file, which decides. It takes no memory.
 pub(crate) fn raise<D: Spool>(spool: &mut D, dir: &Text, tf: &Text, qf: &Text) -> Result<(), Failed>
     requires apart { tf.now ≢ qf.now }
-    requires there { IfSome (D.seen spool.old).told (λ files. IsSome (bytes_at files (dir.now, tf.now))) }
-    ensures moves { (f : FileMap) (next : ℕ) (these : List Stored) (s : Stored) → dir.now ≡ s.dir → tf.now ≡ name_of DraftKind s.id → qf.now ≡ name_of ControlKind s.id → CanRaise f these s → Moves
+    requires there { IfSome (D.seen spool.old).told
+        (λ files. IsSome (bytes_at files (dir.now, tf.now))) }
+    ensures moves { (f : FileMap) (next : ℕ) (these : List Stored) (s : Stored) → dir.now ≡ s.dir
+        → tf.now ≡ name_of DraftKind s.id → qf.now ≡ name_of ControlKind s.id
+        → CanRaise f these s → Moves
         (D.seen spool.old)
         (D.seen spool.new)
         (λ g. HasNewDraft these s f g × IsUnderWay next (s ∷ these) these f g)
-        (Ends result (AreRaised these s f) (λ g. IsUnderWay next (s ∷ these) these f g ⊎ AreRaised these s f g))
+        (Ends result
+        (AreRaised these s f)
+        (λ g. IsUnderWay next (s ∷ these) these f g ⊎ AreRaised these s f g))
         (λ g. IsUnderWay next (s ∷ these) these f g ⊎ AreRaised these s f g) }
     ensures cause { HasCause (D.seen spool.old).faults (D.seen spool.new).faults result }
     ensures calm { OnOk result ((D.seen spool.new).faults ≡ (D.seen spool.old).faults) }
@@ -51,22 +61,27 @@ pub(crate) fn raise<D: Spool>(spool: &mut D, dir: &Text, tf: &Text, qf: &Text) -
     spool.rename(dir, tf, qf)
 }
 
-/// Writes the files of the children and then the control of their old parent, whose renaming decides. It
-/// takes no memory.
+/// Writes the files of the children and then the control of their old parent, whose renaming
+/// decides. It takes no memory.
 pub(crate) fn put_under<D: Spool>(
     spool: &mut D,
     children: &[Part],
     parent: &Part,
     body: &Text,
 ) -> Result<(), Failed>
-    ensures moves { (f : FileMap) (next : ℕ) → AreNew f next (map (entry_of body.now) children.now) → CanRaise f (map (entry_of body.now) children.now) (entry_of body.now parent.now) → Moves
+    ensures moves { (f : FileMap) (next : ℕ) → AreNew f next (map (entry_of body.now) children.now)
+        → CanRaise f (map (entry_of body.now) children.now) (entry_of body.now parent.now) → Moves
         (D.seen spool.old)
         (D.seen spool.new)
         (AreWritten [] f)
         (Ends result
         (AreRaised (map (entry_of body.now) children.now) (entry_of body.now parent.now) f)
-        (λ g. IsUnderWay next (entry_of body.now parent.now ∷ map (entry_of body.now) children.now) (map (entry_of body.now) children.now) f g ⊎ AreRaised (map (entry_of body.now) children.now) (entry_of body.now parent.now) f g))
-        (λ g. IsUnderWay next (entry_of body.now parent.now ∷ map (entry_of body.now) children.now) (map (entry_of body.now) children.now) f g ⊎ AreRaised (map (entry_of body.now) children.now) (entry_of body.now parent.now) f g) }
+        (λ g. IsUnderWay next (entry_of body.now parent.now ∷ map (entry_of body.now) children.now)
+        (map (entry_of body.now) children.now) f g
+        ⊎ AreRaised (map (entry_of body.now) children.now) (entry_of body.now parent.now) f g))
+        (λ g. IsUnderWay next (entry_of body.now parent.now ∷ map (entry_of body.now) children.now)
+        (map (entry_of body.now) children.now) f g
+        ⊎ AreRaised (map (entry_of body.now) children.now) (entry_of body.now parent.now) f g) }
     ensures cause { HasCause (D.seen spool.old).faults (D.seen spool.new).faults result }
     ensures calm { OnOk result ((D.seen spool.new).faults ≡ (D.seen spool.old).faults) }
 {
@@ -75,8 +90,8 @@ pub(crate) fn put_under<D: Spool>(
     raise(spool, &parent.entry.dir, &parent.tf, &parent.qf)
 }
 
-/// Writes the new control text of an entry whole, and then gives it its name, which decides. It takes no
-/// memory.
+/// Writes the new control text of an entry whole, and then gives it its name, which decides. It
+/// takes no memory.
 pub(crate) fn put_raised<D: Spool>(
     spool: &mut D,
     dir: &Text,
@@ -85,7 +100,9 @@ pub(crate) fn put_raised<D: Spool>(
     control: &Text,
 ) -> Result<(), Failed>
     requires apart { tf.now ≢ qf.now }
-    ensures moves { (f : FileMap) (next : ℕ) (s : Stored) → dir.now ≡ s.dir → tf.now ≡ name_of DraftKind s.id → qf.now ≡ name_of ControlKind s.id → control.now ≡ spelled s.control → CanRaise f [] s → Moves
+    ensures moves { (f : FileMap) (next : ℕ) (s : Stored) → dir.now ≡ s.dir
+        → tf.now ≡ name_of DraftKind s.id → qf.now ≡ name_of ControlKind s.id
+        → control.now ≡ spelled s.control → CanRaise f [] s → Moves
         (D.seen spool.old)
         (D.seen spool.new)
         (λ g. g ≡ f)

@@ -51,7 +51,10 @@ fn look_into<D: Spool>(
     requires within { (x : NamedSeen) → Contains listed.named x → x.dir < length dirs.now }
     requires order { IsNonDecreasingBy (λ (x : NamedSeen). x.id) listed.named }
     ensures look { IfOk result (IsLook dirs.now) }
-    ensures looked { (f : FileMap) → (D.seen spool.old).told ≡ Some f → AreNamed dirs.now f (length dirs.now) listed.named × AreForeign dirs.now f (length dirs.now) listed.strays → IfOk result (HasLooked dirs.now f) }
+    ensures looked { (f : FileMap) → (D.seen spool.old).told ≡ Some f
+        → AreNamed dirs.now f (length dirs.now) listed.named
+        × AreForeign dirs.now f (length dirs.now) listed.strays
+        → IfOk result (HasLooked dirs.now f) }
     ensures looks { Looks (D.seen spool.old) (D.seen spool.new) result }
 {
     let found = sorted(read_all(alloc, spool, dirs, listed.named.items())?);
@@ -67,7 +70,8 @@ fn look_into<D: Spool>(
 // Lists the directories, reads their control files, and judges them. It changes nothing.
 fn look<D: Spool>(alloc: Global, spool: &mut D, dirs: &[Text]) -> Result<Looked, StoreFault>
     ensures look { IfOk result (IsLook dirs.now) }
-    ensures looked { (f : FileMap) → (D.seen spool.old).told ≡ Some f → IfOk result (HasLooked dirs.now f) }
+    ensures looked { (f : FileMap) → (D.seen spool.old).told ≡ Some f
+        → IfOk result (HasLooked dirs.now f) }
     ensures looks { Looks (D.seen spool.old) (D.seen spool.new) result }
 {
     let listed = list_all(alloc, spool, dirs)?;
@@ -78,7 +82,8 @@ fn look<D: Spool>(alloc: Global, spool: &mut D, dirs: &[Text]) -> Result<Looked,
 fn plan_of(alloc: Global, dirs: &[Text], looked: &Looked) -> Result<Plan, NoMemory>
     requires look { IsLook dirs.now looked.now }
     ensures plan { IfOk result (IsPlan (length dirs.now)) }
-    ensures planned { (f : FileMap) → HasLooked dirs.now f looked.now → IfOk result (HasPlanned dirs.now f looked.now) }
+    ensures planned { (f : FileMap) → HasLooked dirs.now f looked.now
+        → IfOk result (HasPlanned dirs.now f looked.now) }
 {
     let named = looked.named.items();
     let found = looked.found.items();
@@ -103,7 +108,8 @@ fn carry_out<D: Spool>(
     plan: &Plan,
 ) -> Result<(), StoreFault>
     requires plan { IsPlan (length dirs.now) plan.now }
-    ensures moves { (f : FileMap) (l : LookedSeen) → length l.verdicts ≡ length l.found → HasLooked dirs.now f l → HasPlanned dirs.now f l plan.now → Moves
+    ensures moves { (f : FileMap) (l : LookedSeen) → length l.verdicts ≡ length l.found
+        → HasLooked dirs.now f l → HasPlanned dirs.now f l plan.now → Moves
         (D.seen spool.old)
         (D.seen spool.new)
         (IsSweptOf dirs.now f [])
@@ -150,9 +156,12 @@ pub(crate) fn take_over<D: Spool>(
         (Ends result (λ g. IsTidied dirs.now f g × IsSwept dirs.now g) (IsTidied dirs.now f))
         (IsTidied dirs.now f) }
     ensures order { IfOk result (λ opened. AreOrdered opened.entries opened.next) }
-    ensures entries { (f : FileMap) → (D.seen spool.old).told ≡ Some f → IfOk result (λ opened. AreEntries dirs.now f opened.entries) }
-    ensures strange { (f : FileMap) → (D.seen spool.old).told ≡ Some f → IfOk result (λ opened. AreStrays dirs.now f opened.strange) }
-    ensures next { (f : FileMap) → (D.seen spool.old).told ≡ Some f → IfOk result (λ opened. IsNext dirs.now f opened.next) }
+    ensures entries { (f : FileMap) → (D.seen spool.old).told ≡ Some f
+        → IfOk result (λ opened. AreEntries dirs.now f opened.entries) }
+    ensures strange { (f : FileMap) → (D.seen spool.old).told ≡ Some f
+        → IfOk result (λ opened. AreStrays dirs.now f opened.strange) }
+    ensures next { (f : FileMap) → (D.seen spool.old).told ≡ Some f
+        → IfOk result (λ opened. IsNext dirs.now f opened.next) }
     ensures counts { Counts (D.seen spool.old) (D.seen spool.new) result }
 {
     let looked = look(alloc, spool, dirs)?;
@@ -161,10 +170,11 @@ pub(crate) fn take_over<D: Spool>(
     Ok(opened)
 }
 
-/// Takes over the files of these directories, whatever they hold: it removes the drafts, the control files
-/// that are neither strange nor live, and the bodies that nobody wants, and finishes the live entries that
-/// are done. Strange files and the bodies of their ids stay as they are, and so does each file elsewhere
-/// and of another name. After a fault it can be called again. `IdsSpent` never comes.
+/// Takes over the files of these directories, whatever they hold: it removes the drafts, the
+/// control files that are neither strange nor live, and the bodies that nobody wants, and finishes
+/// the live entries that are done. Strange files and the bodies of their ids stay as they are, and
+/// so does each file elsewhere and of another name. After a fault it can be called again.
+/// `IdsSpent` never comes.
 pub fn recover<D: Spool>(
     alloc: Global,
     spool: &mut D,
@@ -183,13 +193,17 @@ pub fn recover<D: Spool>(
         (IsTidied dirs.now f)
         (IsTidied dirs.now f) }
     ensures order { IfOk result (λ opened. AreOrdered opened.entries opened.next) }
-    ensures entries { IfOk result (λ opened. IfSome (D.seen spool.old).told (λ f. AreEntries dirs.now f opened.entries)) }
-    ensures strange { IfOk result (λ opened. IfSome (D.seen spool.old).told (λ f. AreStrays dirs.now f opened.strange)) }
-    ensures next { IfOk result (λ opened. IfSome (D.seen spool.old).told (λ f. IsNext dirs.now f opened.next)) }
+    ensures entries { IfOk result
+        (λ opened. IfSome (D.seen spool.old).told (λ f. AreEntries dirs.now f opened.entries)) }
+    ensures strange { IfOk result
+        (λ opened. IfSome (D.seen spool.old).told (λ f. AreStrays dirs.now f opened.strange)) }
+    ensures next { IfOk result
+        (λ opened. IfSome (D.seen spool.old).told (λ f. IsNext dirs.now f opened.next)) }
     ensures clean { IfOk result (λ _. IfSome (D.seen spool.new).told (IsClean dirs.now)) }
     ensures later { (D.seen spool.old).faults ≤ (D.seen spool.new).faults }
     ensures never { IsErrOf result Spent → ⊥ }
-    ensures cause { IsErrOf result Broke → Rose (D.seen spool.old).faults (D.seen spool.new).faults }
+    ensures cause { IsErrOf result Broke
+        → Rose (D.seen spool.old).faults (D.seen spool.new).faults }
     ensures calm { IsErrOf result Broke ⊎ ((D.seen spool.new).faults ≡ (D.seen spool.old).faults) }
 {
     take_over(alloc, spool, dirs.items())
@@ -201,12 +215,21 @@ pub(crate) fn reopen<D: Spool>(
     spool: &mut D,
     dirs: &Seq<Text>,
 ) -> Result<Queue, StoreFault>
-    ensures store { IfOk result (λ q. ((seen q).dirs ≡ dirs.now) × ((seen q).broken ≡ false) × ((seen q).room ≡ 0)) }
-    ensures read { (f : FileMap) → (D.seen spool.old).told ≡ Some f → IfOk result (λ q. IsReading dirs.now f (seen q)) }
+    ensures store { IfOk result
+        (λ q. ((seen q).dirs ≡ dirs.now) × ((seen q).broken ≡ false) × ((seen q).room ≡ 0)) }
+    ensures read { (f : FileMap) → (D.seen spool.old).told ≡ Some f
+        → IfOk result (λ q. IsReading dirs.now f (seen q)) }
     ensures agrees { IfOk result (λ q. IfSome (D.seen spool.new).told (Agrees (seen q))) }
-    ensures settled { (table : Table) (f : FileMap) → (D.seen spool.old).told ≡ Some f → StandsFor dirs.now table f → IfOk result (λ q. IfSome (D.seen spool.new).told (IsSettled dirs.now (record { entries = table.entries; next = (seen q).next }))) }
-    ensures stands { (table : Table) → Moves (D.seen spool.old) (D.seen spool.new) (StandsFor dirs.now table) (StandsFor dirs.now table) (StandsFor dirs.now table) }
-    ensures tidied { (f : FileMap) → (D.seen spool.old).told ≡ Some f → Moves (D.seen spool.old) (D.seen spool.new) (λ g. g ≡ f) (IsTidied dirs.now f) (IsTidied dirs.now f) }
+    ensures settled { (table : Table) (f : FileMap) → (D.seen spool.old).told ≡ Some f
+        → StandsFor dirs.now table f
+        → IfOk result (λ q. IfSome (D.seen spool.new).told
+        (IsSettled dirs.now (record { entries = table.entries; next = (seen q).next }))) }
+    ensures stands { (table : Table)
+        → Moves (D.seen spool.old) (D.seen spool.new) (StandsFor dirs.now table)
+        (StandsFor dirs.now table) (StandsFor dirs.now table) }
+    ensures tidied { (f : FileMap) → (D.seen spool.old).told ≡ Some f
+        → Moves (D.seen spool.old) (D.seen spool.new) (λ g. g ≡ f) (IsTidied dirs.now f)
+        (IsTidied dirs.now f) }
     ensures clean { IfOk result (λ _. IfSome (D.seen spool.new).told (IsClean dirs.now)) }
     ensures counts { Counts (D.seen spool.old) (D.seen spool.new) result }
 {

@@ -4,8 +4,8 @@ ghost use Rattle.mail_base.specs.Limits.{IsId};
 use mail_base::{Control, Id};
 use qf_format::Paper;
 
-/// A copy of an entry's control, which is to take its place with other states, numbers and flags, and
-/// memory for its text.
+/// A copy of an entry's control, which is to take its place with other states, numbers and flags,
+/// and memory for its text.
 pub struct Room {
     pub control: Control,
     pub(crate) id: Id,

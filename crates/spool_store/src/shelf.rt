@@ -11,8 +11,8 @@ use std::alloc::Global;
 use std::marker::Model;
 
 /// Entries in order of id, with room for more, and the first free id, which is greater than each of
-/// theirs. A contract sees it as its entries, that id and its room, the number of entries that it takes
-/// without memory.
+/// theirs. A contract sees it as its entries, that id and its room, the number of entries that it
+/// takes without memory.
 #[derive(Drop)]
 pub struct Shelf {
     held: Vec<Held>,
@@ -29,7 +29,8 @@ impl Model for Shelf {
 
     ghost view = { λ s. record { items = s.held.items; next = s.next; room = s.room } };
 
-    ghost invariant = { λ s. (length s.held.items + s.room ≤ vec_capacity s.held) × (IsAscending s.held.items × All (λ h. h.entry.id < s.next) s.held.items) };
+    ghost invariant = { λ s. (length s.held.items + s.room ≤ vec_capacity s.held)
+        × (IsAscending s.held.items × All (λ h. h.entry.id < s.next) s.held.items) };
 }
 
 // Entries that an opening found.
@@ -47,7 +48,8 @@ impl Shelf {
     /// These entries, with no room for more.
     pub(crate) fn of(alloc: Global, entries: Seq<Entry>, next: u64) -> Result<Shelf, NoMemory>
         requires order { AreOrdered entries next }
-        ensures { IfOk result (λ shelf. shelf ≡ record { items = map taken_over entries; next = next; room = 0 }) }
+        ensures { IfOk result
+            (λ shelf. shelf ≡ record { items = map taken_over entries; next = next; room = 0 }) }
     {
         let held = all_held(alloc, entries)?;
         Ok(Shelf {
@@ -101,7 +103,8 @@ impl Shelf {
         self.room -= 1;
     }
 
-    /// Adds entries under the first free ids, in their order, for which there is room. It takes no memory.
+    /// Adds entries under the first free ids, in their order, for which there is room. It takes no
+    /// memory.
     pub(crate) fn add_all(&mut self, parts: Seq<Part>)
         requires room { length parts ≤ self.old.room }
         requires next { IsRow self.old.next parts }
@@ -146,7 +149,8 @@ impl Shelf {
     /// Gives the entry of an id another control. It takes no memory.
     pub(crate) fn set_control(&mut self, id: Id, control: Control)
         requires { HasId self.old.items id }
-        ensures { self.new ≡ record self.old { items = map (recontrolled id control) self.old.items } }
+        ensures { self.new
+            ≡ record self.old { items = map (recontrolled id control) self.old.items } }
     {
         let place = self.place(id);
         self.held[place].entry.control = control;

@@ -16,9 +16,9 @@ use mail_base::{Draft, Id, Seq, StoreFault, Text, TryCopy};
 use spool_disk::Spool;
 use std::alloc::Global;
 
-/// The entries of a spool: the directories that they are in, and the first free id. A store is broken
-/// exactly after a commit that answered `SpoolFault`; then each commit answers that and touches nothing,
-/// until the spool is opened again.
+/// The entries of a spool: the directories that they are in, and the first free id. A store is
+/// broken exactly after a commit that answered `SpoolFault`; then each commit answers that and
+/// touches nothing, until the spool is opened again.
 #[derive(Drop)]
 pub struct Store {
     dirs: Seq<Text>,
@@ -27,21 +27,24 @@ pub struct Store {
 }
 
 impl Store {
-    /// Opens a spool whose directories have no file yet. It changes nothing. `NotYet` comes exactly where
-    /// the listing of a directory has a name, in the order of the directories; a listing before it may
-    /// fail or find no memory.
+    /// Opens a spool whose directories have no file yet. It changes nothing. `NotYet` comes exactly
+    /// where the listing of a directory has a name, in the order of the directories; a listing
+    /// before it may fail or find no memory.
     pub fn open<D: Spool>(
         alloc: Global,
         spool: &mut D,
         dirs: &Seq<Text>,
     ) -> Result<Store, OpenFault>
-        ensures store { IfOk result (λ store. store ≡ record { dirs = dirs.now; next = 1; broken = false }) }
+        ensures store { IfOk result
+            (λ store. store ≡ record { dirs = dirs.now; next = 1; broken = false }) }
         ensures empty { IfOk result (λ _. IfSome (D.seen spool.old).told (IsClean dirs.now start)) }
         ensures used { IsErrOf result NotYet → IfSome (D.seen spool.old).told (IsUsed dirs.now) }
         ensures untouched { Reads (D.seen spool.old) (D.seen spool.new) }
         ensures later { (D.seen spool.old).faults ≤ (D.seen spool.new).faults }
-        ensures cause { IsErrOf result OpenBroke → Rose (D.seen spool.old).faults (D.seen spool.new).faults }
-        ensures calm { IsErrOf result OpenBroke ⊎ ((D.seen spool.new).faults ≡ (D.seen spool.old).faults) }
+        ensures cause { IsErrOf result OpenBroke
+            → Rose (D.seen spool.old).faults (D.seen spool.new).faults }
+        ensures calm { IsErrOf result OpenBroke
+            ⊎ ((D.seen spool.new).faults ≡ (D.seen spool.old).faults) }
     {
         find_empty(alloc, spool, dirs)?;
         Ok(Store {
@@ -51,8 +54,8 @@ impl Store {
         })
     }
 
-    /// Makes a new entry ready to be committed under the first free id. Nothing is written. `IdsSpent`
-    /// comes exactly where that id would pass [`Id::MOST`].
+    /// Makes a new entry ready to be committed under the first free id. Nothing is written.
+    /// `IdsSpent` comes exactly where that id would pass [`Id::MOST`].
     pub fn prepare(&self, draft: Draft, body: Text) -> Result<Change, StoreFault>
         requires new { draft.id ≡ None }
         requires place { Contains self.now.dirs draft.dir }
@@ -70,23 +73,28 @@ impl Store {
     }
 
     /// Commits a change: its body, then its control text, each whole before the next, and then the
-    /// renaming that decides. A stop at any moment leaves the table before or after. It takes no memory.
-    /// The change is the last one prepared since the last commit.
+    /// renaming that decides. A stop at any moment leaves the table before or after. It takes no
+    /// memory. The change is the last one prepared since the last commit.
     pub fn commit<D: Spool>(&mut self, spool: &mut D, change: Change) -> Result<Id, SpoolFault>
         requires turn { change.id ≡ self.old.next }
-        ensures moves { (table : Table) → IsSound self.old.dirs table → table.next ≡ self.old.next → Moves
+        ensures moves { (table : Table) → IsSound self.old.dirs table
+            → table.next ≡ self.old.next → Moves
             (D.seen spool.old)
             (D.seen spool.new)
             (IsClean self.old.dirs table)
-            (Ends result (IsClean self.old.dirs (after table (Accept change.draft change.body))) (IsEither self.old.dirs table (Accept change.draft change.body)))
+            (Ends result
+            (IsClean self.old.dirs (after table (Accept change.draft change.body)))
+            (IsEither self.old.dirs table (Accept change.draft change.body)))
             (IsEither self.old.dirs table (Accept change.draft change.body)) }
         ensures id { IfOk result (λ id. id ≡ self.old.next) }
         ensures ok { OnOk result (self.new ≡ record self.old { next = self.old.next + 1 }) }
         ensures err { OnErr result (self.new ≡ record self.old { broken = true }) }
-        ensures broken { self.old.broken ≡ true → (result ≡ Err record {}) × (spool.new ≡ spool.old) }
+        ensures broken { self.old.broken ≡ true
+            → (result ≡ Err record {}) × (spool.new ≡ spool.old) }
         ensures later { (D.seen spool.old).faults ≤ (D.seen spool.new).faults }
         ensures calm { OnOk result ((D.seen spool.new).faults ≡ (D.seen spool.old).faults) }
-        ensures cause { OnErr result ((self.old.broken ≡ true) ⊎ Rose (D.seen spool.old).faults (D.seen spool.new).faults) }
+        ensures cause { OnErr result
+            ((self.old.broken ≡ true) ⊎ Rose (D.seen spool.old).faults (D.seen spool.new).faults) }
     {
         if self.broken {
             return Err(SpoolFault);

@@ -26,7 +26,9 @@ fn remove_one<D: Spool>(
         (D.seen spool.old)
         (D.seen spool.new)
         (IsSweptOf dirs.now f done)
-        (Ends result (IsSweptOf dirs.now f (done ++ place_named dirs.now named.now ∷ [])) (IsTidied dirs.now f))
+        (Ends result
+        (IsSweptOf dirs.now f (done ++ place_named dirs.now named.now ∷ []))
+        (IsTidied dirs.now f))
         (IsTidied dirs.now f) }
     ensures counts { Counts (D.seen spool.old) (D.seen spool.new) result }
 {
@@ -45,11 +47,14 @@ pub(crate) fn remove_all<D: Spool>(
     doomed: &[Named],
 ) -> Result<(), StoreFault>
     requires within { (x : NamedSeen) → Contains doomed.now x → x.dir < length dirs.now }
-    ensures moves { (f : FileMap) (done : List Place) → ((x : NamedSeen) → Contains doomed.now x → MayGo dirs.now f done x) → Moves
+    ensures moves { (f : FileMap) (done : List Place)
+        → ((x : NamedSeen) → Contains doomed.now x → MayGo dirs.now f done x) → Moves
         (D.seen spool.old)
         (D.seen spool.new)
         (IsSweptOf dirs.now f done)
-        (Ends result (IsSweptOf dirs.now f (done ++ places dirs.now doomed.now)) (IsTidied dirs.now f))
+        (Ends result
+        (IsSweptOf dirs.now f (done ++ places dirs.now doomed.now))
+        (IsTidied dirs.now f))
         (IsTidied dirs.now f) }
     ensures counts { Counts (D.seen spool.old) (D.seen spool.new) result }
 {
@@ -61,8 +66,10 @@ pub(crate) fn remove_all<D: Spool>(
 
 // Gives a control file that is there its other name.
 fn rename_one<D: Spool>(alloc: Global, spool: &mut D, dir: &Text, id: Id) -> Result<(), StoreFault>
-    requires there { IfSome (D.seen spool.old).told (λ files. IsSome (bytes_at files (at dir.now ControlKind id))) }
-    ensures moves { (dirs : List (List ℕ)) (f : FileMap) (done : List Place) (x : NamedSeen) → MayFinish dirs f done x → dir.now ≡ dir_at dirs x.dir → x.id ≡ id → Moves
+    requires there { IfSome (D.seen spool.old).told
+        (λ files. IsSome (bytes_at files (at dir.now ControlKind id))) }
+    ensures moves { (dirs : List (List ℕ)) (f : FileMap) (done : List Place) (x : NamedSeen)
+        → MayFinish dirs f done x → dir.now ≡ dir_at dirs x.dir → x.id ≡ id → Moves
         (D.seen spool.old)
         (D.seen spool.new)
         (IsSweptOf dirs f done)
@@ -91,7 +98,9 @@ fn finish_one<D: Spool>(
         (D.seen spool.old)
         (D.seen spool.new)
         (IsSweptOf dirs.now f done)
-        (Ends result (IsSweptOf dirs.now f (done ++ place_named dirs.now named.now ∷ [])) (IsTidied dirs.now f))
+        (Ends result
+        (IsSweptOf dirs.now f (done ++ place_named dirs.now named.now ∷ []))
+        (IsTidied dirs.now f))
         (IsTidied dirs.now f) }
     ensures counts { Counts (D.seen spool.old) (D.seen spool.new) result }
 {
@@ -110,11 +119,14 @@ pub(crate) fn finish_all<D: Spool>(
 ) -> Result<(), StoreFault>
     requires within { (x : NamedSeen) → Contains closed.now x → x.dir < length dirs.now }
     requires kinds { (x : NamedSeen) → Contains closed.now x → x.kind ≡ ControlKind }
-    ensures moves { (f : FileMap) (done : List Place) → ((x : NamedSeen) → Contains closed.now x → MayFinish dirs.now f done x) → Moves
+    ensures moves { (f : FileMap) (done : List Place)
+        → ((x : NamedSeen) → Contains closed.now x → MayFinish dirs.now f done x) → Moves
         (D.seen spool.old)
         (D.seen spool.new)
         (IsSweptOf dirs.now f done)
-        (Ends result (IsSweptOf dirs.now f (done ++ places dirs.now closed.now)) (IsTidied dirs.now f))
+        (Ends result
+        (IsSweptOf dirs.now f (done ++ places dirs.now closed.now))
+        (IsTidied dirs.now f))
         (IsTidied dirs.now f) }
     ensures counts { Counts (D.seen spool.old) (D.seen spool.new) result }
 {

@@ -23,8 +23,12 @@ HasNoDraft dirs next f = (s : Stored) → IsNew dirs next s → bytes_at f (draf
 
 -- the files of a new parent and of its children are written
 abbrev pub IsCommitted : ℕ → List Draft → Draft → List ℕ → FileMap → FileMap → Type 0
-IsCommitted next children parent body f g = AreWritten (children_of next children parent body None ++ stored next body parent ∷ []) f g
+IsCommitted next children parent body f g =
+    AreWritten (children_of next children parent body None ++ stored next body parent ∷ []) f g
 
 -- they are, or what is there of them is before the renaming that decides
 abbrev pub IsCommitting : ℕ → List Draft → Draft → List ℕ → FileMap → FileMap → Type 0
-IsCommitting next children parent body f g = IsUnderWay next (stored next body parent ∷ children_of next children parent body None) (children_of next children parent body None) f g ⊎ IsCommitted next children parent body f g
+IsCommitting next children parent body f g =
+    IsUnderWay next (stored next body parent ∷ children_of next children parent body None)
+    (children_of next children parent body None) f g
+    ⊎ IsCommitted next children parent body f g

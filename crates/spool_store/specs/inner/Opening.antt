@@ -11,4 +11,12 @@ abbrev pub taken_over : Entry → Held
 taken_over e = record { entry = e; finished = is_finished e.control }
 
 abbrev pub opened_store : List (List ℕ) → Opened → StoreSeen
-opened_store dirs o = record { dirs = dirs; entries = map taken_over o.entries; strange = o.strange; next = o.next; broken = false; room = 0 }
+opened_store dirs o =
+    record {
+      dirs = dirs;
+      entries = map taken_over o.entries;
+      strange = o.strange;
+      next = o.next;
+      broken = false;
+      room = 0;
+    }

@@ -15,7 +15,8 @@ pub record Stays {X : Type 0} (n : X → Named) (from : List X) (x : Named) : Ty
   pub is : n source ≡ x
 
 -- those that are picked have a property, and the others have another one
-pub record Picks {X : Type 0} (n : X → Named) (P Q : X → Type 0) (from : List X) (out : List Named) : Type 0 where
+pub record Picks {X : Type 0} (n : X → Named) (P Q : X → Type 0) (from : List X)
+    (out : List Named) : Type 0 where
   pub each : (x : Named) → Contains out x → (y : X) × Contains from y × (n y ≡ x) × P y
   pub all : (y : X) → Contains from y → Contains out (n y) ⊎ Q y
 
@@ -31,7 +32,8 @@ AreDrafts = Picks itself (λ x. x.kind ≡ Tf) (λ x. x.kind ≡ Tf → ⊥)
 
 -- exactly the dead control files
 abbrev pub AreDead : List (List ℕ) → FileMap → List Found → List Named → Type 0
-AreDead dirs f = Picks its_name (λ y. IsDead dirs f (spot_named dirs y.named)) (λ y. IsDead dirs f (spot_named dirs y.named) → ⊥)
+AreDead dirs f = Picks its_name (λ y. IsDead dirs f (spot_named dirs y.named))
+    (λ y. IsDead dirs f (spot_named dirs y.named) → ⊥)
 
 -- exactly those of live entries that are to be finished
 abbrev pub AreDone : List (List ℕ) → FileMap → List Found → List Named → Type 0
@@ -39,4 +41,5 @@ AreDone dirs f = Picks its_name (λ y. IsDone dirs f y.named) (λ y. IsDone dirs
 
 -- exactly the bodies that nobody wants
 abbrev pub AreUnwanted : List (List ℕ) → FileMap → List Named → List Named → Type 0
-AreUnwanted dirs f = Picks itself (λ x. (x.kind ≡ Df) × IsUnwanted dirs f x) (λ x. x.kind ≡ Df → IsWanted dirs f x)
+AreUnwanted dirs f =
+    Picks itself (λ x. (x.kind ≡ Df) × IsUnwanted dirs f x) (λ x. x.kind ≡ Df → IsWanted dirs f x)

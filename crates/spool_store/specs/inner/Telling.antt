@@ -16,9 +16,13 @@ abbrev pub entry_found : List (List ℕ) → Found → Control → Entry
 entry_found dirs x c = record { id = x.named.id; dir = dir_at dirs x.named.dir; control = c }
 
 -- exactly the entries of those of them that are live
-pub record AreTold (dirs : List (List ℕ)) (f : FileMap) (found : List Found) (entries : List Entry) : Type 0 where
-  pub each : (e : Entry) → Contains entries e → (x : Found) × (c : Control) × IsLive dirs f (spot_named dirs x.named) c × (e ≡ entry_found dirs x c)
-  pub all : (x : Found) (c : Control) → Contains found x → IsLive dirs f (spot_named dirs x.named) c → Contains entries (entry_found dirs x c)
+pub record AreTold (dirs : List (List ℕ)) (f : FileMap) (found : List Found)
+    (entries : List Entry) : Type 0 where
+  pub each : (e : Entry) → Contains entries e
+      → (x : Found) × (c : Control) × IsLive dirs f (spot_named dirs x.named) c
+      × (e ≡ entry_found dirs x c)
+  pub all : (x : Found) (c : Control) → Contains found x → IsLive dirs f (spot_named dirs x.named) c
+      → Contains entries (entry_found dirs x c)
 
 -- an entry of that id is among them
 pub record HasEntry (entries : List Entry) (id : ℕ) : Type 0 where
@@ -37,7 +41,8 @@ IsAdding old new id = (new ≡ old) ⊎ ((e : Entry) × (e.id ≡ id) × (new �
 
 -- each has the id of one of these control files
 abbrev pub ComeFrom : List Found → List Entry → Type 0
-ComeFrom found entries = (e : Entry) → Contains entries e → (x : Found) × Contains found x × (e.id ≡ x.named.id)
+ComeFrom found entries =
+    (e : Entry) → Contains entries e → (x : Found) × Contains found x × (e.id ≡ x.named.id)
 
 -- a control file names a parent
 pub record Names (x : Found) (p : Parent) : Type 0 where
@@ -49,14 +54,20 @@ pub record Names (x : Found) (p : Parent) : Type 0 where
 pub record IsPast (found : List Found) (before after : ℕ) : Type 0 where
   pub kept : before ≤ after
   pub above : (x : Found) (p : Parent) → Contains found x → Names x p → p.id < after
-  pub least : (after ≡ before) ⊎ ((x : Found) × (p : Parent) × Contains found x × Names x p × (after ≡ p.id + 1))
+  pub least : (after ≡ before)
+      ⊎ ((x : Found) × (p : Parent) × Contains found x × Names x p × (after ≡ p.id + 1))
 
 -- the stray that a strange control file is
 abbrev pub stray_found : List (List ℕ) → Found → Stray
-stray_found dirs x = record { dir = dir_at dirs x.named.dir; name = name_of x.named.kind x.named.id }
+stray_found dirs x =
+    record { dir = dir_at dirs x.named.dir; name = name_of x.named.kind x.named.id }
 
 -- strays from before, and those of these control files that are strange
-pub record AreShown (dirs : List (List ℕ)) (f : FileMap) (before : List Stray) (found : List Found) (strays : List Stray) : Type 0 where
-  pub each : (w : Stray) → Contains strays w → Contains before w ⊎ ((x : Found) × IsStrange dirs f (spot_named dirs x.named) × (stray_found dirs x ≡ w))
+pub record AreShown (dirs : List (List ℕ)) (f : FileMap) (before : List Stray) (found : List Found)
+    (strays : List Stray) : Type 0 where
+  pub each : (w : Stray) → Contains strays w
+      → Contains before w
+      ⊎ ((x : Found) × IsStrange dirs f (spot_named dirs x.named) × (stray_found dirs x ≡ w))
   pub kept : (w : Stray) → Contains before w → Contains strays w
-  pub all : (x : Found) → Contains found x → IsStrange dirs f (spot_named dirs x.named) → Contains strays (stray_found dirs x)
+  pub all : (x : Found) → Contains found x → IsStrange dirs f (spot_named dirs x.named)
+      → Contains strays (stray_found dirs x)
