@@ -29,6 +29,7 @@ latest_answer (e ∷ before) = unwrap_or e.answer Passes
 abbrev pub sender_ok : Answer
 sender_ok = latest_answer (drop 1 given)
 
+-- the answer to its RCPT
 abbrev pub recipient_ok : Answer
 recipient_ok = latest_answer given
 

@@ -67,6 +67,7 @@ at_front : (first : List Line) (line : Line) (rest : List Line) → slice_get (f
 at_front [] line rest = refl
 at_front (l ∷ first) line rest = at_front first line rest
 
+-- what was heard has as many entries as lines
 pub how_many_heard : (heard : List Heard) → length (map line_in heard) ≡ length heard
 how_many_heard [] = refl
 how_many_heard (h ∷ heard) = ap suc (how_many_heard heard)

@@ -11,9 +11,11 @@ use Rattle.smtp_lines.specs.Reader.{StandsFirst}
 use Rattle.smtp_lines.proofs.GivenLemmas.{reading_by-first, follows_front}
 use Rattle.smtp_lines.proofs.ReadingLemmas.{cut-at, follows_itself, follows_refused, reads-length}
 
+-- no value is none
 pub none_is : {X : Type 0} (x : X) → None ≡ Some x → ⊥
 none_is x h = cc h
 
+-- equal options of values have equal values
 pub some_is : {X : Type 0} (x y : X) → Some x ≡ Some y → x ≡ y
 some_is x y h = cc h
 
@@ -37,6 +39,7 @@ reads_plain mode bytes granted lines last rest content after is none silent (pla
 reads_plain mode bytes granted lines last rest content after is none silent (asked m c a grant g ls l r none2 asks2 h) = asked mode c a grant g (ls ++ line_of last content ∷ []) (mode_after (line_of last content)) after none2 asks2
     (reads_plain (granted_mode grant) a g ls last rest content after is none silent h)
 
+-- bytes that are read so far are read up to behind the next line, where that line asks
 pub reads_asked : (mode : Mode) (bytes : List ℕ) (granted : List Bool) (lines : List Line) (last : Mode) (rest content after : List ℕ) (grant : Bool) → rest ≡ content ++ (end_of last ++ after) → has_end last content ≡ false → asks (line_of last content) ≡ true
     → Reads mode bytes granted lines last rest → Reads mode bytes (granted ++ grant ∷ []) (lines ++ line_of last content ∷ []) (granted_mode grant) after
 reads_asked mode bytes granted lines last rest content after grant is none asking (nothing m b) = subst (λ q. Reads mode q (grant ∷ []) (line_of mode content ∷ []) (granted_mode grant) after) (sym is)
@@ -108,6 +111,7 @@ first_by n mode bytes grants line (somewhere front back is c) h = record {
   is = sym (some_is (line_of mode front) line (sym (ap (λ o. slice_get (parts_by (reading_by n) mode bytes grants o).lines 0) is) ∙ h));
 }
 
+-- the line that a reading gives behind those that were read is the next one of the rest
 pub next_reads : (n : ℕ) (mode : Mode) (bytes : List ℕ) (granted : List Bool) (lines : List Line) (last : Mode) (rest : List ℕ) (line : Line) → Reads mode bytes granted lines last rest → slice_get (reading_by n mode bytes granted).lines (length lines) ≡ Some line → IsNext last rest line
 next_reads zero mode bytes granted lines last rest line h k = absurd (none_is line k)
 next_reads (suc n) mode bytes granted lines last rest line (nothing m b) k = first_by n mode bytes [] line (ends_somewhere mode bytes) k
@@ -142,5 +146,6 @@ none_by bytes granted lines last rest h none (somewhere front back is c) =
     (λ silent. found_more bytes granted lines line (stands_plain bytes granted (lines ++ line ∷ []) (mode_after line) back (reads_plain Commands bytes granted lines last rest front back c.whole c.none silent h)) none)
     (cases_Bool (asks line)))
 
+-- where a reading gives no line behind those that were read, the rest has no line's end
 pub none_left : (bytes : List ℕ) (granted : List Bool) (lines : List Line) (last : Mode) (rest : List ℕ) → Reads Commands bytes granted lines last rest → slice_get (reading_of bytes granted).lines (length lines) ≡ None → has_end last rest ≡ false
 none_left bytes granted lines last rest h none = none_by bytes granted lines last rest h none (ends_somewhere last rest)

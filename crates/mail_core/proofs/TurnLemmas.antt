@@ -73,6 +73,7 @@ turn_of g f none = record { last = f.last; rest = f.rest; reads = f.reads; none 
 
 -- ---- what is done brings nothing, and answers no line but the next
 
+-- what two effects in turn brought of a session is what each of them brought
 pub brought_more : (s : ℕ) (one other : List Effect) → brought_of s (one ++ other) ≡ brought_of s one ++ brought_of s other
 brought_more s one other = flat_map-append (brought_by s) one other
 

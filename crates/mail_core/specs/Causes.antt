@@ -29,7 +29,8 @@ is_well (Ok done) = true
 is_well (Err stops.SpoolFault) = false
 is_well (Err stops.IdsSpent) = true
 
--- why a run ended so, at an event that led from a to b, with the table after it: the floor told Stop; the count of the spool rose; a message was to be taken in, and no id is left for it
+-- why a run ended so, at an event that led from a to b, with the table after it: the floor told
+-- Stop; the count of the spool rose; a message was to be taken in, and no id is left for it
 abbrev pub HasCause : Ending → Event → Table → Seen → Seen → Type 0
 HasCause Stopped event table a b = event ≡ Stops
 HasCause SpoolFault event table a b = Rose a.spool.faults b.spool.faults

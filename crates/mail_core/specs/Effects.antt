@@ -7,7 +7,8 @@ use Rattle.link_edge.specs.declared.event.FloorEvent.TheVariants.{Took, HungUp}
 use Rattle.link_edge.specs.Sessions.{send_event}
 use Rattle.spool_store.specs.Tables.{Command}
 
--- a turn of the floor was taken; the clock was read; a command was asked of the table; a text was sent to a session, whole or not; a session was hung up
+-- a turn of the floor was taken; the clock was read; a command was asked of the table; a text was
+-- sent to a session, whole or not; a session was hung up
 pub data Effect : Type 0 where
   Takes : (event : Event) → Effect
   Ticks : (reading : ℕ) → Effect

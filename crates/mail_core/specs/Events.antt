@@ -28,7 +28,8 @@ event_of Idle buf = Rests
 event_of Stop buf = Stops
 
 -- a turn of the floor was taken, with its event, and then the clock was read
-pub record IsTaken (before now : Heard) (clock read : ClockSeen) (event : Event) (reading : ℕ) : Type 0 where
+pub record IsTaken (before now : Heard) (clock read : ClockSeen) (event : Event)
+    (reading : ℕ) : Type 0 where
   pub told : Gains before.told now.told (Took event ∷ [])
   pub follows : IfSome before.told (λ history. Follows history (Took event))
   pub faults : before.faults ≤ now.faults
@@ -37,14 +38,19 @@ pub record IsTaken (before now : Heard) (clock read : ClockSeen) (event : Event)
 
 -- the step of the machine at an event, by some choices
 abbrev pub step_of : Site → State → (event : Event) → ℕ → Choices event → Step
-step_of site m event reading choices = stepped site m (record { event = event; reading = reading; choices = choices })
+step_of site m event reading choices =
+    stepped site m (record { event = event; reading = reading; choices = choices })
 
--- by some choices, the machine's step is what happened from a to b; the core stands for its state where the run goes on, and else it ended the run so
-pub record Turns (site : Site) (m : State) (event : Event) (reading : ℕ) (a b : Seen) (core : Core) (went : Result Act CoreStop) : Type 0 where
+-- by some choices, the machine's step is what happened from a to b; the core stands for its state
+-- where the run goes on, and else it ended the run so
+pub record Turns (site : Site) (m : State) (event : Event) (reading : ℕ) (a b : Seen) (core : Core)
+    (went : Result Act CoreStop) : Type 0 where
   pub choices : Choices event
-  pub ran : Ran (dirs_of site) m.table a b (step_of site m event reading choices).effects (is_well went)
+  pub ran : Ran (dirs_of site) m.table a b
+      (step_of site m event reading choices).effects (is_well went)
   pub stands : ending_of went ≡ None → Stands site core (step_of site m event reading choices).state
-  pub ended : (ending : Ending) → ending_of went ≡ Some ending → EndsSo ending event (step_of site m event reading choices).state a b
+  pub ended : (ending : Ending) → ending_of went ≡ Some ending
+      → EndsSo ending event (step_of site m event reading choices).state a b
 
 -- the session of an opening or a piece is open, where the floor tells
 abbrev pub IsHeardAt : Heard → Turn → Type 0

@@ -1,4 +1,5 @@
--- The open sessions: all bytes that each has sent, and its lines so far (RFC 5321 sections 2.3.8 and 3.3).
+-- The open sessions: all bytes that each has sent, and its lines so far (RFC 5321 sections 2.3.8
+-- and 3.3).
 use Rattle.std.specs.Prelude.{ℕ, nat_eq, nat_lt, List, [], ◌∷◌, ◌++◌, length, map, filter, slice_get, Option, Bool, not, if◌then◌else◌}
 use Rattle.std.specs.List.{flat_map, find, list_any}
 use Rattle.smtp_lines.specs.declared.line.Line.{Line}
@@ -6,7 +7,8 @@ use Rattle.smtp_lines.specs.declared.line.Mode.TheVariants.{Commands}
 use Rattle.smtp_lines.specs.Stream.{asks, reading_by, reading_of}
 use Rattle.smtp_receive.specs.Dialogue.{Heard, Exchange, dialogue, exchanges, is_dropped, is_grant}
 
--- an open session: its number, the peer's address, all bytes that were received, and the lines that were answered, each with whether 452 4.3.1 came to it and the id of its message
+-- an open session: its number, the peer's address, all bytes that were received, and the lines that
+-- were answered, each with whether 452 4.3.1 came to it and the id of its message
 pub record Guest : Type 0 where
   pub number : ℕ
   pub peer : List ℕ
@@ -56,9 +58,11 @@ is_passed g line = is_dropped (exchanges g.peer g.heard) line
 abbrev pub with_bytes : Guest → List ℕ → Guest
 with_bytes g bytes = record g { received = g.received ++ bytes }
 
--- one line more was answered: whether 452 4.3.1 came to it, and the id that its message got, if it gave one that was taken in
+-- one line more was answered: whether 452 4.3.1 came to it, and the id that its message got, if it
+-- gave one that was taken in
 abbrev pub with_line : Guest → Line → Bool → Option ℕ → Guest
-with_line g line short id = record g { heard = g.heard ++ record { line = line; short = short; id = id } ∷ [] }
+with_line g line short id =
+    record g { heard = g.heard ++ record { line = line; short = short; id = id } ∷ [] }
 
 abbrev pub has_number : ℕ → Guest → Bool
 has_number session g = nat_eq g.number session

@@ -1,4 +1,6 @@
--- The machine: what sessions, table and clock come to at each event. What it can't know are the choices at an event: whether a text could be sent, where memory was wanting, and that the spool failed (own; the replies are those of RFC 5321).
+-- The machine: what sessions, table and clock come to at each event. What it can't know are the
+-- choices at an event: whether a text could be sent, where memory was wanting, and that the spool
+-- failed (own; the replies are those of RFC 5321).
 use Rattle.std.specs.Prelude.{ℕ, nat_le, List, [], ◌∷◌, ◌++◌, length, fold, max, min, Option, Some, None, is_some, Bool, true, false, not, ◌&&◌, if◌then◌else◌}
 use Rattle.link_edge.specs.declared.event.Event.{Event}
 use Rattle.link_edge.specs.declared.event.Event.TheVariants.{Opens, Brings, Closes, Rests, Stops}
@@ -14,19 +16,22 @@ use Rattle.mail_core.specs.Guests.{Guest, newcomer, next_line, is_passed, has_by
 use Rattle.mail_core.specs.declared.serving.Site.{Site}
 use Rattle.mail_core.specs.Messages.{accept_of, is_spent}
 
--- what is left open at an opening: its greeting, or its 421, is sent whole or not; or the session ends for want of memory
+-- what is left open at an opening: its greeting, or its 421, is sent whole or not; or the session
+-- ends for want of memory
 pub data Opening : Type 0 where
   Replied : (whole : Bool) → Opening
   Dropped : Opening
 
--- what is left open at a line: its reply, sent whole or not; 452 4.3.1 in place of it; the session's end for want of memory; a fault of the spool
+-- what is left open at a line: its reply, sent whole or not; 452 4.3.1 in place of it; the
+-- session's end for want of memory; a fault of the spool
 pub data Choice : Type 0 where
   Normal : (whole : Bool) → Choice
   OutOfMemory : (whole : Bool) → Choice
   Disconnects : Choice
   SpoolFails : Choice
 
--- what is left open at an event: at an opening, and at each line that a piece completes; nothing else is
+-- what is left open at an event: at an opening, and at each line that a piece completes; nothing
+-- else is
 abbrev pub Choices : Event → Type 0
 Choices (Opens session peer) = Opening
 Choices (Brings session bytes) = List Choice
@@ -51,7 +56,8 @@ pub data Way : Type 0 where
   Leaves : Way
   Over : (finish : Finish) → Way
 
--- what a piece has come to so far: the table, the session, whether want of memory may end the session here, what was done, and how it goes on
+-- what a piece has come to so far: the table, the session, whether want of memory may end the
+-- session here, what was done, and how it goes on
 pub record Did : Type 0 where
   pub table : Table
   pub guest : Guest
@@ -82,11 +88,16 @@ is_over d finish = does d [] (Over finish)
 
 -- a message is asked of the table
 abbrev pub commits : Site → ℕ → Did → Received → Did
-commits site moment d message = record d { table = after d.table (accept_of site moment message); effects = d.effects ++ Commits (accept_of site moment message) ∷ [] }
+commits site moment d message = record d {
+  table = after d.table (accept_of site moment message);
+  effects = d.effects ++ Commits (accept_of site moment message) ∷ [];
+}
 
 -- a message is accepted, and then its 250 said; where no id is left the run ends
 abbrev pub accepts : Site → ℕ → Did → Received → Bool → Did
-accepts site moment d message whole = if is_spent d.table then is_over d (By IdsSpent) else says (commits site moment d message) (stored_text d.table.next) whole
+accepts site moment d message whole =
+    if is_spent d.table then is_over d (By IdsSpent)
+    else says (commits site moment d message) (stored_text d.table.next) whole
 
 -- the answer that the dialogue has, sent whole or not
 abbrev pub replies : Site → ℕ → Did → Answer → Bool → Did
@@ -99,12 +110,18 @@ replies site moment d Passes whole = d
 
 -- the spool fails at a message, where an id is left for it; nothing else is asked of it
 abbrev pub fails : Site → ℕ → Did → Answer → Did
-fails site moment d (Gives message) = if is_spent d.table then is_over d (By IdsSpent) else is_over (commits site moment d message) (By SpoolFault)
+fails site moment d (Gives message) =
+    if is_spent d.table then is_over d (By IdsSpent)
+    else is_over (commits site moment d message) (By SpoolFault)
 fails site moment d answer = is_over d Cut
 
--- the line was answered; bytes that came after one that asks may be what want of memory keeps from being read
+-- the line was answered; bytes that came after one that asks may be what want of memory keeps from
+-- being read
 abbrev pub heard_line : Did → Line → Bool → Option ℕ → Did
-heard_line d line short id = record d { guest = with_line d.guest line short id; may_disconnect = asks line && has_bytes_left (with_line d.guest line short id) }
+heard_line d line short id = record d {
+  guest = with_line d.guest line short id;
+  may_disconnect = asks line && has_bytes_left (with_line d.guest line short id);
+}
 
 -- the id that is given at an answer: a message that is taken in gets one
 abbrev pub id_by : Table → Answer → Option ℕ
@@ -129,12 +146,21 @@ abbrev pub heard_where : Bool → Did → Line → Bool → Option ℕ → Did
 heard_where true d line short id = heard_line d line short id
 heard_where false d line short id = d
 
--- a line is answered by a choice; 452 4.3.1 comes to no line of data that is dropped. Want of memory for a piece, or for the bytes after a line that asks, drops them whole and ends the session
+-- a line is answered by a choice; 452 4.3.1 comes to no line of data that is dropped. Want of
+-- memory for a piece, or for the bytes after a line that asks, drops them whole and ends the
+-- session
 abbrev pub by_choice : Site → ℕ → Did → Choice → Option Line → Did
-by_choice site moment d (Normal whole) (Some line) = heard_where (is_answered d.table (answer_of d.guest.peer d.guest.heard line)) (replies site moment d (answer_of d.guest.peer d.guest.heard line) whole) line false (id_by d.table (answer_of d.guest.peer d.guest.heard line))
-by_choice site moment d (OutOfMemory whole) (Some line) = if is_passed d.guest line then is_over d Cut else heard_line (says d out_of_memory_text whole) line true None
-by_choice site moment d SpoolFails (Some line) = fails site moment d (answer_of d.guest.peer d.guest.heard line)
-by_choice site moment d Disconnects line = if d.may_disconnect then does d (HangsUp d.guest.number ∷ []) Leaves else is_over d Cut
+by_choice site moment d (Normal whole) (Some line) =
+    heard_where (is_answered d.table (answer_of d.guest.peer d.guest.heard line))
+    (replies site moment d (answer_of d.guest.peer d.guest.heard line) whole) line false
+    (id_by d.table (answer_of d.guest.peer d.guest.heard line))
+by_choice site moment d (OutOfMemory whole) (Some line) =
+    if is_passed d.guest line then is_over d Cut
+    else heard_line (says d out_of_memory_text whole) line true None
+by_choice site moment d SpoolFails (Some line) =
+    fails site moment d (answer_of d.guest.peer d.guest.heard line)
+by_choice site moment d Disconnects line =
+    if d.may_disconnect then does d (HangsUp d.guest.number ∷ []) Leaves else is_over d Cut
 by_choice site moment d (Normal whole) None = is_over d Cut
 by_choice site moment d (OutOfMemory whole) None = is_over d Cut
 by_choice site moment d SpoolFails None = is_over d Cut
@@ -160,13 +186,16 @@ settled d = settled_by d.way (next_line d.guest) d
 
 -- nothing was done yet
 abbrev pub fresh_start : Table → Guest → Did
-fresh_start table guest = record { table = table; guest = guest; may_disconnect = true; effects = []; way = GoesOn }
+fresh_start table guest =
+    record { table = table; guest = guest; may_disconnect = true; effects = []; way = GoesOn }
 
 -- the lines that a piece completes, by a choice each
 abbrev pub all_answered : Site → ℕ → Table → Guest → List Choice → Did
-all_answered site moment table guest choices = settled (fold (answered site moment) (fresh_start table guest) choices)
+all_answered site moment table guest choices =
+    settled (fold (answered site moment) (fresh_start table guest) choices)
 
--- the table, the open sessions, the greatest reading of the clock so far, and how the run is over, once it is
+-- the table, the open sessions, the greatest reading of the clock so far, and how the run is over,
+-- once it is
 pub record State : Type 0 where
   pub table : Table
   pub guests : List Guest
@@ -189,15 +218,27 @@ cut m = record { state = record m { over = Some Cut }; effects = [] }
 unfoldable pub most_guests : ℕ
 most_guests = 1
 
--- a session more than may be open gets 421 and is hung up; its text is kept, so want of memory doesn't come between
+-- a session more than may be open gets 421 and is hung up; its text is kept, so want of memory
+-- doesn't come between
 abbrev pub turned_away : State → ℕ → Opening → Step
-turned_away m session (Replied whole) = record { state = m; effects = Sends session too_many_sessions_text whole ∷ HangsUp session ∷ [] }
+turned_away m session (Replied whole) = record {
+  state = m;
+  effects = Sends session too_many_sessions_text whole ∷ HangsUp session ∷ [];
+}
 turned_away m session Dropped = cut m
 
 -- a new session gets the greeting, and is kept where it was sent; want of memory ends it
 abbrev pub welcomed : Site → State → ℕ → List ℕ → Opening → Step
-welcomed site m session peer (Replied true) = record { state = record m { guests = m.guests ++ newcomer session peer ∷ [] }; effects = Sends session (greeting_text (shown_host site.host)) true ∷ [] }
-welcomed site m session peer (Replied false) = record { state = m; effects = Sends session (greeting_text (shown_host site.host)) false ∷ HangsUp session ∷ [] }
+welcomed site m session peer (Replied true) =
+    record {
+      state = record m { guests = m.guests ++ newcomer session peer ∷ [] };
+      effects = Sends session (greeting_text (shown_host site.host)) true ∷ [];
+    }
+welcomed site m session peer (Replied false) =
+    record {
+      state = m;
+      effects = Sends session (greeting_text (shown_host site.host)) false ∷ HangsUp session ∷ [];
+    }
 welcomed site m session peer Dropped = record { state = m; effects = HangsUp session ∷ [] }
 
 -- an opening; one of a session that is open changes nothing
@@ -209,19 +250,34 @@ opened site m session peer choice =
 
 -- what a piece came to
 abbrev pub brought : State → Way → Did → Step
-brought m GoesOn d = record { state = record m { table = d.table; guests = with_guest d.guest m.guests }; effects = d.effects }
-brought m Leaves d = record { state = record m { table = d.table; guests = without d.guest.number m.guests }; effects = d.effects }
-brought m (Over finish) d = record { state = record m { table = d.table; guests = without d.guest.number m.guests; over = Some finish }; effects = d.effects }
+brought m GoesOn d = record {
+  state = record m { table = d.table; guests = with_guest d.guest m.guests };
+  effects = d.effects;
+}
+brought m Leaves d = record {
+  state = record m { table = d.table; guests = without d.guest.number m.guests };
+  effects = d.effects;
+}
+brought m (Over finish) d = record {
+  state = record m {
+    table = d.table;
+    guests = without d.guest.number m.guests;
+    over = Some finish;
+  };
+  effects = d.effects;
+}
 
 -- a piece of the session of that number, which is dropped where none is open
 abbrev pub pieced : Site → State → List ℕ → List Choice → Option Guest → Step
 pieced site m bytes choices None = still m
-pieced site m bytes choices (Some guest) = let d = all_answered site m.latest m.table (with_bytes guest bytes) choices in brought m d.way d
+pieced site m bytes choices (Some guest) =
+    let d = all_answered site m.latest m.table (with_bytes guest bytes) choices in brought m d.way d
 
 -- what is done at an event
 abbrev pub handled : Site → State → (event : Event) → Choices event → Step
 handled site m (Opens session peer) choice = opened site m session peer choice
-handled site m (Brings session bytes) choices = pieced site m bytes choices (guest_of session m.guests)
+handled site m (Brings session bytes) choices =
+    pieced site m bytes choices (guest_of session m.guests)
 handled site m (Closes session) none = still (record m { guests = without session m.guests })
 handled site m Rests none = still m
 handled site m Stops none = still (record m { over = Some (By Stopped) })
@@ -249,7 +305,9 @@ taken turn step = record step { effects = Takes turn.event ∷ Ticks turn.readin
 
 -- one event; after the run is over there is none
 abbrev pub stepped : Site → State → Turn → Step
-stepped site m turn = if is_some m.over then still m else taken turn (handled site (at_moment m turn.reading) turn.event turn.choices)
+stepped site m turn =
+    if is_some m.over then still m
+    else taken turn (handled site (at_moment m turn.reading) turn.event turn.choices)
 
 -- what comes after a step
 abbrev pub followed : Step → Step → Step

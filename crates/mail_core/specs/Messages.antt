@@ -1,4 +1,5 @@
--- The entry that a received message becomes (Sendmail Installation and Operation Guide, "The queue"; until recipients are routed each message has one, primary, in the group mqueue).
+-- The entry that a received message becomes (Sendmail Installation and Operation Guide, "The
+-- queue"; until recipients are routed each message has one, primary, in the group mqueue).
 use Rattle.std.specs.Prelude.{ℕ, ◌+◌, pos, List, [], ◌∷◌, None, Bool, true, false, codes, nat_lt}
 use Rattle.mail_base.specs.declared.control.Control.{Control}
 use Rattle.mail_base.specs.declared.control.Draft.{Draft}
@@ -46,7 +47,8 @@ control_of moment message = record {
 }
 
 abbrev pub draft_of : Site → ℕ → Received → Draft
-draft_of site moment message = record { id = None; dir = site.dir; control = control_of moment message }
+draft_of site moment message =
+    record { id = None; dir = site.dir; control = control_of moment message }
 
 -- the command that takes a message in
 abbrev pub accept_of : Site → ℕ → Received → Command

@@ -1,4 +1,5 @@
--- A whole run: the machine's turns are all that happened, and what was acknowledged is in the queue (own).
+-- A whole run: the machine's turns are all that happened, and what was acknowledged is in the queue
+-- (own).
 use Rattle.std.specs.Prelude.{◌≡◌, ℕ, ◌+◌, ◌≤◌, List, [], ◌∷◌, ◌++◌, length, Option, Some, Result, Bool, Contains}
 use Rattle.mail_base.specs.Histories.{Gains}
 use Rattle.mail_base.specs.Limits.{IsId}
@@ -34,15 +35,18 @@ abbrev pub IsAcked : Table → Effect → Type 0
 IsAcked table (Takes event) = Unit {0}
 IsAcked table (Ticks reading) = Unit {0}
 IsAcked table (Commits command) = Unit {0}
-IsAcked table (Sends session text whole) = (id : ℕ) → IsId id → text ≡ stored_text id → HasEntry table id
+IsAcked table (Sends session text whole) =
+    (id : ℕ) → IsId id → text ≡ stored_text id → HasEntry table id
 IsAcked table (HangsUp session) = Unit {0}
 
 -- each final 250 names an entry of the table as it is then
 abbrev pub AreAcked : Table → List Effect → Type 0
 AreAcked table [] = Unit {0}
-AreAcked table (effect ∷ effects) = IsAcked table effect × AreAcked (table_after table (effect ∷ [])) effects
+AreAcked table (effect ∷ effects) =
+    IsAcked table effect × AreAcked (table_after table (effect ∷ [])) effects
 
--- the table has an entry of that id, and its control file and its body file are there, and hold its control and its body
+-- the table has an entry of that id, and its control file and its body file are there, and hold its
+-- control and its body
 pub record IsKept (dir : List ℕ) (table : Table) (files : FileMap) (id : ℕ) : Type 0 where
   pub stored : Stored
   pub among : Contains table.entries stored
@@ -50,29 +54,39 @@ pub record IsKept (dir : List ℕ) (table : Table) (files : FileMap) (id : ℕ) 
   pub control : bytes_at files (dir, name_of Qf id) ≡ Some (spelled stored.entry.control)
   pub body : bytes_at files (dir, name_of Df id) ≡ Some stored.body
 
--- what the files are at the exit of a run: those of the table after its commands, but where the spool failed, and with the entry of each final 250 that was sent
-pub record IsLeft (site : Site) (table : Table) (effects : List Effect) (well : Bool) (told : Option FileMap) : Type 0 where
+-- what the files are at the exit of a run: those of the table after its commands, but where the
+-- spool failed, and with the entry of each final 250 that was sent
+pub record IsLeft (site : Site) (table : Table) (effects : List Effect) (well : Bool)
+    (told : Option FileMap) : Type 0 where
   pub files : FileMap
   pub told_is : told ≡ Some files
   pub leaves : Leaves (dirs_of site) table effects well files
-  pub acked : (session id : ℕ) → IsId id → Contains (heard_of effects) (Sent session (stored_text id)) → IsKept site.dir (table_after table effects) files id
+  pub acked : (session id : ℕ) → IsId id
+      → Contains (heard_of effects) (Sent session (stored_text id))
+      → IsKept site.dir (table_after table effects) files id
 
 -- these turns are all that happened from a to b, over files that were exactly the table's
-pub record Headline (site : Site) (table : Table) (turns : List Turn) (a b : Seen) (well : Bool) : Type 0 where
+pub record Headline (site : Site) (table : Table) (turns : List Turn) (a b : Seen)
+    (well : Bool) : Type 0 where
   -- the floor tells just what the machine does at these turns, and the clock their readings
   pub floor : Gains a.floor.told b.floor.told (heard_of (run_over site table turns).effects)
   pub clock : Gains a.clock.told b.clock.told (readings_of (run_over site table turns).effects)
-  pub readings : b.clock.readings ≡ a.clock.readings + length (readings_of (run_over site table turns).effects)
+  pub readings : b.clock.readings
+      ≡ a.clock.readings + length (readings_of (run_over site table turns).effects)
   -- what the files are at the exit
-  pub exit : (files : FileMap) → a.spool.told ≡ Some files → IsClean (dirs_of site) table files → IsLeft site table (run_over site table turns).effects well b.spool.told
+  pub exit : (files : FileMap) → a.spool.told ≡ Some files → IsClean (dirs_of site) table files
+      → IsLeft site table (run_over site table turns).effects well b.spool.told
   -- a stop at any moment since a leaves the table after a front of what was done
-  pub images : (files : FileMap) → a.spool.told ≡ Some files → IsClean (dirs_of site) table files → (left : FileMap) → b.spool.left_since a.spool.moment left → IsPart (dirs_of site) table (run_over site table turns).effects left
+  pub images : (files : FileMap) → a.spool.told ≡ Some files → IsClean (dirs_of site) table files
+      → (left : FileMap) → b.spool.left_since a.spool.moment left
+      → IsPart (dirs_of site) table (run_over site table turns).effects left
   -- no count of faults falls
   pub floor_faults : a.floor.faults ≤ b.floor.faults
   pub spool_faults : a.spool.faults ≤ b.spool.faults
 
 -- a run of so many turns, of which the last ended it so, and for its cause
-pub record IsEnded (site : Site) (table : Table) (count : ℕ) (a b : Seen) (went : Result Act CoreStop) : Type 0 where
+pub record IsEnded (site : Site) (table : Table) (count : ℕ) (a b : Seen)
+    (went : Result Act CoreStop) : Type 0 where
   pub turns : List Turn
   pub before : List Turn
   pub last : Turn
@@ -80,4 +94,5 @@ pub record IsEnded (site : Site) (table : Table) (count : ℕ) (a b : Seen) (wen
   pub events : length turns ≡ count
   pub headline : Headline site table turns a b (is_well went)
   pub readings : b.clock.readings ≡ a.clock.readings + count
-  pub ended : (ending : Ending) → ending_of went ≡ Some ending → EndsSo ending last.event (run_over site table turns).state a b
+  pub ended : (ending : Ending) → ending_of went ≡ Some ending
+      → EndsSo ending last.event (run_over site table turns).state a b

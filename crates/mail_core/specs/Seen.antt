@@ -24,14 +24,16 @@ abbrev pub table_after : Table → List Effect → Table
 table_after table effects = applied table (commands_of effects)
 
 -- the files stand for the table after a front of the effects
-pub record IsPart (dirs : List (List ℕ)) (table : Table) (effects : List Effect) (files : FileMap) : Type 0 where
+pub record IsPart (dirs : List (List ℕ)) (table : Table) (effects : List Effect)
+    (files : FileMap) : Type 0 where
   pub done : List Effect
   pub rest : List Effect
   pub whole : effects ≡ done ++ rest
   pub stands : StandsFor dirs (table_after table done) files
 
 -- the last effect is a command that failed, and the files stand for the table before it or after it
-pub record LacksLast (dirs : List (List ℕ)) (table : Table) (effects : List Effect) (files : FileMap) : Type 0 where
+pub record LacksLast (dirs : List (List ℕ)) (table : Table) (effects : List Effect)
+    (files : FileMap) : Type 0 where
   pub done : List Effect
   pub command : Command
   pub whole : effects ≡ done ++ Commits command ∷ []
@@ -42,11 +44,14 @@ abbrev pub Leaves : List (List ℕ) → Table → List Effect → Bool → FileM
 Leaves dirs table effects true = IsClean dirs (table_after table effects)
 Leaves dirs table effects false = LacksLast dirs table effects
 
--- these effects lead from a to b: what floor and clock tell, what becomes of files that were exactly the table's, and what a stop since a may leave; no count falls
-pub record Ran (dirs : List (List ℕ)) (table : Table) (a b : Seen) (effects : List Effect) (well : Bool) : Type 0 where
+-- these effects lead from a to b: what floor and clock tell, what becomes of files that were
+-- exactly the table's, and what a stop since a may leave; no count falls
+pub record Ran (dirs : List (List ℕ)) (table : Table) (a b : Seen) (effects : List Effect)
+    (well : Bool) : Type 0 where
   pub floor : Gains a.floor.told b.floor.told (heard_of effects)
   pub clock : Gains a.clock.told b.clock.told (readings_of effects)
   pub readings : b.clock.readings ≡ a.clock.readings + length (readings_of effects)
-  pub spool : Moves a.spool b.spool (IsClean dirs table) (Leaves dirs table effects well) (IsPart dirs table effects)
+  pub spool : Moves a.spool b.spool (IsClean dirs table) (Leaves dirs table effects well)
+      (IsPart dirs table effects)
   pub floor_faults : a.floor.faults ≤ b.floor.faults
   pub spool_faults : a.spool.faults ≤ b.spool.faults

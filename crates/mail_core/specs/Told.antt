@@ -40,11 +40,13 @@ opens_none session Stops = true
 -- nor does any turn
 abbrev pub NeverOpens : ℕ → List Turn → Type 0
 NeverOpens session [] = Unit {0}
-NeverOpens session (turn ∷ turns) = (opens_none session turn.event ≡ true) × NeverOpens session turns
+NeverOpens session (turn ∷ turns) =
+    (opens_none session turn.event ≡ true) × NeverOpens session turns
 
 -- the turn that opens a session of a peer
 abbrev pub opening_of : ℕ → List ℕ → ℕ → Opening → Turn
-opening_of session peer reading choice = record { event = Opens session peer; reading = reading; choices = choice }
+opening_of session peer reading choice =
+    record { event = Opens session peer; reading = reading; choices = choice }
 
 -- the bytes that an event brings of a session
 abbrev pub brought_in : ℕ → Event → List ℕ
@@ -72,18 +74,27 @@ pub record IsInTurn (g : Guest) : Type 0 where
   pub reads : Reads Commands g.received (grants_of g) (lines_heard g) last rest
   pub none : has_end last rest ≡ false
 
--- a session that was g, of which these bytes came then, was sent these texts: the replies of its dialogue to the lines that were answered, which stand first in all that it sent. Where it is still open they are all its lines; else it or the run ended behind them
-pub record Converses (site : Site) (g : Guest) (bytes : List ℕ) (texts : List (List ℕ)) (found : Option Guest) : Type 0 where
+-- a session that was g, of which these bytes came then, was sent these texts: the replies of its
+-- dialogue to the lines that were answered, which stand first in all that it sent. Where it is
+-- still open they are all its lines; else it or the run ended behind them
+pub record Converses (site : Site) (g : Guest) (bytes : List ℕ) (texts : List (List ℕ))
+    (found : Option Guest) : Type 0 where
   pub now : Guest
   pub peer : now.peer ≡ g.peer
   pub last : Mode
   pub rest : List ℕ
   pub reads : Reads Commands (g.received ++ bytes) (grants_of now) (lines_heard now) last rest
   pub replies : replies_of site now ≡ replies_of site g ++ texts
-  pub still : (other : Guest) → found ≡ Some other → (other ≡ now) × (now.received ≡ g.received ++ bytes) × IsInTurn now
+  pub still : (other : Guest) → found ≡ Some other
+      → (other ≡ now) × (now.received ≡ g.received ++ bytes) × IsInTurn now
 
--- what a session that was opened is sent: nothing, where memory was wanting or the run was over; 421 alone, where another one was open; or its greeting, and then what its dialogue replies
-pub data Welcomes (site : Site) (session : ℕ) (peer bytes : List ℕ) (texts : List (List ℕ)) (found : Option Guest) : Type 0 where
+-- what a session that was opened is sent: nothing, where memory was wanting or the run was over;
+-- 421 alone, where another one was open; or its greeting, and then what its dialogue replies
+pub data Welcomes (site : Site) (session : ℕ) (peer bytes : List ℕ) (texts : List (List ℕ))
+    (found : Option Guest) : Type 0 where
   hangs_up : texts ≡ [] → found ≡ None → Welcomes site session peer bytes texts found
-  turns_away : texts ≡ too_many_sessions_text ∷ [] → found ≡ None → Welcomes site session peer bytes texts found
-  greets : (later : List (List ℕ)) → texts ≡ greeting_text (shown_host site.host) ∷ later → Converses site (newcomer session peer) bytes later found → Welcomes site session peer bytes texts found
+  turns_away : texts ≡ too_many_sessions_text ∷ [] → found ≡ None
+      → Welcomes site session peer bytes texts found
+  greets : (later : List (List ℕ)) → texts ≡ greeting_text (shown_host site.host) ∷ later
+      → Converses site (newcomer session peer) bytes later found
+      → Welcomes site session peer bytes texts found

@@ -15,10 +15,12 @@ pub struct Caller {
 }
 
 impl Caller {
-    /// Turns to the lines of a message, if one was granted to the last line, or goes on with commands.
+    /// Turns to the lines of a message, if one was granted to the last line, or goes on with
+    /// commands.
     pub(crate) fn turn(&mut self, next: Next)
         requires { IsTrue self.old.lines.under.may_turn }
-        ensures { self.new ≡ record self.old { lines = granted_by (begins_data next) self.old.lines } }
+        ensures { self.new
+            ≡ record self.old { lines = granted_by (begins_data next) self.old.lines } }
     {
         if next == Next::BeginData {
             self.lines.data();

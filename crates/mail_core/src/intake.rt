@@ -40,8 +40,8 @@ use std::alloc::Global;
 /// The beginning of the year 3000. A later reading of the clock counts as that.
 const LAST_MOMENT: u64 = 32_503_680_000;
 
-/// What takes messages into the queue: its store, the directory of new entries, the moment of the event, and
-/// the text of 452 4.3.1, which is kept so that to send it takes no memory.
+/// What takes messages into the queue: its store, the directory of new entries, the moment of the
+/// event, and the text of 452 4.3.1, which is kept so that to send it takes no memory.
 #[derive(Drop)]
 pub struct Intake {
     pub(crate) alloc: Global,
@@ -53,7 +53,8 @@ pub struct Intake {
 
 impl Intake {
     pub(crate) fn new(alloc: Global, store: Store, dir: Text) -> Result<Intake, NoMemory>
-        ensures parts { IfOk result (λ intake. (intake.store ≡ store) × (intake.dir ≡ dir) × (intake.moment ≡ 0)) }
+        ensures parts { IfOk result
+            (λ intake. (intake.store ≡ store) × (intake.dir ≡ dir) × (intake.moment ≡ 0)) }
         ensures short { IfOk result (λ intake. intake.short ≡ out_of_memory_text) }
     {
         Ok(Intake {
@@ -76,7 +77,8 @@ impl Intake {
     // Says a reply to a session that goes on.
     fn reply<F: Floor>(floor: &mut F, session: u64, text: &Text) -> Next
         requires sound { IsSoundAt (F.seen floor.old) session }
-        ensures told { Gains (F.seen floor.old).told (F.seen floor.new).told (heard_of (speech session text.now (stays_open result))) }
+        ensures told { Gains (F.seen floor.old).told (F.seen floor.new).told
+            (heard_of (speech session text.now (stays_open result))) }
         ensures sound { stays_open result ≡ true → IsSoundAt (F.seen floor.new) session }
         ensures own { (F.seen floor.new).faults ≡ (F.seen floor.old).faults }
         ensures begun { (F.seen floor.new).begun ≡ (F.seen floor.old).begun }
@@ -91,7 +93,8 @@ impl Intake {
     // Says 354.
     fn grant<F: Floor>(floor: &mut F, session: u64, text: &Text) -> Next
         requires sound { IsSoundAt (F.seen floor.old) session }
-        ensures told { Gains (F.seen floor.old).told (F.seen floor.new).told (heard_of (speech session text.now (stays_open result))) }
+        ensures told { Gains (F.seen floor.old).told (F.seen floor.new).told
+            (heard_of (speech session text.now (stays_open result))) }
         ensures sound { stays_open result ≡ true → IsSoundAt (F.seen floor.new) session }
         ensures own { (F.seen floor.new).faults ≡ (F.seen floor.old).faults }
         ensures begun { (F.seen floor.new).begun ≡ (F.seen floor.old).begun }
@@ -106,19 +109,24 @@ impl Intake {
     // Says 452 4.3.1 to a line, which ends the transaction. It takes no memory.
     fn lack<F: Floor>(&self, floor: &mut F, caller: &mut Caller) -> Next
         requires sound { IsSoundAt (F.seen floor.old) caller.old.number }
-        ensures told { Gains (F.seen floor.old).told (F.seen floor.new).told (heard_of (speech caller.old.number self.now.short (stays_open result))) }
+        ensures told { Gains (F.seen floor.old).told (F.seen floor.new).told
+            (heard_of (speech caller.old.number self.now.short (stays_open result))) }
         ensures sound { stays_open result ≡ true → IsSoundAt (F.seen floor.new) caller.old.number }
         ensures own { (F.seen floor.new).faults ≡ (F.seen floor.old).faults }
         ensures begun { (F.seen floor.new).begun ≡ (F.seen floor.old).begun }
         ensures next { (result ≡ Next.Continue) ⊎ (result ≡ Next.Closed) }
         ensures number { caller.new.number ≡ caller.old.number }
         ensures lines { caller.new.lines ≡ caller.old.lines }
-        ensures line { (host peer : List ℕ) (heard : List Heard) (line : AnyLine) → Speaks caller.old.session host peer heard
+        ensures line { (host peer : List ℕ) (heard : List Heard) (line : AnyLine)
+            → Speaks caller.old.session host peer heard
             → is_dropped (exchanges peer heard) line ≡ false
-            → Speaks caller.new.session host peer (heard ++ record { line = line; short = true; id = None } ∷ []) }
+            → Speaks caller.new.session host peer
+            (heard ++ record { line = line; short = true; id = None } ∷ []) }
         ensures ended { (host peer : List ℕ) (heard : List Heard) (a b : Bool) (i j : Option ℕ)
-            → Speaks caller.old.session host peer (heard ++ record { line = DataEnd; short = a; id = i } ∷ [])
-            → Speaks caller.new.session host peer (heard ++ record { line = DataEnd; short = b; id = j } ∷ []) }
+            → Speaks caller.old.session host peer
+            (heard ++ record { line = DataEnd; short = a; id = i } ∷ [])
+            → Speaks caller.new.session host peer
+            (heard ++ record { line = DataEnd; short = b; id = j } ∷ []) }
     {
         caller.session.reset();
         Intake::reply(floor, caller.number, &self.short)
@@ -130,7 +138,13 @@ impl Intake {
         requires place { Contains self.now.store.dirs self.now.dir }
         requires valid { IsValid (entry.control_of self.now.moment message) }
         ensures id { IfOk result (λ change. change.id ≡ self.now.store.next) }
-        ensures draft { IfOk result (λ change. change.draft ≡ record { id = None; dir = self.now.dir; control = entry.control_of self.now.moment message }) }
+        ensures draft { IfOk result
+            (λ change. change.draft
+            ≡ record {
+              id = None;
+              dir = self.now.dir;
+              control = entry.control_of self.now.moment message;
+            }) }
         ensures body { IfOk result (λ change. change.body ≡ message.body) }
         ensures room { IfOk result (λ _. IsId self.now.store.next) }
         ensures spent { IsErrOf result NoIdLeft → entry.last_id < self.now.store.next }
@@ -145,8 +159,8 @@ impl Intake {
         self.store.prepare(draft, body)
     }
 
-    // Takes a message in, and acknowledges it once it is in the queue. The text of its 250 is made before, so
-    // that nothing after the commit takes memory.
+    // Takes a message in, and acknowledges it once it is in the queue. The text of its 250 is made
+    // before, so that nothing after the commit takes memory.
     fn accept<F: Floor, D: Spool>(
         &mut self,
         floor: &mut F,
@@ -157,14 +171,16 @@ impl Intake {
         requires sound { IsSoundAt (F.seen floor.old) caller.old.number }
         requires place { Contains self.old.store.dirs self.old.dir }
         requires valid { IsValid (entry.control_of self.old.moment message) }
-        ensures accepts { (site : Site) (d : machine.Did) (clock : ClockSeen) → d.way ≡ machine.GoesOn → Serves site self.old d.table
+        ensures accepts { (site : Site) (d : machine.Did) (clock : ClockSeen)
+            → d.way ≡ machine.GoesOn → Serves site self.old d.table
             → caller.old.number ≡ d.guest.number → AnswersMessage site self.old.moment d message
             (seen (F.seen floor.old) (D.seen spool.old) clock)
             (seen (F.seen floor.new) (D.seen spool.new) clock)
             self.new caller.old caller.new result }
         ensures own { (F.seen floor.new).faults ≡ (F.seen floor.old).faults }
         ensures begun { (F.seen floor.new).begun ≡ (F.seen floor.old).begun }
-        ensures calm { is_well result ≡ true → (D.seen spool.new).faults ≡ (D.seen spool.old).faults }
+        ensures calm { is_well result ≡ true
+            → (D.seen spool.new).faults ≡ (D.seen spool.old).faults }
         ensures moment { self.new.moment ≡ self.old.moment }
         ensures number { caller.new.number ≡ caller.old.number }
         ensures lines { caller.new.lines ≡ caller.old.lines }
@@ -193,7 +209,8 @@ impl Intake {
     ) -> Result<Next, CoreStop>
         requires sound { IsSoundAt (F.seen floor.old) caller.old.number }
         requires ready { IsReady self.old caller.old }
-        ensures answers { (site : Site) (d : machine.Did) (clock : ClockSeen) → d.way ≡ machine.GoesOn → Serves site self.old d.table → Talks site caller.old d.guest
+        ensures answers { (site : Site) (d : machine.Did) (clock : ClockSeen)
+            → d.way ≡ machine.GoesOn → Serves site self.old d.table → Talks site caller.old d.guest
             → AnswersLine site self.old.moment d line.now
             (seen (F.seen floor.old) (D.seen spool.old) clock)
             (seen (F.seen floor.new) (D.seen spool.new) clock)
@@ -201,7 +218,8 @@ impl Intake {
         ensures ready { is_onward result ≡ true → IsReady self.new caller.new }
         ensures own { (F.seen floor.new).faults ≡ (F.seen floor.old).faults }
         ensures begun { (F.seen floor.new).begun ≡ (F.seen floor.old).begun }
-        ensures calm { is_well result ≡ true → (D.seen spool.new).faults ≡ (D.seen spool.old).faults }
+        ensures calm { is_well result ≡ true
+            → (D.seen spool.new).faults ≡ (D.seen spool.old).faults }
         ensures moment { self.new.moment ≡ self.old.moment }
         ensures number { caller.new.number ≡ caller.old.number }
         ensures lines { caller.new.lines ≡ caller.old.lines }
@@ -227,8 +245,10 @@ impl Intake {
     ) -> Result<Next, CoreStop>
         requires sound { IsSoundAt (F.seen floor.old) caller.old.number }
         requires ready { IsReady self.old caller.old }
-        ensures answers { (site : Site) (d : machine.Did) (clock : ClockSeen) → d.way ≡ machine.GoesOn → Serves site self.old d.table → Talks site caller.old d.guest
-            → OnlyLastAsks lines.now → StandsFirst (lines_heard d.guest ++ lines.now) (lines_of d.guest)
+        ensures answers { (site : Site) (d : machine.Did) (clock : ClockSeen)
+            → d.way ≡ machine.GoesOn → Serves site self.old d.table → Talks site caller.old d.guest
+            → OnlyLastAsks lines.now
+            → StandsFirst (lines_heard d.guest ++ lines.now) (lines_of d.guest)
             → AnswersLines site self.old.moment d lines.now
             (seen (F.seen floor.old) (D.seen spool.old) clock)
             (seen (F.seen floor.new) (D.seen spool.new) clock)
@@ -236,7 +256,8 @@ impl Intake {
         ensures ready { is_onward result ≡ true → IsReady self.new caller.new }
         ensures own { (F.seen floor.new).faults ≡ (F.seen floor.old).faults }
         ensures begun { (F.seen floor.new).begun ≡ (F.seen floor.old).begun }
-        ensures calm { is_well result ≡ true → (D.seen spool.new).faults ≡ (D.seen spool.old).faults }
+        ensures calm { is_well result ≡ true
+            → (D.seen spool.new).faults ≡ (D.seen spool.old).faults }
         ensures moment { self.new.moment ≡ self.old.moment }
         ensures number { caller.new.number ≡ caller.old.number }
         ensures lines { caller.new.lines ≡ caller.old.lines }
@@ -252,8 +273,8 @@ impl Intake {
         Ok(last)
     }
 
-    /// Takes a piece of a session's bytes, and answers the lines that it completes. Want of memory for the
-    /// piece, or for what follows a line with the verb DATA, hangs up.
+    /// Takes a piece of a session's bytes, and answers the lines that it completes. Want of memory
+    /// for the piece, or for what follows a line with the verb DATA, hangs up.
     pub(crate) fn feed<F: Floor, D: Spool>(
         &mut self,
         floor: &mut F,
@@ -263,14 +284,16 @@ impl Intake {
     ) -> Result<Next, CoreStop>
         requires sound { IsSoundAt (F.seen floor.old) caller.old.number }
         requires ready { IsReady self.old caller.old }
-        ensures feeds { (site : Site) (table : Table) (g : Guest) (clock : ClockSeen) → Serves site self.old table → Keeps site caller.old g
+        ensures feeds { (site : Site) (table : Table) (g : Guest) (clock : ClockSeen)
+            → Serves site self.old table → Keeps site caller.old g
             → Feeds site self.old.moment table g piece.now
             (seen (F.seen floor.old) (D.seen spool.old) clock)
             (seen (F.seen floor.new) (D.seen spool.new) clock)
             self.new caller.new result }
         ensures own { (F.seen floor.new).faults ≡ (F.seen floor.old).faults }
         ensures begun { (F.seen floor.new).begun ≡ (F.seen floor.old).begun }
-        ensures calm { is_well result ≡ true → (D.seen spool.new).faults ≡ (D.seen spool.old).faults }
+        ensures calm { is_well result ≡ true
+            → (D.seen spool.new).faults ≡ (D.seen spool.old).faults }
         ensures moment { self.new.moment ≡ self.old.moment }
     {
         let Ok(given) = caller.lines.feed(piece) else {
@@ -295,7 +318,9 @@ impl Intake {
 /// Says the last reply to a session, and hangs it up.
 pub(crate) fn part<F: Floor>(floor: &mut F, session: u64, text: &Text) -> Next
     requires sound { IsSoundAt (F.seen floor.old) session }
-    ensures told { (whole : Bool) × Gains (F.seen floor.old).told (F.seen floor.new).told (heard_of (Sends session text.now whole ∷ HangsUp session ∷ [])) }
+    ensures told { (whole : Bool)
+        × Gains (F.seen floor.old).told (F.seen floor.new).told
+        (heard_of (Sends session text.now whole ∷ HangsUp session ∷ [])) }
     ensures own { (F.seen floor.new).faults ≡ (F.seen floor.old).faults }
     ensures begun { (F.seen floor.new).begun ≡ (F.seen floor.old).begun }
     ensures next { result ≡ Next.Closed }
@@ -309,7 +334,8 @@ pub(crate) fn part<F: Floor>(floor: &mut F, session: u64, text: &Text) -> Next
 // Hangs up a session for want of memory.
 fn drop_caller<F: Floor>(floor: &mut F, session: u64) -> Next
     requires sound { IsSoundAt (F.seen floor.old) session }
-    ensures told { Gains (F.seen floor.old).told (F.seen floor.new).told (heard_of (HangsUp session ∷ [])) }
+    ensures told { Gains (F.seen floor.old).told (F.seen floor.new).told
+        (heard_of (HangsUp session ∷ [])) }
     ensures own { (F.seen floor.new).faults ≡ (F.seen floor.old).faults }
     ensures begun { (F.seen floor.new).begun ≡ (F.seen floor.old).begun }
     ensures next { result ≡ Next.Closed }

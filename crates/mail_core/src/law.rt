@@ -7,55 +7,69 @@ ghost use Rattle.mail_core.specs.Runs.{AreAcked};
 ghost use Rattle.mail_core.specs.Seen.{table_after};
 ghost use Rattle.mail_core.specs.Told.{Converses, IsInTurn, NeverOpens, Welcomes, brought_of, opening_of, replies_of, said_to};
 
-/// A final 250 is said only where its message is in the table: whatever the turns and the choices of a run
-/// are, each one names an entry of the table as it is then.
+/// A final 250 is said only where its message is in the table: whatever the turns and the choices
+/// of a run are, each one names an entry of the table as it is then.
 pub fn acknowledged_messages_are_in_the_table()
-    ensures { (site : Site) (m : State) (turns : List Turn) → AreAcked m.table (run site m turns).effects }
+    ensures { (site : Site) (m : State) (turns : List Turn)
+        → AreAcked m.table (run site m turns).effects }
 {}
 
 /// The table that a run comes to is the one that its commands make of the first.
 pub fn the_table_is_that_of_the_commands()
-    ensures { (site : Site) (m : State) (turns : List Turn) → (run site m turns).state.table ≡ table_after m.table (run site m turns).effects }
+    ensures { (site : Site) (m : State) (turns : List Turn)
+        → (run site m turns).state.table ≡ table_after m.table (run site m turns).effects }
 {}
 
-/// What is said to a session for a piece are the replies of its dialogue to the lines that the piece completes, with
-/// the ids that their messages got, whatever is left open. A line at which the run ends is none of them.
+/// What is said to a session for a piece are the replies of its dialogue to the lines that the
+/// piece completes, with the ids that their messages got, whatever is left open. A line at which
+/// the run ends is none of them.
 pub fn what_is_said_are_the_replies()
     ensures { (site : Site) (moment : ℕ) (table : Table) (g : Guest) (choices : List Choice)
         → replies_of site (all_answered site moment table g choices).guest
         ≡ replies_of site g ++ said_to g.number (all_answered site moment table g choices).effects }
 {}
 
-/// The same of a whole run, of a session that is open as it begins and as it ends, and is not opened in it, as no
-/// floor uses a number twice: from its greeting on it was sent the replies of its dialogue, and nothing else.
+/// The same of a whole run, of a session that is open as it begins and as it ends, and is not
+/// opened in it, as no floor uses a number twice: from its greeting on it was sent the replies of
+/// its dialogue, and nothing else.
 pub fn sessions_are_sent_their_replies()
-    ensures { (site : Site) (m : State) (turns : List Turn) (session : ℕ) (g now : Guest) → NeverOpens session turns
-        → guest_of session m.guests ≡ Some g → guest_of session (run site m turns).state.guests ≡ Some now
+    ensures { (site : Site) (m : State) (turns : List Turn) (session : ℕ) (g now : Guest)
+        → NeverOpens session turns
+        → guest_of session m.guests ≡ Some g
+        → guest_of session (run site m turns).state.guests ≡ Some now
         → replies_of site now ≡ replies_of site g ++ said_to session (run site m turns).effects }
 {}
 
-/// What a session that is open is sent in any turns that don't open it, wherever it ends: the replies of its dialogue
-/// to the first of the lines that it sent, up to where it or the run ended, or to all of them where it is still open.
+/// What a session that is open is sent in any turns that don't open it, wherever it ends: the
+/// replies of its dialogue to the first of the lines that it sent, up to where it or the run ended,
+/// or to all of them where it is still open.
 pub fn open_sessions_are_sent_their_replies()
-    ensures { (site : Site) (m : State) (turns : List Turn) (session : ℕ) (g : Guest) → NeverOpens session turns
+    ensures { (site : Site) (m : State) (turns : List Turn) (session : ℕ) (g : Guest)
+        → NeverOpens session turns
         → guest_of session m.guests ≡ Some g → IsInTurn g
-        → Converses site g (brought_of session (run site m turns).effects) (said_to session (run site m turns).effects) (guest_of session (run site m turns).state.guests) }
+        → Converses site g (brought_of session (run site m turns).effects)
+        (said_to session (run site m turns).effects)
+        (guest_of session (run site m turns).state.guests) }
 {}
 
-/// What a session is sent from its opening on, in any turns that don't open it again: its greeting, and then the same;
-/// or 421 alone, where another one was open; or nothing, where memory was wanting or the run was over.
+/// What a session is sent from its opening on, in any turns that don't open it again: its greeting,
+/// and then the same; or 421 alone, where another one was open; or nothing, where memory was
+/// wanting or the run was over.
 pub fn opened_sessions_are_sent_their_replies()
-    ensures { (site : Site) (m : State) (peer : List ℕ) (reading : ℕ) (choice : Opening) (turns : List Turn) (session : ℕ)
+    ensures { (site : Site) (m : State) (peer : List ℕ) (reading : ℕ) (choice : Opening)
+        (turns : List Turn) (session : ℕ)
         → guest_of session m.guests ≡ None → NeverOpens session turns
         → Welcomes site session peer
         (brought_of session (run site m (opening_of session peer reading choice ∷ turns)).effects)
         (said_to session (run site m (opening_of session peer reading choice ∷ turns)).effects)
-        (guest_of session (run site m (opening_of session peer reading choice ∷ turns)).state.guests) }
+        (guest_of session
+        (run site m (opening_of session peer reading choice ∷ turns)).state.guests) }
 {}
 
 /// Where a session isn't open and isn't opened, nothing is sent to it.
 pub fn sessions_that_are_not_open_are_sent_nothing()
     ensures { (site : Site) (m : State) (turns : List Turn) (session : ℕ) → NeverOpens session turns
         → guest_of session m.guests ≡ None
-        → (guest_of session (run site m turns).state.guests ≡ None) × (said_to session (run site m turns).effects ≡ []) }
+        → (guest_of session (run site m turns).state.guests ≡ None)
+        × (said_to session (run site m turns).effects ≡ []) }
 {}

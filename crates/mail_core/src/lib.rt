@@ -1,5 +1,5 @@
-//! The core: one event of the machine of `specs/Machine.antt`. It answers the lines of sessions, and takes
-//! their messages into the queue before it acknowledges them.
+//! The core: one event of the machine of `specs/Machine.antt`. It answers the lines of sessions,
+//! and takes their messages into the queue before it acknowledges them.
 #![tactic(auto)]
 
 mod caller;

@@ -9,8 +9,8 @@ use std::alloc::Global;
 /// What each recipient adds to a message's priority.
 const RECIPIENT_FACTOR: i128 = 30_000;
 
-/// The control of the entry that a message becomes, and its body. Its recipient is one primary row of the
-/// group mqueue.
+/// The control of the entry that a message becomes, and its body. Its recipient is one primary row
+/// of the group mqueue.
 pub(crate) fn control_of(
     alloc: Global,
     moment: u64,

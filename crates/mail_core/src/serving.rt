@@ -97,7 +97,9 @@ impl Drop for Core {
 impl Core {
     /// A core with no session, over a store that was opened with the site's directory.
     pub fn new(alloc: Global, site: Site, store: Store) -> Result<Core, NoMemory>
-        ensures { IfOk result (λ core. (table : Table) → Stores site store table → Stands site core (beginning table)) }
+        ensures { IfOk result
+            (λ core. (table : Table) → Stores site store table
+            → Stands site core (beginning table)) }
     {
         Ok(Core {
             alloc,
@@ -108,12 +110,14 @@ impl Core {
         })
     }
 
-    /// One event of the machine. Its turn was taken and the clock read before the call. Session numbers are
-    /// never used twice by a floor that tells. A second session is told 421 4.3.2 and hung up while one is
-    /// open, a piece of a session that isn't open is dropped, and an idle turn changes nothing.
+    /// One event of the machine. Its turn was taken and the clock read before the call. Session
+    /// numbers are never used twice by a floor that tells. A second session is told 421 4.3.2 and
+    /// hung up while one is open, a piece of a session that isn't open is dropped, and an idle turn
+    /// changes nothing.
     ///
-    /// Want of memory is answered by 452 4.3.1, or ends the session. After `Ended` and an error nothing more is done. A fault of
-    /// the spool ends the run with it: its count stays with every other answer, and the floor's own with each.
+    /// Want of memory is answered by 452 4.3.1, or ends the session. After `Ended` and an error
+    /// nothing more is done. A fault of the spool ends the run with it: its count stays with every
+    /// other answer, and the floor's own with each.
     pub fn turn<F: Floor, D: Spool>(
         &mut self,
         floor: &mut F,
@@ -125,7 +129,8 @@ impl Core {
         requires fits { Fits turn buf.now }
         requires sound { IsHeardAt (F.seen floor.old) turn }
         requires standing { IsStanding self.old }
-        ensures turns { (site : Site) (m : State) (before : Heard) (clock read : ClockSeen) → Stands site self.old m
+        ensures turns { (site : Site) (m : State) (before : Heard) (clock read : ClockSeen)
+            → Stands site self.old m
             → IsTaken before (F.seen floor.old) clock read (event_of turn buf.now) reading
             → Turns site m (event_of turn buf.now) reading
             (seen before (D.seen spool.old) clock)
@@ -133,7 +138,8 @@ impl Core {
             self.new result }
         ensures own { (F.seen floor.new).faults ≡ (F.seen floor.old).faults }
         ensures begun { (F.seen floor.new).begun ≡ (F.seen floor.old).begun }
-        ensures calm { is_well result ≡ true → (D.seen spool.new).faults ≡ (D.seen spool.old).faults }
+        ensures calm { is_well result ≡ true
+            → (D.seen spool.new).faults ≡ (D.seen spool.old).faults }
     {
         self.intake.at(reading);
         self.handle(floor, spool, turn, buf)
@@ -157,7 +163,8 @@ impl Core {
             self.new result }
         ensures own { (F.seen floor.new).faults ≡ (F.seen floor.old).faults }
         ensures begun { (F.seen floor.new).begun ≡ (F.seen floor.old).begun }
-        ensures calm { is_well result ≡ true → (D.seen spool.new).faults ≡ (D.seen spool.old).faults }
+        ensures calm { is_well result ≡ true
+            → (D.seen spool.new).faults ≡ (D.seen spool.old).faults }
     {
         match turn {
             Turn::Opened(session, count) => {
@@ -203,7 +210,9 @@ impl Core {
     // Says 421 to a session more than may be open, and hangs it up. It takes no memory.
     fn turn_away<F: Floor>(&self, floor: &mut F, session: u64)
         requires sound { IsSoundAt (F.seen floor.old) session }
-        ensures told { (whole : Bool) × Gains (F.seen floor.old).told (F.seen floor.new).told (heard_of (Sends session self.now.full whole ∷ HangsUp session ∷ [])) }
+        ensures told { (whole : Bool)
+            × Gains (F.seen floor.old).told (F.seen floor.new).told
+            (heard_of (Sends session self.now.full whole ∷ HangsUp session ∷ [])) }
         ensures own { (F.seen floor.new).faults ≡ (F.seen floor.old).faults }
         ensures begun { (F.seen floor.new).begun ≡ (F.seen floor.old).begun }
     {
@@ -213,7 +222,9 @@ impl Core {
     // A session of which nothing has come, and its greeting.
     fn caller_of(&self, session: u64, peer: &[u8]) -> Result<(Caller, Text), NoMemory>
         requires line { All (λ b. b ≢ 10) peer.now }
-        ensures keeps { IfOk result (λ pair. (site : Site) → self.now.host ≡ site.host → Keeps site pair.0 (newcomer session peer.now)) }
+        ensures keeps { IfOk result
+            (λ pair. (site : Site) → self.now.host ≡ site.host
+            → Keeps site pair.0 (newcomer session peer.now)) }
         ensures greeting { IfOk result (λ pair. pair.1 ≡ greeting_text (shown_host self.now.host)) }
     {
         let peer = Text::of(self.alloc, peer)?;
@@ -228,8 +239,10 @@ impl Core {
 
     // Takes out the session of that number.
     fn take(&mut self, session: u64) -> Option<Caller>
-        ensures taken { (site : Site) (m : State) → Stands site self.old m → IsTakenUp site m session result self.new }
-        ensures ready { IsStanding self.old → IfSome result (λ caller. IsReady self.new.intake caller) }
+        ensures taken { (site : Site) (m : State) → Stands site self.old m
+            → IsTakenUp site m session result self.new }
+        ensures ready { IsStanding self.old
+            → IfSome result (λ caller. IsReady self.new.intake caller) }
         ensures number { IfSome result (λ caller. caller.number ≡ session) }
     {
         if !self.hosts(session) {
@@ -265,7 +278,8 @@ impl Core {
             self.new result }
         ensures own { (F.seen floor.new).faults ≡ (F.seen floor.old).faults }
         ensures begun { (F.seen floor.new).begun ≡ (F.seen floor.old).begun }
-        ensures calm { is_well result ≡ true → (D.seen spool.new).faults ≡ (D.seen spool.old).faults }
+        ensures calm { is_well result ≡ true
+            → (D.seen spool.new).faults ≡ (D.seen spool.old).faults }
     {
         let Some(mut caller) = self.take(session) else {
             return Ok(Act::Went);

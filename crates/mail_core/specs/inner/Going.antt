@@ -1,4 +1,5 @@
--- What the code does for lines and pieces, as some choices of the machine: the contracts of its steps. It need not be believed: only private contracts cite it.
+-- What the code does for lines and pieces, as some choices of the machine: the contracts of its
+-- steps. It need not be believed: only private contracts cite it.
 use Rattle.std.specs.Prelude.{Result, Ok, Err, is_ok, ◌≡◌, ℕ, List, [], ◌∷◌, ◌++◌, fold, Bool, true, false, not, Option, Some, None, ◌≢◌, if◌then◌else◌}
 use Rattle.link_edge.specs.declared.event.Event.{Event}
 use Rattle.smtp_lines.specs.declared.line.Line.{Line}
@@ -59,7 +60,8 @@ pub record Does (site : Site) (d e : Did) (a b : Seen) (fed : Result Next CoreSt
   pub number : e.guest.number ≡ d.guest.number
   pub ran : Ran (dirs_of site) d.table a b more (is_well fed)
   pub way : e.way ≡ way_after fed
-  pub cause : (ending : Ending) → way_after fed ≡ Over (By ending) → (event : Event) → HasCause ending event e.table a b
+  pub cause : (ending : Ending) → way_after fed ≡ Over (By ending) → (event : Event)
+      → HasCause ending event e.table a b
 
 -- what is kept where the session goes on
 pub record Stays (site : Site) (d e : Did) (intake : Intake) (caller : Caller) : Type 0 where
@@ -73,18 +75,22 @@ abbrev pub granted_by : Bool → Result Next CoreStop → List Bool
 granted_by asked fed = if asked then is_granted fed ∷ [] else []
 
 -- these lines were answered
-pub record Hears (site : Site) (d e : Did) (lines : List Line) (intake : Intake) (caller : Caller) (fed : Result Next CoreStop) : Type 0 where
+pub record Hears (site : Site) (d e : Did) (lines : List Line) (intake : Intake) (caller : Caller)
+    (fed : Result Next CoreStop) : Type 0 where
   pub stays : Stays site d e intake caller
   pub answered : lines_heard e.guest ≡ lines_heard d.guest ++ lines
   pub grants : grants_of e.guest ≡ grants_of d.guest ++ granted_by (asked_after false lines) fed
   pub may_disconnect : asked_after false lines ≡ true → e.may_disconnect ≡ has_bytes_left e.guest
 
 -- by a choice, a line was answered
-pub record AnswersLine (site : Site) (moment : ℕ) (d : Did) (line : Line) (a b : Seen) (intake : Intake) (caller : Caller) (fed : Result Next CoreStop) : Type 0 where
+pub record AnswersLine (site : Site) (moment : ℕ) (d : Did) (line : Line) (a b : Seen)
+    (intake : Intake) (caller : Caller) (fed : Result Next CoreStop) : Type 0 where
   pub choice : Choice
   pub does : Does site d (by_choice site moment d choice (Some line)) a b fed
-  pub alive : is_ok fed ≡ true → Serves site intake (by_choice site moment d choice (Some line)).table
-  pub hears : is_onward fed ≡ true → Hears site d (by_choice site moment d choice (Some line)) (line ∷ []) intake caller fed
+  pub alive : is_ok fed ≡ true
+      → Serves site intake (by_choice site moment d choice (Some line)).table
+  pub hears : is_onward fed ≡ true
+      → Hears site d (by_choice site moment d choice (Some line)) (line ∷ []) intake caller fed
 
 -- what a message comes to by a choice
 abbrev pub message_by : Site → ℕ → Did → Received → Choice → Did
@@ -102,7 +108,8 @@ is_short SpoolFails = false
 
 -- the line of a message is among those that were answered, but where the run ended at it
 abbrev pub heard_chosen : Table → Choice → Did → Line → Did
-heard_chosen table (Normal whole) d line = heard_where (not (is_spent table)) d line false (Some table.next)
+heard_chosen table (Normal whole) d line =
+    heard_where (not (is_spent table)) d line false (Some table.next)
 heard_chosen table (OutOfMemory whole) d line = heard_line d line true None
 heard_chosen table Disconnects d line = d
 heard_chosen table SpoolFails d line = d
@@ -116,7 +123,8 @@ id_chosen table SpoolFails = None
 
 -- the session of a caller was reset after the end of data
 abbrev pub IsReset : Caller → Caller → Type 0
-IsReset old new = (host peer : List ℕ) (heard : List Heard) (a b : Bool) (i j : Option ℕ) → Speaks old.session host peer (heard ++ record { line = DataEnd; short = a; id = i } ∷ [])
+IsReset old new = (host peer : List ℕ) (heard : List Heard) (a b : Bool) (i j : Option ℕ)
+    → Speaks old.session host peer (heard ++ record { line = DataEnd; short = a; id = i } ∷ [])
     → Speaks new.session host peer (heard ++ record { line = DataEnd; short = b; id = j } ∷ [])
 
 -- the session is as before, or was reset after 452 4.3.1
@@ -125,7 +133,8 @@ IsAnswered false old new = new ≡ old
 IsAnswered true old new = IsReset old new
 
 -- by a choice, a message was taken in or not
-pub record AnswersMessage (site : Site) (moment : ℕ) (d : Did) (message : Received) (a b : Seen) (intake : Intake) (old new : Caller) (fed : Result Next CoreStop) : Type 0 where
+pub record AnswersMessage (site : Site) (moment : ℕ) (d : Did) (message : Received) (a b : Seen)
+    (intake : Intake) (old new : Caller) (fed : Result Next CoreStop) : Type 0 where
   pub choice : Choice
   pub answers : choice ≢ Disconnects
   pub does : Does site d (message_by site moment d message choice) a b fed
@@ -138,19 +147,28 @@ pub record AnswersMessage (site : Site) (moment : ℕ) (d : Did) (message : Rece
 abbrev pub reached : Site → ℕ → Did → List Choice → Did
 reached site moment d choices = fold (answered site moment) d choices
 
--- by some choices, these lines were answered, or the first of them up to where the session or the run ended
-pub record AnswersLines (site : Site) (moment : ℕ) (d : Did) (lines : List Line) (a b : Seen) (intake : Intake) (caller : Caller) (fed : Result Next CoreStop) : Type 0 where
+-- by some choices, these lines were answered, or the first of them up to where the session or the
+-- run ended
+pub record AnswersLines (site : Site) (moment : ℕ) (d : Did) (lines : List Line) (a b : Seen)
+    (intake : Intake) (caller : Caller) (fed : Result Next CoreStop) : Type 0 where
   pub choices : List Choice
   pub does : Does site d (reached site moment d choices) a b fed
   pub alive : is_ok fed ≡ true → Serves site intake (reached site moment d choices).table
-  pub hears : is_onward fed ≡ true → Hears site d (reached site moment d choices) lines intake caller fed
+  pub hears : is_onward fed ≡ true
+      → Hears site d (reached site moment d choices) lines intake caller fed
 
 -- by some choices, this is what came of a piece
-pub record Feeds (site : Site) (moment : ℕ) (table : Table) (g : Guest) (bytes : List ℕ) (a b : Seen) (intake : Intake) (caller : Caller) (fed : Result Next CoreStop) : Type 0 where
+pub record Feeds (site : Site) (moment : ℕ) (table : Table) (g : Guest) (bytes : List ℕ)
+    (a b : Seen) (intake : Intake) (caller : Caller) (fed : Result Next CoreStop) : Type 0 where
   pub choices : List Choice
-  pub ran : Ran (dirs_of site) table a b (all_answered site moment table (with_bytes g bytes) choices).effects (is_well fed)
+  pub ran : Ran (dirs_of site) table a b
+      (all_answered site moment table (with_bytes g bytes) choices).effects (is_well fed)
   pub way : (all_answered site moment table (with_bytes g bytes) choices).way ≡ way_after fed
   pub number : (all_answered site moment table (with_bytes g bytes) choices).guest.number ≡ g.number
-  pub serves : is_ok fed ≡ true → Serves site intake (all_answered site moment table (with_bytes g bytes) choices).table
-  pub keeps : is_onward fed ≡ true → Keeps site caller (all_answered site moment table (with_bytes g bytes) choices).guest
-  pub cause : (ending : Ending) → way_after fed ≡ Over (By ending) → (event : Event) → HasCause ending event (all_answered site moment table (with_bytes g bytes) choices).table a b
+  pub serves : is_ok fed ≡ true
+      → Serves site intake (all_answered site moment table (with_bytes g bytes) choices).table
+  pub keeps : is_onward fed ≡ true
+      → Keeps site caller (all_answered site moment table (with_bytes g bytes) choices).guest
+  pub cause : (ending : Ending) → way_after fed ≡ Over (By ending) → (event : Event)
+      → HasCause ending event
+      (all_answered site moment table (with_bytes g bytes) choices).table a b

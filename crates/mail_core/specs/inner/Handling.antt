@@ -1,4 +1,5 @@
--- What the steps of one event come to, beside the turn itself. It need not be believed: only private contracts cite it.
+-- What the steps of one event come to, beside the turn itself. It need not be believed: only
+-- private contracts cite it.
 use Rattle.std.specs.Prelude.{◌≡◌, ℕ, [], ◌∷◌, Some, None, Result, List, Option, ◌==◌, Bool, false}
 use Rattle.mail_core.specs.declared.serving.Core.{Core}
 use Rattle.mail_core.specs.declared.serving.Site.{Site}
@@ -19,22 +20,27 @@ use Rattle.spool_store.specs.Tables.{Table}
 use Rattle.mail_core.specs.declared.intake.Intake.{Intake}
 
 -- the session was there, and the core stands for the state without it
-pub record IsTakenOut (site : Site) (m : State) (session : ℕ) (caller : Caller) (core : Core) : Type 0 where
+pub record IsTakenOut (site : Site) (m : State) (session : ℕ) (caller : Caller)
+    (core : Core) : Type 0 where
   pub guest : Guest
   pub alone : m.guests ≡ guest ∷ []
   pub is : guest_of session m.guests ≡ Some guest
   pub keeps : Keeps site caller guest
   pub stands : Stands site core (record m { guests = [] })
 
--- by some choices, what the machine does at an event, beside the turn itself, is what happened from a to b; the core stands for its state where the run goes on, and else it ended the run so
-pub record Steps (site : Site) (m : State) (event : Event) (a b : Seen) (core : Core) (went : Result Act CoreStop) : Type 0 where
+-- by some choices, what the machine does at an event, beside the turn itself, is what happened from
+-- a to b; the core stands for its state where the run goes on, and else it ended the run so
+pub record Steps (site : Site) (m : State) (event : Event) (a b : Seen) (core : Core)
+    (went : Result Act CoreStop) : Type 0 where
   pub choices : Choices event
   pub ran : Ran (dirs_of site) m.table a b (handled site m event choices).effects (is_well went)
   pub stands : ending_of went ≡ None → Stands site core (handled site m event choices).state
-  pub ended : (ending : Ending) → ending_of went ≡ Some ending → EndsSo ending event (handled site m event choices).state a b
+  pub ended : (ending : Ending) → ending_of went ≡ Some ending
+      → EndsSo ending event (handled site m event choices).state a b
 
 -- what is done at an opening, by some choice
-pub record IsOpened (site : Site) (m : State) (session : ℕ) (peer : List ℕ) (before now : Heard) (core : Core) : Type 0 where
+pub record IsOpened (site : Site) (m : State) (session : ℕ) (peer : List ℕ) (before now : Heard)
+    (core : Core) : Type 0 where
   pub choice : Opening
   pub told : Gains before.told now.told (heard_of (opened site m session peer choice).effects)
   pub stands : Stands site core (opened site m session peer choice).state

@@ -10,7 +10,8 @@ use Rattle.mail_core.specs.Messages.{dirs_of}
 use Rattle.mail_core.specs.Runs.{run_over}
 
 -- a run that may go on, after so many turns
-pub record IsUnderWay (site : Site) (table : Table) (core : Core) (count : ℕ) (a b : Seen) : Type 0 where
+pub record IsUnderWay (site : Site) (table : Table) (core : Core) (count : ℕ)
+    (a b : Seen) : Type 0 where
   pub turns : List Turn
   pub events : length turns ≡ count
   pub ran : Ran (dirs_of site) table a b (run_over site table turns).effects true
