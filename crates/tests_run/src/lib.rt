@@ -1,5 +1,5 @@
-//! Tests of the top call: its worked examples, as a table of lines and a table of sessions. They stand
-//! apart from the library, which a check would else prove twice.
+//! Tests of the top call: its worked examples, as a table of lines and a table of sessions. They
+//! stand apart from the library, which a check would else prove twice.
 #![tactic(auto)]
 
 #[cfg(test)]

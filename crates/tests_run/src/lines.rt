@@ -9,8 +9,9 @@ use spool_disk::MemSpool;
 use std::alloc::Global;
 use std::test::Fail;
 
-// A run over devices in memory: its words, the text of the file row1.cf, the input, whether that comes a byte at a
-// time, and which calls fail; and how it ends: its status, what it wrote, and the place that it tells.
+// A run over devices in memory: its words, the text of the file row1.cf, the input, whether that
+// comes a byte at a time, and which calls fail; and how it ends: its status, what it wrote, and the
+// place that it tells.
 #[derive(Clone, Copy)]
 struct Row {
     words: &'static [u8],
@@ -71,7 +72,8 @@ const REFUSED: Row = Row {
     ..LINE
 };
 
-// Lines as a generated file has them, of which three are ignored: the file of a class is absent, and the rule has no look-up.
+// Lines as a generated file has them, of which three are ignored: the file of a class is absent,
+// and the rule has no look-up.
 const WARNED: Row = Row {
     config: b"V10/Berkeley\nFw-o /etc/mail/local-host-names\nKdequote dequote\nTroot\nO NoSuchThing=1\nO OperatorChars=.%\nScanonify=3\nR$*\t$@ $1\t# plain\n",
     input: b"3 ann.smith@b%c\n",

@@ -37,7 +37,8 @@ static ANSWERS: [Answer; 26] = [
         b"acl x\n",
         b"acl returns: $# error $@ 5 . 7 . 1 $: \"550 denied\"\n",
     ),
-    // Lines as a generated file has them: the file of a class is absent, and a key loses its quotes.
+    // Lines as a generated file has them: the file of a class is absent, and a key loses its
+    // quotes.
     (
         b"V10/Berkeley\nFw-o /etc/mail/local-host-names\nKdequote dequote\nTroot\nO NoSuchThing=1\nScanonify=3\nR$*\t$@ $(dequote $1 $)\t# plain\n",
         b"3 \"ann.smith\"\n",
@@ -135,7 +136,8 @@ static ANSWERS: [Answer; 26] = [
         b"1 bad\n",
         b"1 error: BadScan\n",
     ),
-    // Of two errors of an application the one of the earlier step comes: a late macro before a look-up, the left look-up before the right one.
+    // Of two errors of an application the one of the earlier step comes: a late macro before a
+    // look-up, the left look-up before the right one.
     (
         b"Kl ldap\nDx(\nS1\nR$*\t$(u $1 $) $&x\nS2\nR$*\t$(l $1 $) $(u $1 $)\n",
         b"1 a\n2 a\n",
@@ -143,8 +145,9 @@ static ANSWERS: [Answer; 26] = [
     ),
 ];
 
-/// A configuration, which calls of the files fail, the status, and the place that is told. The first call reads the configuration, then come the
-/// files of maps, and the host table last. Nothing is written and nothing is taken.
+/// A configuration, which calls of the files fail, the status, and the place that is told. The
+/// first call reads the configuration, then come the files of maps, and the host table last.
+/// Nothing is written and nothing is taken.
 type Refusal = (&'static [u8], &'static [u64], u8, &'static [u8]);
 
 static REFUSALS: [Refusal; 9] = [

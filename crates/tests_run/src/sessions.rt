@@ -45,8 +45,9 @@ const CONTROL_OF_NO_PEER: &[u8] =
 
 const BODY: &[u8] = b"hello\r\n";
 
-// A session, whether it comes a byte at a time, and which calls of files, floor and spool fail; and how the run
-// ends: its status, the replies, whether the message is stored, and how many files there are.
+// A session, whether it comes a byte at a time, and which calls of files, floor and spool fail; and
+// how the run ends: its status, the replies, whether the message is stored, and how many files
+// there are.
 #[derive(Clone, Copy)]
 struct Row {
     asked: &'static [u8],
@@ -101,7 +102,8 @@ const ROWS: &[Row] = &[
         said: &[],
         ..UNSTORED
     },
-    // The calls of the floor are that to begin, the opening, the piece and the end, and then none is left.
+    // The calls of the floor are that to begin, the opening, the piece and the end, and then none
+    // is left.
     Row {
         turns_fail: &[0],
         status: 69,
@@ -129,7 +131,8 @@ const ROWS: &[Row] = &[
         turns_fail: &[4],
         ..PLAIN
     },
-    // A send that fails ends its session alone. There are seven replies, and the sixth acknowledges the message.
+    // A send that fails ends its session alone. There are seven replies, and the sixth acknowledges
+    // the message.
     Row {
         sends_fail: &[0],
         said: &[],
@@ -169,7 +172,8 @@ const ROWS: &[Row] = &[
         sends_fail: &[7],
         ..PLAIN
     },
-    // The calls of the spool are the listing, the writing of the body and of the control text, and the renaming.
+    // The calls of the spool are the listing, the writing of the body and of the control text, and
+    // the renaming.
     Row {
         spool_fails: &[0],
         status: 75,
@@ -368,8 +372,8 @@ fn a_session_goes_as_its_row_says(rt: HostRuntime) -> Result<(), Fail> {
     Ok(())
 }
 
-// A session over a source and a sink, from nobody whose address is known: how it ended, what was written, and the
-// files.
+// A session over a source and a sink, from nobody whose address is known: how it ended, what was
+// written, and the files.
 fn over_one_floor(alloc: Global) -> Result<Served, Fail> {
     let mut spool = MemSpool::new(alloc, Seq::new(alloc));
     let source = MemSource::new(Text::of(alloc, ASKED)?, Seq::new(alloc));
@@ -454,7 +458,8 @@ fn a_used_queue_is_left_alone(rt: HostRuntime) -> Result<(), Fail> {
     Ok(())
 }
 
-// A session over a spool that stops after so many changes: how it ended, and what the stop may leave.
+// A session over a spool that stops after so many changes: how it ended, and what the stop may
+// leave.
 fn stopped_after(alloc: Global, passes: u64) -> Result<(u8, Seq<MemSpool>), Fail> {
     let mut spool = StopSpool::new(MemSpool::new(alloc, Seq::new(alloc)), passes);
     let mut floor = PLAIN.floor(alloc)?;
