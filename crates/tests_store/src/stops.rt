@@ -1,5 +1,5 @@
-//! A commit of an entry with two children, stopped after each number of changing calls and inside each:
-//! every image is opened again.
+//! A commit of an entry with two children, stopped after each number of changing calls and inside
+//! each: every image is opened again.
 
 ghost use Rattle.std.specs.Prelude.{◌≡◌, All, IfOk, IfSome, None, OnOk};
 ghost use Rattle.qf_format.specs.Valid.{IsValid};
@@ -70,7 +70,8 @@ fn drafted(alloc: Global) -> Result<Option<Draft>, NoMemory>
 
 // Adds a draft of a child.
 fn add_child(alloc: Global, children: &mut Seq<Draft>) -> Result<(), NoMemory>
-    ensures { All (IsDraftable sample_dirs) children.old → OnOk result (All (IsDraftable sample_dirs) children.new) }
+    ensures { All (IsDraftable sample_dirs) children.old
+        → OnOk result (All (IsDraftable sample_dirs) children.new) }
 {
     match drafted(alloc)? {
         Some(draft) => children.push(draft),
@@ -146,7 +147,8 @@ fn are_whole(spool: &MemSpool, count: usize) -> Result<bool, NoMemory> {
     Ok(files.len() == count)
 }
 
-// How many entries an image has once it is opened, if each has its files whole and no other is there.
+// How many entries an image has once it is opened, if each has its files whole and no other is
+// there.
 fn entries_in(alloc: Global, image: &mut MemSpool) -> Result<Option<usize>, StoreFault> {
     let queue = Queue::open(alloc, image, &dirs(alloc)?)?;
     let count = queue.entries().len();
@@ -167,7 +169,8 @@ fn all_right(alloc: Global, spool: &StopSpool, is_told: bool) -> Result<bool, St
     Ok(true)
 }
 
-// Whether a commit is acknowledged that is stopped after so many calls, if each image of the stop is right.
+// Whether a commit is acknowledged that is stopped after so many calls, if each image of the stop
+// is right.
 fn stopped(alloc: Global, passes: u64) -> Result<Option<bool>, StoreFault> {
     let mut spool = StopSpool::new(MemSpool::new(alloc, Seq::new(alloc)), passes);
     let is_told = opens_and_commits(alloc, &mut spool)?;
