@@ -185,7 +185,8 @@ fn has_first(
     Ok(is_first(read_stream(alloc, &pieces, &[])?.items(), wanted))
 }
 
-/// The bytes of a command before its end, its end, and how many are read of it, where it isn't too long.
+/// The bytes of a command before its end, its end, and how many are read of it, where it isn't too
+/// long.
 type Command = (usize, &'static [u8], Option<usize>);
 
 static LONG_COMMANDS: [Command; 7] = [
@@ -280,8 +281,8 @@ enum Step {
     Data,
 }
 
-/// The steps of one reader, each with its lines as `shown` writes them, `?` where the last of them asks,
-/// and `!` where it may turn to a message then.
+/// The steps of one reader, each with its lines as `shown` writes them, `?` where the last of them
+/// asks, and `!` where it may turn to a message then.
 static STEPS: [(Step, &[u8]); 6] = [
     (Step::Feed(b"DATA\r\nHELO"), b"C<DATA>?!"),
     (Step::Feed(b" a\r"), b"!"),

@@ -3,8 +3,9 @@ use smtp_lines::{Line, read_stream};
 use smtp_receive::{Did, Received, Session, out_of_memory, too_many_sessions};
 use std::alloc::Global;
 
-/// What a session says of a stream's lines after its greeting: its replies, `+` for a line of data, and for
-/// a message its sender, recipient, headers in braces, body in brackets and the three macros.
+/// What a session says of a stream's lines after its greeting: its replies, `+` for a line of data,
+/// and for a message its sender, recipient, headers in braces, body in brackets and the three
+/// macros.
 fn said_to(alloc: Global, stream: &[u8]) -> Result<Text, NoMemory> {
     let lines = lines_of(alloc, stream)?;
     heard(alloc, &lines)
@@ -167,8 +168,8 @@ static PATHS: [Row; 10] = [
     (b"<@a>", b"<@a>"),
 ];
 
-/// What stands in a stream before and behind the row's, and how many bytes of what is said aren't looked
-/// at in front, as the replies to MAIL, RCPT and DATA, and at the end.
+/// What stands in a stream before and behind the row's, and how many bytes of what is said aren't
+/// looked at in front, as the replies to MAIL, RCPT and DATA, and at the end.
 #[derive(Clone, Copy)]
 struct Frame {
     before: &'static [u8],
@@ -282,8 +283,8 @@ fn a_path_has_256_bytes_and_its_local_part_64(rt: HostRuntime) -> Result<(), NoM
     Ok(())
 }
 
-/// How each of a message's 1,024 lines begins, how many bytes more it has, how many the last one, and how what is
-/// said at the message's end begins.
+/// How each of a message's 1,024 lines begins, how many bytes more it has, how many the last one,
+/// and how what is said at the message's end begins.
 type Limit = (&'static [u8], usize, usize, &'static [u8]);
 
 static LIMITS: [Limit; 4] = [

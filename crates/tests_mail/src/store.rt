@@ -196,7 +196,8 @@ fn a_stop_leaves_before_or_after(rt: HostRuntime) {
     }
 }
 
-// Whether a call that fails is told. It is the last one: a store that it left broken touches nothing.
+// Whether a call that fails is told. It is the last one: a store that it left broken touches
+// nothing.
 fn is_told(alloc: Global, call: u64) -> Result<bool, NoMemory> {
     let mut spool = failing_at(alloc, call)?;
     let commits = commit_twice(alloc, &mut spool);
