@@ -75,9 +75,11 @@ const REFUSED: Row = Row {
 // Lines as a generated file has them, of which three are ignored: the file of a class is absent,
 // and the rule has no look-up.
 const WARNED: Row = Row {
-    config: b"V10/Berkeley\nFw-o /etc/mail/local-host-names\nKdequote dequote\nTroot\nO NoSuchThing=1\nO OperatorChars=.%\nScanonify=3\nR$*\t$@ $1\t# plain\n",
+    config: b"V10/Berkeley\nFw-o /etc/mail/local-host-names\nKdequote dequote\nTroot\n\
+        O NoSuchThing=1\nO OperatorChars=.%\nScanonify=3\nR$*\t$@ $1\t# plain\n",
     input: b"3 ann.smith@b%c\n",
-    text: b"warning: line 1 ignored\nwarning: line 4 ignored\nwarning: line 5 ignored\n3 returns: ann . smith@b % c\n",
+    text: b"warning: line 1 ignored\nwarning: line 4 ignored\nwarning: line 5 ignored\n\
+        3 returns: ann . smith@b % c\n",
     ..LINE
 };
 
@@ -117,7 +119,9 @@ const ROWS: &[Row] = &[
     Row {
         config: b"S3\nR$+@$+\t$@ $1 < @ $2 >\nS0\nR$* < @ $+ >\t$#smtp $@ $2 $: $1\n",
         input: b"3,0 user@host.example\n0 ann < @ far >\n0 ann < @ far\n3,9,0 a@b\n",
-        text: b"3 returns: user < @ host . example >\n0 returns: $# smtp $@ host . example $: user\n0 returns: $# smtp $@ far $: ann\nbad address: Unbalanced 4\n3 returns: a < @ b >\n9 error: NoRuleset\n",
+        text: b"3 returns: user < @ host . example >\n\
+            0 returns: $# smtp $@ host . example $: user\n0 returns: $# smtp $@ far $: ann\n\
+            bad address: Unbalanced 4\n3 returns: a < @ b >\n9 error: NoRuleset\n",
         ..LINE
     },
     CHANGED,
@@ -134,7 +138,8 @@ const ROWS: &[Row] = &[
     Row {
         config: b"Kt text /t\nMlocal, P=/bin/mail, A=mail\nScanonify=3\nR$*\t$@ $1\n",
         input: b"=S3\n=S9\n=M\n/map t K\n/map t z\n/map u k\n$z\n$=w",
-        text: b"3: 1 rules\n9: none\nlocal /bin/mail\nfound: v\nabsent\nerror: NoSuchMap\nundefined\nlocalhost\n",
+        text: b"3: 1 rules\n9: none\nlocal /bin/mail\nfound: v\nabsent\nerror: NoSuchMap\n\
+            undefined\nlocalhost\n",
         ..LINE
     },
     // The input may end behind `/quit`, and nothing behind it is answered.

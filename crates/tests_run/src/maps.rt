@@ -33,21 +33,26 @@ static ANSWERS: [Answer; 26] = [
     ),
     // A call gives a list with signs, which the next rule takes apart.
     (
-        b"Schk\nR$*\t$#error $@ 5.7.1 $: \"550 denied\"\nSacl\nR$*\t$: $1 $| $>chk $1\nR$* $| $#$*\t$#$2\n",
+        b"Schk\nR$*\t$#error $@ 5.7.1 $: \"550 denied\"\nSacl\nR$*\t$: $1 $| $>chk $1\n\
+            R$* $| $#$*\t$#$2\n",
         b"acl x\n",
         b"acl returns: $# error $@ 5 . 7 . 1 $: \"550 denied\"\n",
     ),
     // Lines as a generated file has them: the file of a class is absent, and a key loses its
     // quotes.
     (
-        b"V10/Berkeley\nFw-o /etc/mail/local-host-names\nKdequote dequote\nTroot\nO NoSuchThing=1\nScanonify=3\nR$*\t$@ $(dequote $1 $)\t# plain\n",
+        b"V10/Berkeley\nFw-o /etc/mail/local-host-names\nKdequote dequote\nTroot\nO NoSuchThing=1\n\
+            Scanonify=3\nR$*\t$@ $(dequote $1 $)\t# plain\n",
         b"3 \"ann.smith\"\n",
-        b"warning: line 1 ignored\nwarning: line 4 ignored\nwarning: line 5 ignored\n3 returns: ann . smith\n",
+        b"warning: line 1 ignored\nwarning: line 4 ignored\nwarning: line 5 ignored\n\
+            3 returns: ann . smith\n",
     ),
     (
-        b"V10/Berkeley\nFw-o /etc/mail/local-host-names\nKdequote dequote\nTroot\nO NoSuchThing=1\nScanonify=3\nR$*\t$@ $(dequote $1 $)\t# plain\nS4\nR$*\t$@ $>3 \"ann.smith\"\n",
+        b"V10/Berkeley\nFw-o /etc/mail/local-host-names\nKdequote dequote\nTroot\nO NoSuchThing=1\n\
+            Scanonify=3\nR$*\t$@ $(dequote $1 $)\t# plain\nS4\nR$*\t$@ $>3 \"ann.smith\"\n",
         b"4\n3 ann.smith\n",
-        b"warning: line 1 ignored\nwarning: line 4 ignored\nwarning: line 5 ignored\n4 returns: ann . smith\n3 returns: ann . smith\n",
+        b"warning: line 1 ignored\nwarning: line 4 ignored\nwarning: line 5 ignored\n\
+            4 returns: ann . smith\n3 returns: ann . smith\n",
     ),
     // A text map, with an argument and with a default; a sequence; a map whose file may be absent.
     (
@@ -94,7 +99,8 @@ static ANSWERS: [Answer; 26] = [
     ),
     // A macro that a look-up sets lives up to the end of its line.
     (
-        b"Kstore macro\nS1\nR$*\t$: $1 $(store {x} $@ $1 $) $&{x}\nR$*\t$@ $1 . $&{x}\nS2\nR$*\t$@ $1 . $&{x}\n",
+        b"Kstore macro\nS1\nR$*\t$: $1 $(store {x} $@ $1 $) $&{x}\nR$*\t$@ $1 . $&{x}\nS2\n\
+            R$*\t$@ $1 . $&{x}\n",
         b"1 a\n2 b\n",
         b"1 returns: a . a\n2 returns: b .\n",
     ),
@@ -112,7 +118,8 @@ static ANSWERS: [Answer; 26] = [
     ),
     (b"S1\nR$*\t$: $>1 $1\n", b"1 a\n", b"1 error: Deep\n"),
     (
-        b"S1\nR$*\t$:$1$1$1$1$1$1$1$1$1$1\nR$*\t$:$1$1$1$1$1$1$1$1$1$1\nR$*\t$:$1$1$1$1$1$1$1$1$1$1\nR$*\t$:$1$1$1\n",
+        b"S1\nR$*\t$:$1$1$1$1$1$1$1$1$1$1\nR$*\t$:$1$1$1$1$1$1$1$1$1$1\n\
+            R$*\t$:$1$1$1$1$1$1$1$1$1$1\nR$*\t$:$1$1$1\n",
         b"1 a\n",
         b"1 error: Long\n",
     ),

@@ -15,10 +15,12 @@ const NOW: u64 = 1_767_225_600;
 const PEER: &[u8] = b"192.0.2.1";
 
 const ASKED: &[u8] =
-    b"HELO c.example\r\nMAIL FROM:<bob@c.example>\r\nRCPT TO:<ann@mx.example>\r\nDATA\r\nSubject: hi\r\n\r\nhello\r\n.\r\nQUIT\r\n";
+    b"HELO c.example\r\nMAIL FROM:<bob@c.example>\r\nRCPT TO:<ann@mx.example>\r\nDATA\r\n\
+        Subject: hi\r\n\r\nhello\r\n.\r\nQUIT\r\n";
 
 const ASKED_TO_MID_DATA: &[u8] =
-    b"HELO c.example\r\nMAIL FROM:<bob@c.example>\r\nRCPT TO:<ann@mx.example>\r\nDATA\r\nSubject: hi\r\n\r\nhel";
+    b"HELO c.example\r\nMAIL FROM:<bob@c.example>\r\nRCPT TO:<ann@mx.example>\r\nDATA\r\n\
+        Subject: hi\r\n\r\nhel";
 
 const READY: &[u8] = b"220 localhost ESMTP ready\r\n";
 
@@ -38,10 +40,12 @@ const ALL_REPLIES: &[&[u8]] = &[READY, HELLO, SENDER, RECIPIENT, ENTER, ACCEPTED
 
 // The files of the message, from this peer, and from one whose address isn't known.
 const CONTROL: &[u8] =
-    b"V1\nv1\ngmqueue\nT1767225600\nK0\nN0\nP30022\nc0\nS<bob@c.example>\n$rSMTP\n$sc.example\n${client_addr}192.0.2.1\nRPFD:<ann@mx.example>\neQ\nHSubject: hi\n.\n";
+    b"V1\nv1\ngmqueue\nT1767225600\nK0\nN0\nP30022\nc0\nS<bob@c.example>\n$rSMTP\n$sc.example\n\
+        ${client_addr}192.0.2.1\nRPFD:<ann@mx.example>\neQ\nHSubject: hi\n.\n";
 
 const CONTROL_OF_NO_PEER: &[u8] =
-    b"V1\nv1\ngmqueue\nT1767225600\nK0\nN0\nP30022\nc0\nS<bob@c.example>\n$rSMTP\n$sc.example\n${client_addr}\nRPFD:<ann@mx.example>\neQ\nHSubject: hi\n.\n";
+    b"V1\nv1\ngmqueue\nT1767225600\nK0\nN0\nP30022\nc0\nS<bob@c.example>\n$rSMTP\n$sc.example\n\
+        ${client_addr}\nRPFD:<ann@mx.example>\neQ\nHSubject: hi\n.\n";
 
 const BODY: &[u8] = b"hello\r\n";
 
