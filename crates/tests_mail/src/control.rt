@@ -20,7 +20,8 @@ static LINES: [&[u8]; 17] = [
     b"${client_addr}",
     b"RPFD:<ann@mx.example>",
     b"eQ",
-    b"HReceived: from c.example by mx.example with ESMTP id w000000000001; Thu, 1 Jan 2026 00:00:00 +0000",
+    b"HReceived: from c.example by mx.example with ESMTP id w000000000001; \
+        Thu, 1 Jan 2026 00:00:00 +0000",
     b"HSubject: hi",
     b".",
 ];

@@ -86,8 +86,13 @@ type Row = (&'static [u8], &'static [u8]);
 /// A stream, and what is said to it.
 static SESSIONS: [Row; 28] = [
     (
-        b"HELO c.example\r\nMAIL FROM:<bob@c.example>\r\nRCPT TO:<ann@mx.example>\r\nDATA\r\nSubject: hi\r\n\r\nhello\r\n.\r\nQUIT\r\n",
-        b"250 localhost Hello\r\n250 2.1.0 Sender ok\r\n250 2.1.5 Recipient ok\r\n354 Enter mail, end with \".\" on a line by itself\r\n+++<bob@c.example><ann@mx.example>{Subject: hi}[hello\r\n] SMTP c.example 10.0.0.1\r\n250 2.0.0 w000000000001 Message accepted for delivery\r\n221 2.0.0 localhost closing connection\r\n",
+        b"HELO c.example\r\nMAIL FROM:<bob@c.example>\r\nRCPT TO:<ann@mx.example>\r\nDATA\r\n\
+            Subject: hi\r\n\r\nhello\r\n.\r\nQUIT\r\n",
+        b"250 localhost Hello\r\n250 2.1.0 Sender ok\r\n250 2.1.5 Recipient ok\r\n\
+            354 Enter mail, end with \".\" on a line by itself\r\n\
+            +++<bob@c.example><ann@mx.example>{Subject: hi}[hello\r\n] SMTP c.example 10.0.0.1\r\n\
+            250 2.0.0 w000000000001 Message accepted for delivery\r\n\
+            221 2.0.0 localhost closing connection\r\n",
     ),
     (b"NOOP\r\n", b"500 5.5.1 Command unrecognized\r\n"),
     (b"EHLO a\r\n", b"500 5.5.1 Command unrecognized\r\n"),
@@ -131,7 +136,9 @@ static SESSIONS: [Row; 28] = [
     (b"MAIL FROM:<a> \t\r\n", b"250 2.1.0 Sender ok\r\n"),
     (
         b"MAIL FROM:<>\r\nMAIL\r\nRCPT TO:<@a:>\r\nRCPT TO:b\r\nRCPT TO:<c>\r\n",
-        b"250 2.1.0 Sender ok\r\n503 5.5.1 Sender already given\r\n553 5.1.3 User address required\r\n250 2.1.5 Recipient ok\r\n452 4.5.3 Too many recipients\r\n",
+        b"250 2.1.0 Sender ok\r\n503 5.5.1 Sender already given\r\n\
+            553 5.1.3 User address required\r\n250 2.1.5 Recipient ok\r\n\
+            452 4.5.3 Too many recipients\r\n",
     ),
     (
         b"MAIL FROM:<a>\r\nHELO b\r\nRCPT TO:<c>\r\n",

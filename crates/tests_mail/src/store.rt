@@ -10,7 +10,8 @@ use std::alloc::Global;
 
 // The control text of an entry whose one row is still tried.
 const CONTROL: &[u8] =
-    b"V1\nv1\ngmqueue\nT1767225600\nK0\nN0\nP30022\nc0\nS<bob@c.example>\n$rESMTP\n$sc.example\n${client_addr}\nRPFD:<ann@mx.example>\neQ\nHSubject: hi\n.\n";
+    b"V1\nv1\ngmqueue\nT1767225600\nK0\nN0\nP30022\nc0\nS<bob@c.example>\n$rESMTP\n$sc.example\n\
+        ${client_addr}\nRPFD:<ann@mx.example>\neQ\nHSubject: hi\n.\n";
 
 const BODY: &[u8] = b"hello\r\n";
 
