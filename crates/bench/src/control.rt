@@ -7,7 +7,8 @@ use qf_format::{parse, print};
 use std::alloc::Global;
 
 const FRONT: &[u8] =
-    b"V1\nv1\ngmqueue\nT1767225600\nK0\nN0\nP30022\nc0\nS<bob@c.example>\n$rESMTP\n$sc.example\n${client_addr}\n";
+    b"V1\nv1\ngmqueue\nT1767225600\nK0\nN0\nP30022\nc0\nS<bob@c.example>\n$rESMTP\n$sc.example\n\
+        ${client_addr}\n";
 
 const ROW: &[u8] = b"RPFD:<ann@mx.example>\neF 5.1.1 550 user unknown\n";
 
