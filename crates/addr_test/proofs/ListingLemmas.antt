@@ -1,4 +1,5 @@
--- Texts in order: what a sort gives, that each list of texts has a listing, and that it has one alone.
+-- Texts in order: what a sort gives, that each list of texts has a listing, and that it has one
+-- alone.
 use Rattle.std.proofs.Common.{◌≡◌, ◌⊎◌, ⊎_elim, ℕ, suc, List, [], ◌∷◌, refl, sym, ap, ◌∙◌, subst, arith, Ordering, Less, Equal, Greater, inl, inr}
 use Rattle.std.specs.Prelude.{nat_eq}
 use Rattle.std.specs.List.{Contains, AllByRecursion, dedup}

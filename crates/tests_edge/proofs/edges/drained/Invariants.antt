@@ -1,4 +1,5 @@
--- What was taken is what the source has lost, a byte at least in each turn, and its count has not fallen.
+-- What was taken is what the source has lost, a byte at least in each turn, and its count has not
+-- fallen.
 use Rattle.std.proofs.Common.{◌≤◌, length}
 use Rattle.mail_edge.specs.Moves.{Loses}
 use Rattle.tests_edge.proofs.edges.drained.Given as goal
