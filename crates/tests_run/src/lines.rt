@@ -112,7 +112,8 @@ const ROWS: &[Row] = &[
     Row {
         config: b"SA\r\n",
         input: b"A\n\n# no\n9 a\n/parse a\n x\r\n/quit\nA b\n",
-        text: b"A returns:\n9 error: NoRuleset\nerror 554 5.3.5 Address does not resolve\nunknown line\n",
+        text: b"A returns:\n9 error: NoRuleset\nerror 554 5.3.5 Address does not resolve\n\
+            unknown line\n",
         ..LINE
     },
     // A list of sets, angles, and an address that can't be cut.
