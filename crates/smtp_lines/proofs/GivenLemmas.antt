@@ -17,7 +17,8 @@ use Rattle.smtp_lines.proofs.ReadingLemmas.{cut-at, reads-length, follows_refuse
 with_first : (line : Line) (lines others all : List Line) → all ≡ line ∷ others → StandsFirst lines others → StandsFirst (line ∷ lines) all
 with_first line lines others all is first = record { later = first.later; is = is ∙ ap (λ l. line ∷ l) first.is }
 
-reading_by-first : (n : ℕ) (mode : Mode) (bytes : List ℕ) (answers : List Bool) (lines : List Line) (last : Mode) (rest : List ℕ) (grants left : List Bool)
+-- lines that are read of bytes, with the answers that follow, stand first among those computed of them
+pub reading_by-first : (n : ℕ) (mode : Mode) (bytes : List ℕ) (answers : List Bool) (lines : List Line) (last : Mode) (rest : List ℕ) (grants left : List Bool)
     → Reads mode bytes answers lines last rest → Follows grants answers left → length lines ≤ n
     → StandsFirst lines (reading_by n mode bytes grants).lines
 reading_by-first n _ _ _ _ _ _ grants left (nothing mode bytes) follows le = record { later = (reading_by n mode bytes grants).lines; is = refl }
@@ -46,7 +47,8 @@ stands-first r s grants left grant st follows =
     let reads = st.reads grant in
     reading_by-first (length s.received) Commands s.received (s.granted ++ awaited r.under.may_turn grant) s.lines _ _ grants left reads follows (reads-length _ _ _ _ _ _ reads)
 
-follows_front : (answers more : List Bool) → Follows (answers ++ more) answers more
+-- answers at the front of a list follow it
+pub follows_front : (answers more : List Bool) → Follows (answers ++ more) answers more
 follows_front [] more = refl
 follows_front (grant ∷ answers) more = (refl, follows_front answers more)
 
