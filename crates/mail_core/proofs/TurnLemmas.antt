@@ -116,7 +116,7 @@ idles_closes d text whole = record { same = refl; quiet = λ s. brings_none s d.
 idles_over : (d : Did) (finish : Finish) → Idles d (is_over d finish)
 idles_over d finish = idles_does d [] (Over finish) (λ s. refl)
 
--- of this session the lines that were answered stand first
+-- of that one session the lines that were answered stand first
 pub record IsKept (g : Guest) (d : Did) : Type 0 where
   pub peer : d.guest.peer ≡ g.peer
   pub received : d.guest.received ≡ g.received
