@@ -2,7 +2,6 @@ mod AimLemmas
 mod BoundLemmas
 mod EndLemmas
 mod OneLemmas
-mod PlaceLemmas
 mod SomeLemmas
 mod TextLemmas
 mod ThroughLemmas

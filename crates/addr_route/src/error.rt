@@ -4,7 +4,7 @@ ghost use Rattle.mail_base.specs.declared.route.Cause.TheVariants.{BadScan, Unkn
 ghost use Rattle.addr_route.specs.Errors as spec;
 ghost use Rattle.addr_route.specs.inner.Texts.{name_in};
 
-use mail_base::{Cause, NoMemory, RouteError, Status, Text, TryCopy};
+use mail_base::{Cause, NoMemory, RouteError, Status, Text, TryCopy, blanked};
 use std::alloc::Global;
 
 // A code, a status, and the text behind them up to the name that a cause may hold.
@@ -126,14 +126,4 @@ pub fn push_blanked(text: &mut Text, bytes: &[u8]) -> Result<(), NoMemory>
         text.push(blanked(*byte))?;
     }
     Ok(())
-}
-
-fn blanked(byte: u8) -> u8
-    ensures { result ≡ blanked byte }
-{
-    if byte == b'\n' || byte == b'\r' {
-        b' '
-    } else {
-        byte
-    }
 }

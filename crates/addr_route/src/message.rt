@@ -125,7 +125,7 @@ fn status_end(text: &[u8]) -> Option<usize>
     }
 }
 
-#[tactic(auto, using(crate::proofs::PlaceLemmas::first_is_position))]
+#[tactic(auto, using(mail_base::proofs::Dots::first_is_position))]
 fn first_blank(text: &[u8]) -> Option<usize>
     ensures place { result ≡ position (λ byte. byte == 32) text.now }
     ensures within { IfSome result (λ place. place < length text.now) }

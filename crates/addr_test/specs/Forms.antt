@@ -35,9 +35,6 @@ pub data Form : Type 0 where
 
 -- ---- words and names
 
-abbrev pub without_whites : List ℕ → List ℕ
-without_whites text = drop (prefix_len is_white text) text
-
 -- what stands before the first white space, and what stands behind that white space
 abbrev pub split_word : List ℕ → List ℕ × List ℕ
 split_word text = (

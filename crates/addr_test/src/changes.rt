@@ -6,7 +6,6 @@ ghost use Rattle.addr_tokens.specs.Members.{words_or_none};
 ghost use Rattle.addr_test.specs.Words.{class_words};
 
 use crate::printing::line_of;
-use crate::words::words;
 use addr_tokens::{any_refused, members};
 use cf_macros::{ExpandFault, expand};
 use mail_base::{Config, Macros, NoMemory, Seq, Text};
@@ -82,7 +81,7 @@ fn words_of(alloc: Global, text: &[u8], macros: &Macros) -> Result<Option<Seq<Te
 fn taken(alloc: Global, text: &Text) -> Result<Option<Seq<Text>>, NoMemory>
     ensures { IfOk result (λ words. words ≡ words_or_none (all_words text.now)) }
 {
-    let words = words(alloc, text.bytes())?;
+    let words = mail_base::words_of(alloc, text.bytes())?;
     if any_refused(alloc, words.items())? {
         return Ok(None);
     }

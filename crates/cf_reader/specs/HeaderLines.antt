@@ -1,8 +1,8 @@
 -- H lines, by what follows the letter (Sendmail Installation and Operation Guide, "H: Define
 -- Header"; that blanks at both ends of the name go is our own).
-use Rattle.std.specs.Prelude.{◌≡◌, ◌==◌, ◌++◌, ℕ, Bool, true, not, nat_eq, is_some, List, [], ◌∷◌, drop, Option, None, Some, if◌then◌else◌, codes, refl}
-use Rattle.std.specs.List.{prefix_len, starts_with}
-use Rattle.mail_base.specs.Texts.{is_blank}
+use Rattle.std.specs.Prelude.{◌≡◌, ◌==◌, ◌++◌, ℕ, Bool, true, not, nat_eq, is_some, List, [], ◌∷◌, Option, None, Some, if◌then◌else◌, codes, refl}
+use Rattle.std.specs.List.{starts_with}
+use Rattle.mail_base.specs.Texts.{without_blanks}
 use Rattle.mail_base.specs.declared.lines.HeaderLine.{HeaderLine}
 use Rattle.cf_values.specs.Flags.{flags_of}
 use Rattle.cf_reader.specs.Cuts.{cut_at}
@@ -29,10 +29,6 @@ is_bad_header text = lacks_colon (flagged text)
 -- the fault of an H line, if it has one
 abbrev pub fault_of_header : List ℕ → Option Fault
 fault_of_header text = first_fault ((BadHeader, is_bad_header text) ∷ [])
-
--- without the blanks at the front
-abbrev pub without_blanks : List ℕ → List ℕ
-without_blanks text = drop (prefix_len is_blank text) text
 
 -- a template that names rulesets begins with `$>`; white space before that doesn't count
 abbrev pub calls_rules : List ℕ → Bool

@@ -4,7 +4,6 @@ ghost use Rattle.cf_reader.specs.ClassLines.{class_of, fault_of_class, text_in, 
 ghost use Rattle.cf_reader.specs.Reads.{Reads, Opens};
 
 use crate::fault::{Fault, LineStop};
-use crate::words::words;
 use addr_tokens::any_refused;
 use cf_macros::{ExpandFault, expand, split_name};
 use mail_base::{Macros, Seq, Text};
@@ -33,7 +32,7 @@ fn words_of(alloc: Global, text: &[u8], macros: &Macros) -> Result<Seq<Text>, Li
 {
     let text = Text::of(alloc, text)?;
     let given = expanded(alloc, &text, macros)?;
-    let words = words(alloc, given.bytes())?;
+    let words = mail_base::words_of(alloc, given.bytes())?;
     if any_refused(alloc, words.items())? {
         return Err(LineStop::Refused(Fault::BadPattern));
     }

@@ -9,10 +9,9 @@ ghost use Rattle.cf_reader.specs.inner.Steps.{IsRead, class_in};
 
 use crate::class_line::ClassLine;
 use crate::fault::{Fault, LineStop};
-use crate::words::{push_words, words};
 use bstr::ByteSlice;
 use cf_macros::split_name;
-use mail_base::{EdgeFault, NoMemory, Seq, Text, TryCopy, split_line};
+use mail_base::{EdgeFault, NoMemory, Seq, Text, TryCopy, push_words, split_line, words_of};
 use mail_edge::Files;
 use std::alloc::Global;
 
@@ -80,7 +79,7 @@ fn words_in(alloc: Global, name: &[u8], text: &[u8]) -> Result<ClassLine, NoMemo
 fn wanted_in(alloc: Global, text: &[u8]) -> Result<Wanted, NoMemory>
     ensures { IfOk result (λ wanted. wanted ≡ spec.wanted_by (words_of text.now)) }
 {
-    let words = words(alloc, text)?;
+    let words = words_of(alloc, text)?;
     wanted_by(alloc, words.items())
 }
 

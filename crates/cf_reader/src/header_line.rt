@@ -1,5 +1,4 @@
 ghost use Rattle.std.specs.Prelude.{◌≡◌, option_map, IfOk};
-ghost use Rattle.mail_base.specs.Texts.{is_blank};
 ghost use Rattle.cf_values.specs.Flags.{flags_of};
 ghost use Rattle.cf_reader.specs.Reads.{Reads};
 ghost use Rattle.cf_reader.specs.HeaderLines.{fault_of_header, header_of};
@@ -9,7 +8,7 @@ use crate::cuts::cut_at;
 use crate::fault::{Fault, LineStop};
 use crate::words::stripped;
 use cf_values::flags;
-use mail_base::{HeaderLine, NoMemory, Text, is_blank};
+use mail_base::{HeaderLine, NoMemory, Text, without_blanks};
 use std::alloc::Global;
 
 /// The header that an H line declares, by what follows the letter: `?flags?Name: template` or
@@ -60,15 +59,4 @@ fn flags_in(alloc: Global, text: &[u8]) -> Result<Text, NoMemory>
     ensures { IfOk result (λ flags. flags ≡ flags_of text.now) }
 {
     flags(alloc, &Text::of(alloc, text)?)
-}
-
-fn without_blanks(text: &[u8]) -> &[u8]
-    ensures { result.now ≡ spec.without_blanks text.now }
-{
-    for (index, byte) in text.iter().enumerate() {
-        if !is_blank(*byte) {
-            return &text[index..];
-        }
-    }
-    &[]
 }

@@ -10,9 +10,9 @@ use crate::fault::{Fault, LineStop};
 use crate::fields::{Field, line_fields, line_name};
 use crate::mailer_field::{MailerField, has_bad_field, has_unknown};
 use crate::values::{if_some, number_of};
-use crate::words::{stripped, words};
+use crate::words::stripped;
 use cf_values::flags;
-use mail_base::{Mailer, NoMemory, Seq, Text, TryCopy};
+use mail_base::{Mailer, NoMemory, Seq, Text, TryCopy, words_of};
 use std::alloc::Global;
 
 /// The mailer of an M line, by what follows the letter.
@@ -78,7 +78,7 @@ fn set_field(alloc: Global, mailer: &mut Mailer, field: &Field) -> Result<(), No
         Some(MailerField::Flags) => mailer.flags = flags(alloc, value)?,
         Some(MailerField::Sender) => set_sender(alloc, mailer, value)?,
         Some(MailerField::Recipient) => set_recipient(alloc, mailer, value)?,
-        Some(MailerField::Args) => mailer.args = words(alloc, value.bytes())?,
+        Some(MailerField::Args) => mailer.args = words_of(alloc, value.bytes())?,
         Some(MailerField::LineEnd) => mailer.line_end = line_end(alloc, value)?,
         Some(MailerField::Most) => mailer.most = number_of(value),
         Some(MailerField::Group) => mailer.group = if_some(alloc, value.bytes())?,

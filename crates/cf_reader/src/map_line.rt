@@ -7,9 +7,8 @@ ghost use Rattle.cf_reader.specs.MapLines as spec;
 
 use crate::fault::{Fault, LineStop};
 use crate::map_lines::MapLines;
-use crate::words::words;
 use cf_values::{computed_values, number};
-use mail_base::{MapClass, MapLine, NoMemory, Seq, Text, TryCopy};
+use mail_base::{MapClass, MapLine, NoMemory, Seq, Text, TryCopy, words_of};
 use std::alloc::Global;
 
 /// The map that a K line declares, by what follows the letter, behind the K lines before it.
@@ -19,7 +18,7 @@ use std::alloc::Global;
 pub(crate) fn map(alloc: Global, text: &[u8], maps: &MapLines) -> Result<MapLine, LineStop>
     ensures { Reads result (fault_of_map text.now maps.now) (map_of text.now maps.now) }
 {
-    let words = words(alloc, text)?;
+    let words = words_of(alloc, text)?;
     match words.items() {
         [name, class, args @ ..] => {
             let (letters, operands) = args.split_at(letters_len(args));

@@ -1,6 +1,7 @@
 -- The forms of texts (RFC 5321, sections 2.3.8 and 4.1.2; RFC 5322, sections 2.1 and 2.2.3; that a
 -- line is any bytes but its end is our own).
-use Rattle.std.specs.Prelude.{◌≡◌, ◌≢◌, ◌⊎◌, ◌||◌, ◌==◌, ◌++◌, ℕ, ◌+◌, ◌-◌, ◌<◌, Bool, List, [], ◌∷◌, All, length, slice_index, codes, refl}
+use Rattle.std.specs.Prelude.{◌≡◌, ◌≢◌, ◌⊎◌, ◌||◌, ◌==◌, ◌++◌, ℕ, ◌+◌, ◌-◌, ◌<◌, Bool, List, [], ◌∷◌, All, length, take, drop, slice_index, codes, refl}
+use Rattle.std.specs.List.{list_any, prefix_len, suffix_len}
 use Rattle.std.specs.Str.Lines.{lines}
 use Rattle.mail_base.specs.Notes.{IsLineByte}
 
@@ -15,6 +16,21 @@ is_blank b = b == 32 || b == 9
 -- a space or a tab
 abbrev pub IsBlank : ℕ → Type 0
 IsBlank b = (b ≡ 32) ⊎ (b ≡ 9)
+
+-- a text without the blanks at its front
+abbrev pub without_blanks : List ℕ → List ℕ
+without_blanks text = drop (prefix_len is_blank text) text
+
+-- a text without the blanks at both ends
+abbrev pub trimmed : List ℕ → List ℕ
+trimmed text = let rest = without_blanks text in take (length rest - suffix_len is_blank rest) rest
+
+-- an LF, as a test, and whether a text has one
+abbrev pub is_lf : ℕ → Bool
+is_lf b = b == 10
+
+abbrev pub has_lf : List ℕ → Bool
+has_lf text = list_any is_lf text
 
 -- a text of one line has no LF
 abbrev pub IsLine : List ℕ → Type 0
@@ -43,5 +59,6 @@ IsHeader header = (k : ℕ) → slice_index header k ≡ 10 → IsBlank (slice_i
 abbrev pub lines_of_header : List ℕ → List (List ℕ)
 lines_of_header header = lines header
 
-example : lines_of_header (codes "To: a," ++ crlf ++ codes " b") ≡ codes "To: a," ∷ codes " b" ∷ []
-example = refl
+example : (lines_of_header (codes "To: a," ++ crlf ++ codes " b") ≡ codes "To: a," ∷ codes " b" ∷ [])
+    × (trimmed (codes " a b\t") ≡ codes "a b")
+example = (refl, refl)

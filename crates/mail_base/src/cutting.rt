@@ -1,8 +1,8 @@
-ghost use Rattle.std.specs.Prelude.{◌≡◌, ◌<◌, ◌∷◌, length, map, IfOk};
+ghost use Rattle.std.specs.Prelude.{◌≡◌, ◌<◌, ◌∷◌, ◌++◌, length, map, IfOk, OnOk};
 ghost use Rattle.std.specs.Str.Lines.{lines, strip_carriage_return};
 ghost use Rattle.mail_base.specs.Words.{words_of};
 
-use crate::{NoMemory, is_white};
+use crate::{NoMemory, Seq, Text, is_white};
 use bstr::ByteSlice;
 use std::alloc::Global;
 
@@ -39,4 +39,40 @@ pub fn words(alloc: Global, text: &[u8]) -> Result<Vec<&[u8]>, NoMemory>
         .filter(|word| !word.is_empty())
         .collect(alloc)?;
     Ok(words)
+}
+
+/// The words of a text, each as a text of its own.
+pub fn words_of(alloc: Global, text: &[u8]) -> Result<Seq<Text>, NoMemory>
+    ensures { IfOk result (λ words. words ≡ words_of text.now) }
+{
+    let slices = words(alloc, text)?;
+    texts_of(alloc, slices.as_slice())
+}
+
+/// Adds the words of a text at the end.
+pub fn push_words(alloc: Global, text: &[u8], to: &mut Seq<Text>) -> Result<(), NoMemory>
+    ensures { OnOk result (to.new ≡ to.old ++ words_of text.now) }
+{
+    let slices = words(alloc, text)?;
+    push_texts(alloc, slices.as_slice(), to)?;
+    Ok(())
+}
+
+/// The texts of these slices.
+pub fn texts_of(alloc: Global, slices: &[&[u8]]) -> Result<Seq<Text>, NoMemory>
+    ensures { IfOk result (λ texts. texts ≡ map (λ slice. slice.now) slices.now) }
+{
+    let mut texts = Seq::new(alloc);
+    push_texts(alloc, slices, &mut texts)?;
+    Ok(texts)
+}
+
+// Adds the texts of these slices at the end.
+fn push_texts(alloc: Global, slices: &[&[u8]], texts: &mut Seq<Text>) -> Result<(), NoMemory>
+    ensures { OnOk result (texts.new ≡ texts.old ++ map (λ slice. slice.now) slices.now) }
+{
+    for slice in slices {
+        texts.push(Text::of(alloc, slice)?)?;
+    }
+    Ok(())
 }

@@ -15,6 +15,7 @@ mod config;
 mod control;
 mod cutting;
 mod draw;
+mod ends;
 mod fault;
 mod id;
 mod limits;
@@ -36,15 +37,16 @@ mod try_copy;
 
 pub use book::Book;
 pub use buckets::Buckets;
-pub use byte::{is_blank, is_white};
+pub use byte::{blanked, is_blank, is_white};
 pub use catalog::Catalog;
 pub use class::Member;
 pub use classes::Classes;
 pub use command::{Command, LineFault, Verb};
 pub use config::Config;
 pub use control::{Control, Draft, Entry, Parent, Row, State, Stray};
-pub use cutting::{split_line, without_return, words};
+pub use cutting::{push_words, split_line, texts_of, without_return, words, words_of};
 pub use draw::{Draw, Draws};
+pub use ends::{trimmed, whites_length, without_blanks, without_whites, word_length};
 pub use fault::{EdgeFault, Failed, JudgeFault, NoMemory, StoreFault};
 pub use id::{Id, Kind, Name};
 pub use limits::{

@@ -2,7 +2,7 @@ ghost use Rattle.std.specs.Prelude.{◌≡◌, ◌≤◌, ◌<◌, ◌↔◌, Al
 ghost use Rattle.mail_base.specs.Notes.{IsLineByte, IsNote, blanked, noted};
 
 use crate::bounded::filled;
-use crate::{NoMemory, TryCopy};
+use crate::{NoMemory, TryCopy, blanked};
 use arrayvec::ArrayVec;
 use std::marker::Model;
 
@@ -92,19 +92,9 @@ fn line_of(bytes: &[u8]) -> ArrayVec<u8, 512>
 {
     let mut line = ArrayVec::new();
     for byte in bytes {
-        line.push(blank_of(*byte));
+        line.push(blanked(*byte));
     }
     line
-}
-
-fn blank_of(byte: u8) -> u8
-    ensures { result ≡ blanked byte }
-{
-    if byte == b'\n' || byte == b'\r' {
-        b' '
-    } else {
-        byte
-    }
 }
 
 impl TryCopy for Note {

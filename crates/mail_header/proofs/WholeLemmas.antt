@@ -5,7 +5,8 @@ use Rattle.std.proofs.lemmas.Bool.{cond-true, cond-false, cases_Bool, and_parts,
 use Rattle.std.proofs.lemmas.List.{append_assoc, append-nil, length-append, length-take, length-drop, take_more, get_or_at}
 use Rattle.std.proofs.lemmas.List.Sums.{split_at_first, prefix_len_is}
 use Rattle.bstr.specs.Find.{IsFirstByte, is_byte}
-use Rattle.mail_base.specs.Texts.{crlf}
+use Rattle.mail_base.specs.Texts.{crlf, is_lf, has_lf}
+use Rattle.mail_base.proofs.FeedLemmas.{tails, first_lf, no_lf, cut_lf}
 use Rattle.mail_header.specs.Headers.{is_plain, is_header, is_continuation, IsFolded, last_fold, one_fold, IsHeaderText, unfolded, folded, AreHeaders, no_headers, one_header, with_end, text_of, is_some_line, IsBody, behind_empty_line, at_once, has_crlf}
 use Rattle.mail_header.specs.inner.Added.{onto_last, header_added}
 use Rattle.mail_header.specs.Lines.{belongs}
@@ -14,41 +15,6 @@ use Rattle.mail_header.proofs.GrammarLemmas.{first_crlf, header_plain, fold_plai
 
 -- ---- LF
 
-abbrev is_lf : ℕ → Bool
-is_lf b = b == 10
-
-abbrev has_lf : List ℕ → Bool
-has_lf text = list_any is_lf text
-
-heads : (x y : ℕ) (xs ys : List ℕ) → x ∷ xs ≡ y ∷ ys → x ≡ y
-heads x y xs ys e = cc
-
-tails : (x y : ℕ) (xs ys : List ℕ) → x ∷ xs ≡ y ∷ ys → xs ≡ ys
-tails x y xs ys e = cc
-
-first_lf : (one other xs ys : List ℕ) → has_lf one ≡ false → has_lf other ≡ false → one ++ 10 ∷ xs ≡ other ++ 10 ∷ ys → one ≡ other
-first_lf [] [] xs ys a b e = refl
-first_lf [] (d ∷ other) xs ys a b e = absurd (eqb-false d 10 (or_parts (is_lf d) (has_lf other) b).0 (sym (heads 10 d xs (other ++ 10 ∷ ys) e)))
-first_lf (c ∷ one) [] xs ys a b e = absurd (eqb-false c 10 (or_parts (is_lf c) (has_lf one) a).0 (heads c 10 (one ++ 10 ∷ xs) ys e))
-first_lf (c ∷ one) (d ∷ other) xs ys a b e =
-    let same = heads c d (one ++ 10 ∷ xs) (other ++ 10 ∷ ys) e in
-    let rest = first_lf one other xs ys (or_parts (is_lf c) (has_lf one) a).1 (or_parts (is_lf d) (has_lf other) b).1 (tails c d (one ++ 10 ∷ xs) (other ++ 10 ∷ ys) e) in
-    λ i. same i ∷ rest i
-
-lf_more : (b : ℕ) (text : List ℕ) → is_lf b ≡ false → position_or_len is_lf (b ∷ text) ≡ suc (position_or_len is_lf text)
-lf_more b text other = cond-true (not (is_lf b)) (1 + position_or_len is_lf text) 0 (not_from_false _ other) ∙ omega arith
-
-lf_stop : (b : ℕ) (text : List ℕ) → is_lf b ≡ true → position_or_len is_lf (b ∷ text) ≡ 0
-lf_stop b text is = cond-false (not (is_lf b)) (1 + position_or_len is_lf text) 0 (not_from_true _ is)
-
-before_lf : (text : List ℕ) → has_lf (take (position_or_len is_lf text) text) ≡ false
-before_lf [] = refl
-before_lf (b ∷ text) =
-    ⊎_elim
-    (λ is. ap (λ n. has_lf (take n (b ∷ text))) (lf_stop b text is))
-    (λ other. ap (λ n. has_lf (take n (b ∷ text))) (lf_more b text other) ∙ or_from _ _ other (before_lf text))
-    (cases_Bool (is_lf b))
-
 lf_here : (line more : List ℕ) → has_lf (line ++ 10 ∷ more) ≡ true
 lf_here [] more = refl
 lf_here (b ∷ line) more = ap (λ t. is_lf b || t) (lf_here line more) ∙ or_true (is_lf b)
@@ -56,34 +22,6 @@ lf_here (b ∷ line) more = ap (λ t. is_lf b || t) (lf_here line more) ∙ or_t
     or_true : (b : Bool) → (b || true) ≡ true
     or_true true = refl
     or_true false = refl
-
-passes : (found : Bool) → (found ≡ true → ⊥) → not found ≡ true
-passes true never = absurd (never refl)
-passes false never = refl
-
-at_lf : (text : List ℕ) (k : ℕ) → IsFirstByte (is_byte 10) text (Some k) → position_or_len is_lf text ≡ k
-at_lf text k found =
-    let low : k < length text = found.0.high in
-    prefix_len_is (λ b. not (is_lf b)) text k 0 (omega arith) (λ j lt. passes _ (found.0.before j (omega arith) lt)) (λ lt. not_from_true _ found.1)
-
-no_lf : (text : List ℕ) → IsFirstByte (is_byte 10) text None → has_lf text ≡ false
-no_lf text none =
-    let all = prefix_len_is (λ b. not (is_lf b)) text (length text) 0 (omega arith) (λ j lt. passes _ (none j (omega arith) lt)) (λ lt. absurd (omega arith)) in
-    sym (ap (λ n. has_lf (take n text)) all ∙ ap (λ t. has_lf t) (all_of text)) ∙ before_lf text
-  where
-    all_of : (text : List ℕ) → take (length text) text ≡ text
-    all_of [] = refl
-    all_of (b ∷ text) = ap (λ t. b ∷ t) (all_of text)
-
-cut_lf : (text : List ℕ) (k : ℕ) → IsFirstByte (is_byte 10) text (Some k) → (text ≡ take k text ++ 10 ∷ drop (k + 1) text) × (has_lf (take k text) ≡ false)
-cut_lf text k found =
-    let at : position_or_len is_lf text ≡ k = at_lf text k found in
-    let high : k < length text = found.0.high in
-    let low : position_or_len is_lf text < length text = omega arith in
-    let is : get_or text k 0 ≡ 10 = eqb-true _ _ found.1 in (
-      split_at_first is_lf text 0 low ∙ (λ i. take (at i) text ++ get_or text (at i) 0 ∷ drop (at i + 1) text) ∙ ap (λ b. take k text ++ b ∷ drop (k + 1) text) is,
-      ap (λ n. has_lf (take n text)) (sym at) ∙ before_lf text,
-    )
 
 plain_no_lf : (line : List ℕ) → list_all is_plain line ≡ true → has_lf line ≡ false
 plain_no_lf [] h = refl
@@ -131,7 +69,7 @@ module _ (begun : Bool) (text : List ℕ) where
   before : (k : ℕ) → IsFirstByte (is_byte 10) text (Some k) → (line more : List ℕ) → list_all is_plain line ≡ true → text ≡ line ++ (crlf ++ more) → take k text ≡ line ++ 13 ∷ []
   before k found line more plain e =
       let cut = cut_lf text k found in
-      first_lf (take k text) (line ++ 13 ∷ []) (drop (k + 1) text) more cut.1 (cr_no_lf line (plain_no_lf line plain)) (sym cut.0 ∙ e ∙ sym (append_assoc line (13 ∷ []) (10 ∷ more)))
+      (first_lf (take k text) (line ++ 13 ∷ []) (drop (k + 1) text) more cut.1 (cr_no_lf line (plain_no_lf line plain)) (sym cut.0 ∙ e ∙ sym (append_assoc line (13 ∷ []) (10 ∷ more)))).0
 
   -- a text whose first LF has no CR before it begins with no line of the headers
   pub none_cr : (k : ℕ) → IsFirstByte (is_byte 10) text (Some k) → (0 < k → get_or text (k - 1) 0 ≡ 13 → ⊥) → NoLine begun text

@@ -1,9 +1,9 @@
 -- What a message's headers say (RFC 5322, sections 2.2, 3.6.1 and 3.6.7; RFC 5321, section 6.3;
 -- Sendmail Installation and Operation Guide, "P: Precedence Definitions").
 use Rattle.std.specs.Prelude.{◌≡◌, ℕ, ℤ, pos, ◌-◌, slice_index, ◌==◌, Bool, List, [], ◌∷◌, length, take, drop, Option, Some, None, option_map, option_and_then, unwrap_or, find, count_by, if◌then◌else◌, codes, refl}
-use Rattle.std.specs.List.{prefix_len, suffix_len, before_first, after_first}
+use Rattle.std.specs.List.{before_first, after_first}
 use Rattle.std.specs.Str.{str_eq_ignore_ascii_case}
-use Rattle.mail_base.specs.Texts.{is_blank}
+use Rattle.mail_base.specs.Texts.{trimmed}
 use Rattle.mail_base.specs.declared.lines.Precedence.{Precedence}
 use Rattle.cf_macros.specs.declared.form.Form.TheVariants.{Mail}
 use Rattle.cf_macros.specs.Dates.{IsDateText}
@@ -21,11 +21,6 @@ value_of header = after_first is_colon header
 -- a header has this name, whatever its case
 abbrev pub is_named : List ℕ → List ℕ → Bool
 is_named name header = str_eq_ignore_ascii_case (name_of header) name
-
--- without spaces and tabs at both ends
-abbrev pub trimmed : List ℕ → List ℕ
-trimmed text = let rest = drop (prefix_len is_blank text) text in
-    take (length rest - suffix_len is_blank rest) rest
 
 abbrev pub is_feed : ℕ → Bool
 is_feed b = b == 10
@@ -72,6 +67,5 @@ IsDate None created text = IsDateText Mail created text
 IsDate (Some told) created text = text ≡ told
 
 example : (name_of (codes "To: a:b ") ≡ codes "To") × (value_of (codes "To: a:b ") ≡ codes " a:b ")
-    × (trimmed (codes " a b ") ≡ codes "a b")
     × (first_line (97 ∷ 13 ∷ 10 ∷ 32 ∷ 98 ∷ []) ≡ codes "a")
-example = (refl, refl, refl, refl)
+example = (refl, refl, refl)

@@ -1,13 +1,12 @@
 ghost use Rattle.std.specs.Prelude.{◌≡◌, ◌==◌, ◌≤◌, ◌<◌, ◌-◌, ◌^◌, length, slice_index, option_map, find, IfOk, codes};
-ghost use Rattle.std.specs.List.{position_or_len, prefix_len, suffix_len};
+ghost use Rattle.std.specs.List.{position_or_len};
 ghost use Rattle.std.specs.Option.{option_copied};
 ghost use Rattle.std.specs.Str.{str_eq_ignore_ascii_case};
-ghost use Rattle.mail_base.specs.Texts.{is_blank};
 ghost use Rattle.mail_header.specs.Fields as spec;
 
 use bstr::ByteSlice;
 use cf_macros::{Form, date};
-use mail_base::{Config, NoMemory, Precedence, Seq, Text};
+use mail_base::{Config, NoMemory, Precedence, Seq, Text, trimmed};
 
 /// How many headers have the name `Received`, without case (RFC 5321, section 6.3). It takes no
 /// memory.
@@ -169,29 +168,4 @@ fn ends_in_return(text: &[u8]) -> bool
     ensures { result ≡ (slice_index text.now (length text.now - 1) == 13) }
 {
     !text.is_empty() && text[text.len() - 1] == b'\r'
-}
-
-fn trimmed(text: &[u8]) -> &[u8]
-    ensures { result.now ≡ spec.trimmed text.now }
-{
-    let rest = &text[blanks_length(text)..];
-    &rest[..last_end(rest)]
-}
-
-fn blanks_length(text: &[u8]) -> usize
-    ensures length { result ≡ prefix_len is_blank text.now }
-    ensures within { result ≤ length text.now }
-{
-    text.find_not_byteset(b" \t").unwrap_or(text.len())
-}
-
-/// Where the last byte that isn't blank ends, or 0 where none is.
-fn last_end(text: &[u8]) -> usize
-    ensures end { result ≡ length text.now - suffix_len is_blank text.now }
-    ensures within { result ≤ length text.now }
-{
-    match text.rfind_not_byteset(b" \t") {
-        Some(place) => place + 1,
-        None => 0,
-    }
 }

@@ -1,14 +1,15 @@
 -- The tables of map files (Sendmail Installation and Operation Guide, K: the classes text, hash and
 -- btree; makemap(8)).
 use Rattle.std.specs.Prelude.{◌≡◌, ℕ, Bool, List, [], ◌∷◌, ◌++◌, Option, None, Some, is_some, drop, fold, bytes_eq, unwrap_or, option_map, slice_get, if◌then◌else◌, codes, refl, true, false}
-use Rattle.std.specs.List.{find, filter_map, prefix_len, take_while}
+use Rattle.std.specs.List.{before_first, find, filter_map, position_or_len}
 use Rattle.std.specs.Str.{str_to_ascii_lowercase}
 use Rattle.std.specs.Str.Lines.{lines}
 use Rattle.mail_base.specs.Catalogs.{value_at}
+use Rattle.mail_base.specs.Whites.{is_white, without_whites}
 use Rattle.mail_base.specs.declared.lines.MapClass.{MapClass}
 use Rattle.mail_base.specs.declared.lines.MapClass.TheVariants.{Text as TextClass, Hash, Btree}
 use Rattle.mail_base.specs.declared.lines.MapLine.{MapLine}
-use Rattle.map_tables.specs.Marks.{is_black, is_silent, without_margin}
+use Rattle.map_tables.specs.Marks.{is_silent}
 use Rattle.map_tables.specs.Words.{columns}
 use Rattle.map_tables.specs.declared.files.MapFile.{MapFile}
 use Rattle.map_tables.specs.declared.named.Named.{Named}
@@ -17,7 +18,10 @@ use Rattle.map_tables.specs.declared.table.Table.{Table}
 -- a line of a hash or btree file: a key up to white space, and the rest behind that
 abbrev pub word_pair : List ℕ → Option (List ℕ × List ℕ)
 word_pair line = if is_silent line then None
-    else Some (take_while is_black line, without_margin (drop (prefix_len is_black line) line))
+    else Some (
+      before_first is_white line,
+      without_whites (drop (position_or_len is_white line) line),
+    )
 
 -- a key and a value, where both are there
 abbrev pub both : Option (List ℕ) → Option (List ℕ) → Option (List ℕ × List ℕ)

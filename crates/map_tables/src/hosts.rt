@@ -5,7 +5,7 @@ ghost use Rattle.std.specs.Str.{str_eq_ignore_ascii_case};
 ghost use Rattle.map_tables.specs.Hosts.{before_comment, has_name, host_line, host_lines, host_of};
 
 use bstr::ByteSlice;
-use mail_base::{NoMemory, Seq, Text, split_line, words};
+use mail_base::{NoMemory, Seq, Text, split_line, texts_of, words};
 use std::alloc::Global;
 
 /// A line of the host table.
@@ -77,18 +77,8 @@ fn host_of(alloc: Global, words: &[&[u8]]) -> Result<Option<HostLine>, NoMemory>
         [address, name, aliases @ ..] => Ok(Some(HostLine {
             address: Text::of(alloc, address)?,
             name: Text::of(alloc, name)?,
-            aliases: texts(alloc, aliases)?,
+            aliases: texts_of(alloc, aliases)?,
         })),
         _ => Ok(None),
     }
-}
-
-fn texts(alloc: Global, words: &[&[u8]]) -> Result<Seq<Text>, NoMemory>
-    ensures { IfOk result (λ texts. texts ≡ map (λ word. word.now) words.now) }
-{
-    let mut texts = Seq::new(alloc);
-    for word in words {
-        texts.push(Text::of(alloc, word)?)?;
-    }
-    Ok(texts)
 }

@@ -1,7 +1,6 @@
-ghost use Rattle.std.specs.Prelude.{◌≡◌, ◌<◌, ◌≤◌, length, slice_get, option_map};
-ghost use Rattle.std.specs.List.{prefix_len};
+ghost use Rattle.std.specs.Prelude.{◌≡◌, slice_get, option_map};
 ghost use Rattle.mail_base.specs.Words.{words_of};
-ghost use Rattle.map_tables.specs.Marks.{begins_with, is_black, without_margin};
+ghost use Rattle.map_tables.specs.Marks.{begins_with};
 ghost use Rattle.map_tables.specs.Words as spec;
 
 use mail_base::is_white;
@@ -33,29 +32,4 @@ pub(crate) fn begins_with(text: &[u8], byte: u8) -> bool
         Some(first) => *first == byte,
         None => false,
     }
-}
-
-/// How many bytes the word at the front has, which may be none.
-pub(crate) fn word_len(line: &[u8]) -> usize
-    ensures len { result ≡ prefix_len is_black line.now }
-    ensures within { result ≤ length line.now }
-{
-    for (index, byte) in line.iter().enumerate() {
-        if is_white(*byte) {
-            return index;
-        }
-    }
-    line.len()
-}
-
-/// What stands behind the white space at the front.
-pub(crate) fn without_margin(line: &[u8]) -> &[u8]
-    ensures { result.now ≡ without_margin line.now }
-{
-    for (index, byte) in line.iter().enumerate() {
-        if !is_white(*byte) {
-            return &line[index..];
-        }
-    }
-    &[]
 }

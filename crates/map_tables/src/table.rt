@@ -9,9 +9,12 @@ ghost use Rattle.map_tables.specs.Tables as spec;
 ghost use Rattle.map_tables.specs.inner.FilePlaces.{first_places};
 
 use crate::Named;
-use crate::lines::{begins_with, column, without_margin, word_len};
+use crate::lines::{begins_with, column};
 use crate::texts::text_of;
-use mail_base::{Catalog, MapClass, MapLine, NoMemory, Seq, Text, TryCopy, is_white, split_line};
+use mail_base::{
+    Catalog, MapClass, MapLine, NoMemory, Seq, Text, TryCopy, is_white, split_line, without_whites,
+    word_length,
+};
 use std::alloc::Global;
 
 /// A K line with the table of its file.
@@ -127,8 +130,8 @@ fn word_pair(alloc: Global, line: &[u8]) -> Result<Option<(Text, Text)>, NoMemor
     if is_silent(line) {
         return Ok(None);
     }
-    let end = word_len(line);
-    let value = without_margin(&line[end..]);
+    let end = word_length(line);
+    let value = without_whites(&line[end..]);
     Ok(Some((Text::of(alloc, &line[..end])?, Text::of(alloc, value)?)))
 }
 

@@ -4,7 +4,7 @@ use Rattle.std.specs.List.{position_or_len}
 use Rattle.std.proofs.lemmas.Bool.{and_from, and_right, cond-true, cond-false, ne_eqb, eq-eqb, lt-ltb, le-ltb}
 use Rattle.bstr.specs.Find.{IsFirstByte, IsLastByte, is_byte}
 use Rattle.smtp_lines.specs.Paths.{is_colon, has_route, without_route, is_at, last_at_end, local_part}
-use Rattle.smtp_lines.proofs.SearchLemmas.{front_some, front_none, back_some, back_none, byte_found}
+use Rattle.mail_base.proofs.SearchLemmas.{front_some, front_none, back_some, back_none, byte_found}
 
 colon_at : (path : List ℕ) (k : ℕ) → IsFirstByte (is_byte 58) path (Some k) → position_or_len is_colon path ≡ k
 colon_at path k found = front_some (is_byte 58) (λ b. not (is_colon b)) (byte_found 58) path k found

@@ -5,12 +5,11 @@ use Rattle.std.specs.Str.{str_eq_ignore_ascii_case}
 use Rattle.std.proofs.lemmas.Bool.{cond-true, cond-false, cases_Bool, eqb-true, eqb-false, ne_eqb, or_left, or_parts, not_from_true, not_from_false, not-true, ltb-true, lt-ltb}
 use Rattle.std.proofs.lemmas.List.{append_assoc, take_at, drop_at, take-append-drop, length-drop}
 use Rattle.mail_base.specs.Limits.{most_path, most_local_part, most_domain}
-use Rattle.mail_base.specs.Texts.{is_blank}
+use Rattle.mail_base.specs.Texts.{is_blank, without_blanks}
 use Rattle.mail_base.specs.declared.command.Verb.{Verb}
 use Rattle.mail_base.specs.declared.command.LineFault.{LineFault}
 use Rattle.mail_base.specs.declared.command.LineFault.TheVariants.{Syntax, PathTooLong}
 use Rattle.smtp_lines.specs.Paths.{Parts, EndsPath, IsWritten, in_angles, bare, is_parted, without_route, local_part, domain_of, is_at, is_too_long, HasPath}
-use Rattle.smtp_lines.specs.Commands.{without_blanks}
 use Rattle.smtp_lines.specs.Reading.{word_end, path_parts, is_long, checked, path_after}
 use Rattle.smtp_lines.proofs.PathLemmas.{parts_end, parts_found}
 use Rattle.smtp_lines.proofs.ParameterLemmas.{same_length}

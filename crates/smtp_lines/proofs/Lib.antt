@@ -12,7 +12,6 @@ pub mod ReadLemmas
 pub mod ReadingLemmas
 mod ReplyLemmas
 pub mod RunLemmas
-pub mod SearchLemmas
 pub mod StandLemmas
 mod TailLemmas
 pub mod TakeLemmas

@@ -6,10 +6,11 @@ use Rattle.std.proofs.lemmas.List.{append_assoc, append_cancel_left, length-appe
 use Rattle.std.proofs.lemmas.List.Sums.{split_at_first}
 use Rattle.bstr.specs.Find.{IsFirstByte, is_byte}
 use Rattle.mail_base.specs.Limits.{most_reply_line}
+use Rattle.mail_base.specs.Texts.{has_lf}
+use Rattle.mail_base.proofs.FeedLemmas.{heads, tails, clash, first_lf, cut_lf}
 use Rattle.smtp_lines.specs.Stream.{without_cr}
-use Rattle.smtp_lines.specs.Replies.{has_lf, IsTail, bare, bare_cr, last_text, more_text}
+use Rattle.smtp_lines.specs.Replies.{IsTail, bare, bare_cr, last_text, more_text}
 use Rattle.smtp_lines.specs.inner.Tails.{EndsText, IsTextFront, IsNoText, Fits, FitsBehind, BeginsLine, IsLineFront, IsNoLine}
-use Rattle.smtp_lines.proofs.SearchLemmas.{front_some, front_none, byte_found}
 
 -- a code and a tail of three bytes fit in a reply's line
 pub room_is : 3 ≤ most_reply_line - 3
@@ -18,69 +19,12 @@ room_is = omega arith
 
 -- ---- texts up to an LF
 
-heads : (x y : ℕ) (xs ys : List ℕ) → x ∷ xs ≡ y ∷ ys → x ≡ y
-heads x y xs ys e = cc
-
-tails : (x y : ℕ) (xs ys : List ℕ) → x ∷ xs ≡ y ∷ ys → xs ≡ ys
-tails x y xs ys e = cc
-
--- texts that begin with unequal bytes aren't equal
-pub clash : (x y : ℕ) (xs ys : List ℕ) → (x == y) ≡ false → x ∷ xs ≡ y ∷ ys → ⊥
-clash x y xs ys unlike e = eqb-false x y unlike (heads x y xs ys e)
-
--- two texts without LF that an LF ends
-pub first_lf : (one other xs ys : List ℕ) → has_lf one ≡ false → has_lf other ≡ false → one ++ 10 ∷ xs ≡ other ++ 10 ∷ ys → (one ≡ other) × (xs ≡ ys)
-first_lf [] [] xs ys a b e = (refl, tails 10 10 xs ys e)
-first_lf [] (d ∷ other) xs ys a b e = absurd (clash d 10 (other ++ 10 ∷ ys) xs (or_parts _ _ b).0 (sym e))
-first_lf (c ∷ one) [] xs ys a b e = absurd (clash c 10 (one ++ 10 ∷ xs) ys (or_parts _ _ a).0 e)
-first_lf (c ∷ one) (d ∷ other) xs ys a b e =
-    let same = heads c d (one ++ 10 ∷ xs) (other ++ 10 ∷ ys) e in
-    let rest = first_lf one other xs ys (or_parts _ _ a).1 (or_parts _ _ b).1 (tails c d (one ++ 10 ∷ xs) (other ++ 10 ∷ ys) e) in
-    ((λ i. same i ∷ rest.0 i), rest.1)
-
 -- one without LF is no longer than what an LF ends
 within_lf : (one other xs ys : List ℕ) → has_lf one ≡ false → one ++ xs ≡ other ++ 10 ∷ ys → length one ≤ length other
 within_lf [] other xs ys a e = omega arith
 within_lf (c ∷ one) [] xs ys a e = absurd (clash c 10 (one ++ xs) ys (or_parts _ _ a).0 e)
 within_lf (c ∷ one) (d ∷ other) xs ys a e =
     let less : length one ≤ length other = within_lf one other xs ys (or_parts (c == 10) (has_lf one) a).1 (tails c d (one ++ xs) (other ++ 10 ∷ ys) e) in omega arith
-
-abbrev is_lf : ℕ → Bool
-is_lf b = b == 10
-
-lf_more : (b : ℕ) (text : List ℕ) → is_lf b ≡ false → position_or_len is_lf (b ∷ text) ≡ suc (position_or_len is_lf text)
-lf_more b text other = cond-true _ _ _ (not_from_false _ other) ∙ omega arith
-
-lf_stop : (b : ℕ) (text : List ℕ) → is_lf b ≡ true → position_or_len is_lf (b ∷ text) ≡ 0
-lf_stop b text is = cond-false _ _ _ (not_from_true _ is)
-
-before_lf : (text : List ℕ) → has_lf (take (position_or_len is_lf text) text) ≡ false
-before_lf [] = refl
-before_lf (b ∷ text) =
-    ⊎_elim
-    (λ is. ap (λ n. has_lf (take n (b ∷ text))) (lf_stop b text is))
-    (λ other. ap (λ n. has_lf (take n (b ∷ text))) (lf_more b text other) ∙ or_from _ _ other (before_lf text))
-    (cases_Bool (is_lf b))
-
--- where a search finds no LF, the text has none
-pub no_lf : (text : List ℕ) → IsFirstByte (is_byte 10) text None → has_lf text ≡ false
-no_lf text none =
-    let over = front_none (is_byte 10) (λ b. not (is_lf b)) (byte_found 10) text none in
-    sym (ap (λ n. has_lf (take n text)) over ∙ ap (λ t. has_lf t) (all_of text)) ∙ before_lf text
-  where
-    all_of : (text : List ℕ) → take (length text) text ≡ text
-    all_of [] = refl
-    all_of (b ∷ text) = ap (λ t. b ∷ t) (all_of text)
-
-cut_lf : (text : List ℕ) (k : ℕ) → IsFirstByte (is_byte 10) text (Some k) → (text ≡ take k text ++ 10 ∷ drop (k + 1) text) × (has_lf (take k text) ≡ false)
-cut_lf text k found =
-    let at : position_or_len is_lf text ≡ k = front_some (is_byte 10) (λ b. not (is_lf b)) (byte_found 10) text k found in
-    let high : k < length text = found.0.high in
-    let low : position_or_len is_lf text < length text = omega arith in
-    let is : get_or text k 0 ≡ 10 = eqb-true _ _ found.1 in (
-      split_at_first is_lf text 0 low ∙ (λ i. take (at i) text ++ get_or text (at i) 0 ∷ drop (at i + 1) text) ∙ ap (λ b. take k text ++ b ∷ drop (k + 1) text) is,
-      ap (λ n. has_lf (take n text)) (sym at) ∙ before_lf text,
-    )
 
 module _ (room : ℕ) (text : List ℕ) where
   -- a text ends at the first LF, if that is within the room

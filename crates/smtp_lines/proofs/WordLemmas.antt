@@ -6,11 +6,10 @@ use Rattle.std.proofs.lemmas.Bool.{cond-true, cond-false, cases_Bool, cases_lt, 
 use Rattle.std.proofs.lemmas.List.{take_all, drop_all, drop-drop}
 use Rattle.std.proofs.lemmas.List.Sums.{prefix_len-le-length, fails_before_first}
 use Rattle.std.proofs.lemmas.List.Splits.{slice_split_first, slice_split_none}
-use Rattle.mail_base.specs.Texts.{is_blank}
+use Rattle.mail_base.specs.Texts.{is_blank, without_blanks}
 use Rattle.smtp_lines.specs.declared.parameter.Parameters.{Parameters}
 use Rattle.smtp_lines.specs.Paths.{is_parted}
 use Rattle.smtp_lines.specs.Parameters.{is_some_text, words_of}
-use Rattle.smtp_lines.specs.Commands.{without_blanks}
 use Rattle.smtp_lines.specs.Reading.{word_end, with_words, with_given, given_by}
 
 -- ---- the words of a text

@@ -1,9 +1,9 @@
 -- The commands of a session (RFC 5321, sections 2.4, 4.1.1 and 4.5.1; the order of the faults is
 -- our own).
-use Rattle.std.specs.Prelude.{◌≡◌, ◌≢◌, ℕ, ◌-◌, ◌==◌, nat_lt, Bool, true, false, not, ◌||◌, ◌&&◌, List, [], length, take, drop, Option, Some, None, Result, Ok, Err, codes}
-use Rattle.std.specs.List.{list_any, prefix_len, suffix_len}
+use Rattle.std.specs.Prelude.{◌≡◌, ◌≢◌, ℕ, ◌==◌, nat_lt, Bool, true, false, not, ◌||◌, ◌&&◌, List, [], length, drop, Option, Some, None, Result, Ok, Err, codes}
+use Rattle.std.specs.List.{list_any}
 use Rattle.std.specs.Str.{str_eq_ignore_ascii_case}
-use Rattle.mail_base.specs.Texts.{is_blank}
+use Rattle.mail_base.specs.Texts.{trimmed}
 use Rattle.mail_base.specs.declared.command.Verb.{Verb}
 use Rattle.mail_base.specs.declared.command.Verb.TheVariants.{Helo, Ehlo, Mail, Rcpt, Data, Rset, Noop, Quit, Vrfy, Expn, Help}
 use Rattle.mail_base.specs.declared.command.Command.{Command}
@@ -50,17 +50,9 @@ name_of Help = codes "HELP"
 abbrev pub IsNamed : List ℕ → Verb → Type 0
 IsNamed word verb = str_eq_ignore_ascii_case word (name_of verb) ≡ true
 
--- without the blanks at its front
-abbrev pub without_blanks : List ℕ → List ℕ
-without_blanks text = drop (prefix_len is_blank text) text
-
--- without the blanks at its ends
-abbrev pub stripped : List ℕ → List ℕ
-stripped text = let rest = without_blanks text in take (length rest - suffix_len is_blank rest) rest
-
 -- what stands after the verb
 abbrev pub argument_of : List ℕ → List ℕ
-argument_of line = stripped (drop (length (verb_of line)) line)
+argument_of line = trimmed (drop (length (verb_of line)) line)
 
 -- a line without bad bytes has this verb and this argument
 pub record Says (line : List ℕ) (verb : Verb) (argument : List ℕ) : Type 0 where

@@ -6,7 +6,7 @@ use Rattle.std.specs.Char.{is_ascii_digit}
 use Rattle.std.specs.Str.{str_eq_ignore_ascii_case}
 use Rattle.std.specs.Str.Parse.{digits_value}
 use Rattle.mail_base.specs.Limits.{most_path, most_local_part}
-use Rattle.mail_base.specs.Texts.{is_blank}
+use Rattle.mail_base.specs.Texts.{is_blank, without_blanks}
 use Rattle.mail_base.specs.declared.command.Verb.{Verb}
 use Rattle.mail_base.specs.declared.command.Verb.TheVariants.{Helo, Ehlo, Mail, Rcpt, Data, Rset, Noop, Quit, Vrfy, Expn, Help}
 use Rattle.mail_base.specs.declared.command.LineFault.{LineFault}
@@ -17,7 +17,7 @@ use Rattle.smtp_lines.specs.declared.parameter.Parameters.{Parameters}
 use Rattle.smtp_lines.specs.Stream.{verb_of}
 use Rattle.smtp_lines.specs.Paths.{Parts, is_parted, without_route, local_part}
 use Rattle.smtp_lines.specs.Parameters.{words_of, is_some_text}
-use Rattle.smtp_lines.specs.Commands.{Order, Greet, Extend, From, To, Begin, Reset, Wait, End, Verify, Expand, Explain, is_bad_byte, without_blanks, argument_of}
+use Rattle.smtp_lines.specs.Commands.{Order, Greet, Extend, From, To, Begin, Reset, Wait, End, Verify, Expand, Explain, is_bad_byte, argument_of}
 use Rattle.smtp_lines.specs.PathEnds.{angle_parts}
 
 -- the verb of a word, whatever its case

@@ -1,15 +1,13 @@
-ghost use Rattle.std.specs.Prelude.{◌≡◌, ◌≤◌, ◌-◌, Some, length};
-ghost use Rattle.std.specs.List.{prefix_len, suffix_len, list_any};
-ghost use Rattle.mail_base.specs.Texts.{is_blank};
-ghost use Rattle.smtp_lines.specs.Commands.{IsRead, as_read, as_order, is_bad_byte, without_blanks, stripped};
+ghost use Rattle.std.specs.Prelude.{◌≡◌, Some};
+ghost use Rattle.std.specs.List.{list_any};
+ghost use Rattle.smtp_lines.specs.Commands.{IsRead, as_read, as_order, is_bad_byte};
 ghost use Rattle.smtp_lines.specs.Paths.{is_parted};
 ghost use Rattle.smtp_lines.specs.Reading as reading;
 ghost use Rattle.smtp_lines.specs.inner.Borrowed.{as_parts};
 
 use crate::parameter::parameters_of;
 use crate::path::{Parts, is_long, path_parts, without_route, word_end};
-use bstr::ByteSlice;
-use mail_base::{Command, LineFault, Verb, is_blank};
+use mail_base::{Command, LineFault, Verb, is_blank, trimmed, without_blanks};
 
 /// The command that a line without its end is, or the first fault that it has (RFC 5321, section
 /// 4.1.1).
@@ -29,7 +27,7 @@ fn read_command(line: &[u8]) -> Result<Command<'_>, LineFault>
         return Err(LineFault::BadByte);
     }
     let end = word_end(line);
-    let argument = stripped(&line[end..]);
+    let argument = trimmed(&line[end..]);
     match verb_named(&line[..end]) {
         None => Err(LineFault::Unknown),
         Some(verb) => of_verb(verb, argument),
@@ -85,37 +83,6 @@ fn verb_named(word: &[u8]) -> Option<Verb>
         return Some(Verb::Help);
     }
     None
-}
-
-fn without_blanks(text: &[u8]) -> &[u8]
-    ensures { result.now ≡ without_blanks text.now }
-{
-    &text[blanks_length(text)..]
-}
-
-fn blanks_length(text: &[u8]) -> usize
-    ensures length { result ≡ prefix_len is_blank text.now }
-    ensures within { result ≤ length text.now }
-{
-    text.find_not_byteset(b" \t").unwrap_or(text.len())
-}
-
-fn stripped(text: &[u8]) -> &[u8]
-    ensures { result.now ≡ stripped text.now }
-{
-    let rest = without_blanks(text);
-    &rest[..last_end(rest)]
-}
-
-/// Where the last byte that isn't blank ends, or 0 where none is.
-fn last_end(text: &[u8]) -> usize
-    ensures end { result ≡ length text.now - suffix_len is_blank text.now }
-    ensures within { result ≤ length text.now }
-{
-    match text.rfind_not_byteset(b" \t") {
-        Some(place) => place + 1,
-        None => 0,
-    }
 }
 
 fn of_verb(verb: Verb, argument: &[u8]) -> Result<Command<'_>, LineFault>

@@ -6,7 +6,7 @@ use Rattle.std.proofs.lemmas.Bool.{false≢true, cond_both, or_parts, or_cases, 
 use Rattle.std.proofs.lemmas.List.{get_or_push, length_push}
 use Rattle.std.proofs.lemmas.List.Elements.{All-nil, All-cons, All-head, All-tail, All-push, All-take, All-drop, All-weaker, All-from_recursion}
 use Rattle.mail_base.specs.Limits.{most_message, most_headers}
-use Rattle.mail_base.specs.Texts.{is_blank, IsLine, IsBracketed, IsBlank, IsHeader, crlf}
+use Rattle.mail_base.specs.Texts.{is_blank, IsLine, IsBracketed, IsBlank, IsHeader, crlf, without_blanks}
 use Rattle.smtp_lines.specs.declared.line.Line.{Line}
 use Rattle.smtp_lines.specs.declared.line.Line.TheVariants.{Command, TooLong, Data as DataLine, DataEnd}
 use Rattle.smtp_lines.specs.Stream.{verb_of}
@@ -18,7 +18,7 @@ use Rattle.mail_base.specs.declared.command.Verb.TheVariants.{Helo, Mail, Rcpt}
 use Rattle.mail_base.specs.declared.command.LineFault.{LineFault}
 use Rattle.mail_base.specs.declared.command.LineFault.TheVariants.{Parameter}
 use Rattle.smtp_lines.specs.Paths.{HasPath, IsWritten, in_angles, bare, has_route, is_colon, without_route}
-use Rattle.smtp_lines.specs.Commands.{Order, Greet as HasGreet, Extend, From as HasFrom, To as HasTo, Begin as HasBegin, Reset, Wait, End as HasEnd, Verify, Expand, Explain, is_bad_byte, argument_of, without_blanks, Says as HasVerb, IsCommand, helo, ehlo, mail, rcpt, data_, rset, noop, quit, vrfy, expn, help, IsRead}
+use Rattle.smtp_lines.specs.Commands.{Order, Greet as HasGreet, Extend, From as HasFrom, To as HasTo, Begin as HasBegin, Reset, Wait, End as HasEnd, Verify, Expand, Explain, is_bad_byte, argument_of, Says as HasVerb, IsCommand, helo, ehlo, mail, rcpt, data_, rset, noop, quit, vrfy, expn, help, IsRead}
 use Rattle.smtp_lines.specs.Reading.{order_of}
 use Rattle.smtp_lines.proofs.CommandLemmas.{order_read}
 use Rattle.mail_header.specs.Headers.{is_plain, is_name_byte, is_header, is_header_by, is_continuation}

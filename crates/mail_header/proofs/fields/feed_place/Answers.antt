@@ -1,7 +1,7 @@
 use Rattle.std.proofs.Common.{not, ◌∙◌, arith}
 use Rattle.std.proofs.lemmas.List.Sums.{prefix_len-le-length}
 use Rattle.mail_header.specs.Fields.{is_feed}
-use Rattle.mail_header.proofs.SearchLemmas.{front_length, byte_found}
+use Rattle.mail_base.proofs.SearchLemmas.{front_length, byte_found}
 use Rattle.mail_header.proofs.fields.feed_place.Goals as goal
 
 pub returns-clause-place : goal.returns-clause-place

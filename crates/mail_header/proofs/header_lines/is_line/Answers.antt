@@ -1,5 +1,6 @@
 use Rattle.mail_header.specs.Headers.{is_plain}
-use Rattle.mail_header.proofs.SearchLemmas.{all_stay, ends_are}
+use Rattle.mail_base.proofs.SearchLemmas.{all_stay}
+use Rattle.mail_header.proofs.SearchLemmas.{ends_are}
 use Rattle.mail_header.proofs.header_lines.is_line.Goals as goal
 
 pub returns : goal.returns

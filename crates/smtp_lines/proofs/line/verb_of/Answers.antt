@@ -1,7 +1,7 @@
 use Rattle.std.proofs.Common.{not, take, sym, ap, ◌∙◌, arith}
 use Rattle.std.proofs.lemmas.List.{take_all}
 use Rattle.mail_base.specs.Texts.{is_blank}
-use Rattle.smtp_lines.proofs.SearchLemmas.{front_some, front_none, blank_found}
+use Rattle.mail_base.proofs.SearchLemmas.{front_some, front_none, blank_found}
 use Rattle.smtp_lines.proofs.line.verb_of.Goals as goal
 
 pub returns-in-Some : goal.returns-in-Some

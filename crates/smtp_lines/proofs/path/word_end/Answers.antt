@@ -1,7 +1,7 @@
 use Rattle.std.proofs.Common.{not, ◌∙◌, arith}
 use Rattle.std.proofs.lemmas.List.Sums.{prefix_len-le-length}
 use Rattle.mail_base.specs.Texts.{is_blank}
-use Rattle.smtp_lines.proofs.SearchLemmas.{front_length, blank_found}
+use Rattle.mail_base.proofs.SearchLemmas.{front_length, blank_found}
 use Rattle.smtp_lines.proofs.path.word_end.Goals as goal
 
 pub returns-clause-end : goal.returns-clause-end

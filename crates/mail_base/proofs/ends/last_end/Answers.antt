@@ -1,7 +1,7 @@
 use Rattle.std.proofs.Common.{arith}
 use Rattle.mail_base.specs.Texts.{is_blank}
-use Rattle.mail_header.proofs.SearchLemmas.{back_some, back_none, solid_found}
-use Rattle.mail_header.proofs.fields.last_end.Goals as goal
+use Rattle.mail_base.proofs.SearchLemmas.{back_some, back_none, solid_found}
+use Rattle.mail_base.proofs.ends.last_end.Goals as goal
 
 pub returns-in-Some-clause-end : goal.returns-in-Some-clause-end
 returns-in-Some-clause-end c = omega (arith, c.in-Some.ensures.0.high, back_some _ is_blank solid_found c.args.text.now c.in-Some.place c.in-Some.ensures)

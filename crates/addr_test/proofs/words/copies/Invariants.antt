@@ -1,5 +1,0 @@
-use Rattle.std.proofs.Common.{◌≡◌, map, take}
-use Rattle.addr_test.proofs.words.copies.Given as goal
-
-abbrev pub invariant-loop-slice : goal.invariant-loop-slice
-invariant-loop-slice l = l.texts ≡ map (λ slice. slice.now) (take l.slice-index l.slices)
