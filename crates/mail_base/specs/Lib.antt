@@ -12,6 +12,7 @@ pub mod Limits
 pub mod Metas
 pub mod Names
 pub mod Notes
+pub mod Places
 pub mod Refusals
 pub mod Rulesets
 pub mod Scripts

@@ -1,3 +1,4 @@
 pub mod Books
+pub mod Looking
 pub mod Phrases
 pub mod TokenLaws

@@ -1,13 +1,11 @@
-ghost use Rattle.std.specs.Prelude.{◌≡◌, ◌<◌, ◌∷◌, ◌++◌, [], ℕ, List, true, length, fold, position, set, get_or, slice_get, OnOk, OnErr};
+ghost use Rattle.std.specs.Prelude.{◌≡◌, ◌<◌, ◌∷◌, ◌++◌, [], ℕ, List, true, length, position, set, get_or, OnOk, OnErr};
 ghost use Rattle.std.specs.List.{find, list_any};
 ghost use Rattle.std.specs.Option.{option_copied};
-ghost use Rattle.std.specs.Str.{str_to_ascii_lowercase, str_eq_ignore_ascii_case};
+ghost use Rattle.std.specs.Str.{str_eq_ignore_ascii_case};
 ghost use Rattle.mail_base.specs.Rulesets.{Ruled, is_named, with_name, with_rule};
-ghost use Rattle.mail_base.specs.inner.Books as spec;
-ghost use Rattle.mail_base.specs.inner.Books.{Keeps, is_held_for, is_named_at};
+ghost use Rattle.mail_base.specs.Places.{Keeps, is_held_for};
 
-use crate::{NoMemory, Rule, RuleSet, Seq, Text, TryCopy};
-use indexmap::IndexMap;
+use crate::{Named, NoMemory, Places, Rule, RuleSet, Text, TryCopy};
 use std::alloc::Global;
 use std::marker::Model;
 
@@ -15,33 +13,26 @@ use std::marker::Model;
 /// compared without ASCII case. A contract sees it as the list of the rulesets.
 pub struct Book {
     sets: Vec<RuleSet>,
-    /// The places of rulesets by the hashes of their names.
-    index: IndexMap<u32, usize>,
-    /// The places whose hash was taken already.
-    others: Seq<usize>,
+    places: Places,
 }
 
 // Written out, since a caller's proof goes through the parts of a derived drop at each way out.
 impl Drop for Book {
     fn drop(self) {
-        let Book {
-            sets: _,
-            index: _,
-            others: _,
-        } = self;
+        let Book { sets: _, places: _ } = self;
     }
 }
 
 impl Model for Book {
     ghost use Rattle.std.specs.Prelude.{List};
     ghost use Rattle.mail_base.specs.Rulesets.{Ruled};
-    ghost use Rattle.mail_base.specs.inner.Books.{IsIndexed};
+    ghost use Rattle.mail_base.specs.inner.Books.{HoldsAll};
 
     ghost Value = { List Ruled };
 
     ghost view = { λ b. b.sets.items };
 
-    ghost invariant = { λ b. IsIndexed b.sets.items b.index.entries b.others };
+    ghost invariant = { λ b. HoldsAll b.sets.items b.places };
 }
 
 impl Book {
@@ -51,8 +42,7 @@ impl Book {
     {
         Book {
             sets: Vec::new(alloc),
-            index: IndexMap::new(alloc),
-            others: Seq::new(alloc),
+            places: Places::new(alloc),
         }
     }
 
@@ -68,8 +58,7 @@ impl Book {
     pub fn place_of(&self, name: &Text) -> Option<usize>
         ensures { result ≡ position (is_named name.now) self.now }
     {
-        let found = found_at(&self.sets, name, self.index.get(&hash_of(name)));
-        earliest(&self.sets, name, found, self.others.items())
+        self.places.find(&self.sets, name)
     }
 
     /// The first ruleset of a name, without ASCII case. It takes no memory, and its time is that
@@ -77,7 +66,7 @@ impl Book {
     pub fn get(&self, name: &Text) -> Option<&RuleSet>
         ensures { option_copied result ≡ find (is_named name.now) self.now }
     {
-        set_at(&self.sets, self.place_of(name)?)
+        self.places.first(&self.sets, name)
     }
 
     /// Adds a ruleset at the end. After `NoMemory` the book is as before.
@@ -86,7 +75,7 @@ impl Book {
         ensures err { OnErr result (self.new ≡ self.old) }
     {
         let place = self.sets.as_slice().len();
-        hold_all(&mut self.index, &mut self.others, set.names(), place)?;
+        hold_all(&mut self.places, set.names(), place)?;
         Ok(self.sets.push(set)?)
     }
 
@@ -107,113 +96,29 @@ impl Book {
             → self.new ≡ set self.old place (with_name (get_or self.old place d) name)) }
         ensures err { OnErr result (self.new ≡ self.old) }
     {
-        hold(&mut self.index, &mut self.others, &name, place)?;
+        self.places.hold(&name, place)?;
         self.sets[place].push_name(name)
     }
 }
 
 // Holds a place for each of these names.
-fn hold_all(
-    index: &mut IndexMap<u32, usize>,
-    others: &mut Seq<usize>,
-    names: &[Text],
-    place: usize,
-) -> Result<(), NoMemory>
-    ensures keeps { Keeps index.old.entries others.old index.new.entries others.new }
+fn hold_all(places: &mut Places, names: &[Text], place: usize) -> Result<(), NoMemory>
+    ensures keeps { Keeps places.old places.new }
     ensures held { OnOk result ((name : List ℕ)
         → list_any (λ given. str_eq_ignore_ascii_case given name) names.now ≡ true
-        → is_held_for name place index.new.entries others.new ≡ true) }
+        → is_held_for name place places.new ≡ true) }
 {
     for name in names {
-        hold(index, others, name, place)?;
+        places.hold(name, place)?;
     }
     Ok(())
 }
 
-// Holds a place for a name.
-fn hold(
-    index: &mut IndexMap<u32, usize>,
-    others: &mut Seq<usize>,
-    name: &Text,
-    place: usize,
-) -> Result<(), NoMemory>
-    ensures keeps { Keeps index.old.entries others.old index.new.entries others.new }
-    ensures held { OnOk result (is_held_for name.now place index.new.entries others.new ≡ true) }
-{
-    let hash = hash_of(name);
-    if index.contains_key(&hash) {
-        return others.push(place);
-    }
-    index.insert(hash, place)?;
-    Ok(())
-}
+impl Named for RuleSet {
+    ghost has_name = { is_named };
 
-// A number that names have in common where they are equal without ASCII case.
-fn hash_of(name: &Text) -> u32
-    ensures { result ≡ spec.hash_of name.now }
-{
-    name.bytes()
-        .iter()
-        .fold(0, |hash, byte| hash_step(hash, *byte))
-}
-
-fn hash_step(hash: u32, byte: u8) -> u32
-    ensures { result ≡ spec.hash_step hash byte }
-{
-    hash.wrapping_mul(31)
-        .wrapping_add(u32::from(byte.to_ascii_lowercase()))
-}
-
-// The place that the index has, if its ruleset has the name.
-fn found_at(sets: &[RuleSet], name: &Text, place: Option<&usize>) -> Option<usize>
-    ensures { result ≡ spec.found_at name.now sets.now (option_copied place.entry) }
-{
-    match place {
-        Some(place) => earlier(sets, name, None, *place),
-        None => None,
-    }
-}
-
-// The earliest of these places, and of the first so far, whose ruleset has the name.
-fn earliest(sets: &[RuleSet], name: &Text, first: Option<usize>, places: &[usize]) -> Option<usize>
-    ensures { result ≡ fold (spec.earlier name.now sets.now) first places.now }
-{
-    places
-        .iter()
-        .fold(first, |first, place| earlier(sets, name, first, *place))
-}
-
-fn earlier(sets: &[RuleSet], name: &Text, first: Option<usize>, place: usize) -> Option<usize>
-    ensures { result ≡ spec.earlier name.now sets.now first place }
-{
-    if has_name(set_at(sets, place), name) && is_before(place, first) {
-        Some(place)
-    } else {
-        first
-    }
-}
-
-fn set_at(sets: &[RuleSet], place: usize) -> Option<&RuleSet>
-    ensures { option_copied result ≡ slice_get sets.now place }
-{
-    sets.get(place)
-}
-
-fn has_name(set: Option<&RuleSet>, name: &Text) -> bool
-    ensures { result ≡ is_named_at name.now (option_copied set.entry) }
-{
-    match set {
-        Some(set) => set.is_named(name),
-        None => false,
-    }
-}
-
-fn is_before(place: usize, first: Option<usize>) -> bool
-    ensures { result ≡ spec.is_before place first }
-{
-    match first {
-        Some(first) => place < first,
-        None => true,
+    fn has_name(&self, name: &Text) -> bool {
+        self.is_named(name)
     }
 }
 
