@@ -5,7 +5,7 @@ ghost use Rattle.std.specs.Str.{str_eq_ignore_ascii_case};
 ghost use Rattle.map_tables.specs.Hosts.{before_comment, has_name, host_line, host_lines, host_of};
 
 use bstr::ByteSlice;
-use mail_base::{NoMemory, Seq, Text, split_line, texts_of, words};
+use mail_base::{Named, NoMemory, Seq, Text, split_line, texts_of, words};
 use std::alloc::Global;
 
 /// A line of the host table.
@@ -17,10 +17,10 @@ pub struct HostLine {
     pub aliases: Seq<Text>,
 }
 
-impl HostLine {
-    pub(crate) fn has_name(&self, name: &Text) -> bool
-        ensures { result ≡ has_name name.now self.now }
-    {
+impl Named for HostLine {
+    ghost has_name = { has_name };
+
+    fn has_name(&self, name: &Text) -> bool {
         name.is_folded(&self.name) || is_among(name, self.aliases.items())
     }
 }

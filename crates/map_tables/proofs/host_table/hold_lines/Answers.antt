@@ -3,8 +3,8 @@ use Rattle.map_tables.proofs.host_table.hold_lines.Goals as goal
 
 pub loop-place-preserved : goal.loop-place-preserved
 loop-place-preserved c =
-    indexed_more c.args.lines.now c.loop-place.place c.index-lines-place.result c.loop-place.index.entries c.hold_line.new.index.entries c.loop-place.others c.hold_line.new.others c.loop-place-test.true c.index-lines-place.is
+    indexed_more c.args.lines.now c.loop-place.place c.index-lines-place.result c.loop-place.places c.hold_line.new.places c.loop-place-test.true c.index-lines-place.is
     c.hold_line.ensures.keeps c.in_ok-hold_line.ensures.held c.loop-place.invariant
 
 pub returns : goal.returns
-returns c = indexed_all c.args.lines.now c.loop-place.place c.loop-place.index.entries c.loop-place.others c.loop-place-test.false c.loop-place.invariant
+returns c = indexed_all c.args.lines.now c.loop-place.place c.loop-place.places c.loop-place-test.false c.loop-place.invariant

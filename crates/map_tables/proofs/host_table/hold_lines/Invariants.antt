@@ -3,4 +3,4 @@ use Rattle.map_tables.proofs.host_table.hold_lines.Given as goal
 
 -- the lines so far are held
 abbrev pub invariant-loop-place : goal.invariant-loop-place
-invariant-loop-place l = IsIndexedTo l.place l.lines l.index.entries l.others
+invariant-loop-place l = IsIndexedTo l.place l.lines l.places
