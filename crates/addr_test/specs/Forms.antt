@@ -1,9 +1,9 @@
 -- The forms of a line of address test mode (Sendmail Installation and Operation Guide, "Address
 -- Testing Mode"; where words and names end, and what isn't a form, is our own).
 use Rattle.std.specs.Prelude.{◌≡◌, ℕ, List, [], ◌∷◌, length, take, drop, bytes_eq, Bool, ◌==◌, ◌&&◌, not, nat_lt, if◌then◌else◌, codes, refl}
-use Rattle.std.specs.List.{list_any, position_or_len, prefix_len, slice_split}
+use Rattle.std.specs.List.{list_any, position_or_len, slice_split}
 use Rattle.mail_base.specs.Limits.{most_line}
-use Rattle.mail_base.specs.Whites.{is_white}
+use Rattle.mail_base.specs.Whites.{is_white, without_whites}
 use Rattle.cf_macros.specs.Names.{split_name}
 
 -- what a line asks for, where it isn't `/quit`
