@@ -1,12 +1,14 @@
 -- The rows of bits.
 use Rattle.std.proofs.Common.{◌≡◌, ◌≢◌, ℕ, ◌+◌, ◌-◌, ◌*◌, ◌/◌, ◌%◌, ◌^◌, ◌<◌, ◌≤◌, inl, inr, List, [], ◌∷◌, ◌++◌, length, take, drop, get_or, set, replicate, Bool, true, false, refl, sym, ◌∙◌, ap, subst, arith, eq-eqb, eqb-true, max, cond, add-zero}
 use Rattle.std.specs.Prelude.{◌==◌, ◌||◌, ◌&&◌, nat_le, not, bit_or, bit_and, Option, Some, None, IfSome, IfNone, count_by}
+use Rattle.std.specs.List.{list_all}
 use Rattle.std.specs.Option.{is_some, option_to_list}
 use Rattle.std.specs.Cmp.Lexicographic.{as_long}
 use Rattle.std.specs.Int.{bit_at}
 use Rattle.std.proofs.Math.Nat.{le-max_left, le-max_right}
 use Rattle.std.proofs.lemmas.Bool.{cases_eq, cases_lt, ne_eqb, both_ways, and_parts, and_from, or_cases, leb-true, le-leb}
 use Rattle.std.proofs.lemmas.Nat.{mod_below, one_shl}
+use Rattle.std.proofs.lemmas.List.Folds.{list_all_at}
 use Rattle.std.proofs.lemmas.List.Sums.{sum_by-append, sum_by-cons}
 use Rattle.std.proofs.lemmas.List.{drop-drop, length-drop, length-take-le, drop_all, same_from_push, length_push, get_or-replicate, get_or_past, length-replicate, get_or-set_same, get_or-set_other}
 use Rattle.std.proofs.lemmas.Nat.Bits.{shr_and_one, bit_at_or, bit_at-zero, bit_at-pow_same, bit_at-pow_other}
@@ -42,6 +44,18 @@ zero_at n i nil z = elim (cases_lt i n) [ inl lt ↦ get_or-replicate n i nil 0 
 pub has_none : (n place nil : ℕ) → nil ≡ 0 → has (replicate n nil) place ≡ false
 unfolding has
 has_none n place nil z = ap (λ x. x == 1) (ap (λ w. bit_at w (place % 64)) (zero_at n (place / 64) nil z) ∙ bit_at-zero (place % 64))
+
+zero_of : (words : List ℕ) (i : ℕ) (b : Bool) → i < length words → (get_or words i 0 == 0) ≡ b → list_all (λ word. word == 0) words ≡ true → get_or words i 0 ≡ 0
+zero_of words i true lt e all = eqb-true (get_or words i 0) 0 e
+zero_of words i false lt e all = absurd (cc (list_all_at (λ word. word == 0) words i 0 lt e, all))
+
+zero_in : (words : List ℕ) (i : ℕ) → list_all (λ word. word == 0) words ≡ true → get_or words i 0 ≡ 0
+zero_in words i all = elim (cases_lt i (length words)) [ inl lt ↦ zero_of words i (get_or words i 0 == 0) lt refl all | inr le ↦ get_or_past words i 0 le ]
+
+-- a row whose words are all zero has no place
+pub clear_none : (words all : List ℕ) → words ≡ all → list_all (λ word. word == 0) words ≡ true → (place : ℕ) → has all place ≡ false
+unfolding has
+clear_none words all is zero place = ap (λ ws. bit_at (get_or ws (place / 64) 0) (place % 64) == 1) (sym is) ∙ ap (λ x. x == 1) (ap (λ w. bit_at w (place % 64)) (zero_in words (place / 64) zero) ∙ bit_at-zero (place % 64))
 
 bit_small : (w j : ℕ) → bit_at w j < 2
 bit_small w j = mod_below (w / 2 ^ j) 2 (omega arith)

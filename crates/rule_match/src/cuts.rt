@@ -1,4 +1,4 @@
-ghost use Rattle.std.specs.Prelude.{◌≡◌, List, ℕ, length};
+ghost use Rattle.std.specs.Prelude.{◌≡◌, ◌<◌, ◌++◌, ◌∷◌, [], List, ℕ, length};
 ghost use Rattle.mail_base.specs.declared.classes.Classes.{Classes};
 ghost use Rattle.mail_base.specs.declared.rule.Item.{Item};
 ghost use Rattle.mail_base.specs.declared.token.Token.{Token};
@@ -35,6 +35,28 @@ impl Model for Cuts {
 }
 
 impl Cuts {
+    /// No cuts.
+    pub fn new() -> Cuts
+        ensures { result ≡ [] }
+    {
+        Cuts {
+            kept: ArrayVec::new(),
+        }
+    }
+
+    pub(crate) fn clear(&mut self)
+        ensures { self.new ≡ [] }
+    {
+        self.kept.clear();
+    }
+
+    pub(crate) fn push(&mut self, cut: Cut)
+        requires { length self.old < 20 }
+        ensures { self.new ≡ self.old ++ cut ∷ [] }
+    {
+        self.kept.push(cut);
+    }
+
     pub(crate) fn of(kept: ArrayVec<Cut, 20>) -> Cuts
         ensures { result ≡ kept.items }
     {

@@ -14,5 +14,5 @@ mod walk;
 pub use cuts::{Cut, Cuts};
 pub use glance::may_fit;
 pub use law::{each_choice, one_choice, put_in};
-pub use matcher::{find, lists_wanted};
+pub use matcher::{find, find_into, lists_wanted};
 pub use trial::find_by_trial;

@@ -33,14 +33,37 @@ pub fn find(
         ((lengths : List ℕ)
         → Fits (wants classes.now late.now pattern.now) tokens.now lengths → ⊥) }
 {
+    let mut cuts = Cuts::new();
+    if find_into(pattern, tokens, classes, late, &mut cuts) {
+        Some(cuts)
+    } else {
+        None
+    }
+}
+
+/// The same into cuts that are there: whether there is a match. Where there is none they tell
+/// nothing.
+pub fn find_into(
+    pattern: &Pattern,
+    tokens: &Seq<Token>,
+    classes: &Classes,
+    late: &Seq<Seq<Token>>,
+    cuts: &mut Cuts,
+) -> bool
+    requires { length late.now ≡ count_by is_late pattern.now }
+    ensures some { result ≡ true
+        → IsChoice classes.now late.now pattern.now tokens.now cuts.new }
+    ensures none { result ≡ false → (lengths : List ℕ)
+        → Fits (wants classes.now late.now pattern.now) tokens.now lengths → ⊥ }
+{
     let items = pattern.items();
     if ends_otherwise(items, tokens.items()) {
-        return None;
+        return false;
     }
     if any_class(items) {
-        find_phrases(classes, late.items(), items, tokens.items())
+        find_phrases(classes, late.items(), items, tokens.items(), cuts)
     } else {
-        find_plain(classes, late.items(), items, tokens.items())
+        find_plain(classes, late.items(), items, tokens.items(), cuts)
     }
 }
 
@@ -103,17 +126,17 @@ fn find_plain(
     late: &[Seq<Token>],
     pattern: &[Item],
     tokens: &[Token],
-) -> Option<Cuts>
+    cuts: &mut Cuts,
+) -> bool
     requires few { count_by is_meta pattern.now ≤ 20 }
     requires plain { list_any is_class pattern.now ≡ false }
-    ensures some { IfSome result
-        (λ cuts. IsChoice classes.now late.now pattern.now tokens.now cuts) }
-    ensures none { IfNone result
-        ((lengths : List ℕ)
-        → Fits (wants classes.now late.now pattern.now) tokens.now lengths → ⊥) }
+    ensures some { result ≡ true
+        → IsChoice classes.now late.now pattern.now tokens.now cuts.new }
+    ensures none { result ≡ false → (lengths : List ℕ)
+        → Fits (wants classes.now late.now pattern.now) tokens.now lengths → ⊥ }
 {
     let mut lengths = ByFronts;
-    found_by(&mut lengths, classes, late, pattern, tokens)
+    found_by(&mut lengths, classes, late, pattern, tokens, cuts)
 }
 
 /// The same for any items: by rows of bits, or by trial where these are too short for the tokens.
@@ -122,26 +145,29 @@ fn find_phrases(
     late: &[Seq<Token>],
     pattern: &[Item],
     tokens: &[Token],
-) -> Option<Cuts>
+    cuts: &mut Cuts,
+) -> bool
     requires few { count_by is_meta pattern.now ≤ 20 }
     requires lists { length late.now ≡ count_by is_late pattern.now }
-    ensures some { IfSome result
-        (λ cuts. IsChoice classes.now late.now pattern.now tokens.now cuts) }
-    ensures none { IfNone result
-        ((lengths : List ℕ)
-        → Fits (wants classes.now late.now pattern.now) tokens.now lengths → ⊥) }
+    ensures some { result ≡ true
+        → IsChoice classes.now late.now pattern.now tokens.now cuts.new }
+    ensures none { result ≡ false → (lengths : List ℕ)
+        → Fits (wants classes.now late.now pattern.now) tokens.now lengths → ⊥ }
 {
     if !front_stands(classes, late, pattern, tokens) {
-        return None;
+        return false;
     }
     if tokens.len() < 64 {
-        return find_by_rows::<1>(classes, late, pattern, tokens);
+        return find_by_rows::<1>(classes, late, pattern, tokens, cuts);
     }
     if tokens.len() < 2048 {
-        return find_by_rows::<32>(classes, late, pattern, tokens);
+        return find_by_rows::<32>(classes, late, pattern, tokens, cuts);
     }
-    let kept = least(classes, late, pattern, tokens, 0)?;
-    Some(Cuts::of(kept))
+    let Some(kept) = least(classes, late, pattern, tokens, 0) else {
+        return false;
+    };
+    *cuts = Cuts::of(kept);
+    true
 }
 
 /// The same by the rows: whether what follows an item fits the tokens from a place on is looked up.
@@ -150,21 +176,21 @@ fn find_by_rows<const W: usize>(
     late: &[Seq<Token>],
     pattern: &[Item],
     tokens: &[Token],
-) -> Option<Cuts>
+    cuts: &mut Cuts,
+) -> bool
     requires few { count_by is_meta pattern.now ≤ 20 }
     requires lists { length late.now ≡ count_by is_late pattern.now }
     requires small { W ≤ 32 }
     requires short { length tokens.now < 64 * W }
-    ensures some { IfSome result
-        (λ cuts. IsChoice classes.now late.now pattern.now tokens.now cuts) }
-    ensures none { IfNone result
-        ((lengths : List ℕ)
-        → Fits (wants classes.now late.now pattern.now) tokens.now lengths → ⊥) }
+    ensures some { result ≡ true
+        → IsChoice classes.now late.now pattern.now tokens.now cuts.new }
+    ensures none { result ≡ false → (lengths : List ℕ)
+        → Fits (wants classes.now late.now pattern.now) tokens.now lengths → ⊥ }
 {
     let mut lengths = ByRows {
         rows: rows_of::<W>(classes, late, pattern, tokens),
     };
-    found_by(&mut lengths, classes, late, pattern, tokens)
+    found_by(&mut lengths, classes, late, pattern, tokens, cuts)
 }
 
 /// What the first item takes of the tokens that are left, in the match that is taken, if there is

@@ -69,6 +69,9 @@ fn row_before<const W: usize>(
         → IsRow tokens.now (want classes.now late.now item.now ∷ rest) result }
 {
     let mut row = Row::new();
+    if after.is_empty() {
+        return row;
+    }
     let mut later = false;
     let mut end = tokens.len() + 1;
     while end > 0 {

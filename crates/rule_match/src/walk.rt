@@ -1,4 +1,4 @@
-ghost use Rattle.std.specs.Prelude.{◌≡◌, ◌+◌, ◌≤◌, ◌∷◌, List, ℕ, drop, count_by, IfSome, IfNone};
+ghost use Rattle.std.specs.Prelude.{◌≡◌, ◌+◌, ◌≤◌, ◌∷◌, List, ℕ, drop, count_by, true, false, IfSome, IfNone};
 ghost use Rattle.mail_base.specs.Metas.{is_meta};
 ghost use Rattle.mail_base.specs.declared.classes.Classes.{Classes as TheClasses};
 ghost use Rattle.mail_base.specs.declared.rule.Item.{Item as TheItem};
@@ -10,7 +10,6 @@ ghost use Rattle.rule_match.specs.inner.Steps.{IsNext};
 
 use crate::cuts::{Cut, Cuts};
 use crate::meeting::{is_binding, lists_after, parted};
-use arrayvec::ArrayVec;
 use mail_base::{Classes, Item, Seq, Token};
 
 /// How it is found what an item takes in the match that is taken.
@@ -43,32 +42,35 @@ pub(crate) trait Lengths {
             left.now (n ∷ later) → ⊥) };
 }
 
-/// The match that is taken, item by item.
+/// Whether there is a match, whose cuts are those of the one that is taken, item by item.
 pub(crate) fn found_by<L: Lengths>(
     lengths: &mut L,
     classes: &Classes,
     late: &[Seq<Token>],
     pattern: &[Item],
     tokens: &[Token],
-) -> Option<Cuts>
+    cuts: &mut Cuts,
+) -> bool
     requires few { count_by is_meta pattern.now ≤ 20 }
     requires serves { L.serves lengths.old classes.now late.now pattern.now tokens.now 0 }
-    ensures some { IfSome result (λ cuts.
-        IsChoice classes.now late.now pattern.now tokens.now cuts) }
-    ensures none { IfNone result ((lengths : List ℕ)
-        → Fits (wants classes.now late.now pattern.now) tokens.now lengths → ⊥) }
+    ensures some { result ≡ true
+        → IsChoice classes.now late.now pattern.now tokens.now cuts.new }
+    ensures none { result ≡ false → (lengths : List ℕ)
+        → Fits (wants classes.now late.now pattern.now) tokens.now lengths → ⊥ }
 {
-    let mut kept: ArrayVec<Cut, 20> = ArrayVec::new();
+    cuts.clear();
     let mut lists = late;
     let mut items = pattern;
     let mut left = tokens;
     let mut start = 0;
     while let Some((item, after)) = items.split_first() {
         let others = lists_after(item, lists);
-        let length = lengths.next(classes, lists, item, others, after, left, start)?;
+        let Some(length) = lengths.next(classes, lists, item, others, after, left, start) else {
+            return false;
+        };
         if item.is_meta() {
             let binds = is_binding(item);
-            kept.push(Cut {
+            cuts.push(Cut {
                 start,
                 length,
                 binds,
@@ -79,9 +81,5 @@ pub(crate) fn found_by<L: Lengths>(
         lists = others;
         items = after;
     }
-    if left.is_empty() {
-        Some(Cuts::of(kept))
-    } else {
-        None
-    }
+    left.is_empty()
 }

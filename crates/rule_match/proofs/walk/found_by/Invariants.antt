@@ -5,7 +5,7 @@ use Rattle.rule_match.proofs.walk.found_by.Given as goal
 -- whatever is taken of the rest completes what is taken of all
 abbrev pub invariant-loop-item : goal.invariant-loop-item
 invariant-loop-item g l = record {
-  goes : Goes l.classes l.late l.pattern l.tokens l.lists l.items l.left l.kept.items l.start;
+  goes : Goes l.classes l.late l.pattern l.tokens l.lists l.items l.left l.cuts l.start;
   serves : g.L.Lengths.serves l.lengths l.classes l.lists l.items l.left l.start;
 }
 
