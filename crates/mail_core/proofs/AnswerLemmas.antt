@@ -13,7 +13,7 @@ use Rattle.smtp_receive.proofs.KeepLemmas.{dialogue_more}
 use Rattle.mail_core.specs.declared.serving.Site.{Site}
 use Rattle.mail_core.specs.Guests.{Guest, grant_in, grants_of, with_line, line_in, lines_heard}
 use Rattle.mail_core.specs.Machine.{Did, says, closes, replies, is_answered}
-use Rattle.spool_store.specs.Tables.{Table}
+use Rattle.spool_store.specs.Entries.{Table}
 
 -- ---- what is told, and the machine's reply
 

@@ -12,7 +12,8 @@ use Rattle.smtp_lines.specs.declared.line.Line.{Line}
 use Rattle.smtp_lines.specs.Stream.{reading_of}
 use Rattle.smtp_receive.specs.Dialogue.{Heard, Exchange, Answer, Says, Greets, Grants, Closes, Gives, Takes as Passes, answer_to, exchanges, is_dropped, with_heard}
 use Rattle.smtp_receive.specs.Replies.{text_of, grant_text, hello_text, closing_text, out_of_memory_text, stored_text, shown_host}
-use Rattle.spool_store.specs.Tables.{Table, after, start}
+use Rattle.spool_store.specs.Entries.{Table}
+use Rattle.mail_core.specs.Commands.{after, start}
 use Rattle.mail_core.specs.declared.serving.Site.{Site}
 use Rattle.mail_core.specs.Effects.{Effect, Takes, Ticks, Commits, Sends, HangsUp, speech}
 use Rattle.mail_core.specs.Guests.{Guest, grant_in, guest_of, is_passed, next_line, with_bytes}

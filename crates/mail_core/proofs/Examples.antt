@@ -9,7 +9,8 @@ use Rattle.smtp_lines.specs.declared.line.Line.TheVariants.{Data, DataEnd}
 use Rattle.smtp_receive.specs.Dialogue.{Heard, Exchange, Answer, Greets, Grants, Closes, Gives, Takes as Passes, answer_to}
 use Rattle.smtp_receive.specs.Replies.{shown_host}
 use Rattle.smtp_receive.proofs.Examples.{peer, helo, mail, rcpt, data_line, subject, body, quit, message, begun, given, granted, taken as whole}
-use Rattle.spool_store.specs.Tables.{Table, after, start}
+use Rattle.spool_store.specs.Entries.{Table}
+use Rattle.mail_core.specs.Commands.{after, start}
 use Rattle.mail_core.specs.declared.serving.Site.{Site}
 use Rattle.mail_core.specs.Effects.{Effect, Takes, Ticks, Commits, Sends, HangsUp}
 use Rattle.mail_core.specs.Guests.{Guest, newcomer}

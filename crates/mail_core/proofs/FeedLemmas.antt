@@ -21,7 +21,7 @@ use Rattle.smtp_lines.proofs.StandLemmas.{stands_granted, stands_received, stand
 use Rattle.smtp_receive.specs.Dialogue.{Heard}
 use Rattle.smtp_receive.specs.Sessions.{Stands as Speaks}
 use Rattle.spool_disk.specs.Spooled.{Spooled}
-use Rattle.spool_store.specs.Tables.{Table}
+use Rattle.spool_store.specs.Entries.{Table}
 use Rattle.mail_core.specs.declared.caller.Caller.{Caller}
 use Rattle.mail_core.specs.declared.next.Next.{Next}
 use Rattle.mail_core.specs.declared.next.Next.TheVariants.{Continue, BeginData, Closed}

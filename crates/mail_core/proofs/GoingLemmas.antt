@@ -13,8 +13,9 @@ use Rattle.smtp_receive.specs.Dialogue.{Gives}
 use Rattle.smtp_receive.specs.Replies.{stored_text}
 use Rattle.spool_disk.specs.Spooled.{Spooled}
 use Rattle.spool_store.specs.Moves.{Moves}
-use Rattle.spool_store.specs.Standing.{IsClean, IsEither}
-use Rattle.spool_store.specs.Tables.{Table, after, applied}
+use Rattle.spool_store.specs.Entries.{Table}
+use Rattle.spool_store.specs.Settled.{StandsFor}
+use Rattle.mail_core.specs.Commands.{IsEither, after, applied}
 use Rattle.mail_core.specs.declared.next.Next.{Next}
 use Rattle.mail_core.specs.declared.next.Next.TheVariants.{Continue, BeginData, Closed}
 use Rattle.mail_core.specs.declared.serving.CoreStop.{CoreStop}
@@ -178,7 +179,7 @@ module _ (site : Site) (d : Did) (f : Heard) (s : Spooled) (k : ClockSeen) where
 
 module _ (site : Site) (moment : ℕ) (d : Did) (message : Received) (f : Heard) (s t : Spooled) (k : ClockSeen) where
   -- a message was taken in
-  pub does_commits : d.way ≡ GoesOn → Moves s t (IsClean (dirs_of site) d.table) (IsClean (dirs_of site) (after d.table (accept_of site moment message))) (IsEither (dirs_of site) d.table (accept_of site moment message)) → s.faults ≤ t.faults
+  pub does_commits : d.way ≡ GoesOn → Moves s t (StandsFor (dirs_of site) d.table) (StandsFor (dirs_of site) (after d.table (accept_of site moment message))) (IsEither (dirs_of site) d.table (accept_of site moment message)) → s.faults ≤ t.faults
       → Does site d (commits site moment d message) (seen f s k) (seen f t k) (Ok Continue)
   does_commits way moves later = record {
     more = Commits (accept_of site moment message) ∷ [];
@@ -191,7 +192,7 @@ module _ (site : Site) (moment : ℕ) (d : Did) (message : Received) (f : Heard)
   }
 
   -- the spool failed at a message
-  pub does_failed : is_spent d.table ≡ false → Moves s t (IsClean (dirs_of site) d.table) (IsEither (dirs_of site) d.table (accept_of site moment message)) (IsEither (dirs_of site) d.table (accept_of site moment message)) → s.faults ≤ t.faults → Rose s.faults t.faults
+  pub does_failed : is_spent d.table ≡ false → Moves s t (StandsFor (dirs_of site) d.table) (IsEither (dirs_of site) d.table (accept_of site moment message)) (IsEither (dirs_of site) d.table (accept_of site moment message)) → s.faults ≤ t.faults → Rose s.faults t.faults
       → Does site d (fails site moment d (Gives message)) (seen f s k) (seen f t k) (Err stops.SpoolFault)
   does_failed left moves later rose = subst (λ e. Does site d e (seen f s k) (seen f t k) (Err stops.SpoolFault)) (sym (cond-false (is_spent d.table) _ _ left)) (record {
     more = Commits (accept_of site moment message) ∷ [];
@@ -205,7 +206,7 @@ module _ (site : Site) (moment : ℕ) (d : Did) (message : Received) (f : Heard)
 
 -- a message was taken in, and its 250 said
 pub does_accepts : (site : Site) (moment : ℕ) (d : Did) (message : Received) (f g : Heard) (s t : Spooled) (k : ClockSeen) (fed : Result Next CoreStop) → d.way ≡ GoesOn → is_spent d.table ≡ false
-    → Moves s t (IsClean (dirs_of site) d.table) (IsClean (dirs_of site) (after d.table (accept_of site moment message))) (IsEither (dirs_of site) d.table (accept_of site moment message)) → s.faults ≤ t.faults
+    → Moves s t (StandsFor (dirs_of site) d.table) (StandsFor (dirs_of site) (after d.table (accept_of site moment message))) (IsEither (dirs_of site) d.table (accept_of site moment message)) → s.faults ≤ t.faults
     → IsSpoken fed → Gains f.told g.told (heard_of (speech d.guest.number (stored_text d.table.next) (is_onward fed))) → g.faults ≡ f.faults
     → Does site d (accepts site moment d message (is_onward fed)) (seen f s k) (seen g t k) fed
 does_accepts site moment d message f g s t k fed way left moves later spoken told own =

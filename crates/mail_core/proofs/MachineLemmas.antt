@@ -15,8 +15,9 @@ use Rattle.smtp_receive.specs.Finals.{IsFinal}
 use Rattle.smtp_receive.specs.Replies.{text_of, grant_text, hello_text, closing_text, greeting_text, stored_text, shown_host, out_of_memory_text, too_many_sessions_text}
 use Rattle.smtp_receive.specs.Sessions.{answer_of}
 use Rattle.smtp_receive.proofs.FinalLemmas.{reply_final, grant_final, hello_final, closing_final, greeting_final, memory_final, sessions_final, same_id}
-use Rattle.spool_store.specs.Tables.{Stored, Table, Command, stored, after, applied}
-use Rattle.spool_store.specs.Tables.Command.{Accept}
+use Rattle.spool_store.specs.Entries.{Stored, Table}
+use Rattle.spool_store.specs.Writes.{stored}
+use Rattle.mail_core.specs.Commands.{Command, Accept, after, applied}
 use Rattle.mail_core.specs.declared.serving.Site.{Site}
 use Rattle.mail_core.specs.Effects.{Effect, Takes, Ticks, Commits, Sends, HangsUp, speech}
 use Rattle.mail_core.specs.Guests.{Guest, is_passed, guest_of, is_here, next_line, with_bytes}
@@ -28,28 +29,10 @@ use Rattle.mail_core.proofs.RanLemmas.{table_more}
 
 -- ---- what effects are
 
--- a new entry lies in the site's directory
-abbrev IsPlaced : Site → Command → Type 0
-IsPlaced site (Accept draft body) = draft.dir ≡ site.dir
-
--- a command is of the site
-abbrev IsOurs : Site → Effect → Type 0
-IsOurs site (Takes event) = Unit {0}
-IsOurs site (Ticks reading) = Unit {0}
-IsOurs site (Commits command) = IsPlaced site command
-IsOurs site (Sends session text whole) = Unit {0}
-IsOurs site (HangsUp session) = Unit {0}
-
--- effects whose entries are in the site's directories
-abbrev pub AreOurs : Site → List Effect → Type 0
-AreOurs site [] = Unit {0}
-AreOurs site (effect ∷ effects) = IsOurs site effect × AreOurs site effects
-
 -- effects that lead from a table to another
 pub record Leads (site : Site) (old new : Table) (effects : List Effect) : Type 0 where
   pub table : new ≡ table_after old effects
   pub acked : AreAcked old effects
-  pub ours : AreOurs site effects
 
 -- what was done has grown
 pub record Grows (site : Site) (d e : Did) : Type 0 where
@@ -69,28 +52,13 @@ pub acked_front : (table : Table) (xs ys : List Effect) → AreAcked table (xs +
 acked_front table [] ys h = tt
 acked_front table (x ∷ xs) ys h = (h.0, acked_front (table_after table (x ∷ [])) xs ys h.1)
 
-pub ours_join : (site : Site) (xs ys : List Effect) → AreOurs site xs → AreOurs site ys → AreOurs site (xs ++ ys)
-ours_join site [] ys h k = k
-ours_join site (x ∷ xs) ys h k = (h.0, ours_join site xs ys h.1 k)
-
--- effects that are the site's are so at their front
-pub ours_front : (site : Site) (xs ys : List Effect) → AreOurs site (xs ++ ys) → AreOurs site xs
-ours_front site [] ys h = tt
-ours_front site (x ∷ xs) ys h = (h.0, ours_front site xs ys h.1)
-
--- effects that are the site's are so behind a front
-pub ours_back : (site : Site) (xs ys : List Effect) → AreOurs site (xs ++ ys) → AreOurs site ys
-ours_back site [] ys h = h
-ours_back site (x ∷ xs) ys h = ours_back site xs ys h.1
-
 pub leads_none : (site : Site) (table : Table) → Leads site table table []
-leads_none site table = record { table = refl; acked = tt; ours = tt }
+leads_none site table = record { table = refl; acked = tt }
 
 pub leads_join : (site : Site) (one two three : Table) (xs ys : List Effect) → Leads site one two xs → Leads site two three ys → Leads site one three (xs ++ ys)
 leads_join site one two three xs ys h k = record {
   table = k.table ∙ ap (λ t. table_after t ys) h.table ∙ sym (table_more one xs ys);
   acked = acked_join one xs ys h.acked (subst (λ t. AreAcked t ys) h.table k.acked);
-  ours = ours_join site xs ys h.ours k.ours;
 }
 
 -- ---- an entry stays
@@ -100,8 +68,9 @@ pub entry_stays : (id : ℕ) (table : Table) (commands : List Command) → HasEn
 entry_stays id table [] h = h
 entry_stays id table (Accept draft body ∷ commands) h = entry_stays id (after table (Accept draft body)) commands (record {
   stored = h.stored;
-  among = Contains-append_left table.entries (stored table.next draft body ∷ []) h.stored h.among;
+  among = Contains-append_left table.entries (stored table.next body draft ∷ []) h.stored h.among;
   id_is = h.id_is;
+  wanted = h.wanted;
 })
 
 -- ---- texts
@@ -117,23 +86,24 @@ unspent table e = ltb-false last_id table.next e
 -- the final 250 of the next id, where it is taken
 entry_of : (site : Site) (moment : ℕ) (table : Table) (message : Received) (session : ℕ) (whole : Bool) → is_spent table ≡ false → IsAcked (after table (accept_of site moment message)) (Sends session (stored_text table.next) whole)
 entry_of site moment table message session whole left = λ id within is.
-    let s : Stored = stored table.next (draft_of site moment message) message.body in record {
+    let s : Stored = stored table.next message.body (draft_of site moment message) in record {
       stored = s;
       among = Contains-push table.entries s;
       id_is = same_id table.next id (unspent table left) within is;
+      wanted = refl;
     }
 
 -- ---- single effects
 
 speech_leads : (site : Site) (table : Table) (session : ℕ) (text : List ℕ) (whole : Bool) → ((w : Bool) → IsAcked table (Sends session text w)) → Leads site table table (speech session text whole)
-speech_leads site table session text true acked = record { table = refl; acked = (acked true, tt); ours = (tt, tt) }
-speech_leads site table session text false acked = record { table = refl; acked = (acked false, (tt, tt)); ours = (tt, (tt, tt)) }
+speech_leads site table session text true acked = record { table = refl; acked = (acked true, tt) }
+speech_leads site table session text false acked = record { table = refl; acked = (acked false, (tt, tt)) }
 
 last_leads : (site : Site) (table : Table) (session : ℕ) (text : List ℕ) (whole : Bool) → IsAcked table (Sends session text whole) → Leads site table table (Sends session text whole ∷ HangsUp session ∷ [])
-last_leads site table session text whole acked = record { table = refl; acked = (acked, (tt, tt)); ours = (tt, (tt, tt)) }
+last_leads site table session text whole acked = record { table = refl; acked = (acked, (tt, tt)) }
 
 hang_leads : (site : Site) (table : Table) (session : ℕ) → Leads site table table (HangsUp session ∷ [])
-hang_leads site table session = record { table = refl; acked = (tt, tt); ours = (tt, tt) }
+hang_leads site table session = record { table = refl; acked = (tt, tt) }
 
 -- ---- what is done for a session
 
@@ -172,7 +142,7 @@ commits_grows : (site : Site) (moment : ℕ) (d : Did) (message : Received) → 
 commits_grows site moment d message = record {
   more = Commits (accept_of site moment message) ∷ [];
   effects = refl;
-  leads = record { table = refl; acked = (tt, tt); ours = (refl, tt) };
+  leads = record { table = refl; acked = (tt, tt) };
   number = refl;
 }
 
@@ -325,7 +295,7 @@ handled_steps site m Rests none = leads_none site m.table
 handled_steps site m Stops none = leads_none site m.table
 
 taken_steps : (site : Site) (table : Table) (turn : Turn) (step : Step) → Steps site table step → Steps site table (taken turn step)
-taken_steps site table turn step h = record { table = h.table; acked = (tt, (tt, h.acked)); ours = (tt, (tt, h.ours)) }
+taken_steps site table turn step h = record { table = h.table; acked = (tt, (tt, h.acked)) }
 
 -- the effects of a step lead to its table
 pub stepped_leads : (site : Site) (m : State) (turn : Turn) → Leads site m.table (stepped site m turn).state.table (stepped site m turn).effects

@@ -1,5 +1,5 @@
 -- Effects join, and single calls are effects.
-use Rattle.std.proofs.Common.{◌≡◌, inl, inr, ⊎_elim, ℕ, ◌+◌, ◌≤◌, List, [], ◌∷◌, ◌++◌, length, Bool, true, false, Option, Some, None, refl, sym, ◌∙◌, ap, subst, arith, append_assoc, length-append}
+use Rattle.std.proofs.Common.{◌≡◌, inl, inr, ℕ, ◌+◌, ◌≤◌, List, [], ◌∷◌, ◌++◌, length, Bool, true, false, refl, sym, ◌∙◌, ap, subst, arith, append_assoc, length-append}
 use Rattle.std.proofs.lemmas.Grind.{flat_map-append}
 use Rattle.mail_base.specs.Histories.{Gains}
 use Rattle.mail_base.proofs.Gaining.{gains_none, gains_join}
@@ -7,13 +7,18 @@ use Rattle.mail_edge.specs.Seen.{ClockSeen}
 use Rattle.link_edge.specs.Heard.{Heard}
 use Rattle.spool_disk.specs.Disk.{FileMap}
 use Rattle.spool_disk.specs.Spooled.{Spooled}
-use Rattle.spool_store.specs.Moves.{Moves, Becomes}
-use Rattle.spool_store.specs.Standing.{IsClean, IsEither, StandsFor}
-use Rattle.spool_store.specs.Tables.{Table, Command, after, applied}
-use Rattle.spool_store.proofs.MovesLemmas.{moves_join, moves_none}
-use Rattle.spool_store.proofs.TableLemmas.{applied_more}
+use Rattle.spool_store.specs.Entries.{Table}
+use Rattle.spool_store.specs.Moves.{Moves}
+use Rattle.spool_store.specs.Settled.{StandsFor}
+use Rattle.spool_store.proofs.MovesLemmas.{moves_join, moves_none, moves_weaker}
+use Rattle.mail_core.specs.Commands.{Command, IsEither, after, applied}
 use Rattle.mail_core.specs.Effects.{Effect, Commits, heard, read, commanded, heard_of, readings_of, commands_of}
 use Rattle.mail_core.specs.Seen.{Seen, seen, table_after, IsPart, Leaves, Ran}
+
+-- commands one after the other make of a table what all of them make
+applied_more : (table : Table) (some more : List Command) → applied table (some ++ more) ≡ applied (applied table some) more
+applied_more table [] more = refl
+applied_more table (command ∷ some) more = applied_more (after table command) some more
 
 -- the table after two lists of effects
 pub table_more : (table : Table) (xs ys : List Effect) → table_after table (xs ++ ys) ≡ table_after (table_after table xs) ys
@@ -31,27 +36,12 @@ part_after dirs table xs ys f p = record {
 }
 
 leaves_after : (dirs : List (List ℕ)) (table : Table) (xs ys : List Effect) (well : Bool) (f : FileMap) → Leaves dirs (table_after table xs) ys well f → Leaves dirs table (xs ++ ys) well f
-leaves_after dirs table xs ys true f h = subst (λ t. IsClean dirs t f) (sym (table_more table xs ys)) h
+leaves_after dirs table xs ys true f h = subst (λ t. StandsFor dirs t f) (sym (table_more table xs ys)) h
 leaves_after dirs table xs ys false f h = record {
   done = xs ++ h.done;
   command = h.command;
   whole = ap (λ q. xs ++ q) h.whole ∙ sym (append_assoc xs h.done (Commits h.command ∷ []));
   stands = subst (λ t. IsEither dirs t h.command f) (sym (table_more table xs h.done)) h.stands;
-}
-
-becomes_wider : (a b : Option FileMap) (P Q S : FileMap → Type 0) → ((f : FileMap) → Q f → S f) → Becomes a b P Q → Becomes a b P S
-becomes_wider None None P Q S to h = tt
-becomes_wider None (Some g) P Q S to h = absurd h
-becomes_wider (Some f) None P Q S to h = absurd h
-becomes_wider (Some f) (Some g) P Q S to h = λ p. to g (h p)
-
--- what a run leads to and leaves, said more weakly
-pub moves_wider : (a b : Spooled) (P Q S R U : FileMap → Type 0) → ((f : FileMap) → Q f → S f) → ((f : FileMap) → R f → U f) → Moves a b P Q R → Moves a b P S U
-moves_wider a b P Q S R U to left h = record {
-  later = h.later;
-  now = becomes_wider a.told b.told P Q S to h.now;
-  images = λ f e p t c le l. ⊎_elim (λ before. inl before) (λ r. inr (left c r)) (h.images f e p t c le l);
-  kept = h.kept;
 }
 
 -- effects after effects
@@ -60,9 +50,9 @@ ran_join dirs table a b c xs ys well h k = record {
   floor = subst (Gains a.floor.told c.floor.told) (sym (flat_map-append heard xs ys)) (gains_join a.floor.told b.floor.told c.floor.told (heard_of xs) (heard_of ys) h.floor k.floor);
   clock = subst (Gains a.clock.told c.clock.told) (sym (flat_map-append read xs ys)) (gains_join a.clock.told b.clock.told c.clock.told (readings_of xs) (readings_of ys) h.clock k.clock);
   readings = omega (arith, h.readings, k.readings, ap length (flat_map-append read xs ys), length-append (readings_of xs) (readings_of ys));
-  spool = moves_join a.spool b.spool c.spool (IsClean dirs table) (IsClean dirs (table_after table xs)) (Leaves dirs table (xs ++ ys) well) (IsPart dirs table (xs ++ ys))
-      (moves_wider a.spool b.spool (IsClean dirs table) (IsClean dirs (table_after table xs)) (IsClean dirs (table_after table xs)) (IsPart dirs table xs) (IsPart dirs table (xs ++ ys)) (λ f p. p) (part_before dirs table xs ys) h.spool)
-      (moves_wider b.spool c.spool (IsClean dirs (table_after table xs)) (Leaves dirs (table_after table xs) ys well) (Leaves dirs table (xs ++ ys) well) (IsPart dirs (table_after table xs) ys) (IsPart dirs table (xs ++ ys)) (leaves_after dirs table xs ys well) (part_after dirs table xs ys) k.spool);
+  spool = moves_join a.spool b.spool c.spool (StandsFor dirs table) (StandsFor dirs (table_after table xs)) (Leaves dirs table (xs ++ ys) well) (IsPart dirs table (xs ++ ys))
+      (moves_weaker a.spool b.spool (StandsFor dirs table) (StandsFor dirs (table_after table xs)) (IsPart dirs table xs) (StandsFor dirs (table_after table xs)) (IsPart dirs table (xs ++ ys)) (λ f p. p) (part_before dirs table xs ys) h.spool)
+      (moves_weaker b.spool c.spool (StandsFor dirs (table_after table xs)) (Leaves dirs (table_after table xs) ys well) (IsPart dirs (table_after table xs) ys) (Leaves dirs table (xs ++ ys) well) (IsPart dirs table (xs ++ ys)) (leaves_after dirs table xs ys well) (part_after dirs table xs ys) k.spool);
   floor_faults = omega (arith, h.floor_faults, k.floor_faults);
   spool_faults = omega (arith, h.spool_faults, k.spool_faults);
 }
@@ -74,7 +64,7 @@ ran_quiet dirs table f g s c d effects none floor faults clock readings = record
   floor = floor;
   clock = clock;
   readings = readings;
-  spool = moves_none s (IsClean dirs table) (Leaves dirs table effects true) (IsPart dirs table effects) (λ files p. subst (λ cs. IsClean dirs (applied table cs) files) (sym none) p);
+  spool = moves_none s (StandsFor dirs table) (Leaves dirs table effects true) (IsPart dirs table effects) (λ files p. subst (λ cs. StandsFor dirs (applied table cs) files) (sym none) p);
   floor_faults = faults;
   spool_faults = omega arith;
 }
@@ -94,25 +84,25 @@ part_of_one dirs table command f (inl s) = record { done = []; rest = Commits co
 part_of_one dirs table command f (inr s) = record { done = Commits command ∷ []; rest = []; whole = refl; stands = s }
 
 -- a command that was done
-pub ran_done : (dirs : List (List ℕ)) (table : Table) (command : Command) (f : Heard) (s t : Spooled) (c : ClockSeen) → Moves s t (IsClean dirs table) (IsClean dirs (after table command)) (IsEither dirs table command) → s.faults ≤ t.faults
+pub ran_done : (dirs : List (List ℕ)) (table : Table) (command : Command) (f : Heard) (s t : Spooled) (c : ClockSeen) → Moves s t (StandsFor dirs table) (StandsFor dirs (after table command)) (IsEither dirs table command) → s.faults ≤ t.faults
     → Ran dirs table (seen f s c) (seen f t c) (Commits command ∷ []) true
 ran_done dirs table command f s t c moves later = record {
   floor = gains_none f.told;
   clock = gains_none c.told;
   readings = omega arith;
-  spool = moves_wider s t (IsClean dirs table) (IsClean dirs (after table command)) (Leaves dirs table (Commits command ∷ []) true) (IsEither dirs table command) (IsPart dirs table (Commits command ∷ [])) (λ files p. p) (part_of_one dirs table command) moves;
+  spool = moves_weaker s t (StandsFor dirs table) (StandsFor dirs (after table command)) (IsEither dirs table command) (Leaves dirs table (Commits command ∷ []) true) (IsPart dirs table (Commits command ∷ [])) (λ files p. p) (part_of_one dirs table command) moves;
   floor_faults = omega arith;
   spool_faults = later;
 }
 
 -- a command that failed
-pub ran_failed : (dirs : List (List ℕ)) (table : Table) (command : Command) (f : Heard) (s t : Spooled) (c : ClockSeen) → Moves s t (IsClean dirs table) (IsEither dirs table command) (IsEither dirs table command) → s.faults ≤ t.faults
+pub ran_failed : (dirs : List (List ℕ)) (table : Table) (command : Command) (f : Heard) (s t : Spooled) (c : ClockSeen) → Moves s t (StandsFor dirs table) (IsEither dirs table command) (IsEither dirs table command) → s.faults ≤ t.faults
     → Ran dirs table (seen f s c) (seen f t c) (Commits command ∷ []) false
 ran_failed dirs table command f s t c moves later = record {
   floor = gains_none f.told;
   clock = gains_none c.told;
   readings = omega arith;
-  spool = moves_wider s t (IsClean dirs table) (IsEither dirs table command) (Leaves dirs table (Commits command ∷ []) false) (IsEither dirs table command) (IsPart dirs table (Commits command ∷ [])) (λ files h. record { done = []; command = command; whole = refl; stands = h }) (part_of_one dirs table command) moves;
+  spool = moves_weaker s t (StandsFor dirs table) (IsEither dirs table command) (IsEither dirs table command) (Leaves dirs table (Commits command ∷ []) false) (IsPart dirs table (Commits command ∷ [])) (λ files h. record { done = []; command = command; whole = refl; stands = h }) (part_of_one dirs table command) moves;
   floor_faults = omega arith;
   spool_faults = later;
 }

@@ -8,9 +8,9 @@ use Rattle.mail_base.specs.declared.control.State.TheVariants.{Queued}
 use Rattle.mail_base.specs.declared.message.Marks.{Marks}
 use Rattle.mail_base.specs.declared.id.TheConstants.Id.{MOST}
 use Rattle.smtp_receive.specs.declared.received.Received.{Received}
-use Rattle.spool_store.specs.Tables.{Table, Command}
+use Rattle.spool_store.specs.Entries.{Table}
+use Rattle.mail_core.specs.Commands.{Command, Accept}
 use Rattle.mail_core.specs.declared.serving.Site.{Site}
-use Rattle.spool_store.specs.Tables.Command.{Accept}
 
 -- the directories of a site: it has one
 abbrev pub dirs_of : Site → List (List ℕ)
@@ -46,9 +46,12 @@ control_of moment message = record {
   headers = message.headers;
 }
 
+abbrev pub draft_in : List ℕ → ℕ → Received → Draft
+draft_in dir moment message =
+    record { id = None; dir = dir; control = control_of moment message }
+
 abbrev pub draft_of : Site → ℕ → Received → Draft
-draft_of site moment message =
-    record { id = None; dir = site.dir; control = control_of moment message }
+draft_of site moment message = draft_in site.dir moment message
 
 -- the command that takes a message in
 abbrev pub accept_of : Site → ℕ → Received → Command

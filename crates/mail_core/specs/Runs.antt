@@ -4,13 +4,15 @@ use Rattle.std.specs.Prelude.{◌≡◌, ℕ, ◌+◌, ◌≤◌, List, [], ◌�
 use Rattle.mail_base.specs.Histories.{Gains}
 use Rattle.mail_base.specs.Limits.{IsId}
 use Rattle.mail_base.specs.Names.{name_of}
-use Rattle.mail_base.specs.declared.id.Kind.TheVariants.{Df, Qf}
+use Rattle.mail_base.specs.States.{NeedsBody}
+use Rattle.mail_base.specs.declared.id.Kind.{Kind}
+use Rattle.mail_base.specs.declared.id.Kind.TheVariants.{Df}
 use Rattle.link_edge.specs.declared.event.FloorEvent.TheVariants.{Sent}
-use Rattle.qf_format.specs.Spelling.{spelled}
 use Rattle.smtp_receive.specs.Replies.{stored_text}
 use Rattle.spool_disk.specs.Disk.{FileMap, bytes_at}
-use Rattle.spool_store.specs.Standing.{IsClean}
-use Rattle.spool_store.specs.Tables.{Table, Stored}
+use Rattle.spool_store.specs.Entries.{Stored, Table}
+use Rattle.spool_store.specs.Queue.{IsLive}
+use Rattle.spool_store.specs.Settled.{StandsFor, spot_of}
 use Rattle.mail_core.specs.Effects.{Effect, Takes, Ticks, Commits, Sends, HangsUp, heard_of, readings_of}
 use Rattle.mail_core.specs.declared.serving.Site.{Site}
 use Rattle.mail_core.specs.declared.serving.Act.{Act}
@@ -24,11 +26,12 @@ use Rattle.mail_core.specs.Messages.{dirs_of}
 abbrev pub run_over : Site → Table → List Turn → Step
 run_over site table turns = run site (beginning table) turns
 
--- the entry of that id is in the table
+-- the entry of that id is in the table, and its body is wanted
 pub record HasEntry (table : Table) (id : ℕ) : Type 0 where
   pub stored : Stored
   pub among : Contains table.entries stored
-  pub id_is : stored.entry.id ≡ id
+  pub id_is : stored.id ≡ id
+  pub wanted : NeedsBody stored.control
 
 -- where an effect is the final 250 of an id, the entry is in the table
 abbrev pub IsAcked : Table → Effect → Type 0
@@ -45,17 +48,18 @@ AreAcked table [] = Unit {0}
 AreAcked table (effect ∷ effects) =
     IsAcked table effect × AreAcked (table_after table (effect ∷ [])) effects
 
--- the table has an entry of that id, and its control file and its body file are there, and hold its
--- control and its body
-pub record IsKept (dir : List ℕ) (table : Table) (files : FileMap) (id : ℕ) : Type 0 where
+-- the table has an entry of that id, a control file that is live says its control, and its body file
+-- is there and holds its body
+pub record IsKept (dirs : List (List ℕ)) (table : Table) (files : FileMap) (id : ℕ) : Type 0 where
   pub stored : Stored
   pub among : Contains table.entries stored
-  pub id_is : stored.entry.id ≡ id
-  pub control : bytes_at files (dir, name_of Qf id) ≡ Some (spelled stored.entry.control)
-  pub body : bytes_at files (dir, name_of Df id) ≡ Some stored.body
+  pub id_is : stored.id ≡ id
+  pub kind : Kind
+  pub control : IsLive dirs files (spot_of kind stored) stored.control
+  pub body : bytes_at files (stored.dir, name_of Df id) ≡ Some stored.body
 
--- what the files are at the exit of a run: those of the table after its commands, but where the
--- spool failed, and with the entry of each final 250 that was sent
+-- what the files are at the exit of a run: they stand for the table after its commands, but where the
+-- spool failed, and they have the entry of each final 250 that was sent
 pub record IsLeft (site : Site) (table : Table) (effects : List Effect) (well : Bool)
     (told : Option FileMap) : Type 0 where
   pub files : FileMap
@@ -63,9 +67,9 @@ pub record IsLeft (site : Site) (table : Table) (effects : List Effect) (well : 
   pub leaves : Leaves (dirs_of site) table effects well files
   pub acked : (session id : ℕ) → IsId id
       → Contains (heard_of effects) (Sent session (stored_text id))
-      → IsKept site.dir (table_after table effects) files id
+      → IsKept (dirs_of site) (table_after table effects) files id
 
--- these turns are all that happened from a to b, over files that were exactly the table's
+-- these turns are all that happened from a to b, over files that stood for the table
 pub record Headline (site : Site) (table : Table) (turns : List Turn) (a b : Seen)
     (well : Bool) : Type 0 where
   -- the floor tells just what the machine does at these turns, and the clock their readings
@@ -74,10 +78,10 @@ pub record Headline (site : Site) (table : Table) (turns : List Turn) (a b : See
   pub readings : b.clock.readings
       ≡ a.clock.readings + length (readings_of (run_over site table turns).effects)
   -- what the files are at the exit
-  pub exit : (files : FileMap) → a.spool.told ≡ Some files → IsClean (dirs_of site) table files
+  pub exit : (files : FileMap) → a.spool.told ≡ Some files → StandsFor (dirs_of site) table files
       → IsLeft site table (run_over site table turns).effects well b.spool.told
   -- a stop at any moment since a leaves the table after a front of what was done
-  pub images : (files : FileMap) → a.spool.told ≡ Some files → IsClean (dirs_of site) table files
+  pub images : (files : FileMap) → a.spool.told ≡ Some files → StandsFor (dirs_of site) table files
       → (left : FileMap) → b.spool.left_since a.spool.moment left
       → IsPart (dirs_of site) table (run_over site table turns).effects left
   -- no count of faults falls

@@ -5,9 +5,10 @@ use Rattle.mail_edge.specs.Seen.{ClockSeen}
 use Rattle.link_edge.specs.Heard.{Heard}
 use Rattle.spool_disk.specs.Disk.{FileMap}
 use Rattle.spool_disk.specs.Spooled.{Spooled}
+use Rattle.spool_store.specs.Entries.{Table}
 use Rattle.spool_store.specs.Moves.{Moves}
-use Rattle.spool_store.specs.Standing.{IsClean, IsEither, StandsFor}
-use Rattle.spool_store.specs.Tables.{Table, Command, applied}
+use Rattle.spool_store.specs.Settled.{StandsFor}
+use Rattle.mail_core.specs.Commands.{Command, IsEither, applied}
 use Rattle.mail_core.specs.Effects.{Effect, Commits, heard_of, readings_of, commands_of}
 
 -- all that is seen of the three
@@ -39,19 +40,19 @@ pub record LacksLast (dirs : List (List ℕ)) (table : Table) (effects : List Ef
   pub whole : effects ≡ done ++ Commits command ∷ []
   pub stands : IsEither dirs (table_after table done) command files
 
--- the files that effects leave: exactly those of the table after them, but where the spool failed
+-- the files that effects leave: they stand for the table after them, but where the spool failed
 abbrev pub Leaves : List (List ℕ) → Table → List Effect → Bool → FileMap → Type 0
-Leaves dirs table effects true = IsClean dirs (table_after table effects)
+Leaves dirs table effects true = StandsFor dirs (table_after table effects)
 Leaves dirs table effects false = LacksLast dirs table effects
 
--- these effects lead from a to b: what floor and clock tell, what becomes of files that were
--- exactly the table's, and what a stop since a may leave; no count falls
+-- these effects lead from a to b: what floor and clock tell, what becomes of files that stood for
+-- the table, and what a stop since a may leave; no count falls
 pub record Ran (dirs : List (List ℕ)) (table : Table) (a b : Seen) (effects : List Effect)
     (well : Bool) : Type 0 where
   pub floor : Gains a.floor.told b.floor.told (heard_of effects)
   pub clock : Gains a.clock.told b.clock.told (readings_of effects)
   pub readings : b.clock.readings ≡ a.clock.readings + length (readings_of effects)
-  pub spool : Moves a.spool b.spool (IsClean dirs table) (Leaves dirs table effects well)
+  pub spool : Moves a.spool b.spool (StandsFor dirs table) (Leaves dirs table effects well)
       (IsPart dirs table effects)
   pub floor_faults : a.floor.faults ≤ b.floor.faults
   pub spool_faults : a.spool.faults ≤ b.spool.faults

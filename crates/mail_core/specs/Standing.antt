@@ -1,10 +1,13 @@
 -- What the core keeps, and what of the machine it stands for.
-use Rattle.std.specs.Prelude.{◌≡◌, ◌≢◌, ◌<◌, ◌^◌, List, [], ◌∷◌, ◌++◌, All, Option, Some, None, false}
+use Rattle.std.specs.Prelude.{◌≡◌, ◌≢◌, ◌<◌, ◌^◌, List, [], ◌∷◌, ◌++◌, All, Option, Some, None, IfSome, false}
 use Rattle.smtp_lines.specs.Reader.{Reader, Stream, awaited, Stands as Reads}
 use Rattle.smtp_receive.specs.Sessions.{Stands as Speaks}
 use Rattle.smtp_receive.specs.Replies.{out_of_memory_text, too_many_sessions_text}
-use Rattle.spool_store.specs.declared.store.Store.{Store}
-use Rattle.spool_store.specs.Tables.{Table, IsSound}
+use Rattle.spool_disk.specs.Disk.{FileMap}
+use Rattle.spool_store.specs.declared.queue.Queue.{Queue}
+use Rattle.spool_store.specs.Entries.{Table}
+use Rattle.spool_store.specs.Keepers.{seen}
+use Rattle.spool_store.specs.Stores.{Agrees, Holds}
 use Rattle.mail_core.specs.declared.caller.Caller.{Caller}
 use Rattle.mail_core.specs.declared.intake.Intake.{Intake}
 use Rattle.mail_core.specs.declared.serving.Core.{Core}
@@ -13,16 +16,20 @@ use Rattle.mail_core.specs.Messages.{dirs_of}
 use Rattle.mail_core.specs.declared.serving.Site.{Site}
 use Rattle.mail_core.specs.Machine.{State}
 
--- a store stands for a table
-pub record Stores (site : Site) (store : Store) (table : Table) : Type 0 where
-  pub next : store.next ≡ table.next
-  pub whole : store.broken ≡ false
-  pub dirs : store.dirs ≡ dirs_of site
-  pub sound : IsSound (dirs_of site) table
+-- a store stands for a table: it has the table's entries and first free id, and no call on it
+-- failed
+pub record Stores (site : Site) (queue : Queue) (table : Table) : Type 0 where
+  pub holds : Holds (seen queue) table
+  pub whole : (seen queue).broken ≡ false
+  pub dirs : (seen queue).dirs ≡ dirs_of site
+
+-- a store has what the files say that are told, if they are
+abbrev pub Tallies : Queue → Option FileMap → Type 0
+Tallies queue told = IfSome told (Agrees (seen queue))
 
 -- an intake takes messages into a table
 pub record Serves (site : Site) (intake : Intake) (table : Table) : Type 0 where
-  pub store : Stores site intake.store table
+  pub store : Stores site intake.queue table
   pub dir : intake.dir ≡ site.dir
   pub short : intake.short ≡ out_of_memory_text
   pub range : intake.moment < 2 ^ 64
@@ -66,6 +73,10 @@ pub record Stands (site : Site) (core : Core) (m : State) : Type 0 where
   pub latest : core.intake.moment ≡ m.latest
   pub callers : Hosts site core.caller m.guests
   pub on : m.over ≡ None
+
+-- a core whose store has what the files say that are told
+abbrev pub IsTallied : Core → Option FileMap → Type 0
+IsTallied core told = Tallies core.intake.queue told
 
 -- a core that stands for some state
 pub record IsStanding (core : Core) : Type 0 where

@@ -11,7 +11,9 @@ ghost use Rattle.smtp_lines.specs.Reader.{OnlyLastAsks, StandsFirst};
 ghost use Rattle.smtp_receive.specs.Dialogue.{Heard, exchanges, is_dropped};
 ghost use Rattle.smtp_receive.specs.Replies.{out_of_memory_text};
 ghost use Rattle.smtp_receive.specs.Sessions.{Stands as Speaks};
-ghost use Rattle.spool_store.specs.Tables.{Table};
+ghost use Rattle.spool_store.specs.Entries.{Table};
+ghost use Rattle.spool_store.specs.Keepers.{seen as kept};
+ghost use Rattle.spool_store.specs.Parcels.{IsParcel};
 ghost use Rattle.mail_core.specs.declared.serving.Site.{Site};
 ghost use Rattle.mail_core.specs.Effects.{heard_of, speech, Sends, HangsUp};
 ghost use Rattle.mail_core.specs.inner.Going.{AnswersLine, AnswersLines, AnswersMessage, Feeds, is_onward, stays_open};
@@ -21,7 +23,7 @@ ghost use Rattle.mail_core.specs.Machine as machine;
 ghost use Rattle.mail_core.specs.Machine.{moment_by};
 ghost use Rattle.mail_core.specs.Messages as entry;
 ghost use Rattle.mail_core.specs.Seen.{seen};
-ghost use Rattle.mail_core.specs.Standing.{Serves, Talks, Keeps};
+ghost use Rattle.mail_core.specs.Standing.{Keeps, Serves, Talks, Tallies};
 ghost use Rattle.mail_core.specs.inner.Handling.{IsReady};
 
 use crate::caller::Caller;
@@ -30,11 +32,11 @@ use crate::next::Next;
 use crate::serving::CoreStop;
 use crate::speech::say;
 use link_edge::Floor;
-use mail_base::{Draft, NoMemory, StoreFault, Text, TryCopy};
+use mail_base::{Draft, NoMemory, Seq, StoreFault, Text, TryCopy};
 use smtp_lines::{Line, last_asks};
 use smtp_receive::{Did, Received, out_of_memory};
 use spool_disk::Spool;
-use spool_store::{Change, Store};
+use spool_store::{Parcel, Queue};
 use std::alloc::Global;
 
 /// The beginning of the year 3000. A later reading of the clock counts as that.
@@ -45,21 +47,21 @@ const LAST_MOMENT: u64 = 32_503_680_000;
 #[derive(Drop)]
 pub struct Intake {
     pub(crate) alloc: Global,
-    pub(crate) store: Store,
+    pub(crate) queue: Queue,
     pub(crate) dir: Text,
     pub(crate) short: Text,
     pub(crate) moment: u64,
 }
 
 impl Intake {
-    pub(crate) fn new(alloc: Global, store: Store, dir: Text) -> Result<Intake, NoMemory>
+    pub(crate) fn new(alloc: Global, queue: Queue, dir: Text) -> Result<Intake, NoMemory>
         ensures parts { IfOk result
-            (λ intake. (intake.store ≡ store) × (intake.dir ≡ dir) × (intake.moment ≡ 0)) }
+            (λ intake. (intake.queue ≡ queue) × (intake.dir ≡ dir) × (intake.moment ≡ 0)) }
         ensures short { IfOk result (λ intake. intake.short ≡ out_of_memory_text) }
     {
         Ok(Intake {
             alloc,
-            store,
+            queue,
             dir,
             short: out_of_memory(alloc)?,
             moment: 0,
@@ -132,23 +134,19 @@ impl Intake {
         Intake::reply(floor, caller.number, &self.short)
     }
 
-    // The change that takes a message in.
+    // The parcel that takes a message in.
     #[tactic(auto, unfolding(crate::specs::Messages::last_id))]
-    fn change(&self, message: Received) -> Result<Change, StoreFault>
-        requires place { Contains self.now.store.dirs self.now.dir }
-        requires valid { IsValid (entry.control_of self.now.moment message) }
-        ensures id { IfOk result (λ change. change.id ≡ self.now.store.next) }
-        ensures draft { IfOk result
-            (λ change. change.draft
-            ≡ record {
-              id = None;
-              dir = self.now.dir;
-              control = entry.control_of self.now.moment message;
-            }) }
-        ensures body { IfOk result (λ change. change.body ≡ message.body) }
-        ensures room { IfOk result (λ _. IsId self.now.store.next) }
-        ensures spent { IsErrOf result NoIdLeft → entry.last_id < self.now.store.next }
-        ensures never { result ≢ Err SpoolBroke }
+    fn parcel(&mut self, message: Received) -> Result<Parcel, StoreFault>
+        requires place { Contains (kept self.old.queue).dirs self.old.dir }
+        requires valid { IsValid (entry.control_of self.old.moment message) }
+        ensures is { IfOk result
+            (IsParcel (kept self.new.queue) []
+            (entry.draft_in self.old.dir self.old.moment message) message.body) }
+        ensures same { self.new ≡ record self.old { queue = self.new.queue } }
+        ensures room { kept self.new.queue
+            ≡ record (kept self.old.queue) { room = (kept self.new.queue).room } }
+        ensures spent { IsErrOf result NoIdLeft → entry.last_id < (kept self.old.queue).next }
+        ensures never { IsErrOf result SpoolBroke → ⊥ }
     {
         let (control, body) = control_of(self.alloc, self.moment, message)?;
         let draft = Draft {
@@ -156,7 +154,7 @@ impl Intake {
             dir: self.dir.copy()?,
             control,
         };
-        self.store.prepare(draft, body)
+        self.queue.prepare(&Seq::new(self.alloc), &draft, body)
     }
 
     // Takes a message in, and acknowledges it once it is in the queue. The text of its 250 is made
@@ -169,8 +167,9 @@ impl Intake {
         message: Received,
     ) -> Result<Next, CoreStop>
         requires sound { IsSoundAt (F.seen floor.old) caller.old.number }
-        requires place { Contains self.old.store.dirs self.old.dir }
+        requires place { Contains (kept self.old.queue).dirs self.old.dir }
         requires valid { IsValid (entry.control_of self.old.moment message) }
+        requires tallied { Tallies self.old.queue (D.seen spool.old).told }
         ensures accepts { (site : Site) (d : machine.Did) (clock : ClockSeen)
             → d.way ≡ machine.GoesOn → Serves site self.old d.table
             → caller.old.number ≡ d.guest.number → AnswersMessage site self.old.moment d message
@@ -181,21 +180,23 @@ impl Intake {
         ensures begun { (F.seen floor.new).begun ≡ (F.seen floor.old).begun }
         ensures calm { is_well result ≡ true
             → (D.seen spool.new).faults ≡ (D.seen spool.old).faults }
+        ensures tallied { is_well result ≡ true
+            → Tallies self.new.queue (D.seen spool.new).told }
         ensures moment { self.new.moment ≡ self.old.moment }
         ensures number { caller.new.number ≡ caller.old.number }
         ensures lines { caller.new.lines ≡ caller.old.lines }
         ensures sound { is_onward result ≡ true → IsSoundAt (F.seen floor.new) caller.old.number }
     {
-        let change = match self.change(message) {
-            Ok(change) => change,
+        let parcel = match self.parcel(message) {
+            Ok(parcel) => parcel,
             Err(StoreFault::IdsSpent) => return Err(CoreStop::IdsSpent),
             Err(StoreFault::SpoolFault) => return Err(CoreStop::SpoolFault),
             Err(StoreFault::NoMemory) => return Ok(self.lack(floor, caller)),
         };
-        let Ok(text) = caller.session.stored(&change.id()) else {
+        let Ok(text) = caller.session.stored(&parcel.id()) else {
             return Ok(self.lack(floor, caller));
         };
-        self.store.commit(spool, change)?;
+        self.queue.commit(spool, parcel)?;
         Ok(Intake::reply(floor, caller.number, &text))
     }
 
@@ -209,6 +210,7 @@ impl Intake {
     ) -> Result<Next, CoreStop>
         requires sound { IsSoundAt (F.seen floor.old) caller.old.number }
         requires ready { IsReady self.old caller.old }
+        requires tallied { Tallies self.old.queue (D.seen spool.old).told }
         ensures answers { (site : Site) (d : machine.Did) (clock : ClockSeen)
             → d.way ≡ machine.GoesOn → Serves site self.old d.table → Talks site caller.old d.guest
             → AnswersLine site self.old.moment d line.now
@@ -220,6 +222,8 @@ impl Intake {
         ensures begun { (F.seen floor.new).begun ≡ (F.seen floor.old).begun }
         ensures calm { is_well result ≡ true
             → (D.seen spool.new).faults ≡ (D.seen spool.old).faults }
+        ensures tallied { is_well result ≡ true
+            → Tallies self.new.queue (D.seen spool.new).told }
         ensures moment { self.new.moment ≡ self.old.moment }
         ensures number { caller.new.number ≡ caller.old.number }
         ensures lines { caller.new.lines ≡ caller.old.lines }
@@ -245,6 +249,7 @@ impl Intake {
     ) -> Result<Next, CoreStop>
         requires sound { IsSoundAt (F.seen floor.old) caller.old.number }
         requires ready { IsReady self.old caller.old }
+        requires tallied { Tallies self.old.queue (D.seen spool.old).told }
         ensures answers { (site : Site) (d : machine.Did) (clock : ClockSeen)
             → d.way ≡ machine.GoesOn → Serves site self.old d.table → Talks site caller.old d.guest
             → OnlyLastAsks lines.now
@@ -258,6 +263,8 @@ impl Intake {
         ensures begun { (F.seen floor.new).begun ≡ (F.seen floor.old).begun }
         ensures calm { is_well result ≡ true
             → (D.seen spool.new).faults ≡ (D.seen spool.old).faults }
+        ensures tallied { is_well result ≡ true
+            → Tallies self.new.queue (D.seen spool.new).told }
         ensures moment { self.new.moment ≡ self.old.moment }
         ensures number { caller.new.number ≡ caller.old.number }
         ensures lines { caller.new.lines ≡ caller.old.lines }
@@ -284,6 +291,7 @@ impl Intake {
     ) -> Result<Next, CoreStop>
         requires sound { IsSoundAt (F.seen floor.old) caller.old.number }
         requires ready { IsReady self.old caller.old }
+        requires tallied { Tallies self.old.queue (D.seen spool.old).told }
         ensures feeds { (site : Site) (table : Table) (g : Guest) (clock : ClockSeen)
             → Serves site self.old table → Keeps site caller.old g
             → Feeds site self.old.moment table g piece.now
@@ -294,6 +302,8 @@ impl Intake {
         ensures begun { (F.seen floor.new).begun ≡ (F.seen floor.old).begun }
         ensures calm { is_well result ≡ true
             → (D.seen spool.new).faults ≡ (D.seen spool.old).faults }
+        ensures tallied { is_well result ≡ true
+            → Tallies self.new.queue (D.seen spool.new).told }
         ensures moment { self.new.moment ≡ self.old.moment }
     {
         let Ok(given) = caller.lines.feed(piece) else {

@@ -1,10 +1,11 @@
-ghost use Rattle.std.specs.Prelude.{◌≡◌, ◌≢◌, ◌∷◌, [], Bool, true, IfOk, IfSome, All};
+ghost use Rattle.std.specs.Prelude.{◌≡◌, ◌≢◌, ◌∷◌, [], Bool, true, IfOk, IfSome, All, Option};
 ghost use Rattle.mail_base.specs.Histories.{Gains};
 ghost use Rattle.mail_edge.specs.Seen.{ClockSeen};
 ghost use Rattle.link_edge.specs.Heard.{Heard, IsSoundAt};
 ghost use Rattle.link_edge.specs.Turns.{Fits};
 ghost use Rattle.link_edge.specs.declared.event.Event.TheVariants.{Brings};
 ghost use Rattle.smtp_receive.specs.Replies.{greeting_text, shown_host};
+ghost use Rattle.spool_disk.specs.Disk.{FileMap};
 ghost use Rattle.mail_core.specs.Effects.{Sends, HangsUp, heard_of};
 ghost use Rattle.mail_core.specs.Events.{IsTaken, IsHeardAt, Turns, event_of};
 ghost use Rattle.mail_core.specs.inner.Handling.{IsTakenUp, IsOpened, Steps, IsReady, is_hosted};
@@ -13,8 +14,8 @@ ghost use Rattle.mail_core.specs.Guests.{newcomer};
 ghost use Rattle.mail_core.specs.declared.serving.CoreStop.TheVariants.{SpoolFault as SpoolStop};
 ghost use Rattle.mail_core.specs.Machine.{State, beginning};
 ghost use Rattle.mail_core.specs.Seen.{seen};
-ghost use Rattle.mail_core.specs.Standing.{IsStanding, Keeps, Stands, Stores};
-ghost use Rattle.spool_store.specs.Tables.{Table};
+ghost use Rattle.mail_core.specs.Standing.{IsStanding, IsTallied, Keeps, Stands, Stores, Tallies};
+ghost use Rattle.spool_store.specs.Entries.{Table};
 
 use crate::caller::Caller;
 use crate::intake::{Intake, part};
@@ -24,7 +25,7 @@ use mail_base::{NoMemory, Text, TryCopy};
 use smtp_lines::Lines;
 use smtp_receive::{Session, out_of_memory, too_many_sessions};
 use spool_disk::Spool;
-use spool_store::{SpoolFault, Store};
+use spool_store::{Queue, SpoolFault};
 use std::alloc::Global;
 
 /// Why a run can't go on.
@@ -96,17 +97,19 @@ impl Drop for Core {
 
 impl Core {
     /// A core with no session, over a store that was opened with the site's directory.
-    pub fn new(alloc: Global, site: Site, store: Store) -> Result<Core, NoMemory>
-        ensures { IfOk result
-            (λ core. (table : Table) → Stores site store table
+    pub fn new(alloc: Global, site: Site, queue: Queue) -> Result<Core, NoMemory>
+        ensures stands { IfOk result
+            (λ core. (table : Table) → Stores site queue table
             → Stands site core (beginning table)) }
+        ensures tallied { IfOk result
+            (λ core. (told : Option FileMap) → Tallies queue told → IsTallied core told) }
     {
         Ok(Core {
             alloc,
             host: site.host,
             full: too_many_sessions(alloc)?,
             caller: None,
-            intake: Intake::new(alloc, store, site.dir)?,
+            intake: Intake::new(alloc, queue, site.dir)?,
         })
     }
 
@@ -129,6 +132,7 @@ impl Core {
         requires fits { Fits turn buf.now }
         requires sound { IsHeardAt (F.seen floor.old) turn }
         requires standing { IsStanding self.old }
+        requires tallied { IsTallied self.old (D.seen spool.old).told }
         ensures turns { (site : Site) (m : State) (before : Heard) (clock read : ClockSeen)
             → Stands site self.old m
             → IsTaken before (F.seen floor.old) clock read (event_of turn buf.now) reading
@@ -140,6 +144,8 @@ impl Core {
         ensures begun { (F.seen floor.new).begun ≡ (F.seen floor.old).begun }
         ensures calm { is_well result ≡ true
             → (D.seen spool.new).faults ≡ (D.seen spool.old).faults }
+        ensures tallied { is_well result ≡ true
+            → IsTallied self.new (D.seen spool.new).told }
     {
         self.intake.at(reading);
         self.handle(floor, spool, turn, buf)
@@ -156,6 +162,7 @@ impl Core {
         requires fits { Fits turn buf.now }
         requires sound { IsHeardAt (F.seen floor.old) turn }
         requires standing { IsStanding self.old }
+        requires tallied { IsTallied self.old (D.seen spool.old).told }
         ensures steps { (site : Site) (m : State) (clock : ClockSeen) → Stands site self.old m
             → Steps site m (event_of turn buf.now)
             (seen (F.seen floor.old) (D.seen spool.old) clock)
@@ -165,6 +172,8 @@ impl Core {
         ensures begun { (F.seen floor.new).begun ≡ (F.seen floor.old).begun }
         ensures calm { is_well result ≡ true
             → (D.seen spool.new).faults ≡ (D.seen spool.old).faults }
+        ensures tallied { is_well result ≡ true
+            → IsTallied self.new (D.seen spool.new).told }
     {
         match turn {
             Turn::Opened(session, count) => {
@@ -187,6 +196,7 @@ impl Core {
         requires line { All (λ b. b ≢ 10) peer.now }
         ensures opens { (site : Site) (m : State) → Stands site self.old m
             → IsOpened site m session peer.now (F.seen floor.old) (F.seen floor.new) self.new }
+        ensures intake { self.new.intake ≡ self.old.intake }
         ensures own { (F.seen floor.new).faults ≡ (F.seen floor.old).faults }
         ensures begun { (F.seen floor.new).begun ≡ (F.seen floor.old).begun }
     {
@@ -244,6 +254,7 @@ impl Core {
         ensures ready { IsStanding self.old
             → IfSome result (λ caller. IsReady self.new.intake caller) }
         ensures number { IfSome result (λ caller. caller.number ≡ session) }
+        ensures intake { self.new.intake ≡ self.old.intake }
     {
         if !self.hosts(session) {
             return None;
@@ -271,6 +282,7 @@ impl Core {
     ) -> Result<Act, CoreStop>
         requires sound { IsSoundAt (F.seen floor.old) session }
         requires standing { IsStanding self.old }
+        requires tallied { IsTallied self.old (D.seen spool.old).told }
         ensures steps { (site : Site) (m : State) (clock : ClockSeen) → Stands site self.old m
             → Steps site m (Brings session piece.now)
             (seen (F.seen floor.old) (D.seen spool.old) clock)
@@ -280,6 +292,8 @@ impl Core {
         ensures begun { (F.seen floor.new).begun ≡ (F.seen floor.old).begun }
         ensures calm { is_well result ≡ true
             → (D.seen spool.new).faults ≡ (D.seen spool.old).faults }
+        ensures tallied { is_well result ≡ true
+            → IsTallied self.new (D.seen spool.new).told }
     {
         let Some(mut caller) = self.take(session) else {
             return Ok(Act::Went);

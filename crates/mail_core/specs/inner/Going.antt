@@ -9,7 +9,7 @@ use Rattle.smtp_receive.specs.Dialogue.{Heard, Gives}
 use Rattle.smtp_receive.specs.Replies.{out_of_memory_text}
 use Rattle.smtp_receive.specs.Sessions.{Stands as Speaks}
 use Rattle.smtp_lines.specs.Reader.{asked_after}
-use Rattle.spool_store.specs.Tables.{Table}
+use Rattle.spool_store.specs.Entries.{Table}
 use Rattle.mail_core.specs.declared.next.Next.{Next}
 use Rattle.mail_core.specs.declared.next.Next.TheVariants.{Continue, BeginData, Closed}
 use Rattle.mail_core.specs.declared.serving.CoreStop.{CoreStop}

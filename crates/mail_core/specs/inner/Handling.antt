@@ -16,7 +16,7 @@ use Rattle.mail_core.specs.Seen.{Seen, Ran}
 use Rattle.mail_base.specs.Histories.{Gains}
 use Rattle.link_edge.specs.Heard.{Heard}
 use Rattle.mail_core.specs.Effects.{heard_of}
-use Rattle.spool_store.specs.Tables.{Table}
+use Rattle.spool_store.specs.Entries.{Table}
 use Rattle.mail_core.specs.declared.intake.Intake.{Intake}
 
 -- the session was there, and the core stands for the state without it

@@ -1,6 +1,6 @@
 -- What the loop over the events keeps. It need not be believed: only private contracts cite it.
 use Rattle.std.specs.Prelude.{◌≡◌, ℕ, ◌+◌, List, length, true}
-use Rattle.spool_store.specs.Tables.{Table}
+use Rattle.spool_store.specs.Entries.{Table}
 use Rattle.mail_core.specs.declared.serving.Core.{Core}
 use Rattle.mail_core.specs.declared.serving.Site.{Site}
 use Rattle.mail_core.specs.Machine.{Turn}

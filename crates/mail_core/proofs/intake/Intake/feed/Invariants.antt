@@ -2,7 +2,7 @@ use Rattle.std.proofs.Common.{◌≡◌, ◌+◌, true, false, cond, [], length}
 use Rattle.mail_edge.specs.Seen.{ClockSeen}
 use Rattle.link_edge.specs.Heard.{IsSoundAt}
 use Rattle.smtp_lines.specs.Reader.{asked_after}
-use Rattle.spool_store.specs.Tables.{Table}
+use Rattle.spool_store.specs.Entries.{Table}
 use Rattle.mail_core.specs.declared.serving.Site.{Site}
 use Rattle.mail_core.specs.Guests.{Guest}
 use Rattle.mail_core.specs.Seen.{seen}
