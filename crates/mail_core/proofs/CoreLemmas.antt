@@ -343,7 +343,7 @@ closed_stands site m session (Some caller) core h =
 pub at_stands : (site : Site) (m : State) (core : Core) (intake : Intake) (reading : ℕ) → Stands site core m → intake ≡ record core.intake { moment = moment_by core.intake.moment reading } → intake.moment < 2 ^ 64 → Stands site (record core { intake = intake }) (at_moment m reading)
 at_stands site m core intake reading st is range = record {
   intake = record {
-    store = subst (λ (i : Intake). Stores site i.store m.table) (sym is) st.intake.store;
+    store = subst (λ (i : Intake). Stores site i.queue m.table) (sym is) st.intake.store;
     dir = ap (λ (i : Intake). i.dir) is ∙ st.intake.dir;
     short = ap (λ (i : Intake). i.short) is ∙ st.intake.short;
     range = range;

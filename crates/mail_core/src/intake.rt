@@ -36,7 +36,7 @@ use mail_base::{Draft, NoMemory, Seq, StoreFault, Text, TryCopy};
 use smtp_lines::{Line, last_asks};
 use smtp_receive::{Did, Received, out_of_memory};
 use spool_disk::Spool;
-use spool_store::{Parcel, Queue};
+use spool_store::{Parcel, Queue, holding_goes_on};
 use std::alloc::Global;
 
 /// The beginning of the year 3000. A later reading of the clock counts as that.
@@ -187,6 +187,7 @@ impl Intake {
         ensures lines { caller.new.lines ≡ caller.old.lines }
         ensures sound { is_onward result ≡ true → IsSoundAt (F.seen floor.new) caller.old.number }
     {
+        holding_goes_on();
         let parcel = match self.parcel(message) {
             Ok(parcel) => parcel,
             Err(StoreFault::IdsSpent) => return Err(CoreStop::IdsSpent),

@@ -5,7 +5,7 @@ use Rattle.mail_core.specs.declared.serving.Core.{Core}
 use Rattle.mail_core.specs.declared.serving.Site.{Site}
 use Rattle.mail_core.specs.Machine.{Turn}
 use Rattle.mail_core.specs.Seen.{Seen, Ran}
-use Rattle.mail_core.specs.Standing.{Stands}
+use Rattle.mail_core.specs.Standing.{IsTallied, Stands}
 use Rattle.mail_core.specs.Messages.{dirs_of}
 use Rattle.mail_core.specs.Runs.{run_over}
 
@@ -17,3 +17,4 @@ pub record IsUnderWay (site : Site) (table : Table) (core : Core) (count : ℕ)
   pub ran : Ran (dirs_of site) table a b (run_over site table turns).effects true
   pub readings : b.clock.readings ≡ a.clock.readings + count
   pub stands : Stands site core (run_over site table turns).state
+  pub tallied : IsTallied core b.spool.told

@@ -16,6 +16,7 @@ loop-line-init g c = record {
   own = refl;
   begun = refl;
   calm = refl;
+  tallied = c.requires.tallied;
   sound = c.requires.sound;
 }
 
@@ -35,6 +36,7 @@ loop-line-preserved g c =
       own = k.own ∙ h.own;
       begun = k.begun ∙ h.begun;
       calm = k.calm (refl) ∙ h.calm;
+      tallied = k.tallied (refl);
       sound = subst (IsSoundAt (g.F.Floor.seen c.answer.new.floor)) h.number (k.sound on);
     }
 

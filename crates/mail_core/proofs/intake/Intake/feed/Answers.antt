@@ -28,6 +28,7 @@ answers-init g c =
       own = refl;
       begun = refl;
       calm = refl;
+      tallied = c.requires.tallied;
       sound = c.requires.sound;
     }
 
@@ -89,6 +90,7 @@ answers-preserved g c =
       own = k.own ∙ h.own;
       begun = k.begun ∙ h.begun;
       calm = k.calm (refl) ∙ h.calm;
+      tallied = k.tallied (refl);
       sound = subst (IsSoundAt (g.F.Floor.seen c.answer_all.new.floor)) (sym k.number ∙ sym (ap (λ q. q.number) c.turn.ensures)) (k.sound on);
     }
 

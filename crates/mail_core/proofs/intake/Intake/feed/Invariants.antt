@@ -6,7 +6,7 @@ use Rattle.spool_store.specs.Entries.{Table}
 use Rattle.mail_core.specs.declared.serving.Site.{Site}
 use Rattle.mail_core.specs.Guests.{Guest}
 use Rattle.mail_core.specs.Seen.{seen}
-use Rattle.mail_core.specs.Standing.{Keeps, Serves}
+use Rattle.mail_core.specs.Standing.{Keeps, Serves, Tallies}
 use Rattle.mail_core.specs.inner.Handling.{IsReady}
 use Rattle.mail_core.proofs.FeedLemmas.{Pends}
 use Rattle.mail_core.proofs.intake.Intake.feed.Given as goal
@@ -24,6 +24,7 @@ invariant-answers g l = record {
   own : (g.F.Floor.seen l.floor).faults ≡ (g.F.Floor.seen l.fn.floor).faults;
   begun : (g.F.Floor.seen l.floor).begun ≡ (g.F.Floor.seen l.fn.floor).begun;
   calm : (g.D.Spool.seen l.spool).faults ≡ (g.D.Spool.seen l.fn.spool).faults;
+  tallied : Tallies l.self.queue (g.D.Spool.seen l.spool).told;
   sound : IsSoundAt (g.F.Floor.seen l.floor) l.caller.number;
 }
 

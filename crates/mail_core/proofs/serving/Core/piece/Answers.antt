@@ -1,7 +1,9 @@
 use Rattle.std.proofs.Common.{refl, sym, ◌∙◌, Ok, Err, subst}
 use Rattle.std.proofs.lemmas.Result.{err_from_is_err_and}
+use Rattle.mail_core.specs.declared.intake.Intake.{Intake}
 use Rattle.mail_core.specs.inner.Going.{Feeds}
 use Rattle.mail_core.specs.Seen.{seen}
+use Rattle.mail_core.specs.Standing.{Tallies}
 use Rattle.mail_core.proofs.CoreLemmas.{piece_dropped, piece_goes, piece_leaves}
 use Rattle.mail_core.proofs.serving.Core.piece.Goals as goal
 
@@ -32,3 +34,10 @@ returns-clause-steps g c = λ site m clock st.
     let h = subst (λ n. Feeds site n m.table t.guest c.args.piece.now (seen (g.F.Floor.seen c.args.floor.now) (g.D.Spool.seen c.args.spool.now) clock) (seen (g.F.Floor.seen c.feed.new.floor) (g.D.Spool.seen c.feed.new.spool) clock) c.feed.new.self c.feed.new.caller (Ok c.in_ok-next.next)) t.stands.latest
     (c.in_ok-next.ensures.feeds site m.table t.guest clock t.stands.intake t.keeps) in
     piece_leaves site m c.args.session c.args.piece.now _ _ _ t.guest c.feed.new.self c.feed.new.caller (Ok c.in_ok-next.next) t.is t.alone h c.take.new.self (sym c.stays_open.ensures ∙ c.if-stays_open.false) t.stands refl (c.feed.ensures.moment ∙ t.stands.latest)
+
+-- the store is as it was
+pub returns-in_default-clause-tallied : goal.returns-in_default-clause-tallied
+returns-in_default-clause-tallied g c = λ well. subst (λ (i : Intake). Tallies i.queue (g.D.Spool.seen c.args.spool.now).told) (sym c.in_default.ensures.intake) c.requires.tallied
+
+pub feed-requires-clause-tallied : goal.feed-requires-clause-tallied
+feed-requires-clause-tallied g c = subst (λ (i : Intake). Tallies i.queue (g.D.Spool.seen c.args.spool.now).told) (sym c.in-Some.ensures.intake) c.requires.tallied

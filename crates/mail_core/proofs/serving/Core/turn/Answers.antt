@@ -1,4 +1,7 @@
+use Rattle.std.proofs.Common.{subst, sym}
+use Rattle.mail_core.specs.declared.intake.Intake.{Intake}
 use Rattle.mail_core.specs.Machine.{at_moment}
+use Rattle.mail_core.specs.Standing.{Tallies}
 use Rattle.mail_core.proofs.CoreLemmas.{at_stands, turns_of}
 use Rattle.mail_core.proofs.serving.Core.turn.Goals as goal
 
@@ -6,6 +9,9 @@ pub handle-requires-clause-standing : goal.handle-requires-clause-standing
 handle-requires-clause-standing g c =
     let r = c.requires.standing in
     record { site = r.site; state = at_moment r.state c.args.reading; stands = at_stands r.site r.state c.args.self.now c.at.new.self c.args.reading r.stands c.at.ensures.moment c.at.ensures.range }
+
+pub handle-requires-clause-tallied : goal.handle-requires-clause-tallied
+handle-requires-clause-tallied g c = subst (λ (i : Intake). Tallies i.queue (g.D.Spool.seen c.args.spool.now).told) (sym c.at.ensures.moment) c.requires.tallied
 
 pub returns : goal.returns
 returns g c = record {
@@ -15,4 +21,5 @@ returns g c = record {
   own = c.handle.ensures.own;
   begun = c.handle.ensures.begun;
   calm = c.handle.ensures.calm;
+  tallied = c.handle.ensures.tallied;
 }
