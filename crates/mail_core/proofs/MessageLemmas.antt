@@ -1,9 +1,7 @@
 -- A message is taken into the queue, or not.
-use Rattle.std.proofs.Common.{◌≡◌, ◌⊎◌, inl, inr, ℕ, ◌+◌, ◌<◌, ◌≤◌, ◌^◌, List, [], Bool, true, false, Option, Some, None, Result, Ok, Err, refl, sym, ◌∙◌, ap, subst, arith}
-use Rattle.std.specs.Prelude.{Contains, IfSome}
+use Rattle.std.proofs.Common.{◌≡◌, ◌⊎◌, inl, inr, ℕ, ◌+◌, ◌<◌, ◌≤◌, ◌^◌, List, [], Bool, true, false, Option, Some, None, Result, Err, refl, sym, ◌∙◌, ap, subst, arith}
 use Rattle.std.proofs.lemmas.Bool.{cond-true, cond-false, false≢true, lt-ltb, le-ltb}
 use Rattle.mail_base.specs.Histories.{Gains, Rose}
-use Rattle.mail_base.specs.Limits.{IsId}
 use Rattle.mail_base.specs.declared.control.Draft.{Draft}
 use Rattle.mail_edge.specs.Seen.{ClockSeen}
 use Rattle.link_edge.specs.Heard.{Heard as FloorHeard}
@@ -37,10 +35,6 @@ use Rattle.mail_core.specs.Standing.{Serves, Stores, Tallies}
 use Rattle.mail_core.proofs.GoingLemmas.{IsSpoken, does_says, does_spent, does_failed, does_accepts, accepts_guest, fails_guest}
 
 -- ---- the store
-
--- the one directory is among those of the site
-pub one_dir : (site : Site) (dir : List ℕ) → dir ≡ site.dir → Contains (dirs_of site) dir
-one_dir site dir e = (0, omega arith, sym e)
 
 -- what a store keeps with another room
 abbrev pub IsRoomier : Queue → Queue → Type 0
