@@ -181,7 +181,7 @@ fn stopped(alloc: Global, passes: u64) -> Result<Option<bool>, StoreFault> {
     Ok(None)
 }
 
-// The first number of calls after which it isn't so: nine are needed.
+// The first number of changing calls after which it isn't so: nine are needed, and no more.
 fn wrong_stop(alloc: Global) -> Result<Option<u64>, StoreFault> {
     for passes in 0..11u64 {
         if stopped(alloc, passes)? != Some(passes >= 9) {
@@ -196,7 +196,8 @@ fn a_stopped_commit_leaves_the_table_before_or_after(rt: HostRuntime) {
     assert_eq!(rt; wrong_stop(rt.alloc()), Ok(None));
 }
 
-// How many calls opening and committing take.
+// How many calls opening and committing take: a listing of the one directory, and three for each
+// entry.
 fn calls(alloc: Global) -> Result<u64, StoreFault> {
     let mut spool = MemSpool::new(alloc, Seq::new(alloc));
     let _is_told = opens_and_commits(alloc, &mut spool)?;
@@ -204,6 +205,6 @@ fn calls(alloc: Global) -> Result<u64, StoreFault> {
 }
 
 #[test]
-fn three_entries_take_nine_calls(rt: HostRuntime) {
+fn a_listing_and_nine_calls_are_all(rt: HostRuntime) {
     assert_eq!(rt; calls(rt.alloc()), Ok(10));
 }
