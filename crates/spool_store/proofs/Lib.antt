@@ -31,6 +31,7 @@ mod Bodies
 mod Ended
 mod Drafting
 mod ParcelLemmas
+mod UnderLemmas
 mod HoldingLemmas
 mod Finding
 mod SweepLemmas

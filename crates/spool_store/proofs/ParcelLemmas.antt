@@ -34,7 +34,7 @@ numbered_at id b [] i d lt = absurd (omega (arith, lt))
 numbered_at id b (x ∷ ds) zero d lt = omega arith
 numbered_at id b (x ∷ ds) (suc i) d lt = let h = numbered_at (id + 1) b ds i d (omega (arith, lt)) in omega (arith, h)
 
-numbered_pairs : (id : ℕ) (b : List ℕ) (ds : List Draft) → AllPairs (λ (s : Stored) (t : Stored). s.id < t.id) (numbered id b ds)
+pub numbered_pairs : (id : ℕ) (b : List ℕ) (ds : List Draft) → AllPairs (λ (s : Stored) (t : Stored). s.id < t.id) (numbered id b ds)
 numbered_pairs id b ds i j d lt within =
     let long = numbered_long id b ds in
     let one = numbered_at id b ds i d (omega (arith, lt, within, long)) in
@@ -120,7 +120,7 @@ commit_safe store table children parent parcel f g is a holds stands (inl u) = i
 commit_safe store table children parent parcel f g is a holds stands (inr w) = inr (commit_leads store table children parent parcel f g is a holds stands w).stands
 
 -- what is nobody's stays
-written_left : (xs : List Stored) (f g : FileMap) (place : Place) → IsPut xs f g place → (bytes_at g place ≡ bytes_at f place) ⊎ IsOwn xs place
+pub written_left : (xs : List Stored) (f g : FileMap) (place : Place) → IsPut xs f g place → (bytes_at g place ≡ bytes_at f place) ⊎ IsOwn xs place
 written_left xs f g place (control t k e holds) = inr (own_control t k e)
 written_left xs f g place (body t k e holds) = inr (own_body t k e)
 written_left xs f g place (other e) = inl e
@@ -138,7 +138,7 @@ commit_keeps store children parent parcel f g is a (inr w) =
     left_keeps store.dirs store.next (rest ++ s ∷ []) f g a.tidy (λ t k. mine_new (All-contains (IsNew store.dirs store.next) (s ∷ rest) t (news store.dirs store.next children parent b is.able) (front s rest t k))) (λ place. written_left (rest ++ s ∷ []) f g place (w.at place))
 
 -- the store agrees with it
-entered_same : (id : ℕ) (b c : List ℕ) (ds : List Draft) → map entered (numbered id b ds) ≡ map entered (numbered id c ds)
+pub entered_same : (id : ℕ) (b c : List ℕ) (ds : List Draft) → map entered (numbered id b ds) ≡ map entered (numbered id c ds)
 entered_same id b c [] = refl
 entered_same id b c (d ∷ ds) = λ i. entered (stored id c d) ∷ entered_same (id + 1) b c ds i
 
@@ -154,11 +154,11 @@ commit_agrees store children parent parcel f g is a w =
     (added_agrees store (s ∷ rest) after (store.room - (length children + 1)) f g (new_added store.dirs store.next children parent b f g is.able is.alone w) (omega arith) (new_below store.next children parent b) a)
 
 -- what the store takes in
-queued_are : (parts : List Part) → map queued parts ≡ map entered (map (entry_of []) parts)
+pub queued_are : (parts : List Part) → map queued parts ≡ map entered (map (entry_of []) parts)
 queued_are [] = refl
 queued_are (p ∷ parts) = λ i. queued p ∷ queued_are parts i
 
-row_of : (id : ℕ) (b : List ℕ) (ds : List Draft) (parts : List Part) → map (entry_of b) parts ≡ numbered id b ds → IsRow id parts
+pub row_of : (id : ℕ) (b : List ℕ) (ds : List Draft) (parts : List Part) → map (entry_of b) parts ≡ numbered id b ds → IsRow id parts
 row_of id b ds parts made i d lt =
     let long : length parts ≡ length ds = sym (length-map parts (entry_of b)) ∙ ap length made ∙ numbered_long id b ds in
     let mapped : get_or (map (entry_of b) parts) i (entry_of b d) ≡ entry_of b (get_or parts i d) = get_or-map (entry_of b) parts i d (entry_of b d) lt in
@@ -194,11 +194,11 @@ taken_in store children parent b parcel one more is first first_next first_room 
     λ i. record store { entries = items i; next = next i; room = room i }
 
 -- the table goes with it
-held_numbered : (id : ℕ) (b c : List ℕ) (ds : List Draft) → AllZip IsHeld (map entered (numbered id b ds)) (numbered id c ds)
+pub held_numbered : (id : ℕ) (b c : List ℕ) (ds : List Draft) → AllZip IsHeld (map entered (numbered id b ds)) (numbered id c ds)
 held_numbered id b c [] = tt
 held_numbered id b c (d ∷ ds) = (record { id = refl; dir = refl; control = refl }, held_numbered (id + 1) b c ds)
 
-zip_append : {X Y : Type 0} (R : X → Y → Type 0) (xs vs : List X) (ys ws : List Y) → AllZip R xs ys → AllZip R vs ws → AllZip R (xs ++ vs) (ys ++ ws)
+pub zip_append : {X Y : Type 0} (R : X → Y → Type 0) (xs vs : List X) (ys ws : List Y) → AllZip R xs ys → AllZip R vs ws → AllZip R (xs ++ vs) (ys ++ ws)
 zip_append R [] vs [] ws h k = k
 zip_append R [] vs (y ∷ ys) ws h k = absurd h
 zip_append R (x ∷ xs) vs [] ws h k = absurd h

@@ -38,7 +38,7 @@ step true d a y e k = refl
 step false true a y e k = refl
 step false false a y e k = k e
 
-open_needs : (rows : List Row) → list_all (λ row. not (is_open row.state)) rows ≡ false → list_any (λ row. is_open row.state || is_dead row.state) rows ≡ true
+pub open_needs : (rows : List Row) → list_all (λ row. not (is_open row.state)) rows ≡ false → list_any (λ row. is_open row.state || is_dead row.state) rows ≡ true
 open_needs [] e = sym e
 open_needs (row ∷ rows) e = step (is_open row.state) (is_dead row.state) (list_all (λ row. not (is_open row.state)) rows) (list_any (λ row. is_open row.state || is_dead row.state) rows) e (open_needs rows)
 
@@ -64,7 +64,8 @@ replaced_by store f id c paper a can =
     let kind = open_kind store.dirs f h live can.open_row h.finished refl in
     record { agrees = a; live = subst (λ (q : Spot). IsLive store.dirs f q h.entry.control) (λ i. record { dir = h.entry.dir; kind = kind i; id = h.entry.id }) live }
 
-raised_least : (r : ℕ) → r < 2 ^ 64 → r ≤ raised r
+-- a raised revision is no less
+pub raised_least : (r : ℕ) → r < 2 ^ 64 → r ≤ raised r
 raised_least r lt = grind (arith, lt)
 
 pub raises_to : (store : StoreSeen) (f g : FileMap) (id : ℕ) (c : Control) (paper : Sheet) (can : CanReplace store.entries id c paper) → IsReplaced store f can.held c → AreRaised [] (with_new can.held c) f g → IsRaised store.dirs (spot_of Qf (with_new can.held c)) can.held.entry.control c f g

@@ -111,13 +111,20 @@ pub record AreDraftable (dirs : List (List ℕ)) (next : ℕ) (children : List D
   pub head : IsDraftable dirs parent
   pub room : next + 1 + length children ≤ 1_000_000_000_000
 
--- with an old one: its entry, and that its files are raised
+-- and of those under an old parent
+pub record AreHeirs (dirs : List (List ℕ)) (next : ℕ) (children : List Draft)
+    (parent : Draft) : Type 0 where
+  pub each : All (IsDraftable dirs) children
+  pub head : IsDraftable dirs parent
+  pub room : next + length children ≤ 1_000_000_000_000
+
+-- with an old one: its entry, and that its control may take the place of that one's
 pub record IsOld (dirs : List (List ℕ)) (f : FileMap) (id : ℕ) (parent : Draft)
     (old : Control) : Type 0 where
   pub live : IsLive dirs f (record { dir = parent.dir; kind = Qf; id = id }) old
   pub same : parent.control.parent ≡ old.parent
   pub wanted : NeedsBody parent.control → NeedsBody old
-  pub raised : old.revision < parent.control.revision
+  pub least : old.revision ≤ parent.control.revision
 
 -- the children are written, and the parent's control is the new one
 pub record AreRaised (done : List Stored) (s : Stored) (f g : FileMap) : Type 0 where

@@ -4,7 +4,7 @@ ghost use Rattle.mail_base.specs.declared.id.Kind.TheVariants.{Df as BodyKind, Q
 ghost use Rattle.qf_format.specs.Spelling.{spelled};
 
 use crate::Held;
-use mail_base::{Entry, Text};
+use mail_base::{Control, Entry, Text};
 
 /// An entry of a change, with every text that a commit writes for it.
 pub struct Part {
@@ -48,5 +48,24 @@ impl Part {
             entry,
             finished: false,
         }
+    }
+
+    // Its control, which takes the place of an old entry's once it is committed.
+    pub(crate) fn into_control(self) -> Control
+        ensures { result ≡ self.entry.control }
+    {
+        let Part {
+            entry,
+            control: _,
+            df: _,
+            tf: _,
+            qf: _,
+        } = self;
+        let Entry {
+            id: _,
+            dir: _,
+            control,
+        } = entry;
+        control
     }
 }

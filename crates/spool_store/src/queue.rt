@@ -16,7 +16,8 @@ ghost use Rattle.spool_store.specs.Finishing.{HasFinished, IsDone};
 ghost use Rattle.spool_store.specs.Moves.{IsRun, Moves, Ends};
 ghost use Rattle.spool_store.specs.Parts.{CanRaise, IsEitherTable, IsUnderWay};
 ghost use Rattle.spool_store.specs.Openings.{AreOrdered};
-ghost use Rattle.spool_store.specs.Parcels.{CanPrepare, IsParcel, IsReady, with_commit};
+ghost use Rattle.spool_store.specs.Parcels.{CanPrepare, CanPrepareUnder, IsBelowLast, IsNamedIn, IsParcel, IsParcelUnder, IsReady, IsReadyUnder, with_children, with_commit};
+ghost use Rattle.mail_base.specs.Limits.{IsId};
 ghost use Rattle.spool_store.specs.Settled.{IsSettled, StandsFor};
 ghost use Rattle.spool_store.specs.Stores.{Agrees, HasId, Holds, IsAscending, KeepsOthers, recontrolled, refinished, spot_at};
 ghost use Rattle.spool_store.specs.Tidying.{IsClean, IsTidied};
@@ -30,7 +31,7 @@ use crate::label::Label;
 use crate::making::{heirs, part_of};
 use crate::opened::Opened;
 use crate::parts::put_parcel;
-use crate::raises::put_raised;
+use crate::raises::{put_raise, put_raised};
 use crate::recovery::reopen;
 use crate::shelf::Shelf;
 use crate::{Held, Parcel, Room, SpoolFault};
@@ -482,6 +483,158 @@ impl Queue {
         let id = parcel.id();
         let (children, parent) = parcel.into_parts();
         self.shelf.add(parent.into_held());
+        self.shelf.add_all(children);
+        id
+    }
+
+    /// Makes an entry's new control and its new children ready to be committed, the children under
+    /// the first free ids. The parent's draft names the entry. Nothing is written. `IdsSpent` comes
+    /// exactly where an id would pass [`Id::MOST`].
+    pub fn prepare_under(
+        &mut self,
+        children: &Seq<Draft>,
+        parent: &Draft,
+        body: Text,
+    ) -> Result<Parcel, StoreFault>
+        requires can { CanPrepareUnder (seen self.old).dirs (seen self.old).entries children.now
+            parent.now }
+        ensures is { IfOk result
+            (λ parcel. (id : ℕ) → parent.now.id ≡ Some id
+            → IsParcelUnder (seen self.new) id children.now parent.now body parcel) }
+        ensures same { seen self.new ≡ record (seen self.old) { room = (seen self.new).room } }
+        ensures spent { IsErrOf result Spent
+            ↔ (Id.MOST + 1 < (seen self.old).next + length children.now) }
+        ensures never { IsErrOf result Broke → ⊥ }
+    {
+        let count = children.len();
+        if self.shelf.next().saturating_add(count as u64) > Id::MOST + 1 {
+            return Err(StoreFault::IdsSpent);
+        }
+        self.shelf.reserve(count)?;
+        Ok(self.parcel_under(children, parent, body)?)
+    }
+
+    // The parcel of an entry's new control and of new children under the first free ids.
+    fn parcel_under(
+        &self,
+        children: &Seq<Draft>,
+        parent: &Draft,
+        body: Text,
+    ) -> Result<Parcel, NoMemory>
+        requires can { CanPrepareUnder (seen self.now).dirs (seen self.now).entries children.now
+            parent.now }
+        requires ids { (seen self.now).next + length children.now ≤ 1_000_000_000_000 }
+        requires room { length children.now ≤ (seen self.now).room }
+        ensures { IfOk result
+            (λ parcel. (id : ℕ) → parent.now.id ≡ Some id
+            → IsParcelUnder (seen self.now) id children.now parent.now body parcel) }
+    {
+        let alloc = self.dirs.allocator();
+        let above = self.above(parent);
+        let children = heirs(alloc, self.shelf.next(), &above, children.items())?;
+        let parent = part_of(alloc, above.id, parent, parent.control.parent)?;
+        Ok(Parcel {
+            children,
+            parent,
+            body,
+        })
+    }
+
+    // What the children of a draft that names an entry name as their parent.
+    fn above(&self, parent: &Draft) -> Parent
+        requires named { IsNamedIn (seen self.now).entries parent.now }
+        ensures id { parent.now.id ≡ Some result.id }
+        ensures revision { result.revision ≡ parent.now.control.revision }
+        ensures within { IsId result.id }
+        ensures below { result.id < (seen self.now).next }
+    {
+        let revision = parent.control.revision;
+        match parent.id {
+            Some(id) => Parent {
+                id: self.shelf.known(id),
+                revision,
+            },
+            None => unreachable!(),
+        }
+    }
+
+    /// Commits a parcel under an entry that is there: the children as [`Queue::commit`] does, and
+    /// then the entry's new control, written whole before the renaming that decides. A stop at any
+    /// moment leaves the table before or after, unless the entry has the last revision. It takes no
+    /// memory. The parcel is one that [`Queue::prepare_under`] made since the last change.
+    pub fn commit_under<D: Spool>(
+        &mut self,
+        spool: &mut D,
+        parcel: Parcel,
+    ) -> Result<Id, SpoolFault>
+        requires agrees { (seen self.old).broken ≡ false
+            → IfSome (D.seen spool.old).told (Agrees (seen self.old)) }
+        requires ready { IsReadyUnder (seen self.old) parcel }
+        ensures moves { (table : Table) (id : ℕ) (children : List DraftSeen) (parent : DraftSeen)
+            → Holds (seen self.old) table
+            → IsParcelUnder (seen self.old) id children parent parcel.body parcel
+            → IsBelowLast (seen self.old).entries id → Moves
+            (D.seen spool.old)
+            (D.seen spool.new)
+            (StandsFor (seen self.old).dirs table)
+            (Ends result
+            (IsSettled (seen self.old).dirs
+            (after_commit table children parent parcel.body (Some id)))
+            (IsEitherTable (seen self.old).dirs table
+            (after_commit table children parent parcel.body (Some id))))
+            (IsEitherTable (seen self.old).dirs table
+            (after_commit table children parent parcel.body (Some id))) }
+        ensures settled { (table : Table) (id : ℕ) (children : List DraftSeen) (parent : DraftSeen)
+            (f : FileMap) → Holds (seen self.old) table
+            → IsParcelUnder (seen self.old) id children parent parcel.body parcel
+            → (D.seen spool.old).told ≡ Some f → StandsFor (seen self.old).dirs table f
+            → OnOk result
+            (IfSome (D.seen spool.new).told
+            (IsSettled (seen self.old).dirs
+            (after_commit table children parent parcel.body (Some id)))) }
+        ensures frame { (f : FileMap)
+            → Moves (D.seen spool.old) (D.seen spool.new) (λ g. g ≡ f)
+            (KeepsOthers (seen self.old).dirs f) (KeepsOthers (seen self.old).dirs f) }
+        ensures agrees { OnOk result (IfSome (D.seen spool.new).told (Agrees (seen self.new))) }
+        ensures id { (id : ℕ) (children : List DraftSeen) (parent : DraftSeen)
+            → IsParcelUnder (seen self.old) id children parent parcel.body parcel
+            → IfOk result (λ r. r ≡ id) }
+        ensures ok { (id : ℕ) (children : List DraftSeen) (parent : DraftSeen)
+            → IsParcelUnder (seen self.old) id children parent parcel.body parcel
+            → OnOk result (seen self.new ≡ with_children (seen self.old) id children parent) }
+        ensures err { OnErr result (seen self.new ≡ record (seen self.old) { broken = true }) }
+        ensures broken { (seen self.old).broken ≡ true
+            → (result ≡ Err record {}) × (spool.new ≡ spool.old) }
+        ensures later { (D.seen spool.old).faults ≤ (D.seen spool.new).faults }
+        ensures calm { OnOk result ((D.seen spool.new).faults ≡ (D.seen spool.old).faults) }
+        ensures cause { OnErr result
+            (((seen self.old).broken ≡ true)
+            ⊎ Rose (D.seen spool.old).faults (D.seen spool.new).faults) }
+    {
+        if self.broken {
+            return Err(SpoolFault);
+        }
+        match put_raise(spool, &parcel) {
+            Ok(()) => Ok(self.take_under(parcel)),
+            Err(_failed) => {
+                self.broken = true;
+                Err(SpoolFault)
+            }
+        }
+    }
+
+    // Takes in the children and the parent's new control once their files are written.
+    fn take_under(&mut self, parcel: Parcel) -> Id
+        requires ready { IsReadyUnder (seen self.old) parcel }
+        ensures id { (id : ℕ) (children : List DraftSeen) (parent : DraftSeen)
+            → IsParcelUnder (seen self.old) id children parent parcel.body parcel → result ≡ id }
+        ensures is { (id : ℕ) (children : List DraftSeen) (parent : DraftSeen)
+            → IsParcelUnder (seen self.old) id children parent parcel.body parcel
+            → seen self.new ≡ with_children (seen self.old) id children parent }
+    {
+        let id = parcel.id();
+        let (children, parent) = parcel.into_parts();
+        self.shelf.set_control(id, parent.into_control());
         self.shelf.add_all(children);
         id
     }

@@ -13,7 +13,7 @@ ghost use Rattle.spool_store.specs.Tidying.{IsTidied, IsDead, HasRenamed, IsMove
 ghost use Rattle.spool_disk.specs.Disk.{HasRemoved};
 ghost use Rattle.spool_store.specs.Verdicts.{IsSober, IsLiveAt, AreLive};
 ghost use Rattle.mail_base.specs.declared.control.Draft.{Draft};
-ghost use Rattle.spool_store.specs.Writes.{stored, control_file, body_file, children_of, after_commit, AreDraftable, IsOld, AreWritten, AreRaised, HasBody, HasDraft, HasNewDraft, IsFurther};
+ghost use Rattle.spool_store.specs.Writes.{stored, control_file, body_file, children_of, after_commit, AreDraftable, AreHeirs, IsOld, AreWritten, AreRaised, HasBody, HasDraft, HasNewDraft, IsFurther};
 ghost use Rattle.spool_disk.specs.Disk.{IsSameBut};
 ghost use Rattle.spool_store.specs.Queue.{Spot, spot_place, body_place, IsControl, IsRead, IsStrange, IsLive};
 ghost use Rattle.spool_store.specs.Alike.{AreAlike};
@@ -21,7 +21,7 @@ ghost use Rattle.spool_store.specs.Changes.{IsRaised, IsAdded, IsBefore, IsMidwa
 ghost use Rattle.spool_store.specs.Settled.{StandsFor, IsTidy, IsNamed, IsSettled};
 ghost use Rattle.spool_store.specs.Entries.{Stored, Table, AreSameEntries, with_control};
 ghost use Rattle.spool_store.specs.Keepers.{after_replace};
-ghost use Rattle.spool_store.specs.Parcels.{with_commit};
+ghost use Rattle.spool_store.specs.Parcels.{with_children, with_commit};
 ghost use Rattle.spool_store.specs.Accepts.{parts_of};
 ghost use Rattle.spool_store.specs.Stores.{Agrees, Holds, StoreSeen, entered, recontrolled, refinished};
 ghost use Rattle.spool_store.specs.Tables.{Table as OlderTable, after};
@@ -127,7 +127,7 @@ pub fn commit_settles()
         → IsSettled dirs (after_commit table children parent b None) g }
     ensures old { (dirs : List (List ℕ)) (table : Table) (children : List Draft) (parent : Draft)
         (old : Control) (id : ℕ) (b : List ℕ) (f g : FileMap)
-        → AreDraftable dirs table.next children parent → IsOld dirs f id parent old
+        → AreHeirs dirs table.next children parent → IsOld dirs f id parent old
         → AreRaised (children_of table.next children parent b (Some id)) (stored id b parent) f g
         → IsSettled dirs table f
         → IsSettled dirs (after_commit table children parent b (Some id)) g }
@@ -140,8 +140,8 @@ pub fn commit_settles()
         → IsSettled dirs table f → StandsFor dirs table g }
     ensures old_before { (dirs : List (List ℕ)) (table : Table) (drafts : List Stored)
         (children : List Draft) (parent : Draft) (old : Control) (id : ℕ) (b : List ℕ)
-        (f g : FileMap) → AreDraftable dirs table.next children parent → IsOld dirs f id parent old
-        → ((p : Place)
+        (f g : FileMap) → AreHeirs dirs table.next children parent → IsOld dirs f id parent old
+        → old.revision < parent.control.revision → ((p : Place)
         → IsMidway table.next (λ place. Any (λ s. place ≡ draft_place s) drafts)
         (children_of table.next children parent b (Some id)) f g p)
         → IsSettled dirs table f → StandsFor dirs table g }
@@ -267,8 +267,8 @@ pub fn samples_settle()
 pub fn a_dead_child_may_come_alive()
     ensures { (dirs : List (List ℕ)) (table : Table) (children : List Draft) (parent : Draft)
         (old : Control) (id : ℕ) (b : List ℕ) (f m g : FileMap)
-        → AreDraftable dirs table.next children parent → IsOld dirs f id parent old
-        → IsSettled dirs table f
+        → AreHeirs dirs table.next children parent → IsOld dirs f id parent old
+        → old.revision < parent.control.revision → IsSettled dirs table f
         → AreWritten (children_of table.next children parent b (Some id)) f m
         → bytes_at g (control_place (stored id b parent)) ≡ Some (spelled parent.control)
         → IsSameBut (control_place (stored id b parent)) m g
@@ -282,6 +282,10 @@ pub fn holding_goes_on()
     ensures commit { (store : StoreSeen) (table : Table) (children : List Draft) (parent : Draft)
         (b : List ℕ) → Holds store table
         → Holds (with_commit store children parent) (after_commit table children parent b None) }
+    ensures commit_under { (store : StoreSeen) (table : Table) (id : ℕ) (children : List Draft)
+        (parent : Draft) (b : List ℕ) → Holds store table
+        → Holds (with_children store id children parent)
+        (after_commit table children parent b (Some id)) }
     ensures replace { (store : StoreSeen) (table : Table) (id : ℕ) (c : Control) → Holds store table
         → Holds (record store { entries = map (recontrolled id c) store.entries })
         (after_replace table id c) }

@@ -5,12 +5,16 @@ ghost use Rattle.mail_base.specs.declared.id.Kind.TheVariants.{Qf as ControlKind
 ghost use Rattle.qf_format.specs.Spelling.{spelled};
 ghost use Rattle.spool_disk.specs.Disk.{FileMap, bytes_at};
 ghost use Rattle.spool_store.specs.Entries.{Stored};
+ghost use Rattle.mail_base.specs.declared.control.Draft.{Draft};
 ghost use Rattle.spool_store.specs.Moves.{Moves, Ends};
+ghost use Rattle.spool_store.specs.Parcels.{IsParcelUnder};
 ghost use Rattle.spool_store.specs.Parts.{AreNew, CanRaise, IsUnderWay, entry_of};
+ghost use Rattle.spool_store.specs.Stores.{StoreSeen};
 ghost use Rattle.spool_store.specs.Writes.{AreRaised, AreWritten, HasNewDraft};
+ghost use Rattle.spool_store.specs.inner.Commits.{HasNoDrafts, IsRaisedWith, IsRaising};
 
-use crate::Part;
 use crate::parts::put_parts;
+use crate::{Parcel, Part};
 use mail_base::{Failed, Text};
 use spool_disk::Spool;
 
@@ -61,9 +65,9 @@ pub(crate) fn raise<D: Spool>(spool: &mut D, dir: &Text, tf: &Text, qf: &Text) -
     spool.rename(dir, tf, qf)
 }
 
-/// Writes the files of the children and then the control of their old parent, whose renaming
-/// decides. It takes no memory.
-pub(crate) fn put_under<D: Spool>(
+// Writes the files of the children and then the control of their old parent, whose renaming
+// decides.
+fn put_under<D: Spool>(
     spool: &mut D,
     children: &[Part],
     parent: &Part,
@@ -88,6 +92,24 @@ pub(crate) fn put_under<D: Spool>(
     put_parts(spool, children, body)?;
     put_control(spool, &parent.entry.dir, &parent.tf, &parent.control)?;
     raise(spool, &parent.entry.dir, &parent.tf, &parent.qf)
+}
+
+/// Writes the files of a parcel whose parent is an entry that is there. It takes no memory.
+pub(crate) fn put_raise<D: Spool>(spool: &mut D, parcel: &Parcel) -> Result<(), Failed>
+    ensures moves { (store : StoreSeen) (id : ℕ) (children : List Draft) (parent : Draft)
+        (f : FileMap) → IsParcelUnder store id children parent parcel.now.body parcel.now
+        → HasNoDrafts store.dirs f → Moves
+        (D.seen spool.old)
+        (D.seen spool.new)
+        (λ g. g ≡ f)
+        (Ends result
+        (IsRaisedWith store.next id children parent parcel.now.body f)
+        (IsRaising store.next id children parent parcel.now.body f))
+        (IsRaising store.next id children parent parcel.now.body f) }
+    ensures cause { HasCause (D.seen spool.old).faults (D.seen spool.new).faults result }
+    ensures calm { OnOk result ((D.seen spool.new).faults ≡ (D.seen spool.old).faults) }
+{
+    put_under(spool, parcel.children.items(), &parcel.parent, &parcel.body)
 }
 
 /// Writes the new control text of an entry whole, and then gives it its name, which decides. It

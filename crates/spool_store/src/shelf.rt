@@ -146,6 +146,17 @@ impl Shelf {
         }
     }
 
+    /// The id of an entry that is there, which is below the first free one.
+    pub(crate) fn known(&self, id: Id) -> Id
+        requires { HasId self.now.items id }
+        ensures is { result ≡ id }
+        ensures within { IsId id }
+        ensures below { id < self.now.next }
+    {
+        let _ = self.items();
+        Id::new(id.number())
+    }
+
     /// Gives the entry of an id another control. It takes no memory.
     pub(crate) fn set_control(&mut self, id: Id, control: Control)
         requires { HasId self.old.items id }

@@ -1,11 +1,14 @@
 -- The entries of a commit while they are written and taken in (own).
-use Rattle.std.specs.Prelude.{◌≡◌, ◌⊎◌, ℕ, ◌+◌, ◌<◌, List, [], ◌∷◌, ◌++◌, None, length, get_or, false}
+use Rattle.std.specs.Prelude.{◌≡◌, ◌⊎◌, ℕ, ◌+◌, ◌<◌, List, [], ◌∷◌, ◌++◌, None, Some, Contains, length, get_or, false}
+use Rattle.mail_base.specs.Limits.{IsId}
+use Rattle.mail_base.specs.Names.{name_of}
+use Rattle.mail_base.specs.declared.id.Kind.TheVariants.{Tf}
 use Rattle.spool_disk.specs.Disk.{FileMap, bytes_at}
 use Rattle.mail_base.specs.declared.control.Draft.{Draft}
 use Rattle.spool_store.specs.Changes.{IsNew, draft_place}
 use Rattle.spool_store.specs.Entries.{Stored}
 use Rattle.spool_store.specs.Parts.{IsUnderWay}
-use Rattle.spool_store.specs.Writes.{AreWritten, children_of, stored}
+use Rattle.spool_store.specs.Writes.{AreRaised, AreWritten, children_of, stored}
 use Rattle.spool_store.specs.declared.held.Held.{Held}
 use Rattle.spool_store.specs.declared.part.Part.{Part}
 
@@ -32,3 +35,20 @@ IsCommitting next children parent body f g =
     IsUnderWay next (stored next body parent ∷ children_of next children parent body None)
     (children_of next children parent body None) f g
     ⊎ IsCommitted next children parent body f g
+
+-- no draft is there
+abbrev pub HasNoDrafts : List (List ℕ) → FileMap → Type 0
+HasNoDrafts dirs f =
+    (dir : List ℕ) (id : ℕ) → Contains dirs dir → IsId id → bytes_at f (dir, name_of Tf id) ≡ None
+
+-- the files of new children are written, and the control of their old parent is the new one
+abbrev pub IsRaisedWith : ℕ → ℕ → List Draft → Draft → List ℕ → FileMap → FileMap → Type 0
+IsRaisedWith next id children parent body f g =
+    AreRaised (children_of next children parent body (Some id)) (stored id body parent) f g
+
+-- they are, or what is there of them is before the renaming that decides
+abbrev pub IsRaising : ℕ → ℕ → List Draft → Draft → List ℕ → FileMap → FileMap → Type 0
+IsRaising next id children parent body f g =
+    IsUnderWay next (stored id body parent ∷ children_of next children parent body (Some id))
+    (children_of next children parent body (Some id)) f g
+    ⊎ IsRaisedWith next id children parent body f g
