@@ -1,5 +1,5 @@
 -- Writes of the store: the table after them, and the files of new entries over a map (own).
-use Rattle.std.specs.Prelude.{◌≡◌, ◌≢◌, ℕ, ◌+◌, ◌<◌, ◌≤◌, List, [], ◌∷◌, ◌++◌, map, length, Option, Some, None, Contains, All}
+use Rattle.std.specs.Prelude.{◌≡◌, ◌≢◌, ℕ, ◌+◌, ◌≤◌, List, [], ◌∷◌, ◌++◌, map, length, Option, Some, None, Contains, All}
 use Rattle.mail_base.specs.declared.id.Kind.TheVariants.{Df, Qf}
 use Rattle.mail_base.specs.Names.{name_of}
 use Rattle.mail_base.specs.Limits.{IsId}
