@@ -45,3 +45,4 @@ mod TellingLemmas
 mod ShowingLemmas
 mod OrderLemmas
 mod Reopening
+mod Matching

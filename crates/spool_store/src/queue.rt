@@ -71,6 +71,13 @@ impl Queue {
             → StandsFor dirs.now table f
             → IfOk result (λ q. IfSome (D.seen spool.new).told
             (IsSettled dirs.now (record { entries = table.entries; next = (seen q).next }))) }
+        ensures holds { (table : Table) (f : FileMap) → (D.seen spool.old).told ≡ Some f
+            → StandsFor dirs.now table f
+            → IfOk result
+            (λ q. Holds (seen q) (record { entries = table.entries; next = (seen q).next })) }
+        ensures table { (f : FileMap) → (D.seen spool.old).told ≡ Some f
+            → IfOk result
+            (λ q. (table : Table) × StandsFor dirs.now table f × Holds (seen q) table) }
         ensures stands { (table : Table)
             → Moves (D.seen spool.old) (D.seen spool.new) (StandsFor dirs.now table)
             (StandsFor dirs.now table) (StandsFor dirs.now table) }

@@ -8,7 +8,7 @@ ghost use Rattle.spool_store.specs.Entries.{Table};
 ghost use Rattle.spool_store.specs.Openings.{AreEntries, AreOrdered, AreStrays, IsNext};
 ghost use Rattle.spool_store.specs.Keepers.{IsReading, seen};
 ghost use Rattle.spool_store.specs.Settled.{IsSettled, StandsFor};
-ghost use Rattle.spool_store.specs.Stores.{Agrees};
+ghost use Rattle.spool_store.specs.Stores.{Agrees, Holds};
 ghost use Rattle.spool_store.specs.Tidying.{IsClean, IsSwept, IsTidied};
 ghost use Rattle.spool_store.specs.inner.Finds.{AreForeign, AreNamed};
 ghost use Rattle.spool_store.specs.inner.Looks.{Looks};
@@ -224,6 +224,13 @@ pub(crate) fn reopen<D: Spool>(
         → StandsFor dirs.now table f
         → IfOk result (λ q. IfSome (D.seen spool.new).told
         (IsSettled dirs.now (record { entries = table.entries; next = (seen q).next }))) }
+    ensures holds { (table : Table) (f : FileMap) → (D.seen spool.old).told ≡ Some f
+        → StandsFor dirs.now table f
+        → IfOk result
+        (λ q. Holds (seen q) (record { entries = table.entries; next = (seen q).next })) }
+    ensures table { (f : FileMap) → (D.seen spool.old).told ≡ Some f
+        → IfOk result
+        (λ q. (table : Table) × StandsFor dirs.now table f × Holds (seen q) table) }
     ensures stands { (table : Table)
         → Moves (D.seen spool.old) (D.seen spool.new) (StandsFor dirs.now table)
         (StandsFor dirs.now table) (StandsFor dirs.now table) }

@@ -3,11 +3,14 @@ use Rattle.std.proofs.Common.{◌≡◌, ◌∙◌, ap, sym, subst, List, ℕ, E
 use Rattle.std.specs.Prelude.{IfSome}
 use Rattle.std.proofs.lemmas.Result.{err_from_is_err_and}
 use Rattle.mail_base.specs.declared.fault.StoreFault.{StoreFault}
+use Rattle.spool_store.specs.Entries.{Table}
 use Rattle.spool_store.specs.Keepers.{IsReading}
 use Rattle.spool_store.specs.Moves.{Moves}
 use Rattle.spool_store.specs.Settled.{IsSettled, StandsFor}
-use Rattle.spool_store.specs.Stores.{Agrees, StoreSeen}
+use Rattle.spool_store.specs.Openings.{AreEntries}
+use Rattle.spool_store.specs.Stores.{Agrees, Holds, StoreSeen}
 use Rattle.spool_store.specs.Tidying.{IsTidied}
+use Rattle.spool_store.proofs.Matching.{opened_holds, opened_table}
 use Rattle.spool_store.proofs.MovesLemmas.{moves_weaker}
 use Rattle.spool_store.proofs.RecoveryLemmas.{stands_moves}
 use Rattle.spool_store.proofs.Reopening.{HasOpened, agrees_now, clean_now, reading_of, settled_now}
@@ -83,3 +86,17 @@ returns-clause-read g c = λ f e.
     let ens = c.in_ok-opened.ensures in
     let has = subst (λ (d : List (List ℕ)). HasOpened a b d o) c.items.ensures (record { steps = ens.counts.steps.now; leads = λ f e. (ens.tidied f e).now; entries = ens.entries; strange = ens.strange; next = ens.next }) in
     subst (IsReading c.args.dirs.now f) (sym c.in_ok-queue.ensures) (reading_of a b c.args.dirs.now o f has e)
+
+pub returns-clause-holds : goal.returns-clause-holds
+returns-clause-holds g c = λ table f e stands.
+    let o = c.in_ok-opened.opened in
+    let ens = c.in_ok-opened.ensures in
+    subst (λ (q : StoreSeen). Holds q (record { entries = table.entries; next = q.next })) (sym c.in_ok-queue.ensures)
+    (opened_holds c.args.dirs.now f o table ens.order.ascending (subst (λ (d : List (List ℕ)). AreEntries d f o.entries) c.items.ensures (ens.entries f e)) stands)
+
+pub returns-clause-table : goal.returns-clause-table
+returns-clause-table g c = λ f e.
+    let o = c.in_ok-opened.opened in
+    let ens = c.in_ok-opened.ensures in
+    subst (λ (q : StoreSeen). (table : Table) × StandsFor c.args.dirs.now table f × Holds q table) (sym c.in_ok-queue.ensures)
+    (opened_table c.args.dirs.now f o ens.order.ascending (subst (λ (d : List (List ℕ)). AreEntries d f o.entries) c.items.ensures (ens.entries f e)))
