@@ -26,7 +26,7 @@ use Rattle.mail_core.specs.Causes.{HasCause, is_well}
 use Rattle.mail_core.specs.inner.Going.{Does, heard_chosen, begins_data, stays_open, way_after, is_onward}
 use Rattle.mail_core.specs.Machine.{Ending, Stopped, SpoolFault, IdsSpent, GoesOn, Leaves, Over, Finish, By, Did, way_of, does, says, closes, is_over, commits, accepts, fails, heard_line, heard_where, Choice, Normal, OutOfMemory, Disconnects, SpoolFails}
 use Rattle.mail_core.specs.Messages.{accept_of, is_spent, dirs_of}
-use Rattle.mail_core.specs.Seen.{Seen, seen, table_after, Ran}
+use Rattle.mail_core.specs.Seen.{IsSparing, Ran, Seen, seen, table_after}
 use Rattle.mail_core.proofs.RanLemmas.{table_more, ran_join, ran_none, ran_floor, ran_done, ran_failed}
 
 -- ---- speech asks nothing of table and clock
@@ -179,40 +179,40 @@ module _ (site : Site) (d : Did) (f : Heard) (s : Spooled) (k : ClockSeen) where
 
 module _ (site : Site) (moment : ℕ) (d : Did) (message : Received) (f : Heard) (s t : Spooled) (k : ClockSeen) where
   -- a message was taken in
-  pub does_commits : d.way ≡ GoesOn → Moves s t (StandsFor (dirs_of site) d.table) (StandsFor (dirs_of site) (after d.table (accept_of site moment message))) (IsEither (dirs_of site) d.table (accept_of site moment message)) → s.faults ≤ t.faults
+  pub does_commits : d.way ≡ GoesOn → Moves s t (StandsFor (dirs_of site) d.table) (StandsFor (dirs_of site) (after d.table (accept_of site moment message))) (IsEither (dirs_of site) d.table (accept_of site moment message)) → IsSparing (dirs_of site) s t true → s.faults ≤ t.faults
       → Does site d (commits site moment d message) (seen f s k) (seen f t k) (Ok Continue)
-  does_commits way moves later = record {
+  does_commits way moves sparing later = record {
     more = Commits (accept_of site moment message) ∷ [];
     effects = refl;
     table = refl;
     number = refl;
-    ran = ran_done (dirs_of site) d.table (accept_of site moment message) f s t k moves later;
+    ran = ran_done (dirs_of site) d.table (accept_of site moment message) f s t k moves sparing later;
     way = way;
     cause = λ ending over event. absurd (cc over);
   }
 
   -- the spool failed at a message
-  pub does_failed : is_spent d.table ≡ false → Moves s t (StandsFor (dirs_of site) d.table) (IsEither (dirs_of site) d.table (accept_of site moment message)) (IsEither (dirs_of site) d.table (accept_of site moment message)) → s.faults ≤ t.faults → Rose s.faults t.faults
+  pub does_failed : is_spent d.table ≡ false → Moves s t (StandsFor (dirs_of site) d.table) (IsEither (dirs_of site) d.table (accept_of site moment message)) (IsEither (dirs_of site) d.table (accept_of site moment message)) → IsSparing (dirs_of site) s t false → s.faults ≤ t.faults → Rose s.faults t.faults
       → Does site d (fails site moment d (Gives message)) (seen f s k) (seen f t k) (Err stops.SpoolFault)
-  does_failed left moves later rose = subst (λ e. Does site d e (seen f s k) (seen f t k) (Err stops.SpoolFault)) (sym (cond-false (is_spent d.table) _ _ left)) (record {
+  does_failed left moves sparing later rose = subst (λ e. Does site d e (seen f s k) (seen f t k) (Err stops.SpoolFault)) (sym (cond-false (is_spent d.table) _ _ left)) (record {
     more = Commits (accept_of site moment message) ∷ [];
     effects = append-nil (d.effects ++ Commits (accept_of site moment message) ∷ []);
     table = refl;
     number = refl;
-    ran = ran_failed (dirs_of site) d.table (accept_of site moment message) f s t k moves later;
+    ran = ran_failed (dirs_of site) d.table (accept_of site moment message) f s t k moves sparing later;
     way = refl;
     cause = λ ending over event. ended_as SpoolFault ending event (after d.table (accept_of site moment message)) (seen f s k) (seen f t k) over rose;
   })
 
 -- a message was taken in, and its 250 said
 pub does_accepts : (site : Site) (moment : ℕ) (d : Did) (message : Received) (f g : Heard) (s t : Spooled) (k : ClockSeen) (fed : Result Next CoreStop) → d.way ≡ GoesOn → is_spent d.table ≡ false
-    → Moves s t (StandsFor (dirs_of site) d.table) (StandsFor (dirs_of site) (after d.table (accept_of site moment message))) (IsEither (dirs_of site) d.table (accept_of site moment message)) → s.faults ≤ t.faults
+    → Moves s t (StandsFor (dirs_of site) d.table) (StandsFor (dirs_of site) (after d.table (accept_of site moment message))) (IsEither (dirs_of site) d.table (accept_of site moment message)) → IsSparing (dirs_of site) s t true → s.faults ≤ t.faults
     → IsSpoken fed → Gains f.told g.told (heard_of (speech d.guest.number (stored_text d.table.next) (is_onward fed))) → g.faults ≡ f.faults
     → Does site d (accepts site moment d message (is_onward fed)) (seen f s k) (seen g t k) fed
-does_accepts site moment d message f g s t k fed way left moves later spoken told own =
+does_accepts site moment d message f g s t k fed way left moves sparing later spoken told own =
     subst (λ e. Does site d e (seen f s k) (seen g t k) fed) (sym (cond-false (is_spent d.table) _ _ left))
     (does_join site d (commits site moment d message) (says (commits site moment d message) (stored_text d.table.next) (is_onward fed)) (seen f s k) (seen f t k) (seen g t k) fed
-    (does_commits site moment d message f s t k way moves later)
+    (does_commits site moment d message f s t k way moves sparing later)
     (does_says site (commits site moment d message) f g t k (stored_text d.table.next) fed spoken told own))
 
 -- the line was heard besides

@@ -1,3 +1,4 @@
+pub mod SparingLemmas
 pub mod RanLemmas
 pub mod MachineLemmas
 pub mod RunLemmas

@@ -16,7 +16,7 @@ use Rattle.spool_store.specs.Keepers.{seen as kept}
 use Rattle.spool_store.specs.Moves.{Moves}
 use Rattle.spool_store.specs.Parcels.{IsParcel, IsReady, with_commit}
 use Rattle.spool_store.specs.Settled.{IsSettled, StandsFor}
-use Rattle.spool_store.specs.Stores.{Agrees, Holds, StoreSeen}
+use Rattle.spool_store.specs.Stores.{Agrees, Holds, KeepsOthers, StoreSeen}
 use Rattle.spool_store.specs.Writes.{after_commit}
 use Rattle.spool_store.proofs.MovesLemmas.{moves_weaker}
 use Rattle.mail_core.specs.declared.caller.Caller.{Caller}
@@ -30,8 +30,9 @@ use Rattle.mail_core.specs.Effects.{heard_of, speech}
 use Rattle.mail_core.specs.inner.Going.{Does, AnswersMessage, IsReset, is_onward, is_granted}
 use Rattle.mail_core.specs.Machine.{IdsSpent, Normal, OutOfMemory, SpoolFails, GoesOn, By, Did, says, is_over, commits, accepts}
 use Rattle.mail_core.specs.Messages.{accept_of, draft_in, draft_of, is_spent, last_id, dirs_of}
-use Rattle.mail_core.specs.Seen.{seen}
+use Rattle.mail_core.specs.Seen.{IsSparing, seen}
 use Rattle.mail_core.specs.Standing.{Serves, Stores, Tallies}
+use Rattle.mail_core.proofs.SparingLemmas.{sparing_call}
 use Rattle.mail_core.proofs.GoingLemmas.{IsSpoken, does_says, does_spent, does_failed, does_accepts, accepts_guest, fails_guest}
 
 -- ---- the store
@@ -133,6 +134,13 @@ module _ (site : Site) (moment : ℕ) (message : Received) (a b : Spooled) (dirs
       subst (λ q. Moves a b (StandsFor (dirs_of site) table) (IsEither (dirs_of site) table (Accept draft q)) (IsEither (dirs_of site) table (Accept draft q))) bo
       (subst (λ q. Moves a b (StandsFor q table) (IsEither q table (Accept draft body)) (IsEither q table (Accept draft body))) ds m)
 
+-- what a commit spares, said of the site: the store has what is told before and after it
+pub spared_at : (site : Site) (old new : Queue) (draft : Draft) (s t : Spooled) → (kept old).dirs ≡ dirs_of site → kept new ≡ with_commit (kept old) [] draft → Tallies old s.told → Tallies new t.told
+    → ((f : FileMap) → Moves s t (λ g. g ≡ f) (KeepsOthers (kept old).dirs f) (KeepsOthers (kept old).dirs f)) → IsSparing (dirs_of site) s t true
+spared_at site old new one s t dirs is before behind moves =
+    subst (λ q. IsSparing q s t true) dirs
+    (sparing_call (kept old) (kept new) s t before behind (ap (λ (q : StoreSeen). q.dirs) is) (ap (λ (q : StoreSeen). q.strange) is) moves)
+
 -- ---- the exits of accept
 
 module _ (site : Site) (moment : ℕ) (d : Did) (message : Received) (old new : Caller) (k : ClockSeen) where
@@ -162,12 +170,12 @@ module _ (site : Site) (moment : ℕ) (d : Did) (message : Received) (old new : 
   }
 
   -- the spool failed
-  pub message_failed : (f : FloorHeard) (s t : Spooled) (intake : Intake) → is_spent d.table ≡ false → Moves s t (StandsFor (dirs_of site) d.table) (IsEither (dirs_of site) d.table (accept_of site moment message)) (IsEither (dirs_of site) d.table (accept_of site moment message)) → s.faults ≤ t.faults → Rose s.faults t.faults
+  pub message_failed : (f : FloorHeard) (s t : Spooled) (intake : Intake) → is_spent d.table ≡ false → Moves s t (StandsFor (dirs_of site) d.table) (IsEither (dirs_of site) d.table (accept_of site moment message)) (IsEither (dirs_of site) d.table (accept_of site moment message)) → IsSparing (dirs_of site) s t false → s.faults ≤ t.faults → Rose s.faults t.faults
       → AnswersMessage site moment d message (seen f s k) (seen f t k) intake old new (Err stops.SpoolFault)
-  message_failed f s t intake left moves later rose = record {
+  message_failed f s t intake left moves sparing later rose = record {
     choice = SpoolFails;
     answers = λ e. cc e;
-    does = does_failed site moment d message f s t k left moves later rose;
+    does = does_failed site moment d message f s t k left moves sparing later rose;
     guest = fails_guest site moment d message;
     serves = λ on. absurd (cc on);
     caller = λ on. absurd (cc on);
@@ -190,14 +198,14 @@ module _ (site : Site) (moment : ℕ) (d : Did) (message : Received) (old new : 
 
     -- it was taken in and acknowledged
     pub message_stored : HoldsOn → (text : List ℕ) → d.way ≡ GoesOn → is_spent d.table ≡ false → text ≡ stored_text d.table.next
-        → Moves s t (StandsFor (dirs_of site) d.table) (StandsFor (dirs_of site) (after d.table (accept_of site moment message))) (IsEither (dirs_of site) d.table (accept_of site moment message)) → s.faults ≤ t.faults
+        → Moves s t (StandsFor (dirs_of site) d.table) (StandsFor (dirs_of site) (after d.table (accept_of site moment message))) (IsEither (dirs_of site) d.table (accept_of site moment message)) → IsSparing (dirs_of site) s t true → s.faults ≤ t.faults
         → IsSpoken fed → is_granted fed ≡ false → Gains f.told g.told (heard_of (speech d.guest.number text (is_onward fed))) → g.faults ≡ f.faults
         → Serves site before d.table → intake ≡ record before { queue = queue } → kept queue ≡ with_commit (kept before.queue) [] (draft_of site moment message) → new ≡ old
         → AnswersMessage site moment d message (seen f s k) (seen g t k) intake old new fed
-    message_stored law text way left is moves later spoken granted told own serves is_in more same = record {
+    message_stored law text way left is moves sparing later spoken granted told own serves is_in more same = record {
       choice = Normal (is_onward fed);
       answers = λ e. cc e;
-      does = does_accepts site moment d message f g s t k fed way left moves later spoken (subst (λ q. Gains f.told g.told (heard_of (speech d.guest.number q (is_onward fed)))) is told) own;
+      does = does_accepts site moment d message f g s t k fed way left moves sparing later spoken (subst (λ q. Gains f.told g.told (heard_of (speech d.guest.number q (is_onward fed)))) is told) own;
       guest = accepts_guest site moment d message (is_onward fed);
       serves = λ on. accepted_in (is_onward fed) left (taken_in law serves is_in more);
       caller = λ on. same;

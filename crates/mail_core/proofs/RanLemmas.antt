@@ -13,7 +13,8 @@ use Rattle.spool_store.specs.Settled.{StandsFor}
 use Rattle.spool_store.proofs.MovesLemmas.{moves_join, moves_none, moves_weaker}
 use Rattle.mail_core.specs.Commands.{Command, IsEither, after, applied}
 use Rattle.mail_core.specs.Effects.{Effect, Commits, heard, read, commanded, heard_of, readings_of, commands_of}
-use Rattle.mail_core.specs.Seen.{Seen, seen, table_after, IsPart, Leaves, Ran}
+use Rattle.mail_core.specs.Seen.{IsPart, IsSparing, Leaves, Ran, Seen, seen, table_after}
+use Rattle.mail_core.proofs.SparingLemmas.{sparing_join, sparing_none}
 
 -- commands one after the other make of a table what all of them make
 applied_more : (table : Table) (some more : List Command) → applied table (some ++ more) ≡ applied (applied table some) more
@@ -53,6 +54,7 @@ ran_join dirs table a b c xs ys well h k = record {
   spool = moves_join a.spool b.spool c.spool (StandsFor dirs table) (StandsFor dirs (table_after table xs)) (Leaves dirs table (xs ++ ys) well) (IsPart dirs table (xs ++ ys))
       (moves_weaker a.spool b.spool (StandsFor dirs table) (StandsFor dirs (table_after table xs)) (IsPart dirs table xs) (StandsFor dirs (table_after table xs)) (IsPart dirs table (xs ++ ys)) (λ f p. p) (part_before dirs table xs ys) h.spool)
       (moves_weaker b.spool c.spool (StandsFor dirs (table_after table xs)) (Leaves dirs (table_after table xs) ys well) (IsPart dirs (table_after table xs) ys) (Leaves dirs table (xs ++ ys) well) (IsPart dirs table (xs ++ ys)) (leaves_after dirs table xs ys well) (part_after dirs table xs ys) k.spool);
+  frame = sparing_join dirs a.spool b.spool c.spool well h.frame k.frame;
   floor_faults = omega (arith, h.floor_faults, k.floor_faults);
   spool_faults = omega (arith, h.spool_faults, k.spool_faults);
 }
@@ -65,6 +67,7 @@ ran_quiet dirs table f g s c d effects none floor faults clock readings = record
   clock = clock;
   readings = readings;
   spool = moves_none s (StandsFor dirs table) (Leaves dirs table effects true) (IsPart dirs table effects) (λ files p. subst (λ cs. StandsFor dirs (applied table cs) files) (sym none) p);
+  frame = sparing_none dirs s;
   floor_faults = faults;
   spool_faults = omega arith;
 }
@@ -84,25 +87,27 @@ part_of_one dirs table command f (inl s) = record { done = []; rest = Commits co
 part_of_one dirs table command f (inr s) = record { done = Commits command ∷ []; rest = []; whole = refl; stands = s }
 
 -- a command that was done
-pub ran_done : (dirs : List (List ℕ)) (table : Table) (command : Command) (f : Heard) (s t : Spooled) (c : ClockSeen) → Moves s t (StandsFor dirs table) (StandsFor dirs (after table command)) (IsEither dirs table command) → s.faults ≤ t.faults
+pub ran_done : (dirs : List (List ℕ)) (table : Table) (command : Command) (f : Heard) (s t : Spooled) (c : ClockSeen) → Moves s t (StandsFor dirs table) (StandsFor dirs (after table command)) (IsEither dirs table command) → IsSparing dirs s t true → s.faults ≤ t.faults
     → Ran dirs table (seen f s c) (seen f t c) (Commits command ∷ []) true
-ran_done dirs table command f s t c moves later = record {
+ran_done dirs table command f s t c moves sparing later = record {
   floor = gains_none f.told;
   clock = gains_none c.told;
   readings = omega arith;
   spool = moves_weaker s t (StandsFor dirs table) (StandsFor dirs (after table command)) (IsEither dirs table command) (Leaves dirs table (Commits command ∷ []) true) (IsPart dirs table (Commits command ∷ [])) (λ files p. p) (part_of_one dirs table command) moves;
+  frame = sparing;
   floor_faults = omega arith;
   spool_faults = later;
 }
 
 -- a command that failed
-pub ran_failed : (dirs : List (List ℕ)) (table : Table) (command : Command) (f : Heard) (s t : Spooled) (c : ClockSeen) → Moves s t (StandsFor dirs table) (IsEither dirs table command) (IsEither dirs table command) → s.faults ≤ t.faults
+pub ran_failed : (dirs : List (List ℕ)) (table : Table) (command : Command) (f : Heard) (s t : Spooled) (c : ClockSeen) → Moves s t (StandsFor dirs table) (IsEither dirs table command) (IsEither dirs table command) → IsSparing dirs s t false → s.faults ≤ t.faults
     → Ran dirs table (seen f s c) (seen f t c) (Commits command ∷ []) false
-ran_failed dirs table command f s t c moves later = record {
+ran_failed dirs table command f s t c moves sparing later = record {
   floor = gains_none f.told;
   clock = gains_none c.told;
   readings = omega arith;
   spool = moves_weaker s t (StandsFor dirs table) (IsEither dirs table command) (IsEither dirs table command) (Leaves dirs table (Commits command ∷ []) false) (IsPart dirs table (Commits command ∷ [])) (λ files h. record { done = []; command = command; whole = refl; stands = h }) (part_of_one dirs table command) moves;
+  frame = sparing;
   floor_faults = omega arith;
   spool_faults = later;
 }

@@ -20,6 +20,7 @@ use Rattle.spool_disk.proofs.Naming.{nothing_there, one_only}
 use Rattle.spool_store.specs.Entries.{Stored, Table}
 use Rattle.spool_store.specs.Moves.{Moves}
 use Rattle.spool_store.specs.Settled.{HasFiles, StandsFor}
+use Rattle.spool_store.specs.Stores.{KeepsOthers}
 use Rattle.spool_store.specs.Writes.{stored}
 use Rattle.spool_store.proofs.MovesLemmas.{moves_weaker, told_after}
 use Rattle.mail_core.specs.declared.serving.Core.{Core}
@@ -34,7 +35,7 @@ use Rattle.mail_core.specs.Events.{Turns}
 use Rattle.mail_core.specs.Machine.{Step, Turn, beginning, stepped}
 use Rattle.mail_core.specs.Runs.{AreAcked, HasEntry, Headline, IsAcked, IsEnded, IsKept, IsLeft, run_over}
 use Rattle.mail_core.specs.inner.UnderWay.{IsUnderWay}
-use Rattle.mail_core.specs.Seen.{IsPart, LacksLast, Leaves as Left, Ran, Seen, seen, table_after}
+use Rattle.mail_core.specs.Seen.{IsPart, IsSparing, LacksLast, Leaves as Left, Ran, Seen, SparesBy, seen, table_after}
 use Rattle.mail_core.specs.Standing.{IsTallied, Stands}
 use Rattle.mail_core.specs.Messages.{dirs_of}
 use Rattle.mail_core.proofs.GoingLemmas.{cause_since}
@@ -49,10 +50,10 @@ opened_part dirs table s t moves =
     moves_weaker s t (StandsFor dirs table) (StandsFor dirs table) (StandsFor dirs table) (StandsFor dirs table) (IsPart dirs table []) (λ f p. p) (λ f p. record { done = []; rest = []; whole = refl; stands = p }) moves
 
 -- a core over a table for which the spool stands still is under way, after no event
-pub under_way_begin : (site : Site) (table : Table) (core : Core) (f g : Heard) (s t : Spooled) (c : ClockSeen) → Moves s t (StandsFor (dirs_of site) table) (StandsFor (dirs_of site) table) (StandsFor (dirs_of site) table)
+pub under_way_begin : (site : Site) (table : Table) (core : Core) (f g : Heard) (s t : Spooled) (c : ClockSeen) → Moves s t (StandsFor (dirs_of site) table) (StandsFor (dirs_of site) table) (StandsFor (dirs_of site) table) → IsSparing (dirs_of site) s t true
     → g.told ≡ f.told → f.faults ≤ g.faults → s.faults ≤ t.faults → Stands site core (beginning table) → IsTallied core t.told
     → IsUnderWay site table core 0 (seen f s c) (seen g t c)
-under_way_begin site table core f g s t c moves same floor_faults spool_faults stands tallied = record {
+under_way_begin site table core f g s t c moves sparing same floor_faults spool_faults stands tallied = record {
   turns = [];
   events = refl;
   ran = record {
@@ -60,6 +61,7 @@ under_way_begin site table core f g s t c moves same floor_faults spool_faults s
     clock = gains_none c.told;
     readings = omega arith;
     spool = opened_part (dirs_of site) table s t moves;
+    frame = sparing;
     floor_faults = floor_faults;
     spool_faults = spool_faults;
   };
@@ -208,6 +210,10 @@ exit_of site table turns well told files is left =
       acked = λ session id within sent. kept_left (dirs_of site) table effects well files session id leads.acked left within (sent_done effects session (stored_text id) sent);
     }
 
+spared_others : (dirs : List (List ℕ)) (well : Bool) (f g : FileMap) → SparesBy dirs well f g → KeepsOthers dirs f g
+spared_others dirs true f g h = h.others
+spared_others dirs false f g h = h
+
 pub headline_of : (site : Site) (table : Table) (turns : List Turn) (a b : Seen) (well : Bool) → OnlyNow a.spool → Ran (dirs_of site) table a b (run_over site table turns).effects well → Headline site table turns a b well
 headline_of site table turns a b well only ran =
     let effects = (run_over site table turns).effects in record {
@@ -217,6 +223,13 @@ headline_of site table turns a b well only ran =
       exit = λ files told stands.
           let now = told_after a.spool.told b.spool.told (StandsFor (dirs_of site) table) (Left (dirs_of site) table effects well) ran.spool.now files told stands in
           exit_of site table turns well b.spool.told now.0 now.1 now.2;
+      spared = λ files told.
+          let now = told_after a.spool.told b.spool.told (λ g. g ≡ files) (SparesBy (dirs_of site) well files) (ran.frame files).now files told refl in
+          record { files = now.0; told_is = now.1; others = spared_others (dirs_of site) well files now.0 now.2 };
+      spared_images = λ files told left at. ⊎_elim
+          (λ before. let same : files ≡ left = same_told files left (sym told ∙ only left before) in subst (KeepsOthers (dirs_of site) files) same (λ place is. refl))
+          (λ spared. spared)
+          ((ran.frame files).images files told refl a.spool.moment left (le_refl a.spool.moment) at);
       images = λ files told stands left at. ⊎_elim
           (λ before.
           let same : files ≡ left = same_told files left (sym told ∙ only left before) in

@@ -13,6 +13,7 @@ use Rattle.spool_disk.specs.Disk.{FileMap, bytes_at}
 use Rattle.spool_store.specs.Entries.{Stored, Table}
 use Rattle.spool_store.specs.Queue.{IsLive}
 use Rattle.spool_store.specs.Settled.{StandsFor, spot_of}
+use Rattle.spool_store.specs.Stores.{KeepsOthers}
 use Rattle.mail_core.specs.Effects.{Effect, Takes, Ticks, Commits, Sends, HangsUp, heard_of, readings_of}
 use Rattle.mail_core.specs.declared.serving.Site.{Site}
 use Rattle.mail_core.specs.declared.serving.Act.{Act}
@@ -69,6 +70,12 @@ pub record IsLeft (site : Site) (table : Table) (effects : List Effect) (well : 
       → Contains (heard_of effects) (Sent session (stored_text id))
       → IsKept (dirs_of site) (table_after table effects) files id
 
+-- the files are told, and what no call touches is in them as it was
+pub record IsSpared (dirs : List (List ℕ)) (old : FileMap) (told : Option FileMap) : Type 0 where
+  pub files : FileMap
+  pub told_is : told ≡ Some files
+  pub others : KeepsOthers dirs old files
+
 -- these turns are all that happened from a to b, over files that stood for the table
 pub record Headline (site : Site) (table : Table) (turns : List Turn) (a b : Seen)
     (well : Bool) : Type 0 where
@@ -84,6 +91,13 @@ pub record Headline (site : Site) (table : Table) (turns : List Turn) (a b : See
   pub images : (files : FileMap) → a.spool.told ≡ Some files → StandsFor (dirs_of site) table files
       → (left : FileMap) → b.spool.left_since a.spool.moment left
       → IsPart (dirs_of site) table (run_over site table turns).effects left
+  -- whatever the files were, at the exit and in each of these what no call touches is as it was:
+  -- files that are none of the queue's, and strange ones with the bodies of their ids
+  pub spared : (files : FileMap) → a.spool.told ≡ Some files
+      → IsSpared (dirs_of site) files b.spool.told
+  pub spared_images : (files : FileMap) → a.spool.told ≡ Some files
+      → (left : FileMap) → b.spool.left_since a.spool.moment left
+      → KeepsOthers (dirs_of site) files left
   -- no count of faults falls
   pub floor_faults : a.floor.faults ≤ b.floor.faults
   pub spool_faults : a.spool.faults ≤ b.spool.faults

@@ -7,7 +7,9 @@ use Rattle.spool_disk.specs.Disk.{FileMap}
 use Rattle.spool_disk.specs.Spooled.{Spooled}
 use Rattle.spool_store.specs.Entries.{Table}
 use Rattle.spool_store.specs.Moves.{Moves}
+use Rattle.spool_store.specs.Queue.{Spot, IsStrange}
 use Rattle.spool_store.specs.Settled.{StandsFor}
+use Rattle.spool_store.specs.Stores.{KeepsOthers}
 use Rattle.mail_core.specs.Commands.{Command, IsEither, applied}
 use Rattle.mail_core.specs.Effects.{Effect, Commits, heard_of, readings_of, commands_of}
 
@@ -45,6 +47,21 @@ abbrev pub Leaves : List (List ℕ) → Table → List Effect → Bool → FileM
 Leaves dirs table effects true = StandsFor dirs (table_after table effects)
 Leaves dirs table effects false = LacksLast dirs table effects
 
+-- what no call touches stays: files that are none of the queue's, and strange ones with the bodies of
+-- their ids; and these are strange still
+pub record Spares (dirs : List (List ℕ)) (f g : FileMap) : Type 0 where
+  pub others : KeepsOthers dirs f g
+  pub strange : (s : Spot) → IsStrange dirs f s → IsStrange dirs g s
+
+abbrev pub SparesBy : List (List ℕ) → Bool → FileMap → FileMap → Type 0
+SparesBy dirs true = Spares dirs
+SparesBy dirs false = KeepsOthers dirs
+
+-- it stays in the files that are left, and in those that a stop may leave
+abbrev pub IsSparing : List (List ℕ) → Spooled → Spooled → Bool → Type 0
+IsSparing dirs a b well =
+    (f : FileMap) → Moves a b (λ g. g ≡ f) (SparesBy dirs well f) (KeepsOthers dirs f)
+
 -- these effects lead from a to b: what floor and clock tell, what becomes of files that stood for
 -- the table, and what a stop since a may leave; no count falls
 pub record Ran (dirs : List (List ℕ)) (table : Table) (a b : Seen) (effects : List Effect)
@@ -54,5 +71,6 @@ pub record Ran (dirs : List (List ℕ)) (table : Table) (a b : Seen) (effects : 
   pub readings : b.clock.readings ≡ a.clock.readings + length (readings_of effects)
   pub spool : Moves a.spool b.spool (StandsFor dirs table) (Leaves dirs table effects well)
       (IsPart dirs table effects)
+  pub frame : IsSparing dirs a.spool b.spool well
   pub floor_faults : a.floor.faults ≤ b.floor.faults
   pub spool_faults : a.spool.faults ≤ b.spool.faults

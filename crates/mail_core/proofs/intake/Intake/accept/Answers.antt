@@ -1,11 +1,12 @@
-use Rattle.std.proofs.Common.{[], refl, ◌∙◌, ap, Ok, Err}
+use Rattle.std.proofs.Common.{ℕ, List, [], false, refl, ◌∙◌, ap, subst, Ok, Err}
 use Rattle.std.proofs.lemmas.Result.{err_from_is_err_and}
 use Rattle.smtp_receive.specs.Replies.{stored_text}
 use Rattle.mail_core.specs.declared.next.Next.TheVariants.{Continue}
 use Rattle.mail_core.specs.Messages.{draft_of}
+use Rattle.mail_core.specs.Seen.{IsSparing}
 use Rattle.mail_core.proofs.SpeechLemmas.{told_as}
 use Rattle.mail_core.proofs.GoingLemmas.{spoken_of, ungranted}
-use Rattle.mail_core.proofs.MessageLemmas.{id_of, left_is, message_failed, message_lacked, message_spent, message_stored, moves_done_at, moves_failed_at, parcel_at, ready_of, rose_of, serves_room, spent_is, tallies_room, with_own}
+use Rattle.mail_core.proofs.MessageLemmas.{id_of, left_is, message_failed, message_lacked, message_spent, message_stored, moves_done_at, moves_failed_at, parcel_at, ready_of, rose_of, serves_room, spared_at, spent_is, tallies_room, with_own}
 use Rattle.mail_core.proofs.intake.Intake.accept.Goals as goal
 
 pub returns-in-Err-IdsSpent-clause-accepts : goal.returns-in-Err-IdsSpent-clause-accepts
@@ -56,6 +57,7 @@ returns-in_err-commit-clause-accepts g c = λ site d clock way serves number.
     rw (p.1, p.2) (message_failed site _ d c.args.message _ _ clock _ _ _ _ (left_is _ d.table _ _ c.in-Ok.parcel now.store.holds parcel)
     (moves_failed_at site _ c.args.message _ _ _ c.in-Ok.parcel.body d.table now.store.dirs parcel.body_is
     (c.in_err-commit.ensures.moves d.table [] (draft_of site _ c.args.message) now.store.holds (with_own _ _ _ c.in-Ok.parcel parcel)))
+    (subst (λ (q : List (List ℕ)). IsSparing q (g.D.Spool.seen c.args.spool.now) (g.D.Spool.seen c.commit.new.spool) false) now.store.dirs c.commit.ensures.frame)
     c.commit.ensures.later
     (rose_of site _ d.table _ _ now.store c.in_err-commit.ensures.cause))
 
@@ -68,6 +70,8 @@ returns-clause-accepts g c = λ site d clock way serves number.
     (c.in-Ok-stored.ensures ∙ ap stored_text (c.id.ensures ∙ id_of _ d.table _ _ c.in-Ok.parcel now.store.holds parcel))
     (moves_done_at site _ c.args.message _ _ _ c.in-Ok.parcel.body d.table now.store.dirs parcel.body_is
     (c.in_ok-commit.ensures.moves d.table [] (draft_of site _ c.args.message) now.store.holds own))
+    (spared_at site c.parcel.new.self.queue c.commit.new.self (draft_of site _ c.args.message) _ _ now.store.dirs (c.in_ok-commit.ensures.ok [] (draft_of site _ c.args.message) own)
+    (tallies_room c.args.self.now.queue c.parcel.new.self.queue _ c.parcel.ensures.room c.requires.tallied) c.in_ok-commit.ensures.agrees c.commit.ensures.frame)
     c.commit.ensures.later
     (spoken_of c.reply.result Continue refl c.reply.ensures.next) (ungranted c.reply.result c.reply.ensures.next)
     (told_as _ _ _ _ _ _ _ number refl c.reply.ensures.told) c.reply.ensures.own now refl (c.in_ok-commit.ensures.ok [] (draft_of site _ c.args.message) own) refl
