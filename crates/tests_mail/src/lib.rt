@@ -1,4 +1,4 @@
-//! Tests of the receipt of mail and of the queue's files, as tables. They stand apart from the
+//! Tests of the receipt of mail and of control texts, as tables. They stand apart from the
 //! libraries, which a check would else prove twice.
 #![tactic(auto)]
 
@@ -6,8 +6,6 @@
 mod commands;
 #[cfg(test)]
 mod control;
-#[cfg(test)]
-mod faults;
 #[cfg(test)]
 mod headers;
 #[cfg(test)]
@@ -18,5 +16,3 @@ mod receive;
 mod received;
 #[cfg(test)]
 mod replies;
-#[cfg(test)]
-mod store;

@@ -196,6 +196,38 @@ fn a_stopped_commit_leaves_the_table_before_or_after(rt: HostRuntime) {
     assert_eq!(rt; wrong_stop(rt.alloc()), Ok(None));
 }
 
+// A spool whose call of that number fails.
+fn failing_at(alloc: Global, call: u64) -> Result<MemSpool, NoMemory> {
+    let mut calls = Seq::new(alloc);
+    calls.push(call)?;
+    Ok(MemSpool::new(alloc, calls))
+}
+
+// Whether a call that fails is told, and is the last one, and the spool has the three entries or
+// none.
+fn is_told(alloc: Global, call: u64) -> Result<bool, StoreFault> {
+    let mut spool = failing_at(alloc, call)?;
+    let did = opens_and_commits(alloc, &mut spool);
+    let is_last = spool.calls() == call.saturating_add(1);
+    let count = entries_in(alloc, &mut spool)?;
+    Ok(is_last && did != Ok(true) && (count == Some(0) || count == Some(3)))
+}
+
+// The first call that isn't told so: the listing, and the nine of the commit.
+fn untold_call(alloc: Global) -> Result<Option<u64>, StoreFault> {
+    for call in 0..10u64 {
+        if !is_told(alloc, call)? {
+            return Ok(Some(call));
+        }
+    }
+    Ok(None)
+}
+
+#[test]
+fn each_call_that_fails_is_told_and_the_last(rt: HostRuntime) {
+    assert_eq!(rt; untold_call(rt.alloc()), Ok(None));
+}
+
 // How many calls opening and committing take: a listing of the one directory, and three for each
 // entry.
 fn calls(alloc: Global) -> Result<u64, StoreFault> {
