@@ -1,7 +1,8 @@
 //! Does one thing over much input, so that its time can be measured. The first word says what:
 //! `lines`, `headers`, `body`, `receipt`, `tokens`, `control`, `conf`, `maps`, `matches`, `rules`,
-//! `classes` or `spool`. The second says over what, as each module tells, and the third how many
-//! times it is done, once where it is left out. The scripts in `bench/` measure it.
+//! `classes`, `spool`, `commits` or `opening`. The second says over what, as each module tells, and
+//! the third how many times it is done, once where it is left out. The scripts in `bench/` measure
+//! it.
 #![tactic(auto)]
 
 mod classes;
@@ -11,6 +12,7 @@ mod gather;
 mod lines;
 mod maps;
 mod matches;
+mod queue;
 mod receipt;
 mod rules;
 mod spool;
@@ -46,6 +48,8 @@ fn main(rt: HostRuntime) -> Result<()> {
         "matches" => matches::answer(alloc, over.as_deref(), rounds)?,
         "rules" => rules::answer(alloc, over.as_deref(), rounds)?,
         "spool" => spool::answer(alloc, over.as_deref(), rounds)?,
+        "commits" => queue::commits(alloc, over.as_deref(), rounds)?,
+        "opening" => queue::opening(alloc, over.as_deref(), rounds)?,
         _ => bail!("nothing to measure"),
     };
     println!(rt; "{answer}")?;
