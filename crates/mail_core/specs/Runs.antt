@@ -49,8 +49,8 @@ AreAcked table [] = Unit {0}
 AreAcked table (effect ∷ effects) =
     IsAcked table effect × AreAcked (table_after table (effect ∷ [])) effects
 
--- the table has an entry of that id, a control file that is live says its control, and its body file
--- is there and holds its body
+-- the table has an entry of that id, a control file that is live says its control, and its body
+-- file is there and holds its body
 pub record IsKept (dirs : List (List ℕ)) (table : Table) (files : FileMap) (id : ℕ) : Type 0 where
   pub stored : Stored
   pub among : Contains table.entries stored
@@ -59,8 +59,8 @@ pub record IsKept (dirs : List (List ℕ)) (table : Table) (files : FileMap) (id
   pub control : IsLive dirs files (spot_of kind stored) stored.control
   pub body : bytes_at files (stored.dir, name_of Df id) ≡ Some stored.body
 
--- what the files are at the exit of a run: they stand for the table after its commands, but where the
--- spool failed, and they have the entry of each final 250 that was sent
+-- what the files are at the exit of a run: they stand for the table after its commands, but where
+-- the spool failed, and they have the entry of each final 250 that was sent
 pub record IsLeft (site : Site) (table : Table) (effects : List Effect) (well : Bool)
     (told : Option FileMap) : Type 0 where
   pub files : FileMap

@@ -1,6 +1,5 @@
-ghost use Rattle.std.specs.Prelude.{◌≡◌, ◌≢◌, ◌≤◌, ◌<◌, ◌⊎◌, ◌++◌, ◌∷◌, ◌^◌, [], List, ℕ, Bool, length, Option, Some, None, Err, IfOk, IsErrOf, IsTrue, true, false, Contains};
+ghost use Rattle.std.specs.Prelude.{◌≡◌, ◌<◌, ◌⊎◌, ◌++◌, ◌∷◌, ◌^◌, [], List, ℕ, Bool, Option, None, IfOk, IsErrOf, true, false, Contains};
 ghost use Rattle.mail_base.specs.Histories.{Gains};
-ghost use Rattle.mail_base.specs.Limits.{IsId};
 ghost use Rattle.mail_base.specs.declared.fault.StoreFault.TheVariants.{IdsSpent as NoIdLeft, SpoolFault as SpoolBroke};
 ghost use Rattle.mail_edge.specs.Seen.{ClockSeen};
 ghost use Rattle.link_edge.specs.Heard.{IsSoundAt};
@@ -18,7 +17,7 @@ ghost use Rattle.mail_core.specs.declared.serving.Site.{Site};
 ghost use Rattle.mail_core.specs.Effects.{heard_of, speech, Sends, HangsUp};
 ghost use Rattle.mail_core.specs.inner.Going.{AnswersLine, AnswersLines, AnswersMessage, Feeds, is_onward, stays_open};
 ghost use Rattle.mail_core.specs.Causes.{is_well};
-ghost use Rattle.mail_core.specs.Guests.{Guest, with_bytes, lines_of, lines_heard};
+ghost use Rattle.mail_core.specs.Guests.{Guest, lines_of, lines_heard};
 ghost use Rattle.mail_core.specs.Machine as machine;
 ghost use Rattle.mail_core.specs.Machine.{moment_by};
 ghost use Rattle.mail_core.specs.Messages as entry;
