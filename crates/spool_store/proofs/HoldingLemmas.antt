@@ -2,7 +2,6 @@
 use Rattle.std.proofs.Common.{◌≡◌, ℕ, ◌+◌, ◌-◌, List, [], ◌∷◌, ◌++◌, map, None, Bool, true, false, if◌then◌else◌, ap, arith, refl, subst}
 use Rattle.std.specs.Prelude.{eqb}
 use Rattle.std.specs.List.{AllZip}
-use Rattle.std.proofs.lemmas.List.{map_push}
 use Rattle.mail_base.specs.declared.control.Control.{Control}
 use Rattle.mail_base.specs.declared.control.Draft.{Draft}
 use Rattle.spool_disk.specs.Disk.{FileMap}
@@ -10,9 +9,6 @@ use Rattle.spool_store.specs.Entries.{Stored, Table, replaced}
 use Rattle.spool_store.specs.Keepers.{after_replace}
 use Rattle.spool_store.specs.Parcels.{with_commit}
 use Rattle.spool_store.specs.Stores.{Agrees, Holds, IsHeld, StoreSeen, entered, recontrolled, refinished}
-use Rattle.spool_store.specs.Tables.{Table as Older, after, stored as taken_in}
-use Rattle.spool_store.specs.Tables.Command.{Accept}
-use Rattle.spool_store.specs.Accepts.{as_part, parts_of}
 use Rattle.spool_store.specs.Writes.{after_commit, stored}
 use Rattle.spool_store.specs.declared.held.Held.{Held}
 
@@ -65,10 +61,3 @@ one_with store d =
     let n : store.next + 1 + 0 ≡ store.next + 1 = omega arith in
     let m : store.room - (0 + 1) ≡ store.room - 1 = omega arith in
     λ i. record store { entries = store.entries ++ entered (stored store.next [] d) ∷ []; next = n i; room = m i }
-
--- a table of new entries as one of parts
-pub accept_parts : (table : Older) (d : Draft) (b : List ℕ) → parts_of (after table (Accept d b)) ≡ after_commit (parts_of table) [] d b None
-accept_parts table d b =
-    let es = map_push as_part table.entries (taken_in table.next d b) in
-    let n : table.next + 1 ≡ table.next + 1 + 0 = omega arith in
-    λ i. record { entries = es i; next = n i }

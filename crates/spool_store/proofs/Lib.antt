@@ -1,8 +1,4 @@
 pub mod MovesLemmas
-mod FileNames
-pub mod PlaceLemmas
-pub mod TableLemmas
-pub mod StageLemmas
 mod OpenLemmas
 mod Adding
 mod Carrying

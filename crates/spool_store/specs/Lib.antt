@@ -1,8 +1,5 @@
 pub mod inner
-pub mod Tables
-pub mod Standing
 pub mod Moves
-pub mod Stages
 pub mod Queue
 pub mod Alike
 pub mod Entries
@@ -17,4 +14,3 @@ pub mod Keepers
 pub mod Finishing
 pub mod Parcels
 pub mod Openings
-pub mod Accepts

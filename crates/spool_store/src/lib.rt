@@ -1,23 +1,19 @@
 //! The store of the queue over a [`Spool`](spool_disk::Spool): an entry is committed whole or not
 //! at all, at whatever call the run stops. Which files stand for a table is in
-//! `specs/Standing.antt`.
+//! `specs/Settled.antt`.
 #![tactic(auto)]
 
-mod change;
 mod fault;
-mod files;
 mod finishes;
 mod held;
 mod judged;
 mod label;
-mod law;
 mod listed;
 mod looked;
 mod looking;
 mod making;
 mod named;
 mod opened;
-mod opening;
 mod parcel;
 mod part;
 mod parts;
@@ -28,14 +24,11 @@ mod raises;
 mod recovery;
 mod room;
 mod shelf;
-mod store;
 mod swept;
 mod verdict;
 
-pub use change::Change;
-pub use fault::{OpenFault, SpoolFault};
+pub use fault::SpoolFault;
 pub use held::Held;
-pub use law::{a_clean_map_stands, commands_follow, new_entries_keep_soundness};
 pub use opened::Opened;
 pub use parcel::Parcel;
 pub use part::Part;
@@ -48,4 +41,3 @@ pub use queue_law::{
 };
 pub use recovery::recover;
 pub use room::Room;
-pub use store::Store;

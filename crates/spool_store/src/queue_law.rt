@@ -22,10 +22,7 @@ ghost use Rattle.spool_store.specs.Settled.{StandsFor, IsTidy, IsNamed, IsSettle
 ghost use Rattle.spool_store.specs.Entries.{Stored, Table, AreSameEntries, with_control};
 ghost use Rattle.spool_store.specs.Keepers.{after_replace};
 ghost use Rattle.spool_store.specs.Parcels.{with_children, with_commit};
-ghost use Rattle.spool_store.specs.Accepts.{parts_of};
 ghost use Rattle.spool_store.specs.Stores.{Agrees, Holds, StoreSeen, entered, recontrolled, refinished};
-ghost use Rattle.spool_store.specs.Tables.{Table as OlderTable, after};
-ghost use Rattle.spool_store.specs.Tables.Command.{Accept};
 
 /// A control file says one control.
 pub fn one_control()
@@ -297,7 +294,7 @@ pub fn holding_goes_on()
         → Agrees (record store { room = room }) f }
 {}
 
-/// A commit of one entry adds it, and is what an older table's command is.
+/// A commit of one entry adds it at the end, under the first free id.
 pub fn a_commit_of_one()
     ensures table { (table : Table) (d : Draft) (b : List ℕ)
         → after_commit table [] d b None
@@ -309,6 +306,4 @@ pub fn a_commit_of_one()
           next = store.next + 1;
           room = store.room - 1;
         } }
-    ensures accept { (table : OlderTable) (d : Draft) (b : List ℕ)
-        → parts_of (after table (Accept d b)) ≡ after_commit (parts_of table) [] d b None }
 {}

@@ -1,5 +1,5 @@
 -- One lemma each.
-use Rattle.spool_store.proofs.HoldingLemmas.{accept_parts, one_after, one_with}
+use Rattle.spool_store.proofs.HoldingLemmas.{one_after, one_with}
 use Rattle.spool_store.proofs.queue_law.a_commit_of_one.Goals as goal
 
 pub returns-clause-table : goal.returns-clause-table
@@ -7,6 +7,3 @@ returns-clause-table c = one_after
 
 pub returns-clause-store : goal.returns-clause-store
 returns-clause-store c = one_with
-
-pub returns-clause-accept : goal.returns-clause-accept
-returns-clause-accept c = accept_parts
