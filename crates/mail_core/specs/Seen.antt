@@ -47,8 +47,8 @@ abbrev pub Leaves : List (List ℕ) → Table → List Effect → Bool → FileM
 Leaves dirs table effects true = StandsFor dirs (table_after table effects)
 Leaves dirs table effects false = LacksLast dirs table effects
 
--- what no call touches stays: files that are none of the queue's, and strange ones with the bodies of
--- their ids; and these are strange still
+-- what no call touches stays: files that are none of the queue's, and strange ones with the bodies
+-- of their ids; and these are strange still
 pub record Spares (dirs : List (List ℕ)) (f g : FileMap) : Type 0 where
   pub others : KeepsOthers dirs f g
   pub strange : (s : Spot) → IsStrange dirs f s → IsStrange dirs g s
