@@ -33,10 +33,10 @@ pairs_tail e es up i j d lt within = up (suc i) (suc j) d (omega (arith, lt)) (o
 
 -- ---- two lists in order, of which each has the other's
 
-EachIs : List Entry → List Stored → Type 0
+abbrev EachIs : List Entry → List Stored → Type 0
 EachIs es ss = (e : Entry) → Contains es e → (s : Stored) × Contains ss s × IsHeld (taken_over e) s
 
-EachWas : List Stored → List Entry → Type 0
+abbrev EachWas : List Stored → List Entry → Type 0
 EachWas ss es = (s : Stored) → Contains ss s → (e : Entry) × Contains es e × IsHeld (taken_over e) s
 
 least_stored : (e : Entry) (s : Stored) (es : List Entry) (ss : List Stored) → IsStrictlySortedBy nat_cmp (ids (s ∷ ss)) → EachIs (e ∷ es) (s ∷ ss) → s.id ≤ e.id
@@ -110,7 +110,7 @@ opened_holds dirs f o table up read stands = record {
 
 -- ---- a table that the map stands for
 
-bare : Entry → Stored
+abbrev bare : Entry → Stored
 bare e = record { id = e.id; dir = e.dir; control = e.control; body = [] }
 
 less_bare : (n : ℕ) (es : List Entry) → All (λ (e : Entry). n < e.id) es → AllByRecursion (λ y. nat_cmp n y ≡ Less) (ids (map bare es))
