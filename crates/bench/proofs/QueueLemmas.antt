@@ -1,10 +1,10 @@
 -- A message can be committed, again and again.
-use Rattle.std.proofs.Common.{◌≡◌, List, [], ℕ, None, Option, Some, sym, ap, subst}
+use Rattle.std.proofs.Common.{◌≡◌, List, [], ℕ, None, Option, Some, sym, subst}
 use Rattle.std.specs.Prelude.{IfSome}
-use Rattle.std.proofs.lemmas.List.Elements.{All-nil, Contains-push}
+use Rattle.std.proofs.lemmas.List.Elements.{All-nil}
 use Rattle.mail_base.specs.declared.control.Draft.{Draft}
 use Rattle.spool_disk.specs.Disk.{FileMap}
-use Rattle.spool_store.specs.Parcels.{CanPrepare, IsParcel, IsReady, with_commit}
+use Rattle.spool_store.specs.Parcels.{CanPrepare, IsParcel, IsReady}
 use Rattle.spool_store.specs.Stores.{Agrees, StoreSeen}
 use Rattle.spool_store.specs.Writes.{IsDraftable}
 use Rattle.spool_store.specs.declared.parcel.Parcel.{Parcel}
