@@ -4,7 +4,9 @@ use Rattle.std.specs.Prelude.{OnOk}
 use Rattle.std.proofs.lemmas.List.{append_assoc, append-nil, drop_all, drop_more}
 use Rattle.mail_base.specs.declared.fault.NoMemory.{NoMemory}
 use Rattle.mail_base.specs.declared.token.Token.{Token}
+use Rattle.mail_base.specs.declared.rule.Piece.{Piece}
 use Rattle.mail_base.specs.declared.rule.Step.{Step}
+use Rattle.mail_base.specs.declared.rule.Step.TheVariants.{Plain}
 use Rattle.map_tables.specs.Answers.{Loaded}
 use Rattle.ruleset_run.specs.declared.fault.RunFault.{RunFault}
 use Rattle.ruleset_run.specs.declared.fault.RunFault.TheVariants as faults
@@ -13,8 +15,9 @@ use Rattle.ruleset_run.specs.declared.part.Part.TheVariants.{Token as OneToken, 
 use Rattle.ruleset_run.specs.declared.parts.Parts.{Parts}
 use Rattle.ruleset_run.specs.Sites.{Macros}
 use Rattle.ruleset_run.specs.Cutting.{Lates, late_tokens}
-use Rattle.ruleset_run.specs.Filling.{Matched, Filling, put, filled, tokens_in}
+use Rattle.ruleset_run.specs.Filling.{Matched, Filling, piece_tokens, put, filled, tokens_in}
 use Rattle.ruleset_run.specs.inner.Filler.{StandBy, Stand, Gain, FillsFault, StepFault, StepFills}
+use Rattle.ruleset_run.proofs.LookLemmas.{step_plain}
 use Rattle.ruleset_run.proofs.Moves.{tokens_append}
 
 pub put_put : (a b : List Part) (f : Filling) → put a (put b f) ≡ put (a ++ b) f
@@ -38,6 +41,28 @@ module _ (fill : List Step → Macros → Filling) (steps : List Step) (i : ℕ)
   pub fill_fails : (e : RunFault) → StepFault e (λ f. (more : List Step) → fill (step ∷ more) now ≡ f) → FillsFault e (fill steps start)
   fill_fails faults.NoMemory h = tt
   fill_fails e h = fails_as e h
+
+-- ---- tokens alone
+
+map_append : (a b : List Token) → map OneToken (a ++ b) ≡ map OneToken a ++ map OneToken b
+map_append [] b = refl
+map_append (t ∷ a) b = ap (λ (ps : List Part). OneToken t ∷ ps) (map_append a b)
+
+put_none : (f : Filling) → f ≡ put [] f
+put_none (Ok full) = refl
+put_none (Err fault) = refl
+
+-- before the first step nothing stands in front
+pub fill_start : (loaded : Loaded) (o : List ℕ) (late : Lates) (found : Matched) (steps : List Step) (macros : Macros) (given : List Token) → given ≡ [] → filled loaded o late found steps macros ≡ put (map OneToken given) (filled loaded o late found (drop 0 steps) macros)
+fill_start loaded o late found steps macros given is = put_none (filled loaded o late found steps macros) ∙ ap (λ (ts : List Token). put (map OneToken ts) (filled loaded o late found steps macros)) (sym is)
+
+-- a step that is a piece adds its tokens
+pub plain_more : (loaded : Loaded) (o : List ℕ) (late : Lates) (found : Matched) (steps : List Step) (i : ℕ) (step : Step) → drop i steps ≡ step ∷ drop (i + 1) steps → (macros : Macros) (piece : Piece) → step ≡ Plain piece → (old new : List Token)
+    → filled loaded o late found steps macros ≡ put (map OneToken old) (filled loaded o late found (drop i steps) macros) → new ≡ old ++ piece_tokens late found piece → filled loaded o late found steps macros ≡ put (map OneToken new) (filled loaded o late found (drop (i + 1) steps) macros)
+plain_more loaded o late found steps i step ahead macros piece is old new whole new_is =
+    fill_more (filled loaded o late found) steps i step ahead macros macros (map OneToken old) whole macros (map OneToken (piece_tokens late found piece)) (step_plain loaded o late found step macros macros piece is refl)
+    ∙ ap (λ (ps : List Part). put ps (filled loaded o late found (drop (i + 1) steps) macros)) (sym (map_append old (piece_tokens late found piece)))
+    ∙ ap (λ (ts : List Token). put (map OneToken ts) (filled loaded o late found (drop (i + 1) steps) macros)) (sym new_is)
 
 -- ---- parts that are kept, or are too many
 

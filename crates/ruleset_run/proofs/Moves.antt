@@ -1,5 +1,5 @@
 -- The cases of a run, as the code comes to them.
-use Rattle.std.proofs.Common.{◌≡◌, ◌≢◌, ℕ, zero, suc, ◌+◌, ◌-◌, ◌<◌, ◌≤◌, List, [], ◌∷◌, ◌++◌, length, Option, Result, Ok, Err, true, false, cond, refl, sym, ◌∙◌, ap, subst, arith}
+use Rattle.std.proofs.Common.{◌≡◌, ◌≢◌, ℕ, zero, suc, ◌+◌, ◌-◌, ◌<◌, ◌≤◌, List, [], ◌∷◌, ◌++◌, length, map, Option, Result, Ok, Err, true, false, cond, refl, sym, ◌∙◌, ap, subst, arith}
 use Rattle.std.proofs.lemmas.Bool.{lt-ltb, le-ltb}
 use Rattle.std.proofs.lemmas.List.{append_assoc}
 use Rattle.mail_base.specs.declared.token.Token.{Token}
@@ -14,7 +14,7 @@ use Rattle.ruleset_run.specs.declared.runner.Ran.{Ran}
 use Rattle.ruleset_run.specs.Sites.{Site, Macros}
 use Rattle.ruleset_run.specs.Cutting.{is_cut_left}
 use Rattle.ruleset_run.specs.Filling.{Full, is_cut_right, tokens_in, is_resolved}
-use Rattle.ruleset_run.specs.Runs.{Done, Outcome, Called, name_of, rest_of, bounded, Replaced, token, call_after, call, late_of, full_of, Applies, loops, works, unscanned, unfilled, long, replaced, left_wants, matched, Takes, Runs, unread, unmatched, refused, resolves, returns, goes_next, goes_again, SetRuns, RunsAt, GivesFault, Ends, Gives}
+use Rattle.ruleset_run.specs.Runs.{Done, Outcome, Called, name_of, rest_of, bounded, Replaced, no_part, token, call_after, call, late_of, full_of, Applies, loops, works, unscanned, unfilled, long, replaced, left_wants, matched, Takes, Runs, unread, unmatched, refused, resolves, returns, goes_next, goes_again, SetRuns, RunsAt, GivesFault, Ends, Gives}
 use Rattle.ruleset_run.specs.inner.Filler.{FillsFault}
 use Rattle.ruleset_run.specs.inner.Looks.{LeftFault, LimitFault}
 
@@ -83,6 +83,11 @@ pub tokens_append : (a b : List Part) → tokens_in (a ++ b) ≡ tokens_in a + t
 tokens_append [] b = omega arith
 tokens_append (OneToken t ∷ a) b = let e = tokens_append a b in omega arith
 tokens_append (OneCall ∷ a) b = tokens_append a b
+
+-- tokens without a call stay as they are
+pub replaced_plain : (called : Called) (macros : Macros) (work : ℕ) (tokens : List Token) (before : ℕ) → Replaced called before (map OneToken tokens) work macros (Ok (record { tokens = tokens; work = work; macros = macros }))
+replaced_plain called macros work [] before = no_part before work macros
+replaced_plain called macros work (t ∷ tokens) before = token t before (map OneToken tokens) work macros (Ok (record { tokens = tokens; work = work; macros = macros })) (replaced_plain called macros work tokens (before + 1))
 
 module _ (called : Called) (work : ℕ) (macros : Macros) (fault : RunFault) where
   -- a fault of the parts behind is one of all

@@ -1,7 +1,6 @@
 -- The steps of a run over the rules, from what the code knows.
-use Rattle.std.proofs.Common.{◌≡◌, ℕ, ◌+◌, ◌<◌, List, ◌∷◌, drop, Option, Some, None, Result, Ok, Err, Bool, true, false, refl, sym, ◌∙◌, ap, subst, arith}
+use Rattle.std.proofs.Common.{◌≡◌, ℕ, ◌+◌, ◌<◌, ◌≤◌, List, ◌∷◌, drop, length, map, Result, Ok, Err, Bool, true, false, refl, sym, ◌∙◌, ap, subst, arith}
 use Rattle.mail_base.specs.declared.token.Token.{Token}
-use Rattle.std.specs.Prelude.{IfSome, IfNone}
 use Rattle.mail_base.specs.declared.classes.Classes.{Classes}
 use Rattle.mail_base.specs.declared.rule.Item.{Item}
 use Rattle.mail_base.specs.declared.rule.Rule.{Rule}
@@ -12,16 +11,18 @@ use Rattle.rule_match.specs.Kept.{IsChoice}
 use Rattle.rule_match.specs.Wants.{wants}
 use Rattle.ruleset_run.specs.declared.fault.RunFault.{RunFault}
 use Rattle.ruleset_run.specs.declared.fault.RunFault.TheVariants as faults
+use Rattle.ruleset_run.specs.declared.part.Part.TheVariants.{Token as OneToken}
 use Rattle.ruleset_run.specs.declared.parts.Parts.{Parts}
 use Rattle.ruleset_run.specs.declared.runner.Ran.{Ran}
 use Rattle.ruleset_run.specs.Sites.{Site, Macros}
 use Rattle.ruleset_run.specs.Cutting.{Lates, late_tokens, is_cut_left, left_lists}
 use Rattle.ruleset_run.specs.Filling.{Matched, filled, is_cut_right, tokens_in, is_resolved}
 use Rattle.ruleset_run.specs.Runs.{Done, Outcome, Called, Replaced, late_of, full_of, left_wants, matched, Takes, Runs, GivesFault, Ends}
-use Rattle.ruleset_run.specs.inner.Filler.{IsCutAs, StandBy, Fills, FillsFault}
+use Rattle.ruleset_run.specs.inner.Filler.{IsCutAs, IsPlainFilling, StandBy, Fills, FillsFault}
 use Rattle.ruleset_run.specs.inner.Looks.{IsAhead, LeftFault, LimitFault, MatchFound, times_at}
 use Rattle.ruleset_run.specs.inner.Values.{Known, lates}
-use Rattle.ruleset_run.proofs.Moves.{limit_reached, takes_unscanned, takes_unfilled, takes_long, takes_replaced, step_unread, step_unmatched, step_refused, step_resolved, step_returned, step_next, step_again}
+use Rattle.ruleset_run.proofs.FillLemmas.{tokens_mapped}
+use Rattle.ruleset_run.proofs.Moves.{replaced_plain, limit_reached, takes_unscanned, takes_unfilled, takes_long, takes_replaced, step_unread, step_unmatched, step_refused, step_resolved, step_returned, step_next, step_again}
 use Rattle.ruleset_run.proofs.Skipping.{drop_at, skipped}
 
 module _ (site : Site) (v : Known) (ops : v.operators ≡ site.operators) where
@@ -60,6 +61,15 @@ module _ (site : Site) (called : Called) (rule : Rule) (tokens : List Token) (wo
 
       pub apply_unfilled : (e : RunFault) → FillsFault e (filled site.maps v.operators (lates v) (matched rule tokens choice.0) rule.right.steps v.macros) → GivesFault e (Takes site called rule times tokens work v.macros)
       apply_unfilled e h = takes_unfilled site called rule tokens work v.macros cut_now choice.0 chosen_now times lt few scan e (subst (λ f. FillsFault e f) filling_is h)
+
+      module _ (given : List Token) (is : IsPlainFilling v.macros (filled site.maps v.operators (lates v) (matched rule tokens choice.0) rule.right.steps v.macros) given) where
+        pub apply_plain_long : 2000 < length given → Takes site called rule times tokens work v.macros (Err faults.Long)
+        apply_plain_long over = takes_long site called rule tokens work v.macros cut_now choice.0 chosen_now times lt few scan (record { parts = map OneToken given; macros = v.macros }) (sym filling_is ∙ is) (omega (arith, tokens_mapped given))
+
+        pub apply_plain : length given ≤ 2000 → Takes site called rule times tokens work v.macros (Ok (record { tokens = given; work = work + 1; macros = v.macros }))
+        apply_plain short =
+            takes_replaced site called rule tokens work v.macros cut_now choice.0 chosen_now times lt few scan (record { parts = map OneToken given; macros = v.macros }) (sym filling_is ∙ is) (omega (arith, tokens_mapped given)) v.macros (Ok (record { tokens = given; work = work + 1 }))
+            (replaced_plain called v.macros (work + 1) given 0)
 
       module _ (parts : Parts) (macros : Macros) (fills : Fills (Ok parts) macros (filled site.maps v.operators (lates v) (matched rule tokens choice.0) rule.right.steps v.macros)) where
         pub apply_long : parts.is_long ≡ true → Takes site called rule times tokens work v.macros (Err faults.Long)
@@ -118,7 +128,7 @@ module _ (site : Site) (called : Called) (rules : List Rule) (from number times 
 -- ---- the match of a rule
 
 -- a rule whose late macros are cut is matched as its choice says, or nothing fits
-pub match_found : (is_cut : Bool) (classes : Classes) (late lists : List (List Token)) (items : List Item) (tokens : List Token) (found : Option (List Cut)) → is_cut ≡ true → lists ≡ late → IfSome found (λ cuts. IsChoice classes lists items tokens cuts)
-    → IfNone found ((lengths : List ℕ) → Fits (wants classes lists items) tokens lengths → ⊥) → MatchFound is_cut classes late items tokens found
-match_found is_cut classes late lists items tokens (Some cuts) is are some none = (is, subst (λ (ls : List (List Token)). IsChoice classes ls items tokens cuts) are some)
-match_found is_cut classes late lists items tokens None is are some none = (is, subst (λ (ls : List (List Token)). (lengths : List ℕ) → Fits (wants classes ls items) tokens lengths → ⊥) are none)
+pub match_found : (is_cut : Bool) (classes : Classes) (late lists : List (List Token)) (items : List Item) (tokens : List Token) (cuts : List Cut) (found : Bool) → is_cut ≡ true → lists ≡ late → (found ≡ true → IsChoice classes lists items tokens cuts)
+    → (found ≡ false → (lengths : List ℕ) → Fits (wants classes lists items) tokens lengths → ⊥) → MatchFound is_cut classes late items tokens cuts found
+match_found is_cut classes late lists items tokens cuts true is are some none = (is, subst (λ (ls : List (List Token)). IsChoice classes ls items tokens cuts) are (some refl))
+match_found is_cut classes late lists items tokens cuts false is are some none = (is, subst (λ (ls : List (List Token)). (lengths : List ℕ) → Fits (wants classes ls items) tokens lengths → ⊥) are (none refl))

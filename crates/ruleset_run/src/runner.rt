@@ -12,14 +12,14 @@ ghost use Rattle.ruleset_run.specs.inner.Values.{lates};
 use crate::RunFault;
 use crate::book::is_standard;
 use crate::calls::{call_name, push, turned, with_room};
-use crate::filler::{Match, fill, is_cut, is_resolved};
+use crate::filler::{Match, fill, fill_plain, is_cut, is_resolved};
 use crate::looking::next_rule;
 use crate::part::Part;
 use crate::parts::{MOST_TOKENS, Parts};
 use crate::values::Values;
 use mail_base::{Classes, Config, Go, Item, Macros, Rule, RuleSet, Seq, Text, Token, TryCopy};
 use map_tables::Maps;
-use rule_match::{Cuts, find};
+use rule_match::{Cuts, find_into};
 use std::alloc::Global;
 
 /// The most successive applications of one rule.
@@ -135,13 +135,15 @@ fn run_rules(
     let mut from: u32 = 0;
     let mut times: u32 = 0;
     let mut now = start;
+    let mut cuts = Cuts::new();
     while let Some((number, rule)) = next_rule(set, from, &now.tokens) {
         times = times_at(number, from, times);
-        let Some(cuts) = match_of(values, rule, &now.tokens, &config.classes)? else {
+        let is_match = match_of(values, rule, &now.tokens, &config.classes, &mut cuts)?;
+        if !is_match {
             from = number + 1;
             times = 0;
             continue;
-        };
+        }
         check_limits(times, now.work)?;
         now = apply(config, maps, values, rule, &cuts, &now, left)?;
         if is_resolved(&now.tokens) {
@@ -169,22 +171,23 @@ fn times_at(number: u32, from: u32, times: u32) -> u32
     if number == from { times } else { 0 }
 }
 
-/// The match that a rule takes, if it has any, or `BadScan` where a `$&x` of its left side can't be
-/// cut.
+/// Whether a rule has a match, with the cuts of the one that it takes, or `BadScan` where a `$&x` of
+/// its left side can't be cut.
 fn match_of(
     values: &mut Values,
     rule: &Rule,
     tokens: &Seq<Token>,
     classes: &Classes,
-) -> Result<Option<Cuts>, RunFault>
+    cuts: &mut Cuts,
+) -> Result<bool, RunFault>
     ensures found { IfOk result
         (MatchFound (is_cut_left (lates values.old) rule.now.left) classes.now
-        (left_lists (lates values.old) rule.now.left) rule.now.left tokens.now) }
+        (left_lists (lates values.old) rule.now.left) rule.now.left tokens.now cuts.new) }
     ensures refused { IfErr result (LeftFault (is_cut_left (lates values.old) rule.now.left)) }
     ensures same { values.new ≡ values.old }
 {
     let late = lists_of(values, rule.left.items())?;
-    Ok(find(&rule.left, tokens, classes, &late))
+    Ok(find_into(&rule.left, tokens, classes, &late, cuts))
 }
 
 /// The tokens of each `$&x` of a left side, in order, or `BadScan` where one can't be cut.
@@ -267,6 +270,15 @@ fn apply(
         cuts,
         tokens: &now.tokens,
     };
+    if let Some(tokens) = fill_plain(values, &source, steps)? {
+        if tokens.len() > MOST_TOKENS {
+            return Err(RunFault::Long);
+        }
+        return Ok(Ran {
+            tokens,
+            work: now.work + 1,
+        });
+    }
     let parts = fill(maps, values, &source, steps)?;
     if parts.is_long {
         return Err(RunFault::Long);

@@ -1,8 +1,9 @@
 -- What the steps of a filling answer.
-use Rattle.std.specs.Prelude.{◌≡◌, ℕ, ◌<◌, ◌≤◌, List, ◌∷◌, ◌++◌, Bool, true, false, Result, Ok, Err}
+use Rattle.std.specs.Prelude.{◌≡◌, ℕ, ◌<◌, ◌≤◌, List, ◌∷◌, ◌++◌, Bool, true, false, Result, Ok, Err, map}
 use Rattle.mail_base.specs.declared.classes.Classes.{Classes}
 use Rattle.mail_base.specs.declared.rule.Item.{Item}
 use Rattle.mail_base.specs.declared.rule.Step.{Step}
+use Rattle.mail_base.specs.declared.rule.Step.TheVariants.{Plain}
 use Rattle.mail_base.specs.declared.rule.Piece.{Piece}
 use Rattle.mail_base.specs.declared.rule.Piece.TheVariants.{Late}
 use Rattle.mail_base.specs.declared.token.Token.{Token}
@@ -13,6 +14,7 @@ use Rattle.rule_match.specs.Wants.{wants}
 use Rattle.ruleset_run.specs.declared.fault.RunFault.{RunFault}
 use Rattle.ruleset_run.specs.declared.fault.RunFault.TheVariants as faults
 use Rattle.ruleset_run.specs.declared.part.Part.{Part}
+use Rattle.ruleset_run.specs.declared.part.Part.TheVariants.{Token as OneToken}
 use Rattle.ruleset_run.specs.declared.parts.Parts.{Parts}
 use Rattle.ruleset_run.specs.Sites.{Macros}
 use Rattle.ruleset_run.specs.Filling.{Matched, Told, Filling, put, tokens_in}
@@ -31,6 +33,16 @@ pub record IsCutAs (left : List Item) (tokens : List Token) (cuts : List Cut)
 abbrev pub is_plain : Piece → Bool
 is_plain (Late name) = false
 is_plain piece = true
+
+-- a step that is neither a look-up nor a call
+abbrev pub is_plain_step : Step → Bool
+is_plain_step (Plain piece) = true
+is_plain_step step = false
+
+-- a filling that has these tokens alone, and leaves the macros as they were
+abbrev pub IsPlainFilling : Macros → Filling → List Token → Type 0
+IsPlainFilling macros filling tokens =
+    filling ≡ Ok (record { parts = map OneToken tokens; macros = macros })
 
 abbrev pub StandBy : Bool → List Part → ℕ → List Part → Type 0
 StandBy true kept count given = 2000 < tokens_in given

@@ -1,5 +1,5 @@
 -- The walk over the rules that may match.
-use Rattle.std.specs.Prelude.{◌≡◌, ℕ, ◌==◌, ◌<◌, ◌≤◌, List, Option, Some, None, Bool, true, false, slice_get, if◌then◌else◌}
+use Rattle.std.specs.Prelude.{◌≡◌, ℕ, ◌==◌, ◌<◌, ◌≤◌, List, Some, Bool, true, false, slice_get, if◌then◌else◌}
 use Rattle.std.specs.List.{list_any}
 use Rattle.mail_base.specs.Candidates.{is_late}
 use Rattle.mail_base.specs.declared.classes.Classes.{Classes}
@@ -44,10 +44,10 @@ LimitFault times work faults.Loop = 100 ≤ times
 LimitFault times work faults.Work = (times < 100) × (10000 ≤ work)
 LimitFault times work _ = ⊥
 
--- the match that a left side takes, or that none fits, once it can be read
+-- the cuts of the match that a left side takes, or that none fits, once it can be read
 abbrev pub MatchFound : Bool → Classes → List (List Token) → List Item → List Token
-    → Option (List Cut) → Type 0
-MatchFound is_cut classes late items tokens (Some cuts) =
+    → List Cut → Bool → Type 0
+MatchFound is_cut classes late items tokens cuts true =
     (is_cut ≡ true) × IsChoice classes late items tokens cuts
-MatchFound is_cut classes late items tokens None =
+MatchFound is_cut classes late items tokens cuts false =
     (is_cut ≡ true) × ((lengths : List ℕ) → Fits (wants classes late items) tokens lengths → ⊥)

@@ -1,4 +1,4 @@
-use Rattle.std.proofs.Common.{◌≡◌, reverse, [], ◌∷◌, Ok, Some, true, refl, sym, ◌∙◌, ap, subst, arith}
+use Rattle.std.proofs.Common.{◌≡◌, ◌+◌, reverse, [], ◌∷◌, Ok, Some, true, refl, sym, ◌∙◌, ap, subst, arith}
 use Rattle.std.specs.Option.{option_copied}
 use Rattle.std.proofs.lemmas.List.{append-nil}
 use Rattle.std.proofs.lemmas.Result.{err_from_is_err_and}
@@ -6,14 +6,14 @@ use Rattle.rule_match.specs.Kept.{IsChoice}
 use Rattle.ruleset_run.specs.Cutting.{is_cut_left, left_lists}
 use Rattle.ruleset_run.specs.Filling.{is_cut_right, tokens_in}
 use Rattle.ruleset_run.specs.Sites.{site_of}
-use Rattle.ruleset_run.specs.Runs.{Done, Runs, RunsAt, Replaced, SetRuns, known, matched, no_part}
+use Rattle.ruleset_run.specs.Runs.{Done, Runs, RunsAt, Replaced, SetRuns, Takes, known, matched, no_part}
 use Rattle.ruleset_run.specs.inner.Filler.{StandBy}
 use Rattle.ruleset_run.specs.inner.Values.{Known, lates}
 use Rattle.ruleset_run.proofs.Moves.{ends_weaker, deep_at, parts_are, token_size, token_done, call_size, call_fails, call_long, call_gave}
 use Rattle.ruleset_run.proofs.SetLemmas.{found_rules}
 use Rattle.ruleset_run.proofs.Skipping.{below_length, all_passed}
 use Rattle.ruleset_run.proofs.Turning.{turned_more, turned_back, call_unnamed, call_named}
-use Rattle.ruleset_run.proofs.Walking.{is_cut_as, apply_limit, apply_unscanned, apply_unfilled, apply_long, apply_replaced, kept_stand, walk_unread, walk_unmatched, walk_refused, walk_resolved, walk_returned, walk_next, walk_again}
+use Rattle.ruleset_run.proofs.Walking.{is_cut_as, apply_limit, apply_unscanned, apply_unfilled, apply_plain_long, apply_plain, apply_long, apply_replaced, kept_stand, walk_unread, walk_unmatched, walk_refused, walk_resolved, walk_returned, walk_next, walk_again}
 use Rattle.ruleset_run.proofs.runner.+runs.Goals as goal
 
 pub apply-returns-then-not-branch-clause-takes : goal.apply-returns-then-not-branch-clause-takes
@@ -23,11 +23,38 @@ apply-returns-then-not-branch-clause-takes t c = λ times lt.
     let scan = ap (is_cut_right (lates a.values.now)) (sym c.items-steps.ensures) ∙ sym c.in_ok-is_cut.ensures.value ∙ c.if-not-branch.true in
     apply_unscanned site (RunsAt site a.left) a.rule.now a.now.now.tokens a.now.now.work a.values.now c.requires.operators c.requires.cut a.cuts.now c.requires.choice times lt c.requires.work scan
 
+pub apply-fill_plain-requires : goal.apply-fill_plain-requires
+apply-fill_plain-requires t c =
+    let a = c.args in
+    let site = site_of a.config.now a.maps.now in
+    (matched a.rule.now a.now.now.tokens c.requires.choice.0, is_cut_as site (RunsAt site a.left) a.rule.now a.now.now.tokens a.now.now.work a.values.now c.requires.operators c.requires.cut a.cuts.now c.requires.choice)
+
 pub apply-fill-requires-clause-cuts : goal.apply-fill-requires-clause-cuts
 apply-fill-requires-clause-cuts t c =
     let a = c.args in
     let site = site_of a.config.now a.maps.now in
     (matched a.rule.now a.now.now.tokens c.requires.choice.0, is_cut_as site (RunsAt site a.left) a.rule.now a.now.now.tokens a.now.now.work a.values.now c.requires.operators c.requires.cut a.cuts.now c.requires.choice)
+
+pub apply-returns-then-len-gt-MOST_TOKENS-clause-takes : goal.apply-returns-then-len-gt-MOST_TOKENS-clause-takes
+apply-returns-then-len-gt-MOST_TOKENS-clause-takes t c = λ times lt.
+    let a = c.args in
+    let site = site_of a.config.now a.maps.now in
+    let scan = ap (is_cut_right (lates a.values.now)) (sym c.items-steps.ensures) ∙ sym c.in_ok-is_cut.ensures.value ∙ c.if-not-branch.false in
+    let found = matched a.rule.now a.now.now.tokens c.requires.choice.0 in
+    let cut_as = is_cut_as site (RunsAt site a.left) a.rule.now a.now.now.tokens a.now.now.work a.values.now c.requires.operators c.requires.cut a.cuts.now c.requires.choice in
+    let filling = rw (c.in-Some.is, c.in_ok-is_cut.ensures.same, c.items-steps.ensures) at (c.in_ok-tokens.ensures.fills a.maps.now a.values.now.operators found a.values.now.macros cut_as) in
+    apply_plain_long site (RunsAt site a.left) a.rule.now a.now.now.tokens a.now.now.work a.values.now c.requires.operators c.requires.cut a.cuts.now c.requires.choice times lt c.requires.work scan c.in-Some.tokens filling (omega (arith, c.len.ensures))
+
+pub apply-returns-in-Some-clause-takes : goal.apply-returns-in-Some-clause-takes
+apply-returns-in-Some-clause-takes t c = λ times lt.
+    let a = c.args in
+    let site = site_of a.config.now a.maps.now in
+    let scan = ap (is_cut_right (lates a.values.now)) (sym c.items-steps.ensures) ∙ sym c.in_ok-is_cut.ensures.value ∙ c.if-not-branch.false in
+    let found = matched a.rule.now a.now.now.tokens c.requires.choice.0 in
+    let cut_as = is_cut_as site (RunsAt site a.left) a.rule.now a.now.now.tokens a.now.now.work a.values.now c.requires.operators c.requires.cut a.cuts.now c.requires.choice in
+    let filling = rw (c.in-Some.is, c.in_ok-is_cut.ensures.same, c.items-steps.ensures) at (c.in_ok-tokens.ensures.fills a.maps.now a.values.now.operators found a.values.now.macros cut_as) in
+    subst (λ (k : Known). Takes site (RunsAt site a.left) a.rule.now times a.now.now.tokens a.now.now.work a.values.now.macros (Ok (record { tokens = c.in-Some.tokens; work = a.now.now.work + 1; macros = k.macros }))) (sym (c.in_ok-tokens.ensures.same ∙ c.in_ok-is_cut.ensures.same))
+    (apply_plain site (RunsAt site a.left) a.rule.now a.now.now.tokens a.now.now.work a.values.now c.requires.operators c.requires.cut a.cuts.now c.requires.choice times lt c.requires.work scan c.in-Some.tokens filling (omega (arith, c.len.ensures)))
 
 pub apply-returns-in_err-parts-clause-takes : goal.apply-returns-in_err-parts-clause-takes
 apply-returns-in_err-parts-clause-takes t c = λ times lt.
@@ -36,7 +63,7 @@ apply-returns-in_err-parts-clause-takes t c = λ times lt.
     let scan = ap (is_cut_right (lates a.values.now)) (sym c.items-steps.ensures) ∙ sym c.in_ok-is_cut.ensures.value ∙ c.if-not-branch.false in
     let found = matched a.rule.now a.now.now.tokens c.requires.choice.0 in
     let cut_as = is_cut_as site (RunsAt site a.left) a.rule.now a.now.now.tokens a.now.now.work a.values.now c.requires.operators c.requires.cut a.cuts.now c.requires.choice in
-    let fills = rw (c.in_ok-is_cut.ensures.same, c.items-steps.ensures) at (c.in_err-parts.ensures.fills found cut_as) in
+    let fills = rw (c.in_ok-tokens.ensures.same, c.in_ok-is_cut.ensures.same, c.items-steps.ensures) at (c.in_err-parts.ensures.fills found cut_as) in
     let p = err_from_is_err_and c.from_residual-in_err-parts.result c.from_residual-in_err-parts.ensures.1 in
     rw (p.1, p.2) (apply_unfilled site (RunsAt site a.left) a.rule.now a.now.now.tokens a.now.now.work a.values.now c.requires.operators c.requires.cut a.cuts.now c.requires.choice times lt c.requires.work scan _ fills)
 
@@ -47,7 +74,7 @@ apply-returns-then-parts-clause-takes t c = λ times lt.
     let scan = ap (is_cut_right (lates a.values.now)) (sym c.items-steps.ensures) ∙ sym c.in_ok-is_cut.ensures.value ∙ c.if-not-branch.false in
     let found = matched a.rule.now a.now.now.tokens c.requires.choice.0 in
     let cut_as = is_cut_as site (RunsAt site a.left) a.rule.now a.now.now.tokens a.now.now.work a.values.now c.requires.operators c.requires.cut a.cuts.now c.requires.choice in
-    let fills = rw (c.in_ok-is_cut.ensures.same, c.items-steps.ensures) at (c.in_ok-parts.ensures.fills found cut_as) in
+    let fills = rw (c.in_ok-tokens.ensures.same, c.in_ok-is_cut.ensures.same, c.items-steps.ensures) at (c.in_ok-parts.ensures.fills found cut_as) in
     apply_long site (RunsAt site a.left) a.rule.now a.now.now.tokens a.now.now.work a.values.now c.requires.operators c.requires.cut a.cuts.now c.requires.choice times lt c.requires.work scan c.in_ok-parts.parts c.fill.new.values.macros fills c.if-parts.true
 
 pub apply-replace-requires : goal.apply-replace-requires
@@ -57,9 +84,9 @@ apply-replace-requires t c =
     let scan = ap (is_cut_right (lates a.values.now)) (sym c.items-steps.ensures) ∙ sym c.in_ok-is_cut.ensures.value ∙ c.if-not-branch.false in
     let found = matched a.rule.now a.now.now.tokens c.requires.choice.0 in
     let cut_as = is_cut_as site (RunsAt site a.left) a.rule.now a.now.now.tokens a.now.now.work a.values.now c.requires.operators c.requires.cut a.cuts.now c.requires.choice in
-    let fills = rw (c.in_ok-is_cut.ensures.same, c.items-steps.ensures) at (c.in_ok-parts.ensures.fills found cut_as) in
+    let fills = rw (c.in_ok-tokens.ensures.same, c.in_ok-is_cut.ensures.same, c.items-steps.ensures) at (c.in_ok-parts.ensures.fills found cut_as) in
     let stand = kept_stand site (RunsAt site a.left) a.rule.now a.now.now.tokens a.now.now.work a.values.now c.requires.operators c.requires.cut a.cuts.now c.requires.choice 0 (omega arith) c.requires.work scan c.in_ok-parts.parts c.fill.new.values.macros fills c.if-parts.false in
-    (omega arith, (c.in_ok-parts.ensures.operators ∙ ap (λ (k : Known). k.operators) c.in_ok-is_cut.ensures.same ∙ c.requires.operators, (c.in_ok-parts.ensures.settled, (stand, (c.if-parts.false, omega (arith, c.requires.work))))))
+    (omega arith, (c.in_ok-parts.ensures.operators ∙ ap (λ (k : Known). k.operators) (c.in_ok-tokens.ensures.same ∙ c.in_ok-is_cut.ensures.same) ∙ c.requires.operators, (c.in_ok-parts.ensures.settled, (stand, (c.if-parts.false, omega (arith, c.requires.work))))))
 
 pub apply-returns-clause-takes : goal.apply-returns-clause-takes
 apply-returns-clause-takes t c = λ times lt.
@@ -68,7 +95,7 @@ apply-returns-clause-takes t c = λ times lt.
     let scan = ap (is_cut_right (lates a.values.now)) (sym c.items-steps.ensures) ∙ sym c.in_ok-is_cut.ensures.value ∙ c.if-not-branch.false in
     let found = matched a.rule.now a.now.now.tokens c.requires.choice.0 in
     let cut_as = is_cut_as site (RunsAt site a.left) a.rule.now a.now.now.tokens a.now.now.work a.values.now c.requires.operators c.requires.cut a.cuts.now c.requires.choice in
-    let fills = rw (c.in_ok-is_cut.ensures.same, c.items-steps.ensures) at (c.in_ok-parts.ensures.fills found cut_as) in
+    let fills = rw (c.in_ok-tokens.ensures.same, c.in_ok-is_cut.ensures.same, c.items-steps.ensures) at (c.in_ok-parts.ensures.fills found cut_as) in
     apply_replaced site (RunsAt site a.left) a.rule.now a.now.now.tokens a.now.now.work a.values.now c.requires.operators c.requires.cut a.cuts.now c.requires.choice times lt c.requires.work scan c.in_ok-parts.parts c.fill.new.values.macros fills c.if-parts.false
     c.replace.new.values.macros c.replace.result c.replace.ensures.run
 
@@ -166,36 +193,36 @@ replace-parts-preserved t c =
       settled = c.in_ok-ran-in-Call.ensures.settled;
     }
 
-pub run_rules-returns-in_err-cuts-clause-run : goal.run_rules-returns-in_err-cuts-clause-run
-run_rules-returns-in_err-cuts-clause-run t c =
+pub run_rules-returns-in_err-is_match-clause-run : goal.run_rules-returns-in_err-is_match-clause-run
+run_rules-returns-in_err-is_match-clause-run t c =
     let a = c.args in
     let l = c.loop-number in
     let i = l.invariant in
     let site = site_of a.config.now a.maps.now in
     let ops = i.operators ∙ c.requires.operators in
     let p = err_from_is_err_and c.from_residual.result c.from_residual.ensures.1 in
-    rw (p.1, p.2) (walk_unread site (RunsAt site a.left) a.set.now.rules l.from c.in-Some.number l.times c.times_at-times.result c.in-Some.rule.now l.now.tokens l.now.work l.values ops c.in-Some.ensures.some c.times_at-times.ensures (Runs site (RunsAt site a.left) a.set.now.rules 0 a.start.tokens a.start.work a.values.now.macros) i.completes _ c.in_err-cuts.ensures.refused)
+    rw (p.1, p.2) (walk_unread site (RunsAt site a.left) a.set.now.rules l.from c.in-Some.number l.times c.times_at-times.result c.in-Some.rule.now l.now.tokens l.now.work l.values ops c.in-Some.ensures.some c.times_at-times.ensures (Runs site (RunsAt site a.left) a.set.now.rules 0 a.start.tokens a.start.work a.values.now.macros) i.completes _ c.in_err-is_match.ensures.refused)
 
 pub run_rules-overflow_add-from : goal.run_rules-overflow_add-from
 run_rules-overflow_add-from t c =
     let a = c.args in
     omega (arith, c.count-count.ensures, below_length a.set.now.rules c.in-Some.number c.in-Some.rule.now c.in-Some.ensures.some.is)
 
-pub run_rules-loop-number-smaller-in_default-2 : goal.run_rules-loop-number-smaller-in_default-2
-run_rules-loop-number-smaller-in_default-2 t c =
+pub run_rules-loop-number-smaller-then-not-is_match : goal.run_rules-loop-number-smaller-then-not-is_match
+run_rules-loop-number-smaller-then-not-is_match t c =
     let a = c.args in
     let i = c.loop-number.invariant in
     omega (arith, i.within, c.in-Some.ensures.some.above, below_length a.set.now.rules c.in-Some.number c.in-Some.rule.now c.in-Some.ensures.some.is)
 
-pub run_rules-loop-number-preserved-in_default-2 : goal.run_rules-loop-number-preserved-in_default-2
-run_rules-loop-number-preserved-in_default-2 t c =
+pub run_rules-loop-number-preserved-then-not-is_match : goal.run_rules-loop-number-preserved-then-not-is_match
+run_rules-loop-number-preserved-then-not-is_match t c =
     let a = c.args in
     let l = c.loop-number in
     let i = l.invariant in
     let site = site_of a.config.now a.maps.now in
     let ops = i.operators ∙ c.requires.operators in
-    let none = rw c.in_default-2.is at c.in_ok-cuts.ensures.found in
-    let same = c.in_ok-cuts.ensures.same in
+    let none = rw c.if-not-is_match.true at c.in_ok-is_match.ensures.found in
+    let same = c.in_ok-is_match.ensures.same in
     record {
       completes = λ o run. walk_unmatched site (RunsAt site a.left) a.set.now.rules l.from c.in-Some.number l.times c.times_at-times.result c.in-Some.rule.now l.now.tokens l.now.work l.values ops c.in-Some.ensures.some c.times_at-times.ensures (Runs site (RunsAt site a.left) a.set.now.rules 0 a.start.tokens a.start.work a.values.now.macros) i.completes none.0 none.1 o (rw same at run);
       within = omega (arith, below_length a.set.now.rules c.in-Some.number c.in-Some.rule.now c.in-Some.ensures.some.is);
@@ -213,9 +240,9 @@ run_rules-returns-in_err-check_limits-clause-run t c =
     let i = l.invariant in
     let site = site_of a.config.now a.maps.now in
     let ops = i.operators ∙ c.requires.operators in
-    let found = rw c.in-Some-2.is at c.in_ok-cuts.ensures.found in
+    let found = rw c.if-not-is_match.false at c.in_ok-is_match.ensures.found in
     let p = err_from_is_err_and c.from_residual-in_err-check_limits.result c.from_residual-in_err-check_limits.ensures.1 in
-    rw (p.1, p.2) (walk_refused site (RunsAt site a.left) a.set.now.rules l.from c.in-Some.number l.times c.times_at-times.result c.in-Some.rule.now l.now.tokens l.now.work l.values ops c.in-Some.ensures.some c.times_at-times.ensures (Runs site (RunsAt site a.left) a.set.now.rules 0 a.start.tokens a.start.work a.values.now.macros) i.completes _ (apply_limit site (RunsAt site a.left) c.in-Some.rule.now l.now.tokens l.now.work l.values ops found.0 c.in-Some-2.cuts found.1 c.times_at-times.result _ c.in_err-check_limits.ensures.refused))
+    rw (p.1, p.2) (walk_refused site (RunsAt site a.left) a.set.now.rules l.from c.in-Some.number l.times c.times_at-times.result c.in-Some.rule.now l.now.tokens l.now.work l.values ops c.in-Some.ensures.some c.times_at-times.ensures (Runs site (RunsAt site a.left) a.set.now.rules 0 a.start.tokens a.start.work a.values.now.macros) i.completes _ (apply_limit site (RunsAt site a.left) c.in-Some.rule.now l.now.tokens l.now.work l.values ops found.0 c.match_of.new.cuts found.1 c.times_at-times.result _ c.in_err-check_limits.ensures.refused))
 
 pub run_rules-apply-requires : goal.run_rules-apply-requires
 run_rules-apply-requires t c =
@@ -224,8 +251,8 @@ run_rules-apply-requires t c =
     let i = l.invariant in
     let site = site_of a.config.now a.maps.now in
     let ops = i.operators ∙ c.requires.operators in
-    let found = rw c.in-Some-2.is at c.in_ok-cuts.ensures.found in
-    let same = c.in_ok-cuts.ensures.same in (
+    let found = rw c.if-not-is_match.false at c.in_ok-is_match.ensures.found in
+    let same = c.in_ok-is_match.ensures.same in (
       omega arith,
       (
         ap (λ (k : Known). k.operators) same ∙ ops,
@@ -234,7 +261,7 @@ run_rules-apply-requires t c =
           (
             subst (λ (k : Known). is_cut_left (lates k) c.in-Some.rule.now.left ≡ true) (sym same) found.0,
             (
-              subst (λ (k : Known). IsChoice a.config.now.classes (left_lists (lates k) c.in-Some.rule.now.left) c.in-Some.rule.now.left l.now.tokens c.in-Some-2.cuts) (sym same) found.1,
+              subst (λ (k : Known). IsChoice a.config.now.classes (left_lists (lates k) c.in-Some.rule.now.left) c.in-Some.rule.now.left l.now.tokens c.match_of.new.cuts) (sym same) found.1,
               c.in_ok-check_limits.ensures.within.1,
             ),
           ),
@@ -250,7 +277,7 @@ run_rules-returns-in_err-now-clause-run t c =
     let site = site_of a.config.now a.maps.now in
     let ops = i.operators ∙ c.requires.operators in
     let p = err_from_is_err_and c.from_residual-in_err-now.result c.from_residual-in_err-now.ensures.1 in
-    let taken = rw c.in_ok-cuts.ensures.same at (c.in_err-now.ensures.takes c.times_at-times.result c.in_ok-check_limits.ensures.within.0) in
+    let taken = rw c.in_ok-is_match.ensures.same at (c.in_err-now.ensures.takes c.times_at-times.result c.in_ok-check_limits.ensures.within.0) in
     rw (p.1, p.2) (walk_refused site (RunsAt site a.left) a.set.now.rules l.from c.in-Some.number l.times c.times_at-times.result c.in-Some.rule.now l.now.tokens l.now.work l.values ops c.in-Some.ensures.some c.times_at-times.ensures (Runs site (RunsAt site a.left) a.set.now.rules 0 a.start.tokens a.start.work a.values.now.macros) i.completes _ taken)
 
 pub run_rules-returns-then-is_resolved-clause-run : goal.run_rules-returns-then-is_resolved-clause-run
@@ -261,7 +288,7 @@ run_rules-returns-then-is_resolved-clause-run t c =
     let site = site_of a.config.now a.maps.now in
     let ops = i.operators ∙ c.requires.operators in
     let done : Done = record { tokens = c.in_ok-now.now.tokens; work = c.in_ok-now.now.work; macros = c.apply.new.values.macros } in
-    let taken = rw c.in_ok-cuts.ensures.same at (c.in_ok-now.ensures.takes c.times_at-times.result c.in_ok-check_limits.ensures.within.0) in
+    let taken = rw c.in_ok-is_match.ensures.same at (c.in_ok-now.ensures.takes c.times_at-times.result c.in_ok-check_limits.ensures.within.0) in
     walk_resolved site (RunsAt site a.left) a.set.now.rules l.from c.in-Some.number l.times c.times_at-times.result c.in-Some.rule.now l.now.tokens l.now.work l.values ops c.in-Some.ensures.some c.times_at-times.ensures (Runs site (RunsAt site a.left) a.set.now.rules 0 a.start.tokens a.start.work a.values.now.macros) i.completes done taken (sym c.is_resolved.ensures ∙ c.if-is_resolved.true)
 
 pub run_rules-overflow_add-from-in-Next : goal.run_rules-overflow_add-from-in-Next
@@ -277,7 +304,7 @@ run_rules-returns-in-Return-clause-run t c =
     let site = site_of a.config.now a.maps.now in
     let ops = i.operators ∙ c.requires.operators in
     let done : Done = record { tokens = c.in_ok-now.now.tokens; work = c.in_ok-now.now.work; macros = c.apply.new.values.macros } in
-    let taken = rw c.in_ok-cuts.ensures.same at (c.in_ok-now.ensures.takes c.times_at-times.result c.in_ok-check_limits.ensures.within.0) in
+    let taken = rw c.in_ok-is_match.ensures.same at (c.in_ok-now.ensures.takes c.times_at-times.result c.in_ok-check_limits.ensures.within.0) in
     walk_returned site (RunsAt site a.left) a.set.now.rules l.from c.in-Some.number l.times c.times_at-times.result c.in-Some.rule.now l.now.tokens l.now.work l.values ops c.in-Some.ensures.some c.times_at-times.ensures (Runs site (RunsAt site a.left) a.set.now.rules 0 a.start.tokens a.start.work a.values.now.macros) i.completes done taken (sym c.is_resolved.ensures ∙ c.if-is_resolved.false) c.in-Return.is
 
 pub run_rules-loop-number-preserved-in-Again : goal.run_rules-loop-number-preserved-in-Again
@@ -288,14 +315,14 @@ run_rules-loop-number-preserved-in-Again t c =
     let site = site_of a.config.now a.maps.now in
     let ops = i.operators ∙ c.requires.operators in
     let done : Done = record { tokens = c.in_ok-now.now.tokens; work = c.in_ok-now.now.work; macros = c.apply.new.values.macros } in
-    let taken = rw c.in_ok-cuts.ensures.same at (c.in_ok-now.ensures.takes c.times_at-times.result c.in_ok-check_limits.ensures.within.0) in
+    let taken = rw c.in_ok-is_match.ensures.same at (c.in_ok-now.ensures.takes c.times_at-times.result c.in_ok-check_limits.ensures.within.0) in
     record {
       completes = λ o run. walk_again site (RunsAt site a.left) a.set.now.rules l.from c.in-Some.number l.times c.times_at-times.result c.in-Some.rule.now l.now.tokens l.now.work l.values ops c.in-Some.ensures.some c.times_at-times.ensures (Runs site (RunsAt site a.left) a.set.now.rules 0 a.start.tokens a.start.work a.values.now.macros) i.completes done taken (sym c.is_resolved.ensures ∙ c.if-is_resolved.false) c.in-Again.is o run;
       within = omega (arith, below_length a.set.now.rules c.in-Some.number c.in-Some.rule.now c.in-Some.ensures.some.is);
       times = omega (arith, c.in_ok-check_limits.ensures.within);
       grew = omega (arith, i.grew, c.in_ok-now.ensures.work);
       work = omega (arith, c.in_ok-now.ensures.work);
-      operators = c.in_ok-now.ensures.operators ∙ ap (λ (k : Known). k.operators) c.in_ok-cuts.ensures.same ∙ i.operators;
+      operators = c.in_ok-now.ensures.operators ∙ ap (λ (k : Known). k.operators) c.in_ok-is_match.ensures.same ∙ i.operators;
       settled = c.in_ok-now.ensures.settled;
     }
 
@@ -307,14 +334,14 @@ run_rules-loop-number-preserved t c =
     let site = site_of a.config.now a.maps.now in
     let ops = i.operators ∙ c.requires.operators in
     let done : Done = record { tokens = c.in_ok-now.now.tokens; work = c.in_ok-now.now.work; macros = c.apply.new.values.macros } in
-    let taken = rw c.in_ok-cuts.ensures.same at (c.in_ok-now.ensures.takes c.times_at-times.result c.in_ok-check_limits.ensures.within.0) in
+    let taken = rw c.in_ok-is_match.ensures.same at (c.in_ok-now.ensures.takes c.times_at-times.result c.in_ok-check_limits.ensures.within.0) in
     record {
       completes = λ o run. walk_next site (RunsAt site a.left) a.set.now.rules l.from c.in-Some.number l.times c.times_at-times.result c.in-Some.rule.now l.now.tokens l.now.work l.values ops c.in-Some.ensures.some c.times_at-times.ensures (Runs site (RunsAt site a.left) a.set.now.rules 0 a.start.tokens a.start.work a.values.now.macros) i.completes done taken (sym c.is_resolved.ensures ∙ c.if-is_resolved.false) c.in-Next.is o run;
       within = omega (arith, below_length a.set.now.rules c.in-Some.number c.in-Some.rule.now c.in-Some.ensures.some.is);
       times = omega arith;
       grew = omega (arith, i.grew, c.in_ok-now.ensures.work);
       work = omega (arith, c.in_ok-now.ensures.work);
-      operators = c.in_ok-now.ensures.operators ∙ ap (λ (k : Known). k.operators) c.in_ok-cuts.ensures.same ∙ i.operators;
+      operators = c.in_ok-now.ensures.operators ∙ ap (λ (k : Known). k.operators) c.in_ok-is_match.ensures.same ∙ i.operators;
       settled = c.in_ok-now.ensures.settled;
     }
 
