@@ -1,0 +1,56 @@
+ghost use Rattle.std.specs.Prelude.{◌≡◌, ◌↔◌, IsTrue};
+ghost use Rattle.queue_table.specs.Order.{IsBefore, has_failed, has_queued, has_waited, is_due};
+
+use mail_base::{Control, Entry, State};
+
+/// Whether an entry is to be tried at a moment, where so many seconds are to pass between two
+/// tries. It takes no memory.
+pub fn due(control: &Control, moment: u64, wait: u64) -> bool
+    ensures { result ≡ is_due control.now moment wait }
+{
+    if has_failed(control) {
+        return true;
+    }
+    has_queued(control) && has_waited(control, moment, wait)
+}
+
+// Whether it was never tried, or long enough ago.
+fn has_waited(control: &Control, moment: u64, wait: u64) -> bool
+    ensures { result ≡ has_waited control.now moment wait }
+{
+    if control.tries == 0 {
+        return true;
+    }
+    control.last_try <= moment && wait <= moment - control.last_try
+}
+
+fn has_failed(control: &Control) -> bool
+    ensures { result ≡ has_failed control.now }
+{
+    control
+        .rows
+        .items()
+        .iter()
+        .any(|row| matches!(&row.state, State::Failed(_, _)))
+}
+
+fn has_queued(control: &Control) -> bool
+    ensures { result ≡ has_queued control.now }
+{
+    control
+        .rows
+        .items()
+        .iter()
+        .any(|row| matches!(&row.state, State::Queued(_)))
+}
+
+/// Whether an entry goes before another: the one of lower priority, and of two with the same the
+/// one of lower id. It takes no memory.
+pub fn before(a: &Entry, b: &Entry) -> bool
+    ensures { IsTrue result ↔ IsBefore a.now b.now }
+{
+    if a.control.priority == b.control.priority {
+        return a.id.number() < b.id.number();
+    }
+    a.control.priority < b.control.priority
+}
