@@ -54,7 +54,8 @@ In address test mode a line of input is the name of a ruleset, or more of them
 with commas, and an address, or a command; the line /quit ends.
 
 The messages of -bs are put into the directory that QueueDirectory names in the
-configuration, by default /var/spool/mqueue. It must be there and be empty.
+configuration, by default /var/spool/mqueue. It must be there; mail that is in
+it stays, and ids go on behind the greatest.
 
 The exit status is 0 when the work is done. Each other end has a line on
 standard error:
@@ -62,7 +63,6 @@ standard error:
   70 turns spent         71 no memory           72 files fault
   73 write fault         74 read fault          75 spool fault
   76 input too large     77 ids spent           78 configuration line
-  81 not yet (the queue holds a file)
 ";
 
 /// The most words whose places a `u32` can tell.

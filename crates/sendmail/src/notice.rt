@@ -25,6 +25,5 @@ pub fn tell(errors: &mut impl Write, outcome: &Outcome) -> io::Result<()> {
         Outcome::TurnsSpent(_) => errors.write_all(b"sendmail: turns spent\n"),
         Outcome::SpoolFault => errors.write_all(b"sendmail: spool fault\n"),
         Outcome::IdsSpent => errors.write_all(b"sendmail: ids spent\n"),
-        Outcome::NotYet => errors.write_all(b"sendmail: not yet\n"),
     }
 }

@@ -184,5 +184,4 @@ fn an_outcome_of_one_mode_has_a_status_and_a_line(rt: HostRuntime) {
     assert!(rt; is_told(&rt, &turns, 70, b"sendmail: turns spent\n"));
     assert!(rt; is_told(&rt, &Outcome::SpoolFault, 75, b"sendmail: spool fault\n"));
     assert!(rt; is_told(&rt, &Outcome::IdsSpent, 77, b"sendmail: ids spent\n"));
-    assert!(rt; is_told(&rt, &Outcome::NotYet, 81, b"sendmail: not yet\n"));
 }

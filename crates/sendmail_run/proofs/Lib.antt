@@ -2,6 +2,7 @@ mod CommandLemmas
 mod EndedLemmas
 mod Examples
 mod KeepLemmas
+mod OpeningLemmas
 mod PrintingLemmas
 mod ProgramLemmas
 mod ServingLemmas

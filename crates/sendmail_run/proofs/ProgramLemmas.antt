@@ -13,8 +13,6 @@ use Rattle.mail_core.specs.Seen.{seen as core_seen}
 use Rattle.mail_edge.specs.Moves.{Loses}
 use Rattle.mail_edge.specs.Seen.{SourceSeen, SinkSeen, FilesSeen, FileMap, ClockSeen}
 use Rattle.spool_disk.specs.Spooled.{Spooled}
-use Rattle.spool_store.specs.declared.fault.OpenFault.{OpenFault}
-use Rattle.spool_store.specs.declared.fault.OpenFault.TheVariants as open_faults
 use Rattle.sendmail_run.specs.declared.address_test.TestEnd.{TestEnd}
 use Rattle.sendmail_run.specs.declared.address_test.TestEnd.TheVariants as test_ends
 use Rattle.sendmail_run.specs.declared.command_line.Job.{Job}
@@ -40,14 +38,14 @@ use Rattle.sendmail_run.specs.CommandLines.{Fails, IsCommandLine}
 use Rattle.sendmail_run.specs.Devices.{World, streams, streams_of, core_of, world}
 use Rattle.sendmail_run.specs.MapFiles.{GiveMaps, Loads, first_missing, maps_by, maps_of, unless_missing}
 use Rattle.sendmail_run.specs.inner.Loading.{Gives, is_files_fault}
-use Rattle.sendmail_run.specs.Outcomes.{of_config, of_maps, of_opening, of_session, of_test, of_words}
+use Rattle.sendmail_run.specs.Outcomes.{of_config, of_maps, of_session, of_test, of_words}
 use Rattle.sendmail_run.specs.Printing.{Basis, basis}
 use Rattle.sendmail_run.specs.Rises.{Counts, RisesOnlyAt}
-use Rattle.sendmail_run.specs.Runs.{Completes, Ends, EndsAtFile, EndsAtWords, EndsAtWork, Finds, IsReady, IsShort, IsQueueEmpty, IsSound, IsUntouched, IsWhole, NoneFailed, Stays, Works}
+use Rattle.sendmail_run.specs.Runs.{Completes, Ends, EndsAtFile, EndsAtWords, EndsAtWork, Finds, IsReady, IsShort, IsSound, IsUntouched, IsWhole, NoneFailed, Stays, Works}
 use Rattle.sendmail_run.specs.Serving.{IsServedOut, Serves, session_site}
 use Rattle.sendmail_run.specs.Testing.{IsLarge, Tests}
 use Rattle.sendmail_run.proofs.CommandLemmas.{one_mode, not_both}
-use Rattle.sendmail_run.proofs.ServingLemmas.{left_alone, not_used, serves_later}
+use Rattle.sendmail_run.proofs.ServingLemmas.{left_alone, serves_later}
 
 -- ---- each end of a run
 
@@ -241,25 +239,21 @@ test_whole : (config : Config) (before after : World) (map : FileMap) (outcome :
 test_whole config before after map outcome told finds sound (inl is) = subst (λ (o : Outcome). IsWhole Test o) (sym is.told) (maps_whole config before after map is.fault told finds.0 sound.files is.loads)
 test_whole config before after map outcome told finds sound (inr is) = subst (λ (o : Outcome). IsWhole Test o) (sym is.told) (lines_whole (basis config is.maps) before after is.how finds.1 sound.own is.tests)
 
-not_opened_whole : (config : Config) (before after : World) (fault : OpenFault) → IsQueueEmpty config before.spool.told → NoneFailed Session before after → Serves (session_site config) (core_of before) (core_of after) (session_ends.NotOpened fault) → IsWhole Session (of_opening fault)
-not_opened_whole config before after open_faults.SpoolFault empty sound is = absurd (sound.1 is.1)
-not_opened_whole config before after open_faults.NotYet empty sound is = absurd (not_used (session_site config) before.spool.told empty.map empty.told empty.empty is.1)
-not_opened_whole config before after open_faults.NoMemory empty sound is = inr (inl refl)
-
 over_whole : (site : Site) (before after : World) (stop : CoreStop) → NoneFailed Session before after → IsServedOut site (core_of before) (core_of after) (Err stop) → IsWhole Session (of_session (session_ends.Over stop))
-over_whole site before after stops.SpoolFault sound is = absurd (sound.1 (is.ended.ended SpoolFault refl).cause)
+over_whole site before after stops.SpoolFault sound is = absurd (sound.1 (is.over.run.ended SpoolFault refl).cause)
 over_whole site before after stops.IdsSpent sound is = inr (inr (inl refl))
 
-session_whole : (config : Config) (before after : World) (how : SessionEnd) → IsQueueEmpty config before.spool.told → NoneFailed Session before after → Serves (session_site config) (core_of before) (core_of after) how → IsWhole Session (of_session how)
-session_whole config before after (session_ends.NotOpened fault) empty sound is = not_opened_whole config before after fault empty sound is
-session_whole config before after session_ends.FloorFault empty sound is = absurd (sound.0 is.rose)
-session_whole config before after session_ends.Stopped empty sound is = inl refl
-session_whole config before after (session_ends.Over stop) empty sound is = over_whole (session_site config) before after stop sound is
-session_whole config before after (session_ends.TurnsSpent count) empty sound is = inr (inr (inr (ap (λ (n : ℕ). outcomes.TurnsSpent n) is.0)))
+session_whole : (site : Site) (before after : World) (how : SessionEnd) → NoneFailed Session before after → Serves site (core_of before) (core_of after) how → IsWhole Session (of_session how)
+session_whole site before after session_ends.NotOpened sound is = absurd (sound.1 is.1)
+session_whole site before after session_ends.NoMemory sound is = inr (inl refl)
+session_whole site before after session_ends.FloorFault sound is = absurd (sound.0 is.rose)
+session_whole site before after session_ends.Stopped sound is = inl refl
+session_whole site before after (session_ends.Over stop) sound is = over_whole site before after stop sound is
+session_whole site before after (session_ends.TurnsSpent count) sound is = inr (inr (inr (ap (λ (n : ℕ). outcomes.TurnsSpent n) is.0)))
 
 work_whole : (words : List (List ℕ)) (config : Config) (before after : World) (job : Job) (outcome : Outcome) (ready : IsReady words before job) → ready.config ≡ config → IsSound job before after → Works job config before after outcome → IsWhole job outcome
 work_whole words config before after Test outcome ready same sound is = test_whole config before after ready.map outcome ready.told (subst (λ (c : Config). Finds Test c ready.map before) same ready.finds) sound is
-work_whole words config before after Session outcome ready same sound is = subst (λ (o : Outcome). IsWhole Session o) (sym is.told) (session_whole config before after is.how (subst (λ (c : Config). IsQueueEmpty c before.spool.told) same ready.finds) sound.own is.serves)
+work_whole words config before after Session outcome ready same sound is = subst (λ (o : Outcome). IsWhole Session o) (sym is.told) (session_whole (session_site config) before after is.how sound.own is.serves)
 
 -- what a run's end says of a run that is ready
 complete_at_words : (words : List (List ℕ)) (before after : World) (outcome : Outcome) → EndsAtWords words before after outcome → Completes words before after outcome

@@ -1,9 +1,8 @@
 -- How session mode goes on and ends.
 use Rattle.std.proofs.Common.{◌≡◌, ℕ, ◌+◌, ◌<◌, ◌≤◌, ◌^◌, List, [], ◌∷◌, Option, Some, None, Result, Ok, Err, true, refl, sym, ◌∙◌, ap, subst, arith, inl, inr}
 use Rattle.std.proofs.Math.Nat.{le_refl}
-use Rattle.std.specs.Prelude.{IfSome, IfOk, IsErrOf, ◌⊎◌}
+use Rattle.std.specs.Prelude.{IfSome}
 use Rattle.mail_base.specs.Histories.{Gains, Rose}
-use Rattle.mail_base.specs.declared.fault.NoMemory.{NoMemory}
 use Rattle.mail_edge.specs.Seen.{ClockSeen}
 use Rattle.link_edge.specs.Heard.{Heard}
 use Rattle.link_edge.specs.Sessions.{Follows, is_sound, is_among}
@@ -18,33 +17,30 @@ use Rattle.link_edge.proofs.Sessioning.{sound_push}
 use Rattle.link_edge.proofs.Sounding.{opened_is_sound}
 use Rattle.spool_disk.specs.Disk.{FileMap}
 use Rattle.spool_disk.specs.Spooled.{Spooled, Reads, Rests, Leads}
-use Rattle.spool_store.specs.declared.fault.OpenFault.{OpenFault}
-use Rattle.spool_store.specs.declared.fault.OpenFault.TheVariants as faults
-use Rattle.spool_store.specs.Standing.{AreEmpty, IsUsed}
-use Rattle.spool_store.specs.Tables.{Table, start}
-use Rattle.spool_store.specs.declared.store.Store.{Store}
-use Rattle.spool_store.proofs.TableLemmas.{start_sound}
+use Rattle.spool_store.specs.Entries.{Table}
+use Rattle.spool_store.specs.Stores.{Holds, StoreSeen}
 use Rattle.mail_core.specs.declared.serving.Core.{Core}
 use Rattle.mail_core.specs.declared.serving.Act.{Act}
-use Rattle.mail_core.specs.declared.serving.Act.TheVariants.{Ended}
+use Rattle.mail_core.specs.declared.serving.Act.TheVariants.{Ended, Went}
 use Rattle.mail_core.specs.declared.serving.CoreStop.{CoreStop}
 use Rattle.mail_core.specs.declared.serving.CoreStop.TheVariants as stops
 use Rattle.mail_core.specs.declared.serving.Site.{Site}
 use Rattle.mail_core.specs.Causes.{is_well}
 use Rattle.mail_core.specs.Events.{IsTaken, IsHeardAt, Turns, event_of}
-use Rattle.mail_core.specs.Machine.{beginning}
-use Rattle.mail_core.specs.Runs.{run_over}
+use Rattle.mail_core.specs.Machine.{State}
+use Rattle.mail_core.specs.Runs.{IsEnded, run_over}
 use Rattle.mail_core.specs.inner.UnderWay.{IsUnderWay}
-use Rattle.mail_core.specs.Seen.{Seen}
-use Rattle.mail_core.specs.Standing.{Stands, Stores, IsStanding}
+use Rattle.mail_core.specs.Seen.{IsSparing, Seen, seen}
+use Rattle.mail_core.specs.Standing.{IsStanding, IsTallied, Stands}
 use Rattle.mail_core.specs.Messages.{dirs_of}
 use Rattle.sendmail_run.specs.declared.session_mode.SessionEnd.{SessionEnd}
 use Rattle.sendmail_run.specs.declared.session_mode.SessionEnd.TheVariants as ends
 use Rattle.sendmail_run.specs.declared.outcome.Outcome.TheVariants as outcomes
-use Rattle.sendmail_run.specs.Outcomes.{of_opening, of_session}
+use Rattle.sendmail_run.specs.inner.Opened.{IsFound, IsGoing, IsOpened}
+use Rattle.sendmail_run.specs.Outcomes.{of_session}
 use Rattle.sendmail_run.specs.Rises.{RisesOnlyAt}
-use Rattle.sendmail_run.specs.Serving.{HasRefused, IsBegun, IsLeftAlone, IsUnserved, BeganEmpty, IsServed, IsServedOut, Serves}
-use Rattle.mail_core.proofs.RunLemmas.{ended_by, cut_off}
+use Rattle.sendmail_run.specs.Serving.{IsBegun, IsLeftAlone, IsOverQueue, IsRun, IsServed, IsServedOut, IsTakenOver, IsUnserved, Serves, from_id}
+use Rattle.mail_core.proofs.RunLemmas.{cut_off, ended_by, under_way_begin, under_way_floor, under_way_more}
 
 -- ---- what is read or left alone
 
@@ -58,22 +54,6 @@ reads_none a = record { later = le_refl a.moment; now = same_leads a.told; image
 -- what no call changed is left alone
 pub left_alone : (a : Seen) → IsLeftAlone a a
 left_alone a = record { floor = refl; clock = refl; spool = reads_none a.spool; spool_faults = refl }
-
--- the store wasn't opened
-pub refused_by : (site : Site) → (s t : Spooled) (dirs : List (List ℕ)) (fault : OpenFault) → dirs ≡ dirs_of site → (IsErrOf {T = Store} (Err fault) faults.NotYet → IfSome s.told (IsUsed dirs)) → (IsErrOf {T = Store} (Err fault) faults.SpoolFault → Rose s.faults t.faults) → HasRefused site s t fault
-refused_by site s t dirs faults.SpoolFault is used rose = rose refl
-refused_by site s t dirs faults.NotYet is used rose = subst (λ (d : List (List ℕ)). IfSome s.told (IsUsed d)) is (used refl)
-refused_by site s t dirs faults.NoMemory is used rose = tt
-
--- where no store could be opened, only a fault of the spool raises the count of its faults
-pub rises_by : (before after : ℕ) (fault : OpenFault) → IsErrOf {T = Store} (Err fault) faults.SpoolFault ⊎ (after ≡ before) → RisesOnlyAt outcomes.SpoolFault (of_opening fault) before after
-rises_by before after fault (inl is) = let same : fault ≡ faults.SpoolFault = cc (is) in inl (ap (λ (f : OpenFault). of_opening f) same)
-rises_by before after fault (inr same) = inr same
-
--- a core over the store of an unused queue
-pub made_over : (site : Site) → (with : Site) (store : Store) (r : Result Core NoMemory) → with ≡ site → Stores site store start → IfOk r (λ core. (table : Table) → Stores with store table → Stands with core (beginning table)) → IfOk r (λ core. Stands site core (beginning start))
-made_over site with store (Ok core) is stores made = subst (λ (s : Site). Stands s core (beginning start)) is (made start (subst (λ (s : Site). Stores s store start) (sym is) stores))
-made_over site with store (Err e) is stores made = tt
 
 -- ---- turns of the floor
 
@@ -106,43 +86,100 @@ taken f g k l (Closed session) buf reading told follows later read counted = rec
 taken f g k l Idle buf reading told follows later read counted = record { told = told; follows = follows; faults = later; clock_told = read; readings = counted }
 taken f g k l Stop buf reading told follows later read counted = record { told = told; follows = follows; faults = later; clock_told = read; readings = counted }
 
+-- ---- turns over each table
+
+-- a core over the queue that was opened has begun
+pub going_begin : (site : Site) (core : Core) (f g : Heard) (s t : Spooled) (c : ClockSeen) → IsTakenOver (dirs_of site) s t → IsSparing (dirs_of site) s t true → g.told ≡ f.told → f.faults ≤ g.faults → s.faults ≤ t.faults → IsOpened site s.told core → IsTallied core t.told
+    → IsGoing site core 0 (seen f s c) (seen g t c)
+going_begin site core f g s t c taken sparing same floor_faults spool_faults opened tallied = record {
+  store = opened.store;
+  found = opened.found;
+  runs = λ table holds. under_way_begin site table core f g s t c (taken.stands table) sparing same floor_faults spool_faults (opened.stands table holds) tallied;
+}
+
+-- one turn more
+pub going_more : (site : Site) (core new : Core) (n : ℕ) (event : Event) (reading : ℕ) (a b c : Seen) → IsGoing site core n a b → ((m : State) → Stands site core m → Turns site m event reading b c new (Ok Went)) → c.clock.readings ≡ b.clock.readings + 1 → IsTallied new c.spool.told
+    → IsGoing site new (n + 1) a c
+going_more site core new n event reading a b c going turns counted tallied = record {
+  store = going.store;
+  found = going.found;
+  runs = λ table holds. let u = going.runs table holds in under_way_more site table core new n event reading a b c u (turns (run_over site table u.turns).state u.stands) counted tallied;
+}
+
+-- a turn that the floor failed to give
+pub going_floor : (site : Site) (core : Core) (n : ℕ) (a : Seen) (f g : Heard) (s : Spooled) (k : ClockSeen) → IsGoing site core n a (seen f s k) → Gains f.told g.told [] → f.faults ≤ g.faults → IsGoing site core n a (seen g s k)
+going_floor site core n a f g s k going told later = record {
+  store = going.store;
+  found = going.found;
+  runs = λ table holds. under_way_floor site table core n a f g s k (going.runs table holds) told later;
+}
+
+one_run : (site : Site) (core : Core) (n : ℕ) (a b : Seen) → (going : IsGoing site core n a b) → IsUnderWay site going.found.some core n a b
+one_run site core n a b going = going.runs going.found.some going.found.holds
+
 -- a core under way stands for the machine's state
-pub standing : (site : Site) → (core : Core) (n : ℕ) (a b : Seen) → IsUnderWay site start core n a b → IsStanding core
-standing site core n a b u = record { site = site; state = (run_over site start u.turns).state; stands = u.stands }
+pub standing : (site : Site) (core : Core) (n : ℕ) (a b : Seen) → IsGoing site core n a b → IsStanding core
+standing site core n a b going =
+    let u = one_run site core n a b going in
+    record { site = site; state = (run_over site going.found.some u.turns).state; stands = u.stands }
+
+-- and has what the files say
+pub tallied_so : (site : Site) (core : Core) (n : ℕ) (a b : Seen) → IsGoing site core n a b → IsTallied core b.spool.told
+tallied_so site core n a b going = (one_run site core n a b going).tallied
+
+-- no count of the floor falls
+pub floor_later : (site : Site) (core : Core) (n : ℕ) (a b : Seen) → IsGoing site core n a b → a.floor.faults ≤ b.floor.faults
+floor_later site core n a b going = (one_run site core n a b going).ran.floor_faults
 
 -- ---- how it ends
 
 abbrev pub OnlyNow : Seen → Type 0
 OnlyNow a = (c : FileMap) → a.spool.left_since a.spool.moment c → a.spool.told ≡ Some c
 
-served : (site : Site) (core : Core) (n : ℕ) (a b : Seen) → BeganEmpty site a → IsBegun a b → OnlyNow a → IsUnderWay site start core n a b → IsServed site n a b
-served site core n a b empty begun only u = record {
+-- what holds over each table that the store held
+over : (site : Site) (a : Seen) (store : StoreSeen) (Run : Table → Type 0) → IsFound (dirs_of site) a.spool.told store → ((table : Table) → Holds store table → Run table) → IsOverQueue site a Run
+over site a store Run found runs = record {
+  next = store.next;
+  first = found.first;
+  some = found.some;
+  stands = found.stands;
+  run = runs (from_id store.next found.some) (record { entries = found.holds.entries; next = refl });
+  each = λ f table told stands. runs (from_id store.next table) (found.each f table told stands);
+}
+
+ran_so : (site : Site) (table : Table) (core : Core) (n : ℕ) (a b : Seen) → OnlyNow a → IsUnderWay site table core n a b → IsRun site table n a b
+ran_so site table core n a b only u = record {
   turns = u.turns;
   events = u.events;
   on = u.stands.on;
-  empty = empty;
-  begun = begun;
-  headline = cut_off site start core n a b u (start_sound (dirs_of site)) only;
+  headline = cut_off site table core n a b u only;
   readings = u.readings;
 }
 
+served : (site : Site) (core : Core) (n : ℕ) (a b : Seen) → IsBegun a b → OnlyNow a → IsGoing site core n a b → IsServed site n a b
+served site core n a b begun only going = record {
+  begun = begun;
+  over = over site a going.store (λ table. IsRun site table n a b) going.found (λ table holds. ran_so site table core n a b only (going.runs table holds));
+}
+
 -- the floor failed
-pub serves_lost : (site : Site) → (core : Core) (n : ℕ) (a b : Seen) → BeganEmpty site a → IsBegun a b → OnlyNow a → n ≤ 2 ^ 60 → IsUnderWay site start core n a b → Rose a.floor.faults b.floor.faults → Serves site a b ends.FloorFault
-serves_lost site core n a b empty begun only few u rose = record { count = n; few = few; served = served site core n a b empty begun only u; rose = rose }
+pub serves_lost : (site : Site) (core : Core) (n : ℕ) (a b : Seen) → IsBegun a b → OnlyNow a → n ≤ 2 ^ 60 → IsGoing site core n a b → Rose a.floor.faults b.floor.faults → Serves site a b ends.FloorFault
+serves_lost site core n a b begun only few going rose = record { count = n; few = few; served = served site core n a b begun only going; rose = rose }
 
 -- all turns were taken
-pub serves_spent : (site : Site) → (core : Core) (n most : ℕ) (a b : Seen) → BeganEmpty site a → IsBegun a b → OnlyNow a → n ≡ most → most ≡ 2 ^ 60 → IsUnderWay site start core n a b → Serves site a b (ends.TurnsSpent most)
-serves_spent site core n most a b empty begun only all is u = (is, served site core most a b empty begun only (subst (λ (q : ℕ). IsUnderWay site start core q a b) all u))
+pub serves_spent : (site : Site) (core : Core) (n most : ℕ) (a b : Seen) → IsBegun a b → OnlyNow a → n ≡ most → most ≡ 2 ^ 60 → IsGoing site core n a b → Serves site a b (ends.TurnsSpent most)
+serves_spent site core n most a b begun only all is going = (is, served site core most a b begun only (subst (λ (q : ℕ). IsGoing site core q a b) all going))
 
 -- a turn ended the run
-pub served_out : (site : Site) (core new : Core) (n : ℕ) (a b c : Seen) (event : Event) (reading : ℕ) (went : Result Act CoreStop) → BeganEmpty site a → IsBegun a c → OnlyNow a → n < 2 ^ 60
-    → (u : IsUnderWay site start core n a b) → Turns site (run_over site start u.turns).state event reading b c new went → c.clock.readings ≡ b.clock.readings + 1 → IsServedOut site a c went
-served_out site core new n a b c event reading went empty begun only few u turns counted = record {
+pub served_out : (site : Site) (core new : Core) (n : ℕ) (a b c : Seen) (event : Event) (reading : ℕ) (went : Result Act CoreStop) → IsBegun a c → OnlyNow a → n < 2 ^ 60 → IsGoing site core n a b
+    → ((m : State) → Stands site core m → Turns site m event reading b c new went) → c.clock.readings ≡ b.clock.readings + 1 → IsServedOut site a c went
+served_out site core new n a b c event reading went begun only few going turns counted = record {
   count = n + 1;
   few = omega (arith, few);
-  empty = empty;
   begun = begun;
-  ended = ended_by site start core new n event reading a b c went u turns (start_sound (dirs_of site)) only counted;
+  over = over site a going.store (λ table. IsEnded site table (n + 1) a c went) going.found (λ table holds.
+      let u = going.runs table holds in
+      ended_by site table core new n event reading a b c went u (turns (run_over site table u.turns).state u.stands) only counted);
 }
 
 -- ---- what each end says of the counts of faults
@@ -151,32 +188,23 @@ pub record IsNoLess (a b : Seen) : Type 0 where
   pub floor : a.floor.faults ≤ b.floor.faults
   pub spool : a.spool.faults ≤ b.spool.faults
 
-unserved_later : (a b : Seen) → IsUnserved a b → IsNoLess a b
-unserved_later a b is = record { floor = let e = ap (λ (h : Heard). h.faults) is.floor in omega (arith, e); spool = is.spool_faults }
+unserved_later : (site : Site) (a b : Seen) → IsUnserved site a b → IsNoLess a b
+unserved_later site a b is = record { floor = let e = ap (λ (h : Heard). h.faults) is.floor in omega (arith, e); spool = is.spool_faults }
 
 out_later : (site : Site) (a b : Seen) (went : Result Act CoreStop) → IsServedOut site a b went → IsNoLess a b
-out_later site a b went is = record { floor = is.ended.headline.floor_faults; spool = is.ended.headline.spool_faults }
+out_later site a b went is = record { floor = is.over.run.headline.floor_faults; spool = is.over.run.headline.spool_faults }
 
 served_later : (site : Site) (n : ℕ) (a b : Seen) → IsServed site n a b → IsNoLess a b
-served_later site n a b is = record { floor = is.headline.floor_faults; spool = is.headline.spool_faults }
+served_later site n a b is = record { floor = is.over.run.headline.floor_faults; spool = is.over.run.headline.spool_faults }
 
 -- what session mode leaves behind is no less than what was there
 pub serves_later : (site : Site) (a b : Seen) (how : SessionEnd) → Serves site a b how → IsNoLess a b
-serves_later site a b (ends.NotOpened fault) is = unserved_later a b is.0
+serves_later site a b ends.NotOpened is = unserved_later site a b is.0
+serves_later site a b ends.NoMemory is = unserved_later site a b is
 serves_later site a b ends.FloorFault is = served_later site is.count a b is.served
 serves_later site a b ends.Stopped is = out_later site a b (Ok Ended) is
 serves_later site a b (ends.Over stop) is = out_later site a b (Err stop) is
 serves_later site a b (ends.TurnsSpent count) is = served_later site count a b is.1
-
--- the files of a used directory aren't those of an empty one
-pub not_used : (site : Site) → (told : Option FileMap) (files : FileMap) → told ≡ Some files → AreEmpty (dirs_of site) files → IfSome told (IsUsed (dirs_of site)) → ⊥
-not_used site None files e empty used = cc e
-not_used site (Some other) files e empty used =
-    let same : other ≡ files = cc e in
-    let is : IsUsed (dirs_of site) files = subst (IsUsed (dirs_of site)) same used in
-    let none = empty is.place is.among in
-    let there = is.there in
-    cc (none, there)
 
 -- the count of the spool rises in a turn only where the spool's fault ends the run
 pub spool_ended : (stop : CoreStop) (first before now : ℕ) → before ≡ first → (is_well {T = Act} (Err stop) ≡ true → now ≡ before) → RisesOnlyAt outcomes.SpoolFault (of_session (ends.Over stop)) first now

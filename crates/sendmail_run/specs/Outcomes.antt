@@ -1,8 +1,6 @@
 -- The outcomes of a run: what each step's own result is told as, and the status of each (sysexits;
 -- 76 and up where it has none; the outcomes are own).
 use Rattle.std.specs.Prelude.{ℕ}
-use Rattle.spool_store.specs.declared.fault.OpenFault.{OpenFault}
-use Rattle.spool_store.specs.declared.fault.OpenFault.TheVariants as open_faults
 use Rattle.mail_core.specs.declared.serving.CoreStop.{CoreStop}
 use Rattle.mail_core.specs.declared.serving.CoreStop.TheVariants as stops
 use Rattle.sendmail_run.specs.declared.command_line.WordFault.{WordFault}
@@ -16,7 +14,7 @@ use Rattle.sendmail_run.specs.declared.address_test.TestEnd.TheVariants as test_
 use Rattle.sendmail_run.specs.declared.session_mode.SessionEnd.{SessionEnd}
 use Rattle.sendmail_run.specs.declared.session_mode.SessionEnd.TheVariants as session_ends
 use Rattle.sendmail_run.specs.declared.outcome.Outcome.{Outcome}
-use Rattle.sendmail_run.specs.declared.outcome.Outcome.TheVariants.{Done, Usage, NoFile, NoMemory, FilesFault, WriteFault, ReadFault, InputLarge, ConfigLine, FloorFault, TurnsSpent, SpoolFault, IdsSpent, NotYet}
+use Rattle.sendmail_run.specs.declared.outcome.Outcome.TheVariants.{Done, Usage, NoFile, NoMemory, FilesFault, WriteFault, ReadFault, InputLarge, ConfigLine, FloorFault, TurnsSpent, SpoolFault, IdsSpent}
 
 -- words that are refused
 abbrev pub of_words : WordFault → Outcome
@@ -44,12 +42,6 @@ of_test test_ends.WriteFault = WriteFault
 of_test test_ends.InputLarge = InputLarge
 of_test test_ends.NoMemory = NoMemory
 
--- a queue that isn't opened
-abbrev pub of_opening : OpenFault → Outcome
-of_opening open_faults.SpoolFault = SpoolFault
-of_opening open_faults.NotYet = NotYet
-of_opening open_faults.NoMemory = NoMemory
-
 -- a turn that could not be served whole
 abbrev pub of_stop : CoreStop → Outcome
 of_stop stops.SpoolFault = SpoolFault
@@ -57,7 +49,8 @@ of_stop stops.IdsSpent = IdsSpent
 
 -- the end of session mode
 abbrev pub of_session : SessionEnd → Outcome
-of_session (session_ends.NotOpened fault) = of_opening fault
+of_session session_ends.NotOpened = SpoolFault
+of_session session_ends.NoMemory = NoMemory
 of_session session_ends.FloorFault = FloorFault
 of_session session_ends.Stopped = Done
 of_session (session_ends.Over stop) = of_stop stop
@@ -78,4 +71,3 @@ status_of SpoolFault = 75
 status_of InputLarge = 76
 status_of IdsSpent = 77
 status_of (ConfigLine line fault) = 78
-status_of NotYet = 81

@@ -5,9 +5,6 @@ use Rattle.mail_base.specs.declared.config.Config.{Config}
 use Rattle.mail_base.specs.Histories.{Rose}
 use Rattle.mail_edge.specs.Seen.{FileMap}
 use Rattle.map_tables.specs.Answers.{Loaded}
-use Rattle.spool_disk.specs.Disk.{FileMap as SpoolMap}
-use Rattle.spool_store.specs.Standing.{AreEmpty}
-use Rattle.mail_core.specs.Messages.{dirs_of}
 use Rattle.sendmail_run.specs.declared.address_test.TestEnd.{TestEnd}
 use Rattle.sendmail_run.specs.declared.command_line.Job.{Job}
 use Rattle.sendmail_run.specs.declared.command_line.Job.TheVariants.{Test, Session}
@@ -122,16 +119,11 @@ pub record IsShort (left : Option (List ℕ)) : Type 0 where
   pub told : left ≡ Some bytes
   pub few : length bytes < 2 ^ 32
 
--- the files of the spool are told, and none is in the queue
-pub record IsQueueEmpty (config : Config) (files : Option SpoolMap) : Type 0 where
-  pub map : SpoolMap
-  pub told : files ≡ Some map
-  pub empty : AreEmpty (dirs_of (session_site config)) map
-
--- what a mode wants of its devices under a configuration, over these files
+-- what a mode wants of its devices under a configuration, over these files: session mode takes any
+-- queue
 abbrev pub Finds : Job → Config → FileMap → World → Type 0
 Finds Test config files before = (first_missing files config ≡ None) × IsShort before.input.left
-Finds Session config files before = IsQueueEmpty config before.spool.told
+Finds Session config files before = Unit {0}
 
 -- the words say this mode, they, the file and its lines are all taken, of files that are told, and
 -- the mode finds what it wants

@@ -1,17 +1,19 @@
 -- How session mode ends, and what was served by then (Sendmail Installation and Operation Guide,
 -- "Command Line Flags": -bs; the replies are those of RFC 5321; the ends are own).
-use Rattle.std.specs.Prelude.{◌≡◌, ℕ, ◌+◌, ◌^◌, ◌≤◌, List, [], length, take, None, IfSome, Result, Ok, Err, codes, true}
+use Rattle.std.specs.Prelude.{◌≡◌, ℕ, ◌+◌, ◌^◌, ◌≤◌, List, [], length, take, None, Some, IfSome, Result, Ok, Err, codes, true}
 use Rattle.mail_base.specs.declared.config.Config.{Config}
 use Rattle.mail_base.specs.Histories.{Rose}
 use Rattle.cf_macros.specs.declared.fault.ExpandFault.{ExpandFault}
 use Rattle.cf_macros.specs.Expansion.{value}
 use Rattle.link_edge.specs.Begins.{begun_after}
 use Rattle.link_edge.specs.declared.place.Place.TheVariants.{Standard}
+use Rattle.spool_disk.specs.Disk.{FileMap}
 use Rattle.spool_disk.specs.Spooled.{Reads, Spooled}
-use Rattle.spool_store.specs.declared.fault.OpenFault.{OpenFault}
-use Rattle.spool_store.specs.declared.fault.OpenFault.TheVariants as faults
-use Rattle.spool_store.specs.Standing.{IsClean, IsUsed}
-use Rattle.spool_store.specs.Tables.{start}
+use Rattle.spool_store.specs.Entries.{Table}
+use Rattle.spool_store.specs.Moves.{Moves}
+use Rattle.spool_store.specs.Openings.{IsNext}
+use Rattle.spool_store.specs.Settled.{StandsFor}
+use Rattle.spool_store.specs.Tidying.{IsTidied}
 use Rattle.mail_core.specs.declared.serving.Site.{Site}
 use Rattle.mail_core.specs.declared.serving.Act.{Act}
 use Rattle.mail_core.specs.declared.serving.Act.TheVariants.{Ended}
@@ -43,48 +45,64 @@ pub record IsLeftAlone (a b : Seen) : Type 0 where
   pub spool : Reads a.spool b.spool
   pub spool_faults : b.spool.faults ≡ a.spool.faults
 
--- nothing was served: the spool was only read, and the floor and the clock are as before, so the
--- floor was not begun
-pub record IsUnserved (a b : Seen) : Type 0 where
+-- a queue was opened at most: whatever table the files stand for, they stand for it at the end and in
+-- each image, and nothing is changed but what an opening tidies (`IsTidied`)
+pub record IsTakenOver (dirs : List (List ℕ)) (old new : Spooled) : Type 0 where
+  pub stands : (table : Table)
+      → Moves old new (StandsFor dirs table) (StandsFor dirs table) (StandsFor dirs table)
+  pub tidied : (f : FileMap) → old.told ≡ Some f
+      → Moves old new (λ g. g ≡ f) (IsTidied dirs f) (IsTidied dirs f)
+
+-- nothing was served: the queue was opened at most, and the floor and the clock are as before, so
+-- the floor was not begun
+pub record IsUnserved (site : Site) (a b : Seen) : Type 0 where
   pub floor : b.floor ≡ a.floor
   pub clock : b.clock ≡ a.clock
-  pub spool : Reads a.spool b.spool
+  pub spool : IsTakenOver (dirs_of site) a.spool b.spool
   pub spool_faults : a.spool.faults ≤ b.spool.faults
 
--- where the files of the spool are told, the queue was empty, and so they were exactly those of the
--- unused table
-abbrev pub BeganEmpty : Site → Seen → Type 0
-BeganEmpty site a = IfSome a.spool.told (IsClean (dirs_of site) start)
+-- a table with another first free id
+abbrev pub from_id : ℕ → Table → Table
+from_id next table = record { entries = table.entries; next = next }
+
+-- a run over the queue: the first free id is that of the files where they are told, which is greater
+-- than each of theirs; and it is a run over some table, which they stand for, and over every table
+-- which they stand for, each with that first free id
+pub record IsOverQueue (site : Site) (a : Seen) (Run : Table → Type 0) : Type 0 where
+  pub next : ℕ
+  pub first : IfSome a.spool.told (λ f. IsNext (dirs_of site) f next)
+  pub some : Table
+  pub stands : IfSome a.spool.told (StandsFor (dirs_of site) some)
+  pub run : Run (from_id next some)
+  pub each : (f : FileMap) (table : Table) → a.spool.told ≡ Some f
+      → StandsFor (dirs_of site) table f → Run (from_id next table)
 
 -- the floor was begun in the run: at its standard place, for one session
 abbrev pub IsBegun : Seen → Seen → Type 0
 IsBegun a b = b.floor.begun ≡ begun_after a.floor.begun Standard 1
 
--- the floor was begun so, so many turns were served, and the run goes on after them: what floor and
--- clock tell since is the machine's run of these turns, the files are those of its table, and each
--- final 250 names an entry whose two files are there (`Headline`)
-pub record IsServed (site : Site) (count : ℕ) (a b : Seen) : Type 0 where
+-- so many turns over a table, after which the run goes on: what floor and clock tell since is the
+-- machine's run of these turns, the files stand for its table, and each final 250 names an entry
+-- whose two files are there (`Headline`)
+pub record IsRun (site : Site) (table : Table) (count : ℕ) (a b : Seen) : Type 0 where
   pub turns : List Turn
   pub events : length turns ≡ count
-  pub empty : BeganEmpty site a
-  pub begun : IsBegun a b
-  pub on : (run_over site start turns).state.over ≡ None
-  pub headline : Headline site start turns a b true
+  pub on : (run_over site table turns).state.over ≡ None
+  pub headline : Headline site table turns a b true
   pub readings : b.clock.readings ≡ a.clock.readings + count
 
--- the floor was begun so, at most 2^60 turns were served, and the last of them ended the run so
+-- the floor was begun so, and so many turns were served over the queue
+pub record IsServed (site : Site) (count : ℕ) (a b : Seen) : Type 0 where
+  pub begun : IsBegun a b
+  pub over : IsOverQueue site a (λ table. IsRun site table count a b)
+
+-- the floor was begun so, at most 2^60 turns were served over the queue, and the last of them ended
+-- the run so
 pub record IsServedOut (site : Site) (a b : Seen) (went : Result Act CoreStop) : Type 0 where
   pub count : ℕ
   pub few : count ≤ 2 ^ 60
-  pub empty : BeganEmpty site a
   pub begun : IsBegun a b
-  pub ended : IsEnded site start count a b went
-
--- why the queue isn't opened
-abbrev pub HasRefused : Site → Spooled → Spooled → OpenFault → Type 0
-HasRefused site old new faults.SpoolFault = Rose old.faults new.faults
-HasRefused site old new faults.NotYet = IfSome old.told (IsUsed (dirs_of site))
-HasRefused site old new faults.NoMemory = Unit {0}
+  pub over : IsOverQueue site a (λ table. IsEnded site table count a b went)
 
 -- the floor failed as it began, or at the turn after so many
 pub record HasLostFloor (site : Site) (a b : Seen) : Type 0 where
@@ -95,7 +113,8 @@ pub record HasLostFloor (site : Site) (a b : Seen) : Type 0 where
 
 -- how session mode ends
 abbrev pub Serves : Site → Seen → Seen → SessionEnd → Type 0
-Serves site a b (ends.NotOpened fault) = IsUnserved a b × HasRefused site a.spool b.spool fault
+Serves site a b ends.NotOpened = IsUnserved site a b × Rose a.spool.faults b.spool.faults
+Serves site a b ends.NoMemory = IsUnserved site a b
 Serves site a b ends.FloorFault = HasLostFloor site a b
 Serves site a b ends.Stopped = IsServedOut site a b (Ok Ended)
 Serves site a b (ends.Over stop) = IsServedOut site a b (Err stop)

@@ -1,3 +1,4 @@
 pub mod Loading
 pub mod Taking
+pub mod Opened
 pub mod Words

@@ -8,7 +8,6 @@ use crate::session_mode::SessionEnd;
 use cf_reader::Fault;
 use mail_base::Text;
 use mail_core::CoreStop;
-use spool_store::OpenFault;
 
 /// How a run ends.
 #[derive(Drop)]
@@ -42,9 +41,6 @@ pub enum Outcome {
     SpoolFault,
     /// A message came that needs an id above 999,999,999,999.
     IdsSpent,
-    /// A directory of the queue holds a file when the spool is opened. This program can't take it
-    /// over yet.
-    NotYet,
 }
 
 impl Outcome {
@@ -66,7 +62,6 @@ impl Outcome {
             Outcome::TurnsSpent(_) => 70,
             Outcome::SpoolFault => 75,
             Outcome::IdsSpent => 77,
-            Outcome::NotYet => 81,
         }
     }
 
@@ -121,9 +116,8 @@ impl Outcome {
         ensures { result ≡ spec.of_session how }
     {
         match how {
-            SessionEnd::NotOpened(OpenFault::SpoolFault) => Outcome::SpoolFault,
-            SessionEnd::NotOpened(OpenFault::NotYet) => Outcome::NotYet,
-            SessionEnd::NotOpened(OpenFault::NoMemory) => Outcome::NoMemory,
+            SessionEnd::NotOpened => Outcome::SpoolFault,
+            SessionEnd::NoMemory => Outcome::NoMemory,
             SessionEnd::FloorFault => Outcome::FloorFault,
             SessionEnd::Stopped => Outcome::Done,
             SessionEnd::Over(CoreStop::SpoolFault) => Outcome::SpoolFault,

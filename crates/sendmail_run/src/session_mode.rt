@@ -1,24 +1,30 @@
-ghost use Rattle.std.specs.Prelude.{◌≡◌, ◌≤◌, ◌^◌, IfOk, IfErr, IfSome, OnOk, length};
-ghost use Rattle.spool_disk.specs.Spooled.{Reads};
-ghost use Rattle.spool_store.specs.Standing.{IsClean};
-ghost use Rattle.spool_store.specs.Tables.{start};
+ghost use Rattle.std.specs.Prelude.{◌≡◌, ◌≢◌, ◌≤◌, ◌^◌, Option, true, false, IfOk, IfErr, OnOk, length};
+ghost use Rattle.mail_base.specs.declared.fault.StoreFault.TheVariants.{IdsSpent as Spent, SpoolFault as Broke};
+ghost use Rattle.mail_edge.specs.Seen.{ClockSeen};
+ghost use Rattle.link_edge.specs.Heard.{Heard};
+ghost use Rattle.spool_disk.specs.Disk.{FileMap};
+ghost use Rattle.spool_store.specs.Entries.{Table};
+ghost use Rattle.spool_store.specs.Keepers.{seen as queue_seen};
+ghost use Rattle.spool_store.specs.Stores.{Holds};
 ghost use Rattle.mail_core.specs.Machine.{beginning};
-ghost use Rattle.mail_core.specs.Seen.{seen};
-ghost use Rattle.mail_core.specs.Standing.{Stands, Stores};
 ghost use Rattle.mail_core.specs.Messages.{dirs_of};
-ghost use Rattle.sendmail_run.specs.Outcomes.{of_opening, of_session};
+ghost use Rattle.mail_core.specs.Seen.{IsSparing, seen};
+ghost use Rattle.mail_core.specs.Standing.{IsTallied, Stands, Tallies};
+ghost use Rattle.sendmail_run.specs.Outcomes.{of_session};
 ghost use Rattle.sendmail_run.specs.Rises.{RisesOnlyAt};
-ghost use Rattle.sendmail_run.specs.Serving.{HasRefused, Serves, session_site};
+ghost use Rattle.sendmail_run.specs.Serving.{IsTakenOver, Serves, session_site};
+ghost use Rattle.sendmail_run.specs.inner.Opened.{IsOpened};
 ghost use Rattle.sendmail_run.specs.declared.outcome.Outcome.TheVariants.{FloorFault, SpoolFault};
+ghost use Rattle.sendmail_run.specs.declared.session_mode.SessionEnd.TheVariants as ends;
 
 use crate::buffer::zeros;
 use crate::site::session_site;
 use link_edge::{Floor, Place};
-use mail_base::{Config, MOST_PIECE, NoMemory, Seq, Text, TryCopy};
+use mail_base::{Config, MOST_PIECE, NoMemory, Seq, StoreFault, Text, TryCopy};
 use mail_core::{Act, Core, CoreStop, Site};
 use mail_edge::Clock;
 use spool_disk::Spool;
-use spool_store::{OpenFault, Store};
+use spool_store::{Queue, opening_settles};
 use std::alloc::Global;
 
 /// The most turns of the floor that a run takes.
@@ -27,8 +33,10 @@ pub const MOST_TURNS: u64 = 1 << 60;
 /// How session mode ends.
 #[derive(Clone, Copy)]
 pub enum SessionEnd {
-    /// The queue could not be opened, or there was no memory before that.
-    NotOpened(OpenFault),
+    /// The spool failed as the queue was opened.
+    NotOpened,
+    /// There was no memory before the floor was begun.
+    NoMemory,
     /// The floor could not begin, or a turn of it failed; one that fails to send only ends that
     /// session.
     FloorFault,
@@ -44,8 +52,8 @@ pub enum SessionEnd {
 /// ends when the floor tells `Stop`. The configuration says the directory of the queue, and by `$j`
 /// the host that replies name.
 ///
-/// The steps are taken in this order, and the first refusal ends the run: the queue is opened, the
-/// floor begins, and then for each turn of the floor the clock is read once and the turn is served.
+/// The steps are taken in this order, and the first refusal ends the run: the queue is opened,
+/// whatever its directory holds, the floor begins, and then for each turn of the floor the clock is read once and the turn is served.
 pub fn session_mode<D: Spool, L: Floor, C: Clock>(
     alloc: Global,
     config: &Config,
@@ -63,10 +71,10 @@ pub fn session_mode<D: Spool, L: Floor, C: Clock>(
         (seen (L.seen floor.new) (D.seen spool.new) (C.seen clock.new)) result }
 {
     let Ok(site) = session_site(alloc, config) else {
-        return SessionEnd::NotOpened(OpenFault::NoMemory);
+        return SessionEnd::NoMemory;
     };
     let Ok(mut buffer) = zeros(alloc, MOST_PIECE) else {
-        return SessionEnd::NotOpened(OpenFault::NoMemory);
+        return SessionEnd::NoMemory;
     };
     serve(alloc, &site, spool, floor, clock, &mut buffer)
 }
@@ -92,7 +100,7 @@ fn serve<D: Spool, L: Floor, C: Clock>(
 {
     let mut core = match opened(alloc, site, spool) {
         Ok(core) => core,
-        Err(fault) => return SessionEnd::NotOpened(fault),
+        Err(end) => return end,
     };
     let Ok(()) = floor.begin(&Place::Standard, 1) else {
         return SessionEnd::FloorFault;
@@ -112,28 +120,44 @@ fn serve<D: Spool, L: Floor, C: Clock>(
 }
 
 // Opens the queue, and makes a core over it.
-fn opened<D: Spool>(alloc: Global, site: &Site, spool: &mut D) -> Result<Core, OpenFault>
-    ensures reads { Reads (D.seen spool.old) (D.seen spool.new) }
+fn opened<D: Spool>(alloc: Global, site: &Site, spool: &mut D) -> Result<Core, SessionEnd>
+    ensures taken { IsTakenOver (dirs_of site.now) (D.seen spool.old) (D.seen spool.new) }
     ensures later { (D.seen spool.old).faults ≤ (D.seen spool.new).faults }
-    ensures core { IfOk result (λ core. Stands site.now core (beginning start)) }
-    ensures empty { IfOk result
-        (λ _. IfSome (D.seen spool.old).told (IsClean (dirs_of site.now) start)) }
-    ensures refused { IfErr result (HasRefused site.now (D.seen spool.old) (D.seen spool.new)) }
+    ensures core { IfOk result (IsOpened site.now (D.seen spool.old).told) }
+    ensures tallied { IfOk result (λ core. IsTallied core (D.seen spool.new).told) }
+    ensures sparing { IfOk result
+        (λ _. IsSparing (dirs_of site.now) (D.seen spool.old) (D.seen spool.new) true) }
+    ensures serves { IfErr result (λ end. (floor : Heard) (clock : ClockSeen) → Serves site.now
+        (seen floor (D.seen spool.old) clock) (seen floor (D.seen spool.new) clock) end) }
     ensures kept { OnOk result ((D.seen spool.new).faults ≡ (D.seen spool.old).faults) }
     ensures rises { IfErr result
-        (λ fault. RisesOnlyAt SpoolFault (of_opening fault) (D.seen spool.old).faults
+        (λ end. RisesOnlyAt SpoolFault (of_session end) (D.seen spool.old).faults
         (D.seen spool.new).faults) }
 {
     let Ok(dirs) = queue_dirs(alloc, site) else {
-        return Err(OpenFault::NoMemory);
+        return Err(SessionEnd::NoMemory);
     };
-    let store = match Store::open(alloc, spool, &dirs) {
-        Ok(store) => store,
-        Err(fault) => return Err(fault),
+    let queue = match Queue::open(alloc, spool, &dirs) {
+        Ok(queue) => queue,
+        Err(fault) => return Err(not_opened(fault)),
     };
-    match core_over(alloc, site, store) {
+    opening_settles();
+    match core_over(alloc, site, queue) {
         Ok(core) => Ok(core),
-        Err(NoMemory) => Err(OpenFault::NoMemory),
+        Err(NoMemory) => Err(SessionEnd::NoMemory),
+    }
+}
+
+// The end of a run whose queue isn't opened.
+fn not_opened(fault: StoreFault) -> SessionEnd
+    requires never { fault ≢ Spent }
+    ensures broke { fault ≡ Broke → result ≡ ends.NotOpened }
+    ensures memory { fault ≢ Broke → result ≡ ends.NoMemory }
+{
+    match fault {
+        StoreFault::SpoolFault => SessionEnd::NotOpened,
+        StoreFault::NoMemory => SessionEnd::NoMemory,
+        StoreFault::IdsSpent => unreachable!(),
     }
 }
 
@@ -145,10 +169,14 @@ fn queue_dirs(alloc: Global, site: &Site) -> Result<Seq<Text>, NoMemory>
     Ok(dirs)
 }
 
-fn core_over(alloc: Global, site: &Site, store: Store) -> Result<Core, NoMemory>
-    requires { Stores site.now store start }
-    ensures { IfOk result (λ core. Stands site.now core (beginning start)) }
+fn core_over(alloc: Global, site: &Site, queue: Queue) -> Result<Core, NoMemory>
+    requires whole { (queue_seen queue).broken ≡ false }
+    requires dirs { (queue_seen queue).dirs ≡ dirs_of site.now }
+    ensures stands { IfOk result (λ core. (table : Table) → Holds (queue_seen queue) table
+        → Stands site.now core (beginning table)) }
+    ensures tallied { IfOk result (λ core. (told : Option FileMap) → Tallies queue told
+        → IsTallied core told) }
 {
     let own = site.copy()?;
-    Core::new(alloc, own, store)
+    Core::new(alloc, own, queue)
 }

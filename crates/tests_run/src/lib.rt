@@ -11,4 +11,10 @@ mod lines;
 #[cfg(test)]
 mod maps;
 #[cfg(test)]
+mod queues;
+#[cfg(test)]
+mod serving;
+#[cfg(test)]
 mod sessions;
+#[cfg(test)]
+mod stops;

@@ -1,0 +1,136 @@
+-- What session mode opens, and how it ends where it doesn't.
+use Rattle.std.proofs.Common.{◌≡◌, ◌≢◌, ℕ, ◌≤◌, List, [], ◌∷◌, map, Option, Some, None, Result, Ok, Err, true, false, refl, sym, ◌∙◌, ap, subst, inl, inr}
+use Rattle.std.proofs.Math.Nat.{le_refl}
+use Rattle.std.specs.Prelude.{IfOk, IfSome, IsErrOf, ◌⊎◌}
+use Rattle.std.specs.List.{AllZip}
+use Rattle.mail_base.specs.Histories.{Rose}
+use Rattle.mail_base.specs.declared.fault.NoMemory.{NoMemory}
+use Rattle.mail_base.specs.declared.fault.StoreFault.{StoreFault}
+use Rattle.mail_base.specs.declared.fault.StoreFault.TheVariants as faults
+use Rattle.mail_edge.specs.Seen.{ClockSeen}
+use Rattle.link_edge.specs.Heard.{Heard}
+use Rattle.spool_disk.specs.Disk.{FileMap}
+use Rattle.spool_disk.specs.Spooled.{Spooled}
+use Rattle.spool_store.specs.Entries.{Stored, Table}
+use Rattle.spool_store.specs.Keepers.{IsReading, seen as queue_seen}
+use Rattle.spool_store.specs.Moves.{Moves}
+use Rattle.spool_store.specs.Openings.{AreStrays}
+use Rattle.spool_store.specs.Settled.{StandsFor}
+use Rattle.spool_store.specs.Stores.{Agrees, Holds, IsHeld, StoreSeen}
+use Rattle.spool_store.specs.Tidying.{IsTidied, IsTidiedAt, IsTidiedBody}
+use Rattle.spool_store.specs.declared.held.Held.{Held}
+use Rattle.spool_store.specs.declared.queue.Queue.{Queue}
+use Rattle.spool_store.proofs.MovesLemmas.{moves_none}
+use Rattle.mail_core.specs.declared.serving.Core.{Core}
+use Rattle.mail_core.specs.declared.serving.Site.{Site}
+use Rattle.mail_core.specs.Machine.{beginning}
+use Rattle.mail_core.specs.Messages.{dirs_of}
+use Rattle.mail_core.specs.Commands.{start}
+use Rattle.mail_core.specs.Seen.{IsSparing, seen}
+use Rattle.mail_core.specs.Standing.{Stands, Stores}
+use Rattle.mail_core.proofs.SparingLemmas.{LeavesStrange, sparing_opening}
+use Rattle.sendmail_run.specs.declared.outcome.Outcome.TheVariants as outcomes
+use Rattle.sendmail_run.specs.declared.session_mode.SessionEnd.{SessionEnd}
+use Rattle.sendmail_run.specs.declared.session_mode.SessionEnd.TheVariants as ends
+use Rattle.sendmail_run.specs.inner.Opened.{IsFound}
+use Rattle.sendmail_run.specs.Outcomes.{of_session}
+use Rattle.sendmail_run.specs.Rises.{RisesOnlyAt}
+use Rattle.sendmail_run.specs.Serving.{IsTakenOver, IsUnserved, Serves, from_id}
+
+-- ---- what an opening leaves
+
+tidied_none : (dirs : List (List ℕ)) (f g : FileMap) → g ≡ f → IsTidied dirs f g
+tidied_none dirs f g is = subst (IsTidied dirs f) (sym is) (record {
+  controls = λ s spot. IsTidiedAt.stays refl;
+  bodies = λ dir id among within. IsTidiedBody.stays refl;
+  drafts = λ dir id among within. inl refl;
+  others = λ place foreign. refl;
+})
+
+-- no call at all leaves the queue as it was
+pub taken_none : (dirs : List (List ℕ)) (s : Spooled) → IsTakenOver dirs s s
+taken_none dirs s = record {
+  stands = λ table. moves_none s (StandsFor dirs table) (StandsFor dirs table) (StandsFor dirs table) (λ f stands. stands);
+  tidied = λ f told. moves_none s (λ g. g ≡ f) (IsTidied dirs f) (IsTidied dirs f) (tidied_none dirs f);
+}
+
+-- what an opening of these directories leaves, which are those of the site
+pub taken_of : (site : Site) (s t : Spooled) (dirs : List (List ℕ)) → dirs ≡ dirs_of site
+    → ((table : Table) → Moves s t (StandsFor dirs table) (StandsFor dirs table) (StandsFor dirs table))
+    → ((f : FileMap) → s.told ≡ Some f → Moves s t (λ g. g ≡ f) (IsTidied dirs f) (IsTidied dirs f)) → IsTakenOver (dirs_of site) s t
+taken_of site s t dirs same stands tidied = subst (λ (d : List (List ℕ)). IsTakenOver d s t) same (record { stands = stands; tidied = tidied })
+
+-- what it leaves alone stays, and is left alone still
+pub sparing_of : (site : Site) (s t : Spooled) (dirs : List (List ℕ)) (store : StoreSeen) → store.dirs ≡ dirs → dirs ≡ dirs_of site → LeavesStrange
+    → ((table : Table) → Moves s t (StandsFor dirs table) (StandsFor dirs table) (StandsFor dirs table))
+    → ((f : FileMap) → s.told ≡ Some f → Moves s t (λ g. g ≡ f) (IsTidied dirs f) (IsTidied dirs f)) → ((f : FileMap) → s.told ≡ Some f → IsReading dirs f store) → IfSome t.told (Agrees store) → IsSparing (dirs_of site) s t true
+sparing_of site s t dirs store own same law stands tidied read agrees = subst (λ (d : List (List ℕ)). IsSparing d s t true) (own ∙ same)
+    (sparing_opening store s t (StandsFor dirs start) (StandsFor dirs start) (StandsFor dirs start) law (stands start)
+    (λ f told. subst (λ (d : List (List ℕ)). AreStrays d f store.strange) (sym own) (read f told).strange) agrees
+    (λ f told. subst (λ (d : List (List ℕ)). Moves s t (λ g. g ≡ f) (IsTidied d f) (IsTidied d f)) (sym own) (tidied f told)))
+
+-- ---- where the queue isn't opened
+
+-- nothing is served
+pub unserved : (site : Site) (s t : Spooled) (floor : Heard) (clock : ClockSeen) → IsTakenOver (dirs_of site) s t → s.faults ≤ t.faults → IsUnserved site (seen floor s clock) (seen floor t clock)
+unserved site s t floor clock taken later = record { floor = refl; clock = refl; spool = taken; spool_faults = later }
+
+-- nothing is served where no call was made
+pub untouched : (site : Site) (s : Spooled) (floor : Heard) (clock : ClockSeen) → IsUnserved site (seen floor s clock) (seen floor s clock)
+untouched site s floor clock = unserved site s s floor clock (taken_none (dirs_of site) s) (le_refl s.faults)
+
+-- a fault of the opening ends session mode so
+pub serves_unopened : (site : Site) (s t : Spooled) (floor : Heard) (clock : ClockSeen) (fault : StoreFault) (end : SessionEnd) → (fault ≡ faults.SpoolFault → end ≡ ends.NotOpened) → (fault ≢ faults.SpoolFault → end ≡ ends.NoMemory)
+    → IsTakenOver (dirs_of site) s t → s.faults ≤ t.faults → (IsErrOf {T = Queue} (Err fault) faults.SpoolFault → Rose s.faults t.faults) → Serves site (seen floor s clock) (seen floor t clock) end
+serves_unopened site s t floor clock faults.SpoolFault end broke memory taken later rose =
+    subst (Serves site (seen floor s clock) (seen floor t clock)) (sym (broke refl)) (unserved site s t floor clock taken later, rose refl)
+serves_unopened site s t floor clock faults.IdsSpent end broke memory taken later rose =
+    subst (Serves site (seen floor s clock) (seen floor t clock)) (sym (memory (λ e. cc e))) (unserved site s t floor clock taken later)
+serves_unopened site s t floor clock faults.NoMemory end broke memory taken later rose =
+    subst (Serves site (seen floor s clock) (seen floor t clock)) (sym (memory (λ e. cc e))) (unserved site s t floor clock taken later)
+
+-- and only a fault of the spool raises the count of its faults
+pub rises_by : (before after : ℕ) (fault : StoreFault) (end : SessionEnd) → (fault ≡ faults.SpoolFault → end ≡ ends.NotOpened) → IsErrOf {T = Queue} (Err fault) faults.SpoolFault ⊎ (after ≡ before) → RisesOnlyAt outcomes.SpoolFault (of_session end) before after
+rises_by before after fault end broke (inl is) = let same : fault ≡ faults.SpoolFault = cc (is) in inl (ap (λ (e : SessionEnd). of_session e) (broke same))
+rises_by before after fault end broke (inr same) = inr same
+
+-- ---- where it is
+
+abbrev bodiless : Held → Stored
+bodiless h = record { id = h.entry.id; dir = h.entry.dir; control = h.entry.control; body = [] }
+
+all_held : (hs : List Held) → AllZip IsHeld hs (map bodiless hs)
+all_held [] = tt
+all_held (h ∷ hs) = (record { id = refl; dir = refl; control = refl }, all_held hs)
+
+-- a store that was opened, by what is told of the files
+found_at : (dirs : List (List ℕ)) (told : Option FileMap) (store : StoreSeen) → ((f : FileMap) → told ≡ Some f → IsReading dirs f store) → ((f : FileMap) → told ≡ Some f → (table : Table) × StandsFor dirs table f × Holds store table)
+    → ((table : Table) (f : FileMap) → told ≡ Some f → StandsFor dirs table f → Holds store (from_id store.next table)) → IsFound dirs told store
+found_at dirs None store read table holds = record {
+  first = tt;
+  some = record { entries = map bodiless store.entries; next = store.next };
+  stands = tt;
+  holds = record { entries = all_held store.entries; next = refl };
+  each = λ f t told stands. absurd (cc (told));
+}
+found_at dirs (Some f) store read table holds =
+    let one = table f refl in record {
+      first = (read f refl).next;
+      some = one.0;
+      stands = one.1;
+      holds = one.2;
+      each = λ g t told stands. holds t g told stands;
+    }
+
+-- the same of the site's directories
+pub found_of : (site : Site) (dirs : List (List ℕ)) (told : Option FileMap) (store : StoreSeen) → dirs ≡ dirs_of site → ((f : FileMap) → told ≡ Some f → IsReading dirs f store) → ((f : FileMap) → told ≡ Some f → (table : Table) × StandsFor dirs table f × Holds store table)
+    → ((table : Table) (f : FileMap) → told ≡ Some f → StandsFor dirs table f → Holds store (from_id store.next table)) → IsFound (dirs_of site) told store
+found_of site dirs told store same read table holds = subst (λ (d : List (List ℕ)). IsFound d told store) same (found_at dirs told store read table holds)
+
+-- a core over a store, which is one over a copy of the site
+pub stands_over : (site own : Site) (queue : Queue) (r : Result Core NoMemory) → own ≡ site → (queue_seen queue).broken ≡ false → (queue_seen queue).dirs ≡ dirs_of site → IfOk r (λ core. (table : Table) → Stores own queue table → Stands own core (beginning table))
+    → IfOk r (λ core. (table : Table) → Holds (queue_seen queue) table → Stands site core (beginning table))
+stands_over site own queue (Ok core) is whole dirs made = λ table holds.
+    let stores : Stores site queue table = record { holds = holds; whole = whole; dirs = dirs } in
+    subst (λ (s : Site). Stands s core (beginning table)) is (made table (subst (λ (s : Site). Stores s queue table) (sym is) stores))
+stands_over site own queue (Err e) is whole dirs made = tt

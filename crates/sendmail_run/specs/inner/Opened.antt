@@ -1,0 +1,39 @@
+-- What session mode keeps of the queue that it opened. It need not be believed: only private
+-- contracts cite it.
+use Rattle.std.specs.Prelude.{◌≡◌, ℕ, List, Option, Some, IfSome}
+use Rattle.spool_disk.specs.Disk.{FileMap}
+use Rattle.spool_store.specs.Entries.{Table}
+use Rattle.spool_store.specs.Openings.{IsNext}
+use Rattle.spool_store.specs.Settled.{StandsFor}
+use Rattle.spool_store.specs.Stores.{Holds, StoreSeen}
+use Rattle.mail_core.specs.declared.serving.Core.{Core}
+use Rattle.mail_core.specs.declared.serving.Site.{Site}
+use Rattle.mail_core.specs.Machine.{beginning}
+use Rattle.mail_core.specs.Messages.{dirs_of}
+use Rattle.mail_core.specs.Seen.{Seen}
+use Rattle.mail_core.specs.Standing.{Stands}
+use Rattle.mail_core.specs.inner.UnderWay.{IsUnderWay}
+use Rattle.sendmail_run.specs.Serving.{from_id}
+
+-- a store is what an opening read of the files, where they are told: it has their first free id,
+-- and holds a table that they stand for, and each of which they do with that id
+pub record IsFound (dirs : List (List ℕ)) (told : Option FileMap) (store : StoreSeen) : Type 0 where
+  pub first : IfSome told (λ f. IsNext dirs f store.next)
+  pub some : Table
+  pub stands : IfSome told (StandsFor dirs some)
+  pub holds : Holds store some
+  pub each : (f : FileMap) (table : Table) → told ≡ Some f → StandsFor dirs table f
+      → Holds store (from_id store.next table)
+
+-- a core over a store that was opened: it stands for the beginning over each table that the store
+-- holds
+pub record IsOpened (site : Site) (told : Option FileMap) (core : Core) : Type 0 where
+  pub store : StoreSeen
+  pub found : IsFound (dirs_of site) told store
+  pub stands : (table : Table) → Holds store table → Stands site core (beginning table)
+
+-- so many turns since: a run that goes on, over each table that the store held then
+pub record IsGoing (site : Site) (core : Core) (count : ℕ) (a b : Seen) : Type 0 where
+  pub store : StoreSeen
+  pub found : IsFound (dirs_of site) a.spool.told store
+  pub runs : (table : Table) → Holds store table → IsUnderWay site table core count a b

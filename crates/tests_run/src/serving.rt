@@ -1,0 +1,151 @@
+//! What runs of session mode have in common.
+
+ghost use Rattle.std.specs.Prelude.{◌≡◌, ◌<◌, IfOk, length};
+
+use crate::devices::{CONFIG, calls, files_of};
+use link_edge::{Floor, FloorEvent, ScriptFloor, Step};
+use mail_base::{NoMemory, Seq, Text};
+use mail_edge::{MemClock, MemSink, MemSource};
+use sendmail_run::sendmail;
+use spool_disk::{File, Spool};
+use std::alloc::Global;
+use std::test::Fail;
+
+// What the clock reads.
+const NOW: u64 = 1_767_225_600;
+
+pub(crate) const PEER: &[u8] = b"192.0.2.1";
+
+pub(crate) const ASKED: &[u8] =
+    b"HELO c.example\r\nMAIL FROM:<bob@c.example>\r\nRCPT TO:<ann@mx.example>\r\nDATA\r\n\
+        Subject: hi\r\n\r\nhello\r\n.\r\nQUIT\r\n";
+
+pub(crate) const READY: &[u8] = b"220 localhost ESMTP ready\r\n";
+
+pub(crate) const HELLO: &[u8] = b"250 localhost Hello\r\n";
+
+pub(crate) const SENDER: &[u8] = b"250 2.1.0 Sender ok\r\n";
+
+pub(crate) const RECIPIENT: &[u8] = b"250 2.1.5 Recipient ok\r\n";
+
+pub(crate) const ENTER: &[u8] = b"354 Enter mail, end with \".\" on a line by itself\r\n";
+
+pub(crate) const ACCEPTED: &[u8] = b"250 2.0.0 w000000000001 Message accepted for delivery\r\n";
+
+pub(crate) const BYE: &[u8] = b"221 2.0.0 localhost closing connection\r\n";
+
+/// The control text of the message, and its body.
+pub(crate) const CONTROL: &[u8] =
+    b"V1\nv1\ngmqueue\nT1767225600\nK0\nN0\nP30022\nc0\nS<bob@c.example>\n$rSMTP\n$sc.example\n\
+        ${client_addr}192.0.2.1\nRPFD:<ann@mx.example>\neQ\nHSubject: hi\n.\n";
+
+pub(crate) const BODY: &[u8] = b"hello\r\n";
+
+fn words(alloc: Global) -> Result<Seq<Text>, NoMemory>
+    ensures { IfOk result (λ words. length words ≡ 2) }
+{
+    let mut words = Seq::new(alloc);
+    words.push(Text::of(alloc, b"-bs")?)?;
+    words.push(Text::of(alloc, b"-Crow1.cf")?)?;
+    Ok(words)
+}
+
+// Steps of a floor whose one session says this in pieces of so many bytes.
+fn steps(alloc: Global, asked: &[u8], size: usize) -> Result<Seq<Step>, NoMemory>
+    requires { 0 < size }
+{
+    let mut steps = Seq::new(alloc);
+    steps.push(Step::Open(Text::of(alloc, PEER)?))?;
+    for piece in asked.chunks(size) {
+        steps.push(Step::Say(1, Text::of(alloc, piece)?))?;
+    }
+    Ok(steps)
+}
+
+/// A floor whose one session says this in pieces of so many bytes, and whose turns and sends of
+/// these numbers fail.
+pub(crate) fn script_floor(
+    alloc: Global,
+    asked: &[u8],
+    size: usize,
+    turns: &[u64],
+    sends: &[u64],
+) -> Result<ScriptFloor, NoMemory>
+    requires { 0 < size }
+{
+    let steps = steps(alloc, asked, size)?;
+    let turns = calls(alloc, turns)?;
+    Ok(ScriptFloor::new(alloc, steps, turns, calls(alloc, sends)?))
+}
+
+/// How session mode ends over this spool and this floor, where these calls of the files fail.
+pub(crate) fn status_with<D: Spool, L: Floor>(
+    alloc: Global,
+    failing: &[u64],
+    spool: &mut D,
+    floor: &mut L,
+) -> Result<u8, Fail> {
+    let words = words(alloc)?;
+    let mut files = files_of(alloc, CONFIG, failing)?;
+    let mut clock = MemClock::new(NOW, 0);
+    let mut input = MemSource::new(Text::new(alloc), Seq::new(alloc));
+    let mut output = MemSink::new(alloc, Seq::new(alloc));
+    let outcome = sendmail(
+        alloc,
+        &words,
+        &mut files,
+        spool,
+        floor,
+        &mut clock,
+        &mut input,
+        &mut output,
+    );
+    Ok(outcome.status())
+}
+
+/// The same where none of them does.
+pub(crate) fn status_over<D: Spool, L: Floor>(
+    alloc: Global,
+    spool: &mut D,
+    floor: &mut L,
+) -> Result<u8, Fail> {
+    status_with(alloc, &[], spool, floor)
+}
+
+/// All that a floor told as sent to a session.
+pub(crate) fn said_to(alloc: Global, floor: &ScriptFloor, session: u64) -> Result<Text, NoMemory> {
+    let mut text = Text::new(alloc);
+    for event in floor.seen() {
+        if let FloorEvent::Sent(to, bytes) = event {
+            if *to == session {
+                text.extend(bytes.bytes())?;
+            }
+        }
+    }
+    Ok(text)
+}
+
+pub(crate) fn has(files: &Seq<File>, name: &[u8]) -> bool {
+    files.items().iter().any(|file| file.name.bytes() == name)
+}
+
+/// Whether a file of the queue holds these bytes.
+pub(crate) fn holds(files: &Seq<File>, name: &[u8], bytes: &[u8]) -> bool {
+    files.items().iter().any(|file| file.dir.bytes() == b"/var/spool/mqueue".as_slice()
+        && file.name.bytes() == name
+        && file.bytes.bytes() == bytes)
+}
+
+/// Whether the message stands in the files of its id, whole.
+pub(crate) fn is_stored(files: &Seq<File>, control: &[u8]) -> bool {
+    holds(files, b"qfw000000000001", control) && holds(files, b"dfw000000000001", BODY)
+}
+
+/// The replies, one behind the other.
+pub(crate) fn joined(alloc: Global, replies: &[&[u8]]) -> Result<Text, NoMemory> {
+    let mut text = Text::new(alloc);
+    for reply in replies {
+        text.extend(reply)?;
+    }
+    Ok(text)
+}
