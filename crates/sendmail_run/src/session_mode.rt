@@ -53,7 +53,8 @@ pub enum SessionEnd {
 /// the host that replies name.
 ///
 /// The steps are taken in this order, and the first refusal ends the run: the queue is opened,
-/// whatever its directory holds, the floor begins, and then for each turn of the floor the clock is read once and the turn is served.
+/// whatever its directory holds, the floor begins, and then for each turn of the floor the clock is
+/// read once and the turn is served.
 pub fn session_mode<D: Spool, L: Floor, C: Clock>(
     alloc: Global,
     config: &Config,
