@@ -2,8 +2,9 @@
 """Kills the built program while it takes messages into a queue, and opens the queue again.
 
 Use: bench/kills.py [RUNS [SEED [PROGRAM]]], 1,000 runs where the number is left out. Each run serves a
-session of several messages over a queue of its own in a real directory, and is killed (SIGKILL) at a
-random moment behind its first reply. Then a run with QUIT alone opens the queue. After it each message
+session of several messages over a queue in a real directory. From a random moment behind its first
+reply on it is killed (SIGKILL) as soon as files of a commit are seen that isn't done, and a little
+later, or at its end. Then a run with QUIT alone opens the queue. After it each message
 that was acknowledged since the queue was new must be there with its body, each control file must end
 with its line of a dot and have its body beside it, and nothing else may be there. It prints a summary,
 and ends with status 1 at the first run after which that isn't so. Build the program first, by `make
@@ -33,7 +34,7 @@ class Message:
 
     def __init__(self, name, chance):
         self.name = name.encode()
-        lines = chance.choice([1, 3, 40, 400, 4000])
+        lines = chance.choice([1, 3, 40, 400])
         self.body = b"".join(b"line %d of %s\r\n" % (line, self.name) for line in range(lines))
 
     def asked(self):
@@ -58,16 +59,18 @@ class Session:
         """Waits for its first reply."""
         return bool(select.select(self.ends[1:], [], [], 60)[0])
 
-    def feed(self, text, until):
-        """Writes and reads until that moment, or until the program has written all."""
+    def feed(self, text, is_time):
+        """Writes and reads until it is time, or until the program has written all, and gives what
+        wasn't written."""
         os.set_blocking(self.ends[0], False)
-        while time.monotonic() < until:
-            left = max(0, until - time.monotonic())
-            readable, writable, _ = select.select(self.ends[1:], self.ends[:1] if text else [], [], left)
+        while not is_time():
+            wanted = self.ends[:1] if text else []
+            readable, writable, _ = select.select(self.ends[1:], wanted, [], 0.0002)
             if writable:
                 text = text[os.write(self.ends[0], text[:65536]) :]
             if readable and not self.read():
-                return
+                break
+        return text
 
     def read(self):
         more = os.read(self.ends[1], 65536)
@@ -99,16 +102,20 @@ class Queue:
         self.told = {}
         self.bodies = {}
 
-    def serve(self, messages, delay, kills):
-        """Gives a run these messages, and kills it so long after its first reply."""
+    def serve(self, messages, delay, further=None):
+        """Gives a run these messages. So long after its first reply it waits for a commit that is
+        under way, and kills the run so much further on, if it is to."""
         self.bodies.update((message.name, message.body) for message in messages)
         session = Session(self.command)
         text = b"HELO c.example\r\n" + b"".join(map(Message.asked, messages)) + b"QUIT\r\n"
         if not session.is_ready():
             raise Lost("a run says nothing for a minute")
         begun = time.monotonic()
-        session.feed(text, begun + delay)
-        status = session.close(kills)
+        rest = session.feed(text, lambda: time.monotonic() >= begun + delay)
+        if further is not None:
+            session.feed(rest, lambda: is_half(self.names()))
+            time.sleep(further)
+        status = session.close(further is not None)
         ids = REPLY.findall(session.written)
         self.told.update(zip(ids, messages))
         if len(ids) != len(set(ids)):
@@ -180,7 +187,7 @@ def usual_time(program, folder, chance):
     times = []
     for run in range(CALIBRATIONS):
         queue = Queue(program, folder)
-        status, told, taken = queue.serve(messages_of(f"calibration{run}", chance), 60, False)
+        status, told, taken = queue.serve(messages_of(f"calibration{run}", chance), 60)
         queue.open()
         queue.check()
         if (status, told) != (0, MESSAGES):
@@ -195,7 +202,8 @@ def kill_all(program, folder, runs, chance):
     for run in range(runs):
         if run % RUNS_A_QUEUE == 0:
             queue = Queue(program, folder)
-        status, told, _taken = queue.serve(messages_of(run, chance), chance.uniform(0, usual), True)
+        delay, further = chance.uniform(0, usual), chance.choice([0, 0, chance.uniform(0, 0.002)])
+        status, told, _taken = queue.serve(messages_of(run, chance), delay, further)
         was_half = is_half(queue.names())
         queue.open()
         queue.check()

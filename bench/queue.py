@@ -2,10 +2,10 @@
 """Measures the store of the queue over a spool in memory that holds entries already.
 
 Use: bench/queue.py [PROGRAM], which is crates/bench as it was built (`rt run -- control 1` there). For
-0, 1,000 and 10,000 entries it prints how many messages are committed a second, and by how many calls of
-the spool each; for 1,000, 10,000 and 20,000 entries how long it takes to open them, and how much memory
-beside that of the spool. Each is the best of five runs, without what the same run takes that commits or
-opens once. This is no part of the gate.
+0, 1,000 and 10,000 entries it prints how many messages a session commits a second, and by how many calls
+of the spool each; for 1,000, 10,000 and 20,000 entries how long it takes to open them, and how much
+memory beside that of the spool. Each is the best of five runs, without what the same run takes with one
+message or one opening. This is no part of the gate.
 """
 
 import os
@@ -38,11 +38,12 @@ def best(program, what, entries, rounds):
 
 
 def commits(program, entries):
-    once, _, _ = best(program, "commits", entries, 1)
+    once, _, first = best(program, "commits", entries, 1)
     taken, _, said = best(program, "commits", entries, COMMITS + 1)
-    count, calls = map(int, re.match(r"(\d+) messages by (\d+) calls", said).groups())
+    calls = [int(re.search(r"by (\d+) calls", it)[1]) for it in (first, said)]
     a_second = COMMITS / max(taken - once, 1e-9)
-    print(f"{entries} entries: {a_second:,.0f} commits a second, {calls / count:.2f} calls each")
+    each = (calls[1] - calls[0]) / COMMITS
+    print(f"{entries} entries: {a_second:,.0f} commits a second, {each:.2f} calls each")
 
 
 def opening(program, entries):

@@ -1,16 +1,16 @@
-//! Over a queue in memory with so many entries, 1,000 where that is left out. `commits` opens it and
-//! commits so many messages more as the third word says, and tells how many calls of the spool they
-//! took. `opening` opens it so many times, and tells how many entries it has.
+//! Over a queue in memory with so many entries, 1,000 where that is left out. `commits` serves one
+//! session of so many messages as the third word says, and tells how many calls of the spool that
+//! took, those to open the queue too. `opening` opens it so many times, and tells how many entries
+//! it has.
 
-ghost use Rattle.std.specs.Prelude.{◌≡◌, ◌∷◌, [], None, IfOk, IfSome, OnOk};
-ghost use Rattle.spool_store.specs.Keepers.{seen};
-ghost use Rattle.spool_store.specs.Stores.{Agrees};
-ghost use Rattle.spool_store.specs.Writes.{IsDraftable};
+ghost use Rattle.std.specs.Prelude.{◌≡◌, IfOk, length};
 
-use anyhow::{Result, bail, ensure};
-use mail_base::{Draft, Id, Kind, NoMemory, Seq, Text, TryCopy};
-use qf_format::parse;
-use spool_disk::{File, MemSpool, Spool};
+use anyhow::{Result, bail};
+use link_edge::{ScriptFloor, Step};
+use mail_base::{Id, Kind, NoMemory, Seq, Text};
+use mail_edge::{MemClock, MemFiles, MemSink, MemSource, SureFiles};
+use sendmail_run::sendmail;
+use spool_disk::{File, MemSpool};
 use spool_store::Queue;
 use std::alloc::Global;
 
@@ -22,23 +22,23 @@ const CONTROL: &[u8] =
 
 const BODY: &[u8] = b"hello\r\n";
 
+const MESSAGE: &[u8] = b"MAIL FROM:<bob@c.example>\r\nRCPT TO:<ann@mx.example>\r\nDATA\r\n\
+        Subject: hi\r\n\r\nhello\r\n.\r\n";
+
 pub(crate) fn commits(alloc: Global, entries: Option<&str>, rounds: u32) -> Result<String> {
-    let dir = Text::of(alloc, DIR)?;
-    let draft = drafted(alloc, &dir)?;
     let mut spool = spool_of(alloc, count_of(entries)?)?;
-    let mut queue = opened(alloc, &mut spool, &dir)?;
-    let before = spool.calls();
-    commit_all(alloc, &mut spool, &mut queue, &draft, rounds)?;
-    let calls = spool.calls().saturating_sub(before);
+    serve(alloc, &mut spool, rounds)?;
+    let calls = spool.calls();
     Ok(format!(in alloc; "{rounds} messages by {calls} calls")?)
 }
 
 pub(crate) fn opening(alloc: Global, entries: Option<&str>, rounds: u32) -> Result<String> {
-    let dir = Text::of(alloc, DIR)?;
     let mut spool = spool_of(alloc, count_of(entries)?)?;
+    let mut dirs = Seq::new(alloc);
+    dirs.push(Text::of(alloc, DIR)?)?;
     let mut count = 0;
     for _ in 0..rounds {
-        count = opened(alloc, &mut spool, &dir)?.entries().len();
+        count = Queue::open(alloc, &mut spool, &dirs)?.entries().len();
     }
     Ok(format!(in alloc; "{count} entries")?)
 }
@@ -69,65 +69,55 @@ fn file_of(alloc: Global, id: Id, kind: Kind, bytes: &[u8]) -> Result<File, NoMe
     })
 }
 
-fn opened<D: Spool>(alloc: Global, spool: &mut D, dir: &Text) -> Result<Queue>
-    ensures dirs { IfOk result (λ q. (seen q).dirs ≡ dir.now ∷ []) }
-    ensures agrees { IfOk result (λ q. IfSome (D.seen spool.new).told (Agrees (seen q))) }
+fn words(alloc: Global) -> Result<Seq<Text>, NoMemory>
+    ensures { IfOk result (λ words. length words ≡ 2) }
 {
-    let mut dirs = Seq::new(alloc);
-    dirs.push(dir.copy()?)?;
-    Ok(Queue::open(alloc, spool, &dirs)?)
+    let mut words = Seq::new(alloc);
+    words.push(Text::of(alloc, b"-bs")?)?;
+    words.push(Text::of(alloc, b"-Cqueue.cf")?)?;
+    Ok(words)
 }
 
-/// A draft of a message.
-fn drafted(alloc: Global, dir: &Text) -> Result<Draft>
-    ensures can { IfOk result (IsDraftable (dir.now ∷ [])) }
-    ensures alone { IfOk result (λ draft. draft.control.parent ≡ None) }
-{
-    let Some(control) = parse(&Text::of(alloc, CONTROL)?)? else {
-        bail!("the sample can't be read");
+/// The configuration: nothing but its defaults.
+fn files(alloc: Global) -> Result<MemFiles> {
+    let mut files = Seq::new(alloc);
+    files.push((Text::of(alloc, b"queue.cf")?, Text::of(alloc, b"S5\n")?))?;
+    let Some(sure) = SureFiles::new(files) else {
+        bail!("a large text");
     };
-    ensure!(control.parent.is_none(), "the sample is no child");
-    Ok(Draft {
-        id: None,
-        dir: dir.copy()?,
-        control,
-    })
+    Ok(MemFiles::new(sure, Seq::new(alloc)))
 }
 
-fn commit_all<D: Spool>(
-    alloc: Global,
-    spool: &mut D,
-    queue: &mut Queue,
-    draft: &Draft,
-    count: u32,
-) -> Result<()>
-    requires agrees { IfSome (D.seen spool.old).told (Agrees (seen queue.old)) }
-    requires can { IsDraftable (seen queue.old).dirs draft.now }
-    requires alone { draft.now.control.parent ≡ None }
-{
-    for _ in 0..count {
-        commit_one(alloc, spool, queue, draft)?;
+/// A floor whose one session says so many messages, a piece each.
+fn floor(alloc: Global, messages: u32) -> Result<ScriptFloor, NoMemory> {
+    let mut steps = Seq::new(alloc);
+    steps.push(Step::Open(Text::of(alloc, b"192.0.2.1")?))?;
+    steps.push(Step::Say(1, Text::of(alloc, b"HELO c.example\r\n")?))?;
+    for _ in 0..messages {
+        steps.push(Step::Say(1, Text::of(alloc, MESSAGE)?))?;
+    }
+    Ok(ScriptFloor::new(alloc, steps, Seq::new(alloc), Seq::new(alloc)))
+}
+
+fn serve(alloc: Global, spool: &mut MemSpool, messages: u32) -> Result<()> {
+    let words = words(alloc)?;
+    let mut files = files(alloc)?;
+    let mut floor = floor(alloc, messages)?;
+    let mut clock = MemClock::new(1_767_225_600, 0);
+    let mut input = MemSource::new(Text::new(alloc), Seq::new(alloc));
+    let mut output = MemSink::new(alloc, Seq::new(alloc));
+    let outcome = sendmail(
+        alloc,
+        &words,
+        &mut files,
+        spool,
+        &mut floor,
+        &mut clock,
+        &mut input,
+        &mut output,
+    );
+    if outcome.status() != 0 {
+        bail!("the session isn't served");
     }
     Ok(())
-}
-
-fn commit_one<D: Spool>(
-    alloc: Global,
-    spool: &mut D,
-    queue: &mut Queue,
-    draft: &Draft,
-) -> Result<()>
-    requires agrees { IfSome (D.seen spool.old).told (Agrees (seen queue.old)) }
-    requires can { IsDraftable (seen queue.old).dirs draft.now }
-    requires alone { draft.now.control.parent ≡ None }
-    ensures agrees { OnOk result (IfSome (D.seen spool.new).told (Agrees (seen queue.new))) }
-    ensures dirs { OnOk result ((seen queue.new).dirs ≡ (seen queue.old).dirs) }
-{
-    let none = Seq::new(alloc);
-    let body = Text::of(alloc, BODY)?;
-    let parcel = queue.prepare(&none, draft, body)?;
-    match queue.commit(spool, parcel) {
-        Ok(_id) => Ok(()),
-        Err(_fault) => bail!("a commit failed"),
-    }
 }
