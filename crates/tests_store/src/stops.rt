@@ -210,7 +210,7 @@ fn is_told(alloc: Global, call: u64) -> Result<bool, StoreFault> {
     let did = opens_and_commits(alloc, &mut spool);
     let is_last = spool.calls() == call.saturating_add(1);
     let count = entries_in(alloc, &mut spool)?;
-    Ok(is_last && did != Ok(true) && (count == Some(0) || count == Some(3)))
+    Ok(is_last && !matches!(did, Ok(true)) && (count == Some(0) || count == Some(3)))
 }
 
 // The first call that isn't told so: the listing, and the nine of the commit.
