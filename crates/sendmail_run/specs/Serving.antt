@@ -45,8 +45,8 @@ pub record IsLeftAlone (a b : Seen) : Type 0 where
   pub spool : Reads a.spool b.spool
   pub spool_faults : b.spool.faults ≡ a.spool.faults
 
--- a queue was opened at most: whatever table the files stand for, they stand for it at the end and in
--- each image, and nothing is changed but what an opening tidies (`IsTidied`)
+-- a queue was opened at most: whatever table the files stand for, they stand for it at the end and
+-- in each image, and nothing is changed but what an opening tidies (`IsTidied`)
 pub record IsTakenOver (dirs : List (List ℕ)) (old new : Spooled) : Type 0 where
   pub stands : (table : Table)
       → Moves old new (StandsFor dirs table) (StandsFor dirs table) (StandsFor dirs table)
@@ -65,9 +65,9 @@ pub record IsUnserved (site : Site) (a b : Seen) : Type 0 where
 abbrev pub from_id : ℕ → Table → Table
 from_id next table = record { entries = table.entries; next = next }
 
--- a run over the queue: the first free id is that of the files where they are told, which is greater
--- than each of theirs; and it is a run over some table, which they stand for, and over every table
--- which they stand for, each with that first free id
+-- a run over the queue: the first free id is that of the files where they are told, which is
+-- greater than each of theirs; and it is a run over some table, which they stand for, and over
+-- every table which they stand for, each with that first free id
 pub record IsOverQueue (site : Site) (a : Seen) (Run : Table → Type 0) : Type 0 where
   pub next : ℕ
   pub first : IfSome a.spool.told (λ f. IsNext (dirs_of site) f next)

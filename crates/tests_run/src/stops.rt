@@ -22,7 +22,8 @@ const ANOTHER_MESSAGE: &[u8] =
 
 const REFUSALS: &[u8] =
     b"RCPT TO:<ann@mx.example>\r\nDATA\r\nHELO c.example\r\nMAIL FROM:<bob@c.example> SIZE=9\r\n\
-        MAIL FROM:<bob@c.example>\r\nDATA\r\nRCPT TO:<ann@mx.example>\r\nRCPT TO:<cid@mx.example>\r\n\
+        MAIL FROM:<bob@c.example>\r\nDATA\r\nRCPT TO:<ann@mx.example>\r\n\
+        RCPT TO:<cid@mx.example>\r\n\
         VRFY ann\r\nDATA\r\nSubject: hi\r\n\r\nhello\r\n.\r\nDATA\r\nQUIT\r\n";
 
 const TO_MID_DATA: &[u8] =
@@ -30,8 +31,9 @@ const TO_MID_DATA: &[u8] =
         Subject: hi\r\n\r\nhello\r\n.\r\nMAIL FROM:<bob@c.example>\r\nRCPT TO:<ann@mx.example>\r\n\
         DATA\r\nSubject: hi\r\n\r\nag";
 
-// The sessions of a queue, each of a run of its own, of which the floor's turn of that number fails;
-// the bodies of their messages; and how many changing calls they take where nothing stops them.
+// The sessions of a queue, each of a run of its own, of which the floor's turn of that number
+// fails; the bodies of their messages; and how many changing calls they take where nothing stops
+// them.
 #[derive(Clone, Copy)]
 struct History {
     sessions: &'static [&'static [u8]],
@@ -143,8 +145,8 @@ impl History {
         None
     }
 
-    // Whether an image of a stop, once it is opened, has the messages that were acknowledged, and at
-    // most one more.
+    // Whether an image of a stop, once it is opened, has the messages that were acknowledged, and
+    // at most one more.
     fn is_right(&self, alloc: Global, image: &mut MemSpool, last: u64) -> Result<bool, Fail> {
         let mut floor = script_floor(alloc, b"QUIT\r\n", 65_536, &[], &[])?;
         let status = status_over(alloc, image, &mut floor)?;
