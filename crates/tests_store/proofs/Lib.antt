@@ -1,1 +1,2 @@
 mod SampleLemmas
+mod NextLemmas

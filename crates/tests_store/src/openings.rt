@@ -17,7 +17,7 @@ type Held = (usize, u8, u8, u64, u8);
 const MAPS: usize = 25;
 
 static BODY: &[u8] = b"hello\r\n";
-// An entry with an open row, and the same at revision 2, without an open row, and with a dead one.
+// An entry with an open row, and the same at revision 2.
 static OPEN: &[u8] =
     b"V1\nv1\ngmqueue\nT1767225600\nK0\nN0\nP30022\nc0\nS<bob@c.example>\n$rESMTP\n$sc.example\n\
         ${client_addr}\nRPFD:<ann@mx.example>\neQ\nHSubject: hi\n.\n";
@@ -26,11 +26,13 @@ static SECOND: &[u8] =
     b"V1\nv2\ngmqueue\nT1767225600\nK0\nN0\nP30022\nc0\nS<bob@c.example>\n$rESMTP\n$sc.example\n\
         ${client_addr}\nRPFD:<ann@mx.example>\neQ\nHSubject: hi\n.\n";
 
-static DONE: &[u8] =
+/// The same without an open row.
+pub(crate) static DONE: &[u8] =
     b"V1\nv2\ngmqueue\nT1767225600\nK0\nN1\nP30022\nc0\nS<bob@c.example>\n$rESMTP\n$sc.example\n\
         ${client_addr}\nRPFD:<ann@mx.example>\neS\nHSubject: hi\n.\n";
 
-static DEAD: &[u8] =
+/// The same with a dead row.
+pub(crate) static DEAD: &[u8] =
     b"V1\nv2\ngmqueue\nT1767225600\nK0\nN1\nP30022\nc0\nFbd\nS<>\n$rESMTP\n$sc.example\n\
         ${client_addr}\nRPFD:<ann@mx.example>\neD 5.1.1 no\nHSubject: hi\n.\n";
 // Children of the entry 1 at revisions 1 and 2, and one of itself.

@@ -1,5 +1,5 @@
 //! A commit of an entry with two children, stopped after each number of changing calls and inside
-//! each: every image is opened again.
+//! each: every image is opened, and opened again.
 
 ghost use Rattle.std.specs.Prelude.{◌≡◌, All, IfOk, IfSome, None, OnOk};
 ghost use Rattle.qf_format.specs.Valid.{IsValid};
@@ -15,13 +15,15 @@ use spool_disk::{File, MemSpool, Spool, StopSpool};
 use spool_store::{Parcel, Queue};
 use std::alloc::Global;
 
-static CONTROL: &[u8] =
+/// A control text of an entry with an open row.
+pub(crate) static CONTROL: &[u8] =
     b"V1\nv1\ngmqueue\nT1767225600\nK0\nN0\nP30022\nc0\nS<bob@c.example>\n$rESMTP\n$sc.example\n\
         ${client_addr}\nRPFD:<ann@mx.example>\neQ\nHSubject: hi\n.\n";
 
-static BODY: &[u8] = b"hello\r\n";
+/// The body of each entry.
+pub(crate) static BODY: &[u8] = b"hello\r\n";
 
-fn dirs(alloc: Global) -> Result<Seq<Text>, NoMemory>
+pub(crate) fn dirs(alloc: Global) -> Result<Seq<Text>, NoMemory>
     ensures { IfOk result (λ dirs. dirs ≡ sample_dirs) }
 {
     let mut dirs = Seq::new(alloc);
@@ -29,16 +31,16 @@ fn dirs(alloc: Global) -> Result<Seq<Text>, NoMemory>
     Ok(dirs)
 }
 
-fn dir(alloc: Global) -> Result<Text, NoMemory>
+pub(crate) fn dir(alloc: Global) -> Result<Text, NoMemory>
     ensures { IfOk result (λ dir. dir ≡ sample_dir) }
 {
     Text::of(alloc, b"q")
 }
 
-fn parsed(alloc: Global) -> Result<Option<Control>, NoMemory>
+fn parsed(alloc: Global, text: &[u8]) -> Result<Option<Control>, NoMemory>
     ensures { IfOk result (λ r. IfSome r IsValid) }
 {
-    parse(&Text::of(alloc, CONTROL)?)
+    parse(&Text::of(alloc, text)?)
 }
 
 // A draft of an entry that is no child.
@@ -58,12 +60,13 @@ fn draft_of(dir: Text, control: Control) -> Draft
     }
 }
 
-fn drafted(alloc: Global) -> Result<Option<Draft>, NoMemory>
+/// A draft of an entry of that control text that is no child.
+pub(crate) fn drafted(alloc: Global, text: &[u8]) -> Result<Option<Draft>, NoMemory>
     ensures can { IfOk result (λ r. IfSome r (IsDraftable sample_dirs)) }
     ensures alone { IfOk result (λ r. IfSome r (λ d. d.control.parent ≡ None)) }
 {
     let dir = dir(alloc)?;
-    match parsed(alloc)? {
+    match parsed(alloc, text)? {
         Some(control) => Ok(Some(draft_of(dir, control))),
         None => Ok(None),
     }
@@ -74,13 +77,14 @@ fn add_child(alloc: Global, children: &mut Seq<Draft>) -> Result<(), NoMemory>
     ensures { All (IsDraftable sample_dirs) children.old
         → OnOk result (All (IsDraftable sample_dirs) children.new) }
 {
-    match drafted(alloc)? {
+    match drafted(alloc, CONTROL)? {
         Some(draft) => children.push(draft),
         None => Ok(()),
     }
 }
 
-fn two_children(alloc: Global) -> Result<Seq<Draft>, NoMemory>
+/// Drafts of two children.
+pub(crate) fn two_children(alloc: Global) -> Result<Seq<Draft>, NoMemory>
     ensures { IfOk result (All (IsDraftable sample_dirs)) }
 {
     let mut children = Seq::new(alloc);
@@ -107,8 +111,30 @@ fn ready(
     queue.prepare(children, parent, body)
 }
 
-// Commits it, or tells that it wasn't committed.
+/// Commits an entry with its children.
 #[tactic(auto, using(crate::proofs::SampleLemmas::room_agrees))]
+pub(crate) fn commit_drafts<D: Spool>(
+    spool: &mut D,
+    queue: &mut Queue,
+    children: &Seq<Draft>,
+    parent: &Draft,
+) -> Result<(), StoreFault>
+    requires agrees { IfSome (D.seen spool.old).told (Agrees (seen queue.old)) }
+    requires dirs { (seen queue.old).dirs ≡ sample_dirs }
+    requires children { All (IsDraftable sample_dirs) children.now }
+    requires parent { IsDraftable sample_dirs parent.now }
+    requires alone { parent.now.control.parent ≡ None }
+    ensures agrees { OnOk result (IfSome (D.seen spool.new).told (Agrees (seen queue.new))) }
+{
+    let body = Text::of(children.allocator(), BODY)?;
+    let parcel = ready(queue, children, parent, body)?;
+    match queue.commit(spool, parcel) {
+        Ok(_id) => Ok(()),
+        Err(_fault) => Err(StoreFault::SpoolFault),
+    }
+}
+
+// Commits an entry with two children.
 fn commit_them<D: Spool>(
     alloc: Global,
     spool: &mut D,
@@ -117,13 +143,11 @@ fn commit_them<D: Spool>(
     requires agrees { IfSome (D.seen spool.old).told (Agrees (seen queue.old)) }
     requires dirs { (seen queue.old).dirs ≡ sample_dirs }
 {
-    let body = Text::of(alloc, BODY)?;
     let children = two_children(alloc)?;
-    let Some(parent) = drafted(alloc)? else {
+    let Some(parent) = drafted(alloc, CONTROL)? else {
         return Ok(false);
     };
-    let parcel = ready(queue, &children, &parent, body)?;
-    Ok(queue.commit(spool, parcel).is_ok())
+    Ok(commit_drafts(spool, queue, &children, &parent).is_ok())
 }
 
 // Opens the spool, and commits it.
@@ -137,15 +161,15 @@ fn is_whole(file: &File) -> bool {
     file.name.bytes().first() != Some(&b'd') || file.bytes.bytes() == BODY
 }
 
-// Whether so many files are there, and the bodies among them whole.
-fn are_whole(spool: &MemSpool, count: usize) -> Result<bool, NoMemory> {
+/// How many files are there, if the bodies among them are whole.
+pub(crate) fn whole_files(spool: &MemSpool) -> Result<Option<usize>, NoMemory> {
     let files = spool.files()?;
     for file in files.items() {
         if !is_whole(file) {
-            return Ok(false);
+            return Ok(None);
         }
     }
-    Ok(files.len() == count)
+    Ok(Some(files.len()))
 }
 
 // How many entries an image has once it is opened, if each has its files whole and no other is
@@ -153,8 +177,17 @@ fn are_whole(spool: &MemSpool, count: usize) -> Result<bool, NoMemory> {
 fn entries_in(alloc: Global, image: &mut MemSpool) -> Result<Option<usize>, StoreFault> {
     let queue = Queue::open(alloc, image, &dirs(alloc)?)?;
     let count = queue.entries().len();
-    if are_whole(image, count.saturating_mul(2))? {
+    if whole_files(image)? == Some(count.saturating_mul(2)) {
         return Ok(Some(count));
+    }
+    Ok(None)
+}
+
+// The same of an image that is opened, and opened again.
+fn entries_twice(alloc: Global, image: &mut MemSpool) -> Result<Option<usize>, StoreFault> {
+    let count = entries_in(alloc, image)?;
+    if entries_in(alloc, image)? == count {
+        return Ok(count);
     }
     Ok(None)
 }
@@ -162,7 +195,7 @@ fn entries_in(alloc: Global, image: &mut MemSpool) -> Result<Option<usize>, Stor
 // Whether each image of a stop has the three entries, or none where they weren't acknowledged.
 fn all_right(alloc: Global, spool: &StopSpool, is_told: bool) -> Result<bool, StoreFault> {
     for mut image in spool.images()?.into_vec() {
-        let count = entries_in(alloc, &mut image)?;
+        let count = entries_twice(alloc, &mut image)?;
         if count != Some(3) && (is_told || count != Some(0)) {
             return Ok(false);
         }
@@ -209,7 +242,7 @@ fn is_told(alloc: Global, call: u64) -> Result<bool, StoreFault> {
     let mut spool = failing_at(alloc, call)?;
     let did = opens_and_commits(alloc, &mut spool);
     let is_last = spool.calls() == call.saturating_add(1);
-    let count = entries_in(alloc, &mut spool)?;
+    let count = entries_twice(alloc, &mut spool)?;
     Ok(is_last && !matches!(did, Ok(true)) && (count == Some(0) || count == Some(3)))
 }
 

@@ -1,0 +1,96 @@
+-- The next control of an entry can take its place, and can be committed with children.
+use Rattle.std.proofs.Common.{◌≡◌, ◌≤◌, ℕ, ◌+◌, ◌<◌, ◌^◌, List, [], ◌∷◌, None, Option, Some, Result, Ok, Err, refl, sym, ap, ◌∙◌, subst, arith, Contains}
+use Rattle.std.specs.Prelude.{All, IfOk, IfSome}
+use Rattle.std.proofs.lemmas.List.Elements.{All-contains, All-weaker}
+use Rattle.mail_base.specs.declared.control.Control.{Control}
+use Rattle.mail_base.specs.declared.control.Draft.{Draft}
+use Rattle.mail_base.specs.declared.fault.StoreFault.{StoreFault}
+use Rattle.qf_format.specs.Room.{SameTexts, addresses, room_of}
+use Rattle.qf_format.specs.Sheets.{Sheet}
+use Rattle.qf_format.specs.Valid.{IsRevision, IsValid}
+use Rattle.spool_disk.specs.Disk.{FileMap}
+use Rattle.spool_store.specs.Keepers.{CanReplace, raised, seen}
+use Rattle.spool_store.specs.Parcels.{CanPrepareUnder, IsParcelUnder, IsReadyUnder}
+use Rattle.spool_store.specs.Queue.{IsLive, IsRead, Spot, alone, child}
+use Rattle.spool_store.specs.Stores.{Agrees, StoreSeen, spot_at}
+use Rattle.spool_store.specs.Writes.{IsDraftable}
+use Rattle.spool_store.specs.declared.held.Held.{Held}
+use Rattle.spool_store.specs.declared.parcel.Parcel.{Parcel}
+use Rattle.spool_store.specs.declared.queue.Queue.{Queue}
+use Rattle.tests_store.specs.Nexts.{AreSound, HasOpen, IsNext, next_draft}
+use Rattle.tests_store.specs.Samples.{sample_dirs}
+
+live_read : {dirs : List (List ℕ)} {f : FileMap} {s : Spot} {c : Control} → IsLive dirs f s c → IsRead dirs f s c
+live_read (alone s c read strange parent) = read
+live_read (child s c p above d read strange under live least) = read
+
+-- the entries of a store that agrees with files
+agrees_sound : (store : StoreSeen) (f : FileMap) → Agrees store f → AreSound store
+agrees_sound store f a = All-weaker (λ (h : Held). IsLive store.dirs f (spot_at h) h.entry.control) (λ (h : Held). IsDraftable store.dirs (record { id = None; dir = h.entry.dir; control = h.entry.control })) (λ h live. let read = live_read live in record { among = read.there.spot.among; valid = read.says.valid }) store.entries a.each
+
+pub sound_ok : (r : Result Queue StoreFault) (f : FileMap) → IfOk r (λ q. Agrees (seen q) f) → IfOk r (λ q. AreSound (seen q))
+sound_ok (Ok q) f a = agrees_sound (seen q) f a
+sound_ok (Err e) f a = tt
+
+raised_range : (r : ℕ) → IsRevision r → IsRevision (raised r)
+raised_range r v = record { least = grind (arith, v.least); most = grind (arith, v.most) }
+
+raised_valid : (c : Control) → IsValid c → IsValid (record c { revision = raised c.revision })
+raised_valid c v = record {
+  revision_range = raised_range c.revision v.revision_range;
+  parent_form = v.parent_form;
+  group_form = v.group_form;
+  created_range = v.created_range;
+  last_try_range = v.last_try_range;
+  tries_range = v.tries_range;
+  priority_range = v.priority_range;
+  class_range = v.class_range;
+  sender_form = v.sender_form;
+  kept_form = v.kept_form;
+  rows_form = v.rows_form;
+  headers_form = v.headers_form;
+}
+
+pub can_replace : (store : StoreSeen) (id n k : ℕ) (c : Control) (paper : Sheet) → AreSound store → HasOpen store.entries id → n ≡ id → ((h : Held) → Contains store.entries h → h.entry.id ≡ id → c ≡ h.entry.control) → (paper.bytes ≡ []) × (room_of c ≤ paper.room) → k ≡ raised c.revision → CanReplace store.entries n (record c { revision = k }) paper
+can_replace store id n k c paper sound o known same sheet next =
+    let h : Held = o.held in
+    let e : c ≡ h.entry.control = same h o.among o.is in
+    let can = All-contains (λ (h : Held). IsDraftable store.dirs (record { id = None; dir = h.entry.dir; control = h.entry.control })) store.entries h sound o.among in
+    record {
+      held = h;
+      among = o.among;
+      is = o.is ∙ sym known;
+      open_row = o.open_row;
+      valid = subst (λ (r : ℕ). IsValid (record c { revision = r })) (sym next) (raised_valid c (subst (λ (q : Control). IsValid q) (sym e) can.valid));
+      texts = record {
+        group = ap (λ (q : Control). q.group) e;
+        sender = ap (λ (q : Control). q.sender) e;
+        kept = ap (λ (q : Control). q.kept) e;
+        addresses = ap (λ (q : Control). addresses q.rows) e;
+        headers = ap (λ (q : Control). q.headers) e;
+      };
+      parent = ap (λ (q : Control). q.parent) e;
+      revision = next ∙ ap (λ (q : Control). raised q.revision) e;
+      empty = sheet.0;
+      fits = subst (λ (q : Control). room_of q ≤ paper.room) e sheet.1;
+    }
+
+pub can_prepare_under : (store : StoreSeen) (children : List Draft) (parent : Draft) → store.dirs ≡ sample_dirs → All (IsDraftable sample_dirs) children → AreSound store → IsNext store.entries parent → CanPrepareUnder store.dirs store.entries children parent
+can_prepare_under store children parent e each sound next =
+    let h : Held = next.held in
+    let can = All-contains (λ (h : Held). IsDraftable store.dirs (record { id = None; dir = h.entry.dir; control = h.entry.control })) store.entries h sound next.among in
+    subst (λ (d : Draft). CanPrepareUnder store.dirs store.entries children d) (sym next.is) (record {
+      each = subst (λ (q : List (List ℕ)). All (IsDraftable q) children) (sym e) each;
+      head = record { among = can.among; valid = raised_valid h.entry.control can.valid };
+      held = h;
+      among = next.among;
+      named = refl;
+      follows = record { dir = refl; parent = refl; revision = refl; open_row = next.open_row };
+    })
+
+-- what was made ready so
+pub ready_under_ok : (r : Result Parcel StoreFault) (store : StoreSeen) (entries : List Held) (children : List Draft) (parent : Draft) (body : List ℕ) → IsNext entries parent → IfOk r (λ parcel. (id : ℕ) → parent.id ≡ Some id → IsParcelUnder store id children parent body parcel) → IfOk r (IsReadyUnder store)
+ready_under_ok (Ok parcel) store entries children parent body next is =
+    let made = is next.held.entry.id (ap (λ (d : Draft). d.id) next.is) in
+    record { id = next.held.entry.id; children = children; parent = parent; is = subst (λ (b : List ℕ). IsParcelUnder store next.held.entry.id children parent b parcel) (sym made.body_is) made }
+ready_under_ok (Err e) store entries children parent body next is = tt
