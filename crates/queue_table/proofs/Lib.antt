@@ -1,2 +1,5 @@
 mod OrderLemmas
 mod PriorityLemmas
+mod EntryLemmas
+mod GoingLemmas
+mod CommandLemmas

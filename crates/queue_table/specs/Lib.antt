@@ -1,2 +1,6 @@
 pub mod Priorities
 pub mod Order
+pub mod Directories
+pub mod Results
+pub mod Commands
+pub mod Soundness

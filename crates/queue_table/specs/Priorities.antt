@@ -26,9 +26,14 @@ priority_of factors size class rows tries =
     (pos size -ℤ class *ℤ pos factors.class +ℤ pos (rows * factors.recipient)
     +ℤ pos (tries * factors.retry))
 
+-- what a try makes of a priority
+abbrev pub retried : Factors → ℤ → ℤ
+retried factors priority = within_128 (priority +ℤ pos factors.retry)
+
 -- 22 bytes with a recipient, the same after a try, and one of a class of its own with two
 example :
     (priority_of (factors_of default_options) 22 (pos 0) 1 0 ≡ pos 30_022)
     × (priority_of (factors_of default_options) 22 (pos 0) 1 1 ≡ pos 120_022)
     × (priority_of (factors_of default_options) 100 (pos 100) 2 0 ≡ negsuc 119_899)
-example = (refl, refl, refl)
+    × (retried (factors_of default_options) (pos 30_022) ≡ pos 120_022)
+example = (refl, refl, refl, refl)

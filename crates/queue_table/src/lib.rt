@@ -1,10 +1,13 @@
-//! The message table over the store of the queue: the order in which its entries are tried.
+//! The message table over the store of the queue: its commands, and the order in which its entries
+//! are tried.
 #![tactic(auto)]
 
 mod factors;
 mod law;
 mod order;
+mod terms;
 
 pub use factors::{Factors, priority};
-pub use law::entries_are_ordered;
+pub use law::{commands_follow, entries_are_ordered, rows_go_on};
 pub use order::{before, due};
+pub use terms::Terms;
