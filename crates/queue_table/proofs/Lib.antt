@@ -2,4 +2,5 @@ mod OrderLemmas
 mod PriorityLemmas
 mod EntryLemmas
 mod GoingLemmas
+mod SoundLemmas
 mod CommandLemmas

@@ -19,6 +19,12 @@ pub fn commands_follow()
         → applied table (some ++ more) ≡ applied (applied table some) more }
 {}
 
+/// Each command that may be asked keeps a table sound.
+pub fn commands_keep_soundness()
+    ensures { (table : Table) (command : Command) → IsSound table → CanDo table command
+        → IsSound (after table command) }
+{}
+
 /// In a command no entry or row is taken out, each row goes only where it may, and new entries have
 /// the ids from the first free one on.
 pub fn rows_go_on()

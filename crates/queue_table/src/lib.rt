@@ -8,6 +8,6 @@ mod order;
 mod terms;
 
 pub use factors::{Factors, priority};
-pub use law::{commands_follow, entries_are_ordered, rows_go_on};
+pub use law::{commands_follow, commands_keep_soundness, entries_are_ordered, rows_go_on};
 pub use order::{before, due};
 pub use terms::Terms;
