@@ -1,19 +1,14 @@
 -- Entries in order of id, and the entry of an id.
-use Rattle.std.proofs.Common.{◌≡◌, ◌⊎◌, inl, inr, ⊎_elim, ℕ, zero, suc, ◌+◌, ◌<◌, ◌≤◌, List, [], ◌∷◌, ◌++◌, map, length, Some, None, Option, Bool, true, false, if◌then◌else◌, refl, sym, ◌∙◌, ap, subst, arith, eq-eqb, Contains, Less}
+use Rattle.std.proofs.Common.{◌≡◌, ◌⊎◌, inl, inr, ⊎_elim, ℕ, zero, suc, ◌<◌, List, [], ◌∷◌, map, length, Some, Bool, true, false, if◌then◌else◌, refl, sym, ◌∙◌, ap, subst, arith, eq-eqb, Contains, Less}
 use Rattle.std.specs.Prelude.{All, eqb}
 use Rattle.std.specs.List.{AllByRecursion, AllZip, slice_index_or}
 use Rattle.std.specs.List.Sorted.{IsStrictlySortedBy}
 use Rattle.std.specs.Ordering.{nat_cmp}
-use Rattle.std.specs.Cmp.{nat_cmp_is}
 use Rattle.std.proofs.lemmas.Bool.{eqb-true}
 use Rattle.std.proofs.lemmas.Cmp.{ranked}
-use Rattle.std.proofs.lemmas.List.Elements.{All-contains, All-weaker, All-head, All-tail, All-nil, All-cons}
+use Rattle.std.proofs.lemmas.List.Elements.{All-contains, All-nil, All-cons}
 use Rattle.mail_base.specs.declared.control.Control.{Control}
-use Rattle.mail_base.specs.declared.control.Draft.{Draft}
-use Rattle.spool_store.specs.Entries.{Stored, ids, replaced, with_control}
-use Rattle.spool_store.specs.Stores.{IsHeld}
-use Rattle.spool_store.specs.Writes.{numbered, stored}
-use Rattle.spool_store.specs.declared.held.Held.{Held}
+use Rattle.spool_store.specs.Entries.{Stored, ids, replaced}
 use Rattle.queue_table.specs.Commands.{control_at}
 
 -- the first of a list, and what is in the rest
@@ -64,21 +59,6 @@ found id (x ∷ xs) s h k e = ⊎_elim
     (λ (f : eqb x.id id ≡ false). at_later (eqb x.id id) id x xs f ∙ found id xs s (sorted_tail x xs h) later e)
     (decided (eqb x.id id)))
     (contains_cases x s xs k)
-
--- what a store holds is in the table
-pub is_stored : (hs : List Held) (ss : List Stored) (h : Held) → AllZip IsHeld hs ss → Contains hs h → (s : Stored) × Contains ss s × IsHeld h s
-is_stored [] ss h z k = absurd (omega (arith, k.1))
-is_stored (x ∷ hs) [] h z k = absurd z
-is_stored (x ∷ hs) (y ∷ ss) h z k = ⊎_elim
-    (λ (first : x ≡ h). (y, contains_head y ss, subst (λ (q : Held). IsHeld q y) first z.0))
-    (λ (later : Contains hs h). let m = is_stored hs ss h z.1 later in (m.0, contains_tail y m.0 ss m.1, m.2))
-    (contains_cases x h hs k)
-
--- the control that a store holds under an id is the one that the table has
-pub held_control : (hs : List Held) (ss : List Stored) (h : Held) (id : ℕ) → AllZip IsHeld hs ss → IsStrictlySortedBy nat_cmp (ids ss) → Contains hs h → h.entry.id ≡ id → control_at id ss ≡ Some h.entry.control
-held_control hs ss h id z up k is =
-    let m = is_stored hs ss h z k in
-    found id ss m.0 up m.1 (sym m.2.id ∙ is) ∙ ap (λ (c : Control). Some c) (sym m.2.control)
 
 -- an id is that of one entry
 one_entry : (xs : List Stored) (s t : Stored) → IsStrictlySortedBy nat_cmp (ids xs) → Contains xs s → Contains xs t → s.id ≡ t.id → s ≡ t

@@ -1,5 +1,5 @@
 -- Each command leaves a sound table.
-use Rattle.std.proofs.Common.{◌≡◌, ⊎_elim, ℕ, zero, suc, ◌+◌, ◌-◌, ◌<◌, ◌≤◌, ◌^◌, min, List, [], ◌∷◌, ◌++◌, map, length, Option, Some, None, Bool, true, false, if◌then◌else◌, true≢false, refl, sym, ◌∙◌, ap, subst, arith, eq-eqb, Contains, Less}
+use Rattle.std.proofs.Common.{◌≡◌, ⊎_elim, ℕ, zero, suc, ◌+◌, ◌-◌, ◌<◌, ◌≤◌, ◌^◌, List, [], ◌∷◌, ◌++◌, map, length, Option, Some, None, Bool, true, false, if◌then◌else◌, true≢false, refl, sym, ◌∙◌, ap, subst, arith, eq-eqb, Contains, Less}
 use Rattle.std.specs.Prelude.{All, IfSome, eqb, sum_by}
 use Rattle.std.specs.List.{AllByRecursion}
 use Rattle.std.specs.List.Sorted.{IsStrictlySortedBy}
@@ -27,7 +27,7 @@ use Rattle.spool_store.specs.Writes.{numbered, stored, heir}
 use Rattle.queue_table.specs.Commands.{Command, after, brought, new_row, draft_of, drafts_of, with_children}
 use Rattle.queue_table.specs.Commands.Command.{Accept, Record, Return, Warn}
 use Rattle.queue_table.specs.Results.{is_old, recorded, restated, state_after, with_results, given_back, with_returns, with_warning}
-use Rattle.queue_table.specs.Soundness.{AreBounces, AreCuts, CanDo, HasEntry, IsBack, IsBounce, IsHeir, IsMeant, IsSound, IsSoundEntry}
+use Rattle.queue_table.specs.Soundness.{AreBounces, AreCuts, CanDo, HasEntry, IsBounce, IsHeir, IsMeant, IsSound, IsSoundEntry}
 use Rattle.queue_table.specs.declared.terms.Terms.{Terms}
 use Rattle.queue_table.proofs.EntryLemmas.{changed_each, contains_cases, contains_head, contains_tail}
 use Rattle.queue_table.proofs.GoingLemmas.{at_entry}

@@ -1,6 +1,6 @@
 -- What a command makes of the rows of an entry (Sendmail Installation and Operation Guide, the
 -- options Timeout.queuereturn and Timeout.queuewarn; RFC 3463 for the status 4.4.7).
-use Rattle.std.specs.Prelude.{◌≡◌, ℕ, zero, suc, ◌+◌, List, [], ◌∷◌, map, Bool, true, false, nat_le, None, Some, codes, refl}
+use Rattle.std.specs.Prelude.{◌≡◌, ℕ, zero, suc, ◌+◌, List, [], ◌∷◌, map, Bool, true, false, nat_le, Some, codes, refl}
 use Rattle.mail_base.specs.declared.control.Control.{Control}
 use Rattle.mail_base.specs.declared.control.Row.{Row}
 use Rattle.mail_base.specs.declared.control.State.{State}
