@@ -32,10 +32,13 @@ fn text_of<R: rt::Files + Alloc<A = Global>>(rt: &R, over: Option<&str>) -> Resu
     }
 }
 
+/// The number of the first line: all have seven digits, so that twice the lines are twice the bytes.
+const FIRST: u32 = 1_000_008;
+
 /// Lines of all letters, each of them with a name of its own.
 fn lines(alloc: Global, count: u32) -> Result<Text, NoMemory> {
     let mut text = Text::new(alloc);
-    for number in 0..count {
+    for number in FIRST..FIRST.saturating_add(count) {
         let line = line(alloc, number)?;
         text.extend(line.as_bytes())?;
     }
@@ -47,10 +50,10 @@ fn line(alloc: Global, number: u32) -> Result<String, NoMemory> {
         0 => format!(in alloc; "Sset{number}\n")?,
         1 | 2 => format!(in alloc; "R$* . name{number} < @ $- >\t$@ $1 . $2\tcomment\n")?,
         3 => format!(in alloc; "D{{macro{number}}}value # of its own\n")?,
-        4 => format!(in alloc; "C{{class{number}}} one two${{macro3}}\n")?,
+        4 => format!(in alloc; "C{{class{number}}} one two${{macro1000011}}\n")?,
         5 => format!(in alloc; "Cw host{number}.example\n")?,
         6 => format!(in alloc; "Kmap{number} hash -o -a<OK> /etc/mail/map{number}\n")?,
-        7 => format!(in alloc; "Kall{number} sequence host map6\n")?,
+        7 => format!(in alloc; "Kall{number} sequence host map1000014\n")?,
         8 => format!(in alloc; "Mmailer{number}, P=/bin/mail, F=lsDFMn,\n\tA=mail -d $u\n")?,
         9 => format!(in alloc; "Qgroup{number}, Path=/q/{number}, r=100\n")?,
         10 => format!(in alloc; "H?P?X-{number}: $x\n\tand more\n")?,
