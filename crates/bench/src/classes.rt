@@ -1,15 +1,13 @@
 //! Extends one class by so many lines of one member each, 10,000 where that is left out, and tells
 //! how many members it has then.
 
+use crate::number::number_or;
 use anyhow::Result;
 use mail_base::{Classes, Member, NoMemory, Seq, Text, Token};
 use std::alloc::Global;
 
 pub(crate) fn answer(alloc: Global, lines: Option<&str>, rounds: u32) -> Result<String> {
-    let lines = match lines {
-        Some(lines) => lines.parse()?,
-        None => 10_000u32,
-    };
+    let lines = number_or(lines, 10_000)?;
     let mut members = 0;
     for _ in 0..rounds {
         members = extended(alloc, lines)?;

@@ -1,6 +1,7 @@
 //! Parses and prints a control text of so many rows, 10,000 where that is left out, and tells how
 //! many bytes it has.
 
+use crate::number::number_or;
 use anyhow::{Result, ensure};
 use mail_base::{NoMemory, Text};
 use qf_format::{parse, print};
@@ -15,10 +16,7 @@ const ROW: &[u8] = b"RPFD:<ann@mx.example>\neF 5.1.1 550 user unknown\n";
 const END: &[u8] = b"HSubject: hi\n.\n";
 
 pub(crate) fn answer(alloc: Global, rows: Option<&str>, rounds: u32) -> Result<String> {
-    let rows = match rows {
-        Some(rows) => rows.parse()?,
-        None => 10_000u32,
-    };
+    let rows = number_or(rows, 10_000)?;
     ensure!(rows > 0, "an entry has at least one row");
     let bytes = repeat(alloc, rows, rounds)?;
     Ok(format!(in alloc; "{bytes} bytes")?)

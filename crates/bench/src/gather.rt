@@ -4,6 +4,7 @@
 
 ghost use Rattle.std.specs.Prelude.{◌<◌};
 
+use crate::number::number_or;
 use anyhow::{Result, ensure};
 use mail_base::{MOST_MESSAGE, NoMemory, Seq, Text};
 use mail_header::Gathering;
@@ -18,10 +19,7 @@ pub(crate) enum Part {
 }
 
 pub(crate) fn answer(alloc: Global, part: Part, size: Option<&str>, rounds: u32) -> Result<String> {
-    let size = match size {
-        Some(size) => size.parse()?,
-        None => 65_536usize,
-    };
+    let size = number_or(size, 65_536)? as usize;
     ensure!(size > 0, "a piece has at least one byte");
     let message = message(alloc, part)?;
     let kept = feed(alloc, &message, size, rounds)?;

@@ -3,16 +3,14 @@
 
 ghost use Rattle.std.specs.Prelude.{◌<◌};
 
+use crate::number::number_or;
 use anyhow::{Result, ensure};
 use mail_base::NoMemory;
 use smtp_lines::Lines;
 use std::alloc::Global;
 
 pub(crate) fn answer(alloc: Global, size: Option<&str>, rounds: u32) -> Result<String> {
-    let size = match size {
-        Some(size) => size.parse()?,
-        None => 65_536usize,
-    };
+    let size = number_or(size, 65_536)? as usize;
     ensure!(size > 0, "a piece has at least one byte");
     let lines = feed(alloc, size, rounds)?;
     Ok(format!(in alloc; "{lines} lines")?)

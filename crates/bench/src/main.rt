@@ -12,6 +12,7 @@ mod gather;
 mod lines;
 mod maps;
 mod matches;
+mod number;
 mod queue;
 mod receipt;
 mod rules;

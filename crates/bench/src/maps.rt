@@ -1,16 +1,14 @@
 //! Loads a hash map's file of so many lines, 100,000 where that is left out, and looks so many of
 //! its keys up, and tells how many were found.
 
+use crate::number::number_or;
 use anyhow::Result;
 use mail_base::{Config, Macros, MapClass, MapLine, NoMemory, Seq, Text};
 use map_tables::{Found, Maps, Named};
 use std::alloc::Global;
 
 pub(crate) fn answer(alloc: Global, lines: Option<&str>, rounds: u32) -> Result<String> {
-    let lines = match lines {
-        Some(lines) => lines.parse()?,
-        None => 100_000u32,
-    };
+    let lines = number_or(lines, 100_000)?;
     let maps = maps_of(alloc, lines)?;
     let found = looked_up(alloc, &maps, lines, rounds)?;
     Ok(format!(in alloc; "{found} found")?)

@@ -5,6 +5,7 @@
 
 ghost use Rattle.std.specs.Prelude.{◌≡◌, IfOk, length};
 
+use crate::number::number_or;
 use anyhow::{Result, bail};
 use link_edge::{ScriptFloor, Step};
 use mail_base::{Id, Kind, NoMemory, Seq, Text};
@@ -26,14 +27,14 @@ const MESSAGE: &[u8] = b"MAIL FROM:<bob@c.example>\r\nRCPT TO:<ann@mx.example>\r
         Subject: hi\r\n\r\nhello\r\n.\r\n";
 
 pub(crate) fn commits(alloc: Global, entries: Option<&str>, rounds: u32) -> Result<String> {
-    let mut spool = spool_of(alloc, count_of(entries)?)?;
+    let mut spool = spool_of(alloc, number_or(entries, 1_000)?)?;
     serve(alloc, &mut spool, rounds)?;
     let calls = spool.calls();
     Ok(format!(in alloc; "{rounds} messages by {calls} calls")?)
 }
 
 pub(crate) fn opening(alloc: Global, entries: Option<&str>, rounds: u32) -> Result<String> {
-    let mut spool = spool_of(alloc, count_of(entries)?)?;
+    let mut spool = spool_of(alloc, number_or(entries, 1_000)?)?;
     let mut dirs = Seq::new(alloc);
     dirs.push(Text::of(alloc, DIR)?)?;
     let mut count = 0;
@@ -41,13 +42,6 @@ pub(crate) fn opening(alloc: Global, entries: Option<&str>, rounds: u32) -> Resu
         count = Queue::open(alloc, &mut spool, &dirs)?.entries().len();
     }
     Ok(format!(in alloc; "{count} entries")?)
-}
-
-fn count_of(entries: Option<&str>) -> Result<u32> {
-    match entries {
-        Some(entries) => Ok(entries.parse()?),
-        None => Ok(1_000),
-    }
 }
 
 /// A spool in which so many entries stand, each in its two files.

@@ -1,6 +1,7 @@
 //! Makes a ruleset of so many rules of different anchors, 3,000 where that is left out, and tells
 //! how many it has.
 
+use crate::number::number_or;
 use anyhow::{Result, bail};
 use mail_base::{
     Go, Item, NoMemory, Pattern, Piece, Rule, RuleSet, Seq, Step, Template, Text, Token,
@@ -9,10 +10,7 @@ use rule_index::build;
 use std::alloc::Global;
 
 pub(crate) fn answer(alloc: Global, rules: Option<&str>, rounds: u32) -> Result<String> {
-    let rules = match rules {
-        Some(rules) => rules.parse()?,
-        None => 3_000u32,
-    };
+    let rules = number_or(rules, 3_000)?;
     let mut count = 0;
     for _ in 0..rounds {
         count = set_of(alloc, rules)?.count();

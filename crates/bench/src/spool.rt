@@ -1,16 +1,14 @@
 //! Writes so many entries into a spool in memory, 500 where that is left out, each as two files, of
 //! a body and of a control text. Then it reads each file once, and tells how many bytes they are.
 
+use crate::number::number_or;
 use anyhow::{Result, bail};
 use mail_base::{Seq, Text};
 use spool_disk::{MemSpool, Spool};
 use std::alloc::Global;
 
 pub(crate) fn answer(alloc: Global, entries: Option<&str>, rounds: u32) -> Result<String> {
-    let entries = match entries {
-        Some(entries) => entries.parse()?,
-        None => 500u32,
-    };
+    let entries = number_or(entries, 500)?;
     let mut bytes = 0;
     for _ in 0..rounds {
         bytes = written_and_read(alloc, entries)?;
