@@ -1,7 +1,7 @@
 use mail_base::{
     Book, Buckets, Catalog, Classes, Config, DaemonPort, Go, Group, HeaderLine, Item, Mailer,
     MapClass, MapLine, Member, NoMemory, Options, Pattern, Piece, Precedence, Rule, RuleSet, Seq,
-    Step, Template, Text, Token, TryCopy,
+    Step, Template, Text, Token, TryCopy, texts_of,
 };
 use std::alloc::Global;
 use std::test::Fail;
@@ -36,14 +36,6 @@ fn presets_stand_before_any_line(rt: HostRuntime) -> Result<(), Fail> {
     Ok(())
 }
 
-fn words(alloc: Global, words: &[&[u8]]) -> Result<Seq<Text>, NoMemory> {
-    let mut texts = Seq::new(alloc);
-    for word in words {
-        texts.push(Text::of(alloc, word)?)?;
-    }
-    Ok(texts)
-}
-
 fn smtp(alloc: Global) -> Result<Mailer, NoMemory> {
     Ok(Mailer {
         name: Text::new(alloc),
@@ -56,7 +48,7 @@ fn smtp(alloc: Global) -> Result<Mailer, NoMemory> {
         header_to: None,
         most: 0,
         group: Some(Text::of(alloc, b"bulk")?),
-        args: words(alloc, &[b"TCP", b"$h"])?,
+        args: texts_of(alloc, &[b"TCP", b"$h"])?,
         batch: 100,
     })
 }
@@ -243,7 +235,7 @@ fn add_rule(alloc: Global, set: &mut RuleSet) -> Result<(), Fail> {
 }
 
 fn add_ruleset(alloc: Global, book: &mut Book) -> Result<(), Fail> {
-    let names = words(alloc, &[b"parse"])?;
+    let names = texts_of(alloc, &[b"parse"])?;
     let mut set = RuleSet::of(names, Buckets::new(alloc));
     add_rule(alloc, &mut set)?;
     Ok(book.push(set)?)

@@ -1,18 +1,10 @@
 use mail_base::{
     Back, Cause, Control, Cut, Draft, Draw, Entry, Id, Kept, Marks, Message, NoMemory, Note,
     Outcomes, Parent, Resolved, Result1, RouteError, Row, Seq, Split, State, Status, Stray, Text,
-    Triple, TryCopy,
+    Triple, TryCopy, texts_of,
 };
 use std::alloc::Global;
 use std::test::Fail;
-
-fn texts(alloc: Global, words: &[&[u8]]) -> Result<Seq<Text>, NoMemory> {
-    let mut texts = Seq::new(alloc);
-    for word in words {
-        texts.push(Text::of(alloc, word)?)?;
-    }
-    Ok(texts)
-}
 
 fn status(bytes: &[u8]) -> Result<Status, Fail> {
     Ok(Status::of(bytes).ok_or("no status")?)
@@ -302,7 +294,7 @@ fn child(alloc: Global) -> Result<Control, Fail> {
         eight: true,
         sender: Text::of(alloc, b"<>")?,
         rows: rows(alloc)?,
-        headers: texts(alloc, &[b"Subject: hi"])?,
+        headers: texts_of(alloc, &[b"Subject: hi"])?,
         kept: kept(alloc)?,
     })
 }
