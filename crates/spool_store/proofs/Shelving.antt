@@ -1,13 +1,15 @@
 -- Entries in order of id: a search among them, and what a change does.
-use Rattle.std.proofs.Common.{◌≡◌, ◌≢◌, ⊎_elim, ℕ, ◌+◌, ◌-◌, ◌<◌, ◌≤◌, List, [], ◌∷◌, ◌++◌, map, length, get_or, set, Bool, true, if◌then◌else◌, Result, Ok, Err, IfOk, IfErr, refl, sym, ◌∙◌, ap, subst, arith, eq-eqb, ne_eqb, Contains}
-use Rattle.std.specs.Prelude.{All}
-use Rattle.std.specs.List.Sorted.{IsSearchInRange, IsBinarySearchResult, IsNonDecreasingBy}
+use Rattle.std.proofs.Common.{◌≡◌, ◌≢◌, ⊎_elim, Less, ℕ, suc, ◌+◌, ◌-◌, ◌<◌, ◌≤◌, List, [], ◌∷◌, ◌++◌, map, length, get_or, set, Bool, true, if◌then◌else◌, Result, Ok, Err, IfOk, IfErr, refl, sym, ◌∙◌, ap, subst, arith, eq-eqb, ne_eqb, Contains}
+use Rattle.std.specs.Prelude.{All, AllPairs}
+use Rattle.std.specs.Cmp.{nat_cmp_is}
+use Rattle.std.specs.List.{AllByRecursion}
+use Rattle.std.specs.List.Sorted.{IsSearchInRange, IsBinarySearchResult, IsNonDecreasingBy, IsStrictlySortedBy}
 use Rattle.std.specs.Ordering.{nat_cmp, ordering_index}
 use Rattle.std.proofs.lemmas.Bool.{cases_eq, cases_lt}
 use Rattle.std.proofs.lemmas.Bool.Decides.{nat_tests}
 use Rattle.std.proofs.lemmas.Cmp.{ranked}
 use Rattle.std.proofs.lemmas.List.{length_push, length-set, length-map, get_or_append_left, get_or_push, get_or-map, get_or_default, get_or-set_same, get_or-set_other, ext_get_or}
-use Rattle.std.proofs.lemmas.List.Elements.{All-map, All-push, All-weaker}
+use Rattle.std.proofs.lemmas.List.Elements.{All-head, All-map, All-push, All-tail, All-weaker}
 use Rattle.mail_base.specs.Names.{name_of, digits}
 use Rattle.mail_base.specs.declared.id.Kind.{Kind}
 use Rattle.mail_base.specs.declared.id.Kind.TheVariants.{Df, Qf, Tf, Sf}
@@ -163,3 +165,13 @@ pub only_held : (items : List Held) (id : ℕ) (one : Held) → IsAscending item
 only_held items id one up k is h m has =
     let at : IsPlaceOf items id m.0 = record { within = m.1; has = λ d. ap (λ (q : Held). q.entry.id) (get_or_default items m.0 d h m.1 ∙ m.2) ∙ has } in
     sym m.2 ∙ one_held items id m.0 one up at k is h
+
+-- numbers that ascend are in strict order
+less_sorted : {X : Type 0} (f : X → ℕ) (n : ℕ) (xs : List X) → All (λ x. n < f x) xs → AllByRecursion (λ m. nat_cmp n m ≡ Less) (map f xs)
+less_sorted f n [] h = tt
+less_sorted f n (x ∷ xs) h = (sym (nat_cmp_is n (f x) Less (All-head (λ y. n < f y) x xs h)), less_sorted f n xs (All-tail (λ y. n < f y) x xs h))
+
+pub ascends_sorted : {X : Type 0} (f : X → ℕ) (xs : List X) → AllPairs (λ x y. f x < f y) xs → IsStrictlySortedBy nat_cmp (map f xs)
+unfolding IsStrictlySortedBy
+ascends_sorted f [] up = tt
+ascends_sorted f (x ∷ xs) up = (less_sorted f (f x) xs (λ k d lt. up 0 (suc k) d (omega arith) (omega (arith, lt))), ascends_sorted f xs (λ i j d lt within. up (suc i) (suc j) d (omega (arith, lt)) (omega (arith, within))))

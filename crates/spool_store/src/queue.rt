@@ -1,4 +1,6 @@
-ghost use Rattle.std.specs.Prelude.{◌≡◌, ◌⊎◌, ◌↔◌, ◌+◌, ◌<◌, ◌≤◌, ◌∷◌, [], length, IfOk, IfSome, IsErrOf, OnOk, OnErr, Contains, List, ℕ, Some, None, true, false, Err, map};
+ghost use Rattle.std.specs.Prelude.{◌≡◌, ◌⊎◌, ◌↔◌, ◌+◌, ◌<◌, ◌≤◌, ◌∷◌, [], length, IfOk, IfSome, IsErrOf, OnOk, OnErr, Contains, All, List, ℕ, Some, None, true, false, Err, map};
+ghost use Rattle.std.specs.List.Sorted.{IsStrictlySortedBy};
+ghost use Rattle.std.specs.Ordering.{nat_cmp};
 ghost use Rattle.mail_base.specs.Histories.{HasCause, Rose};
 ghost use Rattle.mail_base.specs.Names.{name_of};
 ghost use Rattle.mail_base.specs.States.{NeedsBody};
@@ -114,11 +116,21 @@ impl Queue {
         })
     }
 
-    /// The entries in order of id. It takes no memory.
+    /// The entries in order of id, each below the first free one. It takes no memory.
     pub fn entries(&self) -> &[Held]
-        ensures { result.now ≡ (seen self.now).entries }
+        ensures is { result.now ≡ (seen self.now).entries }
+        ensures ascending { IsStrictlySortedBy nat_cmp
+            (map (λ h. h.entry.id) (seen self.now).entries) }
+        ensures below { All (λ h. h.entry.id < (seen self.now).next) (seen self.now).entries }
     {
         self.shelf.items()
+    }
+
+    /// Whether each call that takes the spool answers `SpoolFault`. It takes no memory.
+    pub fn is_broken(&self) -> bool
+        ensures { result ≡ (seen self.now).broken }
+    {
+        self.broken
     }
 
     /// The files that the store leaves alone. It takes no memory.
