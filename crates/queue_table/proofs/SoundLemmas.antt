@@ -1,10 +1,8 @@
 -- Each command leaves a sound table.
-use Rattle.std.proofs.Common.{◌≡◌, ⊎_elim, ℕ, zero, suc, ◌+◌, ◌-◌, ◌<◌, ◌≤◌, ◌^◌, List, [], ◌∷◌, ◌++◌, map, length, Option, Some, None, Bool, true, false, if◌then◌else◌, true≢false, refl, sym, ◌∙◌, ap, subst, arith, eq-eqb, Contains, Less}
+use Rattle.std.proofs.Common.{◌≡◌, ⊎_elim, ℕ, zero, suc, ◌+◌, ◌-◌, ◌<◌, ◌≤◌, ◌^◌, List, [], ◌∷◌, ◌++◌, map, length, Option, Some, None, Bool, true, false, if◌then◌else◌, true≢false, refl, sym, ◌∙◌, ap, subst, arith, eq-eqb, Contains}
 use Rattle.std.specs.Prelude.{All, IfSome, eqb, sum_by}
-use Rattle.std.specs.List.{AllByRecursion}
 use Rattle.std.specs.List.Sorted.{IsStrictlySortedBy}
 use Rattle.std.specs.Ordering.{nat_cmp}
-use Rattle.std.specs.Cmp.{nat_cmp_is}
 use Rattle.std.proofs.Math.Nat.{le_trans, le_refl}
 use Rattle.std.proofs.lemmas.List.{append-nil, length-map}
 use Rattle.std.proofs.lemmas.Option.{IfSome_then}
@@ -29,7 +27,10 @@ use Rattle.queue_table.specs.Commands.Command.{Accept, Record, Return, Warn}
 use Rattle.queue_table.specs.Results.{is_old, recorded, restated, state_after, with_results, given_back, with_returns, with_warning}
 use Rattle.queue_table.specs.Soundness.{AreBounces, AreCuts, CanDo, HasEntry, IsBounce, IsHeir, IsMeant, IsSound, IsSoundEntry}
 use Rattle.queue_table.specs.declared.terms.Terms.{Terms}
-use Rattle.queue_table.proofs.EntryLemmas.{changed_each, contains_cases, contains_head, contains_tail}
+use Rattle.spool_store.proofs.Adding.{sorted_append}
+use Rattle.spool_store.proofs.Numbering.{first_ascends, numbered_ascends}
+use Rattle.spool_store.proofs.Standing.{contains_cases, contains_head, contains_tail}
+use Rattle.queue_table.proofs.EntryLemmas.{changed_each}
 use Rattle.queue_table.proofs.GoingLemmas.{at_entry}
 
 -- what is still there of an entry
@@ -94,31 +95,6 @@ raised_more n lt = omega (arith, lt)
 
 raised_fits : (n : ℕ) → raised n < 2 ^ 64
 raised_fits n = omega arith
-
-less_append : (n : ℕ) (xs ys : List Stored) → AllByRecursion (λ y. nat_cmp n y ≡ Less) (ids xs) → All (λ s. n < s.id) ys → AllByRecursion (λ y. nat_cmp n y ≡ Less) (ids (xs ++ ys))
-less_append n [] [] h below = tt
-less_append n [] (y ∷ ys) h below = (sym (nat_cmp_is n y.id Less (All-head (λ (s : Stored). n < s.id) y ys below)), less_append n [] ys tt (All-tail (λ (s : Stored). n < s.id) y ys below))
-less_append n (x ∷ xs) ys h below = (h.0, less_append n xs ys h.1 below)
-
-sorted_append : (xs ys : List Stored) (next : ℕ) → IsStrictlySortedBy nat_cmp (ids xs) → IsStrictlySortedBy nat_cmp (ids ys) → All (λ s. s.id < next) xs → All (λ s. next ≤ s.id) ys → IsStrictlySortedBy nat_cmp (ids (xs ++ ys))
-unfolding IsStrictlySortedBy
-sorted_append [] ys next p q low high = q
-sorted_append (x ∷ xs) ys next p q low high =
-    let lt : x.id < next = All-head (λ (s : Stored). s.id < next) x xs low in
-    (less_append x.id xs ys p.0 (All-weaker (λ (s : Stored). next ≤ s.id) (λ (s : Stored). x.id < s.id) (λ s le. omega (arith, le, lt)) ys high), sorted_append xs ys next p.1 q (All-tail (λ (s : Stored). s.id < next) x xs low) high)
-
-less_numbered : (n id : ℕ) (b : List ℕ) (ds : List Draft) → n < id → AllByRecursion (λ y. nat_cmp n y ≡ Less) (ids (numbered id b ds))
-less_numbered n id b [] lt = tt
-less_numbered n id b (d ∷ ds) lt = (sym (nat_cmp_is n id Less lt), less_numbered n (id + 1) b ds (omega (arith, lt)))
-
-numbered_ascends : (id : ℕ) (b : List ℕ) (ds : List Draft) → IsStrictlySortedBy nat_cmp (ids (numbered id b ds))
-unfolding IsStrictlySortedBy
-numbered_ascends id b [] = tt
-numbered_ascends id b (d ∷ ds) = (less_numbered id (id + 1) b ds (omega arith), numbered_ascends (id + 1) b ds)
-
-first_ascends : (s : Stored) (b : List ℕ) (ds : List Draft) → IsStrictlySortedBy nat_cmp (ids (s ∷ numbered (s.id + 1) b ds))
-unfolding IsStrictlySortedBy
-first_ascends s b ds = (less_numbered s.id (s.id + 1) b ds (omega arith), numbered_ascends (s.id + 1) b ds)
 
 none_ascends : IsStrictlySortedBy nat_cmp (ids [])
 unfolding IsStrictlySortedBy

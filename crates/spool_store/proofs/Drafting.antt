@@ -1,35 +1,14 @@
 -- Parts made of drafts.
-use Rattle.std.proofs.Common.{◌≡◌, ℕ, suc, ◌+◌, ◌<◌, ◌≤◌, List, [], ◌∷◌, ◌++◌, map, length, take, get_or, Some, None, refl, sym, ◌∙◌, ap, subst, arith}
-use Rattle.std.specs.Prelude.{All}
-use Rattle.std.proofs.lemmas.List.Elements.{All-weaker}
+use Rattle.std.proofs.Common.{◌≡◌, ℕ, suc, ◌+◌, ◌<◌, ◌≤◌, List, [], ◌∷◌, ◌++◌, map, length, take, get_or, Some, None, refl, sym, ◌∙◌, ap, arith}
 use Rattle.std.proofs.lemmas.List.{take_more, map_push, length-take-le, length-map}
-use Rattle.mail_base.specs.declared.control.Control.{Control}
 use Rattle.mail_base.specs.declared.control.Draft.{Draft}
 use Rattle.mail_base.specs.declared.control.Entry.{Entry}
 use Rattle.mail_base.specs.declared.control.Parent.{Parent}
-use Rattle.qf_format.specs.Valid.{IsParent, IsValid}
 use Rattle.spool_store.specs.Parts.{entry_of}
 use Rattle.spool_store.specs.Parcels.{CanPrepare, IsParcel}
 use Rattle.spool_store.specs.Stores.{StoreSeen}
-use Rattle.spool_store.specs.Writes.{stored, heir, numbered, IsDraftable}
+use Rattle.spool_store.specs.Writes.{stored, heir, numbered}
 use Rattle.spool_store.specs.declared.part.Part.{Part}
-
--- a valid control is valid with a parent
-pub heir_valid : (c : Control) (p : Parent) → IsValid c → IsParent p → IsValid (record c { parent = Some p })
-heir_valid c p v is = record {
-  revision_range = v.revision_range;
-  parent_form = is;
-  group_form = v.group_form;
-  created_range = v.created_range;
-  last_try_range = v.last_try_range;
-  tries_range = v.tries_range;
-  priority_range = v.priority_range;
-  class_range = v.class_range;
-  sender_form = v.sender_form;
-  kept_form = v.kept_form;
-  rows_form = v.rows_form;
-  headers_form = v.headers_form;
-}
 
 numbered_push : (first : ℕ) (b : List ℕ) (ds : List Draft) (d : Draft) (n : ℕ) → first + length ds ≡ n → numbered first b (ds ++ d ∷ []) ≡ numbered first b ds ++ stored n b d ∷ []
 numbered_push first b [] d n e = λ i. stored ((let q : first ≡ n = omega (arith, e) in q) i) b d ∷ []
@@ -54,13 +33,6 @@ one_heir first next b p drafts i r parts more part lt at all so its =
 pub numbered_long : (id : ℕ) (b : List ℕ) (ds : List Draft) → length (numbered id b ds) ≡ length ds
 numbered_long id b [] = refl
 numbered_long id b (d ∷ ds) = ap suc (numbered_long (id + 1) b ds)
-
--- a valid control of no child is valid without a parent
-pub head_valid : (c : Control) → c.parent ≡ None → IsValid c → IsValid (record c { parent = None })
-head_valid c alone v = subst IsValid (λ i. record c { parent = alone i }) v
-
-pub children_valid : (dirs : List (List ℕ)) (children : List Draft) → All (IsDraftable dirs) children → All (λ d. IsValid d.control) children
-children_valid dirs children each = All-weaker (IsDraftable dirs) (λ (d : Draft). IsValid d.control) (λ d h. h.valid) children each
 
 -- what is made of drafts
 pub parcel_is : (store : StoreSeen) (children : List Draft) (parent : Draft) (body : List ℕ) (parts : List Part) (head : Part) → CanPrepare store.dirs children parent → store.next + 1 + length children ≤ 1_000_000_000_000 → length children + 1 ≤ store.room

@@ -19,6 +19,7 @@ use Rattle.spool_store.specs.declared.held.Held.{Held}
 use Rattle.spool_store.proofs.Carrying.{live_read}
 use Rattle.spool_store.proofs.Finishing.{ended_agrees}
 use Rattle.spool_store.proofs.MovesLemmas.{moves_told, moves_weaker, at_told}
+use Rattle.spool_store.proofs.Readings.{some_of}
 use Rattle.spool_store.proofs.Standing.{contains_head, contains_tail}
 
 -- an entry of which every row is done, in a qf
@@ -29,16 +30,13 @@ done_of store f h a k done queued = record {
   closed = λ is_one. true≢false (sym done ∙ is_one);
 }
 
-some_at : (o : Option (List ℕ)) (b : List ℕ) → o ≡ Some b → IsSome o
-some_at o b e = subst IsSome (sym e) refl
-
 -- the control file of an entry that isn't finished lies at its place
 pub there_of : (o : Option FileMap) (store : StoreSeen) (h : Held) (dir qf : List ℕ) → IfSome o (Agrees store) → Contains store.entries h → h.finished ≡ false → dir ≡ h.entry.dir → qf ≡ name_of Qf h.entry.id → IfSome o (λ files. IsSome (bytes_at files (dir, qf)))
 there_of None store h dir qf agrees k queued in_dir is = tt
 there_of (Some f) store h dir qf a k queued in_dir is =
     let live : IsLive store.dirs f (spot_at h) h.entry.control = All-contains (λ (q : Held). IsLive store.dirs f (spot_at q) q.entry.control) store.entries h a.each k in
     let place : ◌≡◌ {A = Place} (spot_place (spot_at h)) (dir, qf) = λ i. (sym in_dir i, (ap (λ (b : Bool). name_of (kind_of b) h.entry.id) queued ∙ sym is) i) in
-    some_at (bytes_at f (dir, qf)) (live_read live).bytes (ap (bytes_at f) (sym place) ∙ (live_read live).there.there)
+    some_of (bytes_at f (dir, qf)) (live_read live).bytes (ap (bytes_at f) (sym place) ∙ (live_read live).there.there)
 
 -- from each map with which the store agrees
 pub from_agreed_run : (a b : Spooled) (store : StoreSeen) (P S T : FileMap → Type 0) (Q R : FileMap → FileMap → Type 0) → IfSome a.told (Agrees store) → IsRun a b → ((f : FileMap) → Agrees store f → Moves a b (λ g. g ≡ f) (Q f) (R f))
@@ -55,7 +53,7 @@ finish_agrees store f g id h a is done e = subst (λ (n : ℕ). Agrees (record s
 pub filed : (dirs : List (List ℕ)) (f g : FileMap) (h : Held) → IsDone dirs f (spot_at h) h.entry.control → HasFinished dirs f (spot_at h) h.entry.control g → IsFiled h g
 filed dirs f g h done e =
     let gone : bytes_at g (h.entry.dir, name_of Qf h.entry.id) ≡ None = ap (λ (k : Kind). bytes_at g (h.entry.dir, name_of k h.entry.id)) (sym done.kind) ∙ e.ended.gone in
-    record { queued = gone; finished = some_at (bytes_at g (h.entry.dir, name_of Sf h.entry.id)) (live_read done.live).bytes (e.ended.holds ∙ (live_read done.live).there.there); body = e.body }
+    record { queued = gone; finished = some_of (bytes_at g (h.entry.dir, name_of Sf h.entry.id)) (live_read done.live).bytes (e.ended.holds ∙ (live_read done.live).there.there); body = e.body }
 
 -- an entry that has its other name already
 step : (id : ℕ) (h : Held) → (h.entry.id ≡ id → h.finished ≡ true) → refinished id h ≡ h

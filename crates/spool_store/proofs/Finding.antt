@@ -25,10 +25,6 @@ on_ok (Err e) to h = h
 pub none_in : {X : Type 0} (x : X) → Contains [] x → ⊥
 none_in x h = omega (arith, h.1)
 
--- no name adds nothing
-pub adds_none : (i : ℕ) (xs : List Named) → AddsNamed i [] xs xs
-adds_none i xs = record { kept = λ x c. c; each = λ x c. inl c; all = λ kind id within c. absurd (none_in _ c) }
-
 -- a name of a file of the queue adds it
 named : ℕ → Kind → ℕ → Named
 named i kind id = record { dir = i; kind = kind; id = id }
@@ -57,10 +53,6 @@ adds_other i names name old mid other h = record {
   each = λ x c. ⊎_elim (λ (o : Contains old x). inl o) (λ (n : (x.dir ≡ i) × IsId x.id × Contains names (name_of x.kind x.id)). inr (n.0, n.1, Contains-append_left names (name ∷ []) (name_of x.kind x.id) n.2)) (h.each x c);
   all = λ k n w c. ⊎_elim (λ (was : Contains names (name_of k n)). h.all k n w was) (λ (q : name ≡ name_of k n). absurd (other k n q)) (Contains-push_cases names name (name_of k n) c);
 }
-
--- strays
-pub strays_none : (dir : List ℕ) (xs : List Stray) → AddsStrays dir [] xs xs
-strays_none dir xs = record { kept = λ x c. c; each = λ x c. inl c; all = λ name c other. absurd (none_in _ c) }
 
 -- a listed name of a queue file adds no stray
 pub strays_skip : (dir : List ℕ) (names : List (List ℕ)) (name : List ℕ) (kind : Kind) (id : ℕ) (old mid : List Stray) → name ≡ name_of kind id → AddsStrays dir names old mid → AddsStrays dir (names ++ name ∷ []) old mid

@@ -1,17 +1,17 @@
 pub mod MovesLemmas
 mod OpenLemmas
-mod Adding
-mod Carrying
+pub mod Adding
+pub mod Carrying
 mod Committing
 mod Lists
-mod Numbering
+pub mod Numbering
 mod Tidying
 mod Places
 mod Raising
 mod Reading
 mod Replacing
 mod Stages
-mod Standing
+pub mod Standing
 mod Sweeping
 mod Waiting
 mod Verdicts

@@ -5,9 +5,6 @@ use Rattle.std.specs.Cmp.Lexicographic.{bytes_decides}
 use Rattle.spool_disk.specs.Disk.{Place, FileMap, bytes_at, lies_at}
 use Rattle.spool_disk.specs.declared.file.File.{File}
 
-place_of : File → Place
-place_of file = (file.dir, file.name)
-
 both : (a b : Bool) → a ≡ true → b ≡ true → a && b ≡ true
 both true true p q = refl
 both true false p q = absurd (true≢false (sym q))

@@ -74,7 +74,8 @@ moves_none a P Q R to = record {
   kept = λ t x left. left;
 }
 
-becomes_to : (a b : Option FileMap) (P Q S : FileMap → Type 0) → ((f : FileMap) → Q f → S f) → Becomes a b P Q → Becomes a b P S
+-- with less promised of its end
+pub becomes_to : (a b : Option FileMap) (P Q S : FileMap → Type 0) → ((f : FileMap) → Q f → S f) → Becomes a b P Q → Becomes a b P S
 becomes_to None None P Q S to h = tt
 becomes_to None (Some g) P Q S to h = absurd h
 becomes_to (Some f) None P Q S to h = absurd h
@@ -123,10 +124,6 @@ moves_at a b f P Q R p h = record {
 pub ends_to : {T E : Type 0} (r : Result T E) (Q R S V : FileMap → Type 0) → ((f : FileMap) → Q f → S f) → ((f : FileMap) → R f → V f) → (f : FileMap) → Ends r Q R f → Ends r S V f
 ends_to (Ok x) Q R S V to any f h = to f h
 ends_to (Err e) Q R S V to any f h = any f h
-
-pub ends_same : {T E : Type 0} (r : Result T E) (Q : FileMap → Type 0) (f : FileMap) → Ends r Q Q f → Q f
-ends_same (Ok x) Q f h = h
-ends_same (Err e) Q f h = h
 
 -- the same where it is known that they are told
 pub moves_told : (a b : Spooled) (P Q R S T V : FileMap → Type 0) → Moves a b S T V → ((f : FileMap) → a.told ≡ Some f → P f → Moves a b (λ g. g ≡ f) Q R) → Moves a b P Q R

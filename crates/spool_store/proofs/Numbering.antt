@@ -1,6 +1,6 @@
 -- New entries under ids in a row.
-use Rattle.std.proofs.Common.{◌≡◌, ℕ, ◌+◌, ◌<◌, ◌≤◌, List, [], ◌∷◌, map, length, Some, refl, sym, arith, Less}
-use Rattle.std.specs.Prelude.{All}
+use Rattle.std.proofs.Common.{◌≡◌, ℕ, ◌+◌, ◌<◌, ◌≤◌, List, [], ◌∷◌, map, length, Option, Some, refl, sym, arith, Less}
+use Rattle.std.specs.Prelude.{All, IfSome}
 use Rattle.std.specs.List.{AllByRecursion}
 use Rattle.std.specs.List.Sorted.{IsStrictlySortedBy}
 use Rattle.std.specs.Ordering.{nat_cmp}
@@ -8,7 +8,7 @@ use Rattle.std.specs.Cmp.{nat_cmp_is}
 use Rattle.std.proofs.lemmas.List.Elements.{All-nil, All-cons, All-head, All-tail, All-weaker}
 use Rattle.mail_base.specs.declared.control.Control.{Control}
 use Rattle.mail_base.specs.declared.control.Parent.{Parent}
-use Rattle.qf_format.specs.Valid.{IsParent, IsValid}
+use Rattle.qf_format.specs.Valid.{IsParent, IsRevision, IsValid}
 use Rattle.spool_store.specs.Entries.{Stored, ids}
 use Rattle.spool_store.specs.Changes.{IsNew}
 use Rattle.mail_base.specs.declared.control.Draft.{Draft}
@@ -43,11 +43,11 @@ pub first_ascends : (s : Stored) (b : List ℕ) (ds : List Draft) → IsStrictly
 unfolding IsStrictlySortedBy
 first_ascends s b ds = (less_numbered s.id (s.id + 1) b ds (omega arith), numbered_ascends (s.id + 1) b ds)
 
--- a control stays valid under another parent
-heir_valid : (p : Parent) (c : Control) → IsParent p → IsValid c → IsValid (record c { parent = Some p })
-heir_valid p c formed h = record {
-  revision_range = h.revision_range;
-  parent_form = formed;
+-- a control stays valid with another revision and parent
+pub valid_with : (r : ℕ) (p : Option Parent) (c : Control) → IsRevision r → IfSome p IsParent → IsValid c → IsValid (record c { revision = r; parent = p })
+valid_with r p c range form h = record {
+  revision_range = range;
+  parent_form = form;
   group_form = h.group_form;
   created_range = h.created_range;
   last_try_range = h.last_try_range;
@@ -66,5 +66,5 @@ numbered_new dirs next id b p [] formed le most h = All-nil (IsNew dirs next)
 numbered_new dirs next id b p (d ∷ ds) formed le most h =
     let its = All-head (IsDraftable dirs) d ds h in
     All-cons (IsNew dirs next) (stored id b (heir p d)) (numbered (id + 1) b (map (heir p) ds))
-    (record { free = le; within = omega (arith, most); among = its.among; valid = heir_valid p d.control formed its.valid })
+    (record { free = le; within = omega (arith, most); among = its.among; valid = valid_with d.control.revision (Some p) d.control its.valid.revision_range formed its.valid })
     (numbered_new dirs next (id + 1) b p ds formed (omega (arith, le)) (omega (arith, most)) (All-tail (IsDraftable dirs) d ds h))

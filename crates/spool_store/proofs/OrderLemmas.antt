@@ -1,11 +1,9 @@
 -- The entries that an opening tells are in order of id, each once.
-use Rattle.std.proofs.Common.{◌≡◌, ◌≢◌, ◌⊎◌, inl, inr, ⊎_elim, ℕ, ◌+◌, ◌<◌, ◌≤◌, List, [], ◌∷◌, ◌++◌, length, get_or, sym, ◌∙◌, ap, subst, arith, Contains}
+use Rattle.std.proofs.Common.{◌≡◌, ◌⊎◌, inl, inr, ⊎_elim, ℕ, ◌+◌, ◌<◌, ◌≤◌, List, [], ◌∷◌, ◌++◌, length, get_or, sym, ◌∙◌, ap, subst, arith, Contains}
 use Rattle.std.specs.Prelude.{All}
 use Rattle.std.specs.List.Sorted.{IsNonDecreasingBy}
-use Rattle.std.proofs.lemmas.Bool.{cases_lt}
 use Rattle.std.proofs.lemmas.List.{get_or_default}
-use Rattle.std.proofs.lemmas.List.Elements.{All-push, All-weaker, All-contains_itself, Contains-push_cases}
-use Rattle.std.proofs.lemmas.List.Quantifiers.{all_pairs_push}
+use Rattle.std.proofs.lemmas.List.Elements.{All-weaker, All-contains_itself, Contains-push_cases}
 use Rattle.std.proofs.Math.Nat.{le_refl}
 use Rattle.mail_base.specs.declared.control.Control.{Control}
 use Rattle.mail_base.specs.declared.control.Entry.{Entry}
@@ -20,34 +18,9 @@ use Rattle.spool_store.proofs.Standing.{one_live}
 use Rattle.spool_store.proofs.Finding.{none_in}
 use Rattle.spool_store.proofs.TellingLemmas.{told_more}
 
--- the last one
-pub last_is : (es : List Entry) (i : ℕ) (e : Entry) (id : ℕ) → i + 1 ≡ length es → e ≡ get_or es i e → e.id ≡ id → HasEntry es id
-last_is es i e id last is same = record { entry = e; among = (i, omega (arith, last), sym is); is = same }
-
-pub last_less : (es : List Entry) (i : ℕ) (e : Entry) (n id : ℕ) → i + 1 ≡ length es → e ≡ get_or es i e → e.id ≢ id → IsRising es n → n ≤ id → All (λ (q : Entry). q.id < id) es
-last_less es i e n id last is ne h le k d lt = ⊎_elim
-    (λ (l : k < i). let less = h.ascending k i d l (omega (arith, last)) in let most = h.most_is i d (omega (arith, last)) in omega (arith, less, most, le))
-    (λ (g : i ≤ k).
-    let at : k ≡ i = omega (arith, g, lt, last) in
-    let same : get_or es k d ≡ e = ap (λ (j : ℕ). get_or es j d) at ∙ get_or_default es i d e (omega (arith, last)) ∙ sym is in
-    let most = h.most_is k d lt in
-    let its : (get_or es k d).id ≡ e.id = ap (λ (q : Entry). q.id) same in
-    omega (arith, most, le, its, ne))
-    (cases_lt k i)
-
 -- up to an id
 pub rising_to : (es : List Entry) (n m : ℕ) → IsRising es n → n ≤ m → IsRising es m
 rising_to es n m h le = record { ascending = h.ascending; most_is = All-weaker (λ (e : Entry). e.id ≤ n) (λ (e : Entry). e.id ≤ m) (λ e k. omega (arith, k, le)) es h.most_is }
-
-pub rising_more : (old new : List Entry) (n id : ℕ) → All (λ (e : Entry). e.id < id) old → IsRising old n → n ≤ id → IsAdding old new id → IsRising new id
-rising_more old new n id less h le (inl same) = subst (λ (q : List Entry). IsRising q id) (sym same) (rising_to old n id h le)
-rising_more old new n id less h le (inr more) =
-    let e : Entry = more.0 in
-    let k : old ++ e ∷ [] ≡ new = sym more.2 in
-    subst (λ (q : List Entry). IsRising q id) k (record {
-      ascending = all_pairs_push (λ (one : Entry) (another : Entry). one.id < another.id) old e h.ascending (λ i d lt. let its = less i d lt in omega (arith, its, more.1));
-      most_is = All-push (λ (q : Entry). q.id ≤ id) old e (All-weaker (λ (q : Entry). q.id < id) (λ (q : Entry). q.id ≤ id) (λ q l. omega (arith, l)) old less) (omega (arith, more.1));
-    })
 
 -- one that is there already
 pub told_again : (dirs : List (List ℕ)) (f : FileMap) (found : List Found) (x : Found) (c : Control) (out new : List Entry) → IsLive dirs f (spot_named dirs x.named) c → new ≡ out → HasEntry out x.named.id → AreTold dirs f found out → AreTold dirs f (found ++ x ∷ []) new

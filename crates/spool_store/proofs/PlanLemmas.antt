@@ -22,9 +22,8 @@ use Rattle.spool_store.specs.inner.Judging.{AreJudged}
 use Rattle.spool_store.specs.inner.Plans.{Picks, AreDrafts, AreDead, AreDone, AreUnwanted}
 use Rattle.spool_store.specs.inner.Sweeps.{IsDecided, IsDone, IsSweptOf, IsUnwanted, IsWanted, MayFinish, MayGo, a_draft, a_dead, a_body, place_named, places, by_strange, by_live}
 use Rattle.spool_store.proofs.Carrying.{live_read, live_plain, strange_control}
-use Rattle.spool_store.proofs.Standing.{one_live, same_or_twin}
+use Rattle.spool_store.proofs.Standing.{decided, one_live, same_or_twin}
 use Rattle.spool_store.proofs.Reading.{says_one}
-use Rattle.spool_store.proofs.Finding.{none_in}
 use Rattle.spool_store.proofs.Readings.{dir_numbered}
 use Rattle.spool_store.proofs.Judgements.{zip_at}
 use Rattle.spool_store.proofs.Replacing.{contains_map}
@@ -33,10 +32,6 @@ use Rattle.spool_store.proofs.Places.{ids_of, kinds_of}
 use Rattle.spool_store.proofs.Sweeping.{not_of_live}
 use Rattle.spool_store.proofs.SweepLemmas.{gone_dead, of_map, same_place}
 use Rattle.mail_base.specs.Names.{name_of}
-
--- one more, if it is picked
-pub picks_none : {X : Type 0} (n : X → Named) (P Q : X → Type 0) → Picks n P Q [] []
-picks_none n P Q = record { each = λ x c. absurd (none_in x c); all = λ y c. absurd (none_in y c) }
 
 pub picks_by : {X : Type 0} (n : X → Named) (P Q : X → Type 0) (from : List X) (y : X) (b : Bool) (old new : List Named) → (b ≡ true → P y) → (b ≡ false → Q y) → new ≡ (if b then old ++ n y ∷ [] else old) → Picks n P Q from old → Picks n P Q (from ++ y ∷ []) new
 picks_by n P Q from y true old new when unless e h = rw e (record {
@@ -101,10 +96,6 @@ pub record AreGone (dirs : List (List ℕ)) (f : FileMap) (names : List Named) (
 some_or_none : (o : Option (List ℕ)) → (o ≡ None) ⊎ ((b : List ℕ) × (o ≡ Some b))
 some_or_none None = inl refl
 some_or_none (Some b) = inr (b, refl)
-
-decided : (b : Bool) → (b ≡ true) ⊎ (b ≡ false)
-decided true = inl refl
-decided false = inr refl
 
 no_draft : (dirs : List (List ℕ)) (f g : FileMap) (names : List Named) (found : List Found) (done : List Place) → AreNamed dirs f (length dirs) names → AreGone dirs f names found done → IsSweptOf dirs f done g → (dir : List ℕ) (id : ℕ) → Contains dirs dir → IsId id → bytes_at g (at dir Tf id) ≡ None
 no_draft dirs f g names found done hn gone swept dir id among within = ⊎_elim
@@ -301,10 +292,6 @@ unwanted_none dirs f found x h none = record {
 pub not_false : (b : Bool) → not b ≡ false → b ≡ true
 not_false true e = refl
 not_false false e = absurd (true≢false e)
-
-pub not_true : (b : Bool) → not b ≡ true → b ≡ false
-not_true true e = absurd (true≢false (sym e))
-not_true false e = refl
 
 -- drafts that are picked of names lie in the same directories
 pub drafts_within : (n : ℕ) (names drafts : List Named) → AreDrafts names drafts → ((x : Named) → Contains names x → x.dir < n) → (x : Named) → Contains drafts x → x.dir < n

@@ -18,10 +18,6 @@ dir_among dirs i lt = (i, lt, get_or_default dirs i (dir_at dirs i) [] lt)
 pub dir_numbered : (dirs : List (List ℕ)) (dir : List ℕ) → Contains dirs dir → (i : ℕ) × (i < length dirs) × (dir_at dirs i ≡ dir)
 dir_numbered dirs dir c = (c.0, c.1, get_or_default dirs c.0 [] dir c.1 ∙ c.2)
 
--- one file is read
-pub found_none : (dirs : List (List ℕ)) (f : FileMap) (named : Named) (old : List Found) → bytes_at f (spot_place (spot_named dirs named)) ≡ None → AddsFound dirs f named old old
-found_none dirs f named old none = record { kept = λ x c. c; each = λ x c. inl c; all = λ some. absurd (let z = subst (λ (q : Option (List ℕ)). IsSome q) none some in cc z) }
-
 -- a control file that was read adds its meaning to what was found
 pub found_more : (dirs : List (List ℕ)) (f : FileMap) (named : Named) (x : Found) (bytes : List ℕ) (old new : List Found) → IsSpot dirs (spot_named dirs named) → bytes_at f (spot_place (spot_named dirs named)) ≡ Some bytes → x.named ≡ named → IsMeaning bytes x.control → new ≡ old ++ x ∷ [] → AddsFound dirs f named old new
 found_more dirs f named x bytes old new spot there is means e = rw e (record {
@@ -58,8 +54,13 @@ read_skip dirs f names named old not_control h = record {
       (Contains-push_cases names named x c);
 }
 
--- a control file that is there was named
-some_of : (o : Option (List ℕ)) (b : List ℕ) → o ≡ Some b → IsSome o
+-- a file that is there has bytes
+pub some_bytes : (o : Option (List ℕ)) → IsSome o → (b : List ℕ) × (o ≡ Some b)
+some_bytes None h = absurd (cc h)
+some_bytes (Some b) h = (b, refl)
+
+-- a file that has bytes is there
+pub some_of : (o : Option (List ℕ)) (b : List ℕ) → o ≡ Some b → IsSome o
 some_of o b e = subst (λ (q : Option (List ℕ)). IsSome q) (sym e) refl
 
 -- all control files are read

@@ -20,6 +20,7 @@ use Rattle.spool_store.specs.declared.verdict.Verdict.{Verdict}
 use Rattle.spool_store.specs.inner.Plans.{Stays, its_name}
 use Rattle.spool_store.specs.inner.Sweeps.{IsSweptOf, Never}
 use Rattle.spool_store.proofs.Finding.{none_in}
+use Rattle.spool_store.proofs.MovesLemmas.{becomes_to, moves_told}
 use Rattle.spool_store.proofs.Readings.{read_found}
 use Rattle.spool_store.proofs.SweepLemmas.{moves_read}
 use Rattle.spool_store.proofs.Sweeping.{tidied_none, swept_clean}
@@ -41,22 +42,6 @@ found_within n names xs ys p among within y c = within y.named (among y (Contain
 pub found_among : (names shown : List Named) (xs ys : List Found) → shown ≡ names → IsPermutation xs ys → AreAmong shown xs → AreAmong names ys
 found_among names shown xs ys e p among = λ y c. subst (λ (q : List Named). Contains q y.named) e (among y (Contains-permutation ys xs y (IsPermutation-sym xs ys p) c))
 
--- what is so of the end
-becomes_to : (a b : Option FileMap) (P Q S : FileMap → Type 0) → ((f : FileMap) → Q f → S f) → Becomes a b P Q → Becomes a b P S
-becomes_to None None P Q S to h = tt
-becomes_to None (Some g) P Q S to h = absurd h
-becomes_to (Some f) None P Q S to h = absurd h
-becomes_to (Some f) (Some g) P Q S to h = λ p. to g (h p)
-
--- calls that lead somewhere lead to what follows from it
-pub moves_to : (a b : Spooled) (P Q R S : FileMap → Type 0) → ((f : FileMap) → Q f → S f) → Moves a b P Q R → Moves a b P S R
-moves_to a b P Q R S to h = record { later = h.later; now = becomes_to a.told b.told P Q S to h.now; images = h.images; kept = h.kept }
-
--- an end in a fact is one in what follows from it
-pub ends_to : {T E : Type 0} (r : Result T E) (Q R S : FileMap → Type 0) → ((f : FileMap) → Q f → S f) → (f : FileMap) → Ends r Q R f → Ends r S R f
-ends_to (Ok x) Q R S to f h = to f h
-ends_to (Err e) Q R S to f h = h
-
 -- an end in either fact is one in the weaker
 pub ends_in : {T E : Type 0} (r : Result T E) (Q R : FileMap → Type 0) → ((f : FileMap) → Q f → R f) → (f : FileMap) → Ends r Q R f → R f
 ends_in (Ok x) Q R to f h = to f h
@@ -66,35 +51,6 @@ ends_in (Err e) Q R to f h = h
 pub swept_start : (dirs : List (List ℕ)) (f : FileMap) → IsSweptOf dirs f [] f
 swept_start dirs f = record { tidied = tidied_none dirs f; gone = λ p c. absurd (none_in p c) }
 
--- from what each told map comes to
-becomes_told : (a c : Option FileMap) (P Q : FileMap → Type 0) → Becomes a c Never Never → ((f : FileMap) → a ≡ Some f → P f → Becomes a c (λ g. g ≡ f) Q) → Becomes a c P Q
-becomes_told None None P Q steps h = tt
-becomes_told None (Some g) P Q steps h = absurd steps
-becomes_told (Some f) None P Q steps h = absurd steps
-becomes_told (Some f) (Some g) P Q steps h = λ p. h f refl p refl
-
-pub moves_told : (a c : Spooled) (P Q R : FileMap → Type 0) → Moves a c Never Never Never → ((f : FileMap) → a.told ≡ Some f → P f → Moves a c (λ g. g ≡ f) Q R) → Moves a c P Q R
-moves_told a c P Q R steps h = record {
-  later = steps.later;
-  now = becomes_told a.told c.told P Q steps.now (λ f e p. (h f e p).now);
-  images = λ f e p t x le left. (h f e p).images f e refl t x le left;
-  kept = steps.kept;
-}
-
-becomes_at : (a b : Option FileMap) (f : FileMap) (P Q : FileMap → Type 0) → P f → Becomes a b P Q → Becomes a b (λ g. g ≡ f) Q
-becomes_at None None f P Q p h = tt
-becomes_at None (Some g) f P Q p h = absurd h
-becomes_at (Some d) None f P Q p h = absurd h
-becomes_at (Some d) (Some g) f P Q p h = λ e. h (subst P (sym e) p)
-
-pub moves_at : (a b : Spooled) (f : FileMap) (P Q R : FileMap → Type 0) → P f → Moves a b P Q R → Moves a b (λ g. g ≡ f) Q R
-moves_at a b f P Q R p h = record {
-  later = h.later;
-  now = becomes_at a.told b.told f P Q p h.now;
-  images = λ d e q t x le left. h.images d e (subst P (sym q) p) t x le left;
-  kept = h.kept;
-}
-
 becomes_both : (a b : Option FileMap) (P Q S : FileMap → Type 0) → ((f g : FileMap) → P f → Q g → S g) → Becomes a b P Q → Becomes a b P S
 becomes_both None None P Q S to h = tt
 becomes_both None (Some g) P Q S to h = absurd h
@@ -103,7 +59,7 @@ becomes_both (Some f) (Some g) P Q S to h = λ p. to f g p (h p)
 
 -- each map that it may leave stands for the same table
 pub stands_moves : (a b : Spooled) (dirs : List (List ℕ)) (table : Table) → Moves a b Never Never Never → ((f : FileMap) → a.told ≡ Some f → Moves a b (λ g. g ≡ f) (IsTidied dirs f) (IsTidied dirs f)) → Moves a b (StandsFor dirs table) (StandsFor dirs table) (StandsFor dirs table)
-stands_moves a b dirs table steps h = moves_told a b (StandsFor dirs table) (StandsFor dirs table) (StandsFor dirs table) steps (λ f e p. record {
+stands_moves a b dirs table steps h = moves_told a b (StandsFor dirs table) (StandsFor dirs table) (StandsFor dirs table) Never Never Never steps (λ f e p. record {
   later = steps.later;
   now = becomes_both a.told b.told (λ g. g ≡ f) (IsTidied dirs f) (StandsFor dirs table) (λ d g q tidied. tidied_stands dirs table f g tidied p) (h f e).now;
   images = λ d i q t x le left. ⊎_elim (λ before. inl before) (λ (r : IsTidied dirs f x). inr (tidied_stands dirs table f x r p)) ((h f e).images d i q t x le left);

@@ -15,7 +15,7 @@ use Rattle.mail_base.specs.declared.id.Kind.{Kind}
 use Rattle.mail_base.specs.declared.id.Kind.TheVariants.{Df, Qf, Tf, Sf}
 use Rattle.mail_base.specs.declared.control.Control.{Control}
 use Rattle.spool_store.specs.declared.held.Held.{Held}
-use Rattle.spool_store.specs.Stores.{HasId, IsAscending, IsPlaceOf, recontrolled, refinished}
+use Rattle.spool_store.specs.Stores.{IsAscending, IsPlaceOf, recontrolled, refinished}
 
 -- a name has 15 bytes
 pub name_long : (kind : Kind) (n : ℕ) → length (name_of kind n) ≡ 15
@@ -151,10 +151,6 @@ refinished_id id h = ⊎_elim
     (λ (e : h.entry.id ≡ id). ap (λ (b : Bool). (if b then record h { finished = true } else h).entry.id) (eq-eqb h.entry.id id e))
     (λ (ne : h.entry.id ≢ id). ap (λ (b : Bool). (if b then record h { finished = true } else h).entry.id) (ne_eqb h.entry.id id ne))
     (cases_eq h.entry.id id)
-
--- no entry of an id, against one
-pub none_has : (items : List Held) (id : ℕ) → HasId items id → All (λ h. h.entry.id ≢ id) items → ⊥
-none_has items id has none = none has.among.0 has.held has.among.1 (ap (λ (q : Held). q.entry.id) has.among.2 ∙ has.is)
 
 -- what is shown at the place of an id is its entry
 pub held_is : (items shown : List Held) (id place : ℕ) (d h : Held) → shown ≡ items → IsAscending items → IsPlaceOf items id place → Contains items h → h.entry.id ≡ id → get_or shown place d ≡ h

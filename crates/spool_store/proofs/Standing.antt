@@ -6,22 +6,21 @@ use Rattle.std.specs.List.Sorted.{IsStrictlySortedBy}
 use Rattle.std.specs.Ordering.{nat_cmp}
 use Rattle.std.specs.Cmp.Lexicographic.{bytes_decides}
 use Rattle.std.proofs.lemmas.Cmp.{ranked}
-use Rattle.std.proofs.lemmas.List.Elements.{All-contains, All-weaker, All-cons, All-nil}
+use Rattle.std.proofs.lemmas.List.Elements.{All-contains, All-cons, All-nil}
 use Rattle.mail_base.specs.declared.id.Kind.{Kind}
 use Rattle.mail_base.specs.declared.id.Kind.TheVariants.{Df, Qf, Tf, Sf}
 use Rattle.mail_base.specs.Names.{name_of}
-use Rattle.spool_disk.specs.Disk.{FileMap, bytes_at, IsSame}
+use Rattle.spool_disk.specs.Disk.{FileMap, bytes_at}
 use Rattle.mail_base.specs.declared.control.Control.{Control}
 use Rattle.mail_base.specs.States.{NeedsBody}
-use Rattle.spool_store.specs.Queue.{Spot, spot_place, body_place, IsControl, IsRead, twice, IsLive, HasTwin}
-use Rattle.spool_store.specs.Alike.{AreAlike}
+use Rattle.spool_store.specs.Queue.{Spot, IsControl, IsRead, twice, IsLive, HasTwin}
 use Rattle.spool_store.specs.Entries.{Stored, Table, ids, IsSameEntry, AreSameEntries}
 use Rattle.spool_store.specs.Settled.{spot_of, HasFiles, StandsFor}
 use Rattle.spool_store.proofs.Reading.{one_control}
-use Rattle.spool_store.proofs.Carrying.{live_read, live_plain, live_alike, alike_back}
+use Rattle.spool_store.proofs.Carrying.{live_read, live_plain}
 
--- spots are the same or apart
-decided : (b : Bool) → (b ≡ true) ⊎ (b ≡ false)
+-- a test is true or false
+pub decided : (b : Bool) → (b ≡ true) ⊎ (b ≡ false)
 decided true = inl refl
 decided false = inr refl
 
@@ -69,21 +68,6 @@ pub one_live : (dirs : List (List ℕ)) (f : FileMap) (s t : Spot) (c d : Contro
 one_live dirs f s t c d live other e =
     let q : t ≡ s = one_spot dirs f s t c (live_read other).bytes live (live_read other).there e in
     (q, one_control dirs f s c d (live_read live) (subst (λ (r : Spot). IsRead dirs f r d) q (live_read other)))
-
--- what is the same at control files and at the bodies of their ids stands for the same tables
-pub stands_alike : (dirs : List (List ℕ)) (table : Table) (f g : FileMap) → AreAlike dirs (λ id. Unit {0}) f g → StandsFor dirs table f → StandsFor dirs table g
-stands_alike dirs table f g h s = record {
-  ascending = s.ascending;
-  each = All-weaker (HasFiles dirs f) (HasFiles dirs g) (λ e has. record {
-    kind = has.kind;
-    live = live_alike dirs (λ id. Unit {0}) f g h (spot_of has.kind e) e.control tt has.live;
-    body = λ needs. h.bodies (spot_of has.kind e) e.control tt (live_read has.live) needs ∙ has.body needs;
-  }) table.entries s.each;
-  all = λ q c live. s.all q c (live_alike dirs (λ id. Unit {0}) g f (alike_back dirs (λ id. Unit {0}) f g h) q c tt live);
-}
-
-pub same_stands : (dirs : List (List ℕ)) (table : Table) (f g : FileMap) → IsSame f g → StandsFor dirs table f → StandsFor dirs table g
-same_stands dirs table f g h = stands_alike dirs table f g (record { controls = λ s spot kept. h (spot_place s); bodies = λ s c kept read needs. h (body_place s); up = λ s c p kept read e lt. tt })
 
 -- lists in order of id
 pub contains_head : {X : Type 0} (x : X) (xs : List X) → Contains (x ∷ xs) x

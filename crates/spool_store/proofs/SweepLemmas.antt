@@ -28,7 +28,7 @@ use Rattle.spool_store.proofs.Tidying.{Went, stayed, went, origin, read_back, we
 use Rattle.spool_store.proofs.Sweeping.{tidied_unchanged, drop_draft, drop_body, drop_control, move_live}
 use Rattle.spool_store.proofs.Finding.{none_in}
 use Rattle.spool_store.proofs.Places.{kinds_of}
-use Rattle.spool_store.proofs.Readings.{dir_among}
+use Rattle.spool_store.proofs.Readings.{dir_among, some_bytes}
 use Rattle.spool_store.proofs.MovesLemmas.{moves_call, moves_join, moves_none}
 
 -- what is known of the told map
@@ -169,14 +169,9 @@ places_more dirs done xs i x lt is =
     ∙ ap (λ (q : List Place). done ++ q) (map-append (place_named dirs) (take i xs) (x ∷ []))
     ∙ sym (append_assoc done (places dirs (take i xs)) (place_named dirs x ∷ []))
 
--- a live qf none of whose rows is open takes its other name
-there_bytes : (o : Option (List ℕ)) → IsSome o → (b : List ℕ) × (o ≡ Some b)
-there_bytes None h = absurd (cc h)
-there_bytes (Some b) h = (b, refl)
-
 renamed_by : (dirs : List (List ℕ)) (f g h : FileMap) (done : List Place) (x : Named) → MayFinish dirs f done x → IsSome (bytes_at g (place_named dirs x)) → IsSweptOf dirs f done g → HasRenamed (place_named dirs x) (spot_place (as_kind Sf (spot_named dirs x))) g h → IsSweptOf dirs f (done ++ place_named dirs x ∷ []) h
 renamed_by dirs f g h done x may there swept r =
-    let b = there_bytes (bytes_at g (place_named dirs x)) there in
+    let b = some_bytes (bytes_at g (place_named dirs x)) there in
     let spot = (live_read may.entry.live).there.spot in
     record {
       tidied = move_live dirs f g h (spot_named dirs x) may.entry.control (record { kind = may.entry.kind; live = may.entry.live; closed = may.entry.closed; bytes = b.0; there = record { spot = spot; there = b.1 }; renamed = r }) swept.tidied;

@@ -147,9 +147,6 @@ sf_spot dirs s spot = record { among = spot.among; kind = inr refl; within = spo
 pub elsewhere : (dirs : List (List ℕ)) (f g h : FileMap) (s : Spot) (c : Control) → IsMove dirs f g h s c → (t : Spot) → IsSpot dirs t → t ≢ s → t ≢ as_kind Sf s → bytes_at h (spot_place t) ≡ bytes_at g (spot_place t)
 elsewhere dirs f g h s c m t spot ne nor = m.renamed.others (spot_place t) (apart_at dirs s t m.there.spot spot ne) (apart_at dirs (as_kind Sf s) t (sf_spot dirs s m.there.spot) spot nor)
 
-kind_apart : (s t : Spot) (k j : Kind) → s.kind ≡ k → t.kind ≡ j → k ≢ j → s ≢ t
-kind_apart s t k j p q ne = λ e. ne (sym p ∙ ap (λ (w : Spot). w.kind) e ∙ q)
-
 qf_sf : Qf ≢ Sf
 qf_sf e = cc e
 

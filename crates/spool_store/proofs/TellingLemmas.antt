@@ -1,5 +1,5 @@
 -- The entries that are told are those of the live control files.
-use Rattle.std.proofs.Common.{◌≡◌, ◌⊎◌, inl, inr, ⊎_elim, ℕ, ◌+◌, ◌<◌, ◌≤◌, List, [], ◌∷◌, ◌++◌, length, take, get_or, Option, Some, None, IsSome, refl, sym, ◌∙◌, ap, subst, arith, Contains}
+use Rattle.std.proofs.Common.{◌≡◌, ◌⊎◌, inl, inr, ⊎_elim, ℕ, ◌+◌, ◌<◌, ◌≤◌, List, [], ◌∷◌, ◌++◌, length, take, get_or, Option, IsSome, refl, sym, ◌∙◌, ap, subst, arith, Contains}
 use Rattle.std.proofs.lemmas.List.{take_more}
 use Rattle.std.proofs.lemmas.List.Elements.{Contains-append_left, Contains-push, Contains-push_cases}
 use Rattle.mail_base.specs.declared.control.Control.{Control}
@@ -9,7 +9,7 @@ use Rattle.mail_base.specs.declared.control.Parent.{Parent}
 use Rattle.spool_disk.specs.Disk.{FileMap, bytes_at}
 use Rattle.spool_store.specs.Settled.{IsNamed, in_name, as_parent}
 use Rattle.spool_store.specs.declared.named.Named.{Named}
-use Rattle.spool_store.proofs.Readings.{dir_among, dir_numbered}
+use Rattle.spool_store.proofs.Readings.{dir_among, dir_numbered, some_bytes}
 use Rattle.spool_store.proofs.Judgements.{read_by}
 use Rattle.spool_store.proofs.PlanLemmas.{found_says}
 use Rattle.spool_store.specs.Queue.{at, Spot, IsRead, IsLive}
@@ -96,10 +96,6 @@ past_more found x before old new kept above which h = record {
 -- a next id past the first so many and the next is past one more
 pub past_next : (found : List Found) (i : ℕ) (x : Found) (before after : ℕ) → i < length found → x ≡ get_or found i x → IsPast (take i found ++ x ∷ []) before after → IsPast (take (i + 1) found) before after
 past_next found i x before after lt is h = subst (λ (q : List Found). IsPast q before after) (sym (take_more found i x lt ∙ ap (λ (y : Found). take i found ++ y ∷ []) (sym is))) h
-
-some_bytes : (o : Option (List ℕ)) → IsSome o → (b : List ℕ) × (o ≡ Some b)
-some_bytes None h = absurd (cc h)
-some_bytes (Some b) h = (b, refl)
 
 above_by : (dirs : List (List ℕ)) (f : FileMap) (names : List Named) (found : List Found) (first next : ℕ) → AreNamed dirs f (length dirs) names → AreFound dirs f found → ((x : Named) → Contains names x → x.id < first) → IsPast found first next → (id : ℕ) → IsNamed dirs f id → id < next
 above_by dirs f names found first next hn hf above past id (in_name dir kind bytes among within there) =

@@ -146,11 +146,6 @@ pub raise_safe : (f : FileMap) (next : ℕ) (these : List Stored) (s : Stored) (
 raise_safe f next these s dir tf qf in_dir from to can g h p (inl same) = inl (under_same next (s ∷ these) these f g h same p.1)
 raise_safe f next these s dir tf qf in_dir from to can g h p (inr r) = inr (raise_leads f next these s dir tf qf in_dir from to can g h p r)
 
--- the entry of that number
-some_part : (parts : List Part) (i : ℕ) → i < length parts → Part
-some_part [] i lt = absurd (omega (arith, lt))
-some_part (p ∷ parts) i lt = p
-
 -- the entry of the part at a place is at that place
 pub nth_is : (b : List ℕ) (parts : List Part) (i : ℕ) (part : Part) → i < length parts → part ≡ get_or parts i part → get_or (map (entry_of b) parts) i (entry_of b part) ≡ entry_of b part
 nth_is b parts i part lt e = get_or-map (entry_of b) parts i part (entry_of b part) lt ∙ ap (entry_of b) (sym e)

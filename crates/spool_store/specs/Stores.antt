@@ -1,6 +1,6 @@
 -- What a store knows of a map: its entries without their bodies, and the files that it leaves alone
 -- (own).
-use Rattle.std.specs.Prelude.{◌≡◌, ◌↔◌, ℕ, ◌<◌, List, map, length, Bool, true, false, Contains, All, AllPairs, eqb, if◌then◌else◌, get_or}
+use Rattle.std.specs.Prelude.{◌≡◌, ◌↔◌, ℕ, ◌<◌, List, length, Bool, true, false, Contains, All, AllPairs, eqb, if◌then◌else◌, get_or}
 use Rattle.std.specs.List.{AllZip}
 use Rattle.mail_base.specs.declared.id.Kind.{Kind}
 use Rattle.mail_base.specs.declared.id.Kind.TheVariants.{Df, Qf, Sf}
@@ -19,9 +19,6 @@ pub record Shelved : Type 0 where
   pub items : List Held
   pub next : ℕ
   pub room : ℕ
-
-abbrev pub held_ids : List Held → List ℕ
-held_ids items = map (λ h. h.entry.id) items
 
 -- each id is less than those behind it
 abbrev pub IsAscending : List Held → Type 0

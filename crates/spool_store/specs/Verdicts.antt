@@ -37,9 +37,3 @@ pub record AreLive (dirs : List (List ℕ)) (f : FileMap) (entries : List Stored
   pub ascending : IsStrictlySortedBy nat_cmp (ids entries)
   pub each : All (λ s. (k : Kind) × IsLive dirs f (spot_of k s) s.control) entries
   pub all : (s : Spot) (c : Control) → IsLive dirs f s c → HasRead entries s c
-
--- the entries of a table and of a store are the same but for their bodies
-pub record IsAlike (one another : Stored) : Type 0 where
-  pub id : one.id ≡ another.id
-  pub dir : one.dir ≡ another.dir
-  pub control : one.control ≡ another.control

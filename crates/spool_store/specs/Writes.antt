@@ -15,12 +15,6 @@ use Rattle.spool_store.specs.Queue.{IsLive}
 use Rattle.spool_store.specs.Entries.{Stored, Table, with_control}
 use Rattle.spool_store.specs.Changes.{control_place, body_at, draft_place, IsPut, HoldsBoth}
 
--- what is asked to be stored: new entries under a new parent or an old one, or an old entry's new
--- control
-pub data Write : Type 0 where
-  Commits : (children : List Draft) (parent : Draft) (body : List ℕ) → Write
-  Replaces : (id : ℕ) (control : Control) → Write
-
 -- a new entry
 abbrev pub stored : ℕ → List ℕ → Draft → Stored
 stored id body d = record { id = id; dir = d.dir; control = d.control; body = body }
@@ -58,11 +52,6 @@ after_commit table children parent body (Some id) =
           ++ children_of table.next children parent body (Some id);
       next = table.next + length children;
     }
-
-abbrev pub after_write : Table → Write → Table
-after_write table (Commits children parent body) = after_commit table children parent body parent.id
-after_write table (Replaces id control) =
-    record { entries = with_control id control table.entries; next = table.next }
 
 -- files
 abbrev pub control_file : Stored → File

@@ -33,9 +33,9 @@ impl Drop for Part {
 }
 
 impl Part {
-    // What the store holds of it once it is committed.
-    pub(crate) fn into_held(self) -> Held
-        ensures { result ≡ record { entry = self.entry; finished = false } }
+    // Its entry.
+    fn into_entry(self) -> Entry
+        ensures { result ≡ self.entry }
     {
         let Part {
             entry,
@@ -44,8 +44,15 @@ impl Part {
             tf: _,
             qf: _,
         } = self;
+        entry
+    }
+
+    // What the store holds of it once it is committed.
+    pub(crate) fn into_held(self) -> Held
+        ensures { result ≡ record { entry = self.entry; finished = false } }
+    {
         Held {
-            entry,
+            entry: self.into_entry(),
             finished: false,
         }
     }
@@ -54,18 +61,11 @@ impl Part {
     pub(crate) fn into_control(self) -> Control
         ensures { result ≡ self.entry.control }
     {
-        let Part {
-            entry,
-            control: _,
-            df: _,
-            tf: _,
-            qf: _,
-        } = self;
         let Entry {
             id: _,
             dir: _,
             control,
-        } = entry;
+        } = self.into_entry();
         control
     }
 }

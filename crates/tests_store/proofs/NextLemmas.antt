@@ -1,28 +1,26 @@
 -- The next control of an entry can take its place, and can be committed with children.
-use Rattle.std.proofs.Common.{◌≡◌, ◌≤◌, ℕ, ◌+◌, ◌<◌, ◌^◌, List, [], ◌∷◌, None, Option, Some, Result, Ok, Err, refl, sym, ap, ◌∙◌, subst, arith, Contains}
-use Rattle.std.specs.Prelude.{All, IfOk, IfSome}
+use Rattle.std.proofs.Common.{◌≡◌, ◌≤◌, ℕ, List, [], None, Some, Result, Ok, Err, refl, sym, ap, ◌∙◌, subst, arith, Contains}
+use Rattle.std.specs.Prelude.{All, IfOk}
 use Rattle.std.proofs.lemmas.List.Elements.{All-contains, All-weaker}
 use Rattle.mail_base.specs.declared.control.Control.{Control}
 use Rattle.mail_base.specs.declared.control.Draft.{Draft}
 use Rattle.mail_base.specs.declared.fault.StoreFault.{StoreFault}
-use Rattle.qf_format.specs.Room.{SameTexts, addresses, room_of}
+use Rattle.qf_format.specs.Room.{addresses, room_of}
 use Rattle.qf_format.specs.Sheets.{Sheet}
 use Rattle.qf_format.specs.Valid.{IsRevision, IsValid}
 use Rattle.spool_disk.specs.Disk.{FileMap}
 use Rattle.spool_store.specs.Keepers.{CanReplace, raised, seen}
 use Rattle.spool_store.specs.Parcels.{CanPrepareUnder, IsParcelUnder, IsReadyUnder}
-use Rattle.spool_store.specs.Queue.{IsLive, IsRead, Spot, alone, child}
+use Rattle.spool_store.specs.Queue.{IsLive}
 use Rattle.spool_store.specs.Stores.{Agrees, StoreSeen, spot_at}
 use Rattle.spool_store.specs.Writes.{IsDraftable}
 use Rattle.spool_store.specs.declared.held.Held.{Held}
 use Rattle.spool_store.specs.declared.parcel.Parcel.{Parcel}
 use Rattle.spool_store.specs.declared.queue.Queue.{Queue}
-use Rattle.tests_store.specs.Nexts.{AreSound, HasOpen, IsNext, next_draft}
+use Rattle.spool_store.proofs.Carrying.{live_read}
+use Rattle.spool_store.proofs.Numbering.{valid_with}
+use Rattle.tests_store.specs.Nexts.{AreSound, HasOpen, IsNext}
 use Rattle.tests_store.specs.Samples.{sample_dirs}
-
-live_read : {dirs : List (List ℕ)} {f : FileMap} {s : Spot} {c : Control} → IsLive dirs f s c → IsRead dirs f s c
-live_read (alone s c read strange parent) = read
-live_read (child s c p above d read strange under live least) = read
 
 -- the entries of a store that agrees with files
 agrees_sound : (store : StoreSeen) (f : FileMap) → Agrees store f → AreSound store
@@ -36,20 +34,7 @@ raised_range : (r : ℕ) → IsRevision r → IsRevision (raised r)
 raised_range r v = record { least = grind (arith, v.least); most = grind (arith, v.most) }
 
 raised_valid : (c : Control) → IsValid c → IsValid (record c { revision = raised c.revision })
-raised_valid c v = record {
-  revision_range = raised_range c.revision v.revision_range;
-  parent_form = v.parent_form;
-  group_form = v.group_form;
-  created_range = v.created_range;
-  last_try_range = v.last_try_range;
-  tries_range = v.tries_range;
-  priority_range = v.priority_range;
-  class_range = v.class_range;
-  sender_form = v.sender_form;
-  kept_form = v.kept_form;
-  rows_form = v.rows_form;
-  headers_form = v.headers_form;
-}
+raised_valid c v = valid_with (raised c.revision) c.parent c (raised_range c.revision v.revision_range) v.parent_form v
 
 pub can_replace : (store : StoreSeen) (id n k : ℕ) (c : Control) (paper : Sheet) → AreSound store → HasOpen store.entries id → n ≡ id → ((h : Held) → Contains store.entries h → h.entry.id ≡ id → c ≡ h.entry.control) → (paper.bytes ≡ []) × (room_of c ≤ paper.room) → k ≡ raised c.revision → CanReplace store.entries n (record c { revision = k }) paper
 can_replace store id n k c paper sound o known same sheet next =

@@ -11,6 +11,7 @@ use Rattle.spool_store.specs.Parcels.{CanPrepare, IsParcel, IsReady}
 use Rattle.spool_store.specs.Stores.{Agrees, StoreSeen}
 use Rattle.spool_store.specs.declared.parcel.Parcel.{Parcel}
 use Rattle.spool_store.specs.Writes.{IsDraftable}
+use Rattle.spool_store.proofs.Numbering.{valid_with}
 use Rattle.tests_store.specs.Samples.{sample_dir, sample_dirs}
 
 pub placed : (dir : List ℕ) → dir ≡ sample_dir → Contains sample_dirs dir
@@ -18,20 +19,7 @@ placed dir d = subst (λ (q : List ℕ). Contains sample_dirs q) (sym d) (Contai
 
 -- a control that is no child's
 pub alone_valid : (c : Control) → IsValid c → IsValid (record c { parent = None })
-alone_valid c v = record {
-  revision_range = v.revision_range;
-  parent_form = tt;
-  group_form = v.group_form;
-  created_range = v.created_range;
-  last_try_range = v.last_try_range;
-  tries_range = v.tries_range;
-  priority_range = v.priority_range;
-  class_range = v.class_range;
-  sender_form = v.sender_form;
-  kept_form = v.kept_form;
-  rows_form = v.rows_form;
-  headers_form = v.headers_form;
-}
+alone_valid c v = valid_with c.revision None c v.revision_range tt v
 
 pub draftable : (dir : List ℕ) (c : Control) → dir ≡ sample_dir → IsValid c → IsDraftable sample_dirs (record { id = None; dir = dir; control = record c { parent = None } })
 draftable dir c d v = record { among = placed dir d; valid = alone_valid c v }

@@ -7,9 +7,9 @@ use Rattle.spool_store.specs.Queue.{spot_place}
 use Rattle.spool_store.specs.declared.named.Named.{Named}
 use Rattle.spool_store.specs.inner.Plans.{AreDead, AreDone, AreDrafts, AreUnwanted}
 use Rattle.spool_store.specs.inner.Sweeps.{places}
-use Rattle.spool_store.proofs.MovesLemmas.{moves_join}
+use Rattle.spool_store.proofs.MovesLemmas.{ends_to, moves_join, moves_weaker}
 use Rattle.spool_store.proofs.PlanLemmas.{bodies_go, dead_go, dead_gone, decided_by, drafts_go, gone_by, may_finish, swept_by}
-use Rattle.spool_store.proofs.RecoveryLemmas.{ends_to, kinds_named, moves_to, within_named}
+use Rattle.spool_store.proofs.RecoveryLemmas.{kinds_named, within_named}
 use Rattle.spool_store.proofs.recovery.carry_out.Goals as goal
 
 pub remove_all-requires : goal.remove_all-requires
@@ -70,6 +70,6 @@ returns-clause-moves g c = λ f l long looked planned.
     let d4 = subst (λ (q : List Named). AreUnwanted dirs f l.named q) (sym c.items-4.ensures) planned.bodies in
     let known = decided_by dirs f l.found l.verdicts long looked.found looked.judged in
     let done = (([] ++ places dirs x1) ++ places dirs x2) ++ places dirs x3 in
-    moves_to _ _ _ _ _ _ (ends_to c.remove_all-3.result _ _ _ (λ h s. (s.tidied, swept_by dirs f h l.named l.found (done ++ places dirs x4) looked.named looked.found known (gone_by dirs f l.named l.found x1 x2 x3 x4 looked.found d1 d2 d3 d4) s)))
+    moves_weaker _ _ _ _ _ _ _ (ends_to c.remove_all-3.result _ _ _ _ (λ h s. (s.tidied, swept_by dirs f h l.named l.found (done ++ places dirs x4) looked.named looked.found known (gone_by dirs f l.named l.found x1 x2 x3 x4 looked.found d1 d2 d3 d4) s)) (λ h m. m)) (λ h m. m)
     (moves_join _ _ _ _ _ _ _ (moves_join _ _ _ _ _ _ _ (moves_join _ _ _ _ _ _ _ (c.in_ok-remove_all.ensures.moves f [] (drafts_go dirs f l.named x1 [] looked.named d1)) (c.in_ok-remove_all-2.ensures.moves f ([] ++ places dirs x1) (dead_go dirs f l.found x2 ([] ++ places dirs x1) d2))) (c.in_ok-finish_all.ensures.moves f (([] ++ places dirs x1) ++ places dirs x2) (may_finish dirs f l.named l.found x1 x2 x3 d1 d2 d3)))
     (c.remove_all-3.ensures.moves f done (bodies_go dirs f l.named x4 done looked.named known (λ s k. Contains-append_left (([] ++ places dirs x1) ++ places dirs x2) (places dirs x3) (spot_place s) (Contains-append_right ([] ++ places dirs x1) (places dirs x2) (spot_place s) (dead_gone dirs f l.found x2 looked.found d2 s k))) d4)))

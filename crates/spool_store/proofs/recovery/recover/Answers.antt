@@ -5,15 +5,16 @@ use Rattle.spool_store.specs.Moves.{Moves}
 use Rattle.spool_store.specs.Openings.{AreEntries, AreStrays, IsNext}
 use Rattle.spool_store.specs.Settled.{StandsFor}
 use Rattle.spool_store.specs.Tidying.{IsClean, IsTidied}
-use Rattle.spool_store.proofs.RecoveryLemmas.{clean_ok, ends_in, entries_ok, next_ok, strays_ok, moves_to, stands_moves}
+use Rattle.spool_store.proofs.RecoveryLemmas.{clean_ok, ends_in, entries_ok, next_ok, strays_ok, stands_moves}
+use Rattle.spool_store.proofs.MovesLemmas.{moves_weaker}
 use Rattle.spool_store.proofs.recovery.recover.Goals as goal
 
 pub returns-clause-stands : goal.returns-clause-stands
 returns-clause-stands g c = λ table. subst (λ (d : List (List ℕ)). Moves (g.D.Spool.seen c.args.spool.now) (g.D.Spool.seen c.take_over.new.spool) (StandsFor d table) (StandsFor d table) (StandsFor d table)) c.items.ensures
-    (stands_moves (g.D.Spool.seen c.args.spool.now) (g.D.Spool.seen c.take_over.new.spool) c.items.result.now table c.take_over.ensures.counts.steps (λ f e. moves_to _ _ _ _ _ _ (ends_in c.take_over.result _ _ (λ h k. k.0)) (c.take_over.ensures.tidied f e)))
+    (stands_moves (g.D.Spool.seen c.args.spool.now) (g.D.Spool.seen c.take_over.new.spool) c.items.result.now table c.take_over.ensures.counts.steps (λ f e. moves_weaker _ _ _ _ _ _ _ (ends_in c.take_over.result _ _ (λ h k. k.0)) (λ h m. m) (c.take_over.ensures.tidied f e)))
 
 pub returns-clause-tidied : goal.returns-clause-tidied
-returns-clause-tidied g c = λ f e. subst (λ (d : List (List ℕ)). Moves (g.D.Spool.seen c.args.spool.now) (g.D.Spool.seen c.take_over.new.spool) (λ h. h ≡ f) (IsTidied d f) (IsTidied d f)) c.items.ensures (moves_to _ _ _ _ _ _ (ends_in c.take_over.result _ _ (λ h k. k.0)) (c.take_over.ensures.tidied f e))
+returns-clause-tidied g c = λ f e. subst (λ (d : List (List ℕ)). Moves (g.D.Spool.seen c.args.spool.now) (g.D.Spool.seen c.take_over.new.spool) (λ h. h ≡ f) (IsTidied d f) (IsTidied d f)) c.items.ensures (moves_weaker _ _ _ _ _ _ _ (ends_in c.take_over.result _ _ (λ h k. k.0)) (λ h m. m) (c.take_over.ensures.tidied f e))
 
 pub returns-clause-entries : goal.returns-clause-entries
 returns-clause-entries g c = subst (λ (d : List (List ℕ)). IfOk c.take_over.result (λ opened. IfSome (g.D.Spool.seen c.args.spool.now).told (λ f. AreEntries d f opened.entries))) c.items.ensures (entries_ok c.take_over.result (g.D.Spool.seen c.args.spool.now).told c.items.result.now c.take_over.ensures.entries)
