@@ -10,7 +10,8 @@ use Rattle.spool_store.specs.Entries.{Stored, Table}
 use Rattle.spool_store.specs.Keepers.{or_nothing}
 use Rattle.spool_store.specs.Queue.{IsLive}
 use Rattle.spool_store.specs.Settled.{spot_of, HasFiles, StandsFor}
-use Rattle.spool_store.specs.Stores.{StoreSeen, HasId, IsAscending, IsPlaceOf, spot_at, Agrees}
+use Rattle.spool_store.specs.Stores.{StoreSeen, HasId, spot_at, Agrees}
+use Rattle.spool_store.specs.inner.Shelves.{IsAscending, IsPlaceOf}
 use Rattle.spool_store.specs.declared.held.Held.{Held}
 use Rattle.spool_store.proofs.Shelving.{held_is}
 use Rattle.spool_store.proofs.Standing.{one_live}

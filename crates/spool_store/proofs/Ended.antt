@@ -9,11 +9,12 @@ use Rattle.mail_base.specs.declared.id.Kind.{Kind}
 use Rattle.mail_base.specs.declared.id.Kind.TheVariants.{Qf, Sf}
 use Rattle.spool_disk.specs.Disk.{Place, FileMap, bytes_at}
 use Rattle.spool_disk.specs.Spooled.{Spooled}
-use Rattle.spool_store.specs.Finishing.{IsDone, HasFinished}
+use Rattle.spool_store.specs.inner.Finishing.{IsDone, HasFinished, IsRun}
 use Rattle.spool_store.specs.Keepers.{CanFinish, IsFiled}
-use Rattle.spool_store.specs.Moves.{Moves, IsRun}
+use Rattle.spool_store.specs.Moves.{Moves}
 use Rattle.spool_store.specs.Queue.{spot_place, IsLive}
-use Rattle.spool_store.specs.Stores.{StoreSeen, Shelved, spot_at, kind_of, Agrees, refinished}
+use Rattle.spool_store.specs.Stores.{StoreSeen, spot_at, kind_of, Agrees, refinished}
+use Rattle.spool_store.specs.inner.Shelves.{Shelved}
 use Rattle.spool_store.specs.Tidying.{IsTidied}
 use Rattle.spool_store.specs.declared.held.Held.{Held}
 use Rattle.spool_store.proofs.Carrying.{live_read}

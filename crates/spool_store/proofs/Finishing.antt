@@ -10,7 +10,7 @@ use Rattle.mail_base.specs.declared.control.Control.{Control}
 use Rattle.spool_disk.specs.Disk.{Place, FileMap, bytes_at, IsSame, HasRenamed, HasRemoved}
 use Rattle.spool_store.specs.Queue.{Spot, spot_place, body_place, IsSpot, IsLive}
 use Rattle.spool_store.specs.Tidying.{IsTidied, HasMoved, IsMove, as_kind}
-use Rattle.spool_store.specs.Finishing.{IsDone, HasEnded, HasFinished}
+use Rattle.spool_store.specs.inner.Finishing.{IsDone, HasEnded, HasFinished}
 use Rattle.spool_store.specs.Stores.{spot_at, StoreSeen, HasHeld, Agrees, refinished}
 use Rattle.spool_store.specs.declared.held.Held.{Held}
 use Rattle.spool_store.proofs.Agreeing.{strays_alike}

@@ -9,12 +9,12 @@ use Rattle.mail_base.specs.declared.control.Control.{Control}
 use Rattle.mail_base.specs.States.{NeedsBody}
 use Rattle.spool_disk.specs.Disk.{FileMap}
 use Rattle.spool_store.specs.Queue.{IsOpen, Spot, IsControl, IsRead, IsStrange, unread, twice, bodiless, reopened}
-use Rattle.spool_store.specs.Verdicts.{IsSober, IsVerdict}
+use Rattle.spool_store.specs.Verdicts.{IsSober}
+use Rattle.spool_store.specs.inner.Judging.{IsVerdict, AreJudged}
 use Rattle.spool_store.specs.declared.named.Named.{Named}
 use Rattle.spool_store.specs.declared.named.Found.{Found}
 use Rattle.spool_store.specs.declared.verdict.Verdict.{Verdict}
 use Rattle.spool_store.specs.inner.Finds.{AreFound, AreNamed, IsFound, IsMeaning, spot_named}
-use Rattle.spool_store.specs.inner.Judging.{AreJudged}
 
 none_by : (o : Option (List ℕ)) → (IsSome o → ⊥) → o ≡ None
 none_by None h = refl

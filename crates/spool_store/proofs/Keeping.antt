@@ -10,7 +10,7 @@ use Rattle.spool_store.specs.Entries.{Stored}
 use Rattle.spool_store.specs.Settled.{spot_of, IsTidy, in_name}
 use Rattle.spool_store.specs.Tidying.{IsTidied}
 use Rattle.spool_store.specs.Changes.{IsNew}
-use Rattle.spool_store.specs.Parts.{IsOwn, own_body, own_draft, own_control, IsLeft}
+use Rattle.spool_store.specs.inner.Parts.{IsOwn, own_body, own_draft, own_control, IsLeft}
 use Rattle.spool_store.specs.Stores.{IsNobodys, of_none, of_strange, of_its_body, KeepsOthers}
 use Rattle.spool_store.proofs.Carrying.{strange_control, live_read, live_plain}
 use Rattle.spool_store.proofs.Places.{ids_of}

@@ -4,7 +4,8 @@ use Rattle.std.specs.Prelude.{IsOk, IfSome}
 use Rattle.std.proofs.Math.Nat.{le_refl, le_trans}
 use Rattle.spool_disk.specs.Disk.{FileMap}
 use Rattle.spool_disk.specs.Spooled.{Spooled, Calls, Leads, Rests}
-use Rattle.spool_store.specs.Moves.{Moves, Becomes, Ends, IsRun}
+use Rattle.spool_store.specs.Moves.{Moves, Becomes, Ends}
+use Rattle.spool_store.specs.inner.Finishing.{IsRun}
 
 -- what is told stays where a call only reads
 pub leads_told : (a b : Option FileMap) → Leads a b Rests Rests (Unit {0}) → b ≡ a

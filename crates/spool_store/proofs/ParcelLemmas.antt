@@ -13,9 +13,11 @@ use Rattle.spool_store.specs.Changes.{IsNew, IsMidway, IsPut, control, body, oth
 use Rattle.spool_store.specs.Entries.{Stored, Table}
 use Rattle.spool_store.specs.Moves.{Moves}
 use Rattle.spool_store.specs.Parcels.{IsParcel, with_commit}
-use Rattle.spool_store.specs.Parts.{AreNew, CanFollow, IsOwn, IsUnderWay, own_body, own_control, entry_of}
+use Rattle.spool_store.specs.Parts.{entry_of}
+use Rattle.spool_store.specs.inner.Parts.{AreNew, CanFollow, IsOwn, IsUnderWay, own_body, own_control}
 use Rattle.spool_store.specs.Settled.{StandsFor, IsSettled}
-use Rattle.spool_store.specs.Stores.{Agrees, Holds, IsHeld, KeepsOthers, Shelved, StoreSeen, entered}
+use Rattle.spool_store.specs.Stores.{Agrees, Holds, IsHeld, KeepsOthers, StoreSeen, entered}
+use Rattle.spool_store.specs.inner.Shelves.{Shelved}
 use Rattle.spool_store.specs.Writes.{AreDraftable, AreWritten, after_commit, children_of, head_of, heir, numbered, stored}
 use Rattle.spool_store.specs.declared.held.Held.{Held}
 use Rattle.spool_store.specs.declared.parcel.Parcel.{Parcel}

@@ -12,13 +12,12 @@ use Rattle.spool_disk.specs.Disk.{Place, FileMap, bytes_at}
 use Rattle.qf_format.specs.Saying.{Says}
 use Rattle.spool_store.specs.Queue.{at, IsOpen, Spot, spot_place, IsControl, IsRead, HasTwin, IsStrange, twice, IsLive}
 use Rattle.spool_store.specs.Tidying.{IsTidied, IsTidiedBody, IsDead, IsSwept, as_kind}
-use Rattle.spool_store.specs.Verdicts.{IsVerdict}
+use Rattle.spool_store.specs.inner.Judging.{IsVerdict, AreJudged}
 use Rattle.spool_store.specs.declared.named.Named.{Named}
 use Rattle.spool_store.specs.declared.named.Found.{Found}
 use Rattle.spool_store.specs.declared.verdict.Verdict.{Verdict}
 use Rattle.spool_store.specs.declared.verdict.Verdict.TheVariants.{Strange, Dead, Live}
 use Rattle.spool_store.specs.inner.Finds.{AreFound, AreNamed, IsFound, IsMeaning, dir_at, spot_named}
-use Rattle.spool_store.specs.inner.Judging.{AreJudged}
 use Rattle.spool_store.specs.inner.Plans.{Picks, AreDrafts, AreDead, AreDone, AreUnwanted}
 use Rattle.spool_store.specs.inner.Sweeps.{IsDecided, IsDone, IsSweptOf, IsUnwanted, IsWanted, MayFinish, MayGo, a_draft, a_dead, a_body, place_named, places, by_strange, by_live}
 use Rattle.spool_store.proofs.Carrying.{live_read, live_plain, strange_control}

@@ -15,7 +15,8 @@ use Rattle.spool_store.specs.Keepers.{IsReading}
 use Rattle.spool_store.specs.Openings.{AreAscending, AreEntries, AreOrdered, AreStrays, IsNext}
 use Rattle.spool_store.specs.Queue.{IsLive, Spot, reopened}
 use Rattle.spool_store.specs.Settled.{IsSettled, StandsFor}
-use Rattle.spool_store.specs.Stores.{Agrees, HasHeld, IsAscending, kind_of, spot_at}
+use Rattle.spool_store.specs.Stores.{Agrees, HasHeld, kind_of, spot_at}
+use Rattle.spool_store.specs.inner.Shelves.{IsAscending}
 use Rattle.spool_store.specs.Tidying.{IsClean, IsSwept, IsTidied}
 use Rattle.spool_store.specs.declared.held.Held.{Held}
 use Rattle.spool_store.specs.declared.opened.Opened.{Opened}

@@ -21,9 +21,10 @@ use Rattle.spool_store.specs.Entries.{Stored, Table}
 use Rattle.spool_store.specs.Settled.{spot_of, StandsFor, IsSettled}
 use Rattle.spool_store.specs.Changes.{control_place, IsRaised, IsPut, control, body, other, IsNew, IsWaiting}
 use Rattle.spool_store.specs.Writes.{AreRaised}
-use Rattle.spool_store.specs.Parts.{CanRaise, IsUnderWay, IsLeft, own_control}
-use Rattle.spool_store.specs.Stores.{StoreSeen, Shelved, spot_at, kind_of, Agrees, Holds, recontrolled, KeepsOthers}
-use Rattle.spool_store.specs.Keepers.{CanReplace, raised, after_replace, with_new}
+use Rattle.spool_store.specs.inner.Parts.{CanRaise, IsUnderWay, IsLeft, own_control, with_new}
+use Rattle.spool_store.specs.Stores.{StoreSeen, spot_at, kind_of, Agrees, Holds, recontrolled, KeepsOthers}
+use Rattle.spool_store.specs.inner.Shelves.{Shelved}
+use Rattle.spool_store.specs.Keepers.{CanReplace, raised, after_replace}
 use Rattle.spool_store.specs.declared.held.Held.{Held}
 use Rattle.spool_store.proofs.Agreeing.{replaced_agrees, agrees_settled}
 use Rattle.spool_store.proofs.Carrying.{live_read, live_plain}

@@ -15,7 +15,8 @@ use Rattle.mail_base.specs.declared.id.Kind.{Kind}
 use Rattle.mail_base.specs.declared.id.Kind.TheVariants.{Df, Qf, Tf, Sf}
 use Rattle.mail_base.specs.declared.control.Control.{Control}
 use Rattle.spool_store.specs.declared.held.Held.{Held}
-use Rattle.spool_store.specs.Stores.{IsAscending, IsPlaceOf, recontrolled, refinished}
+use Rattle.spool_store.specs.Stores.{recontrolled, refinished}
+use Rattle.spool_store.specs.inner.Shelves.{IsAscending, IsPlaceOf}
 
 -- a name has 15 bytes
 pub name_long : (kind : Kind) (n : ℕ) → length (name_of kind n) ≡ 15

@@ -18,10 +18,12 @@ use Rattle.spool_store.specs.Entries.{Stored, Table, with_control}
 use Rattle.spool_store.specs.Keepers.{raised}
 use Rattle.spool_store.specs.Moves.{Becomes, Moves}
 use Rattle.spool_store.specs.Parcels.{CanPrepareUnder, IsBelowLast, IsParcelUnder, with_children}
-use Rattle.spool_store.specs.Parts.{AreNew, CanRaise, IsLeft, IsOwn, IsUnderWay, own_body, own_control, own_draft, entry_of}
+use Rattle.spool_store.specs.Parts.{entry_of}
+use Rattle.spool_store.specs.inner.Parts.{AreNew, CanRaise, IsLeft, IsOwn, IsUnderWay, own_body, own_control, own_draft}
 use Rattle.spool_store.specs.Queue.{Spot, IsLive}
 use Rattle.spool_store.specs.Settled.{StandsFor, IsSettled, spot_of}
-use Rattle.spool_store.specs.Stores.{Agrees, HasId, Holds, IsHeld, KeepsOthers, Shelved, StoreSeen, entered, recontrolled, spot_at}
+use Rattle.spool_store.specs.Stores.{Agrees, HasId, Holds, IsHeld, KeepsOthers, StoreSeen, entered, recontrolled, spot_at}
+use Rattle.spool_store.specs.inner.Shelves.{Shelved}
 use Rattle.spool_store.specs.Writes.{AreHeirs, AreRaised, IsOld, after_commit, children_of, control_file, head_of, heir, numbered, stored}
 use Rattle.spool_store.specs.declared.held.Held.{Held}
 use Rattle.spool_store.specs.declared.parcel.Parcel.{Parcel}

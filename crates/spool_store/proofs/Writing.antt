@@ -1,7 +1,7 @@
 -- The calls of a part: what they lead to, and what a stop in them leaves.
 use Rattle.std.proofs.Common.{◌≡◌, ◌≢◌, ◌⊎◌, inl, inr, ⊎_elim, ℕ, ◌<◌, ◌≤◌, ◌+◌, List, [], ◌∷◌, ◌++◌, length, take, map, get_or, length-take-le, get_or-take, Some, None, refl, sym, ◌∙◌, ap, subst, arith, Contains}
 use Rattle.std.specs.Prelude.{Any}
-use Rattle.std.proofs.lemmas.List.{take_more, get_or_default, get_or-map}
+use Rattle.std.proofs.lemmas.List.{take_more, get_or_default, get_or-map, length-map}
 use Rattle.std.proofs.lemmas.List.Elements.{All-contains_itself, All-weaker, Contains-push_cases, Contains-get_or}
 use Rattle.mail_base.specs.declared.id.Kind.TheVariants.{Df, Qf, Tf}
 use Rattle.mail_base.specs.Limits.{IsId}
@@ -12,7 +12,8 @@ use Rattle.spool_store.specs.Entries.{Stored}
 use Rattle.spool_store.specs.Tidying as tidying
 use Rattle.spool_store.specs.Changes.{control_place, body_at, draft_place, IsPut, control, body, other}
 use Rattle.spool_store.specs.Writes.{AreWritten, HasBody, HasDraft, HasNewDraft, AreRaised}
-use Rattle.spool_store.specs.Parts.{CanFollow, CanRaise, IsOwn, own_body, own_draft, own_control, IsLeft, IsUnderWay, AreNew, AreAmong, entry_of}
+use Rattle.spool_store.specs.Parts.{entry_of}
+use Rattle.spool_store.specs.inner.Parts.{CanFollow, CanRaise, IsOwn, own_body, own_draft, own_control, IsLeft, IsUnderWay, AreNew, AreAmong}
 use Rattle.spool_store.specs.declared.part.Part.{Part}
 use Rattle.spool_store.proofs.Replacing.{place_or}
 use Rattle.spool_store.proofs.Standing.{contains_head}
@@ -147,8 +148,8 @@ raise_safe f next these s dir tf qf in_dir from to can g h p (inl same) = inl (u
 raise_safe f next these s dir tf qf in_dir from to can g h p (inr r) = inr (raise_leads f next these s dir tf qf in_dir from to can g h p r)
 
 -- the entry of the part at a place is at that place
-pub nth_is : (b : List ℕ) (parts : List Part) (i : ℕ) (part : Part) → i < length parts → part ≡ get_or parts i part → get_or (map (entry_of b) parts) i (entry_of b part) ≡ entry_of b part
-nth_is b parts i part lt e = get_or-map (entry_of b) parts i part (entry_of b part) lt ∙ ap (entry_of b) (sym e)
+pub part_at : (b : List ℕ) (parts : List Part) (i : ℕ) (part : Part) → i < length parts → part ≡ get_or parts i part → (i < length (map (entry_of b) parts)) × (get_or (map (entry_of b) parts) i (entry_of b part) ≡ entry_of b part)
+part_at b parts i part lt e = (omega (arith, length-map parts (entry_of b), lt), get_or-map (entry_of b) parts i part (entry_of b part) lt ∙ ap (entry_of b) (sym e))
 
 -- what is at a place of a list is in it
 pub nth_among : (these : List Stored) (i : ℕ) (s : Stored) → i < length these → get_or these i s ≡ s → Contains these s

@@ -8,7 +8,7 @@ use Rattle.qf_format.specs.Room.{SameTexts, room_of}
 use Rattle.qf_format.specs.Sheets.{Sheet}
 use Rattle.qf_format.specs.Valid.{IsValid}
 use Rattle.spool_disk.specs.Disk.{FileMap, bytes_at}
-use Rattle.spool_store.specs.Entries.{Stored, Table, with_control}
+use Rattle.spool_store.specs.Entries.{Table, with_control}
 use Rattle.spool_store.specs.Openings.{AreEntries, AreStrays, IsNext}
 use Rattle.spool_store.specs.Queue.{IsOpen}
 use Rattle.spool_store.specs.Stores.{StoreSeen}
@@ -67,10 +67,6 @@ pub record CanFinish (entries : List Held) (id : ℕ) : Type 0 where
 -- the table with another control of an entry
 abbrev pub after_replace : Table → ℕ → Control → Table
 after_replace table id c = record { entries = with_control id c table.entries; next = table.next }
-
--- an entry with its new control; of its body nothing is said
-abbrev pub with_new : Held → Control → Stored
-with_new h c = record { id = h.entry.id; dir = h.entry.dir; control = c; body = [] }
 
 -- the control file of an entry has the name of a finished one's alone, and its body is there only
 -- where a row is dead

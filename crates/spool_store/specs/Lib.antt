@@ -11,6 +11,5 @@ pub mod Verdicts
 pub mod Parts
 pub mod Stores
 pub mod Keepers
-pub mod Finishing
 pub mod Parcels
 pub mod Openings

@@ -54,12 +54,6 @@ pub record MayFollow (h : Held) (d : Draft) : Type 0 where
   pub revision : d.control.revision ≡ raised h.entry.control.revision
   pub open_row : IsOpen h.entry.control
 
--- a draft names an entry
-pub record IsNamedIn (entries : List Held) (d : Draft) : Type 0 where
-  pub held : Held
-  pub among : Contains entries held
-  pub named : d.id ≡ Some held.entry.id
-
 -- drafts of an entry's new control and of its new children
 pub record CanPrepareUnder (dirs : List (List ℕ)) (entries : List Held) (children : List Draft)
     (parent : Draft) : Type 0 where

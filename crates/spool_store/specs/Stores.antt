@@ -1,6 +1,6 @@
 -- What a store knows of a map: its entries without their bodies, and the files that it leaves alone
 -- (own).
-use Rattle.std.specs.Prelude.{◌≡◌, ◌↔◌, ℕ, ◌<◌, List, length, Bool, true, false, Contains, All, AllPairs, eqb, if◌then◌else◌, get_or}
+use Rattle.std.specs.Prelude.{◌≡◌, ◌↔◌, ℕ, List, Bool, true, false, Contains, All, eqb, if◌then◌else◌}
 use Rattle.std.specs.List.{AllZip}
 use Rattle.mail_base.specs.declared.id.Kind.{Kind}
 use Rattle.mail_base.specs.declared.id.Kind.TheVariants.{Df, Qf, Sf}
@@ -13,21 +13,6 @@ use Rattle.spool_store.specs.Entries.{Stored, Table}
 use Rattle.spool_store.specs.Openings.{IsStray}
 use Rattle.spool_store.specs.Settled.{IsTidy}
 use Rattle.spool_store.specs.Tidying.{IsForeign}
-
--- entries in reserved room, and the first free id
-pub record Shelved : Type 0 where
-  pub items : List Held
-  pub next : ℕ
-  pub room : ℕ
-
--- each id is less than those behind it
-abbrev pub IsAscending : List Held → Type 0
-IsAscending items = AllPairs (λ one another. one.entry.id < another.entry.id) items
-
--- the place of an id among entries
-pub record IsPlaceOf (items : List Held) (id place : ℕ) : Type 0 where
-  pub within : place < length items
-  pub has : (d : Held) → (get_or items place d).entry.id ≡ id
 
 -- an entry of that id is among them
 pub record HasId (items : List Held) (id : ℕ) : Type 0 where

@@ -6,24 +6,16 @@ use Rattle.mail_base.specs.declared.id.Kind.{Kind}
 use Rattle.mail_base.specs.declared.id.Kind.TheVariants.{Sf}
 use Rattle.spool_disk.specs.Disk.{FileMap, bytes_at}
 use Rattle.mail_base.specs.declared.control.Control.{Control}
-use Rattle.spool_store.specs.Queue.{IsOpen, Spot, body_place, IsRead, HasTwin, IsStrange, IsLive}
+use Rattle.spool_store.specs.Queue.{IsOpen, Spot, body_place, IsRead, HasTwin, IsLive}
 use Rattle.mail_base.specs.States.{NeedsBody}
 use Rattle.spool_store.specs.Entries.{Stored, ids}
-use Rattle.spool_store.specs.declared.verdict.Verdict.{Verdict}
-use Rattle.spool_store.specs.declared.verdict.Verdict.TheVariants.{Strange, Dead, Live}
 use Rattle.spool_store.specs.Settled.{spot_of, HasRead}
-use Rattle.spool_store.specs.Tidying.{IsDead}
 
 -- a live control file of that revision
 pub record IsLiveAt (dirs : List (List ℕ)) (f : FileMap) (s : Spot) (revision : ℕ) : Type 0 where
   pub control : Control
   pub live : IsLive dirs f s control
   pub is : control.revision ≡ revision
-
-abbrev pub IsVerdict : List (List ℕ) → FileMap → Spot → Verdict → Type 0
-IsVerdict dirs f s Strange = IsStrange dirs f s
-IsVerdict dirs f s Dead = IsDead dirs f s
-IsVerdict dirs f s (Live revision) = IsLiveAt dirs f s revision
 
 -- a control file that is strange for no reason of its own
 pub record IsSober (dirs : List (List ℕ)) (f : FileMap) (s : Spot) (c : Control) : Type 0 where

@@ -7,3 +7,6 @@ pub mod Plans
 pub mod Recovering
 pub mod Telling
 pub mod Opening
+pub mod Finishing
+pub mod Parts
+pub mod Shelves

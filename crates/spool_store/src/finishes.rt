@@ -5,8 +5,8 @@ ghost use Rattle.mail_base.specs.States.{needs_body};
 ghost use Rattle.mail_base.specs.declared.control.Control.{Control};
 ghost use Rattle.mail_base.specs.declared.id.Kind.TheVariants.{Df as BodyKind, Qf as ControlKind, Sf as FinishedKind};
 ghost use Rattle.spool_disk.specs.Disk.{FileMap, bytes_at};
-ghost use Rattle.spool_store.specs.Finishing.{HasEnded, HasFinished, IsDone};
-ghost use Rattle.spool_store.specs.Moves.{IsRun, Moves, Ends};
+ghost use Rattle.spool_store.specs.inner.Finishing.{HasEnded, HasFinished, IsDone, IsRun};
+ghost use Rattle.spool_store.specs.Moves.{Moves, Ends};
 ghost use Rattle.spool_store.specs.Queue.{Spot};
 ghost use Rattle.spool_store.specs.Tidying.{IsTidied};
 

@@ -1,14 +1,14 @@
 ghost use Rattle.std.specs.Prelude.{◌≡◌, ◌≢◌, ◌<◌, ◌≤◌, IfOk, IfSome, IfNone, Some, None, Contains, List, ℕ, length, take, true, false};
-ghost use Rattle.std.specs.List.{AllZip, slice_index_or};
+ghost use Rattle.std.specs.List.{slice_index_or};
 ghost use Rattle.std.specs.List.Sorted.{IsNonDecreasingBy};
 ghost use Rattle.mail_base.specs.declared.id.Kind.TheVariants.{Df as BodyKind, Sf as FinishedKind};
 ghost use Rattle.mail_base.specs.declared.control.Control.{Control as ControlSeen};
 ghost use Rattle.mail_base.specs.States.{NeedsBody};
 ghost use Rattle.spool_disk.specs.Disk.{FileMap};
 ghost use Rattle.spool_store.specs.Queue.{IsOpen, IsRead, IsStrange, Spot as SpotSeen};
-ghost use Rattle.spool_store.specs.Verdicts.{IsSober, IsVerdict};
-ghost use Rattle.spool_store.specs.inner.Finds.{AreFound, AreNamed, dir_at, spot_named};
-ghost use Rattle.spool_store.specs.inner.Judging.{AreJudged, IsIndexed};
+ghost use Rattle.spool_store.specs.Verdicts.{IsSober};
+ghost use Rattle.spool_store.specs.inner.Judging.{IsVerdict, AreJudged, IsIndexed};
+ghost use Rattle.spool_store.specs.inner.Finds.{AreFound, AreNamed, spot_named};
 ghost use Rattle.spool_store.specs.declared.named.Named.{Named as NamedSeen};
 ghost use Rattle.spool_store.specs.declared.named.Found.{Found as FoundSeen};
 

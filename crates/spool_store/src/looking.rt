@@ -1,10 +1,9 @@
-ghost use Rattle.std.specs.Prelude.{◌≡◌, ◌⊎◌, ◌<◌, ◌++◌, ◌∷◌, [], List, true, false, IfOk, IfSome, OnOk, Some, Contains, length};
-ghost use Rattle.std.specs.List.Sorted.{IsNonDecreasingBy};
+ghost use Rattle.std.specs.Prelude.{◌≡◌, ◌⊎◌, ◌<◌, ◌++◌, ◌∷◌, [], List, true, false, IfOk, OnOk, Some, Contains, length};
 ghost use Rattle.mail_base.specs.declared.fault.EdgeFault.TheVariants.{NoMemory as EdgeMemory, Failed as EdgeFailed};
 ghost use Rattle.mail_base.specs.declared.fault.StoreFault.TheVariants.{NoMemory as Memory, SpoolFault as Broke};
 ghost use Rattle.spool_disk.specs.Disk.{FileMap, bytes_at};
 ghost use Rattle.spool_store.specs.Queue.{at, IsSpot};
-ghost use Rattle.spool_store.specs.inner.Finds.{IsMeaning, IsThere, AreNamed, AddsFound, AreAmong, AreRead, dir_at, spot_named};
+ghost use Rattle.spool_store.specs.inner.Finds.{IsMeaning, IsThere, AreNamed, AddsFound, AreAmong, AreRead, spot_named};
 ghost use Rattle.spool_store.specs.inner.Looks.{Looks};
 ghost use Rattle.mail_base.specs.declared.id.Kind.TheVariants.{Qf as ControlKind, Sf as FinishedKind};
 ghost use Rattle.spool_store.specs.declared.named.Named.{Named as NamedSeen};

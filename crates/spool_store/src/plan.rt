@@ -5,9 +5,8 @@ ghost use Rattle.mail_base.specs.declared.control.Control.{Control as ControlSee
 ghost use Rattle.mail_base.specs.States.{NeedsBody};
 ghost use Rattle.spool_disk.specs.Disk.{FileMap};
 ghost use Rattle.spool_store.specs.Queue.{IsOpen};
-ghost use Rattle.spool_store.specs.Verdicts.{IsVerdict};
+ghost use Rattle.spool_store.specs.inner.Judging.{IsVerdict, AreJudged};
 ghost use Rattle.spool_store.specs.inner.Finds.{AreFound, IsFound, dir_at, spot_named};
-ghost use Rattle.spool_store.specs.inner.Judging.{AreJudged, IsIndexed};
 ghost use Rattle.spool_store.specs.inner.Plans.{AreDrafts, AreDead, AreDone, AreUnwanted, Stays, its_name};
 ghost use Rattle.spool_store.specs.inner.Sweeps.{IsDone, IsUnwanted, IsWanted};
 ghost use Rattle.spool_store.specs.declared.named.Named.{Named as NamedSeen};

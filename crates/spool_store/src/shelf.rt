@@ -1,6 +1,7 @@
 ghost use Rattle.std.specs.Prelude.{◌≡◌, ◌≢◌, ◌+◌, ◌<◌, ◌≤◌, ◌++◌, ◌∷◌, [], IfSome, IfNone, IfOk, IfErr, OnOk, OnErr, All, map, length};
 ghost use Rattle.mail_base.specs.Limits.{IsId};
-ghost use Rattle.spool_store.specs.Stores.{HasId, IsAscending, IsPlaceOf, Shelved, recontrolled, refinished};
+ghost use Rattle.spool_store.specs.Stores.{HasId, recontrolled, refinished};
+ghost use Rattle.spool_store.specs.inner.Shelves.{IsAscending, IsPlaceOf, Shelved};
 ghost use Rattle.spool_store.specs.Openings.{AreOrdered};
 ghost use Rattle.spool_store.specs.inner.Commits.{IsRow, queued};
 ghost use Rattle.spool_store.specs.inner.Opening.{taken_over};
@@ -23,7 +24,7 @@ pub struct Shelf {
 impl Model for Shelf {
     ghost use Rattle.std.specs.Prelude.{◌+◌, ◌<◌, ◌≤◌, All, length};
     ghost use Rattle.std.specs.Vec.{vec_capacity};
-    ghost use Rattle.spool_store.specs.Stores.{IsAscending, Shelved};
+    ghost use Rattle.spool_store.specs.inner.Shelves.{IsAscending, Shelved};
 
     ghost Value = { Shelved };
 

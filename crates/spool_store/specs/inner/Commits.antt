@@ -7,7 +7,7 @@ use Rattle.spool_disk.specs.Disk.{FileMap, bytes_at}
 use Rattle.mail_base.specs.declared.control.Draft.{Draft}
 use Rattle.spool_store.specs.Changes.{IsNew, draft_place}
 use Rattle.spool_store.specs.Entries.{Stored}
-use Rattle.spool_store.specs.Parts.{IsUnderWay}
+use Rattle.spool_store.specs.inner.Parts.{IsUnderWay}
 use Rattle.spool_store.specs.Writes.{AreRaised, AreWritten, children_of, stored}
 use Rattle.spool_store.specs.declared.held.Held.{Held}
 use Rattle.spool_store.specs.declared.part.Part.{Part}
@@ -52,3 +52,9 @@ IsRaising next id children parent body f g =
     IsUnderWay next (stored id body parent ∷ children_of next children parent body (Some id))
     (children_of next children parent body (Some id)) f g
     ⊎ IsRaisedWith next id children parent body f g
+
+-- a draft names an entry
+pub record IsNamedIn (entries : List Held) (d : Draft) : Type 0 where
+  pub held : Held
+  pub among : Contains entries held
+  pub named : d.id ≡ Some held.entry.id

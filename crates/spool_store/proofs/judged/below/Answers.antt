@@ -1,6 +1,7 @@
 -- By the verdict above.
 use Rattle.std.proofs.Common.{subst, arith}
-use Rattle.spool_store.specs.Verdicts.{IsVerdict, IsLiveAt}
+use Rattle.spool_store.specs.Verdicts.{IsLiveAt}
+use Rattle.spool_store.specs.inner.Judging.{IsVerdict}
 use Rattle.spool_store.proofs.Verdicts.{verdict_strange, verdict_dead, verdict_lower, verdict_live}
 use Rattle.spool_store.proofs.judged.below.Goals as goal
 

@@ -1,7 +1,7 @@
 -- A live control file tells its entry, another nothing.
 use Rattle.std.proofs.Common.{◌≡◌, [], subst, inl, refl}
 use Rattle.std.proofs.lemmas.List.{get_or_read}
-use Rattle.spool_store.specs.Verdicts.{IsVerdict}
+use Rattle.spool_store.specs.inner.Judging.{IsVerdict}
 use Rattle.spool_store.specs.inner.Finds.{dir_at, spot_named}
 use Rattle.spool_store.proofs.Carrying.{live_read, live_plain}
 use Rattle.spool_store.proofs.Finding.{on_ok}

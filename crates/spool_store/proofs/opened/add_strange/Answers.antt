@@ -3,7 +3,7 @@ use Rattle.std.proofs.Common.{◌≡◌, ◌∙◌, ◌++◌, ◌∷◌, [], Lis
 use Rattle.std.proofs.lemmas.List.{get_or_read}
 use Rattle.mail_base.specs.declared.control.Stray.{Stray}
 use Rattle.mail_base.specs.Names.{name_of}
-use Rattle.spool_store.specs.Verdicts.{IsVerdict}
+use Rattle.spool_store.specs.inner.Judging.{IsVerdict}
 use Rattle.spool_store.specs.inner.Finds.{dir_at, spot_named}
 use Rattle.spool_store.proofs.Carrying.{live_plain}
 use Rattle.spool_store.proofs.Finding.{on_ok}

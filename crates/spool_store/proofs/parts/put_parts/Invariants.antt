@@ -3,7 +3,8 @@ use Rattle.std.proofs.Common.{◌≡◌, ◌≤◌, take, map, Contains, ℕ, Li
 use Rattle.spool_disk.specs.Disk.{FileMap}
 use Rattle.spool_store.specs.Entries.{Stored}
 use Rattle.spool_store.specs.Moves.{Moves}
-use Rattle.spool_store.specs.Parts.{AreNew, IsUnderWay, entry_of}
+use Rattle.spool_store.specs.Parts.{entry_of}
+use Rattle.spool_store.specs.inner.Parts.{AreNew, IsUnderWay}
 use Rattle.spool_store.specs.Writes.{AreWritten}
 use Rattle.spool_store.proofs.parts.put_parts.Given as goal
 

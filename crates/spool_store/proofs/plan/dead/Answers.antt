@@ -3,7 +3,7 @@ use Rattle.std.proofs.Common.{◌≡◌, ◌<◌, arith, get_or, length, refl, s
 use Rattle.std.proofs.lemmas.List.{get_or_default}
 use Rattle.std.proofs.lemmas.List.Elements.{Contains-get_or}
 use Rattle.spool_store.specs.Tidying.{IsDead}
-use Rattle.spool_store.specs.Verdicts.{IsVerdict}
+use Rattle.spool_store.specs.inner.Judging.{IsVerdict}
 use Rattle.spool_store.specs.declared.named.Found.{Found}
 use Rattle.spool_store.specs.inner.Finds.{spot_named}
 use Rattle.spool_store.specs.inner.Plans.{Stays, its_name}

@@ -1,6 +1,6 @@
 -- A live entry's control file says its control.
 use Rattle.std.proofs.Common.{subst}
-use Rattle.spool_store.specs.Verdicts.{IsVerdict}
+use Rattle.spool_store.specs.inner.Judging.{IsVerdict}
 use Rattle.spool_store.specs.inner.Finds.{spot_named}
 use Rattle.spool_store.proofs.Carrying.{live_read}
 use Rattle.spool_store.proofs.PlanLemmas.{found_says}

@@ -1,6 +1,6 @@
 -- By the verdict.
 use Rattle.std.proofs.Common.{subst}
-use Rattle.spool_store.specs.Verdicts.{IsVerdict}
+use Rattle.spool_store.specs.inner.Judging.{IsVerdict}
 use Rattle.spool_store.specs.inner.Finds.{spot_named}
 use Rattle.spool_store.specs.inner.Sweeps.{by_strange, by_live}
 use Rattle.spool_store.proofs.Carrying.{live_read}

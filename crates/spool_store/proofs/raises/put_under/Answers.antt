@@ -11,8 +11,7 @@ pub returns-in_err-put_parts-clause-moves : goal.returns-in_err-put_parts-clause
 returns-in_err-put_parts-clause-moves g c = λ f next new can.
     let these = map (entry_of c.args.body.now) c.args.children.now in
     let s = entry_of c.args.body.now c.args.parent.now in
-    let p = err_from_is_err_and c.from_residual.result c.from_residual.ensures.1 in
-    rw p.1 (moves_weaker _ _ _ _ _ _ _ (λ x m. inl m) (λ x m. inl m) (c.in_err-put_parts.ensures.moves f next (s ∷ these) new (λ t k. contains_tail s t these k)))
+    rw (err_from_is_err_and c.from_residual.result c.from_residual.ensures.1).1 (moves_weaker _ _ _ _ _ _ _ (λ x m. inl m) (λ x m. inl m) (c.in_err-put_parts.ensures.moves f next (s ∷ these) new (λ t k. contains_tail s t these k)))
 
 pub returns-in_err-put_control-clause-moves : goal.returns-in_err-put_control-clause-moves
 returns-in_err-put_control-clause-moves g c = λ f next new can.

@@ -2,7 +2,7 @@
 use Rattle.std.proofs.Common.{◌∙◌, ap, sym}
 use Rattle.mail_base.specs.Names.{name_of}
 use Rattle.mail_base.specs.declared.id.Kind.TheVariants.{Qf, Tf}
-use Rattle.spool_store.specs.Keepers.{with_new}
+use Rattle.spool_store.specs.inner.Parts.{with_new}
 use Rattle.spool_store.specs.declared.held.Held.{Held}
 use Rattle.spool_store.proofs.Shelving.{held_is}
 use Rattle.spool_store.proofs.queue.Queue.write_control.Goals as goal

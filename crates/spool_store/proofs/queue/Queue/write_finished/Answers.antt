@@ -4,7 +4,7 @@ use Rattle.std.proofs.lemmas.Result.{err_from_is_err_and}
 use Rattle.mail_base.specs.Names.{name_of}
 use Rattle.mail_base.specs.States.{needs_body}
 use Rattle.mail_base.specs.declared.id.Kind.TheVariants.{Df, Qf, Sf}
-use Rattle.spool_store.specs.Finishing.{HasEnded}
+use Rattle.spool_store.specs.inner.Finishing.{HasEnded}
 use Rattle.spool_store.specs.Keepers.{seen}
 use Rattle.spool_store.specs.Stores.{spot_at}
 use Rattle.spool_store.specs.declared.held.Held.{Held}

@@ -1,7 +1,7 @@
 -- The first free id stands behind.
 use Rattle.std.proofs.Common.{◌≡◌, ℕ, sym, subst, ◌<◌}
 use Rattle.std.specs.Prelude.{All}
-use Rattle.spool_store.specs.Stores.{Shelved}
+use Rattle.spool_store.specs.inner.Shelves.{Shelved}
 use Rattle.spool_store.specs.declared.held.Held.{Held}
 use Rattle.spool_store.proofs.Shelving.{room_left, added_ascends, added_below}
 use Rattle.spool_store.proofs.shelf.Shelf.add.Goals as goal

@@ -1,6 +1,7 @@
 -- The entry at its place is the only one of its id.
 use Rattle.std.proofs.Common.{sym, subst}
-use Rattle.spool_store.specs.Stores.{IsPlaceOf, Shelved, refinished}
+use Rattle.spool_store.specs.Stores.{refinished}
+use Rattle.spool_store.specs.inner.Shelves.{IsPlaceOf, Shelved}
 use Rattle.spool_store.proofs.Shelving.{refinished_at, refinished_id, same_kept}
 use Rattle.spool_store.proofs.shelf.Shelf.set_finished.Goals as goal
 

@@ -4,6 +4,8 @@ use Rattle.mail_base.specs.States.{needs_body}
 use Rattle.mail_base.specs.declared.id.Kind.TheVariants.{Qf, Sf}
 use Rattle.mail_base.specs.declared.control.Control.{Control}
 use Rattle.spool_disk.specs.Disk.{FileMap, bytes_at}
+use Rattle.spool_disk.specs.Spooled.{Spooled}
+use Rattle.spool_store.specs.Moves.{Moves}
 use Rattle.spool_store.specs.Queue.{Spot, spot_place, body_place, IsSpot, IsOpen, IsLive}
 use Rattle.spool_store.specs.Tidying.{IsTidied, as_kind}
 
@@ -26,3 +28,7 @@ pub record HasFinished (dirs : List (List ℕ)) (f : FileMap) (s : Spot) (c : Co
     (g : FileMap) : Type 0 where
   pub ended : HasEnded dirs f s g
   pub body : needs_body c ≡ false → bytes_at g (body_place s) ≡ None
+
+-- a run of calls, whatever they make of the files
+abbrev pub IsRun : Spooled → Spooled → Type 0
+IsRun old new = Moves old new (λ f. ⊥) (λ f. ⊥) (λ f. ⊥)
