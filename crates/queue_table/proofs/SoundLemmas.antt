@@ -1,5 +1,5 @@
 -- Each command leaves a sound table.
-use Rattle.std.proofs.Common.{◌≡◌, ⊎_elim, ℕ, zero, suc, ◌+◌, ◌-◌, ◌<◌, ◌≤◌, ◌^◌, List, [], ◌∷◌, ◌++◌, map, length, Option, Some, None, Bool, true, false, if◌then◌else◌, true≢false, refl, sym, ◌∙◌, ap, subst, arith, eq-eqb, Contains}
+use Rattle.std.proofs.Common.{◌≡◌, ℕ, zero, suc, ◌+◌, ◌-◌, ◌<◌, ◌≤◌, ◌^◌, List, [], ◌∷◌, ◌++◌, map, length, Option, Some, None, Bool, true, false, if◌then◌else◌, true≢false, refl, sym, ◌∙◌, ap, subst, arith, eq-eqb, Contains}
 use Rattle.std.specs.Prelude.{All, IfSome, eqb, sum_by}
 use Rattle.std.specs.List.Sorted.{IsStrictlySortedBy}
 use Rattle.std.specs.Ordering.{nat_cmp}
@@ -29,7 +29,8 @@ use Rattle.queue_table.specs.Soundness.{AreBounces, AreCuts, CanDo, HasEntry, Is
 use Rattle.queue_table.specs.declared.terms.Terms.{Terms}
 use Rattle.spool_store.proofs.Adding.{sorted_append}
 use Rattle.spool_store.proofs.Numbering.{first_ascends, numbered_ascends}
-use Rattle.spool_store.proofs.Standing.{contains_cases, contains_head, contains_tail}
+use Rattle.spool_store.proofs.Replacing.{contains_map, id_stays, ids_stay, raised_least}
+use Rattle.spool_store.proofs.Standing.{contains_head}
 use Rattle.queue_table.proofs.EntryLemmas.{changed_each}
 use Rattle.queue_table.proofs.GoingLemmas.{at_entry}
 
@@ -90,30 +91,12 @@ record IsAddition (new : List Stored) (next more : ℕ) (s : Stored) : Type 0 wh
   pub most : s.id < more
   pub sound : IsSoundEntry new s
 
-raised_more : (n : ℕ) → n < 2 ^ 64 → n ≤ raised n
-raised_more n lt = omega (arith, lt)
-
 raised_fits : (n : ℕ) → raised n < 2 ^ 64
 raised_fits n = omega arith
 
 none_ascends : IsStrictlySortedBy nat_cmp (ids [])
 unfolding IsStrictlySortedBy
 none_ascends = tt
-
-id_stays : (b : Bool) (d : Control) (x : Stored) → (if b then record { id = x.id; dir = x.dir; control = d; body = x.body } else x).id ≡ x.id
-id_stays true d x = refl
-id_stays false d x = refl
-
-ids_stay : (id : ℕ) (d : Control) (xs : List Stored) → ids (with_control id d xs) ≡ ids xs
-ids_stay id d [] = refl
-ids_stay id d (x ∷ xs) = λ i. id_stays (eqb x.id id) d x i ∷ ids_stay id d xs i
-
-contains_map : (f : Stored → Stored) (xs : List Stored) (a : Stored) → Contains xs a → Contains (map f xs) (f a)
-contains_map f [] a k = absurd (omega (arith, k.1))
-contains_map f (x ∷ xs) a k = ⊎_elim
-    (λ (e : x ≡ a). subst (λ (q : Stored). Contains (f x ∷ map f xs) (f q)) e (contains_head (f x) (map f xs)))
-    (λ (later : Contains xs a). contains_tail (f x) (f a) (map f xs) (contains_map f xs a later))
-    (contains_cases x a xs k)
 
 -- an entry and what became of it
 record IsAsKept (a b : Stored) : Type 0 where
@@ -130,7 +113,7 @@ changed_wider table id d added new has sound e more bounce a m =
     (record { id = refl; revision = more; bounce = bounce }) a m in
     record {
       now = replaced id d a;
-      among = subst (λ (q : List Stored). Contains q (replaced id d a)) (sym e) (Contains-append_left (with_control id d table.entries) added (replaced id d a) (contains_map (replaced id d) table.entries a m));
+      among = subst (λ (q : List Stored). Contains q (replaced id d a)) (sym e) (Contains-append_left (with_control id d table.entries) added (replaced id d a) (contains_map (replaced id d) a table.entries m));
       id = k.id;
       revision = k.revision;
       bounce = k.bounce;
@@ -165,7 +148,7 @@ changed_sound table id more d added new has sound e nx up fresh le =
     let below : All (λ s. s.id < table.next) now = All-map (λ (s : Stored). s.id < table.next) (replaced id d) es
     (all_in (λ (a : Stored). (replaced id d a).id < table.next) es
     (λ a m. let lt : a.id < table.next = All-contains (λ (s : Stored). s.id < table.next) es a sound.below m in
-    subst (λ (n : ℕ). n < table.next) (sym (id_stays (eqb a.id id) d a)) lt)) in
+    subst (λ (n : ℕ). n < table.next) (sym (id_stays id d a)) lt)) in
     record {
       ascending = subst (λ (q : List Stored). IsStrictlySortedBy nat_cmp (ids q)) (sym e)
           (sorted_append now added table.next (subst (IsStrictlySortedBy nat_cmp) (sym (ids_stay id d es)) sound.ascending) up below (additions_above new table.next more added fresh));
@@ -296,11 +279,11 @@ record_sound table terms id places results moment has sound =
     let new = with_control id d table.entries in
     let its = entry_of table id has sound in
     let e : new ≡ new ++ [] = sym (append-nil new) in
-    let w = changed_wider table id d [] new has sound e (raised_more c.revision its.revision) refl in
+    let w = changed_wider table id d [] new has sound e (raised_least c.revision its.revision) refl in
     changed_sound table id table.next d [] new has sound e
     (record {
       parent = refl;
-      more = raised_more c.revision its.revision;
+      more = raised_least c.revision its.revision;
       fits = raised_fits c.revision;
       bounce = refl;
       rows = subst (λ (n : ℕ). 0 < n) (sym (results_length (is_old terms c.created moment) places results c.rows)) its.rows;
@@ -315,7 +298,7 @@ under id d = record { id = id; revision = d.revision }
 here : (table : Table) (id : ℕ) (d : Control) (added new : List Stored) (has : HasEntry table id) → IsSound table → new ≡ with_control id d table.entries ++ added → (a : Stored) × Contains new a × (a.id ≡ id) × (d.revision ≤ a.control.revision)
 here table id d added new has sound e =
     let a = replaced id d has.entry in
-    let among : Contains new a = subst (λ (q : List Stored). Contains q a) (sym e) (Contains-append_left (with_control id d table.entries) added a (contains_map (replaced id d) table.entries has.entry has.among)) in
+    let among : Contains new a = subst (λ (q : List Stored). Contains q a) (sym e) (Contains-append_left (with_control id d table.entries) added a (contains_map (replaced id d) has.entry table.entries has.among)) in
     let same : (a.id ≡ id) × (d.revision ≤ a.control.revision) =
     let t : eqb has.entry.id id ≡ true = eq-eqb has.entry.id id has.is in
     subst (λ (b : Bool). ((if b then record { id = has.entry.id; dir = has.entry.dir; control = d; body = has.entry.body } else has.entry).id ≡ id) × (d.revision ≤ (if b then record { id = has.entry.id; dir = has.entry.dir; control = d; body = has.entry.body } else has.entry).control.revision)) (sym t) (has.is, le_refl d.revision)
@@ -360,10 +343,10 @@ warned_next : (table : Table) (id : ℕ) (added new : List Stored) (has : HasEnt
 warned_next table id added new has sound e =
     let c = has.entry.control in
     let its = entry_of table id has sound in
-    let w = changed_wider table id (with_warning c) added new has sound e (raised_more c.revision its.revision) refl in
+    let w = changed_wider table id (with_warning c) added new has sound e (raised_least c.revision its.revision) refl in
     record {
       parent = refl;
-      more = raised_more c.revision its.revision;
+      more = raised_least c.revision its.revision;
       fits = raised_fits c.revision;
       bounce = refl;
       rows = its.rows;
@@ -374,13 +357,13 @@ returned_next : (table : Table) (id first : ℕ) (added new : List Stored) (has 
 returned_next table id first added new has sound e bounce =
     let c = has.entry.control in
     let its = entry_of table id has sound in
-    let w = changed_wider table id (with_returns first c) added new has sound e (raised_more c.revision its.revision) refl in
+    let w = changed_wider table id (with_returns first c) added new has sound e (raised_least c.revision its.revision) refl in
     let double = c.marks.double in
     let change : Row → Row = λ row. record row { state = given_back double first row.state } in
     let were : All (λ row. IsMeant new double row.state) c.rows = states_wider table.entries new double c.rows w its.states in
     record {
       parent = refl;
-      more = raised_more c.revision its.revision;
+      more = raised_least c.revision its.revision;
       fits = raised_fits c.revision;
       bounce = refl;
       rows = subst (λ (n : ℕ). 0 < n) (sym (length-map c.rows change)) its.rows;

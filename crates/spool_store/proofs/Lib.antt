@@ -9,7 +9,7 @@ mod Tidying
 mod Places
 mod Raising
 mod Reading
-mod Replacing
+pub mod Replacing
 mod Stages
 pub mod Standing
 mod Sweeping

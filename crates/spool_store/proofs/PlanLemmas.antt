@@ -30,6 +30,7 @@ use Rattle.spool_store.proofs.Tidying.{Went, stayed, went, origin, went_back, we
 use Rattle.spool_store.proofs.Places.{ids_of, kinds_of}
 use Rattle.spool_store.proofs.Sweeping.{not_of_live}
 use Rattle.spool_store.proofs.SweepLemmas.{gone_dead, of_map, same_place}
+use Rattle.spool_store.proofs.Verdicts.{some_once}
 use Rattle.mail_base.specs.Names.{name_of}
 
 pub picks_by : {X : Type 0} (n : X → Named) (P Q : X → Type 0) (from : List X) (y : X) (b : Bool) (old new : List Named) → (b ≡ true → P y) → (b ≡ false → Q y) → new ≡ (if b then old ++ n y ∷ [] else old) → Picks n P Q from old → Picks n P Q (from ++ y ∷ []) new
@@ -250,12 +251,9 @@ said : (o : Option Control) (bytes : List ℕ) (c : Control) → IsMeaning bytes
 said None bytes c means says = absurd (means c says)
 said (Some d) bytes c means says = ap (λ (q : Control). Some q) (says_one bytes d c means says)
 
-same_bytes : {a b : List ℕ} → Some a ≡ Some b → a ≡ b
-same_bytes e = cc
-
 -- what was found of a control file is the control that it says
 pub found_says : (dirs : List (List ℕ)) (f : FileMap) (x : Found) (c : Control) → IsFound dirs f x → IsRead dirs f (spot_named dirs x.named) c → x.control ≡ Some c
-found_says dirs f x c h read = said x.control h.bytes c h.means (subst (λ (b : List ℕ). Says b c) (same_bytes (sym read.there.there ∙ h.there.there)) read.says)
+found_says dirs f x c h read = said x.control h.bytes c h.means (subst (λ (b : List ℕ). Says b c) (some_once (sym read.there.there ∙ h.there.there)) read.says)
 
 -- a control file that isn't strange: no other of its id is
 pub none_strange : (dirs : List (List ℕ)) (f : FileMap) (s t : Spot) (b : List ℕ) → IsControl dirs f s b → (IsStrange dirs f s → ⊥) → IsStrange dirs f t → t.id ≡ s.id → ⊥

@@ -98,7 +98,8 @@ pub clean_ok : {T : Type 0} (r : Result T StoreFault) (a b : Spooled) (dirs : Li
 clean_ok (Ok x) a b dirs steps h = clean_at a.told b.told dirs steps.now (λ f e. becomes_to a.told b.told _ _ _ (λ g k. k.1) (h f e).now)
 clean_ok (Err e) a b dirs steps h = tt
 
-some_told : (o : Option FileMap) (P : FileMap → Type 0) → ((f : FileMap) → o ≡ Some f → P f) → IfSome o P
+-- what holds of each map that is told holds where one is told
+pub some_told : (o : Option FileMap) (P : FileMap → Type 0) → ((f : FileMap) → o ≡ Some f → P f) → IfSome o P
 some_told None P h = tt
 some_told (Some f) P h = h f refl
 

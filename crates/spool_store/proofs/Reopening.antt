@@ -24,6 +24,7 @@ use Rattle.spool_store.specs.inner.Opening.{opened_store, taken_over}
 use Rattle.spool_store.specs.inner.Sweeps.{Never}
 use Rattle.spool_store.proofs.Agreeing.{strays_alike}
 use Rattle.spool_store.proofs.Carrying.{live_plain, live_read}
+use Rattle.spool_store.proofs.RecoveryLemmas.{some_told}
 use Rattle.spool_store.proofs.Replacing.{contains_map}
 use Rattle.spool_store.proofs.Sweeping.{swept_clean, swept_settled, swept_tidy, tidied_same}
 use Rattle.spool_store.proofs.Tidying.{live_goes, origin, tidied_live, tidied_live_back, tidied_strange, went_dir, went_id}
@@ -92,10 +93,6 @@ becomes_opened (Some f) (Some q) dirs o steps leads entries strange next g e =
     let led = subst (λ (x : FileMap). IsTidied dirs f x × IsSwept dirs x) same (leads f refl refl) in
     (f, refl, record { tidied = led.0; swept = led.1; entries = entries f refl; strange = strange f refl; next = next f refl })
 
-some_by : (b : Option FileMap) (P : FileMap → Type 0) → ((g : FileMap) → b ≡ Some g → P g) → IfSome b P
-some_by None P h = tt
-some_by (Some g) P h = h g refl
-
 -- what a call that has opened it knows
 pub record HasOpened (a b : Spooled) (dirs : List (List ℕ)) (o : Opened) : Type 0 where
   pub steps : Becomes a.told b.told Never Never
@@ -106,7 +103,7 @@ pub record HasOpened (a b : Spooled) (dirs : List (List ℕ)) (o : Opened) : Typ
 
 -- the store that an opening gives agrees with the map that the opening leaves
 pub agrees_now : (a b : Spooled) (dirs : List (List ℕ)) (o : Opened) → HasOpened a b dirs o → IfSome b.told (Agrees (opened_store dirs o))
-agrees_now a b dirs o h = some_by b.told (Agrees (opened_store dirs o)) (λ g e. let k = becomes_opened a.told b.told dirs o h.steps h.leads h.entries h.strange h.next g e in opened_agrees dirs k.0 g o k.2)
+agrees_now a b dirs o h = some_told b.told (Agrees (opened_store dirs o)) (λ g e. let k = becomes_opened a.told b.told dirs o h.steps h.leads h.entries h.strange h.next g e in opened_agrees dirs k.0 g o k.2)
 
 some_is : (o : Option FileMap) (f g : FileMap) → o ≡ Some f → o ≡ Some g → g ≡ f
 some_is None f g p q = cc
@@ -114,13 +111,13 @@ some_is (Some x) f g p q = let one : x ≡ f = cc p in let other : x ≡ g = cc 
 
 -- the map that an opening leaves is settled with the table that the old one stood for
 pub settled_now : (a b : Spooled) (dirs : List (List ℕ)) (o : Opened) (table : Table) (f : FileMap) → HasOpened a b dirs o → a.told ≡ Some f → StandsFor dirs table f → IfSome b.told (IsSettled dirs (record { entries = table.entries; next = o.next }))
-settled_now a b dirs o table f h e stands = some_by b.told (IsSettled dirs (record { entries = table.entries; next = o.next })) (λ g q.
+settled_now a b dirs o table f h e stands = some_told b.told (IsSettled dirs (record { entries = table.entries; next = o.next })) (λ g q.
     let k = becomes_opened a.told b.told dirs o h.steps h.leads h.entries h.strange h.next g q in
     opened_settled dirs k.0 g o table k.2 (subst (λ (x : FileMap). StandsFor dirs table x) (some_is a.told k.0 f k.1 e) stands))
 
 -- the map that an opening leaves is clean
 pub clean_now : (a b : Spooled) (dirs : List (List ℕ)) (o : Opened) → HasOpened a b dirs o → IfSome b.told (IsClean dirs)
-clean_now a b dirs o h = some_by b.told (IsClean dirs) (λ g e. swept_clean dirs g (becomes_opened a.told b.told dirs o h.steps h.leads h.entries h.strange h.next g e).2.swept)
+clean_now a b dirs o h = some_told b.told (IsClean dirs) (λ g e. swept_clean dirs g (becomes_opened a.told b.told dirs o h.steps h.leads h.entries h.strange h.next g e).2.swept)
 
 -- what the store is of the map that was found
 entries_back : (es : List Entry) → map (λ (h : Held). h.entry) (map taken_over es) ≡ es

@@ -1,5 +1,5 @@
 -- A replaced control: from a map with which the store agrees, and what a stop leaves.
-use Rattle.std.proofs.Common.{◌≡◌, ◌≢◌, ◌⊎◌, inl, inr, ⊎_elim, ℕ, ◌<◌, ◌≤◌, ◌^◌, List, [], ◌∷◌, map, length, Bool, true, false, refl, sym, ◌∙◌, ap, subst, arith, Contains}
+use Rattle.std.proofs.Common.{◌≡◌, ◌≢◌, ◌⊎◌, inl, inr, ⊎_elim, ℕ, ◌≤◌, List, [], ◌∷◌, map, length, Bool, true, false, refl, sym, ◌∙◌, ap, subst, arith, Contains}
 use Rattle.std.specs.Prelude.{not, ◌&&◌, ◌||◌, IfSome}
 use Rattle.std.specs.List.{list_all, list_any}
 use Rattle.std.proofs.lemmas.List.Elements.{All-nil, All-contains}
@@ -24,12 +24,12 @@ use Rattle.spool_store.specs.Writes.{AreRaised}
 use Rattle.spool_store.specs.inner.Parts.{CanRaise, IsUnderWay, IsLeft, own_control, with_new}
 use Rattle.spool_store.specs.Stores.{StoreSeen, spot_at, kind_of, Agrees, Holds, recontrolled, KeepsOthers}
 use Rattle.spool_store.specs.inner.Shelves.{Shelved}
-use Rattle.spool_store.specs.Keepers.{CanReplace, raised, after_replace}
+use Rattle.spool_store.specs.Keepers.{CanReplace, after_replace}
 use Rattle.spool_store.specs.declared.held.Held.{Held}
 use Rattle.spool_store.proofs.Agreeing.{replaced_agrees, agrees_settled}
 use Rattle.spool_store.proofs.Carrying.{live_read, live_plain}
 use Rattle.spool_store.proofs.Keeping.{IsMine, mine_live, left_keeps}
-use Rattle.spool_store.proofs.Replacing.{place_or, replaced_settled}
+use Rattle.spool_store.proofs.Replacing.{place_or, raised_least, replaced_settled}
 use Rattle.spool_store.proofs.Standing.{contains_cases}
 use Rattle.spool_store.proofs.Waiting.{before_stands}
 
@@ -64,10 +64,6 @@ replaced_by store f id c paper a can =
     let live : IsLive store.dirs f (spot_at h) h.entry.control = All-contains (λ (q : Held). IsLive store.dirs f (spot_at q) q.entry.control) store.entries h a.each can.among in
     let kind = open_kind store.dirs f h live can.open_row h.finished refl in
     record { agrees = a; live = subst (λ (q : Spot). IsLive store.dirs f q h.entry.control) (λ i. record { dir = h.entry.dir; kind = kind i; id = h.entry.id }) live }
-
--- a raised revision is no less
-pub raised_least : (r : ℕ) → r < 2 ^ 64 → r ≤ raised r
-raised_least r lt = grind (arith, lt)
 
 pub raises_to : (store : StoreSeen) (f g : FileMap) (id : ℕ) (c : Control) (paper : Sheet) (can : CanReplace store.entries id c paper) → IsReplaced store f can.held c → AreRaised [] (with_new can.held c) f g → IsRaised store.dirs (spot_of Qf (with_new can.held c)) can.held.entry.control c f g
 raises_to store f g id c paper can is w = record {

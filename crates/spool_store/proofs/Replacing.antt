@@ -1,5 +1,5 @@
 -- After a replace the map stands for the table with the new control, and is tidy.
-use Rattle.std.proofs.Common.{◌≡◌, ◌≢◌, ◌⊎◌, inl, inr, ⊎_elim, ℕ, List, [], ◌∷◌, map, None, Bool, refl, sym, ◌∙◌, ap, subst, arith, Contains, if◌then◌else◌, eq-eqb, ne_eqb}
+use Rattle.std.proofs.Common.{◌≡◌, ◌≢◌, ◌⊎◌, inl, inr, ⊎_elim, ℕ, ◌<◌, ◌≤◌, ◌^◌, List, [], ◌∷◌, map, None, Bool, refl, sym, ◌∙◌, ap, subst, arith, Contains, if◌then◌else◌, eq-eqb, ne_eqb}
 use Rattle.std.specs.List.Sorted.{IsStrictlySortedBy}
 use Rattle.std.specs.Ordering.{nat_cmp}
 use Rattle.std.proofs.lemmas.Bool.{cases_eq}
@@ -11,6 +11,7 @@ use Rattle.spool_disk.specs.Disk.{Place, FileMap, bytes_at}
 use Rattle.mail_base.specs.declared.control.Control.{Control}
 use Rattle.mail_base.specs.States.{NeedsBody}
 use Rattle.spool_store.specs.Entries.{Stored, Table, ids, replaced, with_control}
+use Rattle.spool_store.specs.Keepers.{raised}
 use Rattle.spool_store.specs.Settled.{spot_of, HasFiles, HasRead, IsTidy, IsNamed, in_name, as_parent, IsSettled}
 use Rattle.spool_store.specs.Changes.{IsRaised}
 use Rattle.spool_store.proofs.Reading.{one_control}
@@ -33,11 +34,12 @@ replaced_at id c s e = ap (λ (b : Bool). if b then record { id = s.id; dir = s.
 replaced_other : (id : ℕ) (c : Control) (s : Stored) → s.id ≢ id → replaced id c s ≡ s
 replaced_other id c s ne = ap (λ (b : Bool). if b then record { id = s.id; dir = s.dir; control = c; body = s.body } else s) (ne_eqb s.id id ne)
 
--- ids and directories stay
-id_stays : (id : ℕ) (c : Control) (s : Stored) → (replaced id c s).id ≡ s.id
+-- another control leaves the id
+pub id_stays : (id : ℕ) (c : Control) (s : Stored) → (replaced id c s).id ≡ s.id
 id_stays id c s = ⊎_elim (λ (e : s.id ≡ id). ap (λ (q : Stored). q.id) (replaced_at id c s e)) (λ (ne : s.id ≢ id). ap (λ (q : Stored). q.id) (replaced_other id c s ne)) (cases_eq s.id id)
 
-ids_stay : (id : ℕ) (c : Control) (xs : List Stored) → ids (with_control id c xs) ≡ ids xs
+-- and so the ids
+pub ids_stay : (id : ℕ) (c : Control) (xs : List Stored) → ids (with_control id c xs) ≡ ids xs
 ids_stay id c [] = refl
 ids_stay id c (x ∷ xs) = λ j. id_stays id c x j ∷ ids_stay id c xs j
 
@@ -138,3 +140,7 @@ replaced_settled dirs table s old new f g h settled = record {
     drafts = drafts_raised dirs table.next s old new f g h settled.tidy;
   };
 }
+
+-- a raised revision is no less
+pub raised_least : (r : ℕ) → r < 2 ^ 64 → r ≤ raised r
+raised_least r lt = grind (arith, lt)

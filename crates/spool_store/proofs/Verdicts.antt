@@ -20,7 +20,8 @@ use Rattle.spool_store.proofs.Carrying.{strange_control, live_read, live_plain}
 use Rattle.spool_store.proofs.Standing.{same_or_twin, one_spot}
 use Rattle.spool_store.proofs.Replacing.{contains_map}
 
-some_once : {x y : List ℕ} → Some x ≡ Some y → x ≡ y
+-- the bytes of a file are one text
+pub some_once : {x y : List ℕ} → Some x ≡ Some y → x ≡ y
 some_once e = cc
 
 -- a sober control file is strange only under a strange one

@@ -7,7 +7,7 @@ ghost use Rattle.spool_store.specs.inner.Looks.{Looks};
 ghost use Rattle.mail_base.specs.declared.control.Stray.{Stray as StraySeen};
 ghost use Rattle.spool_store.specs.declared.named.Named.{Named as NamedSeen};
 
-use crate::looking::store_fault;
+use crate::fault::store_fault;
 use crate::named::Named;
 use mail_base::{Id, NoMemory, Seq, StoreFault, Stray, Text, TryCopy};
 use spool_disk::Spool;

@@ -1,6 +1,4 @@
 ghost use Rattle.std.specs.Prelude.{◌≡◌, ◌⊎◌, ◌<◌, ◌++◌, ◌∷◌, [], List, true, false, IfOk, OnOk, Some, Contains, length};
-ghost use Rattle.mail_base.specs.declared.fault.EdgeFault.TheVariants.{NoMemory as EdgeMemory, Failed as EdgeFailed};
-ghost use Rattle.mail_base.specs.declared.fault.StoreFault.TheVariants.{NoMemory as Memory, SpoolFault as Broke};
 ghost use Rattle.spool_disk.specs.Disk.{FileMap, bytes_at};
 ghost use Rattle.spool_store.specs.Queue.{at, IsSpot};
 ghost use Rattle.spool_store.specs.inner.Finds.{IsMeaning, IsThere, AreNamed, AddsFound, AreAmong, AreRead, spot_named};
@@ -9,22 +7,12 @@ ghost use Rattle.mail_base.specs.declared.id.Kind.TheVariants.{Qf as ControlKind
 ghost use Rattle.spool_store.specs.declared.named.Named.{Named as NamedSeen};
 ghost use Rattle.spool_store.specs.declared.named.Found.{Found as FoundSeen};
 
+use crate::fault::store_fault;
 use crate::named::{Found, Named};
-use mail_base::{Control, EdgeFault, Kind, NoMemory, Seq, StoreFault, Text};
+use mail_base::{Control, Kind, NoMemory, Seq, StoreFault, Text};
 use qf_format::parse;
 use spool_disk::Spool;
 use std::alloc::Global;
-
-// What a call of the spool that gives memory back failed for.
-pub(crate) fn store_fault(fault: EdgeFault) -> StoreFault
-    ensures memory { fault ≡ EdgeMemory → result ≡ Memory }
-    ensures failed { fault ≡ EdgeFailed → result ≡ Broke }
-{
-    match fault {
-        EdgeFault::Failed => StoreFault::SpoolFault,
-        EdgeFault::NoMemory => StoreFault::NoMemory,
-    }
-}
 
 // The bytes of a file, if it is there.
 pub(crate) fn read_bytes<D: Spool>(
