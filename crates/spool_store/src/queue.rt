@@ -40,7 +40,9 @@ use crate::raises::{put_raise, put_raised};
 use crate::recovery::reopen;
 use crate::shelf::Shelf;
 use crate::{Held, Parcel, Room, SpoolFault};
-use mail_base::{Draft, Failed, Id, Kind, NoMemory, Parent, Seq, StoreFault, Stray, Text, TryCopy};
+use mail_base::{
+    Draft, Entry, Failed, Id, Kind, NoMemory, Parent, Seq, StoreFault, Stray, Text, TryCopy,
+};
 use qf_format::{Paper, print_into, room};
 use spool_disk::Spool;
 use std::alloc::Global;
@@ -127,6 +129,16 @@ impl Queue {
         ensures below { All (λ h. h.entry.id < (seen self.now).next) (seen self.now).entries }
     {
         self.shelf.items()
+    }
+
+    /// The entry of an id. It takes no memory.
+    pub fn entry(&self, id: &Id) -> &Entry
+        requires entry { HasId (seen self.now).entries id.now }
+        ensures is { (h : Held) → Contains (seen self.now).entries h → h.entry.id ≡ id.now
+            → result.now ≡ h.entry }
+    {
+        let place = self.shelf.place(*id);
+        &self.shelf.items()[place].entry
     }
 
     /// Whether each call that takes the spool answers `SpoolFault`. It takes no memory.
