@@ -37,8 +37,8 @@ use Rattle.spool_store.proofs.HoldingLemmas.{replace_holds}
 use Rattle.spool_store.proofs.Keeping.{IsMine, mine_live, mine_new, left_keeps}
 use Rattle.spool_store.proofs.Numbering.{IsFrom, numbered_from, numbered_new}
 use Rattle.spool_store.proofs.ParcelLemmas.{entered_same, held_numbered, numbered_pairs, queued_are, row_of, written_left, zip_append}
-use Rattle.spool_store.proofs.Replaces.{open_kind, open_needs, raised_least}
-use Rattle.spool_store.proofs.Replacing.{place_or}
+use Rattle.spool_store.proofs.Replaces.{open_kind, open_needs}
+use Rattle.spool_store.proofs.Replacing.{place_or, raised_least}
 use Rattle.spool_store.proofs.Standing.{contains_cases, contains_head, contains_tail}
 
 -- the new children of a commit under an old parent

@@ -5,4 +5,4 @@ use Rattle.spool_store.proofs.Shelving.{held_is}
 use Rattle.spool_store.proofs.queue.Queue.entry.Goals as goal
 
 pub returns : goal.returns
-returns c = λ h k has. ap (λ (q : Held). q.entry) (held_is c.args.self.now.shelf.items c.items.result.now c.args.id.now c.place-place.result c.index-items-place.result h c.items.ensures.items c.items.ensures.ascending c.place-place.ensures.at k has)
+returns c = record { is = λ h k has. ap (λ (q : Held). q.entry) (held_is c.args.self.now.shelf.items c.items.result.now c.args.id.now c.place-place.result c.index-items-place.result h c.items.ensures.items c.items.ensures.ascending c.place-place.ensures.at k has) }
