@@ -25,11 +25,11 @@ sys.path.insert(0, str(HERE / "clients"))
 
 from callers import Place, environment, programs  # noqa: E402
 from cases import all_cases  # noqa: E402
-from queued import Strange, entries, our_entry, their_entry  # noqa: E402
+from queued import Strange  # noqa: E402
 from relay import Relay  # noqa: E402
+from server import BUILT, Server  # noqa: E402
 
 CLIENTS = ("swaks", "msmtp", "curl", "smtplib", "git send-email", "smtp-source")
-BUILT = HERE.parent / "crates/sendmail/out/sendmail"
 HOST = "mx.example"
 TEXTS = {
     "greeting 220": f"220 {HOST} ESMTP ready",
@@ -56,41 +56,6 @@ TEXTS = {
     "QUIT 221": f"221 2.0.0 {HOST} closing connection",
 }
 RECEIVED = r"from \S* by mx\.example with {} id {}; \w{{3}}, \d+ \w{{3}} \d{{4}} [\d:]{{8}} \+0000"
-THEIR_HEAD = [
-    "V10/Berkeley",
-    "O DeliveryMode=queue",
-    "O MaxMessageSize=16777216",
-    "O AuthMechanisms=NONE",
-]
-THEIR_LESS = ("O AliasFile=", "O HostsFile=")
-
-
-class Server:
-    """The program over a queue of its own."""
-
-    def __init__(self, command, is_theirs, folder):
-        self.folder, self.is_theirs = folder, is_theirs
-        self.config = folder / "sendmail.cf"
-        lines = (HERE / "clients/example.cf").read_text().replace("@DIR@", str(folder)).splitlines()
-        if is_theirs:
-            lines = THEIR_HEAD + [theirs(line) for line in lines if not line.startswith(THEIR_LESS)]
-        self.config.write_text("\n".join(lines) + "\n")
-        (folder / "aliases").write_text("")
-        (folder / "hosts").write_text("127.0.0.1 far.example far\n127.0.0.1 c.example\n")
-        self.command = [*command.split(), "-bs", "-C", str(self.config)]
-
-    def clear(self):
-        shutil.rmtree(self.folder / "queue", ignore_errors=True)
-        (self.folder / "queue/bulk").mkdir(parents=True)
-
-    def entries(self):
-        reads = their_entry if self.is_theirs else our_entry
-        return entries(self.folder / "queue", reads)
-
-
-def theirs(line):
-    """Without the flags that ask for users of the machine."""
-    return line.replace("F=lsDFMAw5n", "F=lsDFMAn")
 
 
 def verb(command):
