@@ -29,7 +29,9 @@ from queued import Strange  # noqa: E402
 from relay import Relay  # noqa: E402
 from server import BUILT, Server  # noqa: E402
 
+OWN = (".", "greeting", "gone")
 CLIENTS = ("swaks", "msmtp", "curl", "smtplib", "git send-email", "smtp-source")
+STATES = {"greeting": "(connected)", "gone": "(gone in mid-data)"}
 HOST = "mx.example"
 TEXTS = {
     "greeting 220": f"220 {HOST} ESMTP ready",
@@ -44,7 +46,7 @@ TEXTS = {
     "RCPT 503": "503 5.5.1 Need MAIL first",
     "RCPT 550": "550 5.1.1 No such user",
     "DATA 354": '354 Enter mail, end with "." on a line by itself',
-    "DATA 503": "503 5.5.1 Need (?:MAIL|RCPT) first",
+    "DATA 503": "503 5.5.1 Need RCPT first",
     ". 250": r"250 2\.0\.0 w\d{12} Message accepted for delivery",
     ". 552": "552 5.3.4 Message too large",
     "RSET 250": "250 2.0.0 Reset state",
@@ -59,7 +61,7 @@ RECEIVED = r"from \S* by mx\.example with {} id {}; \w{{3}}, \d+ \w{{3}} \d{{4}}
 
 
 def verb(command):
-    return command if command in (".", "greeting") else command[:4].upper()
+    return command if command in OWN else command[:4].upper()
 
 
 def codes(session):
@@ -181,7 +183,7 @@ def transcript(case, sessions, server):
     for session in sessions:
         before, count = None, 0
         for asked, reply in session.exchanges():
-            line = f"C: {shown(asked)}" if asked != "greeting" else "(connected)"
+            line = STATES.get(asked, f"C: {shown(asked)}")
             told = [f"S: {part}" for part in reply.decode("latin-1").splitlines()]
             now = (line[:7], told[0][:6] if told else "")
             count = count + 1 if now == before else 0

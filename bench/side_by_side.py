@@ -1,13 +1,14 @@
 #!/usr/bin/env python3
 """Measures receipt by `-bs` here and by Sendmail's own program, in turns in one run.
 
-Use: bench/side_by_side.py [--rounds N] [--messages N] THEIRS [COMMAND], where THEIRS runs Sendmail's own
-program and COMMAND ours, by default the built one. A session takes messages of 1,014 and of 101,400
-bytes, each command after the reply to the one before it. Printed are, of each program: messages a
-second by the clock, the best round; milliseconds of processor a message, the least round, with the
-program's start; its greatest memory behind the last message; and its syncs to the disk a message, by
-strace, where that is there. The queue is below the home folder. It ends with status 1 where a message
-isn't taken, or where ours syncs more than four times a message. This is no part of the gate.
+Use: bench/side_by_side.py [--rounds N] [--messages N] THEIRS [COMMAND], where THEIRS runs
+Sendmail's own program and COMMAND ours, by default the built one. A session takes messages of 1,014
+and of 101,400 bytes, each command after the reply to the one before it. Of each program it prints
+messages a second by the clock, in the slowest and the fastest round; milliseconds of processor a
+message with the program's start, the least round; its greatest memory behind the last message; and
+its syncs to the disk a message, by strace, where that is there. The queue is below the home folder.
+It ends with status 1 where a message isn't taken, or where ours syncs more than four times a
+message. This is no part of the gate.
 """
 
 import argparse

@@ -116,7 +116,8 @@ def curl_asks(*words):
 
 
 def git_send_email(patches, recipients, *words):
-    """A series of patches, each of which adds a file with these lines."""
+    """A series of patches, each of which adds a file with these lines. Lines of their texts begin
+    with dots."""
 
     def call(place):
         repository = place.folder / "repository"
@@ -133,7 +134,7 @@ def git_send_email(patches, recipients, *words):
         for number, lines in enumerate(patches, 1):
             (repository / f"file{number}").write_bytes(b"".join(line + b"\n" for line in lines))
             git("add", f"file{number}")
-            git("commit", "-q", "-m", f"change {number}")
+            git("commit", "-q", "-m", f"change {number}", "-m", ".\n.dot\n..two")
         git("format-patch", "-q", "--root", "-o", "patches")
         front = [f"--smtp-server={HOST}", f"--smtp-server-port={place.port}", f"--from=Bob <{BOB}>"]
         front += [f"--smtp-domain={HELO}", "--confirm=never", "--suppress-cc=all", "--quiet"]

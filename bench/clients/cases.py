@@ -1,8 +1,8 @@
 """What each client hands over, and what must come of it.
 
 What is said in a session stands as commands and the codes of their replies, `RCPT 250*3` for three
-of a kind, and ` / ` between sessions; a dot stands for the end of data, `none` for no reply. In
-front of each stands the greeting.
+of a kind, and ` / ` between sessions; a dot stands for the end of data, `gone` for data without an
+end, and `none` for no reply. In front of each stands the greeting.
 """
 
 import smtplib
@@ -107,7 +107,7 @@ def swaks_cases():
     yield case("QUIT in mid-transaction", call, f"{begun}, QUIT 221")
     yield case("gone in mid-transaction", swaks(HI, "--drop-after", "RCPT"), begun)
     call = swaks(HI, "--drop-after", "DATA")
-    yield case("gone in mid-data", call, f"{begun}, DATA 354, . none")
+    yield case("gone in mid-data", call, f"{begun}, DATA 354, gone none")
     yield case("TLS and AUTH where offered", swaks(HI, *asks), talk(), [stored(HI)])
     said = f"{begun}, DATA 354, . 552, QUIT 221"
     yield case("too large, without SIZE", swaks(HUGE), said, gives=26)
@@ -118,7 +118,7 @@ def msmtp_cases():
     said, sent = talk("RCPT 250*250"), (rb"(RCPT [^\n]*\n){20}",)
     name = "250 recipients, pipelined"
     yield Case("msmtp", name, msmtp(SOME), said, [stored(SOME)], sent=sent)
-    said = f"EHLO 250, MAIL 250, {ONE_REFUSED}, DATA 354, . none"
+    said = f"EHLO 250, MAIL 250, {ONE_REFUSED}, DATA 354, gone none"
     yield Case("msmtp", "one refused", msmtp(MIXED), said, gives=65)
     said = "EHLO 250, MAIL 250, RCPT 550, DATA 503"
     yield Case("msmtp", "all refused", msmtp(BAD), said, gives=65)
@@ -285,11 +285,11 @@ def git_cases():
     def case(name, call, said, wanted=(), **more):
         return Case("git send-email", name, call, said, list(wanted), **more)
 
-    lines = [[b"hello"], [b".", b".dot", b"..two"], ["Gr\u00fc\u00dfe".encode()]]
+    lines = [[b"hello"], [b"x" * 900], ["Gr\u00fc\u00dfe".encode()]]
     first = lines[:1]
     yield case("a patch", git_send_email(first, [ANN]), talk(), patches(1))
     call = git_send_email(lines, [ANN], "--8bit-encoding=UTF-8")
-    yield case("a series, with dots and 8-bit", call, talk(times=3), patches(3))
+    yield case("a series, also long and 8-bit", call, talk(times=3), patches(3))
     call, wanted = git_send_email(first, named(120)), patches(1, recipients=named(120))
     yield case("120 recipients", call, talk("RCPT 250*120"), wanted)
     said = "EHLO 250, MAIL 250, RCPT 250, RCPT 550"

@@ -47,7 +47,8 @@ class Session:
         return found, b""
 
     def exchanges(self):
-        """The pairs of a command, or `.` for the end of data, and its reply; the greeting first."""
+        """The pairs of a command, or `.` for the end of data, and its reply; the greeting first.
+        Data without an end is `gone`, which has no reply."""
         replies, sent = iter(self.replies()[0]), self.sent()
         found = [("greeting", next(replies, b""))]
         while sent:
@@ -57,7 +58,7 @@ class Session:
             if line[:4].upper() == b"DATA" and reply[:3] == b"354":
                 whole = (b"\r\n" + sent).partition(DATA_END)
                 sent = whole[2]
-                found.append((".", next(replies, b"") if whole[1] else b""))
+                found.append((".", next(replies, b"")) if whole[1] else ("gone", b""))
         return found
 
 
