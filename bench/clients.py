@@ -90,8 +90,8 @@ def first_other(wanted, found):
 
 
 def wrong_talk(case, server, sessions):
-    wanted = spelled(case.said)
-    found = [codes(session) for session in sessions]
+    wanted = [] if case.is_direct else spelled(case.said)
+    found = [] if case.is_direct else [codes(session) for session in sessions]
     if len(wanted) != len(found):
         yield f"{len(found)} sessions, and not {len(wanted)}"
     for one, other in zip(wanted, found):
@@ -119,7 +119,7 @@ def wrong_texts(sessions):
 
 def facts(it):
     paths = [name if name.startswith("<") else f"<{name}>" for name in [it.sender, *it.recipients]]
-    return [*paths, f"8BITMIME {it.is_eight}", f"protocol {it.protocol}", f"group {it.group}"]
+    return [*paths, f"8BITMIME {it.is_eight}", f"protocol {it.protocol}", f"group {it.group}", it.client]
 
 
 def wrong_entry(wanted, entry, place, is_theirs):
@@ -158,7 +158,7 @@ def run(case, server, found, settings):
     """What is wrong of a case, and its sessions."""
     case = replace(case, **case.theirs) if server.is_theirs else case
     server.clear()
-    relay = Relay(server.command)
+    relay = Relay(server.command, case.is_direct)
     place = Place(relay.port, server.folder, found, settings)
     try:
         gives = case.call(place)

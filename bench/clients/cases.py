@@ -22,6 +22,7 @@ class Stored:
     sender: str = BOB
     is_eight: bool = False
     group: str = "mqueue"
+    client: str = ""
     protocol: str = "ESMTP"
     subject: str | None = "hi"
 
@@ -29,7 +30,8 @@ class Stored:
 @dataclass
 class Case:
     """`gives` is what the client says of it, `sent` has patterns of what it must send between two
-    answers, and `theirs` the fields in which Sendmail's own program differs."""
+    answers, and `theirs` the fields in which Sendmail's own program differs. A direct one has the
+    connection itself as the program's input and output."""
 
     client: str
     name: str
@@ -39,6 +41,7 @@ class Case:
     gives: object = 0
     sent: tuple = ()
     theirs: dict = field(default_factory=dict)
+    is_direct: bool = False
 
 
 def stored(mail, **more):
@@ -245,6 +248,8 @@ def library_cases():
     yield case("100 messages", call, talk(times=100), [stored(HI)] * 100, [{}] * 100)
     gives = ["not offered", "not offered", {}]
     yield case("TLS and AUTH where offered", without_offers, talk(), [stored(HI)], gives)
+    call, wanted = in_turn(*[hands(LONG)] * 2), [stored(LONG, client="127.0.0.1")] * 2
+    yield case("over the connection itself", call, "", wanted, [{}] * 2, is_direct=True)
     yield from refused_by_library(case)
 
 

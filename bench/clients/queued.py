@@ -17,6 +17,7 @@ class Entry:
     protocol: str
     helo: str
     group: str
+    client: str
 
     def header(self, name):
         """The value of the first header of that name."""
@@ -54,7 +55,7 @@ def body_of(path):
 OURS = re.compile(
     r"V1\nv\d+\n(?:pw\d{12} \d+\n)?g(?P<group>[^\n]+)\nT\d+\nK0\nN0\nP-?\d+\nc-?\d+\n"
     r"(?P<eight>B8BITMIME\n)?S(?P<sender><[^\n]*>)\n"
-    r"\$r(?P<protocol>[^\n]*)\n\$s(?P<helo>[^\n]*)\n\$\{client_addr\}[^\n]*\n"
+    r"\$r(?P<protocol>[^\n]*)\n\$s(?P<helo>[^\n]*)\n\$\{client_addr\}(?P<client>[^\n]*)\n"
     r"(?P<rows>(?:RPFD:[^\n]+\neQ\n)+)(?P<headers>(?:H[^\n]*\n(?:[ \t][^\n]*\n)*)*)\.\n"
 )
 
@@ -76,6 +77,7 @@ def our_entry(path):
         protocol=found["protocol"],
         helo=found["helo"],
         group=found["group"],
+        client=found["client"],
     )
 
 
@@ -97,4 +99,5 @@ def their_entry(path):
         protocol=field(r"^\$r(.*)$"),
         helo=field(r"^\$s(.*)$"),
         group="bulk" if path.parent.name == "bulk" else "mqueue",
+        client=field(r"^\$_.*\[(.*)\]$") or "",
     )

@@ -1,7 +1,8 @@
 """A relay from a port of 127.0.0.1 to `sendmail -bs`, which keeps what both sides said.
 
 Each connection begins the program anew, with its standard input and output joined to it. They are
-served one after another, since one process at a time owns a queue.
+served one after another, since one process at a time owns a queue. Where it is direct the program
+gets the connection itself, as inetd gives it, and nothing of what is said is kept.
 """
 
 import re
@@ -65,8 +66,8 @@ class Session:
 class Relay:
     """Listens until it is closed. `sessions` has what was served so far."""
 
-    def __init__(self, command):
-        self.command, self.sessions = command, []
+    def __init__(self, command, is_direct):
+        self.command, self.is_direct, self.sessions = command, is_direct, []
         self.listener = socket.create_server(("127.0.0.1", 0))
         self.port = self.listener.getsockname()[1]
         self.thread = threading.Thread(target=self.serve_all, daemon=True)
@@ -80,8 +81,17 @@ class Relay:
                 return
             session = Session()
             self.sessions.append(session)
+            serve = self.serve_direct if self.is_direct else self.serve
             with connection:
-                self.serve(connection, session)
+                serve(connection, session)
+
+    def serve_direct(self, connection, session):
+        pipe = subprocess.PIPE
+        ends = {"stdin": connection, "stdout": connection, "stderr": pipe}
+        with subprocess.Popen(self.command, **ends) as it:
+            connection.close()
+            session.errors = it.stderr.read()
+        session.status = it.returncode
 
     def serve(self, connection, session):
         pipe = subprocess.PIPE
