@@ -33,28 +33,38 @@ OWN = (".", "greeting", "gone")
 CLIENTS = ("swaks", "msmtp", "curl", "smtplib", "git send-email", "smtp-source")
 STATES = {"greeting": "(connected)", "gone": "(gone in mid-data)"}
 HOST = "mx.example"
+UNKNOWN = ("ETRN", "STAR", "AUTH", "TURN", "BDAT", "WHAT")
 TEXTS = {
     "greeting 220": f"220 {HOST} ESMTP ready",
     "HELO 250": f"250 {HOST} Hello",
     "EHLO 250": f"250-{HOST} Hello\r\n250-PIPELINING\r\n250-SIZE 16777216\r\n250 8BITMIME",
     "MAIL 250": "250 2.1.0 Sender ok",
+    "MAIL 501": "501 5.(?:5.2 Syntax error in path|1.3 Path too long)",
     "MAIL 503": "503 5.5.1 Sender already given",
     "MAIL 552": "552 5.3.4 Message too large",
+    "MAIL 553": "553 5.1.3 Bad address",
     "MAIL 555": "555 5.5.4 Parameter not known",
     "RCPT 250": "250 2.1.5 Recipient ok",
-    "RCPT 501": "501 5.5.2 Syntax error in path",
+    "RCPT 501": "501 5.(?:5.2 Syntax error in path|1.3 Path too long)",
     "RCPT 503": "503 5.5.1 Need MAIL first",
     "RCPT 550": "550 5.1.1 No such user",
+    "RCPT 553": "553 5.1.3 User address required",
+    "RCPT 555": "555 5.5.4 Parameter not known",
+    "HELO 501": "501 5.5.4 Argument needed",
+    "EHLO 501": "501 5.5.4 Argument needed",
     "DATA 354": '354 Enter mail, end with "." on a line by itself',
+    "DATA 501": "501 5.5.4 No argument allowed",
     "DATA 503": "503 5.5.1 Need RCPT first",
     ". 250": r"250 2\.0\.0 w\d{12} Message accepted for delivery",
     ". 552": "552 5.3.4 Message too large",
     "RSET 250": "250 2.0.0 Reset state",
+    "RSET 501": "501 5.5.4 No argument allowed",
     "NOOP 250": "250 2.0.0 OK",
     "VRFY 252": "252 2.5.2 Cannot verify",
+    "VRFY 501": "501 5.5.4 Argument needed",
     "EXPN 502": "502 5.7.0 Not available",
     "HELP 214": "214 2.0.0 See RFC 5321",
-    "WHAT 500": "500 5.5.1 Command unrecognized",
+    **{f"{word} 500": "500 5.5.1 Command unrecognized" for word in UNKNOWN},
     "QUIT 221": f"221 2.0.0 {HOST} closing connection",
 }
 RECEIVED = r"from \S* by mx\.example with {} id {}; \w{{3}}, \d+ \w{{3}} \d{{4}} [\d:]{{8}} \+0000"
@@ -119,7 +129,8 @@ def wrong_texts(sessions):
 
 def facts(it):
     paths = [name if name.startswith("<") else f"<{name}>" for name in [it.sender, *it.recipients]]
-    return [*paths, f"8BITMIME {it.is_eight}", f"protocol {it.protocol}", f"group {it.group}", it.client]
+    marks = [f"8BITMIME {it.is_eight}", f"protocol {it.protocol}", f"group {it.group}"]
+    return [*paths, *marks, f"client {it.client}"]
 
 
 def wrong_entry(wanted, entry, place, is_theirs):

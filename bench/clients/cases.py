@@ -5,8 +5,10 @@ of a kind, and ` / ` between sessions; a dot stands for the end of data, `gone` 
 end, and `none` for no reply. In front of each stands the greeting.
 """
 
+import re
 import smtplib
 from dataclasses import dataclass, field
+from pathlib import Path
 from typing import Callable
 
 from callers import ANN, BOB, Mail, curl, curl_asks, git_send_email, msmtp, patch_body
@@ -277,6 +279,61 @@ def refused_by_library(case):
     yield case("a parameter not offered", refusal(call), said, gives=555, theirs=theirs)
 
 
+@dataclass
+class Line:
+    """A line that a client may give, and the code of its reply here and in the other program."""
+
+    here: str
+    there: str
+    text: str
+
+    def verb(self):
+        return self.text[:4].upper()
+
+    def front(self):
+        """What is given before it, so that it stands in its place."""
+        return [f"MAIL FROM:<{BOB}>"] if self.verb() == "RCPT" else []
+
+    def back(self):
+        return ["RSET"] if self.verb() in ("MAIL", "RCPT") else []
+
+    def said(self, code):
+        own = [f"{text[:4]} 250" for text in self.front()]
+        return [*own, f"{self.verb()} {code}", *(f"{text} 250" for text in self.back())]
+
+
+def lines_of_file():
+    text = Path(__file__).with_name("lines.txt").read_text()
+    for row in text.splitlines()[1:]:
+        here, there, line = row.split(" ", 2)
+        yield Line(here, there, re.sub(r"(\w)\{(\d+)\}", lambda it: it[1] * int(it[2]), line))
+
+
+def gives_lines(lines):
+    def asks(connection):
+        connection.ehlo()
+        for line in lines:
+            for text in [*line.front(), line.text, *line.back()]:
+                connection.docmd(text)
+        return len(lines)
+
+    return asks
+
+
+def line_cases():
+    """Lines of MAIL, of RCPT, and others, each in one session."""
+    rows = list(lines_of_file())
+    others = [row for row in rows if row.verb() not in ("MAIL", "RCPT")]
+    for name in ("MAIL", "RCPT", "other verbs"):
+        lines = [row for row in rows if row.verb() == name] or others
+        said = [step for line in lines for step in line.said(line.here)]
+        theirs = [step for line in lines for step in line.said(line.there)]
+        call = smtplib_call(gives_lines(lines))
+        here, there = (", ".join(["EHLO 250", *it, "QUIT 221"]) for it in (said, theirs))
+        named = {"gives": len(lines), "theirs": {"said": there}}
+        yield Case("smtplib", f"lines of {name}", call, here, **named)
+
+
 def patches(count, **more):
     """The entries of the first patches."""
 
@@ -327,5 +384,7 @@ def source_cases():
 
 
 def all_cases():
-    for cases in (swaks_cases, msmtp_cases, curl_cases, library_cases, git_cases, source_cases):
+    for cases in (swaks_cases, msmtp_cases, curl_cases, library_cases, line_cases):
+        yield from cases()
+    for cases in (git_cases, source_cases):
         yield from cases()
