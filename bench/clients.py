@@ -100,8 +100,9 @@ def first_other(wanted, found):
 
 
 def wrong_talk(case, server, sessions):
-    wanted = [] if case.is_direct else spelled(case.said)
+    ways = [[]] if case.is_direct else [spelled(way) for way in case.said.split(" | ")]
     found = [] if case.is_direct else [codes(session) for session in sessions]
+    wanted = found if found in ways else ways[0]
     if len(wanted) != len(found):
         yield f"{len(found)} sessions, and not {len(wanted)}"
     for one, other in zip(wanted, found):
