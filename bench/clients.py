@@ -21,6 +21,7 @@ from dataclasses import replace
 from pathlib import Path
 
 HERE = Path(__file__).resolve().parent
+sys.dont_write_bytecode = True
 sys.path.insert(0, str(HERE / "clients"))
 
 from callers import Place, environment, programs  # noqa: E402

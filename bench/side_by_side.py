@@ -21,6 +21,7 @@ import tempfile
 import time
 from pathlib import Path
 
+sys.dont_write_bytecode = True
 sys.path.insert(0, str(Path(__file__).resolve().parent / "clients"))
 
 from server import BUILT, Server  # noqa: E402
