@@ -2,12 +2,19 @@
 //! are tried.
 #![tactic(auto)]
 
+mod accepting;
+mod drafts;
 mod factors;
 mod law;
 mod order;
+mod planning;
+mod returning;
+mod table;
 mod terms;
 
+pub use accepting::Accepting;
 pub use factors::{Factors, priority};
 pub use law::{commands_follow, commands_keep_soundness, entries_are_ordered, rows_go_on};
 pub use order::{before, due};
+pub use table::Table;
 pub use terms::Terms;
