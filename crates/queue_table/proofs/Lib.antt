@@ -1,3 +1,6 @@
+mod HoldingLemmas
+mod CallLemmas
+mod PlanLemmas
 mod OrderLemmas
 mod PriorityLemmas
 mod EntryLemmas

@@ -1,5 +1,8 @@
 -- A message table over a store: what it holds, and what is asked of its calls (own).
-use Rattle.std.specs.Prelude.{◌≡◌, ℕ, List, ◌∷◌, Option, IfSome, All, Contains, Result, true, false}
+use Rattle.std.specs.Prelude.{◌≡◌, ◌⊎◌, ◌≤◌, ℕ, List, ◌∷◌, Option, Some, IfSome, IsErrOf, OnOk, OnErr, All, Contains, Result, true, false}
+use Rattle.mail_base.specs.Histories.{Rose}
+use Rattle.mail_base.specs.declared.fault.StoreFault.{StoreFault}
+use Rattle.mail_base.specs.declared.fault.StoreFault.TheVariants.{SpoolFault}
 use Rattle.mail_base.specs.declared.message.Back.{Back}
 use Rattle.mail_base.specs.declared.message.Cut.{Cut}
 use Rattle.mail_base.specs.declared.message.Message.{Message}
@@ -9,12 +12,13 @@ use Rattle.spool_disk.specs.Spooled.{Spooled}
 use Rattle.spool_store.specs.Entries.{Table}
 use Rattle.spool_store.specs.Keepers.{seen}
 use Rattle.spool_store.specs.Moves.{Ends, Moves}
-use Rattle.spool_store.specs.Parcels.{IsParcel}
+use Rattle.spool_store.specs.Parcels.{IsBelowLast, IsParcel}
 use Rattle.spool_store.specs.Parts.{IsEitherTable}
 use Rattle.spool_store.specs.Settled.{IsSettled, StandsFor}
 use Rattle.spool_store.specs.Stores.{Agrees, Holds, KeepsOthers, StoreSeen}
 use Rattle.spool_store.specs.declared.held.Held.{Held}
-use Rattle.queue_table.specs.Commands.{Command, draft_of, drafts_of, new_control}
+use Rattle.queue_table.specs.Commands.{Command, after, draft_of, drafts_of, new_control}
+use Rattle.queue_table.specs.Commands.Command.{Accept, Record, Return, Warn}
 use Rattle.queue_table.specs.Directories.{dir_of}
 use Rattle.queue_table.specs.Soundness.{CanDo}
 use Rattle.queue_table.specs.declared.accepting.Accepting.{Accepting}
@@ -56,6 +60,39 @@ LeadsTo dirs before after result old new =
     Moves old new (StandsFor dirs before)
     (Ends result (IsSettled dirs after) (IsEitherTable dirs before after))
     (IsEitherTable dirs before after)
+
+-- a stop in a command leaves the table before or after: where it has children, its entry has not
+-- the last revision
+abbrev pub MayStop : StoreSeen → Command → Type 0
+MayStop s (Accept terms message cuts moment) = Unit {0}
+MayStop s (Record terms id places results moment) = Unit {0}
+MayStop s (Return terms id bounces moment) = IsBelowLast s.entries id
+MayStop s (Warn terms id warnings moment) = IsBelowLast s.entries id
+
+-- a call carries a command out, from what was there before it
+pub record CarriesOut {T : Type 0} (old new : Kept) (command : Command)
+    (result : Result T StoreFault) (a b : Spooled) : Type 0 where
+  -- the files go from those of the table to those of the table after it, and a stop leaves either
+  pub moves : (table : Table) → HoldsTable old table → MayStop (store old) command
+      → LeadsTo (store old).dirs table (after table command) result a b
+  pub settled : (table : Table) (f : FileMap) → HoldsTable old table → a.told ≡ Some f
+      → StandsFor (store old).dirs table f
+      → OnOk result (IfSome b.told (IsSettled (store old).dirs (after table command)))
+  -- the store holds the table after it, and where it fails, still the one before
+  pub holds : (table : Table) → HoldsTable old table
+      → OnOk result (HoldsTable new (after table command))
+  pub kept : (table : Table) → HoldsTable old table → OnErr result (HoldsTable new table)
+  pub agrees : OnOk result (IfSome b.told (Agrees (store new)))
+  -- no place of a strange file, and none outside, is touched
+  pub frame : (f : FileMap) → Moves a b (λ g. g ≡ f) (KeepsOthers (store old).dirs f)
+      (KeepsOthers (store old).dirs f)
+  pub stays : Stays old new
+  pub whole : OnOk result ((store new).broken ≡ (store old).broken)
+  pub fault : IsErrOf result SpoolFault → (store new).broken ≡ true
+  -- it fails so only where the store was broken, or the spool's count of faults rose
+  pub later : a.faults ≤ b.faults
+  pub calm : IsErrOf result SpoolFault ⊎ (b.faults ≡ a.faults)
+  pub cause : IsErrOf result SpoolFault → ((store old).broken ≡ true) ⊎ Rose a.faults b.faults
 
 -- the directory of each group is among these
 abbrev pub AreDirs : Terms → List (List ℕ) → Type 0

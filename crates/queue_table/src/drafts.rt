@@ -7,13 +7,14 @@ ghost use Rattle.queue_table.specs.inner.Planning.{control_by, given_by, row_by}
 
 use crate::Terms;
 use mail_base::{Control, Cut, Draft, Draw, Id, Message, NoMemory, Row, Seq, State, TryCopy};
+use std::alloc::Global;
 
 // The rows of a part, of which nothing became yet.
-fn rows_of(draws: &Seq<Draw>) -> Result<Seq<Row>, NoMemory>
+fn rows_of(alloc: Global, draws: &[Draw]) -> Result<Seq<Row>, NoMemory>
     ensures { IfOk result (λ rows. rows ≡ map new_row draws.now) }
 {
-    let mut rows = Seq::new(draws.allocator());
-    for draw in draws.items() {
+    let mut rows = Seq::new(alloc);
+    for draw in draws {
         rows.push(Row {
             address: draw.address.copy()?,
             primary: draw.primary,
@@ -33,7 +34,7 @@ fn control_of(terms: &Terms, message: &Message, moment: u64, cut: &Cut) -> Resul
         group: cut.group.copy()?,
         sender: cut.sender.copy()?,
         kept: message.kept.copy()?,
-        rows: rows_of(&cut.rows)?,
+        rows: rows_of(cut.rows.allocator(), cut.rows.items())?,
         headers: message.headers.copy()?,
         priority: terms
             .factors
@@ -101,11 +102,11 @@ fn state_back(state: &State, bounce: Option<Id>) -> Result<State, NoMemory>
     }
 }
 
-fn rows_back(rows: &Seq<Row>, bounce: Option<Id>) -> Result<Seq<Row>, NoMemory>
+fn rows_back(alloc: Global, rows: &[Row], bounce: Option<Id>) -> Result<Seq<Row>, NoMemory>
     ensures { IfOk result (λ back. back ≡ map (row_by bounce) rows.now) }
 {
-    let mut back = Seq::new(rows.allocator());
-    for row in rows.items() {
+    let mut back = Seq::new(alloc);
+    for row in rows {
         back.push(Row {
             address: row.address.copy()?,
             state: state_back(&row.state, bounce)?,
@@ -120,7 +121,7 @@ fn rows_back(rows: &Seq<Row>, bounce: Option<Id>) -> Result<Seq<Row>, NoMemory>
 pub(crate) fn control_back(control: &Control, bounce: Option<Id>) -> Result<Control, NoMemory>
     ensures { IfOk result (λ c. c ≡ control_by bounce control.now) }
 {
-    let rows = rows_back(&control.rows, bounce)?;
+    let rows = rows_back(control.rows.allocator(), control.rows.items(), bounce)?;
     let mut back = control.copy()?;
     back.revision = control.revision.saturating_add(1);
     back.rows = rows;

@@ -1,15 +1,10 @@
-ghost use Rattle.std.specs.Prelude.{◌≡◌, ◌⊎◌, ◌↔◌, ◌+◌, ◌<◌, ◌≤◌, ℕ, IfOk, IfSome, IsErrOf, IsTrue, OnOk, OnErr, Contains, None, Some, Err, true, [], length, sum_by};
-ghost use Rattle.mail_base.specs.Histories.{Rose};
+ghost use Rattle.std.specs.Prelude.{◌≡◌, ◌⊎◌, ◌↔◌, ◌+◌, ◌<◌, ◌≤◌, ℕ, IfOk, IsErrOf, IsTrue, OnErr, Contains, None, Some, [], length, sum_by};
 ghost use Rattle.mail_base.specs.declared.fault.StoreFault.TheVariants.{SpoolFault as Broke, IdsSpent as Spent};
-ghost use Rattle.spool_disk.specs.Disk.{FileMap};
-ghost use Rattle.spool_store.specs.Entries.{Table as Entries};
-ghost use Rattle.spool_store.specs.Moves.{Moves};
-ghost use Rattle.spool_store.specs.Parcels.{CanPrepare, CanPrepareUnder, IsBelowLast, IsParcel, IsParcelUnder, IsReadyUnder};
-ghost use Rattle.spool_store.specs.Settled.{IsSettled, StandsFor};
-ghost use Rattle.spool_store.specs.Stores.{Agrees, HasId, KeepsOthers};
+ghost use Rattle.spool_store.specs.Parcels.{CanPrepare, CanPrepareUnder, IsParcel, IsParcelUnder, IsReadyUnder};
+ghost use Rattle.spool_store.specs.Stores.{HasId};
 ghost use Rattle.spool_store.specs.declared.held.Held.{Held as HeldSeen};
-ghost use Rattle.queue_table.specs.Calls.{AreBacksValid, AreDirs, AreValid, HoldsTable, IsAsked, IsFit, IsSame, LeadsTo, Stays, Tallies, broken_one, store};
-ghost use Rattle.queue_table.specs.Commands.{Command, Return, Warn, after, drafts_of};
+ghost use Rattle.queue_table.specs.Calls.{AreBacksValid, AreDirs, AreValid, CarriesOut, IsAsked, IsFit, IsSame, Tallies, store};
+ghost use Rattle.queue_table.specs.Commands.{Command, Return, Warn, drafts_of};
 ghost use Rattle.queue_table.specs.Results.{with_warning};
 ghost use Rattle.queue_table.specs.Soundness.{AreCuts};
 ghost use Rattle.queue_table.specs.inner.Planning.{AreDrafts, IsOpenAt, Makes, control_by, next_draft};
@@ -86,6 +81,7 @@ impl Table {
             → (Id.MOST + 1 < (store self.old).next + sum_by (λ back. length back.cuts) bounces) }
         ensures never { IsErrOf result Broke → ⊥ }
     {
+        let _ = self.queue.entries();
         match bounces.into_vec().pop() {
             Some(back) => self.plan_bounce(id, back, moment),
             None => self.plan_death(id),
@@ -156,6 +152,7 @@ impl Table {
             → (Id.MOST + 1 < (store self.old).next + sum_by (λ back. length back.cuts) warnings) }
         ensures never { IsErrOf result Broke → ⊥ }
     {
+        let _ = self.queue.entries();
         match warnings.into_vec().pop() {
             Some(back) => {
                 let parent = self.draft_warned(id)?;
@@ -223,32 +220,9 @@ impl Table {
     ) -> Result<(), StoreFault>
         requires agrees { Tallies self.old (D.seen spool.old).told }
         requires ready { IsReadyUnder (store self.old) parcel }
-        ensures moves { (table : Entries) (id : ℕ) (command : Command) → HoldsTable self.old table
-            → Makes self.old id command parcel → IsBelowLast (store self.old).entries id
-            → LeadsTo (store self.old).dirs table (after table command) result (D.seen spool.old)
-            (D.seen spool.new) }
-        ensures settled { (table : Entries) (id : ℕ) (command : Command) (f : FileMap)
-            → HoldsTable self.old table → Makes self.old id command parcel
-            → (D.seen spool.old).told ≡ Some f → StandsFor (store self.old).dirs table f
-            → OnOk result
-            (IfSome (D.seen spool.new).told
-            (IsSettled (store self.old).dirs (after table command))) }
-        ensures holds { (table : Entries) (id : ℕ) (command : Command) → HoldsTable self.old table
-            → Makes self.old id command parcel
-            → OnOk result (HoldsTable self.new (after table command)) }
-        ensures frame { (f : FileMap)
-            → Moves (D.seen spool.old) (D.seen spool.new) (λ g. g ≡ f)
-            (KeepsOthers (store self.old).dirs f) (KeepsOthers (store self.old).dirs f) }
-        ensures agrees { OnOk result (IfSome (D.seen spool.new).told (Agrees (store self.new))) }
-        ensures stays { Stays self.old self.new }
-        ensures ok { OnOk result ((store self.new).broken ≡ (store self.old).broken) }
-        ensures err { OnErr result
-            ((result ≡ Err Broke) × (store self.new ≡ broken_one (store self.old))) }
-        ensures later { (D.seen spool.old).faults ≤ (D.seen spool.new).faults }
-        ensures calm { OnOk result ((D.seen spool.new).faults ≡ (D.seen spool.old).faults) }
-        ensures cause { OnErr result
-            (((store self.old).broken ≡ true)
-            ⊎ Rose (D.seen spool.old).faults (D.seen spool.new).faults) }
+        ensures does { (id : ℕ) (command : Command) → Makes self.old id command parcel
+            → CarriesOut self.old self.new command result (D.seen spool.old) (D.seen spool.new) }
+        ensures only { OnErr result (IsErrOf result Broke) }
     {
         holding_goes_on();
         match self.queue.commit_under(spool, parcel) {

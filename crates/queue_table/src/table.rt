@@ -1,4 +1,6 @@
-ghost use Rattle.std.specs.Prelude.{◌≡◌, ◌⊎◌, ◌↔◌, ◌+◌, ◌<◌, ◌≤◌, IfOk, IfSome, IsErrOf, OnOk, OnErr, List, ℕ, true, false, Err, length};
+ghost use Rattle.std.specs.Prelude.{◌≡◌, ◌⊎◌, ◌↔◌, ◌+◌, ◌<◌, ◌≤◌, All, IfOk, IfSome, IsErrOf, OnOk, OnErr, List, ℕ, true, false, Err, length, map};
+ghost use Rattle.std.specs.List.Sorted.{IsStrictlySortedBy};
+ghost use Rattle.std.specs.Ordering.{nat_cmp};
 ghost use Rattle.mail_base.specs.Histories.{Rose};
 ghost use Rattle.mail_base.specs.declared.fault.StoreFault.TheVariants.{SpoolFault as Broke, IdsSpent as Spent, NoMemory as Memory};
 ghost use Rattle.mail_base.specs.declared.message.Cut.{Cut as CutSeen};
@@ -7,7 +9,7 @@ ghost use Rattle.spool_disk.specs.Disk.{FileMap};
 ghost use Rattle.spool_store.specs.Entries.{Table as Entries};
 ghost use Rattle.spool_store.specs.Moves.{Moves};
 ghost use Rattle.spool_store.specs.Stores.{Agrees, KeepsOthers};
-ghost use Rattle.queue_table.specs.Calls.{AreDirs, AreValid, HoldsTable, IsAccepting, IsPlanned, IsSame, LeadsTo, Stays, Tallies, broken_one, store};
+ghost use Rattle.queue_table.specs.Calls.{AreDirs, AreValid, CarriesOut, HoldsTable, IsAccepting, IsPlanned, IsSame, LeadsTo, Stays, Tallies, broken_one, store};
 ghost use Rattle.queue_table.specs.Commands.{Accept, after};
 ghost use Rattle.queue_table.specs.Directories.{terms_of};
 ghost use Rattle.queue_table.specs.Soundness.{AreCuts};
@@ -58,9 +60,12 @@ impl Table {
         self.queue.next()
     }
 
-    /// The entries in order of id. It takes no memory.
+    /// The entries in order of id, each below the first free one. It takes no memory.
     pub fn entries(&self) -> &[Held]
-        ensures { result.now ≡ (store self.now).entries }
+        ensures is { result.now ≡ (store self.now).entries }
+        ensures ascending { IsStrictlySortedBy nat_cmp
+            (map (λ h. h.entry.id) (store self.now).entries) }
+        ensures below { All (λ h. h.entry.id < (store self.now).next) (store self.now).entries }
     {
         self.queue.entries()
     }
@@ -133,7 +138,7 @@ impl Table {
             ⊎ Rose (D.seen spool.old).faults (D.seen spool.new).faults) }
     {
         holding_goes_on();
-        self.queue.commit(spool, accepting.into_parcel())
+        self.queue.commit(spool, accepting.parcel)
     }
 
     /// Takes in a message at a moment: an entry for each cut under the first free ids, of which the
@@ -151,41 +156,35 @@ impl Table {
         requires cuts { AreCuts cuts.now }
         requires dirs { AreDirs self.old.terms (store self.old).dirs }
         requires valid { AreValid self.old.terms message moment cuts.now }
-        ensures moves { (table : Entries) → HoldsTable self.old table
-            → LeadsTo (store self.old).dirs table
-            (after table (Accept self.old.terms message cuts.now moment)) result (D.seen spool.old)
-            (D.seen spool.new) }
-        ensures holds { (table : Entries) → HoldsTable self.old table
-            → OnOk result
-            (HoldsTable self.new (after table (Accept self.old.terms message cuts.now moment))) }
-        ensures frame { (f : FileMap)
-            → Moves (D.seen spool.old) (D.seen spool.new) (λ g. g ≡ f)
-            (KeepsOthers (store self.old).dirs f) (KeepsOthers (store self.old).dirs f) }
-        ensures agrees { OnOk result (IfSome (D.seen spool.new).told (Agrees (store self.new))) }
+        ensures does { CarriesOut self.old self.new (Accept self.old.terms message cuts.now moment)
+            result (D.seen spool.old) (D.seen spool.new) }
         ensures id { IfOk result (λ id. id ≡ (store self.old).next) }
-        ensures stays { Stays self.old self.new }
-        ensures ok { OnOk result ((store self.new).broken ≡ (store self.old).broken) }
         ensures refused { (IsErrOf result Memory ⊎ IsErrOf result Spent)
             → IsSame self.old self.new × (spool.new ≡ spool.old) }
-        ensures fault { IsErrOf result Broke → (store self.new).broken ≡ true }
-        ensures kept { (table : Entries) → HoldsTable self.old table
-            → OnErr result (HoldsTable self.new table) }
         ensures spent { IsErrOf result Spent
             ↔ ((store self.old).broken ≡ false
             × (Id.MOST + 1 < (store self.old).next + length cuts.now)) }
         ensures broken { (store self.old).broken ≡ true
             → (result ≡ Err Broke) × (spool.new ≡ spool.old) }
-        ensures later { (D.seen spool.old).faults ≤ (D.seen spool.new).faults }
-        ensures calm { IsErrOf result Broke
-            ⊎ ((D.seen spool.new).faults ≡ (D.seen spool.old).faults) }
-        ensures cause { IsErrOf result Broke
-            → ((store self.old).broken ≡ true)
-            ⊎ Rose (D.seen spool.old).faults (D.seen spool.new).faults }
     {
         if self.queue.is_broken() {
             return Err(StoreFault::SpoolFault);
         }
         let accepting = self.plan_accept(message, cuts, moment)?;
+        self.carry_out(spool, accepting)
+    }
+
+    // Takes in what is ready.
+    fn carry_out<D: Spool>(&mut self, spool: &mut D, accepting: Accepting) -> Result<Id, StoreFault>
+        requires agrees { Tallies self.old (D.seen spool.old).told }
+        requires planned { IsPlanned self.old accepting }
+        ensures does { (message : MessageSeen) (cuts : List CutSeen) (moment : ℕ)
+            → IsAccepting self.old message cuts moment accepting
+            → CarriesOut self.old self.new (Accept self.old.terms message cuts moment) result
+            (D.seen spool.old) (D.seen spool.new) }
+        ensures id { IfOk result (λ id. id ≡ (store self.old).next) }
+        ensures only { OnErr result (IsErrOf result Broke) }
+    {
         match self.accept_planned(spool, accepting) {
             Ok(id) => Ok(id),
             Err(_fault) => Err(StoreFault::SpoolFault),

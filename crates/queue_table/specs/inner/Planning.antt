@@ -10,12 +10,12 @@ use Rattle.mail_base.specs.declared.message.Cut.{Cut}
 use Rattle.mail_base.specs.declared.message.Message.{Message}
 use Rattle.spool_store.specs.Entries.{Table}
 use Rattle.spool_store.specs.Keepers.{raised}
-use Rattle.spool_store.specs.Parcels.{IsParcelUnder}
+use Rattle.spool_store.specs.Parcels.{IsBelowLast, IsParcelUnder}
 use Rattle.spool_store.specs.Queue.{IsOpen}
 use Rattle.spool_store.specs.Writes.{after_commit}
 use Rattle.spool_store.specs.declared.held.Held.{Held}
 use Rattle.spool_store.specs.declared.parcel.Parcel.{Parcel}
-use Rattle.queue_table.specs.Calls.{HoldsTable, store}
+use Rattle.queue_table.specs.Calls.{HoldsTable, MayStop, store}
 use Rattle.queue_table.specs.Commands.{Command, after, draft_of, drafts_of}
 use Rattle.queue_table.specs.Results.{given_back}
 use Rattle.queue_table.specs.declared.table.Table.{Table as Kept}
@@ -58,5 +58,6 @@ pub record Makes (kept : Kept) (id : ℕ) (command : Command) (parcel : Parcel) 
   pub children : List Draft
   pub parent : Draft
   pub is : IsParcelUnder (store kept) id children parent parcel.body parcel
+  pub last : MayStop (store kept) command → IsBelowLast (store kept).entries id
   pub leads : (table : Table) → HoldsTable kept table
       → after_commit table children parent parcel.body (Some id) ≡ after table command
