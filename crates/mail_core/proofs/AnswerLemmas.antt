@@ -10,7 +10,7 @@ use Rattle.smtp_receive.specs.declared.received.Did.TheVariants.{Reply as Replie
 use Rattle.smtp_receive.specs.Dialogue.{Heard, Exchange, Answer, Says, Greets, Grants, Closes, Gives, Takes, is_grant, did_of, answer_heard, exchanges, exchange_of, dialogue}
 use Rattle.smtp_receive.specs.Replies.{text_of, grant_text, shown_host}
 use Rattle.smtp_receive.proofs.KeepLemmas.{dialogue_more}
-use Rattle.mail_core.specs.declared.serving.Site.{Site}
+use Rattle.mail_core.specs.Sites.{Site}
 use Rattle.mail_core.specs.Guests.{Guest, grant_in, grants_of, with_line, line_in, lines_heard}
 use Rattle.mail_core.specs.Machine.{Did, says, closes, replies, is_answered}
 use Rattle.spool_store.specs.Entries.{Table}

@@ -21,7 +21,7 @@ use Rattle.mail_core.specs.declared.serving.Core.{Core}
 use Rattle.mail_core.specs.declared.serving.Act.{Act}
 use Rattle.mail_core.specs.declared.serving.Act.TheVariants.{Went, Ended}
 use Rattle.mail_core.specs.declared.serving.CoreStop.{CoreStop}
-use Rattle.mail_core.specs.declared.serving.Site.{Site}
+use Rattle.mail_core.specs.Sites.{Site}
 use Rattle.mail_core.specs.Effects.{Effect, Takes, Ticks, Sends, HangsUp, heard_of, readings_of, commands_of}
 use Rattle.mail_core.specs.Events.{IsTaken, Turns}
 use Rattle.mail_core.specs.inner.Handling.{IsTakenUp, IsOpened, Steps, is_hosted}
@@ -31,7 +31,6 @@ use Rattle.mail_core.specs.Guests.{Guest, newcomer, with_bytes, guest_of, is_her
 use Rattle.mail_core.specs.Machine.{Ending, Stopped, Opening, Replied, Dropped, Choices, Way, GoesOn, Leaves, Over, By, Did, all_answered, State, Step, still, most_guests, turned_away, welcomed, opened, brought, pieced, handled, Turn, at_moment, moment_by, stepped, taken}
 use Rattle.mail_core.specs.Seen.{Seen, seen, Ran}
 use Rattle.mail_core.specs.Standing.{Stores, IsAlone, Hosts, Stands}
-use Rattle.mail_core.specs.Messages.{dirs_of}
 use Rattle.mail_core.proofs.GoingLemmas.{cause_since, way_onward}
 use Rattle.mail_core.proofs.LineLemmas.{onward_alive}
 use Rattle.mail_core.proofs.RanLemmas.{ran_join, ran_quiet, ran_none, ran_floor}
@@ -196,7 +195,7 @@ module _ (site : Site) (m : State) (session : ℕ) (piece : List ℕ) (core : Co
   piece_dropped f s k none stands =
       let step = ap (λ o. pieced site m piece [] o) none in record {
         choices = [];
-        ran = subst (λ (q : Step). Ran (dirs_of site) m.table (seen f s k) (seen f s k) q.effects true) (sym step) (ran_none (dirs_of site) m.table f s k);
+        ran = subst (λ (q : Step). Ran site.dirs m.table (seen f s k) (seen f s k) q.effects true) (sym step) (ran_none site.dirs m.table f s k);
         stands = λ e. subst (λ (q : Step). Stands site core q.state) (sym step) stands;
         ended = λ ending e. absurd (cc e);
       }
@@ -215,9 +214,9 @@ module _ (site : Site) (m : State) (session : ℕ) (piece : List ℕ) (a b : See
     pub piece_steps : ((ending_of (act_of fed) ≡ None) → Stands site core (brought m (way_after fed) did).state) → Steps site m (Brings session piece) a b core (act_of fed)
     piece_steps stands = record {
       choices = h.choices;
-      ran = subst (λ (q : Step). Ran (dirs_of site) m.table a b q.effects (is_well (act_of fed))) (sym step_is)
-          (subst (λ w. Ran (dirs_of site) m.table a b (brought m (way_after fed) did).effects w) (well_act fed)
-          (subst (λ effects. Ran (dirs_of site) m.table a b effects (is_well fed)) (sym (brought_effects m (way_after fed) did)) h.ran));
+      ran = subst (λ (q : Step). Ran site.dirs m.table a b q.effects (is_well (act_of fed))) (sym step_is)
+          (subst (λ w. Ran site.dirs m.table a b (brought m (way_after fed) did).effects w) (well_act fed)
+          (subst (λ effects. Ran site.dirs m.table a b effects (is_well fed)) (sym (brought_effects m (way_after fed) did)) h.ran));
       stands = λ e. subst (λ (q : Step). Stands site core q.state) (sym step_is) (stands e);
       ended = λ ending e.
           let over = over_act fed ending e in
@@ -288,7 +287,7 @@ opened_steps site m session peer f now s k core h own =
     let step = opened site m session peer h.choice in
     let quiet = opened_quiet site m session peer h.choice in record {
       choices = h.choice;
-      ran = ran_floor (dirs_of site) m.table f now s k step.effects quiet.0 quiet.1 h.told own;
+      ran = ran_floor site.dirs m.table f now s k step.effects quiet.0 quiet.1 h.told own;
       stands = λ e. h.stands;
       ended = λ ending e. absurd (cc e);
     }
@@ -298,7 +297,7 @@ pub quiet_steps : (site : Site) (m : State) (event : Event) (choices : Choices e
     → Steps site m event (seen f s k) (seen f s k) core (Ok Went)
 quiet_steps site m event choices f s k core none stands = record {
   choices = choices;
-  ran = subst (λ effects. Ran (dirs_of site) m.table (seen f s k) (seen f s k) effects true) (sym none) (ran_none (dirs_of site) m.table f s k);
+  ran = subst (λ effects. Ran site.dirs m.table (seen f s k) (seen f s k) effects true) (sym none) (ran_none site.dirs m.table f s k);
   stands = λ e. stands;
   ended = λ ending e. absurd (cc e);
 }
@@ -310,7 +309,7 @@ stopped_so m a b ending e = let same : Stopped ≡ ending = cc e in subst (λ q.
 pub stop_steps : (site : Site) (m : State) (f : Heard) (s : Spooled) (k : ClockSeen) (core : Core) → Steps site m Stops (seen f s k) (seen f s k) core (Ok Ended)
 stop_steps site m f s k core = record {
   choices = tt;
-  ran = ran_none (dirs_of site) m.table f s k;
+  ran = ran_none site.dirs m.table f s k;
   stands = λ e. absurd (cc e);
   ended = stopped_so m (seen f s k) (seen f s k);
 }
@@ -343,8 +342,7 @@ closed_stands site m session (Some caller) core h =
 pub at_stands : (site : Site) (m : State) (core : Core) (intake : Intake) (reading : ℕ) → Stands site core m → intake ≡ record core.intake { moment = moment_by core.intake.moment reading } → intake.moment < 2 ^ 64 → Stands site (record core { intake = intake }) (at_moment m reading)
 at_stands site m core intake reading st is range = record {
   intake = record {
-    store = subst (λ (i : Intake). Stores site i.queue m.table) (sym is) st.intake.store;
-    dir = ap (λ (i : Intake). i.dir) is ∙ st.intake.dir;
+    stores = subst (λ (i : Intake). Stores site i.table m.table) (sym is) st.intake.stores;
     short = ap (λ (i : Intake). i.short) is ∙ st.intake.short;
     range = range;
   };
@@ -364,9 +362,9 @@ turns_of site m event reading before f s clock read b core went on taken_is h =
     let first : List Effect = Takes event ∷ Ticks reading ∷ [] in
     let is : stepped site m turn ≡ taken turn inner = cond-false (is_some m.over) (still m) (taken turn inner) (ap is_some on) in record {
       choices = h.choices;
-      ran = subst (λ (q : Step). Ran (dirs_of site) m.table (seen before s clock) b q.effects (is_well went)) (sym is)
-          (ran_join (dirs_of site) m.table (seen before s clock) (seen f s read) b first inner.effects (is_well went)
-          (ran_quiet (dirs_of site) m.table before f s clock read first refl taken_is.told taken_is.faults taken_is.clock_told taken_is.readings) h.ran);
+      ran = subst (λ (q : Step). Ran site.dirs m.table (seen before s clock) b q.effects (is_well went)) (sym is)
+          (ran_join site.dirs m.table (seen before s clock) (seen f s read) b first inner.effects (is_well went)
+          (ran_quiet site.dirs m.table before f s clock read first refl taken_is.told taken_is.faults taken_is.clock_told taken_is.readings) h.ran);
       stands = λ e. subst (λ (q : Step). Stands site core q.state) (sym is) (h.stands e);
       ended = λ ending e.
           let so = h.ended ending e in

@@ -13,12 +13,12 @@ use Rattle.smtp_lines.specs.Stream.{reading_of}
 use Rattle.smtp_receive.specs.Dialogue.{Heard, Exchange, Answer, Says, Greets, Grants, Closes, Gives, Takes as Passes, answer_to, exchanges, is_dropped, with_heard}
 use Rattle.smtp_receive.specs.Replies.{text_of, grant_text, hello_text, closing_text, out_of_memory_text, stored_text, shown_host}
 use Rattle.spool_store.specs.Entries.{Table}
-use Rattle.mail_core.specs.Commands.{after, start}
-use Rattle.mail_core.specs.declared.serving.Site.{Site}
+use Rattle.queue_table.specs.Commands.{after}
+use Rattle.mail_core.specs.Sites.{Site}
 use Rattle.mail_core.specs.Effects.{Effect, Takes, Ticks, Commits, Sends, HangsUp, speech}
 use Rattle.mail_core.specs.Guests.{Guest, grant_in, guest_of, is_passed, next_line, with_bytes}
 use Rattle.mail_core.specs.Machine.{Choice, Normal, OutOfMemory, Way, GoesOn, Leaves, Did, way_of, replies, by_choice, heard_line, id_by, is_answered, heard_where, answered, settled, settled_by, fresh_start, all_answered, State, Step, still, Turn, at_moment, beginning, brought, moment_by, pieced, stepped, taken, followed, run}
-use Rattle.mail_core.specs.Messages.{accept_of, is_spent}
+use Rattle.mail_core.specs.Messages.{accept_of, is_spent, start}
 use Rattle.mail_core.proofs.MachineLemmas.{run_more}
 
 -- the grants of these exchanges, of which the latest is first

@@ -1,6 +1,7 @@
 -- Worked examples of the machine: a session whole, with 452 4.3.1 at the end of its data, and with
 -- a send that fails.
 use Rattle.std.specs.Prelude.{◌≡◌, ℕ, List, [], ◌∷◌, ◌++◌, None, Some, true, false, drop, length, map, unwrap_or, codes, refl}
+use Rattle.mail_base.specs.Configs.{initial}
 use Rattle.mail_base.specs.Names.{digits}
 use Rattle.mail_base.specs.Limits.{most_command, most_domain, most_headers, most_local_part, most_message, most_path}
 use Rattle.link_edge.specs.declared.event.Event.TheVariants.{Opens, Brings, Stops}
@@ -10,16 +11,16 @@ use Rattle.smtp_receive.specs.Dialogue.{Heard, Exchange, Answer, Greets, Grants,
 use Rattle.smtp_receive.specs.Replies.{shown_host}
 use Rattle.smtp_receive.proofs.Examples.{peer, helo, mail, rcpt, data_line, subject, body, quit, message, begun, given, granted, taken as whole}
 use Rattle.spool_store.specs.Entries.{Table}
-use Rattle.mail_core.specs.Commands.{after, start}
-use Rattle.mail_core.specs.declared.serving.Site.{Site}
+use Rattle.queue_table.specs.Commands.{after}
+use Rattle.mail_core.specs.Sites.{Site}
 use Rattle.mail_core.specs.Effects.{Effect, Takes, Ticks, Commits, Sends, HangsUp}
 use Rattle.mail_core.specs.Guests.{Guest, newcomer}
 use Rattle.mail_core.specs.Machine.{Stopped, id_by, By, Choice, Normal, OutOfMemory, Replied, GoesOn, Leaves, State, Step, Turn, beginning, followed, last_moment, moment_by, most_guests, run}
-use Rattle.mail_core.specs.Messages.{accept_of, is_spent, last_id}
+use Rattle.mail_core.specs.Messages.{accept_of, is_spent, last_id, start}
 use Rattle.mail_core.proofs.ExampleLemmas.{Comes, Talks, effects_by, all_left, answers_of, are_within, comes_more, comes_none, comes_short, grants_by, input, lacked, line_at, one, piece, piece_turn, plain, run_first, so_far, table_by, talks_last, talks_line, talks_within, way_by}
 
 abbrev site : Site
-site = record { host = codes "localhost"; dir = codes "/q" }
+site = record { host = codes "localhost"; dirs = codes "/q" ∷ []; config = initial }
 
 -- the answer to the latest line
 abbrev latest_answer : List Exchange → Answer

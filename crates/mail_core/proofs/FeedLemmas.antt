@@ -27,7 +27,7 @@ use Rattle.mail_core.specs.declared.next.Next.{Next}
 use Rattle.mail_core.specs.declared.next.Next.TheVariants.{Continue, BeginData, Closed}
 use Rattle.mail_core.specs.declared.serving.CoreStop.{CoreStop}
 use Rattle.mail_core.specs.declared.intake.Intake.{Intake}
-use Rattle.mail_core.specs.declared.serving.Site.{Site}
+use Rattle.mail_core.specs.Sites.{Site}
 use Rattle.mail_core.specs.Effects.{HangsUp, heard_of}
 use Rattle.mail_core.specs.Causes.{HasCause, is_well}
 use Rattle.mail_core.specs.inner.Going.{Does, Hears, AnswersLine, AnswersLines, Feeds, granted_by, is_granted, is_onward, reached, way_after}
@@ -35,7 +35,6 @@ use Rattle.mail_core.specs.Guests.{Guest, bytes_left, has_bytes_left, grants_of,
 use Rattle.mail_core.specs.Machine.{Choice, Disconnects, Way, GoesOn, Leaves, Over, Cut, Did, answered, by_choice, does, fresh_start, goes_on, is_over, settled, settled_by}
 use Rattle.mail_core.specs.Seen.{Seen, seen, Ran}
 use Rattle.mail_core.specs.Standing.{Serves, Talks, Follows, Keeps}
-use Rattle.mail_core.specs.Messages.{dirs_of}
 use Rattle.mail_core.specs.inner.Handling.{IsReady}
 use Rattle.mail_core.proofs.GoingLemmas.{does_join, does_drops, does_none, way_onward}
 
@@ -361,7 +360,7 @@ module _ (site : Site) (moment : ℕ) (table : Table) (g : Guest) (bytes : List 
       → Feeds site moment table g bytes a b intake caller fed
   feeds_of a b intake caller fed choices same h serves keeps = record {
     choices = choices;
-    ran = subst (λ (x : Did). Ran (dirs_of site) table a b x.effects (is_well fed)) (sym same) (subst (λ q. Ran (dirs_of site) table a b q (is_well fed)) (sym h.effects) h.ran);
+    ran = subst (λ (x : Did). Ran site.dirs table a b x.effects (is_well fed)) (sym same) (subst (λ q. Ran site.dirs table a b q (is_well fed)) (sym h.effects) h.ran);
     way = ap (λ (x : Did). x.way) same ∙ h.way;
     number = ap (λ (x : Did). x.guest.number) same ∙ h.number;
     serves = λ on. subst (λ (x : Did). Serves site intake x.table) (sym same) (serves on);

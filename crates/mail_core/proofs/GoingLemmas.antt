@@ -15,18 +15,18 @@ use Rattle.spool_disk.specs.Spooled.{Spooled}
 use Rattle.spool_store.specs.Moves.{Moves}
 use Rattle.spool_store.specs.Entries.{Table}
 use Rattle.spool_store.specs.Settled.{StandsFor}
-use Rattle.mail_core.specs.Commands.{IsEither, after, applied}
+use Rattle.queue_table.specs.Commands.{after, applied}
 use Rattle.mail_core.specs.declared.next.Next.{Next}
 use Rattle.mail_core.specs.declared.next.Next.TheVariants.{Continue, BeginData, Closed}
 use Rattle.mail_core.specs.declared.serving.CoreStop.{CoreStop}
 use Rattle.mail_core.specs.declared.serving.CoreStop.TheVariants as stops
-use Rattle.mail_core.specs.declared.serving.Site.{Site}
+use Rattle.mail_core.specs.Sites.{Site}
 use Rattle.mail_core.specs.Effects.{Commits, Sends, HangsUp, heard_of, readings_of, commands_of, speech}
 use Rattle.mail_core.specs.Causes.{HasCause, is_well}
 use Rattle.mail_core.specs.inner.Going.{Does, heard_chosen, begins_data, stays_open, way_after, is_onward}
 use Rattle.mail_core.specs.Machine.{Ending, Stopped, SpoolFault, IdsSpent, GoesOn, Leaves, Over, Finish, By, Did, way_of, does, says, closes, is_over, commits, accepts, fails, heard_line, heard_where, Choice, Normal, OutOfMemory, Disconnects, SpoolFails}
-use Rattle.mail_core.specs.Messages.{accept_of, is_spent, dirs_of}
-use Rattle.mail_core.specs.Seen.{IsSparing, Ran, Seen, seen, table_after}
+use Rattle.mail_core.specs.Messages.{accept_of, is_spent}
+use Rattle.mail_core.specs.Seen.{IsEither, IsSparing, Ran, Seen, seen, table_after}
 use Rattle.mail_core.proofs.RanLemmas.{table_more, ran_join, ran_none, ran_floor, ran_done, ran_failed}
 
 -- ---- speech asks nothing of table and clock
@@ -100,7 +100,7 @@ does_join site d e x a b c fed h k = record {
   effects = k.effects ∙ ap (λ q. q ++ k.more) h.effects ∙ append_assoc d.effects h.more k.more;
   table = k.table ∙ ap (λ t. table_after t k.more) h.table ∙ sym (table_more d.table h.more k.more);
   number = k.number ∙ h.number;
-  ran = ran_join (dirs_of site) d.table a b c h.more k.more (is_well fed) h.ran (subst (λ t. Ran (dirs_of site) t b c k.more (is_well fed)) h.table k.ran);
+  ran = ran_join site.dirs d.table a b c h.more k.more (is_well fed) h.ran (subst (λ t. Ran site.dirs t b c k.more (is_well fed)) h.table k.ran);
   way = k.way;
   cause = λ ending over event. cause_since ending event x.table a b c h.ran.spool_faults (k.cause ending over event);
 }
@@ -118,8 +118,8 @@ module _ (site : Site) (d : Did) (f g : Heard) (s : Spooled) (k : ClockSeen) whe
         effects = refl;
         table = sym (ap (applied d.table) (speech_quiet d.guest.number text whole));
         number = refl;
-        ran = subst (Ran (dirs_of site) d.table (seen f s k) (seen g s k) effects) (sym (spoken_well fed spoken))
-            (ran_floor (dirs_of site) d.table f g s k effects (speech_quiet d.guest.number text whole) (speech_unread d.guest.number text whole) told own);
+        ran = subst (Ran site.dirs d.table (seen f s k) (seen g s k) effects) (sym (spoken_well fed spoken))
+            (ran_floor site.dirs d.table f g s k effects (speech_quiet d.guest.number text whole) (speech_unread d.guest.number text whole) told own);
         way = spoken;
         cause = λ ending over event. absurd (spoken_on fed (By ending) spoken over);
       }
@@ -132,7 +132,7 @@ module _ (site : Site) (d : Did) (f g : Heard) (s : Spooled) (k : ClockSeen) whe
     effects = refl;
     table = refl;
     number = refl;
-    ran = ran_floor (dirs_of site) d.table f g s k (Sends d.guest.number text whole ∷ HangsUp d.guest.number ∷ []) refl refl told own;
+    ran = ran_floor site.dirs d.table f g s k (Sends d.guest.number text whole ∷ HangsUp d.guest.number ∷ []) refl refl told own;
     way = refl;
     cause = λ ending over event. absurd (cc over);
   }
@@ -145,7 +145,7 @@ module _ (site : Site) (d : Did) (f g : Heard) (s : Spooled) (k : ClockSeen) whe
     effects = refl;
     table = refl;
     number = refl;
-    ran = ran_floor (dirs_of site) d.table f g s k (HangsUp d.guest.number ∷ []) refl refl told own;
+    ran = ran_floor site.dirs d.table f g s k (HangsUp d.guest.number ∷ []) refl refl told own;
     way = refl;
     cause = λ ending over event. absurd (cc over);
   }
@@ -158,7 +158,7 @@ module _ (site : Site) (d : Did) (f : Heard) (s : Spooled) (k : ClockSeen) where
     effects = effects ∙ sym (append-nil d.effects);
     table = table;
     number = number;
-    ran = ran_none (dirs_of site) d.table f s k;
+    ran = ran_none site.dirs d.table f s k;
     way = way;
     cause = λ ending over event. absurd (cc over);
   }
@@ -170,7 +170,7 @@ module _ (site : Site) (d : Did) (f : Heard) (s : Spooled) (k : ClockSeen) where
     effects = refl;
     table = refl;
     number = refl;
-    ran = ran_none (dirs_of site) d.table f s k;
+    ran = ran_none site.dirs d.table f s k;
     way = refl;
     cause = λ ending over event. ended_as IdsSpent ending event d.table (seen f s k) (seen f s k) over spent;
   }
@@ -179,34 +179,34 @@ module _ (site : Site) (d : Did) (f : Heard) (s : Spooled) (k : ClockSeen) where
 
 module _ (site : Site) (moment : ℕ) (d : Did) (message : Received) (f : Heard) (s t : Spooled) (k : ClockSeen) where
   -- a message was taken in
-  pub does_commits : d.way ≡ GoesOn → Moves s t (StandsFor (dirs_of site) d.table) (StandsFor (dirs_of site) (after d.table (accept_of site moment message))) (IsEither (dirs_of site) d.table (accept_of site moment message)) → IsSparing (dirs_of site) s t true → s.faults ≤ t.faults
+  pub does_commits : d.way ≡ GoesOn → Moves s t (StandsFor site.dirs d.table) (StandsFor site.dirs (after d.table (accept_of site moment message))) (IsEither site.dirs d.table (accept_of site moment message)) → IsSparing site.dirs s t true → s.faults ≤ t.faults
       → Does site d (commits site moment d message) (seen f s k) (seen f t k) (Ok Continue)
   does_commits way moves sparing later = record {
     more = Commits (accept_of site moment message) ∷ [];
     effects = refl;
     table = refl;
     number = refl;
-    ran = ran_done (dirs_of site) d.table (accept_of site moment message) f s t k moves sparing later;
+    ran = ran_done site.dirs d.table (accept_of site moment message) f s t k moves sparing later;
     way = way;
     cause = λ ending over event. absurd (cc over);
   }
 
   -- the spool failed at a message
-  pub does_failed : is_spent d.table ≡ false → Moves s t (StandsFor (dirs_of site) d.table) (IsEither (dirs_of site) d.table (accept_of site moment message)) (IsEither (dirs_of site) d.table (accept_of site moment message)) → IsSparing (dirs_of site) s t false → s.faults ≤ t.faults → Rose s.faults t.faults
+  pub does_failed : is_spent d.table ≡ false → Moves s t (StandsFor site.dirs d.table) (IsEither site.dirs d.table (accept_of site moment message)) (IsEither site.dirs d.table (accept_of site moment message)) → IsSparing site.dirs s t false → s.faults ≤ t.faults → Rose s.faults t.faults
       → Does site d (fails site moment d (Gives message)) (seen f s k) (seen f t k) (Err stops.SpoolFault)
   does_failed left moves sparing later rose = subst (λ e. Does site d e (seen f s k) (seen f t k) (Err stops.SpoolFault)) (sym (cond-false (is_spent d.table) _ _ left)) (record {
     more = Commits (accept_of site moment message) ∷ [];
     effects = append-nil (d.effects ++ Commits (accept_of site moment message) ∷ []);
     table = refl;
     number = refl;
-    ran = ran_failed (dirs_of site) d.table (accept_of site moment message) f s t k moves sparing later;
+    ran = ran_failed site.dirs d.table (accept_of site moment message) f s t k moves sparing later;
     way = refl;
     cause = λ ending over event. ended_as SpoolFault ending event (after d.table (accept_of site moment message)) (seen f s k) (seen f t k) over rose;
   })
 
 -- a message was taken in, and its 250 said
 pub does_accepts : (site : Site) (moment : ℕ) (d : Did) (message : Received) (f g : Heard) (s t : Spooled) (k : ClockSeen) (fed : Result Next CoreStop) → d.way ≡ GoesOn → is_spent d.table ≡ false
-    → Moves s t (StandsFor (dirs_of site) d.table) (StandsFor (dirs_of site) (after d.table (accept_of site moment message))) (IsEither (dirs_of site) d.table (accept_of site moment message)) → IsSparing (dirs_of site) s t true → s.faults ≤ t.faults
+    → Moves s t (StandsFor site.dirs d.table) (StandsFor site.dirs (after d.table (accept_of site moment message))) (IsEither site.dirs d.table (accept_of site moment message)) → IsSparing site.dirs s t true → s.faults ≤ t.faults
     → IsSpoken fed → Gains f.told g.told (heard_of (speech d.guest.number (stored_text d.table.next) (is_onward fed))) → g.faults ≡ f.faults
     → Does site d (accepts site moment d message (is_onward fed)) (seen f s k) (seen g t k) fed
 does_accepts site moment d message f g s t k fed way left moves sparing later spoken told own =

@@ -16,23 +16,45 @@ use Rattle.smtp_receive.specs.Replies.{text_of, grant_text, hello_text, closing_
 use Rattle.smtp_receive.specs.Sessions.{answer_of}
 use Rattle.smtp_receive.proofs.FinalLemmas.{reply_final, grant_final, hello_final, closing_final, greeting_final, memory_final, sessions_final, same_id}
 use Rattle.spool_store.specs.Entries.{Stored, Table}
-use Rattle.spool_store.specs.Writes.{stored}
-use Rattle.mail_core.specs.Commands.{Command, Accept, after, applied}
-use Rattle.mail_core.specs.declared.serving.Site.{Site}
-use Rattle.mail_core.specs.Effects.{Effect, Commits, Sends, HangsUp, speech}
+use Rattle.spool_store.specs.Writes.{children_of, stored}
+use Rattle.queue_table.specs.Commands.{Command, after, draft_of, drafts_of}
+use Rattle.queue_table.specs.Commands.Command.{Accept, Record, Return, Warn}
+use Rattle.mail_core.specs.Sites.{Site, terms_at}
+use Rattle.mail_core.specs.Effects.{Effect, Takes, Ticks, Commits, Sends, HangsUp, speech}
 use Rattle.mail_core.specs.Guests.{Guest, is_passed, guest_of, is_here, next_line, with_bytes}
 use Rattle.mail_core.specs.Machine.{SpoolFault, IdsSpent, Opening, Replied, Dropped, Choice, Normal, OutOfMemory, Disconnects, SpoolFails, Choices, Way, GoesOn, Leaves, Over, Finish, By, Cut, Did, way_of, does, says, closes, is_over, commits, accepts, replies, fails, heard_line, id_by, is_answered, heard_where, by_choice, goes_on, answered, settled_by, settled, fresh_start, all_answered, State, Step, still, most_guests, turned_away, welcomed, opened, brought, pieced, handled, Turn, at_moment, taken, stepped, followed, run}
-use Rattle.mail_core.specs.Messages.{accept_of, draft_of, is_spent, last_id}
+use Rattle.mail_core.specs.Messages.{accept_of, draft_by, is_spent, last_id}
 use Rattle.mail_core.specs.Runs.{HasEntry, IsAcked, AreAcked}
 use Rattle.mail_core.specs.Seen.{table_after}
 use Rattle.mail_core.proofs.RanLemmas.{table_more}
 
 -- ---- what effects are
 
+-- a command that takes a message in
+abbrev pub IsAccept : Command → Type 0
+IsAccept (Accept terms message cuts moment) = Unit {0}
+IsAccept (Record terms id places results moment) = ⊥
+IsAccept (Return terms id bounces moment) = ⊥
+IsAccept (Warn terms id warnings moment) = ⊥
+
+-- an effect asks for no other command
+abbrev pub IsTaking : Effect → Type 0
+IsTaking (Takes event) = Unit {0}
+IsTaking (Ticks reading) = Unit {0}
+IsTaking (Commits command) = IsAccept command
+IsTaking (Sends session text whole) = Unit {0}
+IsTaking (HangsUp session) = Unit {0}
+
+-- nor do these
+abbrev pub AreTaking : List Effect → Type 0
+AreTaking [] = Unit {0}
+AreTaking (effect ∷ effects) = IsTaking effect × AreTaking effects
+
 -- effects that lead from a table to another
 pub record Leads (site : Site) (old new : Table) (effects : List Effect) : Type 0 where
   pub table : new ≡ table_after old effects
   pub acked : AreAcked old effects
+  pub taking : AreTaking effects
 
 -- what was done has grown
 pub record Grows (site : Site) (d e : Did) : Type 0 where
@@ -52,26 +74,49 @@ pub acked_front : (table : Table) (xs ys : List Effect) → AreAcked table (xs +
 acked_front table [] ys h = tt
 acked_front table (x ∷ xs) ys h = (h.0, acked_front (table_after table (x ∷ [])) xs ys h.1)
 
+pub taking_join : (xs ys : List Effect) → AreTaking xs → AreTaking ys → AreTaking (xs ++ ys)
+taking_join [] ys h k = k
+taking_join (x ∷ xs) ys h k = (h.0, taking_join xs ys h.1 k)
+
+-- effects ask for no other command, and so do those at their front
+pub taking_front : (xs ys : List Effect) → AreTaking (xs ++ ys) → AreTaking xs
+taking_front [] ys h = tt
+taking_front (x ∷ xs) ys h = (h.0, taking_front xs ys h.1)
+
 pub leads_none : (site : Site) (table : Table) → Leads site table table []
-leads_none site table = record { table = refl; acked = tt }
+leads_none site table = record { table = refl; acked = tt; taking = tt }
 
 pub leads_join : (site : Site) (one two three : Table) (xs ys : List Effect) → Leads site one two xs → Leads site two three ys → Leads site one three (xs ++ ys)
 leads_join site one two three xs ys h k = record {
   table = k.table ∙ ap (λ t. table_after t ys) h.table ∙ sym (table_more one xs ys);
   acked = acked_join one xs ys h.acked (subst (λ t. AreAcked t ys) h.table k.acked);
+  taking = taking_join xs ys h.taking k.taking;
 }
 
 -- ---- an entry stays
 
--- no command takes an entry away
-pub entry_stays : (id : ℕ) (table : Table) (commands : List Command) → HasEntry table id → HasEntry (applied table commands) id
-entry_stays id table [] h = h
-entry_stays id table (Accept draft body ∷ commands) h = entry_stays id (after table (Accept draft body)) commands (record {
-  stored = h.stored;
-  among = Contains-append_left table.entries (stored table.next body draft ∷ []) h.stored h.among;
-  id_is = h.id_is;
-  wanted = h.wanted;
-})
+-- a message that is taken in leaves the entries that are there
+pub among_accepted : (table : Table) (command : Command) (s : Stored) → IsAccept command → Contains table.entries s → Contains (after table command).entries s
+among_accepted table (Accept terms message [] moment) s is h = h
+among_accepted table (Accept terms message (cut ∷ cuts) moment) s is h =
+    let parent = draft_of terms message moment cut in
+    Contains-append_left table.entries (stored table.next message.body parent ∷ children_of table.next (drafts_of terms message moment cuts) parent message.body None) s h
+among_accepted table (Record terms id places results moment) s is h = absurd is
+among_accepted table (Return terms id bounces moment) s is h = absurd is
+among_accepted table (Warn terms id warnings moment) s is h = absurd is
+
+-- an entry is one of the table with one more
+pub entry_after : (id : ℕ) (table : Table) (command : Command) → IsAccept command → HasEntry table id → HasEntry (after table command) id
+entry_after id table command is h = record { stored = h.stored; among = among_accepted table command h.stored is h.among; id_is = h.id_is; wanted = h.wanted }
+
+-- effects that ask for no other command take no entry away
+pub entry_stays : (id : ℕ) (table : Table) (effects : List Effect) → AreTaking effects → HasEntry table id → HasEntry (table_after table effects) id
+entry_stays id table [] are h = h
+entry_stays id table (Commits command ∷ effects) are h = entry_stays id (after table command) effects are.1 (entry_after id table command are.0 h)
+entry_stays id table (Takes event ∷ effects) are h = entry_stays id table effects are.1 h
+entry_stays id table (Ticks reading ∷ effects) are h = entry_stays id table effects are.1 h
+entry_stays id table (Sends session text whole ∷ effects) are h = entry_stays id table effects are.1 h
+entry_stays id table (HangsUp session ∷ effects) are h = entry_stays id table effects are.1 h
 
 -- ---- texts
 
@@ -86,7 +131,7 @@ unspent table e = ltb-false last_id table.next e
 -- the final 250 of the next id, where it is taken
 entry_of : (site : Site) (moment : ℕ) (table : Table) (message : Received) (session : ℕ) (whole : Bool) → is_spent table ≡ false → IsAcked (after table (accept_of site moment message)) (Sends session (stored_text table.next) whole)
 entry_of site moment table message session whole left = λ id within is.
-    let s : Stored = stored table.next message.body (draft_of site moment message) in record {
+    let s : Stored = stored table.next message.body (draft_by (terms_at site) moment message) in record {
       stored = s;
       among = Contains-push table.entries s;
       id_is = same_id table.next id (unspent table left) within is;
@@ -96,14 +141,14 @@ entry_of site moment table message session whole left = λ id within is.
 -- ---- single effects
 
 speech_leads : (site : Site) (table : Table) (session : ℕ) (text : List ℕ) (whole : Bool) → ((w : Bool) → IsAcked table (Sends session text w)) → Leads site table table (speech session text whole)
-speech_leads site table session text true acked = record { table = refl; acked = (acked true, tt) }
-speech_leads site table session text false acked = record { table = refl; acked = (acked false, (tt, tt)) }
+speech_leads site table session text true acked = record { table = refl; acked = (acked true, tt); taking = (tt, tt) }
+speech_leads site table session text false acked = record { table = refl; acked = (acked false, (tt, tt)); taking = (tt, (tt, tt)) }
 
 last_leads : (site : Site) (table : Table) (session : ℕ) (text : List ℕ) (whole : Bool) → IsAcked table (Sends session text whole) → Leads site table table (Sends session text whole ∷ HangsUp session ∷ [])
-last_leads site table session text whole acked = record { table = refl; acked = (acked, (tt, tt)) }
+last_leads site table session text whole acked = record { table = refl; acked = (acked, (tt, tt)); taking = (tt, (tt, tt)) }
 
 hang_leads : (site : Site) (table : Table) (session : ℕ) → Leads site table table (HangsUp session ∷ [])
-hang_leads site table session = record { table = refl; acked = (tt, tt) }
+hang_leads site table session = record { table = refl; acked = (tt, tt); taking = (tt, tt) }
 
 -- ---- what is done for a session
 
@@ -142,7 +187,7 @@ commits_grows : (site : Site) (moment : ℕ) (d : Did) (message : Received) → 
 commits_grows site moment d message = record {
   more = Commits (accept_of site moment message) ∷ [];
   effects = refl;
-  leads = record { table = refl; acked = (tt, tt) };
+  leads = record { table = refl; acked = (tt, tt); taking = (tt, tt) };
   number = refl;
 }
 
@@ -295,7 +340,7 @@ handled_steps site m Rests none = leads_none site m.table
 handled_steps site m Stops none = leads_none site m.table
 
 taken_steps : (site : Site) (table : Table) (turn : Turn) (step : Step) → Steps site table step → Steps site table (taken turn step)
-taken_steps site table turn step h = record { table = h.table; acked = (tt, (tt, h.acked)) }
+taken_steps site table turn step h = record { table = h.table; acked = (tt, (tt, h.acked)); taking = (tt, (tt, h.taking)) }
 
 -- the effects of a step lead to its table
 pub stepped_leads : (site : Site) (m : State) (turn : Turn) → Leads site m.table (stepped site m turn).state.table (stepped site m turn).effects

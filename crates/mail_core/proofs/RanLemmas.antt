@@ -11,9 +11,9 @@ use Rattle.spool_store.specs.Entries.{Table}
 use Rattle.spool_store.specs.Moves.{Moves}
 use Rattle.spool_store.specs.Settled.{StandsFor}
 use Rattle.spool_store.proofs.MovesLemmas.{moves_join, moves_none, moves_weaker}
-use Rattle.mail_core.specs.Commands.{Command, IsEither, after, applied}
+use Rattle.queue_table.specs.Commands.{Command, after, applied}
 use Rattle.mail_core.specs.Effects.{Effect, Commits, heard, read, commanded, heard_of, readings_of, commands_of}
-use Rattle.mail_core.specs.Seen.{IsPart, IsSparing, Leaves, Ran, Seen, seen, table_after}
+use Rattle.mail_core.specs.Seen.{IsEither, IsPart, IsSparing, Leaves, Ran, Seen, seen, table_after}
 use Rattle.mail_core.proofs.SparingLemmas.{sparing_join, sparing_none}
 
 -- commands one after the other make of a table what all of them make

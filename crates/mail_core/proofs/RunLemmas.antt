@@ -24,11 +24,11 @@ use Rattle.spool_store.specs.Stores.{KeepsOthers}
 use Rattle.spool_store.specs.Writes.{stored}
 use Rattle.spool_store.proofs.MovesLemmas.{moves_weaker, told_after}
 use Rattle.mail_core.specs.declared.serving.Core.{Core}
-use Rattle.mail_core.specs.declared.serving.Site.{Site}
+use Rattle.mail_core.specs.Sites.{Site}
 use Rattle.mail_core.specs.declared.serving.Act.{Act}
 use Rattle.mail_core.specs.declared.serving.Act.TheVariants.{Went}
 use Rattle.mail_core.specs.declared.serving.CoreStop.{CoreStop}
-use Rattle.mail_core.specs.Commands.{Accept, Command, after}
+use Rattle.queue_table.specs.Commands.{Command, after}
 use Rattle.mail_core.specs.Effects.{Effect, Takes, Ticks, Commits, Sends, HangsUp, heard, heard_of, commands_of}
 use Rattle.mail_core.specs.Causes.{EndsSo, is_well}
 use Rattle.mail_core.specs.Events.{Turns}
@@ -37,10 +37,9 @@ use Rattle.mail_core.specs.Runs.{AreAcked, HasEntry, Headline, IsAcked, IsEnded,
 use Rattle.mail_core.specs.inner.UnderWay.{IsUnderWay}
 use Rattle.mail_core.specs.Seen.{IsPart, IsSparing, LacksLast, Leaves as Left, Ran, Seen, SparesBy, seen, table_after}
 use Rattle.mail_core.specs.Standing.{IsTallied, Stands}
-use Rattle.mail_core.specs.Messages.{dirs_of}
 use Rattle.mail_core.proofs.GoingLemmas.{cause_since}
 use Rattle.mail_core.proofs.RanLemmas.{ran_join, ran_quiet, table_more}
-use Rattle.mail_core.proofs.MachineLemmas.{acked_front, entry_stays, run_leads, run_more}
+use Rattle.mail_core.proofs.MachineLemmas.{AreTaking, IsAccept, acked_front, among_accepted, entry_after, entry_stays, run_leads, run_more, taking_front}
 
 -- ---- a run begins
 
@@ -50,7 +49,7 @@ opened_part dirs table s t moves =
     moves_weaker s t (StandsFor dirs table) (StandsFor dirs table) (StandsFor dirs table) (StandsFor dirs table) (IsPart dirs table []) (λ f p. p) (λ f p. record { done = []; rest = []; whole = refl; stands = p }) moves
 
 -- a core over a table for which the spool stands still is under way, after no event
-pub under_way_begin : (site : Site) (table : Table) (core : Core) (f g : Heard) (s t : Spooled) (c : ClockSeen) → Moves s t (StandsFor (dirs_of site) table) (StandsFor (dirs_of site) table) (StandsFor (dirs_of site) table) → IsSparing (dirs_of site) s t true
+pub under_way_begin : (site : Site) (table : Table) (core : Core) (f g : Heard) (s t : Spooled) (c : ClockSeen) → Moves s t (StandsFor site.dirs table) (StandsFor site.dirs table) (StandsFor site.dirs table) → IsSparing site.dirs s t true
     → g.told ≡ f.told → f.faults ≤ g.faults → s.faults ≤ t.faults → Stands site core (beginning table) → IsTallied core t.told
     → IsUnderWay site table core 0 (seen f s c) (seen g t c)
 under_way_begin site table core f g s t c moves sparing same floor_faults spool_faults stands tallied = record {
@@ -60,7 +59,7 @@ under_way_begin site table core f g s t c moves sparing same floor_faults spool_
     floor = subst (λ q. Gains f.told q []) (sym same) (gains_none f.told);
     clock = gains_none c.told;
     readings = omega arith;
-    spool = opened_part (dirs_of site) table s t moves;
+    spool = opened_part site.dirs table s t moves;
     frame = sparing;
     floor_faults = floor_faults;
     spool_faults = spool_faults;
@@ -73,15 +72,15 @@ under_way_begin site table core f g s t c moves sparing same floor_faults spool_
 -- ---- a run goes on
 
 -- one turn more
-ran_turn : (site : Site) (table : Table) (turns : List Turn) (turn : Turn) (a b c : Seen) (well : Bool) → Ran (dirs_of site) table a b (run_over site table turns).effects true
-    → Ran (dirs_of site) (run_over site table turns).state.table b c (stepped site (run_over site table turns).state turn).effects well
-    → Ran (dirs_of site) table a c (run_over site table (turns ++ turn ∷ [])).effects well
+ran_turn : (site : Site) (table : Table) (turns : List Turn) (turn : Turn) (a b c : Seen) (well : Bool) → Ran site.dirs table a b (run_over site table turns).effects true
+    → Ran site.dirs (run_over site table turns).state.table b c (stepped site (run_over site table turns).state turn).effects well
+    → Ran site.dirs table a c (run_over site table (turns ++ turn ∷ [])).effects well
 ran_turn site table turns turn a b c well h k =
     let run = run_over site table turns in
     let last = stepped site run.state turn in
     let leads = run_leads site (beginning table) turns in
-    subst (λ (q : Step). Ran (dirs_of site) table a c q.effects well) (sym (run_more site (beginning table) turns turn))
-    (ran_join (dirs_of site) table a b c run.effects last.effects well h (subst (λ t. Ran (dirs_of site) t b c last.effects well) leads.table k))
+    subst (λ (q : Step). Ran site.dirs table a c q.effects well) (sym (run_more site (beginning table) turns turn))
+    (ran_join site.dirs table a b c run.effects last.effects well h (subst (λ t. Ran site.dirs t b c last.effects well) leads.table k))
 
 -- a core that took one event more and goes on is under way
 pub under_way_more : (site : Site) (table : Table) (core new : Core) (n : ℕ) (event : Event) (reading : ℕ) (a b c : Seen) → (u : IsUnderWay site table core n a b) → Turns site (run_over site table u.turns).state event reading b c new (Ok Went)
@@ -103,8 +102,8 @@ under_way_floor site table core n a f g s k u gains le =
     let effects = (run_over site table u.turns).effects in record {
       turns = u.turns;
       events = u.events;
-      ran = subst (λ q. Ran (dirs_of site) table a (seen g s k) q true) (append-nil effects)
-          (ran_join (dirs_of site) table a (seen f s k) (seen g s k) effects [] true u.ran (ran_quiet (dirs_of site) (table_after table effects) f g s k k [] refl gains le (gains_none k.told) (omega arith)));
+      ran = subst (λ q. Ran site.dirs table a (seen g s k) q true) (append-nil effects)
+          (ran_join site.dirs table a (seen f s k) (seen g s k) effects [] true u.ran (ran_quiet site.dirs (table_after table effects) f g s k k [] refl gains le (gains_none k.told) (omega arith)));
       readings = u.readings;
       stands = u.stands;
       tallied = u.tallied;
@@ -128,14 +127,14 @@ sent_done (effect ∷ effects) session text h = ⊎_elim
     (Contains-append_cases (heard effect) (heard_of effects) (Sent session text) h)
 
 -- the entry of a final 250 is in the table after the effects
-acked_entry : (id session : ℕ) (table : Table) (effects : List Effect) → IsId id → AreAcked table effects → Contains effects (Sends session (stored_text id) true) → HasEntry (table_after table effects) id
-acked_entry id session table [] within acked h = absurd (nothing_there (Sends session (stored_text id) true) h)
-acked_entry id session table (effect ∷ effects) within acked h = ⊎_elim
+acked_entry : (id session : ℕ) (table : Table) (effects : List Effect) → IsId id → AreTaking effects → AreAcked table effects → Contains effects (Sends session (stored_text id) true) → HasEntry (table_after table effects) id
+acked_entry id session table [] within taking acked h = absurd (nothing_there (Sends session (stored_text id) true) h)
+acked_entry id session table (effect ∷ effects) within taking acked h = ⊎_elim
     (λ first.
     let is : effect ≡ Sends session (stored_text id) true = one_only effect (Sends session (stored_text id) true) first in
     let there : (i : ℕ) → IsId i → stored_text id ≡ stored_text i → HasEntry table i = subst (IsAcked table) is acked.0 in
-    entry_stays id table (commands_of (effect ∷ effects)) (there id within refl))
-    (λ rest. subst (λ t. HasEntry t id) (sym (table_more table (effect ∷ []) effects)) (acked_entry id session (table_after table (effect ∷ [])) effects within acked.1 rest))
+    entry_stays id table (effect ∷ effects) taking (there id within refl))
+    (λ rest. subst (λ t. HasEntry t id) (sym (table_more table (effect ∷ []) effects)) (acked_entry id session (table_after table (effect ∷ [])) effects within taking.1 acked.1 rest))
     (Contains-append_cases (effect ∷ []) effects (Sends session (stored_text id) true) h)
 
 -- ---- the files of an entry
@@ -154,10 +153,10 @@ kept_by dirs table files id stands h =
     }
 
 -- an entry is one of the table with one more
-kept_more : (dirs : List (List ℕ)) (table : Table) (command : Command) (files : FileMap) (id : ℕ) → IsKept dirs table files id → IsKept dirs (after table command) files id
-kept_more dirs table (Accept draft body) files id h = record {
+kept_more : (dirs : List (List ℕ)) (table : Table) (command : Command) (files : FileMap) (id : ℕ) → IsAccept command → IsKept dirs table files id → IsKept dirs (after table command) files id
+kept_more dirs table command files id is h = record {
   stored = h.stored;
-  among = Contains-append_left table.entries (stored table.next body draft ∷ []) h.stored h.among;
+  among = among_accepted table command h.stored is h.among;
   id_is = h.id_is;
   kind = h.kind;
   control = h.control;
@@ -173,33 +172,40 @@ same_told f g e = cc e
 not_last : (command : Command) (session : ℕ) (text : List ℕ) → Commits command ≢ Sends session text true
 not_last command session text = λ e. cc e
 
+-- the last effect is such a command
+taking_last : (done : List Effect) (command : Command) → AreTaking (done ++ Commits command ∷ []) → IsAccept command
+taking_last [] command h = h.0
+taking_last (effect ∷ done) command h = taking_last done command h.1
+
 -- where the spool failed at the last effect, before which the final 250 was said
-kept_failed : (dirs : List (List ℕ)) (table : Table) (effects : List Effect) (files : FileMap) (session id : ℕ) → AreAcked table effects → LacksLast dirs table effects files
+kept_failed : (dirs : List (List ℕ)) (table : Table) (effects : List Effect) (files : FileMap) (session id : ℕ) → AreTaking effects → AreAcked table effects → LacksLast dirs table effects files
     → IsId id → Contains effects (Sends session (stored_text id) true) → IsKept dirs (table_after table effects) files id
-kept_failed dirs table effects files session id acked lacks within said =
+kept_failed dirs table effects files session id taking acked lacks within said =
     let done = lacks.done in
     let last : List Effect = Commits lacks.command ∷ [] in
     let now = table_after table done in
     let all_acked : AreAcked table (done ++ last) = subst (AreAcked table) lacks.whole acked in
+    let all_taking : AreTaking (done ++ last) = subst AreTaking lacks.whole taking in
+    let accept : IsAccept lacks.command = taking_last done lacks.command all_taking in
     let all_said : Contains (done ++ last) (Sends session (stored_text id) true) = subst (λ q. Contains q (Sends session (stored_text id) true)) lacks.whole said in
     let before : Contains done (Sends session (stored_text id) true) = ⊎_elim (λ k. k) (λ e. absurd (not_last lacks.command session (stored_text id) e)) (Contains-push_cases done (Commits lacks.command) (Sends session (stored_text id) true) all_said) in
-    let entry : HasEntry now id = acked_entry id session table done within (acked_front table done last all_acked) before in
+    let entry : HasEntry now id = acked_entry id session table done within (taking_front done last all_taking) (acked_front table done last all_acked) before in
     let all : table_after table effects ≡ after now lacks.command = ap (table_after table) lacks.whole ∙ table_more table done last in
     subst (λ t. IsKept dirs t files id) (sym all) (⊎_elim
-    (λ stands. kept_more dirs now lacks.command files id (kept_by dirs now files id stands entry))
-    (λ stands. kept_by dirs (after now lacks.command) files id stands (entry_stays id now (lacks.command ∷ []) entry))
+    (λ stands. kept_more dirs now lacks.command files id accept (kept_by dirs now files id stands entry))
+    (λ stands. kept_by dirs (after now lacks.command) files id stands (entry_after id now lacks.command accept entry))
     lacks.stands)
 
-kept_left : (dirs : List (List ℕ)) (table : Table) (effects : List Effect) (well : Bool) (files : FileMap) (session id : ℕ) → AreAcked table effects → Left dirs table effects well files
+kept_left : (dirs : List (List ℕ)) (table : Table) (effects : List Effect) (well : Bool) (files : FileMap) (session id : ℕ) → AreTaking effects → AreAcked table effects → Left dirs table effects well files
     → IsId id → Contains effects (Sends session (stored_text id) true) → IsKept dirs (table_after table effects) files id
-kept_left dirs table effects true files session id acked stands within said = kept_by dirs (table_after table effects) files id stands (acked_entry id session table effects within acked said)
-kept_left dirs table effects false files session id acked left within said = kept_failed dirs table effects files session id acked left within said
+kept_left dirs table effects true files session id taking acked stands within said = kept_by dirs (table_after table effects) files id stands (acked_entry id session table effects within taking acked said)
+kept_left dirs table effects false files session id taking acked left within said = kept_failed dirs table effects files session id taking acked left within said
 
 -- a stop since a moment leaves what is told then
 abbrev pub OnlyNow : Spooled → Type 0
 OnlyNow spool = (files : FileMap) → spool.left_since spool.moment files → spool.told ≡ Some files
 
-exit_of : (site : Site) (table : Table) (turns : List Turn) (well : Bool) (told : Option FileMap) (files : FileMap) → told ≡ Some files → Left (dirs_of site) table (run_over site table turns).effects well files
+exit_of : (site : Site) (table : Table) (turns : List Turn) (well : Bool) (told : Option FileMap) (files : FileMap) → told ≡ Some files → Left site.dirs table (run_over site table turns).effects well files
     → IsLeft site table (run_over site table turns).effects well told
 exit_of site table turns well told files is left =
     let effects = (run_over site table turns).effects in
@@ -207,33 +213,33 @@ exit_of site table turns well told files is left =
       files = files;
       told_is = is;
       leaves = left;
-      acked = λ session id within sent. kept_left (dirs_of site) table effects well files session id leads.acked left within (sent_done effects session (stored_text id) sent);
+      acked = λ session id within sent. kept_left site.dirs table effects well files session id leads.taking leads.acked left within (sent_done effects session (stored_text id) sent);
     }
 
 spared_others : (dirs : List (List ℕ)) (well : Bool) (f g : FileMap) → SparesBy dirs well f g → KeepsOthers dirs f g
 spared_others dirs true f g h = h.others
 spared_others dirs false f g h = h
 
-pub headline_of : (site : Site) (table : Table) (turns : List Turn) (a b : Seen) (well : Bool) → OnlyNow a.spool → Ran (dirs_of site) table a b (run_over site table turns).effects well → Headline site table turns a b well
+pub headline_of : (site : Site) (table : Table) (turns : List Turn) (a b : Seen) (well : Bool) → OnlyNow a.spool → Ran site.dirs table a b (run_over site table turns).effects well → Headline site table turns a b well
 headline_of site table turns a b well only ran =
     let effects = (run_over site table turns).effects in record {
       floor = ran.floor;
       clock = ran.clock;
       readings = ran.readings;
       exit = λ files told stands.
-          let now = told_after a.spool.told b.spool.told (StandsFor (dirs_of site) table) (Left (dirs_of site) table effects well) ran.spool.now files told stands in
+          let now = told_after a.spool.told b.spool.told (StandsFor site.dirs table) (Left site.dirs table effects well) ran.spool.now files told stands in
           exit_of site table turns well b.spool.told now.0 now.1 now.2;
       spared = λ files told.
-          let now = told_after a.spool.told b.spool.told (λ g. g ≡ files) (SparesBy (dirs_of site) well files) (ran.frame files).now files told refl in
-          record { files = now.0; told_is = now.1; others = spared_others (dirs_of site) well files now.0 now.2 };
+          let now = told_after a.spool.told b.spool.told (λ g. g ≡ files) (SparesBy site.dirs well files) (ran.frame files).now files told refl in
+          record { files = now.0; told_is = now.1; others = spared_others site.dirs well files now.0 now.2 };
       spared_images = λ files told left at. ⊎_elim
-          (λ before. let same : files ≡ left = same_told files left (sym told ∙ only left before) in subst (KeepsOthers (dirs_of site) files) same (λ place is. refl))
+          (λ before. let same : files ≡ left = same_told files left (sym told ∙ only left before) in subst (KeepsOthers site.dirs files) same (λ place is. refl))
           (λ spared. spared)
           ((ran.frame files).images files told refl a.spool.moment left (le_refl a.spool.moment) at);
       images = λ files told stands left at. ⊎_elim
           (λ before.
           let same : files ≡ left = same_told files left (sym told ∙ only left before) in
-          record { done = []; rest = effects; whole = refl; stands = subst (StandsFor (dirs_of site) table) same stands })
+          record { done = []; rest = effects; whole = refl; stands = subst (StandsFor site.dirs table) same stands })
           (λ part. part)
           (ran.spool.images files told stands a.spool.moment left (le_refl a.spool.moment) at);
       floor_faults = ran.floor_faults;

@@ -6,7 +6,7 @@ use Rattle.std.proofs.lemmas.List.{append-nil}
 use Rattle.link_edge.specs.declared.event.Event.{Event}
 use Rattle.link_edge.specs.declared.event.Event.TheVariants.{Opens, Brings, Closes, Rests, Stops}
 use Rattle.smtp_receive.specs.Replies.{greeting_text, shown_host, too_many_sessions_text}
-use Rattle.mail_core.specs.declared.serving.Site.{Site}
+use Rattle.mail_core.specs.Sites.{Site}
 use Rattle.mail_core.specs.Effects.{Effect, Takes, Ticks}
 use Rattle.mail_core.specs.Guests.{Guest, guest_of, has_number, is_here, newcomer, with_bytes, with_guest, without}
 use Rattle.mail_core.specs.Machine.{Opening, Replied, Dropped, Choice, Choices, Way, GoesOn, Leaves, Over, Did, State, Step, Turn, all_answered, at_moment, brought, handled, most_guests, opened, pieced, run, stepped, still, taken, turned_away, welcomed}

@@ -5,7 +5,7 @@ use Rattle.link_edge.specs.declared.event.Event.{Event}
 use Rattle.link_edge.specs.declared.event.FloorEvent.{FloorEvent}
 use Rattle.link_edge.specs.declared.event.FloorEvent.TheVariants.{Took, HungUp}
 use Rattle.link_edge.specs.Sessions.{send_event}
-use Rattle.mail_core.specs.Commands.{Command}
+use Rattle.queue_table.specs.Commands.{Command}
 
 -- a turn of the floor was taken; the clock was read; a command was asked of the table; a text was
 -- sent to a session, whole or not; a session was hung up

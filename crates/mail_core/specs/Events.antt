@@ -12,12 +12,11 @@ use Rattle.link_edge.specs.declared.turn.Turn.TheVariants.{Opened, Piece, Closed
 use Rattle.mail_core.specs.declared.serving.Core.{Core}
 use Rattle.mail_core.specs.declared.serving.Act.{Act}
 use Rattle.mail_core.specs.declared.serving.CoreStop.{CoreStop}
-use Rattle.mail_core.specs.declared.serving.Site.{Site}
+use Rattle.mail_core.specs.Sites.{Site}
 use Rattle.mail_core.specs.Causes.{EndsSo, ending_of, is_well}
 use Rattle.mail_core.specs.Machine.{Choices, Ending, State, Step, stepped}
 use Rattle.mail_core.specs.Seen.{Seen, Ran}
 use Rattle.mail_core.specs.Standing.{Stands}
-use Rattle.mail_core.specs.Messages.{dirs_of}
 
 -- the event of a turn, with its bytes
 abbrev pub event_of : Turn → List ℕ → Event
@@ -46,7 +45,7 @@ step_of site m event reading choices =
 pub record Turns (site : Site) (m : State) (event : Event) (reading : ℕ) (a b : Seen) (core : Core)
     (went : Result Act CoreStop) : Type 0 where
   pub choices : Choices event
-  pub ran : Ran (dirs_of site) m.table a b
+  pub ran : Ran site.dirs m.table a b
       (step_of site m event reading choices).effects (is_well went)
   pub stands : ending_of went ≡ None → Stands site core (step_of site m event reading choices).state
   pub ended : (ending : Ending) → ending_of went ≡ Some ending

@@ -1,4 +1,4 @@
-pub mod Commands
+pub mod Sites
 pub mod Effects
 pub mod Guests
 pub mod Messages

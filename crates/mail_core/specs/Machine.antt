@@ -11,10 +11,10 @@ use Rattle.smtp_receive.specs.Dialogue.{Answer, Says, Greets, Grants, Closes as 
 use Rattle.smtp_receive.specs.Replies.{text_of, grant_text, hello_text, closing_text, greeting_text, stored_text, shown_host, out_of_memory_text, too_many_sessions_text}
 use Rattle.smtp_receive.specs.Sessions.{answer_of}
 use Rattle.spool_store.specs.Entries.{Table}
-use Rattle.mail_core.specs.Commands.{after}
+use Rattle.queue_table.specs.Commands.{after}
 use Rattle.mail_core.specs.Effects.{Effect, Takes, Ticks, Commits, Sends, HangsUp, speech}
 use Rattle.mail_core.specs.Guests.{Guest, newcomer, next_line, is_passed, has_bytes_left, with_bytes, with_line, guest_of, is_here, without, with_guest}
-use Rattle.mail_core.specs.declared.serving.Site.{Site}
+use Rattle.mail_core.specs.Sites.{Site}
 use Rattle.mail_core.specs.Messages.{accept_of, is_spent}
 
 -- what is left open at an opening: its greeting, or its 421, is sent whole or not; or the session

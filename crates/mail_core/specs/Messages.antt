@@ -1,61 +1,75 @@
--- The entry that a received message becomes (Sendmail Installation and Operation Guide, "The
+-- The command that a received message becomes (Sendmail Installation and Operation Guide, "The
 -- queue"; until recipients are routed each message has one, primary, in the group mqueue).
-use Rattle.std.specs.Prelude.{ℕ, ◌+◌, pos, List, [], ◌∷◌, None, Bool, true, false, codes, nat_lt}
-use Rattle.mail_base.specs.declared.control.Control.{Control}
+use Rattle.std.specs.Prelude.{ℕ, pos, List, [], ◌∷◌, Bool, true, false, codes, nat_lt}
 use Rattle.mail_base.specs.declared.control.Draft.{Draft}
-use Rattle.mail_base.specs.declared.control.Row.{Row}
-use Rattle.mail_base.specs.declared.control.State.TheVariants.{Queued}
-use Rattle.mail_base.specs.declared.message.Marks.{Marks}
+use Rattle.mail_base.specs.declared.draw.Draw.{Draw}
 use Rattle.mail_base.specs.declared.id.TheConstants.Id.{MOST}
+use Rattle.mail_base.specs.declared.message.Cut.{Cut}
+use Rattle.mail_base.specs.declared.message.Marks.{Marks}
+use Rattle.mail_base.specs.declared.message.Message.{Message}
+use Rattle.mail_base.specs.declared.route.Resolved.{Resolved}
+use Rattle.mail_base.specs.declared.route.Resolved.TheVariants.{Goes}
 use Rattle.smtp_receive.specs.declared.received.Received.{Received}
 use Rattle.spool_store.specs.Entries.{Table}
-use Rattle.mail_core.specs.Commands.{Command, Accept}
-use Rattle.mail_core.specs.declared.serving.Site.{Site}
+use Rattle.queue_table.specs.Commands.{Command}
+use Rattle.queue_table.specs.Commands as commands
+use Rattle.queue_table.specs.Commands.Command.{Accept}
+use Rattle.queue_table.specs.declared.terms.Terms.{Terms}
+use Rattle.mail_core.specs.Sites.{Site, terms_at}
 
--- the directories of a site: it has one
-abbrev pub dirs_of : Site → List (List ℕ)
-dirs_of site = site.dir ∷ []
+-- where a recipient goes that isn't routed
+abbrev pub nowhere : Resolved
+nowhere = Goes (record { mailer = []; host = []; user = [] })
 
--- what each recipient adds to a message's priority
-unfoldable pub recipient_factor : ℕ
-recipient_factor = 30000
-
--- the recipient, of which nothing became yet
-abbrev pub row_of : Received → Row
-row_of message = record { address = message.recipient; primary = true; state = Queued None }
+-- the recipient
+abbrev pub draw_of : Received → Draw
+draw_of message =
+    record {
+      address = message.recipient;
+      sender = message.sender;
+      primary = true;
+      resolved = nowhere;
+    }
 
 abbrev pub no_marks : Marks
 no_marks = record { bounce = false; double = false; warned = false }
 
--- the first control of a message that came at a moment
-abbrev pub control_of : ℕ → Received → Control
-control_of moment message = record {
-  revision = 1;
-  parent = None;
-  group = codes "mqueue";
-  created = moment;
-  last_try = 0;
-  tries = 0;
-  priority = pos (message.size + recipient_factor);
-  class = pos 0;
-  marks = no_marks;
-  eight = false;
-  sender = message.sender;
-  kept = message.kept;
-  rows = row_of message ∷ [];
-  headers = message.headers;
-}
+-- the message, of class 0
+abbrev pub message_of : Received → Message
+message_of message =
+    record {
+      sender = message.sender;
+      rows = draw_of message ∷ [];
+      headers = message.headers;
+      body = message.body;
+      size = message.size;
+      class = pos 0;
+      eight = false;
+      marks = no_marks;
+      kept = message.kept;
+    }
 
-abbrev pub draft_in : List ℕ → ℕ → Received → Draft
-draft_in dir moment message =
-    record { id = None; dir = dir; control = control_of moment message }
+-- the one part of it
+abbrev pub cut_of : Received → Cut
+cut_of message =
+    record { sender = message.sender; group = codes "mqueue"; rows = draw_of message ∷ [] }
 
-abbrev pub draft_of : Site → ℕ → Received → Draft
-draft_of site moment message = draft_in site.dir moment message
+abbrev pub cuts_of : Received → List Cut
+cuts_of message = cut_of message ∷ []
 
 -- the command that takes a message in
 abbrev pub accept_of : Site → ℕ → Received → Command
-accept_of site moment message = Accept (draft_of site moment message) message.body
+accept_of site moment message =
+    Accept (terms_at site) (message_of message) (cuts_of message) moment
+
+-- the draft of its entry
+abbrev pub draft_by : Terms → ℕ → Received → Draft
+draft_by terms moment message =
+    commands.draft_of terms (message_of message) moment (cut_of message)
+
+-- the table of a queue that was never used: the first id is 1
+abbrev pub start : Table
+start = record { entries = []; next = 1 }
 
 -- the greatest id
 unfoldable pub last_id : ℕ

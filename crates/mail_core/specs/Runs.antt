@@ -15,13 +15,12 @@ use Rattle.spool_store.specs.Queue.{IsLive}
 use Rattle.spool_store.specs.Settled.{StandsFor, spot_of}
 use Rattle.spool_store.specs.Stores.{KeepsOthers}
 use Rattle.mail_core.specs.Effects.{Effect, Takes, Ticks, Commits, Sends, HangsUp, heard_of, readings_of}
-use Rattle.mail_core.specs.declared.serving.Site.{Site}
+use Rattle.mail_core.specs.Sites.{Site}
 use Rattle.mail_core.specs.declared.serving.Act.{Act}
 use Rattle.mail_core.specs.declared.serving.CoreStop.{CoreStop}
 use Rattle.mail_core.specs.Causes.{EndsSo, ending_of, is_well}
 use Rattle.mail_core.specs.Machine.{Ending, Turn, Step, run, beginning}
 use Rattle.mail_core.specs.Seen.{Seen, IsPart, Leaves, table_after}
-use Rattle.mail_core.specs.Messages.{dirs_of}
 
 -- a run of these turns over a table
 abbrev pub run_over : Site → Table → List Turn → Step
@@ -65,10 +64,10 @@ pub record IsLeft (site : Site) (table : Table) (effects : List Effect) (well : 
     (told : Option FileMap) : Type 0 where
   pub files : FileMap
   pub told_is : told ≡ Some files
-  pub leaves : Leaves (dirs_of site) table effects well files
+  pub leaves : Leaves site.dirs table effects well files
   pub acked : (session id : ℕ) → IsId id
       → Contains (heard_of effects) (Sent session (stored_text id))
-      → IsKept (dirs_of site) (table_after table effects) files id
+      → IsKept site.dirs (table_after table effects) files id
 
 -- the files are told, and what no call touches is in them as it was
 pub record IsSpared (dirs : List (List ℕ)) (old : FileMap) (told : Option FileMap) : Type 0 where
@@ -85,19 +84,19 @@ pub record Headline (site : Site) (table : Table) (turns : List Turn) (a b : See
   pub readings : b.clock.readings
       ≡ a.clock.readings + length (readings_of (run_over site table turns).effects)
   -- what the files are at the exit
-  pub exit : (files : FileMap) → a.spool.told ≡ Some files → StandsFor (dirs_of site) table files
+  pub exit : (files : FileMap) → a.spool.told ≡ Some files → StandsFor site.dirs table files
       → IsLeft site table (run_over site table turns).effects well b.spool.told
   -- a stop at any moment since a leaves the table after a front of what was done
-  pub images : (files : FileMap) → a.spool.told ≡ Some files → StandsFor (dirs_of site) table files
+  pub images : (files : FileMap) → a.spool.told ≡ Some files → StandsFor site.dirs table files
       → (left : FileMap) → b.spool.left_since a.spool.moment left
-      → IsPart (dirs_of site) table (run_over site table turns).effects left
+      → IsPart site.dirs table (run_over site table turns).effects left
   -- whatever the files were, at the exit and in each of these what no call touches is as it was:
   -- files that are none of the queue's, and strange ones with the bodies of their ids
   pub spared : (files : FileMap) → a.spool.told ≡ Some files
-      → IsSpared (dirs_of site) files b.spool.told
+      → IsSpared site.dirs files b.spool.told
   pub spared_images : (files : FileMap) → a.spool.told ≡ Some files
       → (left : FileMap) → b.spool.left_since a.spool.moment left
-      → KeepsOthers (dirs_of site) files left
+      → KeepsOthers site.dirs files left
   -- no count of faults falls
   pub floor_faults : a.floor.faults ≤ b.floor.faults
   pub spool_faults : a.spool.faults ≤ b.spool.faults

@@ -7,10 +7,11 @@ use Rattle.spool_disk.specs.Disk.{FileMap}
 use Rattle.spool_disk.specs.Spooled.{Spooled}
 use Rattle.spool_store.specs.Entries.{Table}
 use Rattle.spool_store.specs.Moves.{Moves}
+use Rattle.spool_store.specs.Parts.{IsEitherTable}
 use Rattle.spool_store.specs.Queue.{Spot, IsStrange}
 use Rattle.spool_store.specs.Settled.{StandsFor}
 use Rattle.spool_store.specs.Stores.{KeepsOthers}
-use Rattle.mail_core.specs.Commands.{Command, IsEither, applied}
+use Rattle.queue_table.specs.Commands.{Command, after, applied}
 use Rattle.mail_core.specs.Effects.{Effect, Commits, heard_of, readings_of, commands_of}
 
 -- all that is seen of the three
@@ -25,6 +26,10 @@ seen floor spool clock = record { floor = floor; spool = spool; clock = clock }
 -- the table after some effects
 abbrev pub table_after : Table → List Effect → Table
 table_after table effects = applied table (commands_of effects)
+
+-- the files stand for the table before a command or after it
+abbrev pub IsEither : List (List ℕ) → Table → Command → FileMap → Type 0
+IsEither dirs table command files = IsEitherTable dirs table (after table command) files
 
 -- the files stand for the table after a front of the effects
 pub record IsPart (dirs : List (List ℕ)) (table : Table) (effects : List Effect)

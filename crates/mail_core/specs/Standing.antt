@@ -1,36 +1,31 @@
 -- What the core keeps, and what of the machine it stands for.
-use Rattle.std.specs.Prelude.{◌≡◌, ◌≢◌, ◌<◌, ◌^◌, List, [], ◌∷◌, ◌++◌, All, Option, Some, None, IfSome, false}
+use Rattle.std.specs.Prelude.{◌≡◌, ◌≢◌, ◌<◌, ◌^◌, List, [], ◌∷◌, ◌++◌, All, Option, Some, None, false}
 use Rattle.smtp_lines.specs.Reader.{Reader, Stream, awaited, Stands as Reads}
 use Rattle.smtp_receive.specs.Sessions.{Stands as Speaks}
 use Rattle.smtp_receive.specs.Replies.{out_of_memory_text, too_many_sessions_text}
 use Rattle.spool_disk.specs.Disk.{FileMap}
-use Rattle.spool_store.specs.declared.queue.Queue.{Queue}
 use Rattle.spool_store.specs.Entries.{Table}
-use Rattle.spool_store.specs.Keepers.{seen}
-use Rattle.spool_store.specs.Stores.{Agrees, Holds}
+use Rattle.queue_table.specs.Calls.{AreDirs, HoldsTable, Tallies, store}
+use Rattle.queue_table.specs.declared.table.Table.{Table as Kept}
 use Rattle.mail_core.specs.declared.caller.Caller.{Caller}
 use Rattle.mail_core.specs.declared.intake.Intake.{Intake}
 use Rattle.mail_core.specs.declared.serving.Core.{Core}
 use Rattle.mail_core.specs.Guests.{Guest, grants_of, lines_heard}
-use Rattle.mail_core.specs.Messages.{dirs_of}
-use Rattle.mail_core.specs.declared.serving.Site.{Site}
+use Rattle.mail_core.specs.Sites.{Site, terms_at}
 use Rattle.mail_core.specs.Machine.{State}
 
--- a store stands for a table: it has the table's entries and first free id, and no call on it
--- failed
-pub record Stores (site : Site) (queue : Queue) (table : Table) : Type 0 where
-  pub holds : Holds (seen queue) table
-  pub whole : (seen queue).broken ≡ false
-  pub dirs : (seen queue).dirs ≡ dirs_of site
-
--- a store has what the files say that are told, if they are
-abbrev pub Tallies : Queue → Option FileMap → Type 0
-Tallies queue told = IfSome told (Agrees (seen queue))
+-- what is kept of a table has its entries and first free id, and no call on it failed; it is of
+-- the site's directories, where each group has its own
+pub record Stores (site : Site) (kept : Kept) (table : Table) : Type 0 where
+  pub holds : HoldsTable kept table
+  pub whole : (store kept).broken ≡ false
+  pub dirs : (store kept).dirs ≡ site.dirs
+  pub terms : kept.terms ≡ terms_at site
+  pub groups : AreDirs (terms_at site) site.dirs
 
 -- an intake takes messages into a table
 pub record Serves (site : Site) (intake : Intake) (table : Table) : Type 0 where
-  pub store : Stores site intake.queue table
-  pub dir : intake.dir ≡ site.dir
+  pub stores : Stores site intake.table table
   pub short : intake.short ≡ out_of_memory_text
   pub range : intake.moment < 2 ^ 64
 
@@ -74,9 +69,9 @@ pub record Stands (site : Site) (core : Core) (m : State) : Type 0 where
   pub callers : Hosts site core.caller m.guests
   pub on : m.over ≡ None
 
--- a core whose store has what the files say that are told
+-- a core whose table has what the files say that are told
 abbrev pub IsTallied : Core → Option FileMap → Type 0
-IsTallied core told = Tallies core.intake.queue told
+IsTallied core told = Tallies core.intake.table told
 
 -- a core that stands for some state
 pub record IsStanding (core : Core) : Type 0 where

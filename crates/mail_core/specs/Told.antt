@@ -8,7 +8,7 @@ use Rattle.smtp_receive.specs.Replies.{greeting_text, shown_host, too_many_sessi
 use Rattle.smtp_lines.specs.Stream.{Reads, has_end}
 use Rattle.smtp_lines.specs.declared.line.Mode.{Mode}
 use Rattle.smtp_lines.specs.declared.line.Mode.TheVariants.{Commands}
-use Rattle.mail_core.specs.declared.serving.Site.{Site}
+use Rattle.mail_core.specs.Sites.{Site}
 use Rattle.mail_core.specs.Effects.{Effect, Takes, Ticks, Commits, Sends, HangsUp}
 use Rattle.mail_core.specs.Guests.{Guest, grants_of, newcomer, lines_heard}
 use Rattle.mail_core.specs.Machine.{Opening, Turn}

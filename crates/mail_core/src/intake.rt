@@ -1,67 +1,62 @@
-ghost use Rattle.std.specs.Prelude.{◌≡◌, ◌<◌, ◌⊎◌, ◌++◌, ◌∷◌, ◌^◌, [], List, ℕ, Bool, Option, None, IfOk, IsErrOf, true, false, Contains};
+ghost use Rattle.std.specs.Prelude.{◌≡◌, ◌<◌, ◌⊎◌, ◌++◌, ◌∷◌, ◌^◌, [], List, ℕ, Bool, Option, None, IfOk, IsErrOf, true, false};
 ghost use Rattle.mail_base.specs.Histories.{Gains};
 ghost use Rattle.mail_base.specs.declared.fault.StoreFault.TheVariants.{IdsSpent as NoIdLeft, SpoolFault as SpoolBroke};
 ghost use Rattle.mail_edge.specs.Seen.{ClockSeen};
 ghost use Rattle.link_edge.specs.Heard.{IsSoundAt};
-ghost use Rattle.qf_format.specs.Valid.{IsValid};
 ghost use Rattle.smtp_lines.specs.declared.line.Line.{Line as AnyLine};
 ghost use Rattle.smtp_lines.specs.declared.line.Line.TheVariants.{DataEnd};
 ghost use Rattle.smtp_lines.specs.Reader.{OnlyLastAsks, StandsFirst};
 ghost use Rattle.smtp_receive.specs.Dialogue.{Heard, exchanges, is_dropped};
 ghost use Rattle.smtp_receive.specs.Replies.{out_of_memory_text};
 ghost use Rattle.smtp_receive.specs.Sessions.{Stands as Speaks};
-ghost use Rattle.spool_store.specs.Entries.{Table};
-ghost use Rattle.spool_store.specs.Keepers.{seen as kept};
-ghost use Rattle.spool_store.specs.Parcels.{IsParcel};
-ghost use Rattle.mail_core.specs.declared.serving.Site.{Site};
+ghost use Rattle.spool_store.specs.Entries.{Table as Entries};
+ghost use Rattle.queue_table.specs.Calls.{AreDirs, AreValid, IsAccepting, IsSame, Tallies, store};
+ghost use Rattle.mail_core.specs.Sites.{Site};
 ghost use Rattle.mail_core.specs.Effects.{heard_of, speech, Sends, HangsUp};
 ghost use Rattle.mail_core.specs.inner.Going.{AnswersLine, AnswersLines, AnswersMessage, Feeds, is_onward, stays_open};
 ghost use Rattle.mail_core.specs.Causes.{is_well};
 ghost use Rattle.mail_core.specs.Guests.{Guest, lines_of, lines_heard};
 ghost use Rattle.mail_core.specs.Machine as machine;
 ghost use Rattle.mail_core.specs.Machine.{moment_by};
-ghost use Rattle.mail_core.specs.Messages as entry;
+ghost use Rattle.mail_core.specs.Messages.{cuts_of, last_id, message_of};
 ghost use Rattle.mail_core.specs.Seen.{seen};
-ghost use Rattle.mail_core.specs.Standing.{Keeps, Serves, Talks, Tallies};
+ghost use Rattle.mail_core.specs.Standing.{Keeps, Serves, Talks};
 ghost use Rattle.mail_core.specs.inner.Handling.{IsReady};
 
 use crate::caller::Caller;
-use crate::message::control_of;
+use crate::message::plain;
 use crate::next::Next;
 use crate::serving::CoreStop;
 use crate::speech::say;
 use link_edge::Floor;
-use mail_base::{Draft, NoMemory, Seq, StoreFault, Text, TryCopy};
+use mail_base::{NoMemory, StoreFault, Text};
+use queue_table::{Accepting, Table};
 use smtp_lines::{Line, last_asks};
 use smtp_receive::{Did, Received, out_of_memory};
 use spool_disk::Spool;
-use spool_store::{Parcel, Queue, holding_goes_on};
 use std::alloc::Global;
 
 /// The beginning of the year 3000. A later reading of the clock counts as that.
 const LAST_MOMENT: u64 = 32_503_680_000;
 
-/// What takes messages into the queue: its store, the directory of new entries, the moment of the
-/// event, and the text of 452 4.3.1, which is kept so that to send it takes no memory.
+/// What takes messages into the queue: its table, the moment of the event, and the text of
+/// 452 4.3.1, which is kept so that to send it takes no memory.
 #[derive(Drop)]
 pub struct Intake {
     pub(crate) alloc: Global,
-    pub(crate) queue: Queue,
-    pub(crate) dir: Text,
+    pub(crate) table: Table,
     pub(crate) short: Text,
     pub(crate) moment: u64,
 }
 
 impl Intake {
-    pub(crate) fn new(alloc: Global, queue: Queue, dir: Text) -> Result<Intake, NoMemory>
-        ensures parts { IfOk result
-            (λ intake. (intake.queue ≡ queue) × (intake.dir ≡ dir) × (intake.moment ≡ 0)) }
+    pub(crate) fn new(alloc: Global, table: Table) -> Result<Intake, NoMemory>
+        ensures parts { IfOk result (λ intake. (intake.table ≡ table) × (intake.moment ≡ 0)) }
         ensures short { IfOk result (λ intake. intake.short ≡ out_of_memory_text) }
     {
         Ok(Intake {
             alloc,
-            queue,
-            dir,
+            table,
             short: out_of_memory(alloc)?,
             moment: 0,
         })
@@ -133,27 +128,23 @@ impl Intake {
         Intake::reply(floor, caller.number, &self.short)
     }
 
-    // The parcel that takes a message in.
+    // Makes a message ready to be taken in.
     #[tactic(auto, unfolding(crate::specs::Messages::last_id))]
-    fn parcel(&mut self, message: Received) -> Result<Parcel, StoreFault>
-        requires place { Contains (kept self.old.queue).dirs self.old.dir }
-        requires valid { IsValid (entry.control_of self.old.moment message) }
+    fn plan(&mut self, message: Received) -> Result<Accepting, StoreFault>
+        requires dirs { AreDirs self.old.table.terms (store self.old.table).dirs }
+        requires valid { AreValid self.old.table.terms (message_of message) self.old.moment
+            (cuts_of message) }
         ensures is { IfOk result
-            (IsParcel (kept self.new.queue) []
-            (entry.draft_in self.old.dir self.old.moment message) message.body) }
-        ensures same { self.new ≡ record self.old { queue = self.new.queue } }
-        ensures room { kept self.new.queue
-            ≡ record (kept self.old.queue) { room = (kept self.new.queue).room } }
-        ensures spent { IsErrOf result NoIdLeft → entry.last_id < (kept self.old.queue).next }
+            (IsAccepting self.new.table (message_of message) (cuts_of message) self.old.moment) }
+        ensures id { IfOk result
+            (λ accepting. accepting.parcel.parent.entry.id ≡ (store self.old.table).next) }
+        ensures table { IsSame self.old.table self.new.table }
+        ensures same { self.new ≡ record self.old { table = self.new.table } }
+        ensures spent { IsErrOf result NoIdLeft → last_id < (store self.old.table).next }
         ensures never { IsErrOf result SpoolBroke → ⊥ }
     {
-        let (control, body) = control_of(self.alloc, self.moment, message)?;
-        let draft = Draft {
-            id: None,
-            dir: self.dir.copy()?,
-            control,
-        };
-        self.queue.prepare(&Seq::new(self.alloc), &draft, body)
+        let (message, cuts) = plain(self.alloc, message)?;
+        self.table.plan_accept(message, cuts.items(), self.moment)
     }
 
     // Takes a message in, and acknowledges it once it is in the queue. The text of its 250 is made
@@ -166,9 +157,10 @@ impl Intake {
         message: Received,
     ) -> Result<Next, CoreStop>
         requires sound { IsSoundAt (F.seen floor.old) caller.old.number }
-        requires place { Contains (kept self.old.queue).dirs self.old.dir }
-        requires valid { IsValid (entry.control_of self.old.moment message) }
-        requires tallied { Tallies self.old.queue (D.seen spool.old).told }
+        requires dirs { AreDirs self.old.table.terms (store self.old.table).dirs }
+        requires valid { AreValid self.old.table.terms (message_of message) self.old.moment
+            (cuts_of message) }
+        requires tallied { Tallies self.old.table (D.seen spool.old).told }
         ensures accepts { (site : Site) (d : machine.Did) (clock : ClockSeen)
             → d.way ≡ machine.GoesOn → Serves site self.old d.table
             → caller.old.number ≡ d.guest.number → AnswersMessage site self.old.moment d message
@@ -180,23 +172,22 @@ impl Intake {
         ensures calm { is_well result ≡ true
             → (D.seen spool.new).faults ≡ (D.seen spool.old).faults }
         ensures tallied { is_well result ≡ true
-            → Tallies self.new.queue (D.seen spool.new).told }
+            → Tallies self.new.table (D.seen spool.new).told }
         ensures moment { self.new.moment ≡ self.old.moment }
         ensures number { caller.new.number ≡ caller.old.number }
         ensures lines { caller.new.lines ≡ caller.old.lines }
         ensures sound { is_onward result ≡ true → IsSoundAt (F.seen floor.new) caller.old.number }
     {
-        holding_goes_on();
-        let parcel = match self.parcel(message) {
-            Ok(parcel) => parcel,
+        let accepting = match self.plan(message) {
+            Ok(accepting) => accepting,
             Err(StoreFault::IdsSpent) => return Err(CoreStop::IdsSpent),
             Err(StoreFault::SpoolFault) => return Err(CoreStop::SpoolFault),
             Err(StoreFault::NoMemory) => return Ok(self.lack(floor, caller)),
         };
-        let Ok(text) = caller.session.stored(&parcel.id()) else {
+        let Ok(text) = caller.session.stored(&accepting.id()) else {
             return Ok(self.lack(floor, caller));
         };
-        self.queue.commit(spool, parcel)?;
+        self.table.accept_planned(spool, accepting)?;
         Ok(Intake::reply(floor, caller.number, &text))
     }
 
@@ -210,7 +201,7 @@ impl Intake {
     ) -> Result<Next, CoreStop>
         requires sound { IsSoundAt (F.seen floor.old) caller.old.number }
         requires ready { IsReady self.old caller.old }
-        requires tallied { Tallies self.old.queue (D.seen spool.old).told }
+        requires tallied { Tallies self.old.table (D.seen spool.old).told }
         ensures answers { (site : Site) (d : machine.Did) (clock : ClockSeen)
             → d.way ≡ machine.GoesOn → Serves site self.old d.table → Talks site caller.old d.guest
             → AnswersLine site self.old.moment d line.now
@@ -223,7 +214,7 @@ impl Intake {
         ensures calm { is_well result ≡ true
             → (D.seen spool.new).faults ≡ (D.seen spool.old).faults }
         ensures tallied { is_well result ≡ true
-            → Tallies self.new.queue (D.seen spool.new).told }
+            → Tallies self.new.table (D.seen spool.new).told }
         ensures moment { self.new.moment ≡ self.old.moment }
         ensures number { caller.new.number ≡ caller.old.number }
         ensures lines { caller.new.lines ≡ caller.old.lines }
@@ -249,7 +240,7 @@ impl Intake {
     ) -> Result<Next, CoreStop>
         requires sound { IsSoundAt (F.seen floor.old) caller.old.number }
         requires ready { IsReady self.old caller.old }
-        requires tallied { Tallies self.old.queue (D.seen spool.old).told }
+        requires tallied { Tallies self.old.table (D.seen spool.old).told }
         ensures answers { (site : Site) (d : machine.Did) (clock : ClockSeen)
             → d.way ≡ machine.GoesOn → Serves site self.old d.table → Talks site caller.old d.guest
             → OnlyLastAsks lines.now
@@ -264,7 +255,7 @@ impl Intake {
         ensures calm { is_well result ≡ true
             → (D.seen spool.new).faults ≡ (D.seen spool.old).faults }
         ensures tallied { is_well result ≡ true
-            → Tallies self.new.queue (D.seen spool.new).told }
+            → Tallies self.new.table (D.seen spool.new).told }
         ensures moment { self.new.moment ≡ self.old.moment }
         ensures number { caller.new.number ≡ caller.old.number }
         ensures lines { caller.new.lines ≡ caller.old.lines }
@@ -291,8 +282,8 @@ impl Intake {
     ) -> Result<Next, CoreStop>
         requires sound { IsSoundAt (F.seen floor.old) caller.old.number }
         requires ready { IsReady self.old caller.old }
-        requires tallied { Tallies self.old.queue (D.seen spool.old).told }
-        ensures feeds { (site : Site) (table : Table) (g : Guest) (clock : ClockSeen)
+        requires tallied { Tallies self.old.table (D.seen spool.old).told }
+        ensures feeds { (site : Site) (table : Entries) (g : Guest) (clock : ClockSeen)
             → Serves site self.old table → Keeps site caller.old g
             → Feeds site self.old.moment table g piece.now
             (seen (F.seen floor.old) (D.seen spool.old) clock)
@@ -303,7 +294,7 @@ impl Intake {
         ensures calm { is_well result ≡ true
             → (D.seen spool.new).faults ≡ (D.seen spool.old).faults }
         ensures tallied { is_well result ≡ true
-            → Tallies self.new.queue (D.seen spool.new).told }
+            → Tallies self.new.table (D.seen spool.new).told }
         ensures moment { self.new.moment ≡ self.old.moment }
     {
         let Ok(given) = caller.lines.feed(piece) else {

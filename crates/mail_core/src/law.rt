@@ -1,5 +1,5 @@
 ghost use Rattle.std.specs.Prelude.{◌≡◌, ◌++◌, ◌∷◌, [], List, ℕ, Some, None};
-ghost use Rattle.mail_core.specs.declared.serving.Site.{Site};
+ghost use Rattle.mail_core.specs.Sites.{Site};
 ghost use Rattle.spool_store.specs.Entries.{Table};
 ghost use Rattle.mail_core.specs.Guests.{Guest, guest_of};
 ghost use Rattle.mail_core.specs.Machine.{Choice, Opening, State, Turn, all_answered, run};

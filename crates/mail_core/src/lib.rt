@@ -16,4 +16,4 @@ pub use law::{
     sessions_that_are_not_open_are_sent_nothing, the_table_is_that_of_the_commands,
     what_is_said_are_the_replies,
 };
-pub use serving::{Act, Core, CoreStop, Site};
+pub use serving::{Act, Core, CoreStop};

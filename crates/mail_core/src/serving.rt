@@ -14,18 +14,21 @@ ghost use Rattle.mail_core.specs.Guests.{newcomer};
 ghost use Rattle.mail_core.specs.declared.serving.CoreStop.TheVariants.{SpoolFault as SpoolStop};
 ghost use Rattle.mail_core.specs.Machine.{State, beginning};
 ghost use Rattle.mail_core.specs.Seen.{seen};
-ghost use Rattle.mail_core.specs.Standing.{IsStanding, IsTallied, Keeps, Stands, Stores, Tallies};
-ghost use Rattle.spool_store.specs.Entries.{Table};
+ghost use Rattle.mail_core.specs.Sites.{Site};
+ghost use Rattle.mail_core.specs.Standing.{IsStanding, IsTallied, Keeps, Stands, Stores};
+ghost use Rattle.queue_table.specs.Calls.{Tallies};
+ghost use Rattle.spool_store.specs.Entries.{Table as Entries};
 
 use crate::caller::Caller;
 use crate::intake::{Intake, part};
 use crate::speech::say;
 use link_edge::{Floor, Turn};
-use mail_base::{NoMemory, Text, TryCopy};
+use mail_base::{NoMemory, Text};
+use queue_table::Table;
 use smtp_lines::Lines;
 use smtp_receive::{Session, out_of_memory, too_many_sessions};
 use spool_disk::Spool;
-use spool_store::{Queue, SpoolFault};
+use spool_store::SpoolFault;
 use std::alloc::Global;
 
 /// Why a run can't go on.
@@ -54,25 +57,7 @@ pub enum Act {
     Ended,
 }
 
-/// What sessions are served with.
-#[derive(Drop)]
-pub struct Site {
-    /// The host that replies name.
-    pub host: Text,
-    /// The directory of the queue.
-    pub dir: Text,
-}
-
-impl TryCopy for Site {
-    fn copy(&self) -> Result<Site, NoMemory> {
-        Ok(Site {
-            host: self.host.copy()?,
-            dir: self.dir.copy()?,
-        })
-    }
-}
-
-/// The sessions that are open, one at most, and the store of the queue.
+/// The sessions that are open, one at most, and the message table.
 pub struct Core {
     alloc: Global,
     host: Text,
@@ -96,20 +81,21 @@ impl Drop for Core {
 }
 
 impl Core {
-    /// A core with no session, over a store that was opened with the site's directory.
-    pub fn new(alloc: Global, site: Site, queue: Queue) -> Result<Core, NoMemory>
+    /// A core with no session, over a table. In replies it names this host.
+    pub fn new(alloc: Global, host: Text, table: Table) -> Result<Core, NoMemory>
         ensures stands { IfOk result
-            (λ core. (table : Table) → Stores site queue table
-            → Stands site core (beginning table)) }
+            (λ core. (site : Site) (entries : Entries) → site.host ≡ host
+            → Stores site table entries
+            → Stands site core (beginning entries)) }
         ensures tallied { IfOk result
-            (λ core. (told : Option FileMap) → Tallies queue told → IsTallied core told) }
+            (λ core. (told : Option FileMap) → Tallies table told → IsTallied core told) }
     {
         Ok(Core {
             alloc,
-            host: site.host,
+            host,
             full: too_many_sessions(alloc)?,
             caller: None,
-            intake: Intake::new(alloc, queue, site.dir)?,
+            intake: Intake::new(alloc, table)?,
         })
     }
 

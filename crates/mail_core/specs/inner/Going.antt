@@ -17,8 +17,8 @@ use Rattle.mail_core.specs.declared.caller.Caller.{Caller}
 use Rattle.mail_core.specs.declared.intake.Intake.{Intake}
 use Rattle.mail_core.specs.Effects.{Effect}
 use Rattle.mail_core.specs.Guests.{Guest, grants_of, has_bytes_left, with_bytes, lines_heard}
-use Rattle.mail_core.specs.declared.serving.Site.{Site}
-use Rattle.mail_core.specs.Messages.{is_spent, dirs_of}
+use Rattle.mail_core.specs.Sites.{Site}
+use Rattle.mail_core.specs.Messages.{is_spent}
 use Rattle.mail_core.specs.Causes.{HasCause, ending_by, is_well}
 use Rattle.mail_core.specs.Machine.{Ending, Choice, Normal, OutOfMemory, Disconnects, SpoolFails, Way, GoesOn, Leaves, Over, By, Cut, Did, is_over, says, accepts, fails, by_choice, heard_line, heard_where, answered, all_answered}
 use Rattle.mail_core.specs.Seen.{Seen, Ran, table_after}
@@ -58,7 +58,7 @@ pub record Does (site : Site) (d e : Did) (a b : Seen) (fed : Result Next CoreSt
   pub effects : e.effects ≡ d.effects ++ more
   pub table : e.table ≡ table_after d.table more
   pub number : e.guest.number ≡ d.guest.number
-  pub ran : Ran (dirs_of site) d.table a b more (is_well fed)
+  pub ran : Ran site.dirs d.table a b more (is_well fed)
   pub way : e.way ≡ way_after fed
   pub cause : (ending : Ending) → way_after fed ≡ Over (By ending) → (event : Event)
       → HasCause ending event e.table a b
@@ -161,7 +161,7 @@ pub record AnswersLines (site : Site) (moment : ℕ) (d : Did) (lines : List Lin
 pub record Feeds (site : Site) (moment : ℕ) (table : Table) (g : Guest) (bytes : List ℕ)
     (a b : Seen) (intake : Intake) (caller : Caller) (fed : Result Next CoreStop) : Type 0 where
   pub choices : List Choice
-  pub ran : Ran (dirs_of site) table a b
+  pub ran : Ran site.dirs table a b
       (all_answered site moment table (with_bytes g bytes) choices).effects (is_well fed)
   pub way : (all_answered site moment table (with_bytes g bytes) choices).way ≡ way_after fed
   pub number : (all_answered site moment table (with_bytes g bytes) choices).guest.number ≡ g.number

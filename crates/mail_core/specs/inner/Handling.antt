@@ -2,12 +2,11 @@
 -- private contracts cite it.
 use Rattle.std.specs.Prelude.{◌≡◌, ℕ, [], ◌∷◌, Some, None, Result, List, Option, ◌==◌, Bool, false}
 use Rattle.mail_core.specs.declared.serving.Core.{Core}
-use Rattle.mail_core.specs.declared.serving.Site.{Site}
+use Rattle.mail_core.specs.Sites.{Site}
 use Rattle.mail_core.specs.declared.caller.Caller.{Caller}
 use Rattle.mail_core.specs.Guests.{Guest, guest_of}
 use Rattle.mail_core.specs.Machine.{State, Choices, Ending, handled, Opening, opened}
 use Rattle.mail_core.specs.Standing.{Keeps, Stands, Serves, Talks}
-use Rattle.mail_core.specs.Messages.{dirs_of}
 use Rattle.link_edge.specs.declared.event.Event.{Event}
 use Rattle.mail_core.specs.declared.serving.Act.{Act}
 use Rattle.mail_core.specs.declared.serving.CoreStop.{CoreStop}
@@ -33,7 +32,7 @@ pub record IsTakenOut (site : Site) (m : State) (session : ℕ) (caller : Caller
 pub record Steps (site : Site) (m : State) (event : Event) (a b : Seen) (core : Core)
     (went : Result Act CoreStop) : Type 0 where
   pub choices : Choices event
-  pub ran : Ran (dirs_of site) m.table a b (handled site m event choices).effects (is_well went)
+  pub ran : Ran site.dirs m.table a b (handled site m event choices).effects (is_well went)
   pub stands : ending_of went ≡ None → Stands site core (handled site m event choices).state
   pub ended : (ending : Ending) → ending_of went ≡ Some ending
       → EndsSo ending event (handled site m event choices).state a b

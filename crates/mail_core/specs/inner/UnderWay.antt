@@ -2,11 +2,10 @@
 use Rattle.std.specs.Prelude.{◌≡◌, ℕ, ◌+◌, List, length, true}
 use Rattle.spool_store.specs.Entries.{Table}
 use Rattle.mail_core.specs.declared.serving.Core.{Core}
-use Rattle.mail_core.specs.declared.serving.Site.{Site}
+use Rattle.mail_core.specs.Sites.{Site}
 use Rattle.mail_core.specs.Machine.{Turn}
 use Rattle.mail_core.specs.Seen.{Seen, Ran}
 use Rattle.mail_core.specs.Standing.{IsTallied, Stands}
-use Rattle.mail_core.specs.Messages.{dirs_of}
 use Rattle.mail_core.specs.Runs.{run_over}
 
 -- a run that may go on, after so many turns
@@ -14,7 +13,7 @@ pub record IsUnderWay (site : Site) (table : Table) (core : Core) (count : ℕ)
     (a b : Seen) : Type 0 where
   pub turns : List Turn
   pub events : length turns ≡ count
-  pub ran : Ran (dirs_of site) table a b (run_over site table turns).effects true
+  pub ran : Ran site.dirs table a b (run_over site table turns).effects true
   pub readings : b.clock.readings ≡ a.clock.readings + count
   pub stands : Stands site core (run_over site table turns).state
   pub tallied : IsTallied core b.spool.told

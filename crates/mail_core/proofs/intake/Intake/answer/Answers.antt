@@ -11,7 +11,8 @@ use Rattle.mail_core.specs.Guests.{is_passed}
 use Rattle.mail_core.specs.Seen.{seen}
 use Rattle.mail_base.specs.Histories.{Gains}
 use Rattle.mail_core.proofs.AnswerLemmas.{reply_is, grant_is, bye_is, bye_on, taken_is, message_is}
-use Rattle.mail_core.proofs.FormLemmas.{valid_message}
+use Rattle.mail_core.proofs.FormLemmas.{valid_parts}
+use Rattle.mail_core.proofs.MessageLemmas.{dirs_are}
 use Rattle.mail_core.proofs.SpeechLemmas.{told_as}
 use Rattle.mail_core.proofs.GoingLemmas.{spoken_of, ungranted, granted_on}
 use Rattle.mail_core.proofs.LineLemmas.{line_said, line_closed, line_lacked, line_taken, line_given, not_passed, ready_by}
@@ -21,8 +22,11 @@ pub accept-requires-clause-valid : goal.accept-requires-clause-valid
 accept-requires-clause-valid g c =
     let r = c.requires.ready in
     let heard = r.guest.heard in
-    valid_message c.args.self.now.moment c.in-Ok-Message.message r.guest.peer r.serves.range r.talks.peer
+    valid_parts c.args.self.now.table.terms c.args.self.now.moment c.in-Ok-Message.message r.guest.peer r.serves.range r.talks.peer
     (given_formed r.guest.peer heard c.args.line.now c.in-Ok-Message.message (message_is _ _ c.in-Ok-Message.message (sym c.in-Ok-Message.field-0-is ∙ c.in-Ok-Message.ensures.did r.site.host r.guest.peer heard r.talks.session)))
+
+pub accept-requires-clause-dirs : goal.accept-requires-clause-dirs
+accept-requires-clause-dirs g c = let r = c.requires.ready in dirs_are r.site c.args.self.now.table r.table r.serves.stores
 
 pub returns-in-Ok-Reply-clause-answers : goal.returns-in-Ok-Reply-clause-answers
 returns-in-Ok-Reply-clause-answers g c = λ site d clock way serves talks.

@@ -2,12 +2,13 @@ use Rattle.std.proofs.Common.{Ok, ◌≡◌, ◌++◌, true, take}
 use Rattle.mail_edge.specs.Seen.{ClockSeen}
 use Rattle.link_edge.specs.Heard.{IsSoundAt}
 use Rattle.smtp_lines.specs.Reader.{OnlyLastAsks, StandsFirst}
-use Rattle.mail_core.specs.declared.serving.Site.{Site}
+use Rattle.queue_table.specs.Calls.{Tallies}
+use Rattle.mail_core.specs.Sites.{Site}
 use Rattle.mail_core.specs.inner.Going.{AnswersLines, stays_open}
 use Rattle.mail_core.specs.Guests.{lines_of, lines_heard}
 use Rattle.mail_core.specs.Machine.{Did, GoesOn}
 use Rattle.mail_core.specs.Seen.{seen}
-use Rattle.mail_core.specs.Standing.{Serves, Talks, Tallies}
+use Rattle.mail_core.specs.Standing.{Serves, Talks}
 use Rattle.mail_core.specs.inner.Handling.{IsReady}
 use Rattle.mail_core.proofs.intake.Intake.answer_all.Given as goal
 
@@ -25,6 +26,6 @@ invariant-loop-line g l = record {
   own : (g.F.Floor.seen l.floor).faults ≡ (g.F.Floor.seen l.fn.floor).faults;
   begun : (g.F.Floor.seen l.floor).begun ≡ (g.F.Floor.seen l.fn.floor).begun;
   calm : (g.D.Spool.seen l.spool).faults ≡ (g.D.Spool.seen l.fn.spool).faults;
-  tallied : Tallies l.self.queue (g.D.Spool.seen l.spool).told;
+  tallied : Tallies l.self.table (g.D.Spool.seen l.spool).told;
   sound : IsSoundAt (g.F.Floor.seen l.floor) l.fn.caller.number;
 }

@@ -3,10 +3,11 @@ use Rattle.mail_edge.specs.Seen.{ClockSeen}
 use Rattle.link_edge.specs.Heard.{IsSoundAt}
 use Rattle.smtp_lines.specs.Reader.{asked_after}
 use Rattle.spool_store.specs.Entries.{Table}
-use Rattle.mail_core.specs.declared.serving.Site.{Site}
+use Rattle.queue_table.specs.Calls.{Tallies}
+use Rattle.mail_core.specs.Sites.{Site}
 use Rattle.mail_core.specs.Guests.{Guest}
 use Rattle.mail_core.specs.Seen.{seen}
-use Rattle.mail_core.specs.Standing.{Keeps, Serves, Tallies}
+use Rattle.mail_core.specs.Standing.{Keeps, Serves}
 use Rattle.mail_core.specs.inner.Handling.{IsReady}
 use Rattle.mail_core.proofs.FeedLemmas.{Pends}
 use Rattle.mail_core.proofs.intake.Intake.feed.Given as goal
@@ -24,7 +25,7 @@ invariant-answers g l = record {
   own : (g.F.Floor.seen l.floor).faults ≡ (g.F.Floor.seen l.fn.floor).faults;
   begun : (g.F.Floor.seen l.floor).begun ≡ (g.F.Floor.seen l.fn.floor).begun;
   calm : (g.D.Spool.seen l.spool).faults ≡ (g.D.Spool.seen l.fn.spool).faults;
-  tallied : Tallies l.self.queue (g.D.Spool.seen l.spool).told;
+  tallied : Tallies l.self.table (g.D.Spool.seen l.spool).told;
   sound : IsSoundAt (g.F.Floor.seen l.floor) l.caller.number;
 }
 

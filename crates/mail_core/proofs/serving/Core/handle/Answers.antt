@@ -1,7 +1,7 @@
 use Rattle.std.proofs.Common.{refl, subst, sym}
 use Rattle.link_edge.specs.declared.event.Event.TheVariants.{Closes, Rests}
+use Rattle.queue_table.specs.Calls.{Tallies}
 use Rattle.mail_core.specs.declared.intake.Intake.{Intake}
-use Rattle.mail_core.specs.Standing.{Tallies}
 use Rattle.mail_core.proofs.CoreLemmas.{opened_steps, quiet_steps, closed_stands, stop_steps}
 use Rattle.mail_core.proofs.serving.Core.handle.Goals as goal
 
@@ -24,7 +24,7 @@ returns-in-Stop-clause-steps g c = λ site m clock st. rw c.in-Stop.is (stop_ste
 
 -- the store is as it was
 pub returns-in-Opened-clause-tallied : goal.returns-in-Opened-clause-tallied
-returns-in-Opened-clause-tallied g c = λ well. subst (λ (i : Intake). Tallies i.queue (g.D.Spool.seen c.args.spool.now).told) (sym c.open.ensures.intake) c.requires.tallied
+returns-in-Opened-clause-tallied g c = λ well. subst (λ (i : Intake). Tallies i.table (g.D.Spool.seen c.args.spool.now).told) (sym c.open.ensures.intake) c.requires.tallied
 
 pub returns-in-Closed-clause-tallied : goal.returns-in-Closed-clause-tallied
-returns-in-Closed-clause-tallied g c = λ well. subst (λ (i : Intake). Tallies i.queue (g.D.Spool.seen c.args.spool.now).told) (sym c.take-caller.ensures.intake) c.requires.tallied
+returns-in-Closed-clause-tallied g c = λ well. subst (λ (i : Intake). Tallies i.table (g.D.Spool.seen c.args.spool.now).told) (sym c.take-caller.ensures.intake) c.requires.tallied

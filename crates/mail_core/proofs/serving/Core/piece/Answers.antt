@@ -1,9 +1,9 @@
 use Rattle.std.proofs.Common.{refl, sym, ◌∙◌, Ok, Err, subst}
 use Rattle.std.proofs.lemmas.Result.{err_from_is_err_and}
+use Rattle.queue_table.specs.Calls.{Tallies}
 use Rattle.mail_core.specs.declared.intake.Intake.{Intake}
 use Rattle.mail_core.specs.inner.Going.{Feeds}
 use Rattle.mail_core.specs.Seen.{seen}
-use Rattle.mail_core.specs.Standing.{Tallies}
 use Rattle.mail_core.proofs.CoreLemmas.{piece_dropped, piece_goes, piece_leaves}
 use Rattle.mail_core.proofs.serving.Core.piece.Goals as goal
 
@@ -37,7 +37,7 @@ returns-clause-steps g c = λ site m clock st.
 
 -- the store is as it was
 pub returns-in_default-clause-tallied : goal.returns-in_default-clause-tallied
-returns-in_default-clause-tallied g c = λ well. subst (λ (i : Intake). Tallies i.queue (g.D.Spool.seen c.args.spool.now).told) (sym c.in_default.ensures.intake) c.requires.tallied
+returns-in_default-clause-tallied g c = λ well. subst (λ (i : Intake). Tallies i.table (g.D.Spool.seen c.args.spool.now).told) (sym c.in_default.ensures.intake) c.requires.tallied
 
 pub feed-requires-clause-tallied : goal.feed-requires-clause-tallied
-feed-requires-clause-tallied g c = subst (λ (i : Intake). Tallies i.queue (g.D.Spool.seen c.args.spool.now).told) (sym c.in-Some.ensures.intake) c.requires.tallied
+feed-requires-clause-tallied g c = subst (λ (i : Intake). Tallies i.table (g.D.Spool.seen c.args.spool.now).told) (sym c.in-Some.ensures.intake) c.requires.tallied

@@ -1,7 +1,7 @@
 use Rattle.std.proofs.Common.{subst, sym}
+use Rattle.queue_table.specs.Calls.{Tallies}
 use Rattle.mail_core.specs.declared.intake.Intake.{Intake}
 use Rattle.mail_core.specs.Machine.{at_moment}
-use Rattle.mail_core.specs.Standing.{Tallies}
 use Rattle.mail_core.proofs.CoreLemmas.{at_stands, turns_of}
 use Rattle.mail_core.proofs.serving.Core.turn.Goals as goal
 
@@ -11,7 +11,7 @@ handle-requires-clause-standing g c =
     record { site = r.site; state = at_moment r.state c.args.reading; stands = at_stands r.site r.state c.args.self.now c.at.new.self c.args.reading r.stands c.at.ensures.moment c.at.ensures.range }
 
 pub handle-requires-clause-tallied : goal.handle-requires-clause-tallied
-handle-requires-clause-tallied g c = subst (λ (i : Intake). Tallies i.queue (g.D.Spool.seen c.args.spool.now).told) (sym c.at.ensures.moment) c.requires.tallied
+handle-requires-clause-tallied g c = subst (λ (i : Intake). Tallies i.table (g.D.Spool.seen c.args.spool.now).told) (sym c.at.ensures.moment) c.requires.tallied
 
 pub returns : goal.returns
 returns g c = record {
