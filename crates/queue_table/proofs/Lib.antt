@@ -7,3 +7,5 @@ mod EntryLemmas
 mod GoingLemmas
 mod SoundLemmas
 mod CommandLemmas
+mod ResultLemmas
+mod RecordLemmas

@@ -6,3 +6,4 @@ pub mod Results
 pub mod Commands
 pub mod Soundness
 pub mod Calls
+pub mod Reserves

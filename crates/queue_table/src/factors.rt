@@ -1,6 +1,6 @@
 ghost use Rattle.std.specs.Prelude.{◌≡◌, ◌*◌, pos, ◌+ℤ◌, ◌-ℤ◌, ◌*ℤ◌, FitsSigned};
 ghost use Rattle.std.specs.Int.{w128};
-ghost use Rattle.queue_table.specs.Priorities.{factors_of, priority_of, within_128};
+ghost use Rattle.queue_table.specs.Priorities.{factors_of, priority_of, retried, within_128};
 
 use mail_base::Options;
 
@@ -34,6 +34,13 @@ impl Factors {
         let loaded = more(first, load);
         let tried = product(tries, self.retry);
         more(loaded, tried)
+    }
+
+    /// What a try makes of a priority.
+    pub fn retried(self, priority: i128) -> i128
+        ensures { result ≡ retried self priority }
+    {
+        more(priority, u128::from(self.retry))
     }
 }
 

@@ -1,5 +1,6 @@
 ghost use Rattle.std.specs.Prelude.{◌≡◌, IfOk};
 ghost use Rattle.queue_table.specs.Directories.{dir_of, main_dir, terms_of};
+ghost use Rattle.queue_table.specs.Results.{is_old};
 
 use crate::Factors;
 use mail_base::{Catalog, Config, Group, NoMemory, Text, TryCopy};
@@ -47,5 +48,12 @@ impl Terms {
             Some(group) => group.path.copy(),
             None => self.queue_directory.copy(),
         }
+    }
+
+    // Whether an entry of that creation is too old at a moment to be tried further.
+    pub(crate) fn is_old(&self, created: u64, moment: u64) -> bool
+        ensures { result ≡ is_old self.now created moment }
+    {
+        created <= moment && self.queue_return <= moment - created
     }
 }
