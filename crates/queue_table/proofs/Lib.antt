@@ -9,3 +9,4 @@ mod SoundLemmas
 mod CommandLemmas
 mod ResultLemmas
 mod RecordLemmas
+mod ClaimLemmas

@@ -7,3 +7,4 @@ pub mod Commands
 pub mod Soundness
 pub mod Calls
 pub mod Reserves
+pub mod Claims

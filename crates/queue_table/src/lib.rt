@@ -13,6 +13,7 @@ mod results;
 mod returning;
 mod table;
 mod terms;
+mod waiting;
 
 pub use accepting::Accepting;
 pub use factors::{Factors, priority};
@@ -21,3 +22,4 @@ pub use order::{before, due};
 pub use recording::Reserved;
 pub use table::Table;
 pub use terms::Terms;
+pub use waiting::{Holder, Lane, Waiting};

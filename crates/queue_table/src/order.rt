@@ -1,4 +1,4 @@
-ghost use Rattle.std.specs.Prelude.{◌≡◌, ◌↔◌, IsTrue};
+ghost use Rattle.std.specs.Prelude.{◌≡◌, ◌<◌, ◌↔◌, ℕ, IsTrue, false};
 ghost use Rattle.queue_table.specs.Order.{IsBefore, has_failed, has_queued, has_waited, is_due};
 
 use mail_base::{Control, Entry, State};
@@ -22,6 +22,22 @@ fn has_waited(control: &Control, moment: u64, wait: u64) -> bool
         return true;
     }
     control.last_try <= moment && wait <= moment - control.last_try
+}
+
+/// A moment before which an entry isn't due.
+pub(crate) fn due_from(control: &Control, wait: u64) -> u64
+    ensures { (moment : ℕ) → moment < result → is_due control.now moment wait ≡ false }
+{
+    if has_failed(control) {
+        return 0;
+    }
+    if !has_queued(control) {
+        return u64::MAX;
+    }
+    if control.tries == 0 {
+        return 0;
+    }
+    control.last_try.saturating_add(wait)
 }
 
 fn has_failed(control: &Control) -> bool

@@ -1,0 +1,73 @@
+-- The least of the entries that may be claimed.
+use Rattle.std.proofs.Common.{◌≡◌, ◌⊎◌, inl, inr, ⊎_elim, ℕ, ◌+◌, ◌<◌, ◌≤◌, List, length, get_or, Option, None, Some, true, false, refl, sym, ◌∙◌, ap, subst, arith, true≢false}
+use Rattle.std.proofs.lemmas.Bool.{cases_eq}
+use Rattle.spool_store.specs.declared.held.Held.{Held}
+use Rattle.queue_table.specs.Claims.{IsLeast, may_claim}
+use Rattle.queue_table.specs.Order.{IsBefore}
+use Rattle.queue_table.specs.declared.waiting.Waiting.{Waiting}
+use Rattle.queue_table.specs.inner.Least.{IsLeastAt, IsLeastUpTo}
+use Rattle.queue_table.proofs.OrderLemmas.{goes_on, not_itself}
+
+-- the last of so many places
+last_place : (k n : ℕ) → k < n + 1 → (k < n) ⊎ (k ≡ n)
+last_place k n lt = ⊎_elim (λ (e : k ≡ n). inr e) (λ (ne : k ≡ n → ⊥). inl (omega (arith, lt, ne))) (cases_eq k n)
+
+-- an entry that may not be claimed
+pub step_not : (w : Waiting) (moment : ℕ) (es : List Held) (n : ℕ) (h : Held) (o : Option ℕ) → IsLeastAt w moment es n o → ((d : Held) → h ≡ get_or es n d) → may_claim w moment h ≡ false → IsLeastAt w moment es (n + 1) o
+step_not w moment es n h None so is nay = λ k d lt. ⊎_elim (λ (a : k < n). so k d a) (λ (e : k ≡ n). ap (λ (q : ℕ). may_claim w moment (get_or es q d)) e ∙ ap (may_claim w moment) (sym (is d)) ∙ nay) (last_place k n lt)
+step_not w moment es n h (Some p) so is nay = record {
+  within = omega (arith, so.within);
+  may = so.may;
+  least = λ k d lt may b. ⊎_elim
+      (λ (a : k < n). so.least k d a may b)
+      (λ (e : k ≡ n). true≢false (sym may ∙ ap (λ (q : ℕ). may_claim w moment (get_or es q d)) e ∙ ap (may_claim w moment) (sym (is d)) ∙ nay))
+      (last_place k n lt);
+}
+
+not_before_itself : (h : Held) → IsBefore h.entry h.entry → ⊥
+not_before_itself h b = not_itself h.entry.control.priority h.entry.id b
+
+-- the first that may be claimed
+pub step_first : (w : Waiting) (moment : ℕ) (es : List Held) (n : ℕ) (h : Held) → IsLeastAt w moment es n None → ((d : Held) → h ≡ get_or es n d) → may_claim w moment h ≡ true → IsLeastUpTo w moment es (n + 1) n
+step_first w moment es n h so is yes_ = record {
+  within = omega arith;
+  may = λ d. ap (may_claim w moment) (sym (is d)) ∙ yes_;
+  least = λ k d lt may b. ⊎_elim
+      (λ (a : k < n). true≢false (sym may ∙ so k d a))
+      (λ (e : k ≡ n). not_before_itself (get_or es n d) (subst (λ (q : ℕ). IsBefore (get_or es q d).entry (get_or es n d).entry) e b))
+      (last_place k n lt);
+}
+
+-- one that goes before the least so far
+pub step_lower : (w : Waiting) (moment : ℕ) (es : List Held) (n p : ℕ) (h g : Held) → IsLeastUpTo w moment es n p → ((d : Held) → h ≡ get_or es n d) → ((d : Held) → g ≡ get_or es p d) → may_claim w moment h ≡ true → IsBefore h.entry g.entry → IsLeastUpTo w moment es (n + 1) n
+step_lower w moment es n p h g so is at yes_ lower = record {
+  within = omega arith;
+  may = λ d. ap (may_claim w moment) (sym (is d)) ∙ yes_;
+  least = λ k d lt may b.
+      let to_g : IsBefore (get_or es n d).entry (get_or es p d).entry = subst (λ (q : Held). IsBefore (get_or es n d).entry q.entry) (at d) (subst (λ (q : Held). IsBefore q.entry g.entry) (is d) lower) in
+      ⊎_elim
+      (λ (a : k < n). so.least k d a may (goes_on (get_or es k d).entry.control.priority (get_or es n d).entry.control.priority (get_or es p d).entry.control.priority (get_or es k d).entry.id (get_or es n d).entry.id (get_or es p d).entry.id b to_g))
+      (λ (e : k ≡ n). not_before_itself (get_or es n d) (subst (λ (q : ℕ). IsBefore (get_or es q d).entry (get_or es n d).entry) e b))
+      (last_place k n lt);
+}
+
+-- one that doesn't
+pub step_kept : (w : Waiting) (moment : ℕ) (es : List Held) (n p : ℕ) (h g : Held) → IsLeastUpTo w moment es n p → ((d : Held) → h ≡ get_or es n d) → ((d : Held) → g ≡ get_or es p d) → (IsBefore h.entry g.entry → ⊥) → IsLeastUpTo w moment es (n + 1) p
+step_kept w moment es n p h g so is at later = record {
+  within = omega (arith, so.within);
+  may = so.may;
+  least = λ k d lt may b. ⊎_elim
+      (λ (a : k < n). so.least k d a may b)
+      (λ (e : k ≡ n). later (subst (λ (q : Held). IsBefore h.entry q.entry) (sym (at d)) (subst (λ (q : Held). IsBefore q.entry (get_or es p d).entry) (sym (is d)) (subst (λ (q : ℕ). IsBefore (get_or es q d).entry (get_or es p d).entry) e b))))
+      (last_place k n lt);
+}
+
+-- the least of all
+pub least_is : (w : Waiting) (moment : ℕ) (es : List Held) (p : ℕ) (h : Held) → IsLeastUpTo w moment es (length es) p → ((d : Held) → h ≡ get_or es p d) → IsLeast w moment es h.entry.id
+least_is w moment es p h so is = record {
+  held = h;
+  among = (p, so.within, sym (is h));
+  is = refl;
+  may = ap (may_claim w moment) (is h) ∙ so.may h;
+  least = λ k d lt may b. so.least k d lt may (subst (λ (q : Held). IsBefore (get_or es k d).entry q.entry) (is d) b);
+}
