@@ -1,8 +1,11 @@
 -- The least of the entries that may be claimed.
-use Rattle.std.proofs.Common.{◌≡◌, ◌⊎◌, inl, inr, ⊎_elim, ℕ, ◌+◌, ◌<◌, ◌≤◌, List, length, get_or, Option, None, Some, true, false, refl, sym, ◌∙◌, ap, subst, arith, true≢false}
-use Rattle.std.proofs.lemmas.Bool.{cases_eq}
+use Rattle.std.proofs.Common.{◌≡◌, ◌⊎◌, inl, inr, ⊎_elim, ℕ, ◌+◌, ◌<◌, ◌≤◌, List, length, get_or, Option, None, Some, Bool, true, false, not, ◌&&◌, eqb, if◌then◌else◌, map, refl, sym, ◌∙◌, ap, subst, arith, true≢false}
+use Rattle.std.proofs.lemmas.Bool.{cases_eq, eqb-true}
+use Rattle.std.proofs.lemmas.List.Elements.{All-map}
+use Rattle.mail_base.specs.declared.control.Control.{Control}
+use Rattle.spool_store.specs.Stores.{recontrolled, refinished}
 use Rattle.spool_store.specs.declared.held.Held.{Held}
-use Rattle.queue_table.specs.Claims.{IsLeast, may_claim}
+use Rattle.queue_table.specs.Claims.{IsLeast, IsQuiet, is_held, may_claim}
 use Rattle.queue_table.specs.Order.{IsBefore}
 use Rattle.queue_table.specs.declared.waiting.Waiting.{Waiting}
 use Rattle.queue_table.specs.inner.Least.{IsLeastAt, IsLeastUpTo}
@@ -71,3 +74,27 @@ least_is w moment es p h so is = record {
   may = ap (may_claim w moment) (is h) ∙ so.may h;
   least = λ k d lt may b. so.least k d lt may (subst (λ (q : Held). IsBefore (get_or es k d).entry q.entry) (is d) b);
 }
+
+-- what is held may not be claimed
+not_free : (held room is_due : Bool) → held ≡ true → ((not held && room) && is_due) ≡ false
+not_free true room is_due e = refl
+not_free false room is_due e = absurd (true≢false (sym e))
+
+-- an entry that is held gets another control
+changed_stays : (w : Waiting) (moment id : ℕ) (c : Control) (h : Held) (b : Bool) → (b ≡ true → h.entry.id ≡ id) → is_held w.holders id ≡ true → may_claim w moment h ≡ false → may_claim w moment (if b then record h { entry = record h.entry { control = c } } else h) ≡ false
+changed_stays w moment id c h true is held nay = not_free (is_held w.holders h.entry.id) _ _ (ap (is_held w.holders) (is refl) ∙ held)
+changed_stays w moment id c h false is held nay = nay
+
+-- so before the same moment no entry may be claimed
+pub change_quiet : (w : Waiting) (entries : List Held) (id : ℕ) (c : Control) → is_held w.holders id ≡ true → IsQuiet w entries → IsQuiet w (map (recontrolled id c) entries)
+change_quiet w entries id c held quiet = λ m lt. All-map (λ (h : Held). may_claim w m h ≡ false) (recontrolled id c) entries
+    (λ k d within. changed_stays w m id c (get_or entries k d) (eqb (get_or entries k d).entry.id id) (λ e. eqb-true (get_or entries k d).entry.id id e) held (quiet m lt k d within))
+
+finished_same : (w : Waiting) (moment : ℕ) (h : Held) (b : Bool) → may_claim w moment h ≡ false → may_claim w moment (if b then record h { finished = true } else h) ≡ false
+finished_same w moment h true nay = nay
+finished_same w moment h false nay = nay
+
+-- the same of an entry that is finished
+pub finish_quiet : (w : Waiting) (entries : List Held) (id : ℕ) → IsQuiet w entries → IsQuiet w (map (refinished id) entries)
+finish_quiet w entries id quiet = λ m lt. All-map (λ (h : Held). may_claim w m h ≡ false) (refinished id) entries
+    (λ k d within. finished_same w m (get_or entries k d) (eqb (get_or entries k d).entry.id id) (quiet m lt k d within))

@@ -22,4 +22,4 @@ pub use order::{before, due};
 pub use recording::Reserved;
 pub use table::Table;
 pub use terms::Terms;
-pub use waiting::{Holder, Lane, Waiting};
+pub use waiting::{Holder, Lane, Waiting, held_entries_may_change};

@@ -1,6 +1,9 @@
-ghost use Rattle.std.specs.Prelude.{◌≡◌, ◌+◌, ◌<◌, ◌≤◌, ℕ, [], ◌∷◌, ◌++◌, List, All, OnOk, OnErr, false, length, filter, not, eqb, bytes_eq, get_or};
+ghost use Rattle.std.specs.Prelude.{◌≡◌, ◌+◌, ◌<◌, ◌≤◌, ℕ, [], ◌∷◌, ◌++◌, List, All, OnOk, OnErr, true, false, length, filter, map, not, eqb, bytes_eq, get_or};
+ghost use Rattle.mail_base.specs.declared.control.Control.{Control};
+ghost use Rattle.spool_store.specs.Stores.{recontrolled, refinished};
 ghost use Rattle.spool_store.specs.declared.held.Held.{Held as HeldSeen};
 ghost use Rattle.queue_table.specs.Claims.{IsLeastDue, IsQuiet, has_room, is_free, is_held, lane_of, may_claim};
+ghost use Rattle.queue_table.specs.declared.waiting.Waiting.{Waiting as WaitingSeen};
 ghost use Rattle.queue_table.specs.inner.Least.{IsLeastAt};
 
 use crate::order::{before, due, due_from};
@@ -222,6 +225,16 @@ impl Waiting {
         }
     }
 }
+
+/// The entry of a holder may get another control, and any entry may be finished: before the moment
+/// of before no entry may be claimed then. So only new entries need a [`Waiting::wake`].
+pub fn held_entries_may_change()
+    ensures control { (w : WaitingSeen) (entries : List HeldSeen) (id : ℕ) (control : Control)
+        → is_held w.holders id ≡ true → IsQuiet w entries
+        → IsQuiet w (map (recontrolled id control) entries) }
+    ensures finish { (w : WaitingSeen) (entries : List HeldSeen) (id : ℕ) → IsQuiet w entries
+        → IsQuiet w (map (refinished id) entries) }
+{}
 
 fn at(entries: &[Held], place: usize) -> &Held
     requires { place < length entries.now }
