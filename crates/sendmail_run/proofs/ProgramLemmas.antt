@@ -41,7 +41,7 @@ use Rattle.sendmail_run.specs.inner.Loading.{Gives, is_files_fault}
 use Rattle.sendmail_run.specs.Outcomes.{of_config, of_maps, of_session, of_test, of_words}
 use Rattle.sendmail_run.specs.Printing.{Basis, basis}
 use Rattle.sendmail_run.specs.Rises.{Counts, RisesOnlyAt}
-use Rattle.sendmail_run.specs.Runs.{Completes, Ends, EndsAtFile, EndsAtWords, EndsAtWork, Finds, IsReady, IsShort, IsSound, IsUntouched, IsWhole, NoneFailed, Stays, Works}
+use Rattle.sendmail_run.specs.Runs.{Completes, Ends, EndsAtFile, EndsAtMaps, EndsAtWords, EndsAtWork, Finds, IsReady, IsShort, IsSound, IsUntouched, IsWhole, NoneFailed, Stays, Works}
 use Rattle.sendmail_run.specs.Serving.{IsServedOut, Serves, session_site}
 use Rattle.sendmail_run.specs.Testing.{IsLarge, Tests}
 use Rattle.sendmail_run.proofs.CommandLemmas.{one_mode, not_both}
@@ -64,10 +64,17 @@ ends_at_file words f0 f1 i o l s k mode fault outcome told said begins =
     inr (inl (record { mode = mode; said = said; fault = fault; told = told; begins = begins; untouched = untouched f0 f1 i o l s k }))
 
 -- the work of a mode was done
-ends_at_work : (words : List (List ℕ)) (before after : World) (mode : Mode) (job : Job) (config : Config) (outcome : Outcome) → IsCommandLine words mode → mode.job ≡ job → Begins mode.file before.files after.files (Ok config)
-    → Works job config before after outcome → Ends words before after outcome
-ends_at_work words before after mode job config outcome said does begins works =
-    inr (inr (record { mode = mode; said = said; config = config; begins = begins; works = subst (λ (j : Job). Works j config before after outcome) (sym does) works }))
+ends_at_work : (words : List (List ℕ)) (before after : World) (mode : Mode) (job : Job) (config : Config) (maps : Loaded) (outcome : Outcome) → IsCommandLine words mode → mode.job ≡ job → Begins mode.file before.files after.files (Ok config)
+    → Loads config before.files after.files (Ok maps) → Works job config maps before after outcome → Ends words before after outcome
+ends_at_work words before after mode job config maps outcome said does begins loads works = inr (inr (inr (record {
+  mode = mode;
+  said = said;
+  config = config;
+  begins = begins;
+  maps = maps;
+  loads = loads;
+  works = subst (λ (j : Job). Works j config maps before after outcome) (sym does) works;
+})))
 
 -- the maps, as they were asked for
 loads_here : (config : Config) (f0 f1 : FilesSeen) (result : Result Loaded MapsFault) → IfSome f0.map (λ map. Gives result (maps_by map config)) → Asks f0 f1 (is_files_fault result) → Loads config f0 f1 result
@@ -82,25 +89,24 @@ loads_since config f0 f1 f2 result map kept told asks =
     let same : f1 ≡ f0 = λ i. record { map = map i; faults = kept i } in
     subst (λ (f : FilesSeen). Loads config f f2 result) same (loads_here config f1 f2 result told asks)
 
--- an address test whose maps can't be loaded ends with the outcome of this fault
+-- a run whose maps can't be loaded ends with the outcome of this fault
 pub ends_at_maps : (words : List (List ℕ)) (f0 f1 f2 : FilesSeen) (i : SourceSeen) (o : SinkSeen) (l : Heard) (s : Spooled) (k : ClockSeen) (mode : Mode) (config : Config) (fault : MapsFault) (outcome : Outcome) → outcome ≡ of_maps fault
-    → IsCommandLine words mode → mode.job ≡ Test → Begins mode.file f0 f1 (Ok config) → Loads config f0 f2 (Err fault) → Ends words (world f0 i o l s k) (world f2 i o l s k) outcome
-ends_at_maps words f0 f1 f2 i o l s k mode config fault outcome told said does begins loads =
-    ends_at_work words (world f0 i o l s k) (world f2 i o l s k) mode Test config outcome said does begins
-    (inl (record { fault = fault; told = told; loads = loads; untouched = untouched f0 f2 i o l s k }))
+    → IsCommandLine words mode → Begins mode.file f0 f1 (Ok config) → Loads config f0 f2 (Err fault) → Ends words (world f0 i o l s k) (world f2 i o l s k) outcome
+ends_at_maps words f0 f1 f2 i o l s k mode config fault outcome told said begins loads =
+    inr (inr (inl (record { mode = mode; said = said; config = config; begins = begins; fault = fault; told = told; loads = loads; untouched = untouched f0 f2 i o l s k })))
 
 -- an address test ends with the outcome of its end
 pub ends_tested : (words : List (List ℕ)) (f0 f1 f2 : FilesSeen) (i0 i1 : SourceSeen) (o0 o1 : SinkSeen) (l : Heard) (s : Spooled) (k : ClockSeen) (mode : Mode) (config : Config) (maps : Loaded) (how : TestEnd) (outcome : Outcome) → outcome ≡ of_test how
     → IsCommandLine words mode → mode.job ≡ Test → Begins mode.file f0 f1 (Ok config) → Loads config f0 f2 (Ok maps) → Tests (basis config maps) (streams i0 o0) (streams i1 o1) how → Ends words (world f0 i0 o0 l s k) (world f2 i1 o1 l s k) outcome
 ends_tested words f0 f1 f2 i0 i1 o0 o1 l s k mode config maps how outcome told said does begins loads tests =
-    ends_at_work words (world f0 i0 o0 l s k) (world f2 i1 o1 l s k) mode Test config outcome said does begins
-    (inr (record { maps = maps; loads = loads; how = how; told = told; tests = tests; alone = left_alone (core_seen l s k) }))
+    ends_at_work words (world f0 i0 o0 l s k) (world f2 i1 o1 l s k) mode Test config maps outcome said does begins loads
+    (record { how = how; told = told; tests = tests; alone = left_alone (core_seen l s k) })
 
 -- session mode ends with the outcome of its end
-pub ends_served : (words : List (List ℕ)) (f0 f1 : FilesSeen) (i : SourceSeen) (o : SinkSeen) (l0 l1 : Heard) (s0 s1 : Spooled) (k0 k1 : ClockSeen) (mode : Mode) (config : Config) (how : SessionEnd) (outcome : Outcome) → outcome ≡ of_session how
-    → IsCommandLine words mode → mode.job ≡ Session → Begins mode.file f0 f1 (Ok config) → Serves (session_site config) (core_seen l0 s0 k0) (core_seen l1 s1 k1) how → Ends words (world f0 i o l0 s0 k0) (world f1 i o l1 s1 k1) outcome
-ends_served words f0 f1 i o l0 l1 s0 s1 k0 k1 mode config how outcome told said does begins serves =
-    ends_at_work words (world f0 i o l0 s0 k0) (world f1 i o l1 s1 k1) mode Session config outcome said does begins
+pub ends_served : (words : List (List ℕ)) (f0 f1 f2 : FilesSeen) (i : SourceSeen) (o : SinkSeen) (l0 l1 : Heard) (s0 s1 : Spooled) (k0 k1 : ClockSeen) (mode : Mode) (config : Config) (maps : Loaded) (how : SessionEnd) (outcome : Outcome) → outcome ≡ of_session how
+    → IsCommandLine words mode → mode.job ≡ Session → Begins mode.file f0 f1 (Ok config) → Loads config f0 f2 (Ok maps) → Serves (session_site config) (core_seen l0 s0 k0) (core_seen l1 s1 k1) how → Ends words (world f0 i o l0 s0 k0) (world f2 i o l1 s1 k1) outcome
+ends_served words f0 f1 f2 i o l0 l1 s0 s1 k0 k1 mode config maps how outcome told said does begins loads serves =
+    ends_at_work words (world f0 i o l0 s0 k0) (world f2 i o l1 s1 k1) mode Session config maps outcome said does begins loads
     (record { how = how; told = told; serves = serves; idle = record { input = refl; output = refl } })
 
 -- ---- what stays
@@ -147,12 +153,16 @@ stays_at_maps f0 f1 f2 i o l s k fault outcome told map kept later asks =
     stays_at_file f0 f2 i o l s k outcome (asks.fixed ∙ map)
     (counts outcomes.FilesFault outcome (of_maps fault) f0.faults f2.faults told (omega (arith, later, asks.later)) (maps_rise f0 f1 f2 fault kept asks))
 
+-- a count of the files that no fault of theirs raised
+files_asked : (f0 f1 f2 : FilesSeen) (outcome : Outcome) → f1.faults ≡ f0.faults → f0.faults ≤ f1.faults → Asks f1 f2 false → Counts outcomes.FilesFault outcome f0.faults f2.faults
+files_asked f0 f1 f2 outcome kept later asks = record { later = omega (arith, later, asks.later); rises = inr (asks.calm refl ∙ kept) }
+
 -- an address test leaves the files, and counts a fault of a stream only where it ended by it
 pub stays_tested : (f0 f1 f2 : FilesSeen) (i0 i1 : SourceSeen) (o0 o1 : SinkSeen) (l : Heard) (s : Spooled) (k : ClockSeen) (outcome : Outcome) → f1.map ≡ f0.map → f1.faults ≡ f0.faults
     → f0.faults ≤ f1.faults → Asks f1 f2 false → Counts outcomes.ReadFault outcome i0.faults i1.faults → Counts outcomes.WriteFault outcome o0.faults o1.faults → Stays (world f0 i0 o0 l s k) (world f2 i1 o1 l s k) outcome
 stays_tested f0 f1 f2 i0 i1 o0 o1 l s k outcome map kept later asks input output = record {
   map = asks.fixed ∙ map;
-  files = record { later = omega (arith, later, asks.later); rises = inr (asks.calm refl ∙ kept) };
+  files = files_asked f0 f1 f2 outcome kept later asks;
   input = input;
   output = output;
   floor = same_count outcomes.FloorFault outcome l.faults;
@@ -160,13 +170,13 @@ stays_tested f0 f1 f2 i0 i1 o0 o1 l s k outcome map kept later asks input output
 }
 
 -- session mode leaves the files, and counts a fault of floor or spool only where it ended by it
-pub stays_served : (site : Site) (f0 f1 : FilesSeen) (i : SourceSeen) (o : SinkSeen) (l0 l1 : Heard) (s0 s1 : Spooled) (k0 k1 : ClockSeen) (how : SessionEnd) (outcome : Outcome) → outcome ≡ of_session how → f1.map ≡ f0.map → f1.faults ≡ f0.faults
-    → f0.faults ≤ f1.faults → Serves site (core_seen l0 s0 k0) (core_seen l1 s1 k1) how → RisesOnlyAt outcomes.FloorFault (of_session how) l0.faults l1.faults → RisesOnlyAt outcomes.SpoolFault (of_session how) s0.faults s1.faults
-    → Stays (world f0 i o l0 s0 k0) (world f1 i o l1 s1 k1) outcome
-stays_served site f0 f1 i o l0 l1 s0 s1 k0 k1 how outcome told map kept later serves floor spool =
+pub stays_served : (site : Site) (f0 f1 f2 : FilesSeen) (i : SourceSeen) (o : SinkSeen) (l0 l1 : Heard) (s0 s1 : Spooled) (k0 k1 : ClockSeen) (how : SessionEnd) (outcome : Outcome) → outcome ≡ of_session how → f1.map ≡ f0.map → f1.faults ≡ f0.faults
+    → f0.faults ≤ f1.faults → Asks f1 f2 false → Serves site (core_seen l0 s0 k0) (core_seen l1 s1 k1) how → RisesOnlyAt outcomes.FloorFault (of_session how) l0.faults l1.faults → RisesOnlyAt outcomes.SpoolFault (of_session how) s0.faults s1.faults
+    → Stays (world f0 i o l0 s0 k0) (world f2 i o l1 s1 k1) outcome
+stays_served site f0 f1 f2 i o l0 l1 s0 s1 k0 k1 how outcome told map kept later asks serves floor spool =
     let no_less = serves_later site (core_seen l0 s0 k0) (core_seen l1 s1 k1) how serves in record {
-      map = map;
-      files = record { later = later; rises = inr kept };
+      map = asks.fixed ∙ map;
+      files = files_asked f0 f1 f2 outcome kept later asks;
       input = same_count outcomes.ReadFault outcome i.faults;
       output = same_count outcomes.WriteFault outcome o.faults;
       floor = counts outcomes.FloorFault outcome (of_session how) l0.faults l1.faults told no_less.floor floor;
@@ -229,15 +239,11 @@ none_missing files map config name told none gives =
     let same : Err name ≡ Ok (maps_of map config) = sym here ∙ there in
     cc same
 
-maps_whole : (config : Config) (before after : World) (map : FileMap) (fault : MapsFault) → before.files.map ≡ Some map → first_missing map config ≡ None → ¬ (Rose before.files.faults after.files.faults)
-    → Loads config before.files after.files (Err fault) → IsWhole Test (of_maps fault)
-maps_whole config before after map (maps_faults.NoFile name) told none sound is = absurd (none_missing before.files map config name told none is)
-maps_whole config before after map maps_faults.FilesFault told none sound is = absurd (sound is)
-maps_whole config before after map maps_faults.NoMemory told none sound is = inr refl
-
-test_whole : (config : Config) (before after : World) (map : FileMap) (outcome : Outcome) → before.files.map ≡ Some map → Finds Test config map before → IsSound Test before after → Works Test config before after outcome → IsWhole Test outcome
-test_whole config before after map outcome told finds sound (inl is) = subst (λ (o : Outcome). IsWhole Test o) (sym is.told) (maps_whole config before after map is.fault told finds.0 sound.files is.loads)
-test_whole config before after map outcome told finds sound (inr is) = subst (λ (o : Outcome). IsWhole Test o) (sym is.told) (lines_whole (basis config is.maps) before after is.how finds.1 sound.own is.tests)
+maps_whole : (config : Config) (before after : World) (job : Job) (map : FileMap) (fault : MapsFault) → before.files.map ≡ Some map → first_missing map config ≡ None → ¬ (Rose before.files.faults after.files.faults)
+    → Loads config before.files after.files (Err fault) → IsWhole job (of_maps fault)
+maps_whole config before after job map (maps_faults.NoFile name) told none sound is = absurd (none_missing before.files map config name told none is)
+maps_whole config before after job map maps_faults.FilesFault told none sound is = absurd (sound is)
+maps_whole config before after job map maps_faults.NoMemory told none sound is = whole_memory job
 
 over_whole : (site : Site) (before after : World) (stop : CoreStop) → NoneFailed Session before after → IsServedOut site (core_of before) (core_of after) (Err stop) → IsWhole Session (of_session (session_ends.Over stop))
 over_whole site before after stops.SpoolFault sound is = absurd (sound.1 (is.over.run.ended SpoolFault refl).cause)
@@ -251,9 +257,9 @@ session_whole site before after session_ends.Stopped sound is = inl refl
 session_whole site before after (session_ends.Over stop) sound is = over_whole site before after stop sound is
 session_whole site before after (session_ends.TurnsSpent count) sound is = inr (inr (inr (ap (λ (n : ℕ). outcomes.TurnsSpent n) is.0)))
 
-work_whole : (words : List (List ℕ)) (config : Config) (before after : World) (job : Job) (outcome : Outcome) (ready : IsReady words before job) → ready.config ≡ config → IsSound job before after → Works job config before after outcome → IsWhole job outcome
-work_whole words config before after Test outcome ready same sound is = test_whole config before after ready.map outcome ready.told (subst (λ (c : Config). Finds Test c ready.map before) same ready.finds) sound is
-work_whole words config before after Session outcome ready same sound is = subst (λ (o : Outcome). IsWhole Session o) (sym is.told) (session_whole (session_site config) before after is.how sound.own is.serves)
+work_whole : (config : Config) (maps : Loaded) (before after : World) (job : Job) (outcome : Outcome) → Finds job before → NoneFailed job before after → Works job config maps before after outcome → IsWhole job outcome
+work_whole config maps before after Test outcome finds sound is = subst (λ (o : Outcome). IsWhole Test o) (sym is.told) (lines_whole (basis config maps) before after is.how finds sound is.tests)
+work_whole config maps before after Session outcome finds sound is = subst (λ (o : Outcome). IsWhole Session o) (sym is.told) (session_whole (session_site config) before after is.how sound is.serves)
 
 -- what a run's end says of a run that is ready
 complete_at_words : (words : List (List ℕ)) (before after : World) (outcome : Outcome) → EndsAtWords words before after outcome → Completes words before after outcome
@@ -265,17 +271,29 @@ complete_at_file words before after outcome is = λ job ready sound.
     let begins : Begins ready.mode.file before.files after.files (Err is.fault) = subst (λ (m : Mode). Begins m.file before.files after.files (Err is.fault)) same is.begins in
     subst (IsWhole job) (sym is.told) (file_whole words before after job ready is.fault sound.files begins)
 
+-- the file of the words gives the configuration that a run is ready with
+config_of : (words : List (List ℕ)) (before after : World) (job : Job) (ready : IsReady words before job) (mode : Mode) (config : Config) → IsCommandLine words mode → Begins mode.file before.files after.files (Ok config) → config ≡ ready.config
+config_of words before after job ready mode config said begins =
+    let same = one_mode words mode ready.mode said ready.said in
+    let here : Begins ready.mode.file before.files after.files (Ok config) = subst (λ (m : Mode). Begins m.file before.files after.files (Ok config)) same begins in
+    sym (one_config before.files ready.map ready.mode.file ready.config config ready.told ready.read here)
+
+complete_at_maps : (words : List (List ℕ)) (before after : World) (outcome : Outcome) → EndsAtMaps words before after outcome → Completes words before after outcome
+complete_at_maps words before after outcome is = λ job ready sound.
+    let loads : Loads ready.config before.files after.files (Err is.fault) =
+    subst (λ (c : Config). Loads c before.files after.files (Err is.fault)) (config_of words before after job ready is.mode is.config is.said is.begins) is.loads in
+    subst (IsWhole job) (sym is.told) (maps_whole ready.config before after job ready.map is.fault ready.told ready.all_there sound.files loads)
+
 complete_at_work : (words : List (List ℕ)) (before after : World) (outcome : Outcome) → EndsAtWork words before after outcome → Completes words before after outcome
 complete_at_work words before after outcome is = λ job ready sound.
     let same = one_mode words is.mode ready.mode is.said ready.said in
     let does : is.mode.job ≡ job = ap (λ (m : Mode). m.job) same ∙ ready.does in
-    let works : Works job is.config before after outcome = subst (λ (j : Job). Works j is.config before after outcome) does is.works in
-    let begins : Begins ready.mode.file before.files after.files (Ok is.config) = subst (λ (m : Mode). Begins m.file before.files after.files (Ok is.config)) same is.begins in
-    let one : ready.config ≡ is.config = one_config before.files ready.map ready.mode.file ready.config is.config ready.told ready.read begins in
-    work_whole words is.config before after job outcome ready one sound works
+    let works : Works job is.config is.maps before after outcome = subst (λ (j : Job). Works j is.config is.maps before after outcome) does is.works in
+    work_whole is.config is.maps before after job outcome ready.finds sound.own works
 
 -- however a run ends, it does the whole work of its mode where it is ready and no device fails
 pub completes : (words : List (List ℕ)) (before after : World) (outcome : Outcome) → Ends words before after outcome → Completes words before after outcome
 completes words before after outcome (inl is) = complete_at_words words before after outcome is
 completes words before after outcome (inr (inl is)) = complete_at_file words before after outcome is
-completes words before after outcome (inr (inr is)) = complete_at_work words before after outcome is
+completes words before after outcome (inr (inr (inl is))) = complete_at_maps words before after outcome is
+completes words before after outcome (inr (inr (inr is))) = complete_at_work words before after outcome is

@@ -56,17 +56,22 @@ pub record EndsAtFile (words : List (List ℕ)) (before after : World)
   pub begins : Begins mode.file before.files after.files (Err fault)
   pub untouched : IsUntouched before after
 
--- the files of the configuration's maps gave none
-pub record EndsAtMaps (config : Config) (before after : World) (outcome : Outcome) : Type 0 where
+-- the words were taken, the file that they name is a configuration, and the files of its maps gave
+-- none
+pub record EndsAtMaps (words : List (List ℕ)) (before after : World)
+    (outcome : Outcome) : Type 0 where
+  pub mode : Mode
+  pub said : IsCommandLine words mode
+  pub config : Config
+  pub begins : Begins mode.file before.files after.files (Ok config)
   pub fault : MapsFault
   pub told : outcome ≡ of_maps fault
   pub loads : Loads config before.files after.files (Err fault)
   pub untouched : IsUntouched before after
 
--- address test mode loaded the maps, did its work with them, and left floor, spool and clock alone
-pub record HasTested (config : Config) (before after : World) (outcome : Outcome) : Type 0 where
-  pub maps : Loaded
-  pub loads : Loads config before.files after.files (Ok maps)
+-- address test mode did its work with these maps, and left floor, spool and clock alone
+pub record HasTested (config : Config) (maps : Loaded) (before after : World)
+    (outcome : Outcome) : Type 0 where
   pub how : TestEnd
   pub told : outcome ≡ of_test how
   pub tests : Tests (basis config maps) (streams_of before) (streams_of after) how
@@ -80,24 +85,27 @@ pub record HasServed (config : Config) (before after : World) (outcome : Outcome
   pub idle : IsIdle (streams_of before) (streams_of after)
 
 -- how the work of a mode ends
-abbrev pub Works : Job → Config → World → World → Outcome → Type 0
-Works Test config before after outcome =
-    EndsAtMaps config before after outcome ⊎ HasTested config before after outcome
-Works Session config before after outcome = HasServed config before after outcome
+abbrev pub Works : Job → Config → Loaded → World → World → Outcome → Type 0
+Works Test config maps before after outcome = HasTested config maps before after outcome
+Works Session config maps before after outcome = HasServed config before after outcome
 
--- the words were taken, the file that they name is a configuration, and the mode's work was done
+-- the words were taken, the file that they name is a configuration, the files of its maps gave
+-- them, and the mode's work was done
 pub record EndsAtWork (words : List (List ℕ)) (before after : World)
     (outcome : Outcome) : Type 0 where
   pub mode : Mode
   pub said : IsCommandLine words mode
   pub config : Config
   pub begins : Begins mode.file before.files after.files (Ok config)
-  pub works : Works mode.job config before after outcome
+  pub maps : Loaded
+  pub loads : Loads config before.files after.files (Ok maps)
+  pub works : Works mode.job config maps before after outcome
 
 -- a run ends at the first of its steps that refuses, or with its mode's work
 abbrev pub Ends : List (List ℕ) → World → World → Outcome → Type 0
 Ends words before after outcome = EndsAtWords words before after outcome
-    ⊎ EndsAtFile words before after outcome ⊎ EndsAtWork words before after outcome
+    ⊎ EndsAtFile words before after outcome ⊎ EndsAtMaps words before after outcome
+    ⊎ EndsAtWork words before after outcome
 
 -- ---- what stays
 
@@ -119,14 +127,13 @@ pub record IsShort (left : Option (List ℕ)) : Type 0 where
   pub told : left ≡ Some bytes
   pub few : length bytes < 2 ^ 32
 
--- what a mode wants of its devices under a configuration, over these files: session mode takes any
--- queue
-abbrev pub Finds : Job → Config → FileMap → World → Type 0
-Finds Test config files before = (first_missing files config ≡ None) × IsShort before.input.left
-Finds Session config files before = Unit {0}
+-- what a mode wants of its devices: session mode takes any queue
+abbrev pub Finds : Job → World → Type 0
+Finds Test before = IsShort before.input.left
+Finds Session before = Unit {0}
 
--- the words say this mode, they, the file and its lines are all taken, of files that are told, and
--- the mode finds what it wants
+-- the words say this mode, they, the file and its lines are all taken, of files that are told, no
+-- file of its maps is missing, and the mode finds what it wants
 pub record IsReady (words : List (List ℕ)) (before : World) (job : Job) : Type 0 where
   pub mode : Mode
   pub said : IsCommandLine words mode
@@ -135,7 +142,8 @@ pub record IsReady (words : List (List ℕ)) (before : World) (job : Job) : Type
   pub told : before.files.map ≡ Some map
   pub config : Config
   pub read : said_by map mode.file ≡ Some (Ok config)
-  pub finds : Finds job config map before
+  pub all_there : first_missing map config ≡ None
+  pub finds : Finds job before
 
 -- no device of a mode failed; a send may have
 abbrev pub NoneFailed : Job → World → World → Type 0

@@ -22,8 +22,8 @@ use std::alloc::Global;
 /// The whole program, over its words without the program's name, and its devices.
 ///
 /// The steps are taken in this order, and the first refusal ends the run: the words, the
-/// configuration file, its lines, and then in address test mode the files of maps in the order of K
-/// lines, the host table and the lines of input, and in session mode the steps of [`session_mode`].
+/// configuration file, its lines, the files of maps in the order of K lines, the host table, and
+/// then in address test mode the lines of input, and in session mode the steps of [`session_mode`].
 pub fn sendmail<F: Files, D: Spool, L: Floor, C: Clock, I: Source, O: Sink>(
     alloc: Global,
     arguments: &Seq<Text>,
@@ -92,14 +92,12 @@ fn run<F: Files, D: Spool, L: Floor, C: Clock, I: Source, O: Sink>(
         Ok(config) => config,
         Err(fault) => return Outcome::of_config(fault),
     };
+    let maps = match load_maps(alloc, &config, files) {
+        Ok(maps) => maps,
+        Err(fault) => return Outcome::of_maps(fault),
+    };
     match mode.job {
-        Job::Test => {
-            let maps = match load_maps(alloc, &config, files) {
-                Ok(maps) => maps,
-                Err(fault) => return Outcome::of_maps(fault),
-            };
-            Outcome::of_test(address_test(alloc, &mut config, &maps, input, output))
-        }
+        Job::Test => Outcome::of_test(address_test(alloc, &mut config, &maps, input, output)),
         Job::Session => Outcome::of_session(session_mode(alloc, &config, spool, floor, clock)),
     }
 }

@@ -15,6 +15,8 @@ mod queues;
 #[cfg(test)]
 mod serving;
 #[cfg(test)]
+mod session_files;
+#[cfg(test)]
 mod sessions;
 #[cfg(test)]
 mod stops;

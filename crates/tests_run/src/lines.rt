@@ -333,8 +333,8 @@ pub(crate) struct Ended {
     pub place: Text,
 }
 
-// The place that an outcome tells.
-fn place_of(alloc: Global, outcome: &Outcome) -> Result<Text, NoMemory> {
+/// The place that an outcome tells.
+pub(crate) fn place_of(alloc: Global, outcome: &Outcome) -> Result<Text, NoMemory> {
     let mut place = String::new(alloc);
     match outcome {
         Outcome::NoFile(name) => return Text::of(alloc, name.bytes()),

@@ -5,8 +5,8 @@ ghost use Rattle.std.specs.Prelude.{◌≡◌, ◌<◌, IfOk, length};
 use crate::devices::{CONFIG, calls, files_of};
 use link_edge::{Floor, FloorEvent, ScriptFloor, Step};
 use mail_base::{NoMemory, Seq, Text};
-use mail_edge::{MemClock, MemSink, MemSource};
-use sendmail_run::sendmail;
+use mail_edge::{MemClock, MemFiles, MemSink, MemSource};
+use sendmail_run::{Outcome, sendmail};
 use spool_disk::{File, Spool};
 use std::alloc::Global;
 use std::test::Fail;
@@ -33,6 +33,8 @@ pub(crate) const ENTER: &[u8] = b"354 Enter mail, end with \".\" on a line by it
 pub(crate) const ACCEPTED: &[u8] = b"250 2.0.0 w000000000001 Message accepted for delivery\r\n";
 
 pub(crate) const BYE: &[u8] = b"221 2.0.0 localhost closing connection\r\n";
+
+pub(crate) const ALL_REPLIES: &[&[u8]] = &[READY, HELLO, SENDER, RECIPIENT, ENTER, ACCEPTED, BYE];
 
 /// The control text of the message, and its body.
 pub(crate) const CONTROL: &[u8] =
@@ -78,28 +80,38 @@ pub(crate) fn script_floor(
     Ok(ScriptFloor::new(alloc, steps, turns, calls(alloc, sends)?))
 }
 
-/// How session mode ends over this spool and this floor, where these calls of the files fail.
+/// How session mode ends over these files, this spool and this floor.
+pub(crate) fn outcome_over<D: Spool, L: Floor>(
+    alloc: Global,
+    files: &mut MemFiles,
+    spool: &mut D,
+    floor: &mut L,
+) -> Result<Outcome, NoMemory> {
+    let words = words(alloc)?;
+    let mut clock = MemClock::new(NOW, 0);
+    let mut input = MemSource::new(Text::new(alloc), Seq::new(alloc));
+    let mut output = MemSink::new(alloc, Seq::new(alloc));
+    Ok(sendmail(
+        alloc,
+        &words,
+        files,
+        spool,
+        floor,
+        &mut clock,
+        &mut input,
+        &mut output,
+    ))
+}
+
+/// Its status where these calls of the files fail.
 pub(crate) fn status_with<D: Spool, L: Floor>(
     alloc: Global,
     failing: &[u64],
     spool: &mut D,
     floor: &mut L,
 ) -> Result<u8, Fail> {
-    let words = words(alloc)?;
     let mut files = files_of(alloc, CONFIG, failing)?;
-    let mut clock = MemClock::new(NOW, 0);
-    let mut input = MemSource::new(Text::new(alloc), Seq::new(alloc));
-    let mut output = MemSink::new(alloc, Seq::new(alloc));
-    let outcome = sendmail(
-        alloc,
-        &words,
-        &mut files,
-        spool,
-        floor,
-        &mut clock,
-        &mut input,
-        &mut output,
-    );
+    let outcome = outcome_over(alloc, &mut files, spool, floor)?;
     Ok(outcome.status())
 }
 

@@ -1,7 +1,7 @@
 use crate::devices::calls;
 use crate::serving::{
-    ACCEPTED, ASKED, BYE, CONTROL, ENTER, HELLO, PEER, READY, RECIPIENT, SENDER, has, holds,
-    is_stored, joined, said_to, script_floor, status_over, status_with,
+    ACCEPTED, ALL_REPLIES, ASKED, CONTROL, ENTER, HELLO, PEER, READY, RECIPIENT, SENDER, has,
+    holds, is_stored, joined, said_to, script_floor, status_over, status_with,
 };
 use link_edge::{OneFloor, ScriptFloor, Step};
 use mail_base::{NoMemory, Seq, Text};
@@ -13,8 +13,6 @@ use std::test::Fail;
 const ASKED_TO_MID_DATA: &[u8] =
     b"HELO c.example\r\nMAIL FROM:<bob@c.example>\r\nRCPT TO:<ann@mx.example>\r\nDATA\r\n\
         Subject: hi\r\n\r\nhel";
-
-const ALL_REPLIES: &[&[u8]] = &[READY, HELLO, SENDER, RECIPIENT, ENTER, ACCEPTED, BYE];
 
 // The control text of the message from a peer whose address isn't known.
 const CONTROL_OF_NO_PEER: &[u8] =

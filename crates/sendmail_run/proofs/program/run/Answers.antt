@@ -28,7 +28,7 @@ returns-in-Err-configuration-clause-stays g c =
 pub returns-in-Err-load_maps-clause-ends : goal.returns-in-Err-load_maps-clause-ends
 returns-in-Err-load_maps-clause-ends g c =
     ends_at_maps c.args.arguments.now (g.F.Files.seen c.args.files.now) (g.F.Files.seen c.configuration.new.files) (g.F.Files.seen c.load_maps.new.files) (g.I.Source.seen c.args.input.now) (g.O.Sink.seen c.args.output.now) (g.L.Floor.seen c.args.floor.now) (g.D.Spool.seen c.args.spool.now) (g.C.Clock.seen c.args.clock.now)
-    c.in-Ok.mode c.in-Ok-configuration.config c.in-Err-load_maps.fault c.of_maps.result c.of_maps.ensures c.in-Ok.ensures c.in-Test.is c.in-Ok-configuration.ensures.begins
+    c.in-Ok.mode c.in-Ok-configuration.config c.in-Err-load_maps.fault c.of_maps.result c.of_maps.ensures c.in-Ok.ensures c.in-Ok-configuration.ensures.begins
     (loads_since c.in-Ok-configuration.config (g.F.Files.seen c.args.files.now) (g.F.Files.seen c.configuration.new.files) (g.F.Files.seen c.load_maps.new.files) (Err c.in-Err-load_maps.fault) c.in-Ok-configuration.ensures.map c.in-Ok-configuration.ensures.kept c.in-Err-load_maps.ensures.told c.in-Err-load_maps.ensures.asks)
 
 pub returns-in-Err-load_maps-clause-stays : goal.returns-in-Err-load_maps-clause-stays
@@ -52,11 +52,13 @@ returns-in-Test-clause-stays g c =
 
 pub returns-clause-ends : goal.returns-clause-ends
 returns-clause-ends g c =
-    ends_served c.args.arguments.now (g.F.Files.seen c.args.files.now) (g.F.Files.seen c.configuration.new.files) (g.I.Source.seen c.args.input.now) (g.O.Sink.seen c.args.output.now) (g.L.Floor.seen c.args.floor.now) (g.L.Floor.seen c.session_mode.new.floor) (g.D.Spool.seen c.args.spool.now) (g.D.Spool.seen c.session_mode.new.spool) (g.C.Clock.seen c.args.clock.now) (g.C.Clock.seen c.session_mode.new.clock)
-    c.in-Ok.mode c.in-Ok-configuration.config c.session_mode.result c.of_session.result c.of_session.ensures c.in-Ok.ensures c.in-Session.is c.in-Ok-configuration.ensures.begins c.session_mode.ensures.serves
+    ends_served c.args.arguments.now (g.F.Files.seen c.args.files.now) (g.F.Files.seen c.configuration.new.files) (g.F.Files.seen c.load_maps.new.files) (g.I.Source.seen c.args.input.now) (g.O.Sink.seen c.args.output.now) (g.L.Floor.seen c.args.floor.now) (g.L.Floor.seen c.session_mode.new.floor) (g.D.Spool.seen c.args.spool.now) (g.D.Spool.seen c.session_mode.new.spool) (g.C.Clock.seen c.args.clock.now) (g.C.Clock.seen c.session_mode.new.clock)
+    c.in-Ok.mode c.in-Ok-configuration.config c.in-Ok-load_maps.maps c.session_mode.result c.of_session.result c.of_session.ensures c.in-Ok.ensures c.in-Session.is c.in-Ok-configuration.ensures.begins
+    (loads_since c.in-Ok-configuration.config (g.F.Files.seen c.args.files.now) (g.F.Files.seen c.configuration.new.files) (g.F.Files.seen c.load_maps.new.files) (Ok c.in-Ok-load_maps.maps) c.in-Ok-configuration.ensures.map c.in-Ok-configuration.ensures.kept c.in-Ok-load_maps.ensures.told c.in-Ok-load_maps.ensures.asks)
+    c.session_mode.ensures.serves
 
 pub returns-clause-stays : goal.returns-clause-stays
 returns-clause-stays g c =
-    stays_served (session_site c.in-Ok-configuration.config) (g.F.Files.seen c.args.files.now) (g.F.Files.seen c.configuration.new.files) (g.I.Source.seen c.args.input.now) (g.O.Sink.seen c.args.output.now) (g.L.Floor.seen c.args.floor.now) (g.L.Floor.seen c.session_mode.new.floor) (g.D.Spool.seen c.args.spool.now) (g.D.Spool.seen c.session_mode.new.spool) (g.C.Clock.seen c.args.clock.now) (g.C.Clock.seen c.session_mode.new.clock)
-    c.session_mode.result c.of_session.result c.of_session.ensures c.in-Ok-configuration.ensures.map c.in-Ok-configuration.ensures.kept c.in-Ok-configuration.ensures.later
+    stays_served (session_site c.in-Ok-configuration.config) (g.F.Files.seen c.args.files.now) (g.F.Files.seen c.configuration.new.files) (g.F.Files.seen c.load_maps.new.files) (g.I.Source.seen c.args.input.now) (g.O.Sink.seen c.args.output.now) (g.L.Floor.seen c.args.floor.now) (g.L.Floor.seen c.session_mode.new.floor) (g.D.Spool.seen c.args.spool.now) (g.D.Spool.seen c.session_mode.new.spool) (g.C.Clock.seen c.args.clock.now) (g.C.Clock.seen c.session_mode.new.clock)
+    c.session_mode.result c.of_session.result c.of_session.ensures c.in-Ok-configuration.ensures.map c.in-Ok-configuration.ensures.kept c.in-Ok-configuration.ensures.later c.in-Ok-load_maps.ensures.asks
     c.session_mode.ensures.serves c.session_mode.ensures.rises_floor c.session_mode.ensures.rises_spool

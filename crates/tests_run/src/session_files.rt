@@ -1,0 +1,112 @@
+// The files that session mode reads before it opens the queue.
+use crate::devices::{calls, files_of};
+use crate::lines::place_of;
+use crate::serving::{
+    ALL_REPLIES, ASKED, CONTROL, is_stored, joined, outcome_over, said_to, script_floor,
+};
+use link_edge::ScriptFloor;
+use mail_base::{Seq, Text};
+use sendmail_run::Outcome;
+use spool_disk::{File, MemSpool};
+use std::alloc::Global;
+use std::test::Fail;
+
+/// A configuration, which calls of the files and of the spool fail, the status, and the file that
+/// is told as missing. The first call of the files reads the configuration, then come the files of
+/// maps, and the host table last; the first call of the spool lists the queue. With status 0 the
+/// session goes as one without maps, and with any other nothing is served.
+type Row = (
+    &'static [u8],
+    &'static [u64],
+    &'static [u64],
+    u8,
+    &'static [u8],
+);
+
+static ROWS: [Row; 13] = [
+    (b"Kt text /t\n", &[], &[], 0, b""),
+    (b"Kt text -o /none\n", &[], &[], 0, b""),
+    (b"O HostsFile=/hosts\n", &[], &[], 0, b""),
+    (b"O HostsFile=/none\n", &[], &[], 0, b""),
+    // No other file is read.
+    (b"Kt text /t\n", &[3], &[], 0, b""),
+    // A file that isn't there, and the first of two.
+    (b"Kt text /none\n", &[], &[], 66, b"/none"),
+    (
+        b"Kt text /t\nKu hash /no\nKv btree /none\n",
+        &[],
+        &[],
+        66,
+        b"/no",
+    ),
+    // A file that can't be read, and the host table.
+    (b"Kt text /t\n", &[1], &[], 72, b""),
+    (b"Kt text /t\n", &[2], &[], 72, b""),
+    // The first refusal ends the run: of the files that of the earlier line, and of files and queue
+    // that of the files.
+    (b"Kt text /none\nKu text /t\n", &[2], &[], 66, b"/none"),
+    (b"Kt text /none\n", &[], &[0], 66, b"/none"),
+    (b"Kt text /t\n", &[2], &[0], 72, b""),
+    (b"Kt text /t\n", &[], &[0], 75, b""),
+];
+
+// How a session ended, and what it left.
+#[derive(Drop)]
+struct Served {
+    status: u8,
+    missing: Text,
+    said: Text,
+    files: Seq<File>,
+}
+
+fn serve(alloc: Global, row: &Row) -> Result<Served, Fail> {
+    let mut files = files_of(alloc, row.0, row.1)?;
+    let mut spool = MemSpool::new(alloc, calls(alloc, row.2)?);
+    let mut floor = script_floor(alloc, ASKED, 65_536, &[], &[])?;
+    let outcome = outcome_over(alloc, &mut files, &mut spool, &mut floor)?;
+    served_as(alloc, &outcome, &floor, &spool)
+}
+
+fn served_as(
+    alloc: Global,
+    outcome: &Outcome,
+    floor: &ScriptFloor,
+    spool: &MemSpool,
+) -> Result<Served, Fail> {
+    Ok(Served {
+        status: outcome.status(),
+        missing: place_of(alloc, outcome)?,
+        said: said_to(alloc, floor, 1)?,
+        files: spool.files()?,
+    })
+}
+
+impl Served {
+    fn is_as(&self, row: &Row, replies: &Text) -> bool {
+        if self.status != row.3 || self.missing.bytes() != row.4 {
+            return false;
+        }
+        if row.3 == 0 {
+            return self.said.bytes() == replies.bytes() && is_stored(&self.files, CONTROL);
+        }
+        self.said.is_empty() && self.files.len() == 0
+    }
+}
+
+// The first row that goes otherwise.
+fn wrong_row(alloc: Global) -> Result<Option<usize>, Fail> {
+    let replies = joined(alloc, ALL_REPLIES)?;
+    for (at, row) in ROWS.iter().enumerate() {
+        let served = serve(alloc, row)?;
+        if !served.is_as(row, &replies) {
+            return Ok(Some(at));
+        }
+    }
+    Ok(None)
+}
+
+#[test]
+fn files_are_read_before_the_queue(rt: HostRuntime) -> Result<(), Fail> {
+    assert_eq!(rt; wrong_row(rt.alloc())?, None);
+    Ok(())
+}
