@@ -1,6 +1,6 @@
 -- What the code reads of a command line is what the definition says.
 use Rattle.std.proofs.Common.{◌≡◌, ℕ, ◌+◌, ◌≤◌, List, [], ◌∷◌, ◌++◌, length, drop, Bool, true, false, not, Option, Some, None, Result, Ok, Err, refl, sym, ◌∙◌, ap, subst, arith, inl, inr}
-use Rattle.std.specs.Prelude.{◌⊎◌, codes, cond, bytes_eq, nat_eq, ◌==◌}
+use Rattle.std.specs.Prelude.{◌⊎◌, codes, cond, bytes_eq, nat_eq, ◌==◌, option_to_list}
 use Rattle.std.specs.Option.{is_some, unwrap_or}
 use Rattle.std.specs.List.{flat_map, starts_with}
 use Rattle.std.proofs.lemmas.Bool.{cond-true, cond-false, ne_eqb, eqb-true, eq-eqb}
@@ -21,10 +21,6 @@ said job file awaits = record { job = job; file = file; awaits_file = awaits }
 
 abbrev some : Job → Option Job
 some job = Some job
-
-abbrev listed : {A : Type 0} → Option A → List A
-listed None = []
-listed (Some x) = x ∷ []
 
 -- ---- the words of modes
 
@@ -206,8 +202,8 @@ waiting false = []
 record Written (job : Option Job) (file : Option (List ℕ)) (words : List (List ℕ)) (last : Saying) : Type 0 where
   flags : List Flag
   written : words ≡ flat_map spelling flags ++ waiting last.awaits_file
-  jobs : listed job ++ flat_map jobs_in flags ≡ listed last.job
-  files : listed file ++ flat_map files_in flags ≡ listed last.file
+  jobs : option_to_list job ++ flat_map jobs_in flags ≡ option_to_list last.job
+  files : option_to_list file ++ flat_map files_in flags ≡ option_to_list last.file
   unnamed : last.awaits_file ≡ true → last.file ≡ None
 
 abbrev SaysAfter : Bool → Option Job → Option (List ℕ) → List (List ℕ) → Saying → Type 0
@@ -217,8 +213,8 @@ SaysAfter false job file words last = Written job file words last
 abbrev Reads : List (List ℕ) → Option Job → Option (List ℕ) → Bool → ℕ → Saying → Type 0
 Reads words job file awaits start last = read_options (said job file awaits) start words ≡ Ok last → SaysAfter awaits job file words last
 
-listed_alone : {A : Type 0} (o other : Option A) → o ≡ other → listed o ++ [] ≡ listed other
-listed_alone o other same = append-nil (listed o) ∙ ap listed same
+listed_alone : {A : Type 0} (o other : Option A) → o ≡ other → option_to_list o ++ [] ≡ option_to_list other
+listed_alone o other same = append-nil (option_to_list o) ∙ ap option_to_list same
 
 ended : (job : Option Job) (file : Option (List ℕ)) (awaits : Bool) (start : ℕ) (last : Saying) → Reads [] job file awaits start last
 ended job file true start last e = inl (refl, same_read (said job file true) last e)
@@ -249,7 +245,7 @@ lone_says words job last (inl ends) =
       flags = [];
       written = ap (λ (w : List (List ℕ)). codes "-C" ∷ w) ends.0 ∙ ap waiting awaits;
       jobs = listed_alone job last.job (ap (λ (s : Saying). s.job) ends.1);
-      files = ap (λ (s : Saying). listed s.file) ends.1;
+      files = ap (λ (s : Saying). option_to_list s.file) ends.1;
       unnamed = λ waits. ap (λ (s : Saying). s.file) (sym ends.1);
     }
 lone_says words job last (inr is) = record {
@@ -289,7 +285,7 @@ first_of None [] = None
 first_of None (x ∷ xs) = Some x
 
 abbrev Taken : List Flag → Option Job → Option (List ℕ) → ℕ → Type 0
-Taken flags job file start = length (listed job ++ flat_map jobs_in flags) ≤ 1 → length (listed file ++ flat_map files_in flags) ≤ 1
+Taken flags job file start = length (option_to_list job ++ flat_map jobs_in flags) ≤ 1 → length (option_to_list file ++ flat_map files_in flags) ≤ 1
     → read_options (said job file false) start (flat_map spelling flags) ≡ Ok (said (first_of job (flat_map jobs_in flags)) (first_of file (flat_map files_in flags)) false)
 
 first_none : {A : Type 0} (o : Option A) → o ≡ first_of o []
@@ -310,7 +306,7 @@ options_read flags words are = ap (read_options nothing 0) are.written ∙ taken
 
 -- ---- the words that begin options are those that are read
 
-at_most_one : {A : Type 0} (xs : List A) (o : Option A) → xs ≡ listed o → length xs ≤ 1
+at_most_one : {A : Type 0} (xs : List A) (o : Option A) → xs ≡ option_to_list o → length xs ≤ 1
 at_most_one xs None is = rw is (omega arith)
 at_most_one xs (Some x) is = rw is (omega arith)
 
@@ -330,7 +326,7 @@ ends_named words last is awaits = record {
       ∙ sym (flat_map-append spelling is.flags (Apart [] ∷ []));
   one_mode = at_most_one (flat_map jobs_in (is.flags ++ Apart [] ∷ [])) last.job (flat_map-append jobs_in is.flags (Apart [] ∷ []) ∙ append-nil (flat_map jobs_in is.flags) ∙ is.jobs);
   one_file = at_most_one (flat_map files_in (is.flags ++ Apart [] ∷ [])) (Some [])
-      (flat_map-append files_in is.flags (Apart [] ∷ []) ∙ ap (λ (f : List (List ℕ)). f ++ [] ∷ []) (is.files ∙ ap listed (is.unnamed awaits)));
+      (flat_map-append files_in is.flags (Apart [] ∷ []) ∙ ap (λ (f : List (List ℕ)). f ++ [] ∷ []) (is.files ∙ ap option_to_list (is.unnamed awaits)));
 }
 
 begins_by : (words : List (List ℕ)) (last : Saying) (is : Written None None words last) (awaits : Bool) → last.awaits_file ≡ awaits → BeginsOptions words
@@ -363,7 +359,7 @@ never_both mode place e = absurd (cc e)
 judged_read : (words : List (List ℕ)) (last : Result Saying ℕ) → read_options nothing 0 words ≡ last → command_line words ≡ judged (length words) last
 judged_read words last is = ap (judged (length words)) is
 
-named_files : (file : Option (List ℕ)) → IsFile (listed file) (unwrap_or file (codes "/etc/mail/sendmail.cf"))
+named_files : (file : Option (List ℕ)) → IsFile (option_to_list file) (unwrap_or file (codes "/etc/mail/sendmail.cf"))
 named_files None = inr (refl, refl)
 named_files (Some name) = inl refl
 
@@ -376,9 +372,9 @@ line_of words last is mode (Some job) file false j f a e =
     record {
       flags = is.flags;
       written = (ends_options words last is a).written;
-      job = is.jobs ∙ ap listed j ∙ ap (λ (m : Mode). m.job ∷ []) same;
+      job = is.jobs ∙ ap option_to_list j ∙ ap (λ (m : Mode). m.job ∷ []) same;
       file = subst (λ (m : Mode). IsFile (flat_map files_in is.flags) m.file) same
-          (subst (λ (names : List (List ℕ)). IsFile names (unwrap_or file (codes "/etc/mail/sendmail.cf"))) (sym (is.files ∙ ap listed f)) (named_files file));
+          (subst (λ (names : List (List ℕ)). IsFile names (unwrap_or file (codes "/etc/mail/sendmail.cf"))) (sym (is.files ∙ ap option_to_list f)) (named_files file));
     }
 
 line_read : (words : List (List ℕ)) (mode : Mode) (last : Result Saying ℕ) → read_options nothing 0 words ≡ last → judged (length words) last ≡ Ok mode → IsCommandLine words mode
@@ -430,7 +426,7 @@ lacks words place last r is job true j a e = inl (record {
   short = λ flags are. let never = sym a ∙ ap (λ (s : Saying). s.awaits_file) (same_read last _ (sym r ∙ options_read flags words are)) in absurd (cc never);
 })
 lacks words place last r is None false j a e =
-    inr (record { at = sym (same_denied (length words) place e); flags = is.flags; options = ends_options words last is a; none = is.jobs ∙ ap listed j })
+    inr (record { at = sym (same_denied (length words) place e); flags = is.flags; options = ends_options words last is a; none = is.jobs ∙ ap option_to_list j })
 lacks words place last r is (Some job) false j a e = absurd (never_both _ place e)
 
 refused_read : (words : List (List ℕ)) (place : ℕ) (last : Result Saying ℕ) → read_options nothing 0 words ≡ last → judged (length words) last ≡ Err place → IsRefusedAt words place

@@ -7,7 +7,7 @@ use Rattle.std.proofs.lemmas.List.Splits.{slice_split_at, slice_split_none, leng
 use Rattle.std.proofs.lemmas.List.Folds.{list_any-append, list_any_at, list_any_none}
 use Rattle.std.proofs.lemmas.List.{map-append, get_or-take, get_or_default, length-take}
 use Rattle.std.proofs.lemmas.Grind.{flat_map-append}
-use Rattle.std.proofs.lemmas.Bool.{false_from_ne_true, cond-true, cond-false, ne_eqb, eqb-true}
+use Rattle.std.proofs.lemmas.Bool.{false_from_ne_true, cond-true, cond-false, ne_eqb, eqb-true, or_from, or_left, or_parts, or_right}
 use Rattle.std.proofs.Math.Seq.{split_at}
 use Rattle.memchr.specs.Find.{IsFirstByte, is_byte}
 use Rattle.sendmail_run.specs.declared.input.Partial.{Partial}
@@ -38,27 +38,11 @@ yes_match : (b : Bool) (P Q : Type 0) → b ≡ true → P → MatchBool b P Q
 yes_match true P Q e h = h
 yes_match false P Q e h = absurd (cc e)
 
-or_false : (x y : Bool) → x ≡ false → y ≡ false → (x || y) ≡ false
-or_false true y p q = absurd (cc p)
-or_false false y p q = q
-
-or_left : (x y : Bool) → x ≡ true → (x || y) ≡ true
-or_left true y p = refl
-or_left false y p = absurd (cc p)
-
-or_right : (x y : Bool) → y ≡ true → (x || y) ≡ true
-or_right true y p = refl
-or_right false y p = p
-
-neither : (x y : Bool) → (x || y) ≡ false → (x ≡ false) × (y ≡ false)
-neither true y p = absurd (cc p)
-neither false y p = (refl, p)
-
 none_at : (p : ℕ → Bool) (xs : List ℕ) → list_any p xs ≡ false → All (λ x. p x ≡ false) xs
 none_at p xs h k d lt = false_from_ne_true (p (get_or xs k d)) (λ yes. let here = list_any_at p xs k d lt yes in cc)
 
 none_joined : {X : Type 0} (p : X → Bool) (xs ys : List X) → list_any p xs ≡ false → list_any p ys ≡ false → list_any p (xs ++ ys) ≡ false
-none_joined p xs ys h k = list_any-append p xs ys ∙ or_false (list_any p xs) (list_any p ys) h k
+none_joined p xs ys h k = list_any-append p xs ys ∙ or_from (list_any p xs) (list_any p ys) h k
 
 -- ---- physical lines
 
@@ -80,7 +64,7 @@ regroup raw raws more = append_assoc (raw ++ 10 ∷ []) (flat_map with_end raws)
 lines_cut : (raws : List (List ℕ)) (more : List ℕ) → list_any has_end raws ≡ false → physical_lines (flat_map with_end raws ++ more) ≡ lines_of raws ++ physical_lines more
 lines_cut [] more none = refl
 lines_cut (raw ∷ raws) more none =
-    let parts = neither (has_end raw) (list_any has_end raws) none in
+    let parts = or_parts (has_end raw) (list_any has_end raws) none in
     ap physical_lines (regroup raw raws more) ∙ lines_at raw (flat_map with_end raws ++ more) parts.0 ∙ ap (λ (ls : List (List ℕ)). strip_carriage_return raw ∷ ls) (lines_cut raws more parts.1)
 
 one_part : (text : List ℕ) → 0 < length text → lines_of_parts (text ∷ []) ≡ text ∷ []
@@ -124,7 +108,7 @@ cut_end : (taken : List ℕ) (raws : List (List ℕ)) (rest : List ℕ) → Cut 
 cut_end taken raws rest cut = record {
   whole = ap (λ (q : List ℕ). q ++ 10 ∷ []) cut.whole ∙ append_assoc (flat_map with_end raws) rest (10 ∷ [])
       ∙ sym (append-nil (flat_map with_end (raws ++ rest ∷ [])) ∙ flat_map-append with_end raws (rest ∷ []) ∙ ap (λ (q : List ℕ). flat_map with_end raws ++ q) (append-nil (rest ++ 10 ∷ [])));
-  each = none_joined has_end raws (rest ∷ []) cut.each (or_false (has_end rest) false cut.last refl);
+  each = none_joined has_end raws (rest ∷ []) cut.each (or_from (has_end rest) false cut.last refl);
   last = refl;
 }
 
@@ -159,7 +143,7 @@ pub printed_more : (maps : Loaded) (ls ms : List (List ℕ)) (config middle last
 printed_more maps [] ms config middle last t u is none h =
     subst (λ (c : Config). Printed maps c ms (t ++ u) last) is.1 (subst (λ (q : List ℕ). Printed maps middle ms (q ++ u) last) (sym is.0) h)
 printed_more maps (l ∷ ls) ms config middle last t u is none h =
-    let parts = neither (is_quit l) (list_any is_quit ls) none in
+    let parts = or_parts (is_quit l) (list_any is_quit ls) none in
     let first = match_no (is_quit l) _ _ parts.0 is in
     no_match (is_quit l) _ _ parts.0 (first.0, first.1 ++ u, first.2, first.3, printed_more maps ls ms first.2 middle last first.1 u first.4 parts.1 h, ap (λ (q : List ℕ). q ++ u) first.5 ∙ append_assoc first.0 first.1 u)
 
@@ -201,7 +185,7 @@ stands_line basis current after taken text out0 out1 said old new s answer more_
       cut = cut_end taken s.raws s.rest s.cut;
       printed = subst (λ (q : List ℕ). Printed basis.maps basis.config (lines_of (s.raws ++ s.rest ∷ [])) q after) whole
           (subst (λ (ls : List (List ℕ)). Printed basis.maps basis.config ls ((text ++ out0) ++ said) after) (sym more) printed);
-      on = ap (list_any is_quit) more ∙ none_joined is_quit (lines_of s.raws) (strip_carriage_return s.rest ∷ []) s.on (or_false (is_quit (strip_carriage_return s.rest)) false other refl);
+      on = ap (list_any is_quit) more ∙ none_joined is_quit (lines_of s.raws) (strip_carriage_return s.rest ∷ []) s.on (or_from (is_quit (strip_carriage_return s.rest)) false other refl);
       keeps = keeps;
     }
 

@@ -1,6 +1,5 @@
 -- How session mode goes on and ends.
 use Rattle.std.proofs.Common.{◌≡◌, ℕ, ◌+◌, ◌<◌, ◌≤◌, ◌^◌, List, [], ◌∷◌, Option, Some, None, Result, Ok, Err, true, refl, sym, ◌∙◌, ap, subst, arith, inl, inr}
-use Rattle.std.proofs.Math.Nat.{le_refl}
 use Rattle.std.specs.Prelude.{IfSome}
 use Rattle.mail_base.specs.Histories.{Gains, Rose}
 use Rattle.mail_edge.specs.Seen.{ClockSeen}
@@ -16,9 +15,10 @@ use Rattle.link_edge.specs.declared.turn.Turn.TheVariants.{Opened, Piece, Closed
 use Rattle.link_edge.proofs.Sessioning.{sound_push}
 use Rattle.link_edge.proofs.Sounding.{opened_is_sound}
 use Rattle.spool_disk.specs.Disk.{FileMap}
-use Rattle.spool_disk.specs.Spooled.{Spooled, Reads, Rests, Leads}
+use Rattle.spool_disk.specs.Spooled.{Spooled}
 use Rattle.spool_store.specs.Entries.{Table}
 use Rattle.spool_store.specs.Stores.{Holds, StoreSeen}
+use Rattle.spool_store.proofs.OpenLemmas.{reads_none}
 use Rattle.mail_core.specs.declared.serving.Core.{Core}
 use Rattle.mail_core.specs.declared.serving.Act.{Act}
 use Rattle.mail_core.specs.declared.serving.Act.TheVariants.{Ended, Went}
@@ -43,13 +43,6 @@ use Rattle.sendmail_run.specs.Serving.{IsBegun, IsLeftAlone, IsOverQueue, IsRun,
 use Rattle.mail_core.proofs.RunLemmas.{cut_off, ended_by, under_way_begin, under_way_floor, under_way_more}
 
 -- ---- what is read or left alone
-
-same_leads : (a : Option FileMap) → Leads a a Rests Rests (Unit {0})
-same_leads None = tt
-same_leads (Some f) = (refl, λ w. refl)
-
-reads_none : (a : Spooled) → Reads a a
-reads_none a = record { later = le_refl a.moment; now = same_leads a.told; images = λ f e t x le left. inl left; kept = λ t x left. left }
 
 -- what no call changed is left alone
 pub left_alone : (a : Seen) → IsLeftAlone a a

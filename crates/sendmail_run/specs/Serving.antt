@@ -1,9 +1,9 @@
 -- How session mode ends, and what was served by then (Sendmail Installation and Operation Guide,
 -- "Command Line Flags": -bs; the replies are those of RFC 5321; the ends are own).
 use Rattle.std.specs.Prelude.{◌≡◌, ℕ, ◌+◌, ◌^◌, ◌≤◌, List, [], length, take, None, Some, IfSome, Result, Ok, Err, codes, true}
+use Rattle.std.specs.Result.{result_unwrap_or}
 use Rattle.mail_base.specs.declared.config.Config.{Config}
 use Rattle.mail_base.specs.Histories.{Rose}
-use Rattle.cf_macros.specs.declared.fault.ExpandFault.{ExpandFault}
 use Rattle.cf_macros.specs.Expansion.{value}
 use Rattle.link_edge.specs.Begins.{begun_after}
 use Rattle.link_edge.specs.declared.place.Place.TheVariants.{Standard}
@@ -25,14 +25,10 @@ use Rattle.mail_core.specs.Messages.{dirs_of}
 use Rattle.sendmail_run.specs.declared.session_mode.SessionEnd.{SessionEnd}
 use Rattle.sendmail_run.specs.declared.session_mode.SessionEnd.TheVariants as ends
 
--- what is shown of a text: nothing where it can't be expanded
-abbrev pub shown : Result (List ℕ) ExpandFault → List ℕ
-shown (Ok text) = text
-shown (Err fault) = []
-
--- the host that replies name: the value of `$j`, of which at most 255 bytes are named
+-- the host that replies name: the value of `$j`, of which at most 255 bytes are named, and nothing
+-- where it can't be expanded
 abbrev pub host_of : List (List ℕ × List ℕ) → List ℕ
-host_of macros = take 255 (shown (value (codes "$j") macros))
+host_of macros = take 255 (result_unwrap_or (value (codes "$j") macros) [])
 
 -- what sessions are served with under a configuration
 abbrev pub session_site : Config → Site

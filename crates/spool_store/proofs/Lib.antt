@@ -1,5 +1,5 @@
 pub mod MovesLemmas
-mod OpenLemmas
+pub mod OpenLemmas
 pub mod Adding
 pub mod Carrying
 mod Committing
