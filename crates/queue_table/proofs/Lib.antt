@@ -10,3 +10,4 @@ mod CommandLemmas
 mod ResultLemmas
 mod RecordLemmas
 mod ClaimLemmas
+pub mod DirLemmas

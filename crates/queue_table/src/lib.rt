@@ -3,6 +3,7 @@
 #![tactic(auto)]
 
 mod accepting;
+mod dirs;
 mod drafts;
 mod factors;
 mod law;

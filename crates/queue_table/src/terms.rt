@@ -40,7 +40,7 @@ impl Terms {
     }
 
     // The directory of mqueue.
-    fn main_dir(&self) -> Result<Text, NoMemory>
+    pub(crate) fn main_dir(&self) -> Result<Text, NoMemory>
         ensures { IfOk result (λ dir. dir ≡ main_dir self.now) }
     {
         let name = Text::of(self.groups.allocator(), b"mqueue")?;
