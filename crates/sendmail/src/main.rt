@@ -53,9 +53,9 @@ const HELP: &[u8] = b"usage: sendmail -bt|-bs [-C file]
 In address test mode a line of input is the name of a ruleset, or more of them
 with commas, and an address, or a command; the line /quit ends.
 
-The messages of -bs are put into the directory that QueueDirectory names in the
-configuration, by default /var/spool/mqueue. It must be there; mail that is in
-it stays, and ids go on behind the greatest.
+The messages of -bs are put into the directory of the queue group mqueue, which
+is that of QueueDirectory, by default /var/spool/mqueue. Those of all groups
+must be there; mail that is in them stays, and ids go on behind the greatest.
 
 The exit status is 0 when the work is done. Each other end has a line on
 standard error:

@@ -4,6 +4,7 @@ use Rattle.std.proofs.Math.Nat.{le_refl}
 use Rattle.std.specs.Prelude.{IfOk, IfSome, IsErrOf, ◌⊎◌}
 use Rattle.std.specs.List.{AllZip}
 use Rattle.mail_base.specs.Histories.{Rose}
+use Rattle.mail_base.specs.declared.config.Config.{Config}
 use Rattle.mail_base.specs.declared.fault.NoMemory.{NoMemory}
 use Rattle.mail_base.specs.declared.fault.StoreFault.{StoreFault}
 use Rattle.mail_base.specs.declared.fault.StoreFault.TheVariants as faults
@@ -21,13 +22,17 @@ use Rattle.spool_store.specs.Tidying.{IsTidied, IsTidiedAt, IsTidiedBody}
 use Rattle.spool_store.specs.declared.held.Held.{Held}
 use Rattle.spool_store.specs.declared.queue.Queue.{Queue}
 use Rattle.spool_store.proofs.MovesLemmas.{moves_none}
+use Rattle.queue_table.specs.Calls.{Tallies}
+use Rattle.queue_table.specs.Directories.{all_dirs, terms_of}
+use Rattle.queue_table.specs.declared.table.Table.{Table as Kept}
+use Rattle.queue_table.specs.declared.terms.Terms.{Terms}
+use Rattle.queue_table.proofs.DirLemmas.{each_is_there}
 use Rattle.mail_core.specs.declared.serving.Core.{Core}
-use Rattle.mail_core.specs.declared.serving.Site.{Site}
+use Rattle.mail_core.specs.Sites.{Site}
 use Rattle.mail_core.specs.Machine.{beginning}
-use Rattle.mail_core.specs.Messages.{dirs_of}
-use Rattle.mail_core.specs.Commands.{start}
+use Rattle.mail_core.specs.Messages.{start}
 use Rattle.mail_core.specs.Seen.{IsSparing, seen}
-use Rattle.mail_core.specs.Standing.{Stands, Stores}
+use Rattle.mail_core.specs.Standing.{IsTallied, Stands, Stores}
 use Rattle.mail_core.proofs.SparingLemmas.{LeavesStrange, sparing_opening}
 use Rattle.sendmail_run.specs.declared.outcome.Outcome.TheVariants as outcomes
 use Rattle.sendmail_run.specs.declared.session_mode.SessionEnd.{SessionEnd}
@@ -35,7 +40,7 @@ use Rattle.sendmail_run.specs.declared.session_mode.SessionEnd.TheVariants as en
 use Rattle.sendmail_run.specs.inner.Opened.{IsFound}
 use Rattle.sendmail_run.specs.Outcomes.{of_session}
 use Rattle.sendmail_run.specs.Rises.{RisesOnlyAt}
-use Rattle.sendmail_run.specs.Serving.{IsTakenOver, IsUnserved, Serves, from_id}
+use Rattle.sendmail_run.specs.Serving.{IsTakenOver, IsUnserved, Serves, from_id, host_of, session_site}
 
 -- ---- what an opening leaves
 
@@ -55,15 +60,15 @@ taken_none dirs s = record {
 }
 
 -- what an opening of these directories leaves, which are those of the site
-pub taken_of : (site : Site) (s t : Spooled) (dirs : List (List ℕ)) → dirs ≡ dirs_of site
+pub taken_of : (site : Site) (s t : Spooled) (dirs : List (List ℕ)) → dirs ≡ site.dirs
     → ((table : Table) → Moves s t (StandsFor dirs table) (StandsFor dirs table) (StandsFor dirs table))
-    → ((f : FileMap) → s.told ≡ Some f → Moves s t (λ g. g ≡ f) (IsTidied dirs f) (IsTidied dirs f)) → IsTakenOver (dirs_of site) s t
+    → ((f : FileMap) → s.told ≡ Some f → Moves s t (λ g. g ≡ f) (IsTidied dirs f) (IsTidied dirs f)) → IsTakenOver site.dirs s t
 taken_of site s t dirs same stands tidied = subst (λ (d : List (List ℕ)). IsTakenOver d s t) same (record { stands = stands; tidied = tidied })
 
 -- what it leaves alone stays, and is left alone still
-pub sparing_of : (site : Site) (s t : Spooled) (dirs : List (List ℕ)) (store : StoreSeen) → store.dirs ≡ dirs → dirs ≡ dirs_of site → LeavesStrange
+pub sparing_of : (site : Site) (s t : Spooled) (dirs : List (List ℕ)) (store : StoreSeen) → store.dirs ≡ dirs → dirs ≡ site.dirs → LeavesStrange
     → ((table : Table) → Moves s t (StandsFor dirs table) (StandsFor dirs table) (StandsFor dirs table))
-    → ((f : FileMap) → s.told ≡ Some f → Moves s t (λ g. g ≡ f) (IsTidied dirs f) (IsTidied dirs f)) → ((f : FileMap) → s.told ≡ Some f → IsReading dirs f store) → IfSome t.told (Agrees store) → IsSparing (dirs_of site) s t true
+    → ((f : FileMap) → s.told ≡ Some f → Moves s t (λ g. g ≡ f) (IsTidied dirs f) (IsTidied dirs f)) → ((f : FileMap) → s.told ≡ Some f → IsReading dirs f store) → IfSome t.told (Agrees store) → IsSparing site.dirs s t true
 sparing_of site s t dirs store own same law stands tidied read agrees = subst (λ (d : List (List ℕ)). IsSparing d s t true) (own ∙ same)
     (sparing_opening store s t (StandsFor dirs start) (StandsFor dirs start) (StandsFor dirs start) law (stands start)
     (λ f told. subst (λ (d : List (List ℕ)). AreStrays d f store.strange) (sym own) (read f told).strange) agrees
@@ -72,16 +77,16 @@ sparing_of site s t dirs store own same law stands tidied read agrees = subst (�
 -- ---- where the queue isn't opened
 
 -- nothing is served
-pub unserved : (site : Site) (s t : Spooled) (floor : Heard) (clock : ClockSeen) → IsTakenOver (dirs_of site) s t → s.faults ≤ t.faults → IsUnserved site (seen floor s clock) (seen floor t clock)
+pub unserved : (site : Site) (s t : Spooled) (floor : Heard) (clock : ClockSeen) → IsTakenOver site.dirs s t → s.faults ≤ t.faults → IsUnserved site (seen floor s clock) (seen floor t clock)
 unserved site s t floor clock taken later = record { floor = refl; clock = refl; spool = taken; spool_faults = later }
 
 -- nothing is served where no call was made
 pub untouched : (site : Site) (s : Spooled) (floor : Heard) (clock : ClockSeen) → IsUnserved site (seen floor s clock) (seen floor s clock)
-untouched site s floor clock = unserved site s s floor clock (taken_none (dirs_of site) s) (le_refl s.faults)
+untouched site s floor clock = unserved site s s floor clock (taken_none site.dirs s) (le_refl s.faults)
 
 -- a fault of the opening ends session mode so
 pub serves_unopened : (site : Site) (s t : Spooled) (floor : Heard) (clock : ClockSeen) (fault : StoreFault) (end : SessionEnd) → (fault ≡ faults.SpoolFault → end ≡ ends.NotOpened) → (fault ≢ faults.SpoolFault → end ≡ ends.NoMemory)
-    → IsTakenOver (dirs_of site) s t → s.faults ≤ t.faults → (IsErrOf {T = Queue} (Err fault) faults.SpoolFault → Rose s.faults t.faults) → Serves site (seen floor s clock) (seen floor t clock) end
+    → IsTakenOver site.dirs s t → s.faults ≤ t.faults → (IsErrOf {T = Queue} (Err fault) faults.SpoolFault → Rose s.faults t.faults) → Serves site (seen floor s clock) (seen floor t clock) end
 serves_unopened site s t floor clock faults.SpoolFault end broke memory taken later rose =
     subst (Serves site (seen floor s clock) (seen floor t clock)) (sym (broke refl)) (unserved site s t floor clock taken later, rose refl)
 serves_unopened site s t floor clock faults.IdsSpent end broke memory taken later rose =
@@ -123,14 +128,27 @@ found_at dirs (Some f) store read table holds =
     }
 
 -- the same of the site's directories
-pub found_of : (site : Site) (dirs : List (List ℕ)) (told : Option FileMap) (store : StoreSeen) → dirs ≡ dirs_of site → ((f : FileMap) → told ≡ Some f → IsReading dirs f store) → ((f : FileMap) → told ≡ Some f → (table : Table) × StandsFor dirs table f × Holds store table)
-    → ((table : Table) (f : FileMap) → told ≡ Some f → StandsFor dirs table f → Holds store (from_id store.next table)) → IsFound (dirs_of site) told store
+pub found_of : (site : Site) (dirs : List (List ℕ)) (told : Option FileMap) (store : StoreSeen) → dirs ≡ site.dirs → ((f : FileMap) → told ≡ Some f → IsReading dirs f store) → ((f : FileMap) → told ≡ Some f → (table : Table) × StandsFor dirs table f × Holds store table)
+    → ((table : Table) (f : FileMap) → told ≡ Some f → StandsFor dirs table f → Holds store (from_id store.next table)) → IsFound site.dirs told store
 found_of site dirs told store same read table holds = subst (λ (d : List (List ℕ)). IsFound d told store) same (found_at dirs told store read table holds)
 
--- a core over a store, which is one over a copy of the site
-pub stands_over : (site own : Site) (queue : Queue) (r : Result Core NoMemory) → own ≡ site → (queue_seen queue).broken ≡ false → (queue_seen queue).dirs ≡ dirs_of site → IfOk r (λ core. (table : Table) → Stores own queue table → Stands own core (beginning table))
-    → IfOk r (λ core. (table : Table) → Holds (queue_seen queue) table → Stands site core (beginning table))
-stands_over site own queue (Ok core) is whole dirs made = λ table holds.
-    let stores : Stores site queue table = record { holds = holds; whole = whole; dirs = dirs } in
-    subst (λ (s : Site). Stands s core (beginning table)) is (made table (subst (λ (s : Site). Stores s queue table) (sym is) stores))
-stands_over site own queue (Err e) is whole dirs made = tt
+-- a core over the table of a store that was opened
+pub stands_over : (config : Config) (queue : Queue) (kept : Kept) (host : List ℕ) (r : Result Core NoMemory) → host ≡ host_of config.macros → kept ≡ record { queue = queue; terms = terms_of config } → (queue_seen queue).broken ≡ false → (queue_seen queue).dirs ≡ all_dirs (terms_of config)
+    → IfOk r (λ core. (site : Site) (table : Table) → site.host ≡ host → Stores site kept table → Stands site core (beginning table))
+    → IfOk r (λ core. (table : Table) → Holds (queue_seen queue) table → Stands (session_site config) core (beginning table))
+stands_over config queue kept host (Ok core) named is whole dirs made = λ table holds.
+    let stores : Stores (session_site config) (record { queue = queue; terms = terms_of config }) table = record {
+      holds = holds;
+      whole = whole;
+      dirs = dirs;
+      terms = refl;
+      groups = each_is_there (terms_of config) (all_dirs (terms_of config)) refl;
+    } in
+    made (session_site config) table (sym named) (subst (λ (k : Kept). Stores (session_site config) k table) (sym is) stores)
+stands_over config queue kept host (Err e) named is whole dirs made = tt
+
+-- and it has what the files say
+pub tallied_over : (queue : Queue) (kept : Kept) (terms : Terms) (r : Result Core NoMemory) → kept ≡ record { queue = queue; terms = terms } → IfOk r (λ core. (told : Option FileMap) → Tallies kept told → IsTallied core told)
+    → IfOk r (λ core. (told : Option FileMap) → IfSome told (Agrees (queue_seen queue)) → IsTallied core told)
+tallied_over queue kept terms (Ok core) is made = λ told agrees. made told (subst (λ (k : Kept). Tallies k told) (sym is) (λ whole. agrees))
+tallied_over queue kept terms (Err e) is made = tt

@@ -24,7 +24,7 @@ use Rattle.mail_core.specs.declared.serving.Act.{Act}
 use Rattle.mail_core.specs.declared.serving.Act.TheVariants.{Ended, Went}
 use Rattle.mail_core.specs.declared.serving.CoreStop.{CoreStop}
 use Rattle.mail_core.specs.declared.serving.CoreStop.TheVariants as stops
-use Rattle.mail_core.specs.declared.serving.Site.{Site}
+use Rattle.mail_core.specs.Sites.{Site}
 use Rattle.mail_core.specs.Causes.{is_well}
 use Rattle.mail_core.specs.Events.{IsTaken, IsHeardAt, Turns, event_of}
 use Rattle.mail_core.specs.Machine.{State}
@@ -32,7 +32,6 @@ use Rattle.mail_core.specs.Runs.{IsEnded, run_over}
 use Rattle.mail_core.specs.inner.UnderWay.{IsUnderWay}
 use Rattle.mail_core.specs.Seen.{IsSparing, Seen, seen}
 use Rattle.mail_core.specs.Standing.{IsStanding, IsTallied, Stands}
-use Rattle.mail_core.specs.Messages.{dirs_of}
 use Rattle.sendmail_run.specs.declared.session_mode.SessionEnd.{SessionEnd}
 use Rattle.sendmail_run.specs.declared.session_mode.SessionEnd.TheVariants as ends
 use Rattle.sendmail_run.specs.declared.outcome.Outcome.TheVariants as outcomes
@@ -82,7 +81,7 @@ taken f g k l Stop buf reading told follows later read counted = record { told =
 -- ---- turns over each table
 
 -- a core over the queue that was opened has begun
-pub going_begin : (site : Site) (core : Core) (f g : Heard) (s t : Spooled) (c : ClockSeen) → IsTakenOver (dirs_of site) s t → IsSparing (dirs_of site) s t true → g.told ≡ f.told → f.faults ≤ g.faults → s.faults ≤ t.faults → IsOpened site s.told core → IsTallied core t.told
+pub going_begin : (site : Site) (core : Core) (f g : Heard) (s t : Spooled) (c : ClockSeen) → IsTakenOver site.dirs s t → IsSparing site.dirs s t true → g.told ≡ f.told → f.faults ≤ g.faults → s.faults ≤ t.faults → IsOpened site s.told core → IsTallied core t.told
     → IsGoing site core 0 (seen f s c) (seen g t c)
 going_begin site core f g s t c taken sparing same floor_faults spool_faults opened tallied = record {
   store = opened.store;
@@ -130,7 +129,7 @@ abbrev pub OnlyNow : Seen → Type 0
 OnlyNow a = (c : FileMap) → a.spool.left_since a.spool.moment c → a.spool.told ≡ Some c
 
 -- what holds over each table that the store held
-over : (site : Site) (a : Seen) (store : StoreSeen) (Run : Table → Type 0) → IsFound (dirs_of site) a.spool.told store → ((table : Table) → Holds store table → Run table) → IsOverQueue site a Run
+over : (site : Site) (a : Seen) (store : StoreSeen) (Run : Table → Type 0) → IsFound site.dirs a.spool.told store → ((table : Table) → Holds store table → Run table) → IsOverQueue site a Run
 over site a store Run found runs = record {
   next = store.next;
   first = found.first;

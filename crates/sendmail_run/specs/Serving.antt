@@ -14,14 +14,14 @@ use Rattle.spool_store.specs.Moves.{Moves}
 use Rattle.spool_store.specs.Openings.{IsNext}
 use Rattle.spool_store.specs.Settled.{StandsFor}
 use Rattle.spool_store.specs.Tidying.{IsTidied}
-use Rattle.mail_core.specs.declared.serving.Site.{Site}
+use Rattle.mail_core.specs.Sites.{Site}
 use Rattle.mail_core.specs.declared.serving.Act.{Act}
 use Rattle.mail_core.specs.declared.serving.Act.TheVariants.{Ended}
 use Rattle.mail_core.specs.declared.serving.CoreStop.{CoreStop}
 use Rattle.mail_core.specs.Machine.{Turn}
 use Rattle.mail_core.specs.Runs.{Headline, IsEnded, run_over}
 use Rattle.mail_core.specs.Seen.{Seen}
-use Rattle.mail_core.specs.Messages.{dirs_of}
+use Rattle.queue_table.specs.Directories.{all_dirs, terms_of}
 use Rattle.sendmail_run.specs.declared.session_mode.SessionEnd.{SessionEnd}
 use Rattle.sendmail_run.specs.declared.session_mode.SessionEnd.TheVariants as ends
 
@@ -32,7 +32,12 @@ host_of macros = take 255 (result_unwrap_or (value (codes "$j") macros) [])
 
 -- what sessions are served with under a configuration
 abbrev pub session_site : Config → Site
-session_site config = record { host = host_of config.macros; dir = config.options.queue_directory }
+session_site config =
+    record {
+      host = host_of config.macros;
+      dirs = all_dirs (terms_of config);
+      config = config;
+    }
 
 -- the floor, the spool and the clock are as before
 pub record IsLeftAlone (a b : Seen) : Type 0 where
@@ -54,7 +59,7 @@ pub record IsTakenOver (dirs : List (List ℕ)) (old new : Spooled) : Type 0 whe
 pub record IsUnserved (site : Site) (a b : Seen) : Type 0 where
   pub floor : b.floor ≡ a.floor
   pub clock : b.clock ≡ a.clock
-  pub spool : IsTakenOver (dirs_of site) a.spool b.spool
+  pub spool : IsTakenOver site.dirs a.spool b.spool
   pub spool_faults : a.spool.faults ≤ b.spool.faults
 
 -- a table with another first free id
@@ -66,12 +71,12 @@ from_id next table = record { entries = table.entries; next = next }
 -- every table which they stand for, each with that first free id
 pub record IsOverQueue (site : Site) (a : Seen) (Run : Table → Type 0) : Type 0 where
   pub next : ℕ
-  pub first : IfSome a.spool.told (λ f. IsNext (dirs_of site) f next)
+  pub first : IfSome a.spool.told (λ f. IsNext site.dirs f next)
   pub some : Table
-  pub stands : IfSome a.spool.told (StandsFor (dirs_of site) some)
+  pub stands : IfSome a.spool.told (StandsFor site.dirs some)
   pub run : Run (from_id next some)
   pub each : (f : FileMap) (table : Table) → a.spool.told ≡ Some f
-      → StandsFor (dirs_of site) table f → Run (from_id next table)
+      → StandsFor site.dirs table f → Run (from_id next table)
 
 -- the floor was begun in the run: at its standard place, for one session
 abbrev pub IsBegun : Seen → Seen → Type 0

@@ -1,15 +1,15 @@
-ghost use Rattle.std.specs.Prelude.{◌≡◌, ◌≢◌, ◌≤◌, ◌^◌, Option, true, false, IfOk, IfErr, OnOk, length};
+ghost use Rattle.std.specs.Prelude.{◌≡◌, ◌≢◌, ◌≤◌, ◌^◌, Option, true, false, IfOk, IfErr, IfSome, OnOk, length};
 ghost use Rattle.mail_base.specs.declared.fault.StoreFault.TheVariants.{IdsSpent as Spent, SpoolFault as Broke};
 ghost use Rattle.mail_edge.specs.Seen.{ClockSeen};
 ghost use Rattle.link_edge.specs.Heard.{Heard};
 ghost use Rattle.spool_disk.specs.Disk.{FileMap};
-ghost use Rattle.spool_store.specs.Entries.{Table};
+ghost use Rattle.spool_store.specs.Entries.{Table as Entries};
 ghost use Rattle.spool_store.specs.Keepers.{seen as queue_seen};
-ghost use Rattle.spool_store.specs.Stores.{Holds};
+ghost use Rattle.spool_store.specs.Stores.{Agrees, Holds};
+ghost use Rattle.queue_table.specs.Directories.{all_dirs, terms_of};
 ghost use Rattle.mail_core.specs.Machine.{beginning};
-ghost use Rattle.mail_core.specs.Messages.{dirs_of};
 ghost use Rattle.mail_core.specs.Seen.{IsSparing, seen};
-ghost use Rattle.mail_core.specs.Standing.{IsTallied, Stands, Tallies};
+ghost use Rattle.mail_core.specs.Standing.{IsTallied, Stands};
 ghost use Rattle.sendmail_run.specs.Outcomes.{of_session};
 ghost use Rattle.sendmail_run.specs.Rises.{RisesOnlyAt};
 ghost use Rattle.sendmail_run.specs.Serving.{IsTakenOver, Serves, session_site};
@@ -18,11 +18,12 @@ ghost use Rattle.sendmail_run.specs.declared.outcome.Outcome.TheVariants.{FloorF
 ghost use Rattle.sendmail_run.specs.declared.session_mode.SessionEnd.TheVariants as ends;
 
 use crate::buffer::zeros;
-use crate::site::session_site;
+use crate::site::{host_of, queue_dirs};
 use link_edge::{Floor, Place};
-use mail_base::{Config, MOST_PIECE, NoMemory, Seq, StoreFault, Text, TryCopy};
-use mail_core::{Act, Core, CoreStop, Site};
+use mail_base::{Config, MOST_PIECE, NoMemory, StoreFault};
+use mail_core::{Act, Core, CoreStop};
 use mail_edge::Clock;
+use queue_table::Table;
 use spool_disk::Spool;
 use spool_store::{Queue, opening_settles};
 use std::alloc::Global;
@@ -49,12 +50,12 @@ pub enum SessionEnd {
 }
 
 /// Serves one session at the standard place of the floor, and takes its messages into the queue. It
-/// ends when the floor tells `Stop`. The configuration says the directory of the queue, and by `$j`
-/// the host that replies name.
+/// ends when the floor tells `Stop`. The configuration says the directories of the queue, and by
+/// `$j` the host that replies name.
 ///
 /// The steps are taken in this order, and the first refusal ends the run: the queue is opened,
-/// whatever its directory holds, the floor begins, and then for each turn of the floor the clock is
-/// read once and the turn is served.
+/// whatever its directories hold, the floor begins, and then for each turn of the floor the clock
+/// is read once and the turn is served.
 pub fn session_mode<D: Spool, L: Floor, C: Clock>(
     alloc: Global,
     config: &Config,
@@ -71,20 +72,17 @@ pub fn session_mode<D: Spool, L: Floor, C: Clock>(
         (seen (L.seen floor.old) (D.seen spool.old) (C.seen clock.old))
         (seen (L.seen floor.new) (D.seen spool.new) (C.seen clock.new)) result }
 {
-    let Ok(site) = session_site(alloc, config) else {
-        return SessionEnd::NoMemory;
-    };
     let Ok(mut buffer) = zeros(alloc, MOST_PIECE) else {
         return SessionEnd::NoMemory;
     };
-    serve(alloc, &site, spool, floor, clock, &mut buffer)
+    serve(alloc, config, spool, floor, clock, &mut buffer)
 }
 
 // Opens the queue, begins the floor and serves its turns, taking as many bytes at once as the
 // buffer holds.
 fn serve<D: Spool, L: Floor, C: Clock>(
     alloc: Global,
-    site: &Site,
+    config: &Config,
     spool: &mut D,
     floor: &mut L,
     clock: &mut C,
@@ -96,10 +94,11 @@ fn serve<D: Spool, L: Floor, C: Clock>(
         (L.seen floor.new).faults }
     ensures rises_spool { RisesOnlyAt SpoolFault (of_session result) (D.seen spool.old).faults
         (D.seen spool.new).faults }
-    ensures serves { Serves site.now (seen (L.seen floor.old) (D.seen spool.old) (C.seen clock.old))
+    ensures serves { Serves (session_site config.now)
+        (seen (L.seen floor.old) (D.seen spool.old) (C.seen clock.old))
         (seen (L.seen floor.new) (D.seen spool.new) (C.seen clock.new)) result }
 {
-    let mut core = match opened(alloc, site, spool) {
+    let mut core = match opened(alloc, config, spool) {
         Ok(core) => core,
         Err(end) => return end,
     };
@@ -121,21 +120,23 @@ fn serve<D: Spool, L: Floor, C: Clock>(
 }
 
 // Opens the queue, and makes a core over it.
-fn opened<D: Spool>(alloc: Global, site: &Site, spool: &mut D) -> Result<Core, SessionEnd>
-    ensures taken { IsTakenOver (dirs_of site.now) (D.seen spool.old) (D.seen spool.new) }
+fn opened<D: Spool>(alloc: Global, config: &Config, spool: &mut D) -> Result<Core, SessionEnd>
+    ensures taken { IsTakenOver (session_site config.now).dirs (D.seen spool.old)
+        (D.seen spool.new) }
     ensures later { (D.seen spool.old).faults ≤ (D.seen spool.new).faults }
-    ensures core { IfOk result (IsOpened site.now (D.seen spool.old).told) }
+    ensures core { IfOk result (IsOpened (session_site config.now) (D.seen spool.old).told) }
     ensures tallied { IfOk result (λ core. IsTallied core (D.seen spool.new).told) }
     ensures sparing { IfOk result
-        (λ _. IsSparing (dirs_of site.now) (D.seen spool.old) (D.seen spool.new) true) }
-    ensures serves { IfErr result (λ end. (floor : Heard) (clock : ClockSeen) → Serves site.now
+        (λ _. IsSparing (session_site config.now).dirs (D.seen spool.old) (D.seen spool.new) true) }
+    ensures serves { IfErr result
+        (λ end. (floor : Heard) (clock : ClockSeen) → Serves (session_site config.now)
         (seen floor (D.seen spool.old) clock) (seen floor (D.seen spool.new) clock) end) }
     ensures kept { OnOk result ((D.seen spool.new).faults ≡ (D.seen spool.old).faults) }
     ensures rises { IfErr result
         (λ end. RisesOnlyAt SpoolFault (of_session end) (D.seen spool.old).faults
         (D.seen spool.new).faults) }
 {
-    let Ok(dirs) = queue_dirs(alloc, site) else {
+    let Ok(dirs) = queue_dirs(config) else {
         return Err(SessionEnd::NoMemory);
     };
     let queue = match Queue::open(alloc, spool, &dirs) {
@@ -143,7 +144,7 @@ fn opened<D: Spool>(alloc: Global, site: &Site, spool: &mut D) -> Result<Core, S
         Err(fault) => return Err(not_opened(fault)),
     };
     opening_settles();
-    match core_over(alloc, site, queue) {
+    match core_over(alloc, config, queue) {
         Ok(core) => Ok(core),
         Err(NoMemory) => Err(SessionEnd::NoMemory),
     }
@@ -162,22 +163,17 @@ fn not_opened(fault: StoreFault) -> SessionEnd
     }
 }
 
-fn queue_dirs(alloc: Global, site: &Site) -> Result<Seq<Text>, NoMemory>
-    ensures { IfOk result (λ dirs. dirs ≡ dirs_of site.now) }
-{
-    let mut dirs = Seq::new(alloc);
-    dirs.push(site.dir.copy()?)?;
-    Ok(dirs)
-}
-
-fn core_over(alloc: Global, site: &Site, queue: Queue) -> Result<Core, NoMemory>
+// A core over the store of the queue.
+fn core_over(alloc: Global, config: &Config, queue: Queue) -> Result<Core, NoMemory>
     requires whole { (queue_seen queue).broken ≡ false }
-    requires dirs { (queue_seen queue).dirs ≡ dirs_of site.now }
-    ensures stands { IfOk result (λ core. (table : Table) → Holds (queue_seen queue) table
-        → Stands site.now core (beginning table)) }
-    ensures tallied { IfOk result (λ core. (told : Option FileMap) → Tallies queue told
+    requires dirs { (queue_seen queue).dirs ≡ all_dirs (terms_of config.now) }
+    ensures stands { IfOk result (λ core. (entries : Entries) → Holds (queue_seen queue) entries
+        → Stands (session_site config.now) core (beginning entries)) }
+    ensures tallied { IfOk result
+        (λ core. (told : Option FileMap) → IfSome told (Agrees (queue_seen queue))
         → IsTallied core told) }
 {
-    let own = site.copy()?;
-    Core::new(alloc, own, queue)
+    let host = host_of(alloc, &config.macros)?;
+    let table = Table::over(queue, config)?;
+    Core::new(alloc, host, table)
 }

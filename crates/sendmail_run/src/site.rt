@@ -1,26 +1,18 @@
 ghost use Rattle.std.specs.Prelude.{◌≡◌, take, IfOk};
+ghost use Rattle.queue_table.specs.Calls.{AreDirs};
+ghost use Rattle.queue_table.specs.Directories.{all_dirs, terms_of};
 ghost use Rattle.sendmail_run.specs.Serving as spec;
 
 use cf_macros::{ExpandFault, expand};
-use mail_base::{Config, Macros, NoMemory, Text, TryCopy};
-use mail_core::Site;
+use mail_base::{Config, Macros, NoMemory, Seq, Text};
+use queue_table::Terms;
 use std::alloc::Global;
 
 /// The most bytes of a host that replies name.
 const MOST_HOST: usize = 255;
 
-/// What sessions are served with under a configuration: the host that replies name is the value of
-/// `$j`, or the empty text where that can't be expanded.
-pub fn session_site(alloc: Global, config: &Config) -> Result<Site, NoMemory>
-    ensures { IfOk result (λ site. site ≡ spec.session_site config.now) }
-{
-    Ok(Site {
-        host: host_of(alloc, &config.macros)?,
-        dir: config.options.queue_directory.copy()?,
-    })
-}
-
-fn host_of(alloc: Global, macros: &Macros) -> Result<Text, NoMemory>
+/// The host that replies name: the value of `$j`, or the empty text where that can't be expanded.
+pub fn host_of(alloc: Global, macros: &Macros) -> Result<Text, NoMemory>
     ensures { IfOk result (λ host. host ≡ spec.host_of macros.now) }
 {
     let name = Text::of(alloc, b"$j")?;
@@ -39,4 +31,12 @@ fn shortened(host: &[u8]) -> &[u8]
     } else {
         &host[..MOST_HOST]
     }
+}
+
+/// The directories of the queue, among which is that of each group.
+pub fn queue_dirs(config: &Config) -> Result<Seq<Text>, NoMemory>
+    ensures is { IfOk result (λ dirs. dirs ≡ all_dirs (terms_of config.now)) }
+    ensures each { IfOk result (AreDirs (terms_of config.now)) }
+{
+    Terms::of(config)?.dirs()
 }

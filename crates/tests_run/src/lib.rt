@@ -7,6 +7,8 @@ mod devices;
 #[cfg(test)]
 mod faults;
 #[cfg(test)]
+mod groups;
+#[cfg(test)]
 mod lines;
 #[cfg(test)]
 mod maps;

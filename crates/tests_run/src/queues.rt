@@ -171,8 +171,8 @@ fn spool_of(alloc: Global, files: &[Held]) -> Result<MemSpool, NoMemory> {
     MemSpool::of(alloc, held, Seq::new(alloc))
 }
 
-// The name of a kind's file of an id.
-fn name_of(alloc: Global, kind: &[u8], id: &[u8]) -> Result<Text, NoMemory> {
+/// The name of a kind's file of an id.
+pub(crate) fn name_of(alloc: Global, kind: &[u8], id: &[u8]) -> Result<Text, NoMemory> {
     let mut name = Text::of(alloc, kind)?;
     name.extend(id)?;
     Ok(name)

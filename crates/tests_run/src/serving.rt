@@ -143,7 +143,12 @@ pub(crate) fn has(files: &Seq<File>, name: &[u8]) -> bool {
 
 /// Whether a file of the queue holds these bytes.
 pub(crate) fn holds(files: &Seq<File>, name: &[u8], bytes: &[u8]) -> bool {
-    files.items().iter().any(|file| file.dir.bytes() == b"/var/spool/mqueue".as_slice()
+    holds_in(files, b"/var/spool/mqueue", name, bytes)
+}
+
+/// The same of a queue in this directory.
+pub(crate) fn holds_in(files: &Seq<File>, dir: &[u8], name: &[u8], bytes: &[u8]) -> bool {
+    files.items().iter().any(|file| file.dir.bytes() == dir
         && file.name.bytes() == name
         && file.bytes.bytes() == bytes)
 }

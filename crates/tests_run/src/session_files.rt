@@ -23,7 +23,7 @@ type Row = (
     &'static [u8],
 );
 
-static ROWS: [Row; 13] = [
+static ROWS: [Row; 15] = [
     (b"Kt text /t\n", &[], &[], 0, b""),
     (b"Kt text -o /none\n", &[], &[], 0, b""),
     (b"O HostsFile=/hosts\n", &[], &[], 0, b""),
@@ -48,6 +48,9 @@ static ROWS: [Row; 13] = [
     (b"Kt text /none\n", &[], &[0], 66, b"/none"),
     (b"Kt text /t\n", &[2], &[0], 72, b""),
     (b"Kt text /t\n", &[], &[0], 75, b""),
+    // The queue of a second group is listed too.
+    (b"Qbulk, Path=/bulk\n", &[], &[], 0, b""),
+    (b"Qbulk, Path=/bulk\n", &[], &[1], 75, b""),
 ];
 
 // How a session ended, and what it left.

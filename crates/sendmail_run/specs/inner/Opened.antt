@@ -7,9 +7,8 @@ use Rattle.spool_store.specs.Openings.{IsNext}
 use Rattle.spool_store.specs.Settled.{StandsFor}
 use Rattle.spool_store.specs.Stores.{Holds, StoreSeen}
 use Rattle.mail_core.specs.declared.serving.Core.{Core}
-use Rattle.mail_core.specs.declared.serving.Site.{Site}
+use Rattle.mail_core.specs.Sites.{Site}
 use Rattle.mail_core.specs.Machine.{beginning}
-use Rattle.mail_core.specs.Messages.{dirs_of}
 use Rattle.mail_core.specs.Seen.{Seen}
 use Rattle.mail_core.specs.Standing.{Stands}
 use Rattle.mail_core.specs.inner.UnderWay.{IsUnderWay}
@@ -29,11 +28,11 @@ pub record IsFound (dirs : List (List ℕ)) (told : Option FileMap) (store : Sto
 -- holds
 pub record IsOpened (site : Site) (told : Option FileMap) (core : Core) : Type 0 where
   pub store : StoreSeen
-  pub found : IsFound (dirs_of site) told store
+  pub found : IsFound site.dirs told store
   pub stands : (table : Table) → Holds store table → Stands site core (beginning table)
 
 -- so many turns since: a run that goes on, over each table that the store held then
 pub record IsGoing (site : Site) (core : Core) (count : ℕ) (a b : Seen) : Type 0 where
   pub store : StoreSeen
-  pub found : IsFound (dirs_of site) a.spool.told store
+  pub found : IsFound site.dirs a.spool.told store
   pub runs : (table : Table) → Holds store table → IsUnderWay site table core count a b
