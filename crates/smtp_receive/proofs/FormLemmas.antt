@@ -1,200 +1,151 @@
 -- The messages of a session have their forms.
-use Rattle.std.proofs.Common.{◌≡◌, ℕ, zero, suc, ◌+◌, ◌-◌, Bool, true, false, cond, ◌&&◌, ◌||◌, ◌==◌, List, [], ◌∷◌, ◌++◌, length, drop, Option, Some, None, is_some, Result, Ok, Err, IfOk, refl, sym, ap, subst, ◌∙◌, ⊎_elim, inl, inr, unwrap_or, codes, arith}
-use Rattle.std.specs.Prelude.{All, IfSome, slice_index, nat_lt}
-use Rattle.std.specs.List.{list_any, list_all, AllByRecursion, prefix_len, suffix_len, position_or_len, after_first}
-use Rattle.std.proofs.lemmas.Bool.{false≢true, cond_both, or_parts, or_cases, and_parts, eqb-true, ltb-false}
-use Rattle.std.proofs.lemmas.List.{get_or_push, length_push}
-use Rattle.std.proofs.lemmas.List.Elements.{All-nil, All-cons, All-head, All-tail, All-push, All-take, All-drop, All-weaker, All-from_recursion}
-use Rattle.mail_base.specs.Limits.{most_message, most_headers}
-use Rattle.mail_base.specs.Texts.{is_blank, IsLine, IsBracketed, IsBlank, IsHeader, crlf, without_blanks}
-use Rattle.smtp_lines.specs.declared.line.Line.{Line}
-use Rattle.smtp_lines.specs.declared.line.Line.TheVariants.{Command, TooLong, Data as DataLine, DataEnd}
-use Rattle.smtp_lines.specs.Stream.{verb_of}
+use Rattle.std.proofs.Common.{◌≡◌, ℕ, zero, suc, ◌+◌, Bool, true, false, cond, ◌&&◌, ◌==◌, min, List, [], ◌∷◌, ◌++◌, length, Option, Some, None, is_some, Result, Ok, Err, IfOk, refl, sym, ap, subst, ◌∙◌, ⊎_elim, inl, inr, unwrap_or, fold, codes, arith}
+use Rattle.std.specs.Prelude.{◌⊎◌, ◌≤◌, All, IfSome, slice_index, nat_lt}
+use Rattle.std.specs.List.{list_all, AllByRecursion, prefix_len}
+use Rattle.std.proofs.lemmas.Bool.{false≢true, cond_both, or_cases, and_parts, eqb-true, ltb-false}
+use Rattle.std.proofs.lemmas.List.{length-append}
+use Rattle.std.proofs.lemmas.List.Elements.{All-nil, All-cons, All-head, All-tail, All-append, All-weaker, All-from_recursion}
+use Rattle.mail_base.specs.Limits.{message_limit, most_message, most_headers}
+use Rattle.mail_base.specs.Texts.{is_blank, IsLine, IsBracketed, IsBlank, IsHeader, crlf}
+use Rattle.mail_base.specs.declared.config.Config.{Config}
+use Rattle.mail_base.specs.declared.draw.Draw.{Draw}
 use Rattle.mail_base.specs.declared.message.Kept.{Kept}
-use Rattle.smtp_receive.specs.declared.received.Received.{Received}
-use Rattle.smtp_receive.specs.declared.reply.Reply.TheVariants.{SenderOk, RecipientOk, MessageTooLarge, HeaderTooLarge}
-use Rattle.mail_base.specs.declared.command.Verb.{Verb}
-use Rattle.mail_base.specs.declared.command.Verb.TheVariants.{Helo, Mail, Rcpt}
+use Rattle.mail_base.specs.declared.message.Message.{Message}
+use Rattle.mail_base.specs.declared.options.Options.{Options}
 use Rattle.mail_base.specs.declared.command.LineFault.{LineFault}
-use Rattle.mail_base.specs.declared.command.LineFault.TheVariants.{Parameter}
-use Rattle.smtp_lines.specs.Paths.{HasPath, IsWritten, in_angles, bare, has_route, is_colon, without_route}
-use Rattle.smtp_lines.specs.Commands.{Order, Greet as HasGreet, Extend, From as HasFrom, To as HasTo, Begin as HasBegin, Reset, Wait, End as HasEnd, Verify, Expand, Explain, is_bad_byte, argument_of, Says as HasVerb, IsCommand, helo, ehlo, mail, rcpt, data_, rset, noop, quit, vrfy, expn, help, IsRead}
-use Rattle.smtp_lines.specs.Reading.{order_of}
-use Rattle.smtp_lines.proofs.CommandLemmas.{order_read}
+use Rattle.mail_header.specs.Fields.{class_in, hops_of}
 use Rattle.mail_header.specs.Headers.{is_plain, is_name_byte, is_header, is_header_by, is_continuation}
 use Rattle.mail_header.specs.Gatherings.{is_above}
 use Rattle.mail_header.specs.Lines.{belongs, block_of, goes_on, joined, headers_in, headers_of, body_of, size_of}
-use Rattle.smtp_receive.specs.Requests.{Request, Greet, From, To, Begin, End, is_served, request_in, request_by, request_of}
-use Rattle.smtp_receive.specs.Dialogue.{Answer, Says, Greets, Grants, Closes, Gives, Takes, Exchange, Heard, bracketed, ends, sender_by, recipient_by, helo_by, sender_told, recipient_told, helo_told, Transaction, no_transaction, gone_on, transaction_in, sender_in, recipient_in, lines_in, helo_in, path_from, path_to, argument_in, asked, read_in, or_else, command_answer, message_answer, end_answer, answer_to, exchanges}
+use Rattle.smtp_lines.specs.Commands.{Order, Greet, Extend, From}
+use Rattle.smtp_lines.specs.Reading.{order_of}
+use Rattle.smtp_lines.specs.declared.line.Line.{Line}
+use Rattle.smtp_lines.specs.declared.line.Line.TheVariants.{Command, TooLong, Data as DataLine, DataEnd}
+use Rattle.smtp_receive.specs.Dialogue.{Answer, Says, Greets, Extends, Grants, Gives, Exchange, Heard, answer_heard, answer_to, argument_in, asked, count_of, eight_in, end_answer, ends, exchange_of, exchanges, helo_by, helo_in, kept_in, lines_in, lines_of, message_answer, no_marks, or_else, path_in, protocol_by, protocol_in, protocol_of, question, read_in, rows_in, rows_of, sender_by, sender_in, sender_of, standing_in, transaction, with_heard, with_text}
+use Rattle.smtp_receive.specs.Forms.{AreFormed, AreFormedIn, FormedFor, IsFormed}
+use Rattle.smtp_receive.specs.Judging.{AreRows, IsDrawn, Said, drawn_in}
 use Rattle.smtp_receive.specs.Sessions.{answer_of}
-use Rattle.smtp_receive.specs.Forms.{IsFormed}
+use Rattle.smtp_receive.specs.declared.reply.Reply.TheVariants.{SenderOk, RecipientOk, MessageTooLarge, HeaderTooLarge, TooManyHops}
+use Rattle.smtp_receive.proofs.PathLemmas.{NotLf, OrderLine, brackets_form, order_line}
+use Rattle.smtp_receive.proofs.RowLemmas.{Fits, heard_fits, rows_few}
+use Rattle.smtp_receive.proofs.ToldLemmas.{gift_at_end}
 
-abbrev NotLf : ℕ → Type 0
-NotLf b = b ≡ 10 → ⊥
+-- ---- the sender, and what a greeting tells
 
--- ---- what a command line asks for has no LF
-
-good_byte : (b : ℕ) → is_bad_byte b ≡ false → NotLf b
-good_byte b good is = false≢true (sym good ∙ ap is_bad_byte is)
-
-good_line : (text : List ℕ) → list_any is_bad_byte text ≡ false → IsLine text
-good_line [] good = All-nil NotLf
-good_line (b ∷ text) good =
-    let parts = or_parts (is_bad_byte b) (list_any is_bad_byte text) good in
-    All-cons NotLf b text (good_byte b parts.0) (good_line text parts.1)
-
-argument_line : (text : List ℕ) → IsLine text → IsLine (argument_of text)
-argument_line text line =
-    let back : List ℕ = drop (length (verb_of text)) text in
-    let rest : List ℕ = without_blanks back in
-    All-take NotLf (length rest - suffix_len is_blank rest) rest (All-drop NotLf (prefix_len is_blank back) back (All-drop NotLf (length (verb_of text)) text line))
-
-front_of : (one other : List ℕ) → IsLine (one ++ other) → IsLine one
-front_of [] other line = All-nil NotLf
-front_of (b ∷ one) other line = All-cons NotLf b one (All-head NotLf b (one ++ other) line) (front_of one other (All-tail NotLf b (one ++ other) line))
-
-back_of : (one other : List ℕ) → IsLine (one ++ other) → IsLine other
-back_of [] other line = line
-back_of (b ∷ one) other line = back_of one other (All-tail NotLf b (one ++ other) line)
-
-inside_line : (written inside : List ℕ) → IsWritten written inside → IsLine written → IsLine inside
-inside_line _ _ (in_angles inside is) line = front_of inside (62 ∷ []) (All-tail NotLf 60 (inside ++ 62 ∷ []) line)
-inside_line _ _ (bare b more other blank) line = line
-
-route_line : (path : List ℕ) → IsLine path → IsLine (without_route path)
-route_line path line =
-    cond_both (has_route path (position_or_len is_colon path)) (after_first is_colon path) path IsLine
-    (λ route. All-drop NotLf (position_or_len is_colon path + 1) path line)
-    (λ none. line)
-
-path_line : (keyword argument path rest : List ℕ) → HasPath keyword argument path rest → IsLine argument → IsLine path
-path_line keyword argument path rest has line =
-    let whole : IsLine (has.word ++ (has.gap ++ (has.written ++ rest))) = subst IsLine has.whole line in
-    let behind = back_of has.gap (has.written ++ rest) (back_of has.word (has.gap ++ (has.written ++ rest)) whole) in
-    subst IsLine (sym has.unrouted) (route_line has.inside (inside_line has.written has.inside has.is (front_of has.written rest behind)))
-
-says_line : (text : List ℕ) (verb : Verb) (argument : List ℕ) → HasVerb text verb argument → IsLine argument
-says_line text verb argument says = subst IsLine (sym says.argument_is) (argument_line text (good_line text says.clean))
-
--- the text of an order is of one line
-abbrev OrderLine : Order → Type 0
-OrderLine (HasGreet argument) = IsLine argument
-OrderLine (HasFrom path size eight) = IsLine path
-OrderLine (HasTo path) = IsLine path
-OrderLine _ = Unit {0}
-
-command_line : (text : List ℕ) (order : Order) → IsCommand text order → OrderLine order
-command_line text _ (helo argument says some) = says_line text Helo argument says
-command_line text _ (ehlo argument says some) = tt
-command_line text _ (mail argument path rest size eight says has short given) = path_line (codes "FROM:") argument path rest has (says_line text Mail argument says)
-command_line text _ (rcpt argument path says has short) = path_line (codes "TO:") argument path [] has (says_line text Rcpt argument says)
-command_line text _ (data_ says) = tt
-command_line text _ (rset says) = tt
-command_line text _ (noop argument says) = tt
-command_line text _ (quit says) = tt
-command_line text _ (vrfy argument says some) = tt
-command_line text _ (expn argument says) = tt
-command_line text _ (help argument says) = tt
-
-read_line : (text : List ℕ) (r : Result Order LineFault) → IsRead text r → IfOk r OrderLine
-read_line text (Ok order) is = command_line text order is
-read_line text (Err fault) is = tt
-
-order_line : (text : List ℕ) → IfOk (order_of text) OrderLine
-order_line text = read_line text (order_of text) (order_read text)
-
--- the text of a request is of one line
-abbrev RequestLine : Request → Type 0
-RequestLine (Greet argument) = IsLine argument
-RequestLine (From path) = IsLine path
-RequestLine (To path) = IsLine path
-RequestLine Begin = Unit {0}
-RequestLine End = Unit {0}
-
-asks_line : (order : Order) → OrderLine order → IfOk (request_in order) RequestLine
-asks_line (HasGreet argument) line = line
-asks_line (Extend argument) line = tt
-asks_line (HasFrom path size eight) line = cond_both (is_some size || eight) (Err (Parameter Mail)) (Ok (From path)) (λ r. IfOk r RequestLine) (λ h. tt) (λ h. line)
-asks_line (HasTo path) line = line
-asks_line HasBegin line = tt
-asks_line Reset line = tt
-asks_line Wait line = tt
-asks_line HasEnd line = tt
-asks_line Verify line = tt
-asks_line Expand line = tt
-asks_line Explain line = tt
-
-request_line : (served : Bool) (r : Result Order LineFault) → IfOk r OrderLine → IfOk (request_by served r) RequestLine
-request_line served (Ok order) line = asks_line order line
-request_line served (Err fault) line = tt
-
-in_line : (r : Result Request LineFault) → IfOk r RequestLine → IfSome (read_in r) RequestLine
-in_line (Ok request) line = line
+in_line : (r : Result Order LineFault) → IfOk r OrderLine → IfSome (read_in r) OrderLine
+in_line (Ok order) line = line
 in_line (Err fault) line = tt
 
-asked_line : (line : Line) → IfSome (asked line) RequestLine
-asked_line (Command text) = in_line (request_of text) (request_line (is_served text) (order_of text) (order_line text))
+asked_line : (line : Line) → IfSome (asked line) OrderLine
+asked_line (Command text) = in_line (order_of text) (order_line text)
 asked_line TooLong = tt
 asked_line (DataLine text) = tt
 asked_line DataEnd = tt
 
--- ---- paths in their brackets, and the argument of HELO
-
-brackets_form : (path : List ℕ) → IsLine path → IsBracketed (bracketed path)
-brackets_form path line = record {
-  line = All-push NotLf (60 ∷ path) 62 (All-cons NotLf 60 path (λ is. absurd (omega arith)) line) (λ is. absurd (omega arith));
-  opens = refl;
-  closes = get_or_push (60 ∷ path) 62 0 (length (bracketed path) - 1) (omega (arith, length_push (60 ∷ path) 62));
-}
-
-path_form : (request : Option Request) → IfSome request RequestLine → IfSome (path_from request) IsBracketed
-path_form (Some (From path)) line = brackets_form path line
+path_form : (order : Option Order) → IfSome order OrderLine → IfSome (path_in order) IsBracketed
+path_form (Some (From path size eight)) line = brackets_form path line
 path_form _ line = tt
 
-to_form : (request : Option Request) → IfSome request RequestLine → IfSome (path_to request) IsBracketed
-to_form (Some (To path)) line = brackets_form path line
-to_form _ line = tt
-
-argument_form : (request : Option Request) → IfSome request RequestLine → IfSome (argument_in request) IsLine
+argument_form : (order : Option Order) → IfSome order OrderLine → IfSome (argument_in order) IsLine
 argument_form (Some (Greet argument)) line = line
+argument_form (Some (Extend argument)) line = line
 argument_form _ line = tt
 
-sender_form : (answer : Option Answer) (request : Option Request) → IfSome request RequestLine → IfSome (sender_by answer request) IsBracketed
-sender_form (Some (Says SenderOk)) request line = path_form request line
-sender_form _ request line = tt
+-- the two protocols
+abbrev IsProtocol : List ℕ → Type 0
+IsProtocol text = (text ≡ codes "SMTP") ⊎ (text ≡ codes "ESMTP")
 
-recipient_form : (answer : Option Answer) (request : Option Request) → IfSome request RequestLine → IfSome (recipient_by answer request) IsBracketed
-recipient_form (Some (Says RecipientOk)) request line = to_form request line
-recipient_form _ request line = tt
+protocol_form : (order : Option Order) → IfSome (protocol_of order) IsProtocol
+protocol_form (Some (Greet argument)) = inl refl
+protocol_form (Some (Extend argument)) = inr refl
+protocol_form _ = tt
 
-greeted_form : (answer : Option Answer) (request : Option Request) → IfSome request RequestLine → IfSome (helo_by answer request) IsLine
-greeted_form (Some Greets) request line = argument_form request line
-greeted_form _ request line = tt
+sender_form : (answer : Option Answer) (order : Option Order) → IfSome order OrderLine → IfSome (sender_by answer order) IsBracketed
+sender_form (Some (Says SenderOk)) order line = path_form order line
+sender_form _ order line = tt
+
+greeted_form : (answer : Option Answer) (order : Option Order) → IfSome order OrderLine → IfSome (helo_by answer order) IsLine
+greeted_form (Some Greets) order line = argument_form order line
+greeted_form (Some Extends) order line = argument_form order line
+greeted_form _ order line = tt
+
+told_form : (answer : Option Answer) (order : Option Order) → IfSome (protocol_by answer order) IsProtocol
+told_form (Some Greets) order = protocol_form order
+told_form (Some Extends) order = protocol_form order
+told_form _ order = tt
 
 either_form : (P : List ℕ → Type 0) (told earlier : Option (List ℕ)) → IfSome told P → IfSome earlier P → IfSome (or_else told earlier) P
 either_form P (Some told) earlier one other = one
 either_form P None earlier one other = other
 
-abbrev AreBracketed : Transaction → Type 0
-AreBracketed t = IfSome t.sender IsBracketed × IfSome t.recipient IsBracketed
+or_earlier : (P : List ℕ → Type 0) (told : Option (List ℕ)) (earlier : List ℕ) → IfSome told P → P earlier → P (unwrap_or told earlier)
+or_earlier P (Some told) earlier one other = one
+or_earlier P None earlier one other = other
 
-transaction_form : (before : List Exchange) → AreBracketed (transaction_in before)
-transaction_form [] = (tt, tt)
-transaction_form (e ∷ before) =
-    let earlier = transaction_form before in
-    cond_both (ends e) no_transaction (gone_on e (transaction_in before)) AreBracketed (λ h. (tt, tt))
-    (λ h. (
-      either_form IsBracketed (sender_told e) (sender_in before) (sender_form e.answer (asked e.line) (asked_line e.line)) earlier.0,
-      either_form IsBracketed (recipient_told e) (recipient_in before) (recipient_form e.answer (asked e.line) (asked_line e.line)) earlier.1,
-    ))
-
-or_earlier : (told : Option (List ℕ)) (earlier : List ℕ) → IfSome told IsLine → IsLine earlier → IsLine (unwrap_or told earlier)
-or_earlier (Some told) earlier one other = one
-or_earlier None earlier one other = other
+senders_form : (es : List Exchange) → IfSome (sender_of es) IsBracketed
+senders_form [] = tt
+senders_form (e ∷ es) = either_form IsBracketed (sender_by e.answer (asked e.line)) (sender_of es) (sender_form e.answer (asked e.line) (asked_line e.line)) (senders_form es)
 
 helo_line : (before : List Exchange) → IsLine (helo_in before)
 helo_line [] = All-nil NotLf
-helo_line (e ∷ before) = or_earlier (helo_told e) (helo_in before) (greeted_form e.answer (asked e.line) (asked_line e.line)) (helo_line before)
+helo_line (e ∷ before) = or_earlier IsLine (helo_by e.answer (asked e.line)) (helo_in before) (greeted_form e.answer (asked e.line) (asked_line e.line)) (helo_line before)
+
+protocol_is : (before : List Exchange) → IsProtocol (protocol_in before)
+protocol_is [] = inl refl
+protocol_is (e ∷ before) = or_earlier IsProtocol (protocol_by e.answer (asked e.line)) (protocol_in before) (told_form e.answer (asked e.line)) (protocol_is before)
+
+-- ---- rows and recipients
+
+-- each recipient has its rows, and lines follow only where there is one
+record Counts (es : List Exchange) : Type 0 where
+  counts : count_of es ≤ length (rows_of es)
+  begun : is_some (lines_of es) ≡ true → 1 ≤ count_of es
+  each : All IsDrawn (rows_of es)
+
+some_text : (line : Line) (lines : Option (List (List ℕ))) → is_some (with_text line lines) ≡ is_some lines
+some_text (Command text) lines = refl
+some_text TooLong lines = refl
+some_text (DataLine text) None = refl
+some_text (DataLine text) (Some lines) = refl
+some_text DataEnd lines = refl
+
+-- the same of an exchange more, by its answer
+abbrev CountsBy : Line → Said → Option Answer → List Exchange → Type 0
+CountsBy line said answer es = Counts (record { line = line; said = said; answer = answer } ∷ es)
+
+counts_more : (config : Config) (peer : List ℕ) (before : List Exchange) (line : Line) (said : Said) (answer : Option Answer)
+    → IfSome answer (Fits (question config peer before line) (standing_in before) said) → IfSome answer (λ _. FormedFor (question config peer before line) said) → Counts (transaction before)
+    → CountsBy line said answer (transaction before)
+counts_more config peer before line said (Some (Says RecipientOk)) fits formed c =
+    let rows = fits.1 formed in
+    let some = rows.some in
+    let counts = c.counts in
+    record {
+      counts = omega (arith, length-append (rows_in before) (drawn_in said));
+      begun = λ h. omega arith;
+      each = All-append IsDrawn (rows_in before) (drawn_in said) c.each rows.each;
+    }
+counts_more config peer before line said (Some Grants) fits formed c = record { counts = c.counts; begun = λ h. fits; each = c.each }
+counts_more config peer before line said _ fits formed c =
+    record { counts = c.counts; begun = λ h. c.begun (sym (some_text line (lines_in before)) ∙ h); each = c.each }
+
+no_counts : Counts []
+no_counts = record { counts = omega arith; begun = λ h. absurd (false≢true h); each = All-nil IsDrawn }
+
+counts_step : (config : Config) (peer : List ℕ) (before : List Exchange) (h : Heard) → (AreFormedIn config peer before → Counts (transaction before)) → AreFormedIn config peer (with_heard config peer before h)
+    → Counts (transaction (with_heard config peer before h))
+counts_step config peer before h earlier formed =
+    let e : Exchange = exchange_of config peer before h in
+    cond_both (ends e) [] (e ∷ transaction before) Counts (λ over. no_counts)
+    (λ on. counts_more config peer before h.line h.said (answer_heard config peer before h) (heard_fits config peer before h) formed.0 (earlier formed.1))
+
+counts_all : (config : Config) (peer : List ℕ) (heard : List Heard) (before : List Exchange) → (AreFormedIn config peer before → Counts (transaction before))
+    → AreFormedIn config peer (fold (with_heard config peer) before heard) → Counts (transaction (fold (with_heard config peer) before heard))
+counts_all config peer [] before earlier formed = earlier formed
+counts_all config peer (h ∷ heard) before earlier formed = counts_all config peer heard (with_heard config peer before h) (counts_step config peer before h earlier) formed
+
+heard_counts : (config : Config) (peer : List ℕ) (heard : List Heard) → AreFormed config peer heard → Counts (transaction (exchanges config peer heard))
+heard_counts config peer heard formed = counts_all config peer heard [] (λ none. no_counts) formed
 
 -- ---- headers
 
@@ -289,55 +240,64 @@ headers_form lines =
 
 -- ---- messages
 
+-- a message has no more bytes than any may have
+limit_small : (options : Options) → message_limit options ≤ most_message
+limit_small options =
+    cond_both (options.max_message_size == 0) most_message (min options.max_message_size most_message) (λ n. n ≤ most_message) (λ h. omega arith) (λ h. omega arith)
+
 -- the message of an answer, if it gives one, is formed
 abbrev AnswerFormed : List ℕ → Answer → Type 0
-AnswerFormed peer (Says reply) = Unit {0}
-AnswerFormed peer Greets = Unit {0}
-AnswerFormed peer Grants = Unit {0}
-AnswerFormed peer Closes = Unit {0}
 AnswerFormed peer (Gives message) = IsFormed message peer
-AnswerFormed peer Takes = Unit {0}
+AnswerFormed peer _ = Unit {0}
 
-command_formed : (peer : List ℕ) (given full : Bool) (request : Result Request LineFault) → AnswerFormed peer (command_answer given full request)
-command_formed peer given full (Err fault) = tt
-command_formed peer given full (Ok (Greet argument)) = tt
-command_formed peer given full (Ok (From path)) = tt
-command_formed peer given full (Ok (To path)) = tt
-command_formed peer given true (Ok Begin) = tt
-command_formed peer given false (Ok Begin) = tt
-command_formed peer given full (Ok End) = tt
-
-message_formed : (peer greeting sender recipient : List ℕ) (lines : List (List ℕ)) → IsLine greeting → IsBracketed sender → IsBracketed recipient
-    → AnswerFormed peer (message_answer (record { protocol = codes "SMTP"; helo = greeting; client = peer }) sender recipient lines)
-message_formed peer greeting sender recipient lines helo_form sender_form recipient_form =
-    let kept : Kept = record { protocol = codes "SMTP"; helo = greeting; client = peer } in
-    let message : Received = record { sender = sender; recipient = recipient; headers = headers_of lines; body = body_of lines; size = size_of lines; kept = kept } in
-    let whole : Answer = cond (is_above most_headers (size_of (block_of false lines))) (Says HeaderTooLarge) (Gives message) in
-    cond_both (is_above most_message (size_of lines)) (Says MessageTooLarge) whole (AnswerFormed peer) (λ h. tt)
-    (λ small. cond_both (is_above most_headers (size_of (block_of false lines))) (Says HeaderTooLarge) (Gives message) (AnswerFormed peer) (λ h. tt)
+message_formed : (config : Config) (peer : List ℕ) (kept : Kept) (sender : List ℕ) (eight : Bool) (rows : List Draw) (lines : List (List ℕ)) → IsLine kept.helo → IsProtocol kept.protocol
+    → kept.client ≡ peer → IsBracketed sender → AreRows rows → AnswerFormed peer (message_answer config kept sender eight rows lines)
+message_formed config peer kept sender eight rows lines helo protocol client sender_is rows_are =
+    let P : Answer → Type 0 = AnswerFormed peer in
+    let limit : ℕ = message_limit config.options in
+    let message : Message = record {
+      sender = sender;
+      rows = rows;
+      headers = headers_of lines;
+      body = body_of lines;
+      size = size_of lines;
+      class = class_in config.precedences (headers_of lines);
+      eight = eight;
+      marks = no_marks;
+      kept = kept;
+    } in
+    let hops : Answer = cond (is_above config.options.max_hop_count (hops_of (headers_of lines))) (Says TooManyHops) (Gives message) in
+    let block : Answer = cond (is_above most_headers (size_of (block_of false lines))) (Says HeaderTooLarge) hops in
+    cond_both (is_above limit (size_of lines)) (Says MessageTooLarge) block P (λ h. tt)
+    (λ small. cond_both (is_above most_headers (size_of (block_of false lines))) (Says HeaderTooLarge) hops P (λ h. tt)
+    (λ h. cond_both (is_above config.options.max_hop_count (hops_of (headers_of lines))) (Says TooManyHops) (Gives message) P (λ h. tt)
     (λ h. record {
-      sender_form = sender_form;
-      recipient_form = recipient_form;
+      sender_form = sender_is;
+      rows_form = rows_are;
       headers_form = headers_form lines;
-      size_range = ltb-false most_message (size_of lines) small;
-      protocol_is = refl;
-      helo_form = helo_form;
-      client_is = refl;
-    }))
+      size_range = omega (arith, ltb-false limit (size_of lines) small, limit_small config.options);
+      marks_are = refl;
+      protocol_is = protocol;
+      helo_form = helo;
+      client_is = client;
+    })))
 
-end_formed : (peer greeting : List ℕ) (sender recipient : Option (List ℕ)) (lines : Option (List (List ℕ))) → IsLine greeting → IfSome sender IsBracketed → IfSome recipient IsBracketed
-    → AnswerFormed peer (end_answer (record { protocol = codes "SMTP"; helo = greeting; client = peer }) sender recipient lines)
-end_formed peer greeting (Some sender) (Some recipient) (Some lines) helo_form sender_form recipient_form = message_formed peer greeting sender recipient lines helo_form sender_form recipient_form
-end_formed peer greeting _ _ _ helo_form sender_form recipient_form = tt
-
-answer_formed : (peer : List ℕ) (before : List Exchange) (line : Line) → AnswerFormed peer (answer_to peer before line)
-answer_formed peer before (Command text) = command_formed peer (is_some (sender_in before)) (is_some (recipient_in before)) (request_of text)
-answer_formed peer before TooLong = tt
-answer_formed peer before (DataLine text) = tt
-answer_formed peer before DataEnd =
-    end_formed peer (helo_in before) (sender_in before) (recipient_in before) (lines_in before) (helo_line before)
-    (transaction_form before).0 (transaction_form before).1
+end_formed : (config : Config) (peer : List ℕ) (kept : Kept) (sender : Option (List ℕ)) (eight : Bool) (rows : List Draw) (lines : Option (List (List ℕ))) → IsLine kept.helo → IsProtocol kept.protocol
+    → kept.client ≡ peer → IfSome sender IsBracketed → (is_some lines ≡ true → AreRows rows) → AnswerFormed peer (end_answer config kept sender eight rows lines)
+end_formed config peer kept None eight rows lines helo protocol client sender_is rows_are = tt
+end_formed config peer kept (Some sender) eight rows None helo protocol client sender_is rows_are = tt
+end_formed config peer kept (Some sender) eight rows (Some lines) helo protocol client sender_is rows_are =
+    message_formed config peer kept sender eight rows lines helo protocol client sender_is (rows_are refl)
 
 -- a message that is given is formed
-pub given_formed : (peer : List ℕ) (heard : List Heard) (line : Line) (message : Received) → answer_of peer heard line ≡ Gives message → IsFormed message peer
-given_formed peer heard line message gives = subst (AnswerFormed peer) gives (answer_formed peer (exchanges peer heard) line)
+pub given_formed : (config : Config) (peer : List ℕ) (heard : List Heard) (said : Said) (line : Line) (message : Message) → AreFormed config peer heard → answer_of config peer heard said line ≡ Gives message
+    → IsFormed message peer
+given_formed config peer heard said line message formed gives =
+    let before : List Exchange = exchanges config peer heard in
+    let counts = heard_counts config peer heard formed in
+    let at_end : answer_to config peer before said DataEnd ≡ Gives message = ap (answer_to config peer before said) (sym (gift_at_end config peer before said line message gives)) ∙ gives in
+    let few = rows_few config peer heard in
+    let least = counts.counts in
+    subst (AnswerFormed peer) at_end
+    (end_formed config peer (kept_in peer before) (sender_in before) (eight_in before) (rows_in before) (lines_in before) (helo_line before) (protocol_is before) refl
+    (senders_form (transaction before)) (λ begun. let some = counts.begun begun in record { some = omega arith; few = few; each = counts.each }))

@@ -1,8 +1,8 @@
 -- Which texts a session replies with, and which of them says that a message is stored (RFC 5321
 -- section 4.2.5).
 use Rattle.std.specs.Prelude.{◌≡◌, ℕ, List, Option, Some, None}
-use Rattle.smtp_receive.specs.declared.received.Did.{Did}
-use Rattle.smtp_receive.specs.declared.received.Did.TheVariants.{Reply as Replied, Granted, Message, Taken, Bye}
+use Rattle.smtp_receive.specs.declared.did.Did.{Did}
+use Rattle.smtp_receive.specs.declared.did.Did.TheVariants.{Reply as Replied, Granted, Message, Taken, Bye}
 use Rattle.smtp_receive.specs.Replies.{stored_text}
 
 -- the text that was replied to a line, if one was

@@ -1,4 +1,4 @@
-pub mod Requests
+pub mod Judging
 pub mod Replies
 pub mod Dialogue
 pub mod Sessions

@@ -1,10 +1,12 @@
-ghost use Rattle.std.specs.Prelude.{◌≡◌};
-ghost use Rattle.smtp_receive.specs.inner.Steps.{ending_of, received_of};
+ghost use Rattle.std.specs.Prelude.{◌≡◌, ◌≤◌, length, nat_lt, List, ℕ};
+ghost use Rattle.mail_base.specs.Limits.{most_headers};
+ghost use Rattle.mail_header.specs.Fields.{hops_of};
+ghost use Rattle.mail_header.specs.Gatherings.{is_above};
+ghost use Rattle.smtp_receive.specs.inner.Steps.{ending_of};
 
-use crate::received::Received;
 use crate::reply::Reply;
-use mail_base::{Kept, MOST_MESSAGE, Text};
-use mail_header::Gathering;
+use mail_base::{MOST_HEADERS, Seq, Text};
+use mail_header::{Gathering, hops};
 
 /// What the end of data comes to.
 pub(crate) enum End {
@@ -12,17 +14,15 @@ pub(crate) enum End {
     Nothing,
     /// The message is refused.
     Refused(Reply),
-    /// The message is given.
+    /// The message is whole, and may have passed too many hosts.
     Whole,
 }
 
-/// What the end of data comes to after the lines of a message.
-#[tactic(auto, unfolding(mail_base::specs::Limits::most_message))]
-pub(crate) fn ending(message: &Gathering) -> End
-    ensures { result ≡ ending_of message.now }
+/// What the end of data comes to after the lines of a message that may have so many bytes.
+pub(crate) fn ending(message: &Gathering, limit: u64) -> End
+    ensures { result ≡ ending_of limit message.now }
 {
-    let size = message.size();
-    if size > MOST_MESSAGE {
+    if message.size() > limit {
         return End::Refused(Reply::MessageTooLarge);
     }
     if message.is_large_block() {
@@ -31,18 +31,12 @@ pub(crate) fn ending(message: &Gathering) -> End
     End::Whole
 }
 
-/// The message of the lines that were gathered.
-pub(crate) fn received(message: Gathering, sender: Text, recipient: Text, kept: Kept) -> Received
-    ensures { result ≡ received_of message sender recipient kept }
+/// Whether a message has passed more hosts than it may. More headers than a header block has bytes
+/// are none that were gathered.
+#[tactic(auto, unfolding(mail_base::specs::Limits::most_headers))]
+pub(crate) fn has_looped(headers: &Seq<Text>, most: u64) -> bool
+    ensures { length headers.now ≤ most_headers
+        → result ≡ is_above most (hops_of headers.now) }
 {
-    let size = message.size();
-    let split = message.into_split();
-    Received {
-        sender,
-        recipient,
-        headers: split.headers,
-        body: split.body,
-        size,
-        kept,
-    }
+    headers.len() as u64 > MOST_HEADERS || u64::from(hops(headers)) > most
 }

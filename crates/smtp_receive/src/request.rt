@@ -1,90 +1,98 @@
-ghost use Rattle.std.specs.Prelude.{◌≡◌, Option, ℕ};
-ghost use Rattle.smtp_lines.specs.Commands.{as_order, as_read};
-ghost use Rattle.smtp_lines.specs.Reading.{order_of};
-ghost use Rattle.smtp_receive.specs.Requests as spec;
-ghost use Rattle.smtp_receive.specs.inner.Borrowed.{as_asked};
+ghost use Rattle.std.specs.Prelude.{◌≡◌, ◌&&◌, not, length, nat_lt, true, IfOk};
+ghost use Rattle.smtp_lines.specs.Commands.{as_read};
+ghost use Rattle.smtp_lines.specs.Reading.{is_nothing, order_of};
+ghost use Rattle.smtp_receive.specs.Dialogue.{bracketed, fault_reply, is_large, is_uncut, mail_fault, path_reply, rcpt_fault};
 
-use crate::reply::first;
-use mail_base::{Command, LineFault, Verb};
+use crate::reply::Reply;
+use addr_tokens::{ScanFault, computed, tokens};
+use mail_base::{Command, LineFault, NoMemory, Text, Verb};
 use smtp_lines::command;
 
-/// What a command line asks a session for. Paths are without their angles and source routes.
-#[derive(Clone, Copy)]
-pub(crate) enum Request<'a> {
-    Helo(&'a [u8]),
-    Mail(&'a [u8]),
-    Rcpt(&'a [u8]),
-    Data,
-    Quit,
-}
-
-/// What a line asks a session for, or the first fault that it has. A verb that sessions don't serve
-/// is not known, nor is a parameter of MAIL but `BODY=7BIT`, which says what holds without it.
-pub(crate) fn read_request(line: &[u8]) -> Result<Request<'_>, LineFault>
-    ensures { as_asked result ≡ spec.request_of line.now }
-{
-    match order(line) {
-        Ok(command) => request_in(command),
-        Err(fault) => Err(fault_by(is_served(line), fault)),
-    }
-}
-
-fn order(line: &[u8]) -> Result<Command<'_>, LineFault>
+/// What a command line says, or the first fault that it has.
+pub(crate) fn order(line: &[u8]) -> Result<Command<'_>, LineFault>
     ensures { as_read result ≡ order_of line.now }
 {
     command(line)
 }
 
-fn request_in(command: Command<'_>) -> Result<Request<'_>, LineFault>
-    ensures { as_asked result ≡ spec.request_in (as_order command.entry) }
+/// The reply to a command that has a fault, by whether there is a sender.
+pub(crate) fn fault_reply(given: bool, fault: LineFault) -> Reply
+    ensures { result ≡ fault_reply given fault }
 {
-    match command {
-        Command::Helo(argument) => Ok(Request::Helo(argument)),
-        Command::Mail { path, size, eight } => mail_by(path, size, eight),
-        Command::Rcpt { path } => Ok(Request::Rcpt(path)),
-        Command::Data => Ok(Request::Data),
-        Command::Quit => Ok(Request::Quit),
-        Command::Ehlo(_argument) => Err(LineFault::Unknown),
-        Command::Rset => Err(LineFault::Unknown),
-        Command::Noop => Err(LineFault::Unknown),
-        Command::Vrfy => Err(LineFault::Unknown),
-        Command::Expn => Err(LineFault::Unknown),
-        Command::Help => Err(LineFault::Unknown),
+    match fault {
+        LineFault::BadByte => Reply::BadByte,
+        LineFault::Unknown => Reply::Unrecognized,
+        LineFault::ArgumentNeeded => Reply::ArgumentNeeded,
+        LineFault::NoArgument => Reply::NoArgument,
+        LineFault::Syntax(verb) => path_reply(verb, given, Reply::SyntaxError),
+        LineFault::PathTooLong(verb) => path_reply(verb, given, Reply::PathTooLong),
+        LineFault::Parameter(verb) => path_reply(verb, given, Reply::ParameterNotKnown),
     }
 }
 
-fn mail_by(path: &[u8], size: Option<u128>, eight: bool) -> Result<Request<'_>, LineFault>
-    ensures { as_asked result ≡ spec.mail_by path.now size eight }
+/// The reply to a path, but where its command is out of place.
+fn path_reply(verb: Verb, given: bool, reply: Reply) -> Reply
+    ensures { result ≡ path_reply verb given reply }
 {
-    if size.is_some() || eight {
-        return Err(LineFault::Parameter(Verb::Mail));
+    match (verb, given) {
+        (Verb::Mail, true) => Reply::SenderGiven,
+        (Verb::Rcpt, false) => Reply::NeedMail,
+        _ => reply,
     }
-    Ok(Request::Mail(path))
 }
 
-/// Whether a line begins with a verb that a session serves.
-fn is_served(line: &[u8]) -> bool
-    ensures { result ≡ spec.is_served line.now }
+/// Why a MAIL isn't put to the judge, if it isn't: by whether there is a sender, the most bytes of
+/// a message, and those that are declared.
+pub(crate) fn mail_fault(given: bool, limit: u64, size: Option<u128>) -> Option<Reply>
+    ensures { result ≡ mail_fault given limit size }
 {
-    let verb = first(line, 4);
-    verb.eq_ignore_ascii_case(b"HELO")
-        || verb.eq_ignore_ascii_case(b"MAIL")
-        || verb.eq_ignore_ascii_case(b"RCPT")
-        || verb.eq_ignore_ascii_case(b"DATA")
-        || verb.eq_ignore_ascii_case(b"QUIT")
-}
-
-fn fault_by(served: bool, fault: LineFault) -> LineFault
-    ensures { result ≡ spec.fault_by served fault }
-{
-    if served || is_bad_byte(fault) {
-        return fault;
+    if given {
+        return Some(Reply::SenderGiven);
     }
-    LineFault::Unknown
+    if is_large(limit, size) {
+        return Some(Reply::MessageTooLarge);
+    }
+    None
 }
 
-fn is_bad_byte(fault: LineFault) -> bool
-    ensures { result ≡ spec.is_bad_byte_fault fault }
+fn is_large(limit: u64, size: Option<u128>) -> bool
+    ensures { result ≡ is_large limit size }
 {
-    matches!(fault, LineFault::BadByte)
+    match size {
+        Some(size) => size > u128::from(limit),
+        None => false,
+    }
+}
+
+/// Why an RCPT isn't put to the judge, if it isn't: by whether there is a sender, the most
+/// recipients, and how many there are.
+pub(crate) fn rcpt_fault(given: bool, limit: u64, count: u64, path: &[u8]) -> Option<Reply>
+    ensures { result ≡ rcpt_fault given limit count path.now }
+{
+    if !given {
+        return Some(Reply::NeedMail);
+    }
+    if path.is_empty() {
+        return Some(Reply::UserRequired);
+    }
+    if count >= limit {
+        return Some(Reply::TooManyRecipients);
+    }
+    None
+}
+
+/// Whether a path that isn't empty can't be cut into tokens.
+pub(crate) fn is_uncut(path: &[u8], angled: &Text, operators: &Text) -> Result<bool, NoMemory>
+    requires { angled.now ≡ bracketed path.now }
+    ensures { IfOk result (λ uncut. uncut ≡ is_uncut operators.now path.now) }
+{
+    if path.is_empty() {
+        return Ok(false);
+    }
+    computed();
+    match tokens(angled.allocator(), angled, operators, true) {
+        Ok(_) => Ok(false),
+        Err(ScanFault::NoMemory) => Err(NoMemory),
+        Err(_) => Ok(true),
+    }
 }

@@ -2,7 +2,7 @@ use Rattle.smtp_receive.proofs.FinalLemmas.{told_final, greeting_final, memory_f
 use Rattle.smtp_receive.proofs.law.no_other_reply_is_final.Goals as goal
 
 pub returns-clause-lines : goal.returns-clause-lines
-returns-clause-lines c = λ host answer text is final. told_final host answer text is final
+returns-clause-lines c = λ config host peer limit heard said line text formed is final. told_final config host peer limit heard said line text formed is final
 
 pub returns-clause-greeting : goal.returns-clause-greeting
 returns-clause-greeting c = λ host final. greeting_final host final
