@@ -16,3 +16,5 @@ mod receive;
 mod received;
 #[cfg(test)]
 mod replies;
+#[cfg(test)]
+mod test_judge;

@@ -1,25 +1,26 @@
-use mail_base::{Id, Kept, NoMemory, Seq, Text};
+use crate::test_judge::TestJudge;
+use mail_base::{Config, Draw, Id, JudgeFault, Kept, Message, NoMemory, Precedence, Seq, Text};
 use smtp_lines::{Line, read_stream};
-use smtp_receive::{Did, Received, Session, out_of_memory, too_many_sessions};
+use smtp_receive::{Did, Session, out_of_memory, too_many_sessions};
 use std::alloc::Global;
 
 /// What a session says of a stream's lines after its greeting: its replies, `+` for a line of data,
-/// and for a message its sender, recipient, headers in braces, body in brackets and the three
-/// macros.
-fn said_to(alloc: Global, stream: &[u8]) -> Result<Text, NoMemory> {
+/// `!` where a file can't be read, and for a message its sender, its rows, headers in braces, body
+/// in brackets, the three macros, its class and whether it was declared as 8BITMIME.
+fn said_to(alloc: Global, config: &Config, stream: &[u8]) -> Result<Text, NoMemory> {
     let lines = lines_of(alloc, stream)?;
-    heard(alloc, &lines)
+    heard(alloc, config, &lines)
 }
 
-fn heard(alloc: Global, lines: &Seq<Line>) -> Result<Text, NoMemory> {
+fn heard(alloc: Global, config: &Config, lines: &Seq<Line>) -> Result<Text, NoMemory> {
     let mut said = Text::new(alloc);
-    hear_all(lines, &mut said)?;
+    hear_all(config, lines, &mut said)?;
     Ok(said)
 }
 
-fn hear_all(lines: &Seq<Line>, said: &mut Text) -> Result<(), NoMemory> {
+fn hear_all(config: &Config, lines: &Seq<Line>, said: &mut Text) -> Result<(), NoMemory> {
     let mut session = session_of(said.allocator())?;
-    hear(&mut session, lines, said)
+    hear(&mut session, config, lines, said)
 }
 
 fn lines_of(alloc: Global, stream: &[u8]) -> Result<Seq<Line>, NoMemory> {
@@ -33,16 +34,31 @@ fn session_of(alloc: Global) -> Result<Session, NoMemory> {
     Session::new(alloc, &host, &Text::of(alloc, b"10.0.0.1")?)
 }
 
-fn hear(session: &mut Session, lines: &Seq<Line>, said: &mut Text) -> Result<(), NoMemory> {
+fn hear(
+    session: &mut Session,
+    config: &Config,
+    lines: &Seq<Line>,
+    said: &mut Text,
+) -> Result<(), NoMemory> {
+    let mut judge = TestJudge::new();
     for line in lines.items() {
-        answer(session, line, said)?;
+        answer(session, config, &mut judge, line, said)?;
     }
     Ok(())
 }
 
-fn answer(session: &mut Session, line: &Line, said: &mut Text) -> Result<(), NoMemory> {
-    let did = session.line(line)?;
-    tell(session, &did, said)
+fn answer(
+    session: &mut Session,
+    config: &Config,
+    judge: &mut TestJudge,
+    line: &Line,
+    said: &mut Text,
+) -> Result<(), NoMemory> {
+    match session.line(line, config, judge) {
+        Ok(did) => tell(session, &did, said),
+        Err(JudgeFault::FilesFault) => said.extend(b"!"),
+        Err(JudgeFault::NoMemory) => Err(NoMemory),
+    }
 }
 
 fn tell(session: &mut Session, did: &Did, said: &mut Text) -> Result<(), NoMemory> {
@@ -63,28 +79,41 @@ fn add(said: &mut Text, parts: &[&[u8]]) -> Result<(), NoMemory> {
     Ok(())
 }
 
-fn show(said: &mut Text, message: &Received) -> Result<(), NoMemory> {
-    add(said, &[message.sender.bytes(), message.recipient.bytes()])?;
+fn show(said: &mut Text, message: &Message) -> Result<(), NoMemory> {
+    said.extend(message.sender.bytes())?;
+    show_rows(said, &message.rows)?;
     for header in message.headers.items() {
         add(said, &[b"{", header.bytes(), b"}"])?;
     }
     add(said, &[b"[", message.body.bytes(), b"] "])?;
-    show_kept(said, &message.kept)
+    show_kept(said, &message.kept)?;
+    if message.eight {
+        said.extend(b" 8BITMIME")?;
+    }
+    if message.class == -60 {
+        said.extend(b" bulk")?;
+    }
+    said.extend(b"\r\n")
+}
+
+fn show_rows(said: &mut Text, rows: &Seq<Draw>) -> Result<(), NoMemory> {
+    for row in rows.items() {
+        said.extend(row.address.bytes())?;
+    }
+    Ok(())
 }
 
 fn show_kept(said: &mut Text, kept: &Kept) -> Result<(), NoMemory> {
     let (protocol, helo) = (kept.protocol.bytes(), kept.helo.bytes());
-    add(
-        said,
-        &[protocol, b" ", helo, b" ", kept.client.bytes(), b"\r\n"],
-    )
+    add(said, &[protocol, b" ", helo, b" ", kept.client.bytes()])
 }
 
 /// What a session is given, and what is shown of what it says.
 type Row = (&'static [u8], &'static [u8]);
 
-/// A stream, and what is said to it.
-static SESSIONS: [Row; 28] = [
+/// A stream, and what is said to it: the cases of a command in their order, and of neighbours the
+/// first.
+static SESSIONS: [Row; 58] = [
     (
         b"HELO c.example\r\nMAIL FROM:<bob@c.example>\r\nRCPT TO:<ann@mx.example>\r\nDATA\r\n\
             Subject: hi\r\n\r\nhello\r\n.\r\nQUIT\r\n",
@@ -94,26 +123,41 @@ static SESSIONS: [Row; 28] = [
             250 2.0.0 w000000000001 Message accepted for delivery\r\n\
             221 2.0.0 localhost closing connection\r\n",
     ),
-    (b"NOOP\r\n", b"500 5.5.1 Command unrecognized\r\n"),
-    (b"EHLO a\r\n", b"500 5.5.1 Command unrecognized\r\n"),
-    (b"\r\n", b"500 5.5.1 Command unrecognized\r\n"),
-    (b"EHLO\r\n", b"500 5.5.1 Command unrecognized\r\n"),
-    (b"vrfy \r\n", b"500 5.5.1 Command unrecognized\r\n"),
-    (b"RSET now\r\n", b"500 5.5.1 Command unrecognized\r\n"),
-    (b"Help\r\n", b"500 5.5.1 Command unrecognized\r\n"),
-    (b"QUITE\r\n", b"500 5.5.1 Command unrecognized\r\n"),
-    (b"EXPN \x7f\r\n", b"500 5.5.2 Bad byte in line\r\n"),
     (
-        b"MAIL FROM:<a> BODY=8BITMIME\r\n",
-        b"555 5.5.4 Parameter not known\r\n",
+        b"EHLO c.example\r\nMAIL FROM:<bob@c.example> BODY=8BITMIME SIZE=16777216\r\n\
+            RCPT TO:<a>\r\nRCPT TO:<no>\r\nRCPT TO:<b>\r\nDATA\r\nhello\r\n.\r\nDATA\r\n",
+        b"250-localhost Hello\r\n250-PIPELINING\r\n250-SIZE 16777216\r\n250 8BITMIME\r\n\
+            250 2.1.0 Sender ok\r\n250 2.1.5 Recipient ok\r\n550 5.7.1 Refused\r\n\
+            250 2.1.5 Recipient ok\r\n354 Enter mail, end with \".\" on a line by itself\r\n\
+            +<bob@c.example><a><b>[hello\r\n] ESMTP c.example 10.0.0.1 8BITMIME\r\n\
+            250 2.0.0 w000000000001 Message accepted for delivery\r\n\
+            503 5.5.1 Need RCPT first\r\n",
     ),
-    (b"MAIL FROM:<a> body=7bit\r\n", b"250 2.1.0 Sender ok\r\n"),
-    (b"HELO \t\r\n", b"501 5.5.4 Argument needed\r\n"),
-    (b"quit now\r\n", b"501 5.5.4 No argument allowed\r\n"),
-    (b"DATA x\r\n", b"501 5.5.4 No argument allowed\r\n"),
+    (b"EXPN \x7f\r\n", b"500 5.5.2 Bad byte in line\r\n"),
+    (b"\x7f\r\n", b"500 5.5.2 Bad byte in line\r\n"),
     (b"HELO \x7f\r\n", b"500 5.5.2 Bad byte in line\r\n"),
+    (b"\r\n", b"500 5.5.1 Command unrecognized\r\n"),
+    (b"QUITE\r\n", b"500 5.5.1 Command unrecognized\r\n"),
+    (b"HELO \t\r\n", b"501 5.5.4 Argument needed\r\n"),
+    (b"EHLO\r\n", b"501 5.5.4 Argument needed\r\n"),
+    (b"vrfy \r\n", b"501 5.5.4 Argument needed\r\n"),
+    (b"DATA x\r\n", b"501 5.5.4 No argument allowed\r\n"),
+    (b"RSET now\r\n", b"501 5.5.4 No argument allowed\r\n"),
+    (b"quit now\r\n", b"501 5.5.4 No argument allowed\r\n"),
+    (
+        b"ehlo a\r\n",
+        b"250-localhost Hello\r\n250-PIPELINING\r\n250-SIZE 16777216\r\n250 8BITMIME\r\n",
+    ),
+    (
+        b"MAIL FROM:<>\r\nMAIL\r\n",
+        b"250 2.1.0 Sender ok\r\n503 5.5.1 Sender already given\r\n",
+    ),
     (b"RCPT\r\n", b"503 5.5.1 Need MAIL first\r\n"),
     (b"DATA\r\n", b"503 5.5.1 Need RCPT first\r\n"),
+    (
+        b"MAIL FROM:<a>\r\nDATA\r\n",
+        b"250 2.1.0 Sender ok\r\n503 5.5.1 Need RCPT first\r\n",
+    ),
     (b"MAIL FROM:<\">\r\n", b"501 5.5.2 Syntax error in path\r\n"),
     (
         b"MAIL FROM:<\"a>\r\n",
@@ -130,19 +174,163 @@ static SESSIONS: [Row; 28] = [
     (b"MAIL FROM:<a>b\r\n", b"501 5.5.2 Syntax error in path\r\n"),
     (b"MAIL FROM:\r\n", b"501 5.5.2 Syntax error in path\r\n"),
     (
-        b"MAIL FROM:<a> SIZE=1\r\n",
+        b"MAIL FROM:<a> SIZE=99999999 X=1\r\n",
         b"555 5.5.4 Parameter not known\r\n",
     ),
-    (b"MAIL FROM:<a> \t\r\n", b"250 2.1.0 Sender ok\r\n"),
     (
-        b"MAIL FROM:<>\r\nMAIL\r\nRCPT TO:<@a:>\r\nRCPT TO:b\r\nRCPT TO:<c>\r\n",
-        b"250 2.1.0 Sender ok\r\n503 5.5.1 Sender already given\r\n\
-            553 5.1.3 User address required\r\n250 2.1.5 Recipient ok\r\n\
-            452 4.5.3 Too many recipients\r\n",
+        b"MAIL FROM:<a> SIZE=1 SIZE=1\r\n",
+        b"555 5.5.4 Parameter not known\r\n",
+    ),
+    (
+        b"MAIL FROM:<a> BODY=9BIT\r\n",
+        b"555 5.5.4 Parameter not known\r\n",
+    ),
+    (
+        b"MAIL FROM:<a>\r\nRCPT TO:<> SIZE=1\r\n",
+        b"250 2.1.0 Sender ok\r\n555 5.5.4 Parameter not known\r\n",
+    ),
+    (
+        b"MAIL FROM:<no> SIZE=16777217\r\n",
+        b"552 5.3.4 Message too large\r\n",
+    ),
+    (
+        b"MAIL FROM:<a> SIZE=99999999999999999999\r\n",
+        b"552 5.3.4 Message too large\r\n",
+    ),
+    (
+        b"MAIL FROM:<no> SIZE=16777216\r\n",
+        b"550 5.7.1 Refused\r\n",
+    ),
+    (
+        b"MAIL FROM:<no>\r\nRCPT TO:<a>\r\n",
+        b"550 5.7.1 Refused\r\n503 5.5.1 Need MAIL first\r\n",
+    ),
+    (b"MAIL FROM:<no(>\r\n", b"550 5.7.1 Refused\r\n"),
+    (
+        b"MAIL FROM:<a(>\r\nMAIL FROM:<a>\r\n",
+        b"553 5.1.3 Bad address\r\n250 2.1.0 Sender ok\r\n",
+    ),
+    (b"MAIL FROM:<a<b>\r\n", b"553 5.1.3 Bad address\r\n"),
+    (b"MAIL FROM:<>\r\n", b"250 2.1.0 Sender ok\r\n"),
+    (b"MAIL FROM:<a> \t\r\n", b"250 2.1.0 Sender ok\r\n"),
+    (b"MAIL FROM:<a> body=7bit\r\n", b"250 2.1.0 Sender ok\r\n"),
+    (b"MAIL FROM:<a> SIZE=1\r\n", b"250 2.1.0 Sender ok\r\n"),
+    (
+        b"MAIL FROM:<>\r\nRCPT TO:<@a:>\r\nRCPT TO:b\r\n",
+        b"250 2.1.0 Sender ok\r\n553 5.1.3 User address required\r\n\
+            250 2.1.5 Recipient ok\r\n",
+    ),
+    (
+        b"MAIL FROM:<a>\r\nRCPT TO:<no>\r\nDATA\r\n",
+        b"250 2.1.0 Sender ok\r\n550 5.7.1 Refused\r\n503 5.5.1 Need RCPT first\r\n",
+    ),
+    (
+        b"MAIL FROM:<a>\r\nRCPT TO:<many>\r\nRCPT TO:<no>\r\nRCPT TO:<many>\r\nRCPT TO:<b>\r\n",
+        b"250 2.1.0 Sender ok\r\n250 2.1.5 Recipient ok\r\n550 5.7.1 Refused\r\n\
+            452 4.5.3 Too many recipients\r\n250 2.1.5 Recipient ok\r\n",
+    ),
+    (
+        b"MAIL FROM:<fault>\r\nMAIL FROM:<a>\r\nRCPT TO:<fault>\r\nDATA\r\n",
+        b"!250 2.1.0 Sender ok\r\n!503 5.5.1 Need RCPT first\r\n",
     ),
     (
         b"MAIL FROM:<a>\r\nHELO b\r\nRCPT TO:<c>\r\n",
         b"250 2.1.0 Sender ok\r\n250 localhost Hello\r\n503 5.5.1 Need MAIL first\r\n",
+    ),
+    (
+        b"MAIL FROM:<a>\r\nEHLO\r\nRCPT TO:<c>\r\n",
+        b"250 2.1.0 Sender ok\r\n501 5.5.4 Argument needed\r\n250 2.1.5 Recipient ok\r\n",
+    ),
+    (
+        b"MAIL FROM:<a>\r\nEHLO b\r\nRCPT TO:<c>\r\n",
+        b"250 2.1.0 Sender ok\r\n250-localhost Hello\r\n250-PIPELINING\r\n\
+            250-SIZE 16777216\r\n250 8BITMIME\r\n503 5.5.1 Need MAIL first\r\n",
+    ),
+    (
+        b"MAIL FROM:<a>\r\nRCPT TO:<b>\r\nRSET\r\nMAIL FROM:<c>\r\nDATA\r\n",
+        b"250 2.1.0 Sender ok\r\n250 2.1.5 Recipient ok\r\n250 2.0.0 Reset state\r\n\
+            250 2.1.0 Sender ok\r\n503 5.5.1 Need RCPT first\r\n",
+    ),
+    (
+        b"MAIL FROM:<a> BODY=8BITMIME\r\nRSET\r\nMAIL FROM:<b>\r\nRCPT TO:<c>\r\nDATA\r\n.\r\n",
+        b"250 2.1.0 Sender ok\r\n250 2.0.0 Reset state\r\n250 2.1.0 Sender ok\r\n\
+            250 2.1.5 Recipient ok\r\n354 Enter mail, end with \".\" on a line by itself\r\n\
+            <b><c>[] SMTP  10.0.0.1\r\n250 2.0.0 w000000000001 Message accepted for delivery\r\n",
+    ),
+    (b"NOOP\r\n", b"250 2.0.0 OK\r\n"),
+    (b"noop x\r\n", b"250 2.0.0 OK\r\n"),
+    (
+        b"MAIL FROM:<a>\r\nNOOP\r\nRCPT TO:<b>\r\n",
+        b"250 2.1.0 Sender ok\r\n250 2.0.0 OK\r\n250 2.1.5 Recipient ok\r\n",
+    ),
+    (b"VRFY ann\r\n", b"252 2.5.2 Cannot verify\r\n"),
+    (b"EXPN ann\r\n", b"502 5.7.0 Not available\r\n"),
+    (b"Expn\r\n", b"502 5.7.0 Not available\r\n"),
+    (b"Help\r\n", b"214 2.0.0 See RFC 5321\r\n"),
+    (b"HELP x\r\n", b"214 2.0.0 See RFC 5321\r\n"),
+    (b"QUIT\r\n", b"221 2.0.0 localhost closing connection\r\n"),
+    (
+        b"EHLO a\r\nHELO b\r\nMAIL FROM:<c>\r\nRCPT TO:<d>\r\nDATA\r\n.\r\n",
+        b"250-localhost Hello\r\n250-PIPELINING\r\n250-SIZE 16777216\r\n250 8BITMIME\r\n\
+            250 localhost Hello\r\n250 2.1.0 Sender ok\r\n250 2.1.5 Recipient ok\r\n\
+            354 Enter mail, end with \".\" on a line by itself\r\n<c><d>[] SMTP b 10.0.0.1\r\n\
+            250 2.0.0 w000000000001 Message accepted for delivery\r\n",
+    ),
+];
+
+/// The same where a message may have 60 bytes, two recipients and one hop.
+static LIMITED_SESSIONS: [Row; 8] = [
+    (
+        b"EHLO a\r\n",
+        b"250-localhost Hello\r\n250-PIPELINING\r\n250-SIZE 60\r\n250 8BITMIME\r\n",
+    ),
+    (
+        b"MAIL FROM:<a> SIZE=61\r\nMAIL FROM:<a> SIZE=60\r\n",
+        b"552 5.3.4 Message too large\r\n250 2.1.0 Sender ok\r\n",
+    ),
+    (
+        b"MAIL FROM:<a>\r\nRCPT TO:<b>\r\nRCPT TO:<no>\r\nRCPT TO:<c>\r\nRCPT TO:<>\r\n\
+            RCPT TO:<no>\r\nRCPT TO:<d>\r\n",
+        b"250 2.1.0 Sender ok\r\n250 2.1.5 Recipient ok\r\n550 5.7.1 Refused\r\n\
+            250 2.1.5 Recipient ok\r\n553 5.1.3 User address required\r\n\
+            452 4.5.3 Too many recipients\r\n452 4.5.3 Too many recipients\r\n",
+    ),
+    (
+        b"MAIL FROM:<a>\r\nRCPT TO:<b>\r\nDATA\r\n\
+            123456789012345678901234567890123456789012345678901234567\r\n.\r\nRCPT TO:<b>\r\n",
+        b"250 2.1.0 Sender ok\r\n250 2.1.5 Recipient ok\r\n\
+            354 Enter mail, end with \".\" on a line by itself\r\n\
+            +<a><b>[123456789012345678901234567890123456789012345678901234567\r\n] \
+            SMTP  10.0.0.1\r\n\
+            250 2.0.0 w000000000001 Message accepted for delivery\r\n503 5.5.1 Need MAIL first\r\n",
+    ),
+    (
+        b"MAIL FROM:<a>\r\nRCPT TO:<b>\r\nDATA\r\nReceived: 1\r\nReceived: 2\r\n\r\n\
+            123456789012345678901234567890123456789012345678901234567890\r\n.\r\nRCPT TO:<b>\r\n",
+        b"250 2.1.0 Sender ok\r\n250 2.1.5 Recipient ok\r\n\
+            354 Enter mail, end with \".\" on a line by itself\r\n\
+            ++++552 5.3.4 Message too large\r\n503 5.5.1 Need MAIL first\r\n",
+    ),
+    (
+        b"MAIL FROM:<a>\r\nRCPT TO:<b>\r\nDATA\r\nReceived: 1\r\nreceived: 2\r\n.\r\n\
+            RCPT TO:<b>\r\n",
+        b"250 2.1.0 Sender ok\r\n250 2.1.5 Recipient ok\r\n\
+            354 Enter mail, end with \".\" on a line by itself\r\n\
+            ++554 5.4.6 Too many hops\r\n503 5.5.1 Need MAIL first\r\n",
+    ),
+    (
+        b"MAIL FROM:<a>\r\nRCPT TO:<b>\r\nDATA\r\nReceived: 1\r\n\r\nReceived: 2\r\n.\r\n",
+        b"250 2.1.0 Sender ok\r\n250 2.1.5 Recipient ok\r\n\
+            354 Enter mail, end with \".\" on a line by itself\r\n\
+            +++<a><b>{Received: 1}[Received: 2\r\n] SMTP  10.0.0.1\r\n\
+            250 2.0.0 w000000000001 Message accepted for delivery\r\n",
+    ),
+    (
+        b"MAIL FROM:<a>\r\nRCPT TO:<b>\r\nDATA\r\nprecedence: BULK \r\n.\r\n",
+        b"250 2.1.0 Sender ok\r\n250 2.1.5 Recipient ok\r\n\
+            354 Enter mail, end with \".\" on a line by itself\r\n\
+            +<a><b>{precedence: BULK }[] SMTP  10.0.0.1 bulk\r\n\
+            250 2.0.0 w000000000001 Message accepted for delivery\r\n",
     ),
 ];
 
@@ -191,10 +379,10 @@ fn inside<'a>(said: &'a [u8], frame: &Frame) -> &'a [u8] {
     &said[front..end]
 }
 
-fn is_said(alloc: Global, frame: &Frame, row: &Row) -> Result<bool, NoMemory> {
+fn is_said(alloc: Global, config: &Config, frame: &Frame, row: &Row) -> Result<bool, NoMemory> {
     let mut stream = Text::new(alloc);
     add(&mut stream, &[frame.before, row.0, frame.behind])?;
-    let said = said_to(alloc, stream.bytes())?;
+    let said = said_to(alloc, config, stream.bytes())?;
     Ok(inside(said.bytes(), frame) == row.1)
 }
 
@@ -203,6 +391,7 @@ fn table(number: usize) -> (Frame, &'static [Row]) {
     match number {
         0 => (WHOLE, &SESSIONS),
         1 => (MESSAGE, &MESSAGES),
+        2 => (WHOLE, &LIMITED_SESSIONS),
         _ => (SENDER, &PATHS),
     }
 }
@@ -229,9 +418,14 @@ const SENDER: Frame = Frame {
 };
 
 // The first place of a row to which something else is said.
-fn wrong(alloc: Global, frame: &Frame, rows: &[Row]) -> Result<Option<usize>, NoMemory> {
+fn wrong(
+    alloc: Global,
+    config: &Config,
+    frame: &Frame,
+    rows: &[Row],
+) -> Result<Option<usize>, NoMemory> {
     for (at, row) in rows.iter().enumerate() {
-        if !is_said(alloc, frame, row)? {
+        if !is_said(alloc, config, frame, row)? {
             return Ok(Some(at));
         }
     }
@@ -240,12 +434,24 @@ fn wrong(alloc: Global, frame: &Frame, rows: &[Row]) -> Result<Option<usize>, No
 
 fn wrong_of(alloc: Global, number: usize) -> Result<Option<usize>, NoMemory> {
     let (frame, rows) = table(number);
-    wrong(alloc, &frame, rows)
+    let mut config = Config::new(alloc)?;
+    if number == 2 {
+        limit(&mut config)?;
+    }
+    wrong(alloc, &config, &frame, rows)
+}
+
+fn limit(config: &mut Config) -> Result<(), NoMemory> {
+    config.options.max_message_size = 60;
+    config.options.max_recipients_per_message = 2;
+    config.options.max_hop_count = 1;
+    let name = Text::of(config.precedences.allocator(), b"bulk")?;
+    config.precedences.push(Precedence { name, class: -60 })
 }
 
 #[test]
 fn lines_get_their_replies_and_messages_are_split(rt: HostRuntime) -> Result<(), NoMemory> {
-    for number in 0..3 {
+    for number in 0..4 {
         assert_eq!(rt; wrong_of(rt.alloc(), number)?, None, "table {number}");
     }
     Ok(())
@@ -275,11 +481,16 @@ static LENGTHS: [(usize, usize, &[u8]); 5] = [
     (2_100, 1, b"500 5.5.2"),
 ];
 
+fn said_by_default(alloc: Global, stream: &Text) -> Result<Text, NoMemory> {
+    let config = Config::new(alloc)?;
+    said_to(alloc, &config, stream.bytes())
+}
+
 // Whether the reply to such a MAIL begins with this code.
 fn has_code(alloc: Global, row: &(usize, usize, &[u8])) -> Result<bool, NoMemory> {
     let mut line = Text::new(alloc);
     add_mail(&mut line, row.0, row.1)?;
-    Ok(said_to(alloc, line.bytes())?.bytes().starts_with(row.2))
+    Ok(said_by_default(alloc, &line)?.bytes().starts_with(row.2))
 }
 
 #[test]
@@ -332,7 +543,7 @@ fn is_limit(alloc: Global, row: &Limit) -> Result<bool, NoMemory> {
     let mut stream = Text::of(alloc, LIMITED.before)?;
     add_lines(&mut stream, row)?;
     stream.extend(LIMITED.behind)?;
-    let said = said_to(alloc, stream.bytes())?;
+    let said = said_by_default(alloc, &stream)?;
     Ok(inside(said.bytes(), &LIMITED).starts_with(row.3))
 }
 
@@ -345,24 +556,29 @@ fn headers_have_65536_bytes_and_a_message_16777216(rt: HostRuntime) -> Result<()
 }
 
 /// What is said to the lines behind one for which there was no memory in mid-data.
-fn hear_after_reset(session: &mut Session, said: &mut Text) -> Result<(), NoMemory> {
+fn hear_after_reset(
+    session: &mut Session,
+    config: &Config,
+    said: &mut Text,
+) -> Result<(), NoMemory> {
     let alloc = said.allocator();
     let begun = lines_of(alloc, b"MAIL FROM:<a>\r\nRCPT TO:<b>\r\nDATA\r\na\r\n")?;
-    hear(session, &begun, said)?;
+    hear(session, config, &begun, said)?;
     session.reset();
     said.clear();
-    hear_rest(session, said)
+    hear_rest(session, config, said)
 }
 
-fn hear_rest(session: &mut Session, said: &mut Text) -> Result<(), NoMemory> {
+fn hear_rest(session: &mut Session, config: &Config, said: &mut Text) -> Result<(), NoMemory> {
     let mut rest = Seq::new(said.allocator());
     add_rest(&mut rest)?;
-    hear(session, &rest, said)
+    hear(session, config, &rest, said)
 }
 
 fn say_after_reset(said: &mut Text) -> Result<(), NoMemory> {
     let mut session = session_of(said.allocator())?;
-    hear_after_reset(&mut session, said)
+    let config = Config::new(said.allocator())?;
+    hear_after_reset(&mut session, &config, said)
 }
 
 fn is_said_after_reset(alloc: Global, wanted: &[u8]) -> Result<bool, NoMemory> {
