@@ -4,12 +4,16 @@
 //! 16,777,200 bytes of body. It tells how many bytes were received.
 
 ghost use Rattle.std.specs.Prelude.{◌<◌};
+ghost use Rattle.mail_base.specs.Answering.{Answerer};
+ghost use Rattle.smtp_receive.specs.Judging.{Question, Said};
 
 use crate::gather::{Part, message};
 use anyhow::{Result, bail, ensure};
-use mail_base::{NoMemory, Seq, Text};
+use mail_base::{
+    Config, Draw, JudgeFault, Kept, NoMemory, Resolved, RouteError, Seq, Text, Triple, TryCopy,
+};
 use smtp_lines::{Line, Lines};
-use smtp_receive::{Did, Session};
+use smtp_receive::{Did, Judge, Session, Verdict};
 use std::alloc::Global;
 
 /// What the peer says before each message.
@@ -36,44 +40,101 @@ fn words(over: &str) -> Result<(&str, usize)> {
     }
 }
 
+/// A judge that accepts all, with one row a recipient.
+struct Willing;
+
+impl Judge for Willing {
+    ghost seen = { λ _. record { faults = 0; tells = false } };
+
+    ghost answers = { λ _ _ _. Unit };
+
+    fn sender(
+        &mut self,
+        _alloc: Global,
+        _path: &Text,
+        _kept: &Kept,
+    ) -> Result<Option<RouteError>, JudgeFault> {
+        Ok(None)
+    }
+
+    fn recipient(
+        &mut self,
+        alloc: Global,
+        path: &Text,
+        sender: &Text,
+        _kept: &Kept,
+    ) -> Result<Verdict, JudgeFault> {
+        let mut rows = Seq::new(alloc);
+        rows.push(row_of(path, sender)?)?;
+        Ok(Verdict::Rows(rows))
+    }
+}
+
+fn row_of(path: &Text, sender: &Text) -> Result<Draw, NoMemory> {
+    Ok(Draw {
+        address: path.copy()?,
+        sender: sender.copy()?,
+        primary: true,
+        resolved: Resolved::Goes(triple(path)?),
+    })
+}
+
+fn triple(path: &Text) -> Result<Triple, NoMemory> {
+    Ok(Triple {
+        mailer: Text::of(path.allocator(), b"local")?,
+        host: Text::new(path.allocator()),
+        user: path.copy()?,
+    })
+}
+
 fn receive(alloc: Global, message: &[u8], size: usize, rounds: u32) -> Result<u64, NoMemory>
     requires { 0 < size }
 {
+    let config = Config::new(alloc)?;
     let host = Text::of(alloc, b"mx.example")?;
     let peer = Text::of(alloc, b"192.0.2.1")?;
     let mut session = Session::new(alloc, &host, &peer)?;
     let mut reader = Lines::new(alloc);
     let mut received = 0u64;
     for _ in 0..rounds {
-        received = received.wrapping_add(receive_one(&mut session, &mut reader, message, size)?);
+        received = received.wrapping_add(receive_one(
+            &mut session,
+            &config,
+            &mut reader,
+            message,
+            size,
+        )?);
     }
     Ok(received)
 }
 
 fn receive_one(
     session: &mut Session,
+    config: &Config,
     reader: &mut Lines,
     message: &[u8],
     size: usize,
 ) -> Result<u64, NoMemory>
     requires { 0 < size }
 {
-    let _nothing = hear(session, &reader.feed(OPENING)?)?;
+    let _nothing = hear(session, config, &reader.feed(OPENING)?)?;
     if reader.may_turn() {
         reader.data();
     }
     for piece in message.chunks(size) {
-        let _nothing = hear(session, &reader.feed(piece)?)?;
+        let _nothing = hear(session, config, &reader.feed(piece)?)?;
     }
-    hear(session, &reader.feed(b".\r\n")?)
+    hear(session, config, &reader.feed(b".\r\n")?)
 }
 
 /// The bytes of the messages that lines end.
-fn hear(session: &mut Session, lines: &Seq<Line>) -> Result<u64, NoMemory> {
+fn hear(session: &mut Session, config: &Config, lines: &Seq<Line>) -> Result<u64, NoMemory> {
     let mut received = 0u64;
     for line in lines.items() {
-        if let Did::Message(message) = session.line(line)? {
-            received = received.wrapping_add(message.size);
+        match session.line(line, config, &mut Willing) {
+            Ok(Did::Message(message)) => received = received.wrapping_add(message.size),
+            Ok(_) => (),
+            Err(_) => return Err(NoMemory),
         }
     }
     Ok(received)
