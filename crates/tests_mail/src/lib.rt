@@ -3,6 +3,8 @@
 #![tactic(auto)]
 
 #[cfg(test)]
+mod cases;
+#[cfg(test)]
 mod commands;
 #[cfg(test)]
 mod control;
@@ -16,5 +18,7 @@ mod receive;
 mod received;
 #[cfg(test)]
 mod replies;
+#[cfg(test)]
+mod talk;
 #[cfg(test)]
 mod test_judge;

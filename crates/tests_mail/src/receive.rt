@@ -29,7 +29,7 @@ fn lines_of(alloc: Global, stream: &[u8]) -> Result<Seq<Line>, NoMemory> {
     read_stream(alloc, &pieces, &[true])
 }
 
-fn session_of(alloc: Global) -> Result<Session, NoMemory> {
+pub(crate) fn session_of(alloc: Global) -> Result<Session, NoMemory> {
     let host = Text::of(alloc, b"localhost")?;
     Session::new(alloc, &host, &Text::of(alloc, b"10.0.0.1")?)
 }
@@ -61,7 +61,7 @@ fn answer(
     }
 }
 
-fn tell(session: &mut Session, did: &Did, said: &mut Text) -> Result<(), NoMemory> {
+pub(crate) fn tell(session: &mut Session, did: &Did, said: &mut Text) -> Result<(), NoMemory> {
     match did {
         Did::Reply(text) | Did::Granted(text) | Did::Bye(text) => said.extend(text.bytes()),
         Did::Taken => said.extend(b"+"),
