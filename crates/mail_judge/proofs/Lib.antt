@@ -1,1 +1,3 @@
+mod FormLemmas
 mod JudgeLemmas
+mod LawLemmas

@@ -1,6 +1,6 @@
 -- What the rules of a configuration say of the paths of sessions (cf/README, the sets check_mail
--- and check_rcpt; Sendmail Installation and Operation Guide, R and S: the sets 0 to 5; D: the macros
--- r, s, f and {client_addr}). Until aliases are read a recipient is one row, which is itself (own).
+-- and check_rcpt; Sendmail Installation and Operation Guide, R and S: rewriting rules; D: define
+-- macro, for r, s, f and {client_addr}; that a recipient is one row, which is itself, is own).
 use Rattle.std.specs.Prelude.{◌≡◌, ℕ, List, [], ◌∷◌, Option, None, Some, true, codes, refl}
 use Rattle.mail_base.specs.Answering.{Answerer}
 use Rattle.mail_base.specs.Catalogs.{value_at, with_value}
@@ -40,14 +40,14 @@ macros_with macros kept sender =
 abbrev pub session_macros : Config → Kept → List ℕ → Macros
 session_macros config kept sender = macros_with config.macros kept sender
 
-abbrev kept : Kept
-kept = record {
+abbrev session : Kept
+session = record {
   protocol = codes "ESMTP";
   helo = codes "c.example";
   client = codes "192.0.2.1";
 }
 
-example : macros_with ((codes "s", codes "old") ∷ []) kept (codes "<bob@c>")
+example : macros_with ((codes "s", codes "old") ∷ []) session (codes "<bob@c>")
     ≡ (codes "s", codes "c.example") ∷ (codes "r", codes "ESMTP")
     ∷ (codes "client_addr", codes "192.0.2.1") ∷ (codes "f", codes "bob@c") ∷ []
 example = refl

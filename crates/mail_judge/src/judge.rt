@@ -138,12 +138,7 @@ fn routed(
 }
 
 // The one row of a recipient that goes.
-fn row_to(
-    alloc: Global,
-    path: &Text,
-    sender: &Text,
-    triple: Triple,
-) -> Result<Seq<Draw>, NoMemory>
+fn row_to(alloc: Global, path: &Text, sender: &Text, triple: Triple) -> Result<Seq<Draw>, NoMemory>
     ensures { IfOk result (λ rows. rows ≡ row_to path.now sender.now triple ∷ []) }
 {
     let address = path.copy()?;
@@ -159,12 +154,7 @@ fn row_to(
 }
 
 // The macros that rules see in a session whose sender is this path.
-fn macros_of(
-    alloc: Global,
-    config: &Config,
-    sender: &Text,
-    kept: &Kept,
-) -> Result<Macros, NoMemory>
+fn macros_of(alloc: Global, config: &Config, sender: &Text, kept: &Kept) -> Result<Macros, NoMemory>
     requires { IsBracketed sender.now }
     ensures { IfOk result (λ macros. macros ≡ session_macros config.now kept.now sender.now) }
 {
