@@ -1,6 +1,6 @@
 -- Which entry is claimed next (Sendmail Installation and Operation Guide, "Queue Groups": Runners
 -- and Interval; that a group which isn't configured counts as mqueue is our own).
-use Rattle.std.specs.Prelude.{◌≡◌, ℕ, ◌<◌, nat_lt, ◌&&◌, List, Option, None, Some, Bool, true, false, not, eqb, bytes_eq, count_by, All, Contains}
+use Rattle.std.specs.Prelude.{◌≡◌, ℕ, ◌<◌, nat_lt, ◌&&◌, List, Option, None, Some, Bool, true, false, not, eqb, bytes_eq, count_by, codes, [], ◌∷◌, All, Contains, refl}
 use Rattle.std.specs.List.{list_any}
 use Rattle.mail_base.specs.Catalogs.{value_at}
 use Rattle.spool_store.specs.declared.held.Held.{Held}
@@ -52,3 +52,14 @@ IsLeastDue w moment entries (Some id) = IsLeast w moment entries id
 abbrev pub IsQuiet : Waiting → List Held → Type 0
 IsQuiet w entries =
     (moment : ℕ) → moment < w.quiet → All (λ h. may_claim w moment h ≡ false) entries
+
+-- where one entry of a lane is held that allows one, it is held and no other has room
+example : (wait : ℕ)
+    → (is_held (record { id = 7; lane = codes "bulk" } ∷ []) 7 ≡ true)
+    × (has_room (record { id = 7; lane = codes "bulk" } ∷ [])
+    (record { group = codes "bulk"; wait = wait; runners = 1 })
+    ≡ false)
+    × (has_room (record { id = 7; lane = codes "mqueue" } ∷ [])
+    (record { group = codes "bulk"; wait = wait; runners = 1 })
+    ≡ true)
+example wait = (refl, refl, refl)
