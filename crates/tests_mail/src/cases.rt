@@ -240,7 +240,8 @@ static CASES: [Row; 68] = [
         b"MAIL FROM:<a>\r\n",
         b"NOOP\r\nVRFY b\r\nEXPN b\r\nHELP\r\nHELO\r\nRSET x\r\nMAIL FROM:<c>\r\n",
         b"250 2.0.0 OK\r\n252 2.5.2 Cannot verify\r\n502 5.7.0 Not available\r\n\
-            214 2.0.0 See RFC 5321\r\n501 5.5.4 Argument needed\r\n501 5.5.4 No argument allowed\r\n\
+            214 2.0.0 See RFC 5321\r\n501 5.5.4 Argument needed\r\n\
+            501 5.5.4 No argument allowed\r\n\
             503 5.5.1 Sender already given\r\n",
     ),
 ];
