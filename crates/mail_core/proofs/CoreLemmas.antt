@@ -29,6 +29,8 @@ use Rattle.mail_core.specs.Causes.{EndsSo, HasCause, ending_by, ending_of, is_we
 use Rattle.mail_core.specs.inner.Going.{Feeds, way_after, is_onward}
 use Rattle.mail_core.specs.Guests.{Guest, newcomer, with_bytes, guest_of, is_here, without, with_guest}
 use Rattle.mail_core.specs.Machine.{Ending, Stopped, Opening, Replied, Dropped, Choices, Way, GoesOn, Leaves, Over, By, Did, all_answered, State, Step, still, most_guests, turned_away, welcomed, opened, brought, pieced, handled, Turn, at_moment, moment_by, stepped, taken}
+use Rattle.mail_core.specs.Judges.{JudgeSeen}
+use Rattle.mail_core.specs.Meant.{ArePieceMeant, IsEventMeant}
 use Rattle.mail_core.specs.Seen.{Seen, seen, Ran}
 use Rattle.mail_core.specs.Standing.{Stores, IsAlone, Hosts, Stands}
 use Rattle.mail_core.proofs.GoingLemmas.{cause_since, way_onward}
@@ -110,7 +112,7 @@ module _ (site : Site) (m : State) (session : ℕ) (peer : List ℕ) (core : Cor
 
   -- a session whose greeting was sent is a new one
   pub opens_new : (f now : Heard) (text : List ℕ) → m.guests ≡ [] → text ≡ greeting_text (shown_host site.host) → Gains f.told now.told (heard_of (Sends session text true ∷ []))
-      → Stands site core (record m { guests = m.guests ++ newcomer session peer ∷ [] }) → IsOpened site m session peer f now core
+      → Stands site core (record m { guests = m.guests ++ newcomer site.config session peer ∷ [] }) → IsOpened site m session peer f now core
   opens_new f now text none text_is told stands =
       let step = new_is (Replied true) none in record {
         choice = Replied true;
@@ -189,19 +191,20 @@ without_one number guests g e is = ap (without number) e ∙ ap (λ (b : Bool). 
 put_one : (guests : List Guest) (g now : Guest) → guests ≡ g ∷ [] → nat_eq g.number now.number ≡ true → with_guest now guests ≡ now ∷ []
 put_one guests g now e is = ap (with_guest now) e ∙ ap (λ (b : Bool). (if b then now else g) ∷ []) is
 
-module _ (site : Site) (m : State) (session : ℕ) (piece : List ℕ) (core : Core) where
+module _ (j : JudgeSeen) (site : Site) (m : State) (session : ℕ) (piece : List ℕ) (core : Core) where
   -- one of a session that isn't open
-  pub piece_dropped : (f : Heard) (s : Spooled) (k : ClockSeen) → guest_of session m.guests ≡ None → Stands site core m → Steps site m (Brings session piece) (seen f s k) (seen f s k) core (Ok Went)
+  pub piece_dropped : (f : Heard) (s : Spooled) (k : ClockSeen) → guest_of session m.guests ≡ None → Stands site core m → Steps j site m (Brings session piece) (seen f s k) (seen f s k) core (Ok Went)
   piece_dropped f s k none stands =
       let step = ap (λ o. pieced site m piece [] o) none in record {
         choices = [];
+        meant = subst (ArePieceMeant j site m piece []) (sym none) tt;
         ran = subst (λ (q : Step). Ran site.dirs m.table (seen f s k) (seen f s k) q.effects true) (sym step) (ran_none site.dirs m.table f s k);
         stands = λ e. subst (λ (q : Step). Stands site core q.state) (sym step) stands;
         ended = λ ending e. absurd (cc e);
       }
 
-module _ (site : Site) (m : State) (session : ℕ) (piece : List ℕ) (a b : Seen) (core : Core) where
-  module _ (g : Guest) (intake : Intake) (caller : Caller) (fed : Result Next CoreStop) (is : guest_of session m.guests ≡ Some g) (alone : m.guests ≡ g ∷ []) (h : Feeds site m.latest m.table g piece a b intake caller fed) where
+module _ (j : JudgeSeen) (site : Site) (m : State) (session : ℕ) (piece : List ℕ) (a b : Seen) (core : Core) where
+  module _ (g : Guest) (intake : Intake) (caller : Caller) (fed : Result Next CoreStop) (is : guest_of session m.guests ≡ Some g) (alone : m.guests ≡ g ∷ []) (h : Feeds j site m.latest m.table g piece a b intake caller fed) where
     abbrev did : Did
     did = all_answered site m.latest m.table (with_bytes g piece) h.choices
 
@@ -211,9 +214,10 @@ module _ (site : Site) (m : State) (session : ℕ) (piece : List ℕ) (a b : See
     same_number : nat_eq g.number did.guest.number ≡ true
     same_number = eq-eqb g.number did.guest.number (sym h.number)
 
-    pub piece_steps : ((ending_of (act_of fed) ≡ None) → Stands site core (brought m (way_after fed) did).state) → Steps site m (Brings session piece) a b core (act_of fed)
+    pub piece_steps : ((ending_of (act_of fed) ≡ None) → Stands site core (brought m (way_after fed) did).state) → Steps j site m (Brings session piece) a b core (act_of fed)
     piece_steps stands = record {
       choices = h.choices;
+      meant = subst (ArePieceMeant j site m piece h.choices) (sym is) h.meant;
       ran = subst (λ (q : Step). Ran site.dirs m.table a b q.effects (is_well (act_of fed))) (sym step_is)
           (subst (λ w. Ran site.dirs m.table a b (brought m (way_after fed) did).effects w) (well_act fed)
           (subst (λ effects. Ran site.dirs m.table a b effects (is_well fed)) (sym (brought_effects m (way_after fed) did)) h.ran));
@@ -228,9 +232,9 @@ module _ (site : Site) (m : State) (session : ℕ) (piece : List ℕ) (a b : See
 
     -- the session goes on
     pub piece_goes : (other : Core) → is_onward fed ≡ true → Stands site other (record m { guests = [] }) → core ≡ record other { intake = intake; caller = Some caller } → intake.moment ≡ m.latest
-        → Steps site m (Brings session piece) a b core (Ok Went)
+        → Steps j site m (Brings session piece) a b core (Ok Went)
     piece_goes other on old core_is moment =
-        subst (Steps site m (Brings session piece) a b core) (onward_act fed on)
+        subst (Steps j site m (Brings session piece) a b core) (onward_act fed on)
         (piece_steps (λ e.
         subst (λ w. Stands site core (brought m w did).state) (sym (way_onward fed on))
         (subst (λ c. Stands site c (record m { table = did.table; guests = with_guest did.guest m.guests })) (sym core_is) (record {
@@ -244,7 +248,7 @@ module _ (site : Site) (m : State) (session : ℕ) (piece : List ℕ) (a b : See
 
     -- the session is over, or the run
     pub piece_leaves : (other : Core) → is_onward fed ≡ false → Stands site other (record m { guests = [] }) → core ≡ record other { intake = intake } → intake.moment ≡ m.latest
-        → Steps site m (Brings session piece) a b core (act_of fed)
+        → Steps j site m (Brings session piece) a b core (act_of fed)
     piece_leaves other off old core_is moment = piece_steps (λ e.
         subst (λ w. Stands site core (brought m w did).state) (sym (left_way fed off e))
         (subst (λ c. Stands site c (record m { table = did.table; guests = without did.guest.number m.guests })) (sym core_is) (record {
@@ -282,21 +286,23 @@ opened_quiet site m session peer choice =
     (quiet_if (nat_le most_guests (length m.guests)) (turned_away m session choice) (welcomed site m session peer choice) (away_quiet m session choice) (welcomed_quiet site m session peer choice))
 
 -- an opening
-pub opened_steps : (site : Site) (m : State) (session : ℕ) (peer : List ℕ) (f now : Heard) (s : Spooled) (k : ClockSeen) (core : Core) → IsOpened site m session peer f now core → now.faults ≡ f.faults → Steps site m (Opens session peer) (seen f s k) (seen now s k) core (Ok Went)
-opened_steps site m session peer f now s k core h own =
+pub opened_steps : (j : JudgeSeen) (site : Site) (m : State) (session : ℕ) (peer : List ℕ) (f now : Heard) (s : Spooled) (k : ClockSeen) (core : Core) → IsOpened site m session peer f now core → now.faults ≡ f.faults → Steps j site m (Opens session peer) (seen f s k) (seen now s k) core (Ok Went)
+opened_steps j site m session peer f now s k core h own =
     let step = opened site m session peer h.choice in
     let quiet = opened_quiet site m session peer h.choice in record {
       choices = h.choice;
+      meant = tt;
       ran = ran_floor site.dirs m.table f now s k step.effects quiet.0 quiet.1 h.told own;
       stands = λ e. h.stands;
       ended = λ ending e. absurd (cc e);
     }
 
 -- nothing is asked of the devices, and the run goes on
-pub quiet_steps : (site : Site) (m : State) (event : Event) (choices : Choices event) (f : Heard) (s : Spooled) (k : ClockSeen) (core : Core) → (handled site m event choices).effects ≡ [] → Stands site core (handled site m event choices).state
-    → Steps site m event (seen f s k) (seen f s k) core (Ok Went)
-quiet_steps site m event choices f s k core none stands = record {
+pub quiet_steps : (j : JudgeSeen) (site : Site) (m : State) (event : Event) (choices : Choices event) (f : Heard) (s : Spooled) (k : ClockSeen) (core : Core) → IsEventMeant j site m event choices → (handled site m event choices).effects ≡ [] → Stands site core (handled site m event choices).state
+    → Steps j site m event (seen f s k) (seen f s k) core (Ok Went)
+quiet_steps j site m event choices f s k core meant none stands = record {
   choices = choices;
+  meant = meant;
   ran = subst (λ effects. Ran site.dirs m.table (seen f s k) (seen f s k) effects true) (sym none) (ran_none site.dirs m.table f s k);
   stands = λ e. stands;
   ended = λ ending e. absurd (cc e);
@@ -306,9 +312,10 @@ stopped_so : (m : State) (a b : Seen) (ending : Ending) → Some Stopped ≡ Som
 stopped_so m a b ending e = let same : Stopped ≡ ending = cc e in subst (λ q. EndsSo q Stops (record m { over = Some (By Stopped) }) a b) same (record { over = refl; cause = refl })
 
 -- the floor told Stop
-pub stop_steps : (site : Site) (m : State) (f : Heard) (s : Spooled) (k : ClockSeen) (core : Core) → Steps site m Stops (seen f s k) (seen f s k) core (Ok Ended)
-stop_steps site m f s k core = record {
+pub stop_steps : (j : JudgeSeen) (site : Site) (m : State) (f : Heard) (s : Spooled) (k : ClockSeen) (core : Core) → Steps j site m Stops (seen f s k) (seen f s k) core (Ok Ended)
+stop_steps j site m f s k core = record {
   choices = tt;
+  meant = tt;
   ran = ran_none site.dirs m.table f s k;
   stands = λ e. absurd (cc e);
   ended = stopped_so m (seen f s k) (seen f s k);
@@ -354,14 +361,15 @@ at_stands site m core intake reading st is range = record {
 }
 
 -- steps of the machine at the moment that the clock told are the turn of an event
-pub turns_of : (site : Site) (m : State) (event : Event) (reading : ℕ) (before f : Heard) (s : Spooled) (clock read : ClockSeen) (b : Seen) (core : Core) (went : Result Act CoreStop) → m.over ≡ None → IsTaken before f clock read event reading
-    → Steps site (at_moment m reading) event (seen f s read) b core went → Turns site m event reading (seen before s clock) b core went
-turns_of site m event reading before f s clock read b core went on taken_is h =
+pub turns_of : (j : JudgeSeen) (site : Site) (m : State) (event : Event) (reading : ℕ) (before f : Heard) (s : Spooled) (clock read : ClockSeen) (b : Seen) (core : Core) (went : Result Act CoreStop) → m.over ≡ None → IsTaken before f clock read event reading
+    → Steps j site (at_moment m reading) event (seen f s read) b core went → Turns j site m event reading (seen before s clock) b core went
+turns_of j site m event reading before f s clock read b core went on taken_is h =
     let turn : Turn = record { event = event; reading = reading; choices = h.choices } in
     let inner = handled site (at_moment m reading) event h.choices in
     let first : List Effect = Takes event ∷ Ticks reading ∷ [] in
     let is : stepped site m turn ≡ taken turn inner = cond-false (is_some m.over) (still m) (taken turn inner) (ap is_some on) in record {
       choices = h.choices;
+      meant = h.meant;
       ran = subst (λ (q : Step). Ran site.dirs m.table (seen before s clock) b q.effects (is_well went)) (sym is)
           (ran_join site.dirs m.table (seen before s clock) (seen f s read) b first inner.effects (is_well went)
           (ran_quiet site.dirs m.table before f s clock read first refl taken_is.told taken_is.faults taken_is.clock_told taken_is.readings) h.ran);

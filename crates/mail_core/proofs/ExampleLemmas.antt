@@ -6,19 +6,22 @@ use Rattle.std.proofs.lemmas.Bool.{and_parts, cond-false}
 use Rattle.std.proofs.lemmas.Grind.{flat_map-append}
 use Rattle.std.proofs.lemmas.List.{append-nil, map-append}
 use Rattle.std.proofs.lemmas.List.Sums.{fold_push}
+use Rattle.mail_base.specs.Limits.{message_limit}
+use Rattle.mail_base.specs.declared.config.Config.{Config}
 use Rattle.link_edge.specs.declared.event.Event.{Event}
 use Rattle.link_edge.specs.declared.event.Event.TheVariants.{Opens, Brings}
 use Rattle.smtp_lines.specs.declared.line.Line.{Line}
 use Rattle.smtp_lines.specs.Stream.{reading_of}
-use Rattle.smtp_receive.specs.Dialogue.{Heard, Exchange, Answer, Says, Greets, Grants, Closes, Gives, Takes as Passes, answer_to, exchanges, is_dropped, with_heard}
-use Rattle.smtp_receive.specs.Replies.{text_of, grant_text, hello_text, closing_text, out_of_memory_text, stored_text, shown_host}
+use Rattle.smtp_receive.specs.Dialogue.{Heard, Exchange, Answer, Says, Refuses, Greets, Extends, Grants, Closes, Gives, Takes as Passes, answer_to, exchanges, is_dropped, with_heard}
+use Rattle.smtp_receive.specs.Judging.{Said, Unasked}
+use Rattle.smtp_receive.specs.Replies.{text_of, refusal_text, grant_text, hello_text, extended_text, closing_text, out_of_memory_text, stored_text, shown_host}
 use Rattle.spool_store.specs.Entries.{Table}
 use Rattle.queue_table.specs.Commands.{after}
 use Rattle.mail_core.specs.Sites.{Site}
 use Rattle.mail_core.specs.Effects.{Effect, Takes, Ticks, Commits, Sends, HangsUp, speech}
 use Rattle.mail_core.specs.Guests.{Guest, grant_in, guest_of, is_passed, next_line, with_bytes}
 use Rattle.mail_core.specs.Machine.{Choice, Normal, OutOfMemory, Way, GoesOn, Leaves, Did, way_of, replies, by_choice, heard_line, id_by, is_answered, heard_where, answered, settled, settled_by, fresh_start, all_answered, State, Step, still, Turn, at_moment, beginning, brought, moment_by, pieced, stepped, taken, followed, run}
-use Rattle.mail_core.specs.Messages.{accept_of, is_spent, start}
+use Rattle.mail_core.specs.Messages.{accept_of, headed, is_spent, start}
 use Rattle.mail_core.proofs.MachineLemmas.{run_more}
 
 -- the grants of these exchanges, of which the latest is first
@@ -29,45 +32,59 @@ grants_by before = flat_map grant_in (reverse before)
 abbrev pub line_at : ℕ → List ℕ → List Bool → Option Line
 line_at place bytes grants = slice_get (reading_of bytes grants).lines place
 
--- a line was answered, or 452 4.3.1 came in place of it
+-- a line was answered, by what was said of it
+abbrev pub by_said : Line → Said → Answer → Exchange
+by_said line said answer = record { line = line; said = said; answer = Some answer }
+
+-- the same of one that isn't put to the judge
 abbrev pub plain : Line → Answer → Exchange
-plain line answer = record { line = line; answer = Some answer }
+plain line answer = by_said line Unasked answer
 
 -- a line at which memory was wanting
 abbrev pub lacked : Line → Exchange
-lacked line = record { line = line; answer = None }
+lacked line = record { line = line; said = Unasked; answer = None }
 
 -- a session with these lines
 abbrev pub with_lines : Guest → List Heard → Guest
 with_lines g heard = record g { heard = heard }
 
--- a line, whether memory was wanting, and the id that it got
+-- a line, what was said of it, whether memory was wanting, and the id that it got
+abbrev pub heard_by : Line → Said → Bool → Option ℕ → Heard
+heard_by line said short id = record { line = line; said = said; short = short; id = id }
+
+-- the same of one that isn't put to the judge
 abbrev pub input : Line → Bool → Option ℕ → Heard
-input line short id = record { line = line; short = short; id = id }
+input line short id = heard_by line Unasked short id
 
 module _ (site : Site) (moment : ℕ) where
   -- what is done at an answer that is sent whole or not
-  abbrev pub effects_by : ℕ → Table → Answer → Bool → List Effect
-  effects_by session table (Says reply) whole = speech session (text_of reply) whole
-  effects_by session table Greets whole = speech session (hello_text (shown_host site.host)) whole
-  effects_by session table Grants whole = speech session grant_text whole
-  effects_by session table Closes whole = Sends session (closing_text (shown_host site.host)) whole ∷ HangsUp session ∷ []
-  effects_by session table (Gives message) whole = Commits (accept_of site moment message) ∷ speech session (stored_text table.next) whole
-  effects_by session table Passes whole = []
+  abbrev pub effects_by : ℕ → ℕ → Table → Answer → Bool → List Effect
+  effects_by limit session table (Says reply) whole = speech session (text_of reply) whole
+  effects_by limit session table (Refuses error) whole = speech session (refusal_text error) whole
+  effects_by limit session table Greets whole = speech session (hello_text (shown_host site.host)) whole
+  effects_by limit session table Extends whole = speech session (extended_text (shown_host site.host) limit) whole
+  effects_by limit session table Grants whole = speech session grant_text whole
+  effects_by limit session table Closes whole = Sends session (closing_text (shown_host site.host)) whole ∷ HangsUp session ∷ []
+  effects_by limit session table (Gives message) whole = Commits (accept_of site moment (headed None message)) ∷ speech session (stored_text table.next) whole
+  effects_by limit session table Passes whole = []
 
   -- the table after an answer, where a message is accepted
   abbrev pub table_by : Table → Answer → Table
   table_by table (Says reply) = table
+  table_by table (Refuses error) = table
   table_by table Greets = table
+  table_by table Extends = table
   table_by table Grants = table
   table_by table Closes = table
-  table_by table (Gives message) = after table (accept_of site moment message)
+  table_by table (Gives message) = after table (accept_of site moment (headed None message))
   table_by table Passes = table
 
   -- how a session goes on after an answer, by whether it was sent whole
   abbrev pub way_by : Answer → Bool → Way
   way_by (Says reply) whole = way_of whole
+  way_by (Refuses error) whole = way_of whole
   way_by Greets whole = way_of whole
+  way_by Extends whole = way_of whole
   way_by Grants whole = way_of whole
   way_by Closes whole = Leaves
   way_by (Gives message) whole = way_of whole
@@ -80,11 +97,11 @@ module _ (site : Site) (moment : ℕ) where
   -- what a piece has come to by these choices, and the exchanges of the lines so far
   pub record Comes (table : Table) (guest : Guest) (choices : List Choice) (now : Table) (heard : List Heard) (before : List Exchange) (effects : List Effect) (way : Way) : Type 0 where
     pub may : Bool
-    pub known : exchanges guest.peer heard ≡ before
+    pub known : exchanges guest.config guest.peer heard ≡ before
     pub is : fold (answered site moment) (fresh_start table guest) choices ≡ so_far now guest heard may effects way
 
   -- no line was answered
-  pub comes_none : (table : Table) (guest : Guest) (before : List Exchange) → exchanges guest.peer guest.heard ≡ before → Comes table guest [] table guest.heard before [] GoesOn
+  pub comes_none : (table : Table) (guest : Guest) (before : List Exchange) → exchanges guest.config guest.peer guest.heard ≡ before → Comes table guest [] table guest.heard before [] GoesOn
   comes_none table guest before known = record { may = true; known = known; is = refl }
 
   module _ (table : Table) (guest : Guest) (choices : List Choice) (now : Table) (heard : List Heard) (before : List Exchange) (effects : List Effect) (line : Line) (c : Comes table guest choices now heard before effects GoesOn)
@@ -101,48 +118,61 @@ module _ (site : Site) (moment : ℕ) where
         ∙ ap (λ d. answered site moment d choice) c.is
         ∙ ap (λ o. by_choice site moment here choice o) next_here
 
+    -- the bytes that a message may have
+    abbrev most : ℕ
+    most = message_limit guest.config.options
+
     replied : (answer : Answer) (whole : Bool) → is_spent now ≡ false
-        → replies site moment here answer whole ≡ so_far (table_by now answer) guest heard c.may (effects ++ effects_by guest.number now answer whole) (way_by answer whole)
+        → replies site moment here answer None whole ≡ so_far (table_by now answer) guest heard c.may (effects ++ effects_by most guest.number now answer whole) (way_by answer whole)
     replied (Says reply) whole left = refl
+    replied (Refuses error) whole left = refl
     replied Greets whole left = refl
+    replied Extends whole left = refl
     replied Grants whole left = refl
     replied Closes whole left = refl
     replied (Gives message) whole left =
         cond-false (is_spent now) _ _ left
-        ∙ ap (λ q. so_far (after now (accept_of site moment message)) guest heard c.may q (way_of whole))
-        (append_assoc effects (Commits (accept_of site moment message) ∷ []) (speech guest.number (stored_text now.next) whole))
+        ∙ ap (λ q. so_far (after now (accept_of site moment (headed None message))) guest heard c.may q (way_of whole))
+        (append_assoc effects (Commits (accept_of site moment (headed None message)) ∷ []) (speech guest.number (stored_text now.next) whole))
     replied Passes whole left = ap (λ q. so_far now guest heard c.may q GoesOn) (sym (append-nil effects))
 
-    heard_more : (h : Heard) → exchanges guest.peer (heard ++ h ∷ []) ≡ with_heard guest.peer before h
-    heard_more h = fold_push (with_heard guest.peer) [] heard h ∙ ap (λ b. with_heard guest.peer b h) c.known
+    heard_more : (h : Heard) → exchanges guest.config guest.peer (heard ++ h ∷ []) ≡ with_heard guest.config guest.peer before h
+    heard_more h = fold_push (with_heard guest.config guest.peer) [] heard h ∙ ap (λ b. with_heard guest.config guest.peer b h) c.known
 
     answered_now : (answer : Answer) → is_spent now ≡ false → is_answered now answer ≡ true
     answered_now (Gives message) left = ap not left
     answered_now (Says reply) left = refl
+    answered_now (Refuses error) left = refl
     answered_now Greets left = refl
+    answered_now Extends left = refl
     answered_now Grants left = refl
     answered_now Closes left = refl
     answered_now Passes left = refl
 
     -- a line got its answer
-    pub comes_more : (answer : Answer) (whole : Bool) → is_spent now ≡ false → answer_to guest.peer before line ≡ answer
-        → Comes table guest (choices ++ Normal whole ∷ []) (table_by now answer) (heard ++ input line false (id_by now answer) ∷ []) (plain line answer ∷ before) (effects ++ effects_by guest.number now answer whole) (way_by answer whole)
-    comes_more answer whole left is = record {
-      may = (heard_line (so_far (table_by now answer) guest heard c.may (effects ++ effects_by guest.number now answer whole) (way_by answer whole)) line false (id_by now answer)).may_disconnect;
-      known = heard_more (input line false (id_by now answer)) ∙ ap (λ a. plain line a ∷ before) is;
-      is = chosen (Normal whole)
-          ∙ ap (λ q. heard_where (is_answered now (answer_to guest.peer q line)) (replies site moment here (answer_to guest.peer q line) whole) line false (id_by now (answer_to guest.peer q line))) c.known
-          ∙ ap (λ q. heard_where (is_answered now q) (replies site moment here q whole) line false (id_by now q)) is
-          ∙ ap (λ b. heard_where b (replies site moment here answer whole) line false (id_by now answer)) (answered_now answer left)
-          ∙ ap (λ d. heard_line d line false (id_by now answer)) (replied answer whole left);
+    pub comes_said : (said : Said) (answer : Answer) (whole : Bool) → is_spent now ≡ false → answer_to guest.config guest.peer before said line ≡ answer
+        → Comes table guest (choices ++ Normal said None whole ∷ []) (table_by now answer) (heard ++ heard_by line said false (id_by now answer) ∷ []) (by_said line said answer ∷ before) (effects ++ effects_by most guest.number now answer whole) (way_by answer whole)
+    comes_said said answer whole left is = record {
+      may = (heard_line (so_far (table_by now answer) guest heard c.may (effects ++ effects_by most guest.number now answer whole) (way_by answer whole)) line said false (id_by now answer)).may_disconnect;
+      known = heard_more (heard_by line said false (id_by now answer)) ∙ ap (λ a. by_said line said a ∷ before) is;
+      is = chosen (Normal said None whole)
+          ∙ ap (λ q. heard_where (is_answered now (answer_to guest.config guest.peer q said line)) (replies site moment here (answer_to guest.config guest.peer q said line) None whole) line said false (id_by now (answer_to guest.config guest.peer q said line))) c.known
+          ∙ ap (λ q. heard_where (is_answered now q) (replies site moment here q None whole) line said false (id_by now q)) is
+          ∙ ap (λ b. heard_where b (replies site moment here answer None whole) line said false (id_by now answer)) (answered_now answer left)
+          ∙ ap (λ d. heard_line d line said false (id_by now answer)) (replied answer whole left);
     }
+
+    -- the same where it isn't put to the judge
+    pub comes_more : (answer : Answer) (whole : Bool) → is_spent now ≡ false → answer_to guest.config guest.peer before Unasked line ≡ answer
+        → Comes table guest (choices ++ Normal Unasked None whole ∷ []) (table_by now answer) (heard ++ input line false (id_by now answer) ∷ []) (plain line answer ∷ before) (effects ++ effects_by most guest.number now answer whole) (way_by answer whole)
+    comes_more answer whole left is = comes_said Unasked answer whole left is
 
     -- 452 4.3.1 came in place of it
     pub comes_short : (whole : Bool) → is_dropped before line ≡ false
         → Comes table guest (choices ++ OutOfMemory whole ∷ []) now (heard ++ input line true None ∷ []) (lacked line ∷ before) (effects ++ speech guest.number out_of_memory_text whole) (way_of whole)
     comes_short whole kept = record {
-      may = (heard_line (so_far now guest heard c.may (effects ++ speech guest.number out_of_memory_text whole) (way_of whole)) line true None).may_disconnect;
-      known = heard_more (input line true None) ∙ ap (λ b. record { line = line; answer = if not b then None else Some (answer_to guest.peer before line) } ∷ before) kept;
+      may = (heard_line (so_far now guest heard c.may (effects ++ speech guest.number out_of_memory_text whole) (way_of whole)) line Unasked true None).may_disconnect;
+      known = heard_more (input line true None) ∙ ap (λ b. record { line = line; said = Unasked; answer = if not b then None else Some (answer_to guest.config guest.peer before Unasked line) } ∷ before) kept;
       is = chosen (OutOfMemory whole) ∙ cond-false (is_passed here.guest line) _ _ (ap (λ b. is_dropped b line) c.known ∙ kept);
     }
 
@@ -202,9 +232,9 @@ none_is (Some line) is = absurd (cc is)
 abbrev pub one : ℕ → Event
 one b = Brings 1 (b ∷ [])
 
-module _ (site : Site) (peer : List ℕ) (reading : ℕ) (latest : ℕ) (same : moment_by latest reading ≡ latest) where
+module _ (site : Site) (config : Config) (peer : List ℕ) (reading : ℕ) (latest : ℕ) (same : moment_by latest reading ≡ latest) where
   abbrev pub caller : List ℕ → List Heard → Guest
-  caller bytes heard = record { number = 1; peer = peer; received = bytes; heard = heard }
+  caller bytes heard = record { number = 1; config = config; peer = peer; received = bytes; heard = heard }
 
   -- a session alone, between its bytes
   abbrev pub alone : Table → List ℕ → List Heard → State
@@ -220,7 +250,7 @@ module _ (site : Site) (peer : List ℕ) (reading : ℕ) (latest : ℕ) (same : 
     pub done : List Effect
     pub is : run site (beginning start) turns ≡ record { state = alone table bytes heard; effects = done }
     pub answers : answers_of done ≡ effects
-    pub known : exchanges peer heard ≡ before
+    pub known : exchanges config peer heard ≡ before
 
   module _ (bytes : List ℕ) (table : Table) (heard : List Heard) (before : List Exchange) (effects : List Effect) (t : Talks bytes table heard before effects) (b : ℕ) where
     abbrev now : List ℕ
@@ -260,30 +290,30 @@ module _ (site : Site) (peer : List ℕ) (reading : ℕ) (latest : ℕ) (same : 
         }
 
     -- it completes one, which gets its answer
-    pub talks_line : (line : Line) (answer : Answer) → line_at (length heard) now (grants_by before) ≡ Some line → is_spent table ≡ false → answer_to peer before line ≡ answer
-        → way_by site latest answer true ≡ GoesOn → line_at (length (heard ++ input line false (id_by table answer) ∷ [])) now (grants_by (plain line answer ∷ before)) ≡ None
-        → Talks now (table_by site latest table answer) (heard ++ input line false (id_by table answer) ∷ []) (plain line answer ∷ before) (effects ++ answers_of (effects_by site latest 1 table answer true))
-    talks_line line answer next left is on none =
-        let c = comes_more site latest table (caller now heard) [] table heard before [] line (comes_none site latest table (caller now heard) before t.known) next answer true left is in
-        let went = subst (λ w. Comes site latest table (caller now heard) (Normal true ∷ []) (table_by site latest table answer) (heard ++ input line false (id_by table answer) ∷ []) (plain line answer ∷ before) (effects_by site latest 1 table answer true) w) on c in record {
-          turns = t.turns ++ byte_turn b (Normal true ∷ []) ∷ [];
-          events = events_more (Normal true ∷ []);
-          done = t.done ++ Takes (one b) ∷ Ticks reading ∷ effects_by site latest 1 table answer true;
-          is = turn_more (Normal true ∷ []) _ (all_kept site latest table (table_by site latest table answer) (caller now heard) (Normal true ∷ []) (heard ++ input line false (id_by table answer) ∷ []) (plain line answer ∷ before) (effects_by site latest 1 table answer true) went none);
-          answers = answers_more (effects_by site latest 1 table answer true);
+    pub talks_line : (line : Line) (said : Said) (answer : Answer) → line_at (length heard) now (grants_by before) ≡ Some line → is_spent table ≡ false → answer_to config peer before said line ≡ answer
+        → way_by site latest answer true ≡ GoesOn → line_at (length (heard ++ heard_by line said false (id_by table answer) ∷ [])) now (grants_by (by_said line said answer ∷ before)) ≡ None
+        → Talks now (table_by site latest table answer) (heard ++ heard_by line said false (id_by table answer) ∷ []) (by_said line said answer ∷ before) (effects ++ answers_of (effects_by site latest (message_limit config.options) 1 table answer true))
+    talks_line line said answer next left is on none =
+        let c = comes_said site latest table (caller now heard) [] table heard before [] line (comes_none site latest table (caller now heard) before t.known) next said answer true left is in
+        let went = subst (λ w. Comes site latest table (caller now heard) (Normal said None true ∷ []) (table_by site latest table answer) (heard ++ heard_by line said false (id_by table answer) ∷ []) (by_said line said answer ∷ before) (effects_by site latest (message_limit config.options) 1 table answer true) w) on c in record {
+          turns = t.turns ++ byte_turn b (Normal said None true ∷ []) ∷ [];
+          events = events_more (Normal said None true ∷ []);
+          done = t.done ++ Takes (one b) ∷ Ticks reading ∷ effects_by site latest (message_limit config.options) 1 table answer true;
+          is = turn_more (Normal said None true ∷ []) _ (all_kept site latest table (table_by site latest table answer) (caller now heard) (Normal said None true ∷ []) (heard ++ heard_by line said false (id_by table answer) ∷ []) (by_said line said answer ∷ before) (effects_by site latest (message_limit config.options) 1 table answer true) went none);
+          answers = answers_more (effects_by site latest (message_limit config.options) 1 table answer true);
           known = went.known;
         }
 
     -- it completes the last one, which ends the session
-    pub talks_last : (line : Line) (answer : Answer) → line_at (length heard) now (grants_by before) ≡ Some line → is_spent table ≡ false → answer_to peer before line ≡ answer → way_by site latest answer true ≡ Leaves
-        → (turns : List Turn) × (map (λ (q : Turn). q.event) turns ≡ Opens 1 peer ∷ map one now) × (answers_of (run site (beginning start) turns).effects ≡ effects ++ answers_of (effects_by site latest 1 table answer true))
-    talks_last line answer next left is off =
-        let c = comes_more site latest table (caller now heard) [] table heard before [] line (comes_none site latest table (caller now heard) before t.known) next answer true left is in
-        let went = subst (λ w. Comes site latest table (caller now heard) (Normal true ∷ []) (table_by site latest table answer) (heard ++ input line false (id_by table answer) ∷ []) (plain line answer ∷ before) (effects_by site latest 1 table answer true) w) off c in (
-          t.turns ++ byte_turn b (Normal true ∷ []) ∷ [],
-          events_more (Normal true ∷ []),
-          ap (λ (s : Step). answers_of s.effects) (turn_more (Normal true ∷ []) _ (all_left site latest table (table_by site latest table answer) (caller now heard) (Normal true ∷ []) (heard ++ input line false (id_by table answer) ∷ []) (plain line answer ∷ before) (effects_by site latest 1 table answer true) went))
-              ∙ answers_more (effects_by site latest 1 table answer true),
+    pub talks_last : (line : Line) (said : Said) (answer : Answer) → line_at (length heard) now (grants_by before) ≡ Some line → is_spent table ≡ false → answer_to config peer before said line ≡ answer → way_by site latest answer true ≡ Leaves
+        → (turns : List Turn) × (map (λ (q : Turn). q.event) turns ≡ Opens 1 peer ∷ map one now) × (answers_of (run site (beginning start) turns).effects ≡ effects ++ answers_of (effects_by site latest (message_limit config.options) 1 table answer true))
+    talks_last line said answer next left is off =
+        let c = comes_said site latest table (caller now heard) [] table heard before [] line (comes_none site latest table (caller now heard) before t.known) next said answer true left is in
+        let went = subst (λ w. Comes site latest table (caller now heard) (Normal said None true ∷ []) (table_by site latest table answer) (heard ++ heard_by line said false (id_by table answer) ∷ []) (by_said line said answer ∷ before) (effects_by site latest (message_limit config.options) 1 table answer true) w) off c in (
+          t.turns ++ byte_turn b (Normal said None true ∷ []) ∷ [],
+          events_more (Normal said None true ∷ []),
+          ap (λ (s : Step). answers_of s.effects) (turn_more (Normal said None true ∷ []) _ (all_left site latest table (table_by site latest table answer) (caller now heard) (Normal said None true ∷ []) (heard ++ heard_by line said false (id_by table answer) ∷ []) (by_said line said answer ∷ before) (effects_by site latest (message_limit config.options) 1 table answer true) went))
+              ∙ answers_more (effects_by site latest (message_limit config.options) 1 table answer true),
         )
 
   -- bytes within a line

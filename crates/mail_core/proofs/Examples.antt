@@ -3,13 +3,15 @@
 use Rattle.std.specs.Prelude.{◌≡◌, ℕ, List, [], ◌∷◌, ◌++◌, None, Some, true, false, drop, length, map, unwrap_or, codes, refl}
 use Rattle.mail_base.specs.Configs.{initial}
 use Rattle.mail_base.specs.Names.{digits}
-use Rattle.mail_base.specs.Limits.{most_command, most_domain, most_headers, most_local_part, most_message, most_path}
+use Rattle.mail_base.specs.Limits.{most_command, most_domain, most_headers, most_local_part, most_message, most_path, message_limit, most_recipients, most_rows}
+use Rattle.addr_tokens.specs.Scans.{most_tokens}
 use Rattle.link_edge.specs.declared.event.Event.TheVariants.{Opens, Brings, Stops}
 use Rattle.smtp_lines.specs.declared.line.Line.{Line}
 use Rattle.smtp_lines.specs.declared.line.Line.TheVariants.{Data, DataEnd}
 use Rattle.smtp_receive.specs.Dialogue.{Heard, Exchange, Answer, Greets, Grants, Closes, Gives, Takes as Passes, answer_to}
 use Rattle.smtp_receive.specs.Replies.{shown_host}
-use Rattle.smtp_receive.proofs.Examples.{peer, helo, mail, rcpt, data_line, subject, body, quit, message, begun, given, granted, taken as whole}
+use Rattle.smtp_receive.specs.Judging.{Said, Unasked}
+use Rattle.smtp_receive.proofs.Examples.{of_recipient, of_sender, peer, helo, mail, rcpt, data_line, subject, body, quit, message, begun, given, granted, taken as whole}
 use Rattle.spool_store.specs.Entries.{Table}
 use Rattle.queue_table.specs.Commands.{after}
 use Rattle.mail_core.specs.Sites.{Site}
@@ -17,7 +19,7 @@ use Rattle.mail_core.specs.Effects.{Effect, Takes, Ticks, Commits, Sends, HangsU
 use Rattle.mail_core.specs.Guests.{Guest, newcomer}
 use Rattle.mail_core.specs.Machine.{Stopped, id_by, By, Choice, Normal, OutOfMemory, Replied, GoesOn, Leaves, State, Step, Turn, beginning, followed, last_moment, moment_by, most_guests, run}
 use Rattle.mail_core.specs.Messages.{accept_of, is_spent, last_id, start}
-use Rattle.mail_core.proofs.ExampleLemmas.{Comes, Talks, effects_by, all_left, answers_of, are_within, comes_more, comes_none, comes_short, grants_by, input, lacked, line_at, one, piece, piece_turn, plain, run_first, so_far, table_by, talks_last, talks_line, talks_within, way_by}
+use Rattle.mail_core.proofs.ExampleLemmas.{Comes, Talks, by_said, comes_said, heard_by, effects_by, all_left, answers_of, are_within, comes_more, comes_none, comes_short, grants_by, input, lacked, line_at, one, piece, piece_turn, plain, run_first, so_far, table_by, talks_last, talks_line, talks_within, way_by}
 
 abbrev site : Site
 site = record { host = codes "localhost"; dirs = codes "/q" ∷ []; config = initial }
@@ -40,10 +42,17 @@ abbrev sent : List ℕ
 sent = codes "HELO c.example\r\nMAIL FROM:<bob@c.example>\r\nRCPT TO:<ann@mx.example>\r\nDATA\r\nSubject: hi\r\n\r\nhello\r\n.\r\nQUIT\r\n"
 
 abbrev guest : Guest
-guest = record { number = 1; peer = peer; received = sent; heard = [] }
+guest = record { number = 1; config = initial; peer = peer; received = sent; heard = [] }
 
 abbrev kept : Choice
-kept = Normal true
+kept = Normal Unasked None true
+
+-- the same of MAIL and RCPT
+abbrev kept_mail : Choice
+kept_mail = Normal of_sender None true
+
+abbrev kept_rcpt : Choice
+kept_rcpt = Normal of_recipient None true
 
 abbrev hello : List Effect
 hello = Sends 1 (codes "250 localhost Hello\r\n") true ∷ []
@@ -52,12 +61,12 @@ abbrev given_effects : List Effect
 given_effects = hello ++ Sends 1 (codes "250 2.1.0 Sender ok\r\n") true ∷ Sends 1 (codes "250 2.1.5 Recipient ok\r\n") true ∷ Sends 1 (codes "354 Enter mail, end with " ++ 34 ∷ 46 ∷ 34 ∷ codes " on a line by itself\r\n") true ∷ []
 
 -- up to the first line of the message
-begins : Comes site 5 start guest (kept ∷ kept ∷ kept ∷ kept ∷ kept ∷ []) start begun granted given_effects GoesOn
-unfolding most_command most_message most_path most_local_part most_domain shown_host last_id
+begins : Comes site 5 start guest (kept ∷ kept_mail ∷ kept_rcpt ∷ kept ∷ kept ∷ []) start begun granted given_effects GoesOn
+unfolding most_recipients most_rows most_tokens most_command most_message most_path most_local_part most_domain shown_host last_id
 begins =
     let one = comes_more site 5 start guest [] start [] [] [] helo (comes_none site 5 start guest [] refl) refl Greets true refl refl in
-    let two = comes_more site 5 start guest _ start _ _ _ mail one refl sender_ok true refl refl in
-    let three = comes_more site 5 start guest _ start _ _ _ rcpt two refl recipient_ok true refl refl in
+    let two = comes_said site 5 start guest _ start _ _ _ mail one refl of_sender sender_ok true refl refl in
+    let three = comes_said site 5 start guest _ start _ _ _ rcpt two refl of_recipient recipient_ok true refl refl in
     let four = comes_more site 5 start guest _ start _ _ _ data_line three refl Grants true refl refl in
     comes_more site 5 start guest _ start _ _ _ subject four refl Passes true refl refl
 
@@ -66,10 +75,10 @@ abbrev pub given_lines : List Heard
 given_lines = begun ++ input (Data []) false None ∷ input body false None ∷ []
 
 abbrev data_choices : List Choice
-data_choices = kept ∷ kept ∷ kept ∷ kept ∷ kept ∷ kept ∷ kept ∷ []
+data_choices = kept ∷ kept_mail ∷ kept_rcpt ∷ kept ∷ kept ∷ kept ∷ kept ∷ []
 
 up_to_the_dot : Comes site 5 start guest data_choices start given_lines whole given_effects GoesOn
-unfolding most_command most_message most_path most_local_part most_domain shown_host last_id
+unfolding most_recipients most_rows most_tokens most_command most_message most_path most_local_part most_domain shown_host last_id
 up_to_the_dot =
     let six = comes_more site 5 start guest _ start _ _ _ (Data []) begins refl Passes true refl refl in
     comes_more site 5 start guest _ start _ _ _ body six refl Passes true refl refl
@@ -83,7 +92,7 @@ closing = Sends 1 (codes "221 2.0.0 localhost closing connection\r\n") true ∷ 
 -- the whole session, in one piece
 plain_piece : Comes site 5 start guest (data_choices ++ kept ∷ kept ∷ []) stored_now (given_lines ++ input DataEnd false (Some 1) ∷ input quit false None ∷ []) (plain quit Closes ∷ plain DataEnd (Gives message) ∷ whole)
     (given_effects ++ Commits (accept_of site 5 message) ∷ Sends 1 (codes "250 2.0.0 w000000000001 Message accepted for delivery\r\n") true ∷ closing) Leaves
-unfolding digits most_command most_message most_headers most_path most_local_part most_domain shown_host last_id
+unfolding most_recipients most_rows most_tokens digits most_command most_message most_headers most_path most_local_part most_domain shown_host last_id
 plain_piece =
     let dot = comes_more site 5 start guest _ start _ _ _ DataEnd up_to_the_dot refl (Gives message) true refl refl in
     comes_more site 5 start guest _ stored_now _ _ _ quit dot refl Closes true refl refl
@@ -96,7 +105,7 @@ stops = record { event = Stops; reading = 5; choices = tt }
 
 -- the session is greeted
 abbrev open_state : State
-open_state = record { table = start; guests = newcomer 1 peer ∷ []; latest = 5; over = None }
+open_state = record { table = start; guests = newcomer initial 1 peer ∷ []; latest = 5; over = None }
 
 abbrev greeting : List Effect
 greeting = Takes (Opens 1 peer) ∷ Ticks 5 ∷ Sends 1 (codes "220 localhost ESMTP ready\r\n") true ∷ []
@@ -117,7 +126,7 @@ unfolding most_guests last_moment most_domain shown_host
 session_by choices now heard before effects turns later c rest =
     run_first site (beginning start) opens (piece 1 sent 5 choices ∷ turns) greeted (followed (served now effects) later) refl
     (run_first site open_state (piece 1 sent 5 choices) turns (served now effects) later
-    (piece_turn site open_state 1 (newcomer 1 peer) sent 5 choices (so_far site 5 now guest heard c.may effects Leaves) refl refl (all_left site 5 start now guest choices heard before effects c))
+    (piece_turn site open_state 1 (newcomer initial 1 peer) sent 5 choices (so_far site 5 now guest heard c.may effects Leaves) refl refl (all_left site 5 start now guest choices heard before effects c))
     rest)
 
 -- the message is in the table before its 250 is sent
@@ -132,7 +141,7 @@ plain_session =
 -- 452 4.3.1 at the dot: nothing is stored, the transaction is over, and the session goes on
 lacking_piece : Comes site 5 start guest (data_choices ++ OutOfMemory true ∷ kept ∷ []) start (given_lines ++ input DataEnd true None ∷ input quit false None ∷ []) (plain quit Closes ∷ lacked DataEnd ∷ whole)
     (given_effects ++ Sends 1 (codes "452 4.3.1 Out of memory\r\n") true ∷ closing) Leaves
-unfolding most_command most_message most_path most_local_part most_domain shown_host last_id
+unfolding most_recipients most_rows most_tokens most_command most_message most_path most_local_part most_domain shown_host last_id
 lacking_piece =
     let dot = comes_short site 5 start guest _ start _ _ _ DataEnd up_to_the_dot refl true refl in
     comes_more site 5 start guest _ start _ _ _ quit dot refl Closes true refl refl
@@ -144,14 +153,14 @@ memory_is_wanting_at_the_dot : run site (beginning start) (opens ∷ piece 1 sen
 memory_is_wanting_at_the_dot = session_by _ _ _ _ _ [] (record { state = left_state start; effects = [] }) lacking_piece refl
 
 -- the reply to MAIL isn't sent whole: the session is hung up, and the rest of its piece is dropped
-lost_piece : Comes site 5 start guest (kept ∷ Normal false ∷ []) start (input helo false None ∷ input mail false None ∷ []) (plain mail sender_ok ∷ plain helo Greets ∷ [])
+lost_piece : Comes site 5 start guest (kept ∷ Normal of_sender None false ∷ []) start (input helo false None ∷ heard_by mail of_sender false None ∷ []) (by_said mail of_sender sender_ok ∷ plain helo Greets ∷ [])
     (hello ++ Sends 1 (codes "250 2.1.0 Sender ok\r\n") false ∷ HangsUp 1 ∷ []) Leaves
-unfolding most_command most_message most_path most_local_part most_domain shown_host last_id
+unfolding most_recipients most_rows most_tokens most_command most_message most_path most_local_part most_domain shown_host last_id
 lost_piece =
     let one = comes_more site 5 start guest [] start [] [] [] helo (comes_none site 5 start guest [] refl) refl Greets true refl refl in
-    comes_more site 5 start guest _ start _ _ _ mail one refl sender_ok false refl refl
+    comes_said site 5 start guest _ start _ _ _ mail one refl of_sender sender_ok false refl refl
 
-a_send_fails : run site (beginning start) (opens ∷ piece 1 sent 5 (kept ∷ Normal false ∷ []) ∷ []) ≡ record {
+a_send_fails : run site (beginning start) (opens ∷ piece 1 sent 5 (kept ∷ Normal of_sender None false ∷ []) ∷ []) ≡ record {
   state = record { table = start; guests = []; latest = 5; over = None };
   effects = greeting ++ Takes (Brings 1 sent) ∷ Ticks 5 ∷ hello ++ Sends 1 (codes "250 2.1.0 Sender ok\r\n") false ∷ HangsUp 1 ∷ [];
 }
@@ -164,7 +173,7 @@ unfolding last_moment
 same_moment = refl
 
 abbrev Bytes : List ℕ → Table → List Heard → List Exchange → List Effect → Type 0
-Bytes bytes table heard before effects = Talks site peer 5 5 same_moment bytes table heard before effects
+Bytes bytes table heard before effects = Talks site initial peer 5 5 same_moment bytes table heard before effects
 
 abbrev first_effects : List Effect
 first_effects = Sends 1 (codes "220 localhost ESMTP ready\r\n") true ∷ []
@@ -174,30 +183,30 @@ unfolding most_guests last_moment most_domain shown_host
 opening = record { turns = opens ∷ []; events = refl; done = greeting; is = refl; answers = refl; known = refl }
 
 -- the bytes of a line, and the LF that ends it
-line_of : (bytes more : List ℕ) (table : Table) (heard : List Heard) (before : List Exchange) (effects : List Effect) → Bytes bytes table heard before effects → (line : Line) (answer : Answer) → are_within (length heard) (grants_by before) bytes more ≡ true
-    → line_at (length heard) ((bytes ++ more) ++ 10 ∷ []) (grants_by before) ≡ Some line → is_spent table ≡ false → answer_to peer before line ≡ answer → way_by site 5 answer true ≡ GoesOn
-    → line_at (length (heard ++ input line false (id_by table answer) ∷ [])) ((bytes ++ more) ++ 10 ∷ []) (grants_by (plain line answer ∷ before)) ≡ None
-    → Bytes ((bytes ++ more) ++ 10 ∷ []) (table_by site 5 table answer) (heard ++ input line false (id_by table answer) ∷ []) (plain line answer ∷ before) (effects ++ answers_of (effects_by site 5 1 table answer true))
-line_of bytes more table heard before effects t line answer within next left is on none =
-    talks_line site peer 5 5 same_moment (bytes ++ more) table heard before effects (talks_within site peer 5 5 same_moment bytes more table heard before effects t within) 10 line answer next left is on none
+line_of : (bytes more : List ℕ) (table : Table) (heard : List Heard) (before : List Exchange) (effects : List Effect) → Bytes bytes table heard before effects → (line : Line) (said : Said) (answer : Answer) → are_within (length heard) (grants_by before) bytes more ≡ true
+    → line_at (length heard) ((bytes ++ more) ++ 10 ∷ []) (grants_by before) ≡ Some line → is_spent table ≡ false → answer_to initial peer before said line ≡ answer → way_by site 5 answer true ≡ GoesOn
+    → line_at (length (heard ++ heard_by line said false (id_by table answer) ∷ [])) ((bytes ++ more) ++ 10 ∷ []) (grants_by (by_said line said answer ∷ before)) ≡ None
+    → Bytes ((bytes ++ more) ++ 10 ∷ []) (table_by site 5 table answer) (heard ++ heard_by line said false (id_by table answer) ∷ []) (by_said line said answer ∷ before) (effects ++ answers_of (effects_by site 5 (message_limit initial.options) 1 table answer true))
+line_of bytes more table heard before effects t line said answer within next left is on none =
+    talks_line site initial peer 5 5 same_moment (bytes ++ more) table heard before effects (talks_within site initial peer 5 5 same_moment bytes more table heard before effects t within) 10 line said answer next left is on none
 
 by_bytes_to_the_dot : Bytes (codes "HELO c.example\r\nMAIL FROM:<bob@c.example>\r\nRCPT TO:<ann@mx.example>\r\nDATA\r\nSubject: hi\r\n\r\nhello\r\n.\r\n") stored_now (given_lines ++ input DataEnd false (Some 1) ∷ []) (plain DataEnd (Gives message) ∷ whole)
     (first_effects ++ given_effects ++ Commits (accept_of site 5 message) ∷ Sends 1 (codes "250 2.0.0 w000000000001 Message accepted for delivery\r\n") true ∷ [])
-unfolding digits most_command most_message most_headers most_path most_local_part most_domain shown_host last_id
+unfolding most_recipients most_rows most_tokens digits most_command most_message most_headers most_path most_local_part most_domain shown_host last_id
 by_bytes_to_the_dot =
-    let one = line_of [] (codes "HELO c.example\r") start [] [] first_effects opening helo Greets refl refl refl refl refl refl in
-    let two = line_of _ (codes "MAIL FROM:<bob@c.example>\r") start _ _ _ one mail sender_ok refl refl refl refl refl refl in
-    let three = line_of _ (codes "RCPT TO:<ann@mx.example>\r") start _ _ _ two rcpt recipient_ok refl refl refl refl refl refl in
-    let four = line_of _ (codes "DATA\r") start _ _ _ three data_line Grants refl refl refl refl refl refl in
-    let five = line_of _ (codes "Subject: hi\r") start _ _ _ four subject Passes refl refl refl refl refl refl in
-    let six = line_of _ (codes "\r") start _ _ _ five (Data []) Passes refl refl refl refl refl refl in
-    let seven = line_of _ (codes "hello\r") start _ _ _ six body Passes refl refl refl refl refl refl in
-    line_of _ (codes ".\r") start _ _ _ seven DataEnd (Gives message) refl refl refl refl refl refl
+    let one = line_of [] (codes "HELO c.example\r") start [] [] first_effects opening helo Unasked Greets refl refl refl refl refl refl in
+    let two = line_of _ (codes "MAIL FROM:<bob@c.example>\r") start _ _ _ one mail of_sender sender_ok refl refl refl refl refl refl in
+    let three = line_of _ (codes "RCPT TO:<ann@mx.example>\r") start _ _ _ two rcpt of_recipient recipient_ok refl refl refl refl refl refl in
+    let four = line_of _ (codes "DATA\r") start _ _ _ three data_line Unasked Grants refl refl refl refl refl refl in
+    let five = line_of _ (codes "Subject: hi\r") start _ _ _ four subject Unasked Passes refl refl refl refl refl refl in
+    let six = line_of _ (codes "\r") start _ _ _ five (Data []) Unasked Passes refl refl refl refl refl refl in
+    let seven = line_of _ (codes "hello\r") start _ _ _ six body Unasked Passes refl refl refl refl refl refl in
+    line_of _ (codes ".\r") start _ _ _ seven DataEnd Unasked (Gives message) refl refl refl refl refl refl
 
 -- the same is sent and stored as by one piece
 by_bytes : (turns : List Turn) × (map (λ (t : Turn). t.event) turns ≡ Opens 1 peer ∷ map one sent)
     × (answers_of (run site (beginning start) turns).effects ≡ first_effects ++ given_effects ++ Commits (accept_of site 5 message) ∷ Sends 1 (codes "250 2.0.0 w000000000001 Message accepted for delivery\r\n") true ∷ closing)
-unfolding most_command most_message most_domain shown_host last_id most_path most_local_part
+unfolding most_recipients most_rows most_tokens most_command most_message most_domain shown_host last_id most_path most_local_part
 by_bytes =
-    let t = talks_within site peer 5 5 same_moment _ (codes "QUIT\r") stored_now _ _ _ by_bytes_to_the_dot refl in
-    talks_last site peer 5 5 same_moment _ stored_now _ _ _ t 10 quit Closes refl refl refl refl
+    let t = talks_within site initial peer 5 5 same_moment _ (codes "QUIT\r") stored_now _ _ _ by_bytes_to_the_dot refl in
+    talks_last site initial peer 5 5 same_moment _ stored_now _ _ _ t 10 quit Unasked Closes refl refl refl refl

@@ -7,6 +7,7 @@ use Rattle.std.proofs.lemmas.List.{append-nil, take_more, take_all, take-append-
 use Rattle.std.proofs.lemmas.List.Sums.{fold_push, fold-append}
 use Rattle.std.proofs.lemmas.Option.{slice_get_past}
 use Rattle.mail_base.specs.Histories.{Gains}
+use Rattle.mail_base.specs.declared.config.Config.{Config}
 use Rattle.mail_edge.specs.Seen.{ClockSeen}
 use Rattle.link_edge.specs.Heard.{Heard as FloorHeard}
 use Rattle.smtp_lines.specs.declared.line.Line.{Line}
@@ -33,9 +34,12 @@ use Rattle.mail_core.specs.Causes.{HasCause, is_well}
 use Rattle.mail_core.specs.inner.Going.{Does, Hears, AnswersLine, AnswersLines, Feeds, granted_by, is_granted, is_onward, reached, way_after}
 use Rattle.mail_core.specs.Guests.{Guest, bytes_left, has_bytes_left, grants_of, lines_of, next_line, with_bytes, line_in, lines_heard}
 use Rattle.mail_core.specs.Machine.{Choice, Disconnects, Way, GoesOn, Leaves, Over, Cut, Did, answered, by_choice, does, fresh_start, goes_on, is_over, settled, settled_by}
+use Rattle.mail_core.specs.Judges.{JudgeSeen}
+use Rattle.mail_core.specs.Meant.{AreMeant}
 use Rattle.mail_core.specs.Seen.{Seen, seen, Ran}
 use Rattle.mail_core.specs.Standing.{Serves, Talks, Follows, Keeps}
 use Rattle.mail_core.specs.inner.Handling.{IsReady}
+use Rattle.mail_core.proofs.JudgeLemmas.{IsAlike, are_since, drops_meant, meant_join, meant_next}
 use Rattle.mail_core.proofs.GoingLemmas.{does_join, does_drops, does_none, way_onward}
 
 -- ---- a front of lines of which only the last asks
@@ -96,7 +100,7 @@ does_onward site d e a b (Err stop) on h = absurd (cc on)
 
 -- ---- lines in turn
 
-module _ (site : Site) (moment : ℕ) (d : Did) where
+module _ (j : JudgeSeen) (site : Site) (moment : ℕ) (d : Did) where
   -- a choice more
   reached_more : (choices : List Choice) (choice : Choice) (line : Line) → (reached site moment d choices).way ≡ GoesOn → next_line (reached site moment d choices).guest ≡ Some line
       → reached site moment d (choices ++ choice ∷ []) ≡ by_choice site moment (reached site moment d choices) choice (Some line)
@@ -108,13 +112,14 @@ module _ (site : Site) (moment : ℕ) (d : Did) where
 
   -- no line was answered
   pub answers_none : (f : FloorHeard) (s : Spooled) (k : ClockSeen) (intake : Intake) (caller : Caller) → d.way ≡ GoesOn → Serves site intake d.table → Talks site caller d.guest
-      → AnswersLines site moment d [] (seen f s k) (seen f s k) intake caller (Ok Continue)
+      → AnswersLines j site moment d [] (seen f s k) (seen f s k) intake caller (Ok Continue)
   answers_none f s k intake caller way serves talks = record {
     choices = [];
+    meant = tt;
     does = does_none site d f s k d refl refl refl way;
     alive = λ live. serves;
     hears = λ on. record {
-      stays = record { serves = serves; talks = talks; peer = refl; received = refl };
+      stays = record { serves = serves; talks = talks; peer = refl; config = refl; received = refl };
       answered = sym (append-nil (lines_heard d.guest));
       grants = sym (append-nil (grants_of d.guest));
       may_disconnect = λ asking. absurd (false≢true asking);
@@ -122,15 +127,15 @@ module _ (site : Site) (moment : ℕ) (d : Did) where
   }
 
   -- where the session ended, the lines after are left
-  pub answers_cut : (done lines : List Line) (a b : Seen) (intake : Intake) (caller : Caller) (fed : Result Next CoreStop) → is_onward fed ≡ false → AnswersLines site moment d done a b intake caller fed → AnswersLines site moment d lines a b intake caller fed
-  answers_cut done lines a b intake caller fed off h = record { choices = h.choices; does = h.does; alive = h.alive; hears = λ on. absurd (false≢true (sym off ∙ on)) }
+  pub answers_cut : (done lines : List Line) (a b : Seen) (intake : Intake) (caller : Caller) (fed : Result Next CoreStop) → is_onward fed ≡ false → AnswersLines j site moment d done a b intake caller fed → AnswersLines j site moment d lines a b intake caller fed
+  answers_cut done lines a b intake caller fed off h = record { choices = h.choices; meant = h.meant; does = h.does; alive = h.alive; hears = λ on. absurd (false≢true (sym off ∙ on)) }
 
   module _ (before after : Intake) (old new : Caller) (last fed : Result Next CoreStop) (done : List Line) (line : Line) where
     -- what was heard of a line after others of which none asked
     hears_more : (e x : Did) → asked_after false done ≡ false → Hears site d e done before old last → Hears site e x (line ∷ []) after new fed → Hears site d x (done ++ line ∷ []) after new fed
     hears_more e x quiet h k =
         let same : grants_of e.guest ≡ grants_of d.guest = h.grants ∙ ap (λ b. grants_of d.guest ++ granted_by b last) quiet ∙ append-nil (grants_of d.guest) in record {
-          stays = record { serves = k.stays.serves; talks = k.stays.talks; peer = k.stays.peer ∙ h.stays.peer; received = k.stays.received ∙ h.stays.received };
+          stays = record { serves = k.stays.serves; talks = k.stays.talks; peer = k.stays.peer ∙ h.stays.peer; config = k.stays.config ∙ h.stays.config; received = k.stays.received ∙ h.stays.received };
           answered = k.answered ∙ ap (λ q. q ++ line ∷ []) h.answered ∙ append_assoc (lines_heard d.guest) done (line ∷ []);
           grants = k.grants ∙ ap (λ q. q ++ granted_by (asks line) fed) same ∙ ap (λ b. grants_of d.guest ++ granted_by b fed) (sym (asked_after-push false done line));
           may_disconnect = λ asking. k.may_disconnect (sym (asked_after-push false done line) ∙ asking);
@@ -147,39 +152,40 @@ module _ (site : Site) (moment : ℕ) (d : Did) where
         ∙ append_assoc (heard ++ done) (line ∷ rest) first.later)
 
     -- one line more was answered
-    pub answers_more : (now : ℕ) (lines rest : List Line) (a b c : Seen) → OnlyLastAsks lines → lines ≡ done ++ line ∷ rest → StandsFirst (lines_heard d.guest ++ lines) (lines_of d.guest) → now ≡ moment → is_onward last ≡ true
-        → AnswersLines site moment d done a b before old last
-        → ((e : Did) → e.way ≡ GoesOn → Serves site before e.table → Talks site old e.guest → AnswersLine site now e line b c after new fed)
-        → AnswersLines site moment d (done ++ line ∷ []) a c after new fed
-    answers_more now lines rest a b c only is first same on h answers =
+    pub answers_more : (i : JudgeSeen) (now : ℕ) (lines rest : List Line) (a b c : Seen) → IsAlike j i → OnlyLastAsks lines → lines ≡ done ++ line ∷ rest → StandsFirst (lines_heard d.guest ++ lines) (lines_of d.guest) → now ≡ moment → is_onward last ≡ true
+        → AnswersLines j site moment d done a b before old last
+        → ((e : Did) → e.way ≡ GoesOn → Serves site before e.table → Talks site old e.guest → AnswersLine i site now e line b c after new fed)
+        → AnswersLines j site moment d (done ++ line ∷ []) a c after new fed
+    answers_more i now lines rest a b c alike only is first same on h answers =
         let e : Did = reached site moment d h.choices in
         let hears = h.hears on in
         let quiet = front_quiet done line rest (subst OnlyLastAsks is only) in
         let way : e.way ≡ GoesOn = h.does.way ∙ way_onward last on in
         let next = next_after e rest quiet (subst (λ q. StandsFirst (lines_heard d.guest ++ q) (lines_of d.guest)) is first) hears in
-        let k = subst (λ n. AnswersLine site n e line b c after new fed) same (answers e way hears.stays.serves hears.stays.talks) in
+        let k = subst (λ n. AnswersLine i site n e line b c after new fed) same (answers e way hears.stays.serves hears.stays.talks) in
         let x : Did = by_choice site moment e k.choice (Some line) in
         let goes : reached site moment d (h.choices ++ k.choice ∷ []) ≡ x = reached_more h.choices k.choice line way next in record {
           choices = h.choices ++ k.choice ∷ [];
+          meant = meant_join site moment j d h.choices (k.choice ∷ []) h.meant (meant_next site moment j i e k.choice line alike next k.meant);
           does = subst (λ q. Does site d q a c fed) (sym goes) (does_join site d e x a b c fed (does_onward site d e a b last on h.does) k.does);
           alive = λ live. subst (λ q. Serves site after q.table) (sym goes) (k.alive live);
           hears = λ go. subst (λ q. Hears site d q (done ++ line ∷ []) after new fed) (sym goes) (hears_more e x quiet hears (k.hears go));
         }
 
     -- the line at a place among them
-    pub answers_next : (now : ℕ) (lines : List Line) (i : ℕ) (a b c : Seen) → i < length lines → line ≡ get_or lines i line → done ≡ take i lines → OnlyLastAsks lines → StandsFirst (lines_heard d.guest ++ lines) (lines_of d.guest) → now ≡ moment → is_onward last ≡ true
-        → AnswersLines site moment d done a b before old last
-        → ((e : Did) → e.way ≡ GoesOn → Serves site before e.table → Talks site old e.guest → AnswersLine site now e line b c after new fed)
-        → AnswersLines site moment d (take (i + 1) lines) a c after new fed
-    answers_next now lines i a b c within item front only first same on h answers =
+    pub answers_next : (judge : JudgeSeen) (now : ℕ) (lines : List Line) (i : ℕ) (a b c : Seen) → IsAlike j judge → i < length lines → line ≡ get_or lines i line → done ≡ take i lines → OnlyLastAsks lines → StandsFirst (lines_heard d.guest ++ lines) (lines_of d.guest) → now ≡ moment → is_onward last ≡ true
+        → AnswersLines j site moment d done a b before old last
+        → ((e : Did) → e.way ≡ GoesOn → Serves site before e.table → Talks site old e.guest → AnswersLine judge site now e line b c after new fed)
+        → AnswersLines j site moment d (take (i + 1) lines) a c after new fed
+    answers_next judge now lines i a b c alike within item front only first same on h answers =
         let more : take (i + 1) lines ≡ done ++ line ∷ [] = take_more lines i line within ∙ ap (λ q. q ++ get_or lines i line ∷ []) (sym front) ∙ ap (λ l. done ++ l ∷ []) (sym item) in
         let is : lines ≡ done ++ line ∷ drop (i + 1) lines =
         sym (take-append-drop (i + 1) lines) ∙ ap (λ q. q ++ drop (i + 1) lines) more ∙ append_assoc done (line ∷ []) (drop (i + 1) lines) in
-        subst (λ q. AnswersLines site moment d q a c after new fed) (sym more) (answers_more now lines (drop (i + 1) lines) a b c only is first same on h answers)
+        subst (λ q. AnswersLines j site moment d q a c after new fed) (sym more) (answers_more judge now lines (drop (i + 1) lines) a b c alike only is first same on h answers)
 
   -- none is left
-  pub answers_all : (lines : List Line) (i : ℕ) (a b : Seen) (intake : Intake) (caller : Caller) (fed : Result Next CoreStop) → length lines ≤ i → AnswersLines site moment d (take i lines) a b intake caller fed → AnswersLines site moment d lines a b intake caller fed
-  answers_all lines i a b intake caller fed past h = subst (λ q. AnswersLines site moment d q a b intake caller fed) (take_all i lines past) h
+  pub answers_all : (lines : List Line) (i : ℕ) (a b : Seen) (intake : Intake) (caller : Caller) (fed : Result Next CoreStop) → length lines ≤ i → AnswersLines j site moment d (take i lines) a b intake caller fed → AnswersLines j site moment d lines a b intake caller fed
+  answers_all lines i a b intake caller fed past h = subst (λ q. AnswersLines j site moment d q a b intake caller fed) (take_all i lines past) h
 
 -- ---- what was given and not answered yet
 
@@ -305,16 +311,27 @@ bytes_there r g f left =
 
 -- ---- a caller with another reader
 
+-- a caller with the same session stands for the same lines
+talks_same : (site : Site) (old new : Caller) (g : Guest) → new.number ≡ old.number → new.session ≡ old.session → Talks site old g → Talks site new g
+talks_same site old new g number session t = record {
+  number = number ∙ t.number;
+  config = t.config;
+  session = subst (λ q. Speaks q g.config site.host g.peer g.heard) (sym session) t.session;
+  formed = t.formed;
+  peer = t.peer;
+}
+
 -- whether a session is ready doesn't hang on its lines
-pub ready_lines : (intake : Intake) (old new : Caller) → new.number ≡ old.number → new.session ≡ old.session → IsReady intake old → IsReady intake new
-ready_lines intake old new number session r =
+pub ready_lines : (intake : Intake) (config : Config) (old new : Caller) → new.number ≡ old.number → new.session ≡ old.session → IsReady intake old config → IsReady intake new config
+ready_lines intake config old new number session r =
     let t = r.talks in
     record {
       site = r.site;
+      under = r.under;
       table = r.table;
       guest = r.guest;
       serves = r.serves;
-      talks = record { number = number ∙ t.number; session = subst (λ q. Speaks q r.site.host r.guest.peer r.guest.heard) (sym session) t.session; peer = t.peer };
+      talks = talks_same r.site old new r.guest number session t;
     }
 
 -- after a line the reader is turned by whether a grant was given
@@ -349,17 +366,18 @@ dropped site moment d way may =
     ∙ by_drops site moment d (next_line d.guest)
     ∙ cond-true d.may_disconnect (does d (HangsUp d.guest.number ∷ []) Leaves) (is_over d Cut) may
 
-module _ (site : Site) (moment : ℕ) (table : Table) (g : Guest) (bytes : List ℕ) where
+module _ (j : JudgeSeen) (site : Site) (moment : ℕ) (table : Table) (g : Guest) (bytes : List ℕ) where
   -- where a piece begins
   abbrev start : Did
   start = fresh_start table (with_bytes g bytes)
 
-  feeds_of : (a b : Seen) (intake : Intake) (caller : Caller) (fed : Result Next CoreStop) (choices : List Choice) → settled (reached site moment start choices) ≡ reached site moment start choices
+  feeds_of : (a b : Seen) (intake : Intake) (caller : Caller) (fed : Result Next CoreStop) (choices : List Choice) → AreMeant j site moment start choices → settled (reached site moment start choices) ≡ reached site moment start choices
       → Does site start (reached site moment start choices) a b fed
       → (is_ok fed ≡ true → Serves site intake (reached site moment start choices).table) → (is_onward fed ≡ true → Keeps site caller (reached site moment start choices).guest)
-      → Feeds site moment table g bytes a b intake caller fed
-  feeds_of a b intake caller fed choices same h serves keeps = record {
+      → Feeds j site moment table g bytes a b intake caller fed
+  feeds_of a b intake caller fed choices meant same h serves keeps = record {
     choices = choices;
+    meant = meant;
     ran = subst (λ (x : Did). Ran site.dirs table a b x.effects (is_well fed)) (sym same) (subst (λ q. Ran site.dirs table a b q (is_well fed)) (sym h.effects) h.ran);
     way = ap (λ (x : Did). x.way) same ∙ h.way;
     number = ap (λ (x : Did). x.guest.number) same ∙ h.number;
@@ -371,6 +389,7 @@ module _ (site : Site) (moment : ℕ) (table : Table) (g : Guest) (bytes : List 
   -- by some choices, a piece has come to these lines, which are to be answered
   pub record Pends (a b : Seen) (intake : Intake) (caller : Caller) (lines : List Line) : Type 0 where
     pub choices : List Choice
+    pub meant : AreMeant j site moment start choices
     pub does : Does site start (reached site moment start choices) a b (Ok Continue)
     pub serves : Serves site intake (reached site moment start choices).table
     pub talks : Talks site caller (reached site moment start choices).guest
@@ -381,6 +400,7 @@ module _ (site : Site) (moment : ℕ) (table : Table) (g : Guest) (bytes : List 
   pub record Batch (a b : Seen) (reader : Reader) (lines : List Line) (intake : Intake) (caller : Caller) (fed : Result Next CoreStop) : Type 0 where
     pub before : Did
     pub choices : List Choice
+    pub meant : AreMeant j site moment start choices
     pub does : Does site start (reached site moment start choices) a b fed
     pub pending : Pending reader before.guest lines
     pub alive : is_ok fed ≡ true → Serves site intake (reached site moment start choices).table
@@ -394,28 +414,30 @@ module _ (site : Site) (moment : ℕ) (table : Table) (g : Guest) (bytes : List 
   pends_start old new before f s k lines number session serves keeps stands turns =
       let t = keeps.talks in record {
         choices = [];
+        meant = tt;
         does = does_none site start f s k start refl refl refl refl;
         serves = serves;
-        talks = record { number = number ∙ t.number; session = subst (λ q. Speaks q site.host g.peer g.heard) (sym session) t.session; peer = t.peer };
+        talks = talks_same site old new (with_bytes g bytes) number session (record { number = t.number; config = t.config; session = t.session; formed = t.formed; peer = t.peer });
         pending = pending_fed old.lines new.lines g bytes lines keeps.follows stands turns;
         only = only_fed old.lines new.lines g bytes lines keeps.follows stands turns;
       }
 
   -- the lines were answered
-  pub batch_of : (now : ℕ) (a b c : Seen) (before after : Intake) (old new : Caller) (passed lines : List Line) (fed : Result Next CoreStop) → passed ≡ lines → now ≡ moment → Pends a b before old lines
-      → ((d : Did) → d.way ≡ GoesOn → Serves site before d.table → Talks site old d.guest → OnlyLastAsks passed → StandsFirst (lines_heard d.guest ++ passed) (lines_of d.guest) → AnswersLines site now d passed b c after new fed)
+  pub batch_of : (judge : JudgeSeen) (now : ℕ) (a b c : Seen) (before after : Intake) (old new : Caller) (passed lines : List Line) (fed : Result Next CoreStop) → IsAlike j judge → passed ≡ lines → now ≡ moment → Pends a b before old lines
+      → ((d : Did) → d.way ≡ GoesOn → Serves site before d.table → Talks site old d.guest → OnlyLastAsks passed → StandsFirst (lines_heard d.guest ++ passed) (lines_of d.guest) → AnswersLines judge site now d passed b c after new fed)
       → Batch a c old.lines lines after new fed
-  batch_of now a b c before after old new passed lines fed same_lines same_moment p answers =
+  batch_of judge now a b c before after old new passed lines fed alike same_lines same_moment p answers =
       let e : Did = reached site moment start p.choices in
       let first = subst (λ q. StandsFirst (lines_heard e.guest ++ q) (lines_of e.guest)) (sym same_lines) (pending_first old.lines e.guest lines p.pending) in
       let k =
-      subst (λ q. AnswersLines site moment e q b c after new fed) same_lines
-      (subst (λ n. AnswersLines site n e passed b c after new fed) same_moment (answers e p.does.way p.serves p.talks (subst OnlyLastAsks (sym same_lines) p.only) first)) in
+      subst (λ q. AnswersLines judge site moment e q b c after new fed) same_lines
+      (subst (λ n. AnswersLines judge site n e passed b c after new fed) same_moment (answers e p.does.way p.serves p.talks (subst OnlyLastAsks (sym same_lines) p.only) first)) in
       let x : Did = reached site moment e k.choices in
       let is : reached site moment start (p.choices ++ k.choices) ≡ x = fold-append (answered site moment) start p.choices k.choices in
       record {
         before = e;
         choices = p.choices ++ k.choices;
+        meant = meant_join site moment j start p.choices k.choices p.meant (are_since site moment j judge e k.choices alike k.meant);
         does = subst (λ q. Does site start q a c fed) (sym is) (does_join site start e x a b c fed p.does k.does);
         pending = p.pending;
         alive = λ live. subst (λ q. Serves site after q.table) (sym is) (k.alive live);
@@ -428,16 +450,16 @@ module _ (site : Site) (moment : ℕ) (table : Table) (g : Guest) (bytes : List 
     ended = reached site moment start batch.choices
 
     -- the session or the run ended
-    pub feeds_cut : is_onward fed ≡ false → Feeds site moment table g bytes a b intake caller fed
+    pub feeds_cut : is_onward fed ≡ false → Feeds j site moment table g bytes a b intake caller fed
     feeds_cut off =
         let never = λ (on : is_onward fed ≡ true). false≢true (sym off ∙ on) in
-        feeds_of a b intake caller fed batch.choices (settled_end false fed ended off batch.does.way (λ on. absurd (never on))) batch.does batch.alive (λ on. absurd (never on))
+        feeds_of a b intake caller fed batch.choices batch.meant (settled_end false fed ended off batch.does.way (λ on. absurd (never on))) batch.does batch.alive (λ on. absurd (never on))
 
     -- all lines were answered
-    pub feeds_all : asked_after false lines ≡ false → reader.left ≡ [] → caller.lines ≡ reader → Feeds site moment table g bytes a b intake caller fed
+    pub feeds_all : asked_after false lines ≡ false → reader.left ≡ [] → caller.lines ≡ reader → Feeds j site moment table g bytes a b intake caller fed
     feeds_all quiet left same =
         let follows = λ (on : is_onward fed ≡ true). follows_quiet site batch.before ended reader lines intake caller fed quiet batch.pending (batch.hears on) in
-        feeds_of a b intake caller fed batch.choices
+        feeds_of a b intake caller fed batch.choices batch.meant
         (settled_end (is_onward fed) fed ended refl batch.does.way (λ on. all_heard reader ended.guest left (follows on)))
         batch.does
         batch.alive
@@ -461,24 +483,25 @@ module _ (site : Site) (moment : ℕ) (table : Table) (g : Guest) (bytes : List 
           let t = hears.stays.talks in
           let turned_follows = subst (λ r. Follows r ended.guest) (sym is) (follows_asked site batch.before ended reader lines intake caller fed asked batch.pending hears) in record {
             choices = batch.choices;
+            meant = batch.meant;
             does = does_onward site start ended a b fed on batch.does;
             serves = hears.stays.serves;
-            talks = record { number = number ∙ t.number; session = subst (λ q. Speaks q site.host ended.guest.peer ended.guest.heard) (sym session) t.session; peer = t.peer };
+            talks = talks_same site caller next ended.guest number session t;
             pending = pending_more turned.lines next.lines ended.guest more turned_follows stands turns;
             only = only_more turned.lines next.lines ended.guest more turned_follows stands turns;
           }
 
-  feeds_dropped : (a : Seen) (f h : FloorHeard) (s : Spooled) (k : ClockSeen) (intake : Intake) (caller : Caller) (fed : Result Next CoreStop) (session : ℕ) (choices : List Choice)
+  feeds_dropped : (a : Seen) (f h : FloorHeard) (s : Spooled) (k : ClockSeen) (intake : Intake) (caller : Caller) (fed : Result Next CoreStop) (session : ℕ) (choices : List Choice) → AreMeant j site moment start choices
       → Does site start (reached site moment start choices) a (seen f s k) (Ok Continue) → (reached site moment start choices).may_disconnect ≡ true → session ≡ (reached site moment start choices).guest.number
       → Gains f.told h.told (heard_of (HangsUp session ∷ [])) → h.faults ≡ f.faults → fed ≡ (Ok Closed) → Serves site intake (reached site moment start choices).table
-      → Feeds site moment table g bytes a (seen h s k) intake caller fed
-  feeds_dropped a f h s k intake caller fed session choices done may number told own is serves =
+      → Feeds j site moment table g bytes a (seen h s k) intake caller fed
+  feeds_dropped a f h s k intake caller fed session choices meant done may number told own is serves =
       let e : Did = reached site moment start choices in
       let x : Did = does e (HangsUp e.guest.number ∷ []) Leaves in
       let drops : reached site moment start (choices ++ Disconnects ∷ []) ≡ x = fold_push (answered site moment) start choices Disconnects ∙ dropped site moment e done.way may in
       let last = does_drops site e f h s k (subst (λ n. Gains f.told h.told (heard_of (HangsUp n ∷ []))) number told) own in
-      subst (Feeds site moment table g bytes a (seen h s k) intake caller) (sym is)
-      (feeds_of a (seen h s k) intake caller (Ok Closed) (choices ++ Disconnects ∷ [])
+      subst (Feeds j site moment table g bytes a (seen h s k) intake caller) (sym is)
+      (feeds_of a (seen h s k) intake caller (Ok Closed) (choices ++ Disconnects ∷ []) (meant_join site moment j start choices (Disconnects ∷ []) meant (drops_meant site moment j e))
       (subst (λ q. settled q ≡ q) (sym drops) refl)
       (subst (λ q. Does site start q a (seen h s k) (Ok Closed)) (sym drops) (does_join site start e x a (seen f s k) (seen h s k) (Ok Closed) done last))
       (λ live. subst (λ (q : Did). Serves site intake q.table) (sym drops) serves)
@@ -487,17 +510,17 @@ module _ (site : Site) (moment : ℕ) (table : Table) (g : Guest) (bytes : List 
   -- there was no memory for the piece
   pub feeds_none : (f h : FloorHeard) (s : Spooled) (k : ClockSeen) (intake : Intake) (old caller : Caller) (fed : Result Next CoreStop) (session : ℕ) → Keeps site old g → session ≡ old.number
       → Gains f.told h.told (heard_of (HangsUp session ∷ [])) → h.faults ≡ f.faults → fed ≡ (Ok Closed) → Serves site intake table
-      → Feeds site moment table g bytes (seen f s k) (seen h s k) intake caller fed
+      → Feeds j site moment table g bytes (seen f s k) (seen h s k) intake caller fed
   feeds_none f h s k intake old caller fed session keeps same told own is serves =
-      feeds_dropped (seen f s k) f h s k intake caller fed session [] (does_none site start f s k start refl refl refl refl) refl (same ∙ keeps.talks.number) told own is serves
+      feeds_dropped (seen f s k) f h s k intake caller fed session [] tt (does_none site start f s k start refl refl refl refl) refl (same ∙ keeps.talks.number) told own is serves
 
   -- there was none for what follows a line that asks
   pub feeds_lost : (a : Seen) (f h : FloorHeard) (s : Spooled) (k : ClockSeen) (reader : Reader) (lines : List Line) (intake : Intake) (caller last : Caller) (went fed : Result Next CoreStop) (session : ℕ) → Batch a (seen f s k) reader lines intake caller went
       → is_onward went ≡ true → asked_after false lines ≡ true → reader.left ≢ [] → session ≡ caller.number
       → Gains f.told h.told (heard_of (HangsUp session ∷ [])) → h.faults ≡ f.faults → fed ≡ (Ok Closed)
-      → Feeds site moment table g bytes a (seen h s k) intake last fed
+      → Feeds j site moment table g bytes a (seen h s k) intake last fed
   feeds_lost a f h s k reader lines intake caller last went fed session batch on asked left same told own is =
-      feeds_dropped a f h s k intake last fed session batch.choices
+      feeds_dropped a f h s k intake last fed session batch.choices batch.meant
       (does_onward site start (reached site moment start batch.choices) a (seen f s k) went on batch.does)
       (may_end a (seen f s k) reader lines intake caller went batch on asked left)
       (same ∙ (batch.hears on).stays.talks.number) told own is (batch.hears on).stays.serves

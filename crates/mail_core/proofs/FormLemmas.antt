@@ -1,18 +1,23 @@
 -- A message that was received has a control text.
-use Rattle.std.proofs.Common.{◌≡◌, ◌≢◌, ℕ, ◌<◌, ◌^◌, List, [], ◌∷◌, sym, subst, arith, ℤ, pos, negsuc}
-use Rattle.std.specs.Prelude.{All, FitsSigned, codes, length, slice_index}
+use Rattle.std.proofs.Common.{◌≡◌, ◌≢◌, ◌⊎◌, inl, inr, ℕ, ◌<◌, ◌≤◌, ◌^◌, List, [], ◌∷◌, map, Option, Some, None, sym, subst, arith, ℤ, pos, negsuc}
+use Rattle.std.specs.Prelude.{All, FitsSigned, IfSome, codes, length}
 use Rattle.std.specs.Int.{w64, w128}
-use Rattle.std.proofs.lemmas.Int.{fits_signed_from_abs}
-use Rattle.std.proofs.lemmas.List.Elements.{All-nil, All-cons}
+use Rattle.std.proofs.lemmas.List.{length-map}
+use Rattle.std.proofs.lemmas.List.Elements.{All-nil, All-cons, All-head, All-tail}
 use Rattle.mail_base.specs.Limits.{most_rows}
 use Rattle.qf_format.specs.Valid.{IsValid, IsRow}
-use Rattle.smtp_receive.specs.declared.received.Received.{Received}
+use Rattle.mail_base.specs.declared.draw.Draw.{Draw}
+use Rattle.mail_base.specs.declared.message.Message.{Message}
+use Rattle.mail_base.specs.Texts.{IsHeader}
+use Rattle.smtp_receive.specs.Judging.{IsDrawn}
 use Rattle.smtp_receive.specs.Forms.{IsFormed}
 use Rattle.queue_table.specs.Calls.{AreValid}
 use Rattle.queue_table.specs.Commands.{new_control, new_row}
 use Rattle.queue_table.specs.Priorities.{within_128}
+use Rattle.queue_table.specs.Soundness.{AreCuts}
 use Rattle.queue_table.specs.declared.terms.Terms.{Terms}
-use Rattle.mail_core.specs.Messages.{cut_of, cuts_of, draw_of, message_of}
+use Rattle.mail_base.specs.declared.message.Cut.{Cut}
+use Rattle.mail_core.specs.Messages.{cut_of, cuts_of, headed, put_first}
 
 abbrev NotLf : ℕ → Type 0
 NotLf b = b ≢ 10
@@ -31,18 +36,23 @@ priority_fits : (sum : ℤ) → FitsSigned w128 (within_128 sum)
 priority_fits (pos n) = record { sfits = omega arith }
 priority_fits (negsuc n) = record { sfits = omega arith }
 
-class_fits : FitsSigned w64 (pos 0)
-class_fits = fits_signed_from_abs w64 (pos 0) (omega arith)
+-- the rows of a message are those of an entry
+rows_formed : (draws : List Draw) → All IsDrawn draws → All IsRow (map new_row draws)
+rows_formed [] each = All-nil IsRow
+rows_formed (draw ∷ draws) each =
+    All-cons IsRow (new_row draw) (map new_row draws) (record { address_form = (All-head IsDrawn draw draws each).address_form; state_form = tt }) (rows_formed draws (All-tail IsDrawn draw draws each))
 
--- a text with a first byte is not empty
-some_byte : (text : List ℕ) → slice_index text 0 ≡ 60 → 0 < length text
-some_byte [] e = absurd (omega (arith, e))
-some_byte (b ∷ text) e = omega arith
+headers_formed : (first : Option (List ℕ)) (headers : List (List ℕ)) → IfSome first IsHeader → All IsHeader headers → All IsHeader (put_first first headers)
+headers_formed None headers h each = each
+headers_formed (Some first) headers h each = All-cons IsHeader first headers h each
+
+protocol_formed : (protocol : List ℕ) → (protocol ≡ codes "SMTP") ⊎ (protocol ≡ codes "ESMTP") → All NotLf protocol
+protocol_formed protocol (inl e) = subst (All NotLf) (sym e) protocol_line
+protocol_formed protocol (inr e) = subst (All NotLf) (sym e) (line_of 69 (codes "SMTP") (λ e. omega (arith, e)) protocol_line)
 
 -- a message of the right form has a control that is valid
-valid_message : (terms : Terms) (moment : ℕ) (message : Received) (peer : List ℕ) → moment < 2 ^ 64 → All NotLf peer → IsFormed message peer → IsValid (new_control terms (message_of message) moment (cut_of message))
-unfolding most_rows
-valid_message terms moment message peer fits line form = record {
+valid_message : (terms : Terms) (moment : ℕ) (first : Option (List ℕ)) (message : Message) (peer : List ℕ) → moment < 2 ^ 64 → All NotLf peer → FitsSigned w64 message.class → IfSome first IsHeader → IsFormed message peer → IsValid (new_control terms (headed first message) moment (cut_of message))
+valid_message terms moment first message peer fits line class header form = record {
   revision_range = record { least = omega arith; most = omega arith };
   parent_form = tt;
   group_form = group_line;
@@ -50,22 +60,29 @@ valid_message terms moment message peer fits line form = record {
   last_try_range = omega arith;
   tries_range = omega arith;
   priority_range = priority_fits _;
-  class_range = class_fits;
+  class_range = class;
   sender_form = form.sender_form;
   kept_form = record {
-    protocol_form = subst (All NotLf) (sym form.protocol_is) protocol_line;
+    protocol_form = protocol_formed message.kept.protocol form.protocol_is;
     helo_form = form.helo_form;
     client_form = subst (All NotLf) (sym form.client_is) line;
   };
   rows_form = record {
-    some = omega arith;
-    few = omega arith;
-    each = All-cons IsRow (new_row (draw_of message)) [] (record { address_form = record { line = form.recipient_form.line; some = some_byte message.recipient form.recipient_form.opens }; state_form = tt }) (All-nil IsRow);
+    some = omega (arith, form.rows_form.some, length-map message.rows new_row);
+    few = omega (arith, form.rows_form.few, length-map message.rows new_row);
+    each = rows_formed message.rows form.rows_form.each;
   };
-  headers_form = form.headers_form;
+  headers_form = headers_formed first message.headers header form.headers_form;
 }
 
 -- and so has each of its parts
-pub valid_parts : (terms : Terms) (moment : ℕ) (message : Received) (peer : List ℕ) → moment < 2 ^ 64 → All NotLf peer → IsFormed message peer → AreValid terms (message_of message) moment (cuts_of message)
-valid_parts terms moment message peer fits line form =
-    All-cons (λ cut. IsValid (new_control terms (message_of message) moment cut)) (cut_of message) [] (valid_message terms moment message peer fits line form) (All-nil (λ cut. IsValid (new_control terms (message_of message) moment cut)))
+pub valid_parts : (terms : Terms) (moment : ℕ) (first : Option (List ℕ)) (message : Message) (peer : List ℕ) → moment < 2 ^ 64 → All NotLf peer → FitsSigned w64 message.class → IfSome first IsHeader → IsFormed message peer → AreValid terms (headed first message) moment (cuts_of message)
+valid_parts terms moment first message peer fits line class header form =
+    All-cons (λ cut. IsValid (new_control terms (headed first message) moment cut)) (cut_of message) [] (valid_message terms moment first message peer fits line class header form) (All-nil (λ cut. IsValid (new_control terms (headed first message) moment cut)))
+
+-- the one part of a message with a row
+pub parts_are : (message : Message) → 1 ≤ length message.rows → AreCuts (cuts_of message)
+parts_are message some = record {
+  some = omega arith;
+  each = All-cons (λ (cut : Cut). 0 < length cut.rows) (cut_of message) [] (omega (arith, some)) (All-nil (λ (cut : Cut). 0 < length cut.rows));
+}

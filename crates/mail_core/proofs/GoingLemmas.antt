@@ -8,8 +8,8 @@ use Rattle.mail_edge.specs.Seen.{ClockSeen}
 use Rattle.link_edge.specs.Heard.{Heard}
 use Rattle.link_edge.specs.declared.event.Event.{Event}
 use Rattle.smtp_lines.specs.declared.line.Line.{Line}
-use Rattle.smtp_receive.specs.declared.received.Received.{Received}
-use Rattle.smtp_receive.specs.Dialogue.{Gives}
+use Rattle.mail_base.specs.declared.message.Message.{Message}
+use Rattle.smtp_receive.specs.Judging.{Said, Unasked}
 use Rattle.smtp_receive.specs.Replies.{stored_text}
 use Rattle.spool_disk.specs.Spooled.{Spooled}
 use Rattle.spool_store.specs.Moves.{Moves}
@@ -24,7 +24,7 @@ use Rattle.mail_core.specs.Sites.{Site}
 use Rattle.mail_core.specs.Effects.{Commits, Sends, HangsUp, heard_of, readings_of, commands_of, speech}
 use Rattle.mail_core.specs.Causes.{HasCause, is_well}
 use Rattle.mail_core.specs.inner.Going.{Does, heard_chosen, begins_data, stays_open, way_after, is_onward}
-use Rattle.mail_core.specs.Machine.{Ending, Stopped, SpoolFault, IdsSpent, GoesOn, Leaves, Over, Finish, By, Did, way_of, does, says, closes, is_over, commits, accepts, fails, heard_line, heard_where, Choice, Normal, OutOfMemory, Disconnects, SpoolFails}
+use Rattle.mail_core.specs.Machine.{Ending, Stopped, SpoolFault, IdsSpent, FilesFault, GoesOn, Leaves, Over, Finish, By, Did, way_of, does, says, closes, is_over, commits, accepts, heard_line, heard_where, Choice, Normal, OutOfMemory, Disconnects, SpoolFails, JudgeFails}
 use Rattle.mail_core.specs.Messages.{accept_of, is_spent}
 use Rattle.mail_core.specs.Seen.{IsEither, IsSparing, Ran, Seen, seen, table_after}
 use Rattle.mail_core.proofs.RanLemmas.{table_more, ran_join, ran_none, ran_floor, ran_done, ran_failed}
@@ -86,6 +86,7 @@ pub cause_since : (ending : Ending) (event : Event) (table : Table) (a b c : See
 cause_since Stopped event table a b c le h = h
 cause_since SpoolFault event table a b c le h = omega (arith, h, le)
 cause_since IdsSpent event table a b c le h = h
+cause_since FilesFault event table a b c le h = tt
 
 -- the run ended so
 ended_as : (one ending : Ending) (event : Event) (table : Table) (a b : Seen) → Over (By one) ≡ Over (By ending) → HasCause one event table a b → HasCause ending event table a b
@@ -175,9 +176,21 @@ module _ (site : Site) (d : Did) (f : Heard) (s : Spooled) (k : ClockSeen) where
     cause = λ ending over event. ended_as IdsSpent ending event d.table (seen f s k) (seen f s k) over spent;
   }
 
+-- the judge failed
+pub does_judged : (site : Site) (d : Did) (f : Heard) (s : Spooled) (k : ClockSeen) → Does site d (is_over d (By FilesFault)) (seen f s k) (seen f s k) (Err stops.FilesFault)
+does_judged site d f s k = record {
+  more = [];
+  effects = refl;
+  table = refl;
+  number = refl;
+  ran = ran_none site.dirs d.table f s k;
+  way = refl;
+  cause = λ ending over event. ended_as FilesFault ending event d.table (seen f s k) (seen f s k) over tt;
+}
+
 -- ---- messages
 
-module _ (site : Site) (moment : ℕ) (d : Did) (message : Received) (f : Heard) (s t : Spooled) (k : ClockSeen) where
+module _ (site : Site) (moment : ℕ) (d : Did) (message : Message) (f : Heard) (s t : Spooled) (k : ClockSeen) where
   -- a message was taken in
   pub does_commits : d.way ≡ GoesOn → Moves s t (StandsFor site.dirs d.table) (StandsFor site.dirs (after d.table (accept_of site moment message))) (IsEither site.dirs d.table (accept_of site moment message)) → IsSparing site.dirs s t true → s.faults ≤ t.faults
       → Does site d (commits site moment d message) (seen f s k) (seen f t k) (Ok Continue)
@@ -193,7 +206,7 @@ module _ (site : Site) (moment : ℕ) (d : Did) (message : Received) (f : Heard)
 
   -- the spool failed at a message
   pub does_failed : is_spent d.table ≡ false → Moves s t (StandsFor site.dirs d.table) (IsEither site.dirs d.table (accept_of site moment message)) (IsEither site.dirs d.table (accept_of site moment message)) → IsSparing site.dirs s t false → s.faults ≤ t.faults → Rose s.faults t.faults
-      → Does site d (fails site moment d (Gives message)) (seen f s k) (seen f t k) (Err stops.SpoolFault)
+      → Does site d (if is_spent d.table then is_over d (By IdsSpent) else is_over (commits site moment d message) (By SpoolFault)) (seen f s k) (seen f t k) (Err stops.SpoolFault)
   does_failed left moves sparing later rose = subst (λ e. Does site d e (seen f s k) (seen f t k) (Err stops.SpoolFault)) (sym (cond-false (is_spent d.table) _ _ left)) (record {
     more = Commits (accept_of site moment message) ∷ [];
     effects = append-nil (d.effects ++ Commits (accept_of site moment message) ∷ []);
@@ -205,7 +218,7 @@ module _ (site : Site) (moment : ℕ) (d : Did) (message : Received) (f : Heard)
   })
 
 -- a message was taken in, and its 250 said
-pub does_accepts : (site : Site) (moment : ℕ) (d : Did) (message : Received) (f g : Heard) (s t : Spooled) (k : ClockSeen) (fed : Result Next CoreStop) → d.way ≡ GoesOn → is_spent d.table ≡ false
+pub does_accepts : (site : Site) (moment : ℕ) (d : Did) (message : Message) (f g : Heard) (s t : Spooled) (k : ClockSeen) (fed : Result Next CoreStop) → d.way ≡ GoesOn → is_spent d.table ≡ false
     → Moves s t (StandsFor site.dirs d.table) (StandsFor site.dirs (after d.table (accept_of site moment message))) (IsEither site.dirs d.table (accept_of site moment message)) → IsSparing site.dirs s t true → s.faults ≤ t.faults
     → IsSpoken fed → Gains f.told g.told (heard_of (speech d.guest.number (stored_text d.table.next) (is_onward fed))) → g.faults ≡ f.faults
     → Does site d (accepts site moment d message (is_onward fed)) (seen f s k) (seen g t k) fed
@@ -216,39 +229,41 @@ does_accepts site moment d message f g s t k fed way left moves sparing later sp
     (does_says site (commits site moment d message) f g t k (stored_text d.table.next) fed spoken told own))
 
 -- the line was heard besides
-pub does_heard : (site : Site) (d e : Did) (a b : Seen) (fed : Result Next CoreStop) (line : Line) (short : Bool) (id : Option ℕ) → Does site d e a b fed → Does site d (heard_line e line short id) a b fed
-does_heard site d e a b fed line short id h = record { more = h.more; effects = h.effects; table = h.table; number = h.number; ran = h.ran; way = h.way; cause = h.cause }
+pub does_heard : (site : Site) (d e : Did) (a b : Seen) (fed : Result Next CoreStop) (line : Line) (said : Said) (short : Bool) (id : Option ℕ) → Does site d e a b fed → Does site d (heard_line e line said short id) a b fed
+does_heard site d e a b fed line said short id h = record { more = h.more; effects = h.effects; table = h.table; number = h.number; ran = h.ran; way = h.way; cause = h.cause }
 
-pub does_where : (site : Site) (d e : Did) (a b : Seen) (fed : Result Next CoreStop) (line : Line) (id : Option ℕ) (answered : Bool) → Does site d e a b fed → Does site d (heard_where answered e line false id) a b fed
-does_where site d e a b fed line id true h = does_heard site d e a b fed line false id h
-does_where site d e a b fed line id false h = h
+pub does_where : (site : Site) (d e : Did) (a b : Seen) (fed : Result Next CoreStop) (line : Line) (said : Said) (id : Option ℕ) (answered : Bool) → Does site d e a b fed → Does site d (heard_where answered e line said false id) a b fed
+does_where site d e a b fed line said id true h = does_heard site d e a b fed line said false id h
+does_where site d e a b fed line said id false h = h
 
 -- the line of a message was heard besides, but where the run ended
 pub does_chosen : (site : Site) (d e : Did) (a b : Seen) (fed : Result Next CoreStop) (line : Line) (table : Table) (choice : Choice) → Does site d e a b fed → Does site d (heard_chosen table choice e line) a b fed
-does_chosen site d e a b fed line table (Normal whole) h = does_where site d e a b fed line (Some table.next) (not (is_spent table)) h
-does_chosen site d e a b fed line table (OutOfMemory whole) h = does_heard site d e a b fed line true None h
+does_chosen site d e a b fed line table (Normal said first whole) h = does_where site d e a b fed line said (Some table.next) (not (is_spent table)) h
+does_chosen site d e a b fed line table (OutOfMemory whole) h = does_heard site d e a b fed line Unasked true None h
 does_chosen site d e a b fed line table Disconnects h = h
-does_chosen site d e a b fed line table SpoolFails h = h
+does_chosen site d e a b fed line table (SpoolFails first) h = h
+does_chosen site d e a b fed line table JudgeFails h = h
 
-where_table : (answered : Bool) (d : Did) (line : Line) (id : Option ℕ) → (heard_where answered d line false id).table ≡ d.table
-where_table true d line id = refl
-where_table false d line id = refl
+where_table : (answered : Bool) (d : Did) (line : Line) (said : Said) (id : Option ℕ) → (heard_where answered d line said false id).table ≡ d.table
+where_table true d line said id = refl
+where_table false d line said id = refl
 
 -- what a session heard of a line, by a choice, doesn't change the table
 pub chosen_table : (table : Table) (choice : Choice) (d : Did) (line : Line) → (heard_chosen table choice d line).table ≡ d.table
-chosen_table table (Normal whole) d line = where_table (not (is_spent table)) d line (Some table.next)
+chosen_table table (Normal said first whole) d line = where_table (not (is_spent table)) d line said (Some table.next)
 chosen_table table (OutOfMemory whole) d line = refl
 chosen_table table Disconnects d line = refl
-chosen_table table SpoolFails d line = refl
+chosen_table table (SpoolFails first) d line = refl
+chosen_table table JudgeFails d line = refl
 
 accepts_case : (b : Bool) (d x : Did) → x.guest ≡ d.guest → (if b then is_over d (By IdsSpent) else x).guest ≡ d.guest
 accepts_case true d x e = refl
 accepts_case false d x e = e
 
 -- a message that is accepted doesn't change the session
-pub accepts_guest : (site : Site) (moment : ℕ) (d : Did) (message : Received) (whole : Bool) → (accepts site moment d message whole).guest ≡ d.guest
+pub accepts_guest : (site : Site) (moment : ℕ) (d : Did) (message : Message) (whole : Bool) → (accepts site moment d message whole).guest ≡ d.guest
 accepts_guest site moment d message whole = accepts_case (is_spent d.table) d (says (commits site moment d message) (stored_text d.table.next) whole) refl
 
 -- a message that isn't accepted doesn't change the session
-pub fails_guest : (site : Site) (moment : ℕ) (d : Did) (message : Received) → (fails site moment d (Gives message)).guest ≡ d.guest
+pub fails_guest : (site : Site) (moment : ℕ) (d : Did) (message : Message) → (if is_spent d.table then is_over d (By IdsSpent) else is_over (commits site moment d message) (By SpoolFault)).guest ≡ d.guest
 fails_guest site moment d message = accepts_case (is_spent d.table) d (is_over (commits site moment d message) (By SpoolFault)) refl

@@ -1,4 +1,5 @@
 pub mod SparingLemmas
+pub mod JudgeLemmas
 pub mod RanLemmas
 pub mod MachineLemmas
 pub mod RunLemmas

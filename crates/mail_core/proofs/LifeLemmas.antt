@@ -3,6 +3,7 @@ use Rattle.std.proofs.Common.{◌≡◌, ℕ, List, [], ◌∷◌, ◌++◌, Boo
 use Rattle.std.specs.Prelude.{length, is_some, nat_le, nat_eq, if◌then◌else◌}
 use Rattle.std.proofs.lemmas.Bool.{cases_Bool, cond-true, cond-false, eq-eqb, eqb-true, or_from}
 use Rattle.std.proofs.lemmas.List.{append-nil}
+use Rattle.mail_base.specs.declared.config.Config.{Config}
 use Rattle.link_edge.specs.declared.event.Event.{Event}
 use Rattle.link_edge.specs.declared.event.Event.TheVariants.{Opens, Brings, Closes, Rests, Stops}
 use Rattle.smtp_lines.specs.declared.line.Mode.TheVariants.{Commands}
@@ -28,12 +29,12 @@ none_here s (g ∷ guests) none =
     (λ other. or_from (has_number s g) (is_here s guests) other (none_here s guests (sym (skipped s g guests other) ∙ none)))
     (cases_Bool (has_number s g))
 
-pushed_own : (s : ℕ) (peer : List ℕ) (guests : List Guest) → guest_of s guests ≡ None → guest_of s (guests ++ newcomer s peer ∷ []) ≡ Some (newcomer s peer)
-pushed_own s peer [] none = cond-true (has_number s (newcomer s peer)) (Some (newcomer s peer)) None (eq-eqb s s refl)
-pushed_own s peer (g ∷ guests) none =
+pushed_own : (config : Config) (s : ℕ) (peer : List ℕ) (guests : List Guest) → guest_of s guests ≡ None → guest_of s (guests ++ newcomer config s peer ∷ []) ≡ Some (newcomer config s peer)
+pushed_own config s peer [] none = cond-true (has_number s (newcomer config s peer)) (Some (newcomer config s peer)) None (eq-eqb s s refl)
+pushed_own config s peer (g ∷ guests) none =
     ⊎_elim
     (λ is. absurd (none_is g (sym none ∙ cond-true (has_number s g) (Some g) (guest_of s guests) is)))
-    (λ other. skipped s g (guests ++ newcomer s peer ∷ []) other ∙ pushed_own s peer guests (sym (skipped s g guests other) ∙ none))
+    (λ other. skipped s g (guests ++ newcomer config s peer ∷ []) other ∙ pushed_own config s peer guests (sym (skipped s g guests other) ∙ none))
     (cases_Bool (has_number s g))
 
 module _ (site : Site) (s : ℕ) where
@@ -47,6 +48,7 @@ module _ (site : Site) (s : ℕ) where
   over_same g found none turn = record {
     now = g;
     peer = refl;
+    config = refl;
     last = turn.last;
     rest = turn.rest;
     reads = subst (λ q. Reads Commands q (grants_of g) (lines_heard g) turn.last turn.rest) (sym (append-nil g.received)) turn.reads;
@@ -58,6 +60,7 @@ module _ (site : Site) (s : ℕ) where
   goes_same g turn = record {
     now = g;
     peer = refl;
+    config = refl;
     last = turn.last;
     rest = turn.rest;
     reads = subst (λ q. Reads Commands q (grants_of g) (lines_heard g) turn.last turn.rest) (sym (append-nil g.received)) turn.reads;
@@ -80,6 +83,7 @@ module _ (site : Site) (s : ℕ) where
   join_over g c x y t u none quiet k = record {
     now = k.now;
     peer = k.peer;
+    config = k.config;
     last = k.last;
     rest = k.rest ++ y;
     reads = subst (λ q. Reads Commands q (grants_of k.now) (lines_heard k.now) k.last (k.rest ++ y)) (append_assoc g.received x y)
@@ -96,6 +100,7 @@ module _ (site : Site) (s : ℕ) where
       record {
         now = l.now;
         peer = l.peer ∙ ap (λ (q : Guest). q.peer) now.0 ∙ k.peer;
+        config = l.config ∙ ap (λ (q : Guest). q.config) now.0 ∙ k.config;
         last = l.last;
         rest = l.rest;
         reads = subst (λ q. Reads Commands q (grants_of l.now) (lines_heard l.now) l.last l.rest) all l.reads;
@@ -143,7 +148,7 @@ module _ (site : Site) (s : ℕ) where
   away_apart m n Dropped apart = record { said = refl; quiet = refl; guest = refl }
 
   welcome_apart : (m : State) (n : ℕ) (peer : List ℕ) (choice : Opening) → nat_eq n s ≡ false → IsApart m (welcomed site m n peer choice)
-  welcome_apart m n peer (Replied true) apart = record { said = speech_other s n apart (greeting_text (shown_host site.host)) true; quiet = refl; guest = pushed_other s m.guests (newcomer n peer) apart }
+  welcome_apart m n peer (Replied true) apart = record { said = speech_other s n apart (greeting_text (shown_host site.host)) true; quiet = refl; guest = pushed_other s m.guests (newcomer site.config n peer) apart }
   welcome_apart m n peer (Replied false) apart = record { said = speech_other s n apart (greeting_text (shown_host site.host)) false; quiet = refl; guest = refl }
   welcome_apart m n peer Dropped apart = record { said = refl; quiet = refl; guest = refl }
 
@@ -174,6 +179,7 @@ module _ (site : Site) (s : ℕ) where
   converses g bytes d found k told is = record {
     now = d.guest;
     peer = k.kept.peer;
+    config = k.kept.config;
     last = k.kept.first.last;
     rest = k.kept.first.rest;
     reads = subst (λ q. Reads Commands q (grants_of d.guest) (lines_heard d.guest) k.kept.first.last k.kept.first.rest) k.kept.received k.kept.first.reads;
@@ -294,7 +300,7 @@ module _ (site : Site) (s : ℕ) where
   data OpensAs (peer : List ℕ) (found : Option Guest) (texts : List (List ℕ)) : Type 0 where
     left_out : found ≡ None → texts ≡ [] → OpensAs peer found texts
     sent_away : found ≡ None → texts ≡ too_many_sessions_text ∷ [] → OpensAs peer found texts
-    let_in : found ≡ Some (newcomer s peer) → texts ≡ greeting_text (shown_host site.host) ∷ [] → OpensAs peer found texts
+    let_in : found ≡ Some (newcomer site.config s peer) → texts ≡ greeting_text (shown_host site.host) ∷ [] → OpensAs peer found texts
     lost : found ≡ None → texts ≡ greeting_text (shown_host site.host) ∷ [] → OpensAs peer found texts
 
   abbrev StepOpens : List ℕ → Step → Type 0
@@ -313,7 +319,7 @@ module _ (site : Site) (s : ℕ) where
   away_begins m peer Dropped none = record { quiet = refl; opens = left_out none refl }
 
   welcome_begins : (m : State) (peer : List ℕ) (choice : Opening) → guest_of s m.guests ≡ None → Begins peer (welcomed site m s peer choice)
-  welcome_begins m peer (Replied true) none = record { quiet = refl; opens = let_in (pushed_own s peer m.guests none) (said_once s (greeting_text (shown_host site.host)) true []) }
+  welcome_begins m peer (Replied true) none = record { quiet = refl; opens = let_in (pushed_own site.config s peer m.guests none) (said_once s (greeting_text (shown_host site.host)) true []) }
   welcome_begins m peer (Replied false) none = record { quiet = refl; opens = lost none (said_once s (greeting_text (shown_host site.host)) false (HangsUp s ∷ [])) }
   welcome_begins m peer Dropped none = record { quiet = refl; opens = left_out none refl }
 
@@ -345,8 +351,9 @@ module _ (site : Site) (s : ℕ) where
   welcomes_by peer found later bytes texts more (lost none said) lives =
       let r = subst (λ o. Lives o later bytes more) none lives in
       greets more (ap (λ q. q ++ more) said) (record {
-        now = newcomer s peer;
+        now = newcomer site.config s peer;
         peer = refl;
+        config = refl;
         last = Commands;
         rest = bytes;
         reads = nothing Commands bytes;

@@ -1,7 +1,8 @@
 -- Each step of the machine does effects that lead from its table to the next, and says the final
 -- 250 of entries alone.
-use Rattle.std.proofs.Common.{◌≡◌, ℕ, List, [], ◌∷◌, ◌++◌, Bool, true, false, Option, Some, None, refl, sym, ◌∙◌, ap, subst, append_assoc}
-use Rattle.std.specs.Prelude.{if◌then◌else◌, nat_le, length, fold, is_some}
+use Rattle.std.proofs.Common.{◌≡◌, ℕ, List, [], ◌∷◌, ◌++◌, Bool, true, false, Option, Some, None, ◌≤◌, map, arith, refl, sym, ◌∙◌, ap, subst, append_assoc}
+use Rattle.std.specs.Prelude.{◌||◌, Contains, if◌then◌else◌, nat_le, length, fold, is_some}
+use Rattle.std.specs.List.{list_any}
 use Rattle.std.proofs.lemmas.List.{append-nil}
 use Rattle.std.proofs.lemmas.List.Elements.{Contains-push, Contains-append_left}
 use Rattle.std.proofs.lemmas.Bool.{ltb-false}
@@ -9,21 +10,26 @@ use Rattle.mail_base.specs.Limits.{IsId}
 use Rattle.link_edge.specs.declared.event.Event.{Event}
 use Rattle.link_edge.specs.declared.event.Event.TheVariants.{Opens, Brings, Closes, Rests, Stops}
 use Rattle.smtp_lines.specs.declared.line.Line.{Line}
-use Rattle.smtp_receive.specs.declared.received.Received.{Received}
-use Rattle.smtp_receive.specs.Dialogue.{Answer, Says, Greets, Grants, Closes as Ends, Gives, Takes as Passes}
-use Rattle.smtp_receive.specs.Finals.{IsFinal}
-use Rattle.smtp_receive.specs.Replies.{text_of, grant_text, hello_text, closing_text, greeting_text, stored_text, shown_host, out_of_memory_text, too_many_sessions_text}
-use Rattle.smtp_receive.specs.Sessions.{answer_of}
-use Rattle.smtp_receive.proofs.FinalLemmas.{reply_final, grant_final, hello_final, closing_final, greeting_final, memory_final, sessions_final, same_id}
+use Rattle.mail_base.specs.declared.message.Message.{Message}
+use Rattle.smtp_receive.specs.Dialogue.{Answer, Says, Refuses, Greets, Extends, Grants, Closes as Ends, Gives, Takes as Passes, did_of}
+use Rattle.smtp_receive.specs.Finals.{IsFinal, text_told}
+use Rattle.smtp_receive.specs.Judging.{Said, Unasked}
+use Rattle.smtp_receive.specs.Replies.{text_of, refusal_text, grant_text, hello_text, extended_text, closing_text, greeting_text, stored_text, shown_host, out_of_memory_text, too_many_sessions_text}
+use Rattle.smtp_receive.proofs.JudgeLemmas.{said_formed}
+use Rattle.smtp_receive.proofs.FinalLemmas.{told_final, greeting_final, memory_final, sessions_final, same_id}
 use Rattle.spool_store.specs.Entries.{Stored, Table}
 use Rattle.spool_store.specs.Writes.{children_of, stored}
-use Rattle.queue_table.specs.Commands.{Command, after, draft_of, drafts_of}
+use Rattle.mail_base.specs.States.{is_dead, is_open}
+use Rattle.mail_base.specs.declared.draw.Draw.{Draw}
+use Rattle.queue_table.specs.Commands.{Command, after, draft_of, drafts_of, new_row}
 use Rattle.queue_table.specs.Commands.Command.{Accept, Record, Return, Warn}
 use Rattle.mail_core.specs.Sites.{Site, terms_at}
 use Rattle.mail_core.specs.Effects.{Effect, Takes, Ticks, Commits, Sends, HangsUp, speech}
 use Rattle.mail_core.specs.Guests.{Guest, is_passed, guest_of, is_here, next_line, with_bytes}
-use Rattle.mail_core.specs.Machine.{SpoolFault, IdsSpent, Opening, Replied, Dropped, Choice, Normal, OutOfMemory, Disconnects, SpoolFails, Choices, Way, GoesOn, Leaves, Over, Finish, By, Cut, Did, way_of, does, says, closes, is_over, commits, accepts, replies, fails, heard_line, id_by, is_answered, heard_where, by_choice, goes_on, answered, settled_by, settled, fresh_start, all_answered, State, Step, still, most_guests, turned_away, welcomed, opened, brought, pieced, handled, Turn, at_moment, taken, stepped, followed, run}
-use Rattle.mail_core.specs.Messages.{accept_of, draft_by, is_spent, last_id}
+use Rattle.mail_core.specs.Machine.{SpoolFault, IdsSpent, FilesFault, Opening, Replied, Dropped, Choice, Normal, OutOfMemory, Disconnects, SpoolFails, JudgeFails, Choices, Way, GoesOn, Leaves, Over, Finish, By, Cut, Did, answer_by, limit_of, question_here, way_of, does, says, closes, is_over, commits, accepts, replies, fails, heard_line, id_by, is_answered, heard_where, by_choice, goes_on, answered, settled_by, settled, fresh_start, all_answered, State, Step, still, most_guests, turned_away, welcomed, opened, brought, pieced, handled, Turn, at_moment, taken, stepped, followed, run}
+use Rattle.mail_core.specs.Judges.{JudgeSeen}
+use Rattle.mail_core.specs.Meant.{AreMeant, ArePieceMeant, IsEventMeant, IsHeadedAt, IsMeant, IsRunMeant}
+use Rattle.mail_core.specs.Messages.{accept_of, cut_of, headed, is_spent, last_id}
 use Rattle.mail_core.specs.Runs.{HasEntry, IsAcked, AreAcked}
 use Rattle.mail_core.specs.Seen.{table_after}
 use Rattle.mail_core.proofs.RanLemmas.{table_more}
@@ -50,17 +56,17 @@ abbrev pub AreTaking : List Effect → Type 0
 AreTaking [] = Unit {0}
 AreTaking (effect ∷ effects) = IsTaking effect × AreTaking effects
 
--- effects that lead from a table to another
-pub record Leads (site : Site) (old new : Table) (effects : List Effect) : Type 0 where
+-- effects that lead from a table to another; each final 250 is of an entry where F is so
+pub record Leads (F : Type 0) (old new : Table) (effects : List Effect) : Type 0 where
   pub table : new ≡ table_after old effects
-  pub acked : AreAcked old effects
+  pub acked : F → AreAcked old effects
   pub taking : AreTaking effects
 
 -- what was done has grown
-pub record Grows (site : Site) (d e : Did) : Type 0 where
+pub record Grows (F : Type 0) (d e : Did) : Type 0 where
   pub more : List Effect
   pub effects : e.effects ≡ d.effects ++ more
-  pub leads : Leads site d.table e.table more
+  pub leads : Leads F d.table e.table more
   pub number : e.guest.number ≡ d.guest.number
 
 -- ---- effects join
@@ -83,13 +89,13 @@ pub taking_front : (xs ys : List Effect) → AreTaking (xs ++ ys) → AreTaking 
 taking_front [] ys h = tt
 taking_front (x ∷ xs) ys h = (h.0, taking_front xs ys h.1)
 
-pub leads_none : (site : Site) (table : Table) → Leads site table table []
-leads_none site table = record { table = refl; acked = tt; taking = tt }
+pub leads_none : (F : Type 0) (table : Table) → Leads F table table []
+leads_none F table = record { table = refl; acked = λ f. tt; taking = tt }
 
-pub leads_join : (site : Site) (one two three : Table) (xs ys : List Effect) → Leads site one two xs → Leads site two three ys → Leads site one three (xs ++ ys)
-leads_join site one two three xs ys h k = record {
+pub leads_join : (F G H : Type 0) → (H → F) → (H → G) → (one two three : Table) (xs ys : List Effect) → Leads F one two xs → Leads G two three ys → Leads H one three (xs ++ ys)
+leads_join F G H to_f to_g one two three xs ys h k = record {
   table = k.table ∙ ap (λ t. table_after t ys) h.table ∙ sym (table_more one xs ys);
-  acked = acked_join one xs ys h.acked (subst (λ t. AreAcked t ys) h.table k.acked);
+  acked = λ f. acked_join one xs ys (h.acked (to_f f)) (subst (λ t. AreAcked t ys) h.table (k.acked (to_g f)));
   taking = taking_join xs ys h.taking k.taking;
 }
 
@@ -128,234 +134,253 @@ unspent : (table : Table) → is_spent table ≡ false → IsId table.next
 unfolding last_id
 unspent table e = ltb-false last_id table.next e
 
+-- a new row is open
+rows_open : (rows : List Draw) → 1 ≤ length rows → list_any (λ row. is_open row.state || is_dead row.state) (map new_row rows) ≡ true
+rows_open [] h = absurd (omega (arith, h))
+rows_open (row ∷ rows) h = refl
+
 -- the final 250 of the next id, where it is taken
-entry_of : (site : Site) (moment : ℕ) (table : Table) (message : Received) (session : ℕ) (whole : Bool) → is_spent table ≡ false → IsAcked (after table (accept_of site moment message)) (Sends session (stored_text table.next) whole)
-entry_of site moment table message session whole left = λ id within is.
-    let s : Stored = stored table.next message.body (draft_by (terms_at site) moment message) in record {
+entry_of : (site : Site) (moment : ℕ) (table : Table) (message : Message) (session : ℕ) (whole : Bool) → is_spent table ≡ false → 1 ≤ length message.rows → IsAcked (after table (accept_of site moment message)) (Sends session (stored_text table.next) whole)
+entry_of site moment table message session whole left some = λ id within is.
+    let s : Stored = stored table.next message.body (draft_of (terms_at site) message moment (cut_of message)) in record {
       stored = s;
       among = Contains-push table.entries s;
       id_is = same_id table.next id (unspent table left) within is;
-      wanted = refl;
+      wanted = rows_open message.rows some;
     }
 
 -- ---- single effects
 
-speech_leads : (site : Site) (table : Table) (session : ℕ) (text : List ℕ) (whole : Bool) → ((w : Bool) → IsAcked table (Sends session text w)) → Leads site table table (speech session text whole)
-speech_leads site table session text true acked = record { table = refl; acked = (acked true, tt); taking = (tt, tt) }
-speech_leads site table session text false acked = record { table = refl; acked = (acked false, (tt, tt)); taking = (tt, (tt, tt)) }
+speech_leads : (F : Type 0) (table : Table) (session : ℕ) (text : List ℕ) (whole : Bool) → (F → (w : Bool) → IsAcked table (Sends session text w)) → Leads F table table (speech session text whole)
+speech_leads F table session text true acked = record { table = refl; acked = λ f. (acked f true, tt); taking = (tt, tt) }
+speech_leads F table session text false acked = record { table = refl; acked = λ f. (acked f false, (tt, tt)); taking = (tt, (tt, tt)) }
 
-last_leads : (site : Site) (table : Table) (session : ℕ) (text : List ℕ) (whole : Bool) → IsAcked table (Sends session text whole) → Leads site table table (Sends session text whole ∷ HangsUp session ∷ [])
-last_leads site table session text whole acked = record { table = refl; acked = (acked, (tt, tt)); taking = (tt, (tt, tt)) }
+last_leads : (F : Type 0) (table : Table) (session : ℕ) (text : List ℕ) (whole : Bool) → (F → IsAcked table (Sends session text whole)) → Leads F table table (Sends session text whole ∷ HangsUp session ∷ [])
+last_leads F table session text whole acked = record { table = refl; acked = λ f. (acked f, (tt, tt)); taking = (tt, (tt, tt)) }
 
-hang_leads : (site : Site) (table : Table) (session : ℕ) → Leads site table table (HangsUp session ∷ [])
-hang_leads site table session = record { table = refl; acked = (tt, tt); taking = (tt, tt) }
+hang_leads : (F : Type 0) (table : Table) (session : ℕ) → Leads F table table (HangsUp session ∷ [])
+hang_leads F table session = record { table = refl; acked = λ f. (tt, tt); taking = (tt, tt) }
 
 -- ---- what is done for a session
 
-grows_none : (site : Site) (d : Did) → Grows site d d
-grows_none site d = record { more = []; effects = sym (append-nil d.effects); leads = leads_none site d.table; number = refl }
+grows_none : (F : Type 0) (d : Did) → Grows F d d
+grows_none F d = record { more = []; effects = sym (append-nil d.effects); leads = leads_none F d.table; number = refl }
 
-grows_join : (site : Site) (d e x : Did) → Grows site d e → Grows site e x → Grows site d x
-grows_join site d e x h k = record {
+grows_join : (F G H : Type 0) → (H → F) → (H → G) → (d e x : Did) → Grows F d e → Grows G e x → Grows H d x
+grows_join F G H to_f to_g d e x h k = record {
   more = h.more ++ k.more;
   effects = k.effects ∙ ap (λ q. q ++ k.more) h.effects ∙ append_assoc d.effects h.more k.more;
-  leads = leads_join site d.table e.table x.table h.more k.more h.leads k.leads;
+  leads = leads_join F G H to_f to_g d.table e.table x.table h.more k.more h.leads k.leads;
   number = k.number ∙ h.number;
 }
 
-does_grows : (site : Site) (d : Did) (effects : List Effect) (way : Way) → Leads site d.table d.table effects → Grows site d (does d effects way)
-does_grows site d effects way leads = record { more = effects; effects = refl; leads = leads; number = refl }
+does_grows : (F : Type 0) (d : Did) (effects : List Effect) (way : Way) → Leads F d.table d.table effects → Grows F d (does d effects way)
+does_grows F d effects way leads = record { more = effects; effects = refl; leads = leads; number = refl }
 
-says_grows : (site : Site) (d : Did) (text : List ℕ) (whole : Bool) → ((w : Bool) → IsAcked d.table (Sends d.guest.number text w)) → Grows site d (says d text whole)
-says_grows site d text whole acked = does_grows site d (speech d.guest.number text whole) (way_of whole) (speech_leads site d.table d.guest.number text whole acked)
+says_grows : (F : Type 0) (d : Did) (text : List ℕ) (whole : Bool) → (F → (w : Bool) → IsAcked d.table (Sends d.guest.number text w)) → Grows F d (says d text whole)
+says_grows F d text whole acked = does_grows F d (speech d.guest.number text whole) (way_of whole) (speech_leads F d.table d.guest.number text whole acked)
 
 -- the same of a text that isn't final
-tells_grows : (site : Site) (d : Did) (text : List ℕ) (whole : Bool) → (IsFinal text → ⊥) → Grows site d (says d text whole)
-tells_grows site d text whole not_final = says_grows site d text whole (λ w. unlike_final d.table d.guest.number text w not_final)
+tells_grows : (F : Type 0) (d : Did) (text : List ℕ) (whole : Bool) → (F → IsFinal text → ⊥) → Grows F d (says d text whole)
+tells_grows F d text whole not_final = says_grows F d text whole (λ f w. unlike_final d.table d.guest.number text w (not_final f))
 
-closes_grows : (site : Site) (d : Did) (text : List ℕ) (whole : Bool) → (IsFinal text → ⊥) → Grows site d (closes d text whole)
-closes_grows site d text whole not_final = does_grows site d (Sends d.guest.number text whole ∷ HangsUp d.guest.number ∷ []) Leaves
-    (last_leads site d.table d.guest.number text whole (unlike_final d.table d.guest.number text whole not_final))
+closes_grows : (F : Type 0) (d : Did) (text : List ℕ) (whole : Bool) → (F → IsFinal text → ⊥) → Grows F d (closes d text whole)
+closes_grows F d text whole not_final = does_grows F d (Sends d.guest.number text whole ∷ HangsUp d.guest.number ∷ []) Leaves
+    (last_leads F d.table d.guest.number text whole (λ f. unlike_final d.table d.guest.number text whole (not_final f)))
 
-over_grows : (site : Site) (d : Did) (finish : Finish) → Grows site d (is_over d finish)
-over_grows site d finish = does_grows site d [] (Over finish) (leads_none site d.table)
+over_grows : (F : Type 0) (d : Did) (finish : Finish) → Grows F d (is_over d finish)
+over_grows F d finish = does_grows F d [] (Over finish) (leads_none F d.table)
 
-drops_grows : (site : Site) (d : Did) → Grows site d (does d (HangsUp d.guest.number ∷ []) Leaves)
-drops_grows site d = does_grows site d (HangsUp d.guest.number ∷ []) Leaves (hang_leads site d.table d.guest.number)
+drops_grows : (F : Type 0) (d : Did) → Grows F d (does d (HangsUp d.guest.number ∷ []) Leaves)
+drops_grows F d = does_grows F d (HangsUp d.guest.number ∷ []) Leaves (hang_leads F d.table d.guest.number)
 
-commits_grows : (site : Site) (moment : ℕ) (d : Did) (message : Received) → Grows site d (commits site moment d message)
-commits_grows site moment d message = record {
+commits_grows : (F : Type 0) (site : Site) (moment : ℕ) (d : Did) (message : Message) → Grows F d (commits site moment d message)
+commits_grows F site moment d message = record {
   more = Commits (accept_of site moment message) ∷ [];
   effects = refl;
-  leads = record { table = refl; acked = (tt, tt); taking = (tt, tt) };
+  leads = record { table = refl; acked = λ f. (tt, tt); taking = (tt, tt) };
   number = refl;
 }
 
-accepts_by : (site : Site) (moment : ℕ) (d : Did) (message : Received) (whole spent : Bool) → is_spent d.table ≡ spent
-    → Grows site d (if spent then is_over d (By IdsSpent) else says (commits site moment d message) (stored_text d.table.next) whole)
-accepts_by site moment d message whole true e = over_grows site d (By IdsSpent)
-accepts_by site moment d message whole false e =
+accepts_by : (F : Type 0) (site : Site) (moment : ℕ) (d : Did) (message : Message) (whole spent : Bool) → is_spent d.table ≡ spent → (F → is_spent d.table ≡ false → 1 ≤ length message.rows)
+    → Grows F d (if spent then is_over d (By IdsSpent) else says (commits site moment d message) (stored_text d.table.next) whole)
+accepts_by F site moment d message whole true e some = over_grows F d (By IdsSpent)
+accepts_by F site moment d message whole false e some =
     let c = commits site moment d message in
-    grows_join site d c (says c (stored_text d.table.next) whole) (commits_grows site moment d message)
-    (says_grows site c (stored_text d.table.next) whole (λ w. entry_of site moment d.table message d.guest.number w e))
+    grows_join F F F (λ f. f) (λ f. f) d c (says c (stored_text d.table.next) whole) (commits_grows F site moment d message)
+    (says_grows F c (stored_text d.table.next) whole (λ f w. entry_of site moment d.table message d.guest.number w e (some f e)))
 
 -- a message is accepted, and its id told
-stores_grows : (site : Site) (moment : ℕ) (d : Did) (message : Received) (whole : Bool) → Grows site d (accepts site moment d message whole)
-stores_grows site moment d message whole = accepts_by site moment d message whole (is_spent d.table) refl
+stores_grows : (F : Type 0) (site : Site) (moment : ℕ) (d : Did) (message : Message) (whole : Bool) → (F → is_spent d.table ≡ false → 1 ≤ length message.rows) → Grows F d (accepts site moment d message whole)
+stores_grows F site moment d message whole some = accepts_by F site moment d message whole (is_spent d.table) refl some
 
-replies_grows : (site : Site) (moment : ℕ) (d : Did) (answer : Answer) (whole : Bool) → Grows site d (replies site moment d answer whole)
-replies_grows site moment d (Says reply) whole = tells_grows site d (text_of reply) whole (reply_final reply)
-replies_grows site moment d Greets whole = tells_grows site d (hello_text (shown_host site.host)) whole (hello_final (shown_host site.host))
-replies_grows site moment d Grants whole = tells_grows site d grant_text whole grant_final
-replies_grows site moment d Ends whole = closes_grows site d (closing_text (shown_host site.host)) whole (closing_final (shown_host site.host))
-replies_grows site moment d (Gives message) whole = stores_grows site moment d message whole
-replies_grows site moment d Passes whole = grows_none site d
+-- no text that an answer says is final
+abbrev IsUnfinal : List ℕ → ℕ → Answer → Type 0
+IsUnfinal host limit answer = (text : List ℕ) → text_told (did_of host limit answer) ≡ Some text → IsFinal text → ⊥
 
-lack_grows : (site : Site) (d : Did) (whole : Bool) → Grows site d (says d out_of_memory_text whole)
-lack_grows site d whole = tells_grows site d out_of_memory_text whole memory_final
+replies_grows : (F : Type 0) (site : Site) (moment : ℕ) (d : Did) (answer : Answer) (first : Option (List ℕ)) (whole : Bool) → (F → IsUnfinal (shown_host site.host) (limit_of d) answer) → (F → IsHeadedAt site moment d.table answer first) → Grows F d (replies site moment d answer first whole)
+replies_grows F site moment d (Says reply) first whole final taken = tells_grows F d (text_of reply) whole (λ f. final f (text_of reply) refl)
+replies_grows F site moment d (Refuses error) first whole final taken = tells_grows F d (refusal_text error) whole (λ f. final f (refusal_text error) refl)
+replies_grows F site moment d Greets first whole final taken = tells_grows F d (hello_text (shown_host site.host)) whole (λ f. final f (hello_text (shown_host site.host)) refl)
+replies_grows F site moment d Extends first whole final taken = tells_grows F d (extended_text (shown_host site.host) (limit_of d)) whole (λ f. final f (extended_text (shown_host site.host) (limit_of d)) refl)
+replies_grows F site moment d Grants first whole final taken = tells_grows F d grant_text whole (λ f. final f grant_text refl)
+replies_grows F site moment d Ends first whole final taken = closes_grows F d (closing_text (shown_host site.host)) whole (λ f. final f (closing_text (shown_host site.host)) refl)
+replies_grows F site moment d (Gives message) first whole final taken = stores_grows F site moment d (headed first message) whole (λ f left. (taken f left).some)
+replies_grows F site moment d Passes first whole final taken = grows_none F d
 
-failing_grows : (site : Site) (moment : ℕ) (d : Did) (message : Received) (spent : Bool) → Grows site d (if spent then is_over d (By IdsSpent) else is_over (commits site moment d message) (By SpoolFault))
-failing_grows site moment d message true = over_grows site d (By IdsSpent)
-failing_grows site moment d message false =
+lack_grows : (F : Type 0) (d : Did) (whole : Bool) → Grows F d (says d out_of_memory_text whole)
+lack_grows F d whole = tells_grows F d out_of_memory_text whole (λ f. memory_final)
+
+failing_grows : (F : Type 0) (site : Site) (moment : ℕ) (d : Did) (message : Message) (spent : Bool) → Grows F d (if spent then is_over d (By IdsSpent) else is_over (commits site moment d message) (By SpoolFault))
+failing_grows F site moment d message true = over_grows F d (By IdsSpent)
+failing_grows F site moment d message false =
     let c = commits site moment d message in
-    grows_join site d c (is_over c (By SpoolFault)) (commits_grows site moment d message) (over_grows site c (By SpoolFault))
+    grows_join F F F (λ f. f) (λ f. f) d c (is_over c (By SpoolFault)) (commits_grows F site moment d message) (over_grows F c (By SpoolFault))
 
-fails_grows : (site : Site) (moment : ℕ) (d : Did) (answer : Answer) → Grows site d (fails site moment d answer)
-fails_grows site moment d (Gives message) = failing_grows site moment d message (is_spent d.table)
-fails_grows site moment d (Says reply) = over_grows site d Cut
-fails_grows site moment d Greets = over_grows site d Cut
-fails_grows site moment d Grants = over_grows site d Cut
-fails_grows site moment d Ends = over_grows site d Cut
-fails_grows site moment d Passes = over_grows site d Cut
+fails_grows : (F : Type 0) (site : Site) (moment : ℕ) (d : Did) (answer : Answer) (first : Option (List ℕ)) → Grows F d (fails site moment d answer first)
+fails_grows F site moment d (Gives message) first = failing_grows F site moment d (headed first message) (is_spent d.table)
+fails_grows F site moment d (Says reply) first = over_grows F d Cut
+fails_grows F site moment d (Refuses error) first = over_grows F d Cut
+fails_grows F site moment d Greets first = over_grows F d Cut
+fails_grows F site moment d Extends first = over_grows F d Cut
+fails_grows F site moment d Grants first = over_grows F d Cut
+fails_grows F site moment d Ends first = over_grows F d Cut
+fails_grows F site moment d Passes first = over_grows F d Cut
 
-line_grows : (site : Site) (d e : Did) (line : Line) (short : Bool) (id : Option ℕ) → Grows site d e → Grows site d (heard_line e line short id)
-line_grows site d e line short id h = record { more = h.more; effects = h.effects; leads = h.leads; number = h.number }
+line_grows : (F : Type 0) (d e : Did) (line : Line) (said : Said) (short : Bool) (id : Option ℕ) → Grows F d e → Grows F d (heard_line e line said short id)
+line_grows F d e line said short id h = record { more = h.more; effects = h.effects; leads = h.leads; number = h.number }
 
-where_grows : (site : Site) (d e : Did) (line : Line) (id : Option ℕ) (answered : Bool) → Grows site d e → Grows site d (heard_where answered e line false id)
-where_grows site d e line id true h = line_grows site d e line false id h
-where_grows site d e line id false h = h
+where_grows : (F : Type 0) (d e : Did) (line : Line) (said : Said) (id : Option ℕ) (answered : Bool) → Grows F d e → Grows F d (heard_where answered e line said false id)
+where_grows F d e line said id true h = line_grows F d e line said false id h
+where_grows F d e line said id false h = h
 
-drop_grows : (site : Site) (d : Did) (may : Bool) → Grows site d (if may then does d (HangsUp d.guest.number ∷ []) Leaves else is_over d Cut)
-drop_grows site d true = drops_grows site d
-drop_grows site d false = over_grows site d Cut
+drop_grows : (F : Type 0) (d : Did) (may : Bool) → Grows F d (if may then does d (HangsUp d.guest.number ∷ []) Leaves else is_over d Cut)
+drop_grows F d true = drops_grows F d
+drop_grows F d false = over_grows F d Cut
 
 -- 452 4.3.1 to a line, but where it is dropped
-short_grows : (site : Site) (d e : Did) (passed : Bool) → Grows site d e → Grows site d (if passed then is_over d Cut else e)
-short_grows site d e true h = over_grows site d Cut
-short_grows site d e false h = h
+short_grows : (F : Type 0) (d e : Did) (passed : Bool) → Grows F d e → Grows F d (if passed then is_over d Cut else e)
+short_grows F d e true h = over_grows F d Cut
+short_grows F d e false h = h
 
-choice_grows : (site : Site) (moment : ℕ) (d : Did) (choice : Choice) (line : Option Line) → Grows site d (by_choice site moment d choice line)
-choice_grows site moment d (Normal whole) (Some line) =
-    let answer = answer_of d.guest.peer d.guest.heard line in
-    where_grows site d (replies site moment d answer whole) line (id_by d.table answer) (is_answered d.table answer) (replies_grows site moment d answer whole)
-choice_grows site moment d (OutOfMemory whole) (Some line) =
-    short_grows site d (heard_line (says d out_of_memory_text whole) line true None) (is_passed d.guest line)
-    (line_grows site d (says d out_of_memory_text whole) line true None (lack_grows site d whole))
-choice_grows site moment d SpoolFails (Some line) =
-    let answer = answer_of d.guest.peer d.guest.heard line in
-    fails_grows site moment d answer
-choice_grows site moment d Disconnects (Some line) = drop_grows site d d.may_disconnect
-choice_grows site moment d Disconnects None = drop_grows site d d.may_disconnect
-choice_grows site moment d (Normal whole) None = over_grows site d Cut
-choice_grows site moment d (OutOfMemory whole) None = over_grows site d Cut
-choice_grows site moment d SpoolFails None = over_grows site d Cut
+choice_grows : (j : JudgeSeen) (site : Site) (moment : ℕ) (d : Did) (choice : Choice) (line : Option Line) → Grows (IsMeant j site moment d choice line) d (by_choice site moment d choice line)
+choice_grows j site moment d (Normal said first whole) (Some line) =
+    let F : Type 0 = IsMeant j site moment d (Normal said first whole) (Some line) in
+    let answer = answer_by d said line in
+    where_grows F d (replies site moment d answer first whole) line said (id_by d.table answer) (is_answered d.table answer)
+    (replies_grows F site moment d answer first whole
+    (λ f text told. told_final d.guest.config (shown_host site.host) d.guest.peer (limit_of d) d.guest.heard said line text (said_formed j.answerer j.test (question_here d line) said f.0) told)
+    (λ f. f.1))
+choice_grows j site moment d (OutOfMemory whole) (Some line) =
+    short_grows (Unit {0}) d (heard_line (says d out_of_memory_text whole) line Unasked true None) (is_passed d.guest line)
+    (line_grows (Unit {0}) d (says d out_of_memory_text whole) line Unasked true None (lack_grows (Unit {0}) d whole))
+choice_grows j site moment d (SpoolFails first) (Some line) = fails_grows (IsMeant j site moment d (SpoolFails first) (Some line)) site moment d (answer_by d Unasked line) first
+choice_grows j site moment d JudgeFails (Some line) = over_grows (Unit {0}) d (By FilesFault)
+choice_grows j site moment d Disconnects (Some line) = drop_grows (Unit {0}) d d.may_disconnect
+choice_grows j site moment d Disconnects None = drop_grows (Unit {0}) d d.may_disconnect
+choice_grows j site moment d (Normal said first whole) None = over_grows (said ≡ Unasked) d Cut
+choice_grows j site moment d (OutOfMemory whole) None = over_grows (Unit {0}) d Cut
+choice_grows j site moment d (SpoolFails first) None = over_grows (Unit {0}) d Cut
+choice_grows j site moment d JudgeFails None = over_grows (Unit {0}) d Cut
 
-goes_grows : (site : Site) (way : Way) (d e : Did) → Grows site d e → Grows site d (goes_on way d e)
-goes_grows site GoesOn d e h = h
-goes_grows site Leaves d e h = grows_none site d
-goes_grows site (Over finish) d e h = grows_none site d
+goes_grows : (F : Type 0) (way : Way) (d e : Did) → Grows F d e → Grows F d (goes_on way d e)
+goes_grows F GoesOn d e h = h
+goes_grows F Leaves d e h = grows_none F d
+goes_grows F (Over finish) d e h = grows_none F d
 
-answered_grows : (site : Site) (moment : ℕ) (d : Did) (choice : Choice) → Grows site d (answered site moment d choice)
-answered_grows site moment d choice = goes_grows site d.way d (by_choice site moment d choice (next_line d.guest)) (choice_grows site moment d choice (next_line d.guest))
+answered_grows : (j : JudgeSeen) (site : Site) (moment : ℕ) (d : Did) (choice : Choice) → Grows (IsMeant j site moment d choice (next_line d.guest)) d (answered site moment d choice)
+answered_grows j site moment d choice = goes_grows (IsMeant j site moment d choice (next_line d.guest)) d.way d (by_choice site moment d choice (next_line d.guest)) (choice_grows j site moment d choice (next_line d.guest))
 
-fold_grows : (site : Site) (moment : ℕ) (d : Did) (choices : List Choice) → Grows site d (fold (answered site moment) d choices)
-fold_grows site moment d [] = grows_none site d
-fold_grows site moment d (choice ∷ choices) =
+fold_grows : (j : JudgeSeen) (site : Site) (moment : ℕ) (d : Did) (choices : List Choice) → Grows (AreMeant j site moment d choices) d (fold (answered site moment) d choices)
+fold_grows j site moment d [] = grows_none (Unit {0}) d
+fold_grows j site moment d (choice ∷ choices) =
     let e = answered site moment d choice in
-    grows_join site d e (fold (answered site moment) e choices) (answered_grows site moment d choice) (fold_grows site moment e choices)
+    grows_join (IsMeant j site moment d choice (next_line d.guest)) (AreMeant j site moment e choices) (AreMeant j site moment d (choice ∷ choices)) (λ f. f.0) (λ f. f.1) d e (fold (answered site moment) e choices) (answered_grows j site moment d choice) (fold_grows j site moment e choices)
 
-settled_grows : (site : Site) (way : Way) (line : Option Line) (d : Did) → Grows site d (settled_by way line d)
-settled_grows site GoesOn (Some line) d = over_grows site d Cut
-settled_grows site GoesOn None d = grows_none site d
-settled_grows site Leaves line d = grows_none site d
-settled_grows site (Over finish) line d = grows_none site d
+settled_grows : (F : Type 0) (way : Way) (line : Option Line) (d : Did) → Grows F d (settled_by way line d)
+settled_grows F GoesOn (Some line) d = over_grows F d Cut
+settled_grows F GoesOn None d = grows_none F d
+settled_grows F Leaves line d = grows_none F d
+settled_grows F (Over finish) line d = grows_none F d
 
-all_grows : (site : Site) (moment : ℕ) (table : Table) (guest : Guest) (choices : List Choice) → Grows site (fresh_start table guest) (all_answered site moment table guest choices)
-all_grows site moment table guest choices =
+all_grows : (j : JudgeSeen) (site : Site) (moment : ℕ) (table : Table) (guest : Guest) (choices : List Choice) → Grows (AreMeant j site moment (fresh_start table guest) choices) (fresh_start table guest) (all_answered site moment table guest choices)
+all_grows j site moment table guest choices =
     let d = fresh_start table guest in
+    let F : Type 0 = AreMeant j site moment d choices in
     let e = fold (answered site moment) d choices in
-    grows_join site d e (settled e) (fold_grows site moment d choices) (settled_grows site e.way (next_line e.guest) e)
+    grows_join F F F (λ f. f) (λ f. f) d e (settled e) (fold_grows j site moment d choices) (settled_grows F e.way (next_line e.guest) e)
 
-all_leads : (site : Site) (moment : ℕ) (table : Table) (guest : Guest) (choices : List Choice) → Leads site table (all_answered site moment table guest choices).table (all_answered site moment table guest choices).effects
-all_leads site moment table guest choices =
-    let h = all_grows site moment table guest choices in
-    subst (Leads site table (all_answered site moment table guest choices).table) (sym h.effects) h.leads
+all_leads : (j : JudgeSeen) (site : Site) (moment : ℕ) (table : Table) (guest : Guest) (choices : List Choice) → Leads (AreMeant j site moment (fresh_start table guest) choices) table (all_answered site moment table guest choices).table (all_answered site moment table guest choices).effects
+all_leads j site moment table guest choices =
+    let h = all_grows j site moment table guest choices in
+    subst (Leads (AreMeant j site moment (fresh_start table guest) choices) table (all_answered site moment table guest choices).table) (sym h.effects) h.leads
 
 -- ---- events
 
-abbrev Steps : Site → Table → Step → Type 0
-Steps site table step = Leads site table step.state.table step.effects
+abbrev Steps : Type 0 → Table → Step → Type 0
+Steps F table step = Leads F table step.state.table step.effects
 
-either_steps : (site : Site) (table : Table) (b : Bool) (one other : Step) → Steps site table one → Steps site table other → Steps site table (if b then one else other)
-either_steps site table true one other h k = h
-either_steps site table false one other h k = k
+either_steps : (F : Type 0) (table : Table) (b : Bool) (one other : Step) → Steps F table one → Steps F table other → Steps F table (if b then one else other)
+either_steps F table true one other h k = h
+either_steps F table false one other h k = k
 
-still_steps : (site : Site) (m : State) → Steps site m.table (still m)
-still_steps site m = leads_none site m.table
+still_steps : (F : Type 0) (m : State) → Steps F m.table (still m)
+still_steps F m = leads_none F m.table
 
-away_steps : (site : Site) (m : State) (session : ℕ) (choice : Opening) → Steps site m.table (turned_away m session choice)
-away_steps site m session (Replied whole) = last_leads site m.table session too_many_sessions_text whole (unlike_final m.table session too_many_sessions_text whole sessions_final)
-away_steps site m session Dropped = leads_none site m.table
+away_steps : (F : Type 0) (m : State) (session : ℕ) (choice : Opening) → Steps F m.table (turned_away m session choice)
+away_steps F m session (Replied whole) = last_leads F m.table session too_many_sessions_text whole (λ f. unlike_final m.table session too_many_sessions_text whole sessions_final)
+away_steps F m session Dropped = leads_none F m.table
 
 greeted : (site : Site) (table : Table) (session : ℕ) (whole : Bool) → IsAcked table (Sends session (greeting_text (shown_host site.host)) whole)
 greeted site table session whole = unlike_final table session (greeting_text (shown_host site.host)) whole (greeting_final (shown_host site.host))
 
-welcome_steps : (site : Site) (m : State) (session : ℕ) (peer : List ℕ) (choice : Opening) → Steps site m.table (welcomed site m session peer choice)
-welcome_steps site m session peer (Replied true) = speech_leads site m.table session (greeting_text (shown_host site.host)) true (greeted site m.table session)
-welcome_steps site m session peer (Replied false) = speech_leads site m.table session (greeting_text (shown_host site.host)) false (greeted site m.table session)
-welcome_steps site m session peer Dropped = hang_leads site m.table session
+welcome_steps : (F : Type 0) (site : Site) (m : State) (session : ℕ) (peer : List ℕ) (choice : Opening) → Steps F m.table (welcomed site m session peer choice)
+welcome_steps F site m session peer (Replied true) = speech_leads F m.table session (greeting_text (shown_host site.host)) true (λ f. greeted site m.table session)
+welcome_steps F site m session peer (Replied false) = speech_leads F m.table session (greeting_text (shown_host site.host)) false (λ f. greeted site m.table session)
+welcome_steps F site m session peer Dropped = hang_leads F m.table session
 
-opened_steps : (site : Site) (m : State) (session : ℕ) (peer : List ℕ) (choice : Opening) → Steps site m.table (opened site m session peer choice)
-opened_steps site m session peer choice =
+opened_steps : (F : Type 0) (site : Site) (m : State) (session : ℕ) (peer : List ℕ) (choice : Opening) → Steps F m.table (opened site m session peer choice)
+opened_steps F site m session peer choice =
     let crowd = if nat_le most_guests (length m.guests) then turned_away m session choice else welcomed site m session peer choice in
-    either_steps site m.table (is_here session m.guests) (still m) crowd (still_steps site m)
-    (either_steps site m.table (nat_le most_guests (length m.guests)) (turned_away m session choice) (welcomed site m session peer choice) (away_steps site m session choice) (welcome_steps site m session peer choice))
+    either_steps F m.table (is_here session m.guests) (still m) crowd (still_steps F m)
+    (either_steps F m.table (nat_le most_guests (length m.guests)) (turned_away m session choice) (welcomed site m session peer choice) (away_steps F m session choice) (welcome_steps F site m session peer choice))
 
-brought_steps : (site : Site) (m : State) (way : Way) (d : Did) → Leads site m.table d.table d.effects → Steps site m.table (brought m way d)
-brought_steps site m GoesOn d h = h
-brought_steps site m Leaves d h = h
-brought_steps site m (Over finish) d h = h
+brought_steps : (F : Type 0) (m : State) (way : Way) (d : Did) → Leads F m.table d.table d.effects → Steps F m.table (brought m way d)
+brought_steps F m GoesOn d h = h
+brought_steps F m Leaves d h = h
+brought_steps F m (Over finish) d h = h
 
-pieced_steps : (site : Site) (m : State) (bytes : List ℕ) (choices : List Choice) (guest : Option Guest) → Steps site m.table (pieced site m bytes choices guest)
-pieced_steps site m bytes choices None = still_steps site m
-pieced_steps site m bytes choices (Some guest) =
+pieced_steps : (j : JudgeSeen) (site : Site) (m : State) (bytes : List ℕ) (choices : List Choice) (guest : Option Guest) → Steps (ArePieceMeant j site m bytes choices guest) m.table (pieced site m bytes choices guest)
+pieced_steps j site m bytes choices None = still_steps (Unit {0}) m
+pieced_steps j site m bytes choices (Some guest) =
     let d = all_answered site m.latest m.table (with_bytes guest bytes) choices in
-    brought_steps site m d.way d (all_leads site m.latest m.table (with_bytes guest bytes) choices)
+    brought_steps (ArePieceMeant j site m bytes choices (Some guest)) m d.way d (all_leads j site m.latest m.table (with_bytes guest bytes) choices)
 
-handled_steps : (site : Site) (m : State) (event : Event) (choices : Choices event) → Steps site m.table (handled site m event choices)
-handled_steps site m (Opens session peer) choice = opened_steps site m session peer choice
-handled_steps site m (Brings session bytes) choices = pieced_steps site m bytes choices (guest_of session m.guests)
-handled_steps site m (Closes session) none = leads_none site m.table
-handled_steps site m Rests none = leads_none site m.table
-handled_steps site m Stops none = leads_none site m.table
+handled_steps : (j : JudgeSeen) (site : Site) (m : State) (event : Event) (choices : Choices event) → Steps (IsEventMeant j site m event choices) m.table (handled site m event choices)
+handled_steps j site m (Opens session peer) choice = opened_steps (Unit {0}) site m session peer choice
+handled_steps j site m (Brings session bytes) choices = pieced_steps j site m bytes choices (guest_of session m.guests)
+handled_steps j site m (Closes session) none = leads_none (Unit {0}) m.table
+handled_steps j site m Rests none = leads_none (Unit {0}) m.table
+handled_steps j site m Stops none = leads_none (Unit {0}) m.table
 
-taken_steps : (site : Site) (table : Table) (turn : Turn) (step : Step) → Steps site table step → Steps site table (taken turn step)
-taken_steps site table turn step h = record { table = h.table; acked = (tt, (tt, h.acked)); taking = (tt, (tt, h.taking)) }
+taken_steps : (F : Type 0) (table : Table) (turn : Turn) (step : Step) → Steps F table step → Steps F table (taken turn step)
+taken_steps F table turn step h = record { table = h.table; acked = λ f. (tt, (tt, h.acked f)); taking = (tt, (tt, h.taking)) }
 
 -- the effects of a step lead to its table
-pub stepped_leads : (site : Site) (m : State) (turn : Turn) → Leads site m.table (stepped site m turn).state.table (stepped site m turn).effects
-stepped_leads site m turn =
+stepped_leads : (j : JudgeSeen) (site : Site) (m : State) (turn : Turn) → Leads (IsEventMeant j site (at_moment m turn.reading) turn.event turn.choices) m.table (stepped site m turn).state.table (stepped site m turn).effects
+stepped_leads j site m turn =
+    let F : Type 0 = IsEventMeant j site (at_moment m turn.reading) turn.event turn.choices in
     let step = handled site (at_moment m turn.reading) turn.event turn.choices in
-    either_steps site m.table (is_some m.over) (still m) (taken turn step) (still_steps site m)
-    (taken_steps site m.table turn step (handled_steps site (at_moment m turn.reading) turn.event turn.choices))
+    either_steps F m.table (is_some m.over) (still m) (taken turn step) (still_steps F m)
+    (taken_steps F m.table turn step (handled_steps j site (at_moment m turn.reading) turn.event turn.choices))
 
 -- the effects of a run lead to its table
-pub run_leads : (site : Site) (m : State) (turns : List Turn) → Leads site m.table (run site m turns).state.table (run site m turns).effects
-run_leads site m [] = leads_none site m.table
-run_leads site m (turn ∷ turns) =
+pub run_leads : (j : JudgeSeen) (site : Site) (m : State) (turns : List Turn) → Leads (IsRunMeant j site m turns) m.table (run site m turns).state.table (run site m turns).effects
+run_leads j site m [] = leads_none (Unit {0}) m.table
+run_leads j site m (turn ∷ turns) =
     let now = stepped site m turn in
     let later = run site now.state turns in
-    leads_join site m.table now.state.table later.state.table now.effects later.effects (stepped_leads site m turn) (run_leads site now.state turns)
+    leads_join (IsEventMeant j site (at_moment m turn.reading) turn.event turn.choices) (IsRunMeant j site now.state turns) (IsRunMeant j site m (turn ∷ turns)) (λ f. f.0) (λ f. f.1) m.table now.state.table later.state.table now.effects later.effects (stepped_leads j site m turn) (run_leads j site now.state turns)
 
 -- a run and one turn more
 pub run_more : (site : Site) (m : State) (turns : List Turn) (turn : Turn) → run site m (turns ++ turn ∷ []) ≡ followed (run site m turns) (stepped site (run site m turns).state turn)

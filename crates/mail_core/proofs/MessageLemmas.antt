@@ -1,11 +1,13 @@
 -- A message is taken into the queue, or not.
 use Rattle.std.proofs.Common.{◌≡◌, ◌⊎◌, inl, inr, ℕ, ◌+◌, ◌<◌, ◌≤◌, ◌^◌, List, Bool, true, false, Option, Some, None, Result, Err, refl, sym, ◌∙◌, ap, subst, arith}
-use Rattle.std.specs.Prelude.{IfSome}
+use Rattle.std.specs.Prelude.{IfSome, length}
 use Rattle.std.proofs.lemmas.Bool.{cond-true, cond-false, false≢true, lt-ltb, le-ltb}
 use Rattle.mail_base.specs.Histories.{Gains, Rose}
+use Rattle.mail_base.specs.declared.config.Config.{Config}
 use Rattle.mail_edge.specs.Seen.{ClockSeen}
 use Rattle.link_edge.specs.Heard.{Heard as FloorHeard}
-use Rattle.smtp_receive.specs.declared.received.Received.{Received}
+use Rattle.mail_base.specs.declared.message.Message.{Message}
+use Rattle.smtp_receive.specs.Judging.{Unasked}
 use Rattle.smtp_receive.specs.Replies.{out_of_memory_text, stored_text}
 use Rattle.spool_disk.specs.Disk.{FileMap}
 use Rattle.spool_disk.specs.Spooled.{Spooled}
@@ -30,7 +32,7 @@ use Rattle.mail_core.specs.Sites.{Site, terms_at}
 use Rattle.mail_core.specs.Effects.{heard_of, speech}
 use Rattle.mail_core.specs.inner.Going.{Does, AnswersMessage, IsReset, is_onward, is_granted}
 use Rattle.mail_core.specs.Machine.{IdsSpent, Normal, OutOfMemory, SpoolFails, GoesOn, By, Did, says, is_over, commits, accepts}
-use Rattle.mail_core.specs.Messages.{accept_of, cuts_of, is_spent, last_id, message_of}
+use Rattle.mail_core.specs.Messages.{IsReceived, IsTaken, accept_of, cuts_of, headed, is_spent, last_id}
 use Rattle.mail_core.specs.Seen.{IsEither, IsSparing, seen}
 use Rattle.mail_core.specs.Standing.{Serves, Stores}
 use Rattle.mail_core.proofs.SparingLemmas.{sparing_call}
@@ -93,19 +95,19 @@ pub spent_is : (table : Table) (next : ℕ) → next ≡ table.next → last_id 
 spent_is table next e lt = lt-ltb last_id table.next (omega (arith, e, lt))
 
 -- where an entry can be stored, they aren't
-pub left_is : (kept : Kept) (table : Table) (moment : ℕ) (message : Received) (accepting : Accepting) → HoldsTable kept table → IsAccepting kept (message_of message) (cuts_of message) moment accepting → is_spent table ≡ false
+pub left_is : (kept : Kept) (table : Table) (moment : ℕ) (message : Message) (accepting : Accepting) → HoldsTable kept table → IsAccepting kept message (cuts_of message) moment accepting → is_spent table ≡ false
 unfolding last_id
 left_is kept table moment message accepting holds p = le-ltb last_id table.next (omega (arith, holds.next, p.parcel.able.room))
 
 -- ---- what a commit does, said of the site
 
 -- the command is the site's
-command_is : (site : Site) (kept : Kept) (table : Table) (moment : ℕ) (message : Received) → Stores site kept table → Accept kept.terms (message_of message) (cuts_of message) moment ≡ accept_of site moment message
-command_is site kept table moment message s = ap (λ (q : Terms). Accept q (message_of message) (cuts_of message) moment) s.terms
+command_is : (site : Site) (kept : Kept) (table : Table) (moment : ℕ) (message : Message) → Stores site kept table → Accept kept.terms message (cuts_of message) moment ≡ accept_of site moment message
+command_is site kept table moment message s = ap (λ (q : Terms). Accept q message (cuts_of message) moment) s.terms
 
-module _ (site : Site) (moment : ℕ) (message : Received) (a b : Spooled) (kept : Kept) (table : Table) (s : Stores site kept table) where
+module _ (site : Site) (moment : ℕ) (message : Message) (a b : Spooled) (kept : Kept) (table : Table) (s : Stores site kept table) where
   abbrev command : Command
-  command = Accept kept.terms (message_of message) (cuts_of message) moment
+  command = Accept kept.terms message (cuts_of message) moment
 
   -- a commit that is done leads to the table with the message
   pub moves_done_at : Moves a b (StandsFor (store kept).dirs table) (IsSettled (store kept).dirs (after table command)) (IsEitherTable (store kept).dirs table (after table command))
@@ -133,16 +135,24 @@ spared_at site old new table s t is stays before behind moves =
     subst (λ (q : List (List ℕ)). IsSparing q s t true) is.dirs
     (sparing_call (store old) (store new) s t (before is.whole) behind stays.dirs stays.strange moves)
 
+-- the header is that of the site, under the id that the table gives
+received_at : (site : Site) (config : Config) (moment next : ℕ) (table : Table) (message : Message) (first : Option (List ℕ)) → site.config ≡ config → next ≡ table.next → IsReceived config moment message next first → IsReceived site.config moment message table.next first
+received_at site config moment next table message first under same r = subst (λ q. IsReceived q moment message table.next first) (sym under) (subst (λ n. IsReceived config moment message n first) same r)
+
+pub taken_at : (site : Site) (config : Config) (moment next : ℕ) (table : Table) (message : Message) (first : Option (List ℕ)) → site.config ≡ config → next ≡ table.next → 1 ≤ length message.rows → IsReceived config moment message next first → IsTaken site.config moment message table.next first
+taken_at site config moment next table message first under same some r = record { some = some; received = received_at site config moment next table message first under same r }
+
 -- ---- the exits of accept
 
-module _ (site : Site) (moment : ℕ) (d : Did) (message : Received) (old new : Caller) (k : ClockSeen) where
+module _ (site : Site) (moment : ℕ) (d : Did) (message : Message) (old new : Caller) (k : ClockSeen) where
   -- no id is left
   pub message_spent : (f : FloorHeard) (s : Spooled) (intake : Intake) → is_spent d.table ≡ true → AnswersMessage site moment d message (seen f s k) (seen f s k) intake old new (Err stops.IdsSpent)
   message_spent f s intake spent = record {
-    choice = Normal true;
+    choice = SpoolFails None;
     answers = λ e. cc e;
+    meant = λ left. absurd (false≢true (sym left ∙ spent));
     does = subst (λ e. Does site d e (seen f s k) (seen f s k) (Err stops.IdsSpent)) (sym (cond-true (is_spent d.table) _ _ spent)) (does_spent site d f s k spent);
-    guest = accepts_guest site moment d message true;
+    guest = fails_guest site moment d message;
     serves = λ on. absurd (cc on);
     caller = λ on. absurd (cc on);
     granted = refl;
@@ -154,6 +164,7 @@ module _ (site : Site) (moment : ℕ) (d : Did) (message : Received) (old new : 
   message_lacked f g s intake fed spoken granted told own serves reset = record {
     choice = OutOfMemory (is_onward fed);
     answers = λ e. cc e;
+    meant = tt;
     does = does_says site d f g s k out_of_memory_text fed spoken told own;
     guest = refl;
     serves = λ on. serves;
@@ -161,46 +172,53 @@ module _ (site : Site) (moment : ℕ) (d : Did) (message : Received) (old new : 
     granted = granted;
   }
 
-  -- the spool failed
-  pub message_failed : (f : FloorHeard) (s t : Spooled) (intake : Intake) → is_spent d.table ≡ false → Moves s t (StandsFor site.dirs d.table) (IsEither site.dirs d.table (accept_of site moment message)) (IsEither site.dirs d.table (accept_of site moment message)) → IsSparing site.dirs s t false → s.faults ≤ t.faults → Rose s.faults t.faults
-      → AnswersMessage site moment d message (seen f s k) (seen f t k) intake old new (Err stops.SpoolFault)
-  message_failed f s t intake left moves sparing later rose = record {
-    choice = SpoolFails;
-    answers = λ e. cc e;
-    does = does_failed site moment d message f s t k left moves sparing later rose;
-    guest = fails_guest site moment d message;
-    serves = λ on. absurd (cc on);
-    caller = λ on. absurd (cc on);
-    granted = refl;
-  }
+  module _ (first : Option (List ℕ)) (taken : IsTaken site.config moment message d.table.next first) where
+    -- the message with the header that is put first
+    abbrev whole_message : Message
+    whole_message = headed first message
 
-  module _ (f g : FloorHeard) (s t : Spooled) (before intake : Intake) (kept : Kept) (fed : Result Next CoreStop) where
-    -- an intake whose table has taken it in
-    taken_in : (serves : Serves site before d.table) → intake ≡ record before { table = kept } → Stays before.table kept → (store kept).broken ≡ (store before.table).broken
-        → HoldsTable kept (after d.table (Accept before.table.terms (message_of message) (cuts_of message) moment)) → Serves site intake (after d.table (accept_of site moment message))
-    taken_in serves is stays on holds = subst (λ i. Serves site i (after d.table (accept_of site moment message))) (sym is) (record {
-      stores = stores_more site before.table kept d.table (after d.table (accept_of site moment message)) serves.stores stays on (holds_at site moment message s t before.table d.table serves.stores kept holds);
-      short = serves.short;
-      range = serves.range;
-    })
-
-    -- the table of a message that was taken in
-    accepted_in : (whole : Bool) → is_spent d.table ≡ false → Serves site intake (after d.table (accept_of site moment message)) → Serves site intake (accepts site moment d message whole).table
-    accepted_in whole left serves = subst (λ (e : Did). Serves site intake e.table) (sym (cond-false (is_spent d.table) (is_over d (By IdsSpent)) (says (commits site moment d message) (stored_text d.table.next) whole) left)) serves
-
-    -- it was taken in and acknowledged
-    pub message_stored : (text : List ℕ) → d.way ≡ GoesOn → is_spent d.table ≡ false → text ≡ stored_text d.table.next
-        → Moves s t (StandsFor site.dirs d.table) (StandsFor site.dirs (after d.table (accept_of site moment message))) (IsEither site.dirs d.table (accept_of site moment message)) → IsSparing site.dirs s t true → s.faults ≤ t.faults
-        → IsSpoken fed → is_granted fed ≡ false → Gains f.told g.told (heard_of (speech d.guest.number text (is_onward fed))) → g.faults ≡ f.faults
-        → Serves site before d.table → intake ≡ record before { table = kept } → Stays before.table kept → (store kept).broken ≡ (store before.table).broken
-        → HoldsTable kept (after d.table (Accept before.table.terms (message_of message) (cuts_of message) moment)) → new ≡ old
-        → AnswersMessage site moment d message (seen f s k) (seen g t k) intake old new fed
-    message_stored text way left is moves sparing later spoken granted told own serves is_in stays on holds same = record {
-      choice = Normal (is_onward fed);
+    -- the spool failed
+    pub message_failed : (f : FloorHeard) (s t : Spooled) (intake : Intake) → is_spent d.table ≡ false → Moves s t (StandsFor site.dirs d.table) (IsEither site.dirs d.table (accept_of site moment whole_message)) (IsEither site.dirs d.table (accept_of site moment whole_message)) → IsSparing site.dirs s t false → s.faults ≤ t.faults → Rose s.faults t.faults
+        → AnswersMessage site moment d message (seen f s k) (seen f t k) intake old new (Err stops.SpoolFault)
+    message_failed f s t intake left moves sparing later rose = record {
+      choice = SpoolFails first;
       answers = λ e. cc e;
-      does = does_accepts site moment d message f g s t k fed way left moves sparing later spoken (subst (λ q. Gains f.told g.told (heard_of (speech d.guest.number q (is_onward fed)))) is told) own;
-      guest = accepts_guest site moment d message (is_onward fed);
-      serves = λ on. accepted_in (is_onward fed) left (taken_in serves is_in stays on holds);
-      caller = λ on. same;
-      granted = granted;
+      meant = λ l. taken;
+      does = does_failed site moment d whole_message f s t k left moves sparing later rose;
+      guest = fails_guest site moment d whole_message;
+      serves = λ on. absurd (cc on);
+      caller = λ on. absurd (cc on);
+      granted = refl;
     }
+
+    module _ (f g : FloorHeard) (s t : Spooled) (before intake : Intake) (kept : Kept) (fed : Result Next CoreStop) where
+      -- an intake whose table has taken it in
+      taken_in : (serves : Serves site before d.table) → intake ≡ record before { table = kept } → Stays before.table kept → (store kept).broken ≡ (store before.table).broken
+          → HoldsTable kept (after d.table (Accept before.table.terms whole_message (cuts_of whole_message) moment)) → Serves site intake (after d.table (accept_of site moment whole_message))
+      taken_in serves is stays on holds = subst (λ i. Serves site i (after d.table (accept_of site moment whole_message))) (sym is) (record {
+        stores = stores_more site before.table kept d.table (after d.table (accept_of site moment whole_message)) serves.stores stays on (holds_at site moment whole_message s t before.table d.table serves.stores kept holds);
+        short = serves.short;
+        range = serves.range;
+      })
+
+      -- the table of a message that was taken in
+      accepted_in : (whole : Bool) → is_spent d.table ≡ false → Serves site intake (after d.table (accept_of site moment whole_message)) → Serves site intake (accepts site moment d whole_message whole).table
+      accepted_in whole left serves = subst (λ (e : Did). Serves site intake e.table) (sym (cond-false (is_spent d.table) (is_over d (By IdsSpent)) (says (commits site moment d whole_message) (stored_text d.table.next) whole) left)) serves
+
+      -- it was taken in and acknowledged
+      pub message_stored : (text : List ℕ) → d.way ≡ GoesOn → is_spent d.table ≡ false → text ≡ stored_text d.table.next
+          → Moves s t (StandsFor site.dirs d.table) (StandsFor site.dirs (after d.table (accept_of site moment whole_message))) (IsEither site.dirs d.table (accept_of site moment whole_message)) → IsSparing site.dirs s t true → s.faults ≤ t.faults
+          → IsSpoken fed → is_granted fed ≡ false → Gains f.told g.told (heard_of (speech d.guest.number text (is_onward fed))) → g.faults ≡ f.faults
+          → Serves site before d.table → intake ≡ record before { table = kept } → Stays before.table kept → (store kept).broken ≡ (store before.table).broken
+          → HoldsTable kept (after d.table (Accept before.table.terms whole_message (cuts_of whole_message) moment)) → new ≡ old
+          → AnswersMessage site moment d message (seen f s k) (seen g t k) intake old new fed
+      message_stored text way left is moves sparing later spoken granted told own serves is_in stays on holds same = record {
+        choice = Normal Unasked first (is_onward fed);
+        answers = λ e. cc e;
+        meant = (refl, λ l. taken);
+        does = does_accepts site moment d whole_message f g s t k fed way left moves sparing later spoken (subst (λ q. Gains f.told g.told (heard_of (speech d.guest.number q (is_onward fed)))) is told) own;
+        guest = accepts_guest site moment d whole_message (is_onward fed);
+        serves = λ goes. accepted_in (is_onward fed) left (taken_in serves is_in stays on holds);
+        caller = λ on. same;
+        granted = granted;
+      }

@@ -32,12 +32,15 @@ use Rattle.queue_table.specs.Commands.{Command, after}
 use Rattle.mail_core.specs.Effects.{Effect, Takes, Ticks, Commits, Sends, HangsUp, heard, heard_of, commands_of}
 use Rattle.mail_core.specs.Causes.{EndsSo, is_well}
 use Rattle.mail_core.specs.Events.{Turns}
-use Rattle.mail_core.specs.Machine.{Step, Turn, beginning, stepped}
+use Rattle.mail_core.specs.Judges.{JudgeSeen, untold}
+use Rattle.mail_core.specs.Meant.{IsRunMeant}
+use Rattle.mail_core.specs.Machine.{Step, Turn, at_moment, beginning, stepped}
 use Rattle.mail_core.specs.Runs.{AreAcked, HasEntry, Headline, IsAcked, IsEnded, IsKept, IsLeft, run_over}
 use Rattle.mail_core.specs.inner.UnderWay.{IsUnderWay}
 use Rattle.mail_core.specs.Seen.{IsPart, IsSparing, LacksLast, Leaves as Left, Ran, Seen, SparesBy, seen, table_after}
 use Rattle.mail_core.specs.Standing.{IsTallied, Stands}
 use Rattle.mail_core.proofs.GoingLemmas.{cause_since}
+use Rattle.mail_core.proofs.JudgeLemmas.{IsAlike, event_since, run_meant}
 use Rattle.mail_core.proofs.RanLemmas.{ran_join, ran_quiet, table_more}
 use Rattle.mail_core.proofs.MachineLemmas.{AreTaking, IsAccept, acked_front, among_accepted, entry_after, entry_stays, run_leads, run_more, taking_front}
 
@@ -49,12 +52,13 @@ opened_part dirs table s t moves =
     moves_weaker s t (StandsFor dirs table) (StandsFor dirs table) (StandsFor dirs table) (StandsFor dirs table) (IsPart dirs table []) (λ f p. p) (λ f p. record { done = []; rest = []; whole = refl; stands = p }) moves
 
 -- a core over a table for which the spool stands still is under way, after no event
-pub under_way_begin : (site : Site) (table : Table) (core : Core) (f g : Heard) (s t : Spooled) (c : ClockSeen) → Moves s t (StandsFor site.dirs table) (StandsFor site.dirs table) (StandsFor site.dirs table) → IsSparing site.dirs s t true
+pub under_way_begin : (j : JudgeSeen) (site : Site) (table : Table) (core : Core) (f g : Heard) (s t : Spooled) (c : ClockSeen) → Moves s t (StandsFor site.dirs table) (StandsFor site.dirs table) (StandsFor site.dirs table) → IsSparing site.dirs s t true
     → g.told ≡ f.told → f.faults ≤ g.faults → s.faults ≤ t.faults → Stands site core (beginning table) → IsTallied core t.told
-    → IsUnderWay site table core 0 (seen f s c) (seen g t c)
-under_way_begin site table core f g s t c moves sparing same floor_faults spool_faults stands tallied = record {
+    → IsUnderWay j site table core 0 (seen f s c) (seen g t c)
+under_way_begin j site table core f g s t c moves sparing same floor_faults spool_faults stands tallied = record {
   turns = [];
   events = refl;
+  meant = tt;
   ran = record {
     floor = subst (λ q. Gains f.told q []) (sym same) (gains_none f.told);
     clock = gains_none c.told;
@@ -78,17 +82,18 @@ ran_turn : (site : Site) (table : Table) (turns : List Turn) (turn : Turn) (a b 
 ran_turn site table turns turn a b c well h k =
     let run = run_over site table turns in
     let last = stepped site run.state turn in
-    let leads = run_leads site (beginning table) turns in
+    let leads = run_leads untold site (beginning table) turns in
     subst (λ (q : Step). Ran site.dirs table a c q.effects well) (sym (run_more site (beginning table) turns turn))
     (ran_join site.dirs table a b c run.effects last.effects well h (subst (λ t. Ran site.dirs t b c last.effects well) leads.table k))
 
 -- a core that took one event more and goes on is under way
-pub under_way_more : (site : Site) (table : Table) (core new : Core) (n : ℕ) (event : Event) (reading : ℕ) (a b c : Seen) → (u : IsUnderWay site table core n a b) → Turns site (run_over site table u.turns).state event reading b c new (Ok Went)
-    → c.clock.readings ≡ b.clock.readings + 1 → IsTallied new c.spool.told → IsUnderWay site table new (n + 1) a c
-under_way_more site table core new n event reading a b c u t read tallied =
+pub under_way_more : (j i : JudgeSeen) (site : Site) (table : Table) (core new : Core) (n : ℕ) (event : Event) (reading : ℕ) (a b c : Seen) → (u : IsUnderWay j site table core n a b) → IsAlike j i → Turns i site (run_over site table u.turns).state event reading b c new (Ok Went)
+    → c.clock.readings ≡ b.clock.readings + 1 → IsTallied new c.spool.told → IsUnderWay j site table new (n + 1) a c
+under_way_more j i site table core new n event reading a b c u alike t read tallied =
     let turn : Turn = record { event = event; reading = reading; choices = t.choices } in record {
       turns = u.turns ++ turn ∷ [];
       events = length_push u.turns turn ∙ ap (λ q. q + 1) u.events;
+      meant = run_meant site j (beginning table) u.turns turn u.meant (event_since site j i (at_moment (run_over site table u.turns).state reading) event t.choices alike t.meant);
       ran = ran_turn site table u.turns turn a b c true u.ran t.ran;
       readings = omega (arith, read, u.readings);
       stands = subst (λ (q : Step). Stands site new q.state) (sym (run_more site (beginning table) u.turns turn)) (t.stands refl);
@@ -96,12 +101,13 @@ under_way_more site table core new n event reading a b c u t read tallied =
     }
 
 -- a turn that failed
-pub under_way_floor : (site : Site) (table : Table) (core : Core) (n : ℕ) (a : Seen) (f g : Heard) (s : Spooled) (k : ClockSeen) → IsUnderWay site table core n a (seen f s k) → Gains f.told g.told [] → f.faults ≤ g.faults
-    → IsUnderWay site table core n a (seen g s k)
-under_way_floor site table core n a f g s k u gains le =
+pub under_way_floor : (j : JudgeSeen) (site : Site) (table : Table) (core : Core) (n : ℕ) (a : Seen) (f g : Heard) (s : Spooled) (k : ClockSeen) → IsUnderWay j site table core n a (seen f s k) → Gains f.told g.told [] → f.faults ≤ g.faults
+    → IsUnderWay j site table core n a (seen g s k)
+under_way_floor j site table core n a f g s k u gains le =
     let effects = (run_over site table u.turns).effects in record {
       turns = u.turns;
       events = u.events;
+      meant = u.meant;
       ran = subst (λ q. Ran site.dirs table a (seen g s k) q true) (append-nil effects)
           (ran_join site.dirs table a (seen f s k) (seen g s k) effects [] true u.ran (ran_quiet site.dirs (table_after table effects) f g s k k [] refl gains le (gains_none k.told) (omega arith)));
       readings = u.readings;
@@ -205,30 +211,31 @@ kept_left dirs table effects false files session id taking acked left within sai
 abbrev pub OnlyNow : Spooled → Type 0
 OnlyNow spool = (files : FileMap) → spool.left_since spool.moment files → spool.told ≡ Some files
 
-exit_of : (site : Site) (table : Table) (turns : List Turn) (well : Bool) (told : Option FileMap) (files : FileMap) → told ≡ Some files → Left site.dirs table (run_over site table turns).effects well files
+exit_of : (j : JudgeSeen) (site : Site) (table : Table) (turns : List Turn) → IsRunMeant j site (beginning table) turns → (well : Bool) (told : Option FileMap) (files : FileMap) → told ≡ Some files → Left site.dirs table (run_over site table turns).effects well files
     → IsLeft site table (run_over site table turns).effects well told
-exit_of site table turns well told files is left =
+exit_of j site table turns meant well told files is left =
     let effects = (run_over site table turns).effects in
-    let leads = run_leads site (beginning table) turns in record {
+    let leads = run_leads j site (beginning table) turns in record {
       files = files;
       told_is = is;
       leaves = left;
-      acked = λ session id within sent. kept_left site.dirs table effects well files session id leads.taking leads.acked left within (sent_done effects session (stored_text id) sent);
+      acked = λ session id within sent. kept_left site.dirs table effects well files session id leads.taking (leads.acked meant) left within (sent_done effects session (stored_text id) sent);
     }
 
 spared_others : (dirs : List (List ℕ)) (well : Bool) (f g : FileMap) → SparesBy dirs well f g → KeepsOthers dirs f g
 spared_others dirs true f g h = h.others
 spared_others dirs false f g h = h
 
-pub headline_of : (site : Site) (table : Table) (turns : List Turn) (a b : Seen) (well : Bool) → OnlyNow a.spool → Ran site.dirs table a b (run_over site table turns).effects well → Headline site table turns a b well
-headline_of site table turns a b well only ran =
+pub headline_of : (j : JudgeSeen) (site : Site) (table : Table) (turns : List Turn) (a b : Seen) (well : Bool) → IsRunMeant j site (beginning table) turns → OnlyNow a.spool → Ran site.dirs table a b (run_over site table turns).effects well → Headline j site table turns a b well
+headline_of j site table turns a b well meant only ran =
     let effects = (run_over site table turns).effects in record {
+      meant = meant;
       floor = ran.floor;
       clock = ran.clock;
       readings = ran.readings;
       exit = λ files told stands.
           let now = told_after a.spool.told b.spool.told (StandsFor site.dirs table) (Left site.dirs table effects well) ran.spool.now files told stands in
-          exit_of site table turns well b.spool.told now.0 now.1 now.2;
+          exit_of j site table turns meant well b.spool.told now.0 now.1 now.2;
       spared = λ files told.
           let now = told_after a.spool.told b.spool.told (λ g. g ≡ files) (SparesBy site.dirs well files) (ran.frame files).now files told refl in
           record { files = now.0; told_is = now.1; others = spared_others site.dirs well files now.0 now.2 };
@@ -249,18 +256,19 @@ headline_of site table turns a b well only ran =
 -- ---- a run ends
 
 -- a core that took one event more and stops has ended
-pub ended_by : (site : Site) (table : Table) (core new : Core) (n : ℕ) (event : Event) (reading : ℕ) (a b c : Seen) (went : Result Act CoreStop) → (u : IsUnderWay site table core n a b)
-    → Turns site (run_over site table u.turns).state event reading b c new went → OnlyNow a.spool → c.clock.readings ≡ b.clock.readings + 1 → IsEnded site table (n + 1) a c went
-ended_by site table core new n event reading a b c went u t only read =
+pub ended_by : (j i : JudgeSeen) (site : Site) (table : Table) (core new : Core) (n : ℕ) (event : Event) (reading : ℕ) (a b c : Seen) (went : Result Act CoreStop) → (u : IsUnderWay j site table core n a b)
+    → IsAlike j i → Turns i site (run_over site table u.turns).state event reading b c new went → OnlyNow a.spool → c.clock.readings ≡ b.clock.readings + 1 → IsEnded j site table (n + 1) a c went
+ended_by j i site table core new n event reading a b c went u alike t only read =
     let turn : Turn = record { event = event; reading = reading; choices = t.choices } in
     let turns = u.turns ++ turn ∷ [] in
+    let meant = run_meant site j (beginning table) u.turns turn u.meant (event_since site j i (at_moment (run_over site table u.turns).state reading) event t.choices alike t.meant) in
     let m = (run_over site table u.turns).state in record {
       turns = turns;
       before = u.turns;
       last = turn;
       whole = refl;
       events = length_push u.turns turn ∙ ap (λ q. q + 1) u.events;
-      headline = headline_of site table turns a c (is_well went) only (ran_turn site table u.turns turn a b c (is_well went) u.ran t.ran);
+      headline = headline_of j site table turns a c (is_well went) meant only (ran_turn site table u.turns turn a b c (is_well went) u.ran t.ran);
       readings = omega (arith, read, u.readings);
       ended = λ ending e.
           let so = t.ended ending e in
@@ -269,5 +277,5 @@ ended_by site table core new n event reading a b c went u t only read =
     }
 
 -- a run that is cut off between two turns
-pub cut_off : (site : Site) (table : Table) (core : Core) (n : ℕ) (a b : Seen) → (u : IsUnderWay site table core n a b) → OnlyNow a.spool → Headline site table u.turns a b true
-cut_off site table core n a b u only = headline_of site table u.turns a b true only u.ran
+pub cut_off : (j : JudgeSeen) (site : Site) (table : Table) (core : Core) (n : ℕ) (a b : Seen) → (u : IsUnderWay j site table core n a b) → OnlyNow a.spool → Headline j site table u.turns a b true
+cut_off j site table core n a b u only = headline_of j site table u.turns a b true u.meant only u.ran

@@ -132,7 +132,7 @@ module _ (site : Site) (s : ℕ) where
 
   welcome_passes : (m : State) (n : ℕ) (peer : List ℕ) (choice : Opening) → nat_eq n s ≡ false → StepPasses m (welcomed site m n peer choice)
   welcome_passes m n peer (Replied true) apart =
-      passes_as (guest_of s m.guests) _ _ (pushed_other s m.guests (newcomer n peer) apart) (speech_other s n apart (greeting_text (shown_host site.host)) true)
+      passes_as (guest_of s m.guests) _ _ (pushed_other s m.guests (newcomer site.config n peer) apart) (speech_other s n apart (greeting_text (shown_host site.host)) true)
   welcome_passes m n peer (Replied false) apart = passes_quiet (guest_of s m.guests) _ (speech_other s n apart (greeting_text (shown_host site.host)) false)
   welcome_passes m n peer Dropped apart = passes_quiet (guest_of s m.guests) _ refl
 

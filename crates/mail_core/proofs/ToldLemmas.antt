@@ -6,17 +6,18 @@ use Rattle.std.proofs.lemmas.Grind.{flat_map-append}
 use Rattle.std.proofs.lemmas.List.{append-nil}
 use Rattle.smtp_lines.specs.declared.line.Line.{Line}
 use Rattle.smtp_lines.specs.Parameters.{listed}
-use Rattle.smtp_receive.specs.declared.received.Received.{Received}
-use Rattle.smtp_receive.specs.Dialogue.{Answer, Says, Greets, Grants, Closes as Ends, Gives, Takes as Passes, answer_heard, exchanges, reply_by}
-use Rattle.smtp_receive.specs.Replies.{text_of, grant_text, hello_text, closing_text, stored_text, shown_host, out_of_memory_text}
-use Rattle.smtp_receive.specs.Sessions.{answer_of}
-use Rattle.smtp_receive.proofs.KeepLemmas.{lacking, replies_more}
+use Rattle.mail_base.specs.declared.message.Message.{Message}
+use Rattle.smtp_receive.specs.Dialogue.{Answer, Says, Refuses, Greets, Extends, Grants, Closes as Ends, Gives, Takes as Passes, answer_heard, exchanges, reply_by}
+use Rattle.smtp_receive.specs.Judging.{Said, Unasked}
+use Rattle.smtp_receive.specs.Replies.{text_of, refusal_text, grant_text, hello_text, extended_text, closing_text, stored_text, shown_host, out_of_memory_text}
+use Rattle.smtp_receive.proofs.DialogueLemmas.{replies_more}
+use Rattle.smtp_receive.proofs.KeepLemmas.{lacking}
 use Rattle.spool_store.specs.Entries.{Table}
 use Rattle.mail_core.specs.Sites.{Site}
 use Rattle.mail_core.specs.Effects.{Effect, Commits, Sends, HangsUp, speech}
 use Rattle.mail_core.specs.Guests.{Guest, is_passed, next_line, with_line}
-use Rattle.mail_core.specs.Machine.{Choice, Normal, OutOfMemory, Disconnects, SpoolFails, SpoolFault, IdsSpent, Finish, By, Cut, Way, GoesOn, Leaves, Over, Did, does, says, closes, is_over, commits, replies, fails, heard_line, heard_where, id_by, is_answered, by_choice, goes_on, answered, settled_by, fresh_start, all_answered}
-use Rattle.mail_core.specs.Messages.{accept_of, is_spent}
+use Rattle.mail_core.specs.Machine.{Choice, Normal, OutOfMemory, Disconnects, SpoolFails, JudgeFails, SpoolFault, IdsSpent, FilesFault, Finish, By, Cut, Way, GoesOn, Leaves, Over, Did, answer_by, limit_of, does, says, closes, is_over, commits, replies, fails, heard_line, heard_where, id_by, is_answered, by_choice, goes_on, answered, settled_by, fresh_start, all_answered}
+use Rattle.mail_core.specs.Messages.{accept_of, headed, is_spent}
 use Rattle.mail_core.specs.Told.{said_to, replies_of}
 
 same_number : (n : ℕ) → nat_eq n n ≡ true
@@ -75,15 +76,15 @@ adds_closes d text whole = record {
 }
 
 module _ (site : Site) (moment : ℕ) where
-  commits_none : (s : ℕ) (d : Did) (message : Received) → said_to s (commits site moment d message).effects ≡ said_to s d.effects
+  commits_none : (s : ℕ) (d : Did) (message : Message) → said_to s (commits site moment d message).effects ≡ said_to s d.effects
   commits_none s d message = said_more s d.effects (Commits (accept_of site moment message) ∷ []) ∙ append-nil (said_to s d.effects)
 
-  adds_stored : (d : Did) (message : Received) (text : List ℕ) (whole : Bool) → Adds d (says (commits site moment d message) text whole) (text ∷ [])
+  adds_stored : (d : Did) (message : Message) (text : List ℕ) (whole : Bool) → Adds d (says (commits site moment d message) text whole) (text ∷ [])
   adds_stored d message text whole =
       let a = adds_says (commits site moment d message) text whole in
       record { guest = refl; said = a.said ∙ ap (λ s. s ++ text ∷ []) (commits_none d.guest.number d message); apart = λ s h. a.apart s h ∙ commits_none s d message }
 
-  adds_failed : (d : Did) (message : Received) → Adds d (is_over (commits site moment d message) (By SpoolFault)) []
+  adds_failed : (d : Did) (message : Message) → Adds d (is_over (commits site moment d message) (By SpoolFault)) []
   adds_failed d message =
       let a = adds_none (commits site moment d message) (Over (By SpoolFault)) in
       record { guest = refl; said = a.said ∙ ap (λ s. s ++ []) (commits_none d.guest.number d message); apart = λ s h. a.apart s h ∙ commits_none s d message }
@@ -108,65 +109,72 @@ module _ (site : Site) (moment : ℕ) where
       }
 
   -- a line was answered, and its reply was said
-  told_line : (g : Guest) (d e : Did) (line : Line) (short : Bool) (id : Option ℕ) → Adds d e (listed (reply_by (shown_host site.host) (answer_heard d.guest.peer (exchanges d.guest.peer d.guest.heard) (record { line = line; short = short; id = id })) id))
-      → IsTold g d → IsTold g (heard_line e line short id)
-  told_line g d e line short id a t =
+  told_line : (g : Guest) (d e : Did) (line : Line) (said : Said) (short : Bool) (id : Option ℕ) → Adds d e (listed (reply_by (shown_host site.host) (limit_of d) (answer_heard d.guest.config d.guest.peer (exchanges d.guest.config d.guest.peer d.guest.heard) (record { line = line; said = said; short = short; id = id })) id))
+      → IsTold g d → IsTold g (heard_line e line said short id)
+  told_line g d e line said short id a t =
       let host = shown_host site.host in
-      let reply : List (List ℕ) = listed (reply_by host (answer_heard d.guest.peer (exchanges d.guest.peer d.guest.heard) (record { line = line; short = short; id = id })) id) in
+      let reply : List (List ℕ) = listed (reply_by host (limit_of d) (answer_heard d.guest.config d.guest.peer (exchanges d.guest.config d.guest.peer d.guest.heard) (record { line = line; said = said; short = short; id = id })) id) in
       let here : said_to g.number e.effects ≡ said_to g.number d.effects ++ reply = subst (λ n. said_to n e.effects ≡ said_to n d.effects ++ reply) t.number a.said in
       record {
         number = ap (λ (x : Guest). x.number) a.guest ∙ t.number;
-        told = ap (λ x. replies_of site (with_line x line short id)) a.guest
-            ∙ replies_more host d.guest.peer d.guest.heard (record { line = line; short = short; id = id })
+        told = ap (λ x. replies_of site (with_line x line said short id)) a.guest
+            ∙ replies_more d.guest.config host d.guest.peer d.guest.heard (record { line = line; said = said; short = short; id = id })
             ∙ ap (λ r. r ++ reply) t.told
             ∙ append_assoc (replies_of site g) (said_to g.number d.effects) reply
             ∙ ap (λ s. replies_of site g ++ s) (sym here);
         apart = λ s h. a.apart s (subst (λ n. nat_eq n s ≡ false) (sym t.number) h) ∙ t.apart s h;
       }
 
-  gives_told : (spent : Bool) (g : Guest) (d : Did) (line : Line) (message : Received) (whole : Bool) → answer_of d.guest.peer d.guest.heard line ≡ Gives message → IsTold g d
-      → IsTold g (heard_where (not spent) (if spent then is_over d (By IdsSpent) else says (commits site moment d message) (stored_text d.table.next) whole) line false (Some d.table.next))
-  gives_told true g d line message whole is t = told_none g d (is_over d (By IdsSpent)) (adds_none d (Over (By IdsSpent))) t
-  gives_told false g d line message whole is t =
-      told_line g d (says (commits site moment d message) (stored_text d.table.next) whole) line false (Some d.table.next)
-      (subst (λ a. Adds d (says (commits site moment d message) (stored_text d.table.next) whole) (listed (reply_by (shown_host site.host) (Some a) (Some d.table.next)))) (sym is) (adds_stored d message (stored_text d.table.next) whole)) t
+  gives_told : (spent : Bool) (g : Guest) (d : Did) (line : Line) (said : Said) (message gift : Message) (whole : Bool) → answer_by d said line ≡ Gives gift → IsTold g d
+      → IsTold g (heard_where (not spent) (if spent then is_over d (By IdsSpent) else says (commits site moment d message) (stored_text d.table.next) whole) line said false (Some d.table.next))
+  gives_told true g d line said message gift whole is t = told_none g d (is_over d (By IdsSpent)) (adds_none d (Over (By IdsSpent))) t
+  gives_told false g d line said message gift whole is t =
+      told_line g d (says (commits site moment d message) (stored_text d.table.next) whole) line said false (Some d.table.next)
+      (subst (λ a. Adds d (says (commits site moment d message) (stored_text d.table.next) whole) (listed (reply_by (shown_host site.host) (limit_of d) (Some a) (Some d.table.next)))) (sym is) (adds_stored d message (stored_text d.table.next) whole)) t
 
-  normal_told : (g : Guest) (d : Did) (line : Line) (answer : Answer) (whole : Bool) → answer_of d.guest.peer d.guest.heard line ≡ answer → IsTold g d
-      → IsTold g (heard_where (is_answered d.table answer) (replies site moment d answer whole) line false (id_by d.table answer))
-  normal_told g d line (Gives message) whole is t = gives_told (is_spent d.table) g d line message whole is t
-  normal_told g d line (Says reply) whole is t =
-      told_line g d (says d (text_of reply) whole) line false None (subst (λ a. Adds d (says d (text_of reply) whole) (listed (reply_by (shown_host site.host) (Some a) None))) (sym is) (adds_says d (text_of reply) whole)) t
-  normal_told g d line Greets whole is t =
-      let text : List ℕ = hello_text (shown_host site.host) in
-      told_line g d (says d text whole) line false None (subst (λ a. Adds d (says d text whole) (listed (reply_by (shown_host site.host) (Some a) None))) (sym is) (adds_says d text whole)) t
-  normal_told g d line Grants whole is t =
-      told_line g d (says d grant_text whole) line false None (subst (λ a. Adds d (says d grant_text whole) (listed (reply_by (shown_host site.host) (Some a) None))) (sym is) (adds_says d grant_text whole)) t
-  normal_told g d line Ends whole is t =
+  -- a line was answered with these words
+  words_told : (g : Guest) (d : Did) (line : Line) (said : Said) (answer : Answer) (text : List ℕ) (whole : Bool) → reply_by (shown_host site.host) (limit_of d) (Some answer) None ≡ Some text → answer_by d said line ≡ answer → IsTold g d
+      → IsTold g (heard_line (says d text whole) line said false None)
+  words_told g d line said answer text whole words is t =
+      told_line g d (says d text whole) line said false None
+      (subst (λ o. Adds d (says d text whole) (listed o)) (sym (ap (λ a. reply_by (shown_host site.host) (limit_of d) (Some a) None) is ∙ words)) (adds_says d text whole)) t
+
+  normal_told : (g : Guest) (d : Did) (line : Line) (said : Said) (answer : Answer) (first : Option (List ℕ)) (whole : Bool) → answer_by d said line ≡ answer → IsTold g d
+      → IsTold g (heard_where (is_answered d.table answer) (replies site moment d answer first whole) line said false (id_by d.table answer))
+  normal_told g d line said (Gives message) first whole is t = gives_told (is_spent d.table) g d line said (headed first message) message whole is t
+  normal_told g d line said (Says reply) first whole is t = words_told g d line said (Says reply) (text_of reply) whole refl is t
+  normal_told g d line said (Refuses error) first whole is t = words_told g d line said (Refuses error) (refusal_text error) whole refl is t
+  normal_told g d line said Greets first whole is t = words_told g d line said Greets (hello_text (shown_host site.host)) whole refl is t
+  normal_told g d line said Extends first whole is t = words_told g d line said Extends (extended_text (shown_host site.host) (limit_of d)) whole refl is t
+  normal_told g d line said Grants first whole is t = words_told g d line said Grants grant_text whole refl is t
+  normal_told g d line said Ends first whole is t =
       let text : List ℕ = closing_text (shown_host site.host) in
-      told_line g d (closes d text whole) line false None (subst (λ a. Adds d (closes d text whole) (listed (reply_by (shown_host site.host) (Some a) None))) (sym is) (adds_closes d text whole)) t
-  normal_told g d line Passes whole is t =
-      told_line g d d line false None (subst (λ a. Adds d d (listed (reply_by (shown_host site.host) (Some a) None))) (sym is) (adds_still d)) t
+      told_line g d (closes d text whole) line said false None (subst (λ a. Adds d (closes d text whole) (listed (reply_by (shown_host site.host) (limit_of d) (Some a) None))) (sym is) (adds_closes d text whole)) t
+  normal_told g d line said Passes first whole is t =
+      told_line g d d line said false None (subst (λ a. Adds d d (listed (reply_by (shown_host site.host) (limit_of d) (Some a) None))) (sym is) (adds_still d)) t
 
-  failing_told : (spent : Bool) (g : Guest) (d : Did) (message : Received) → IsTold g d → IsTold g (if spent then is_over d (By IdsSpent) else is_over (commits site moment d message) (By SpoolFault))
+  failing_told : (spent : Bool) (g : Guest) (d : Did) (message : Message) → IsTold g d → IsTold g (if spent then is_over d (By IdsSpent) else is_over (commits site moment d message) (By SpoolFault))
   failing_told true g d message t = told_none g d (is_over d (By IdsSpent)) (adds_none d (Over (By IdsSpent))) t
   failing_told false g d message t = told_none g d (is_over (commits site moment d message) (By SpoolFault)) (adds_failed d message) t
 
   over_told : (g : Guest) (d : Did) (finish : Finish) → IsTold g d → IsTold g (is_over d finish)
   over_told g d finish t = told_none g d (is_over d finish) (adds_none d (Over finish)) t
 
-  fails_told : (g : Guest) (d : Did) (answer : Answer) → IsTold g d → IsTold g (fails site moment d answer)
-  fails_told g d (Gives message) t = failing_told (is_spent d.table) g d message t
-  fails_told g d (Says reply) t = over_told g d Cut t
-  fails_told g d Greets t = over_told g d Cut t
-  fails_told g d Grants t = over_told g d Cut t
-  fails_told g d Ends t = over_told g d Cut t
-  fails_told g d Passes t = over_told g d Cut t
+  fails_told : (g : Guest) (d : Did) (answer : Answer) (first : Option (List ℕ)) → IsTold g d → IsTold g (fails site moment d answer first)
+  fails_told g d (Gives message) first t = failing_told (is_spent d.table) g d (headed first message) t
+  fails_told g d (Says reply) first t = over_told g d Cut t
+  fails_told g d (Refuses error) first t = over_told g d Cut t
+  fails_told g d Greets first t = over_told g d Cut t
+  fails_told g d Extends first t = over_told g d Cut t
+  fails_told g d Grants first t = over_told g d Cut t
+  fails_told g d Ends first t = over_told g d Cut t
+  fails_told g d Passes first t = over_told g d Cut t
 
-  short_told : (passed : Bool) (g : Guest) (d : Did) (line : Line) (whole : Bool) → is_passed d.guest line ≡ passed → IsTold g d → IsTold g (if passed then is_over d Cut else heard_line (says d out_of_memory_text whole) line true None)
+  short_told : (passed : Bool) (g : Guest) (d : Did) (line : Line) (whole : Bool) → is_passed d.guest line ≡ passed → IsTold g d → IsTold g (if passed then is_over d Cut else heard_line (says d out_of_memory_text whole) line Unasked true None)
   short_told true g d line whole is t = over_told g d Cut t
   short_told false g d line whole is t =
-      told_line g d (says d out_of_memory_text whole) line true None
-      (subst (λ a. Adds d (says d out_of_memory_text whole) (listed (reply_by (shown_host site.host) a None))) (sym (lacking d.guest.peer (exchanges d.guest.peer d.guest.heard) line is)) (adds_says d out_of_memory_text whole)) t
+      told_line g d (says d out_of_memory_text whole) line Unasked true None
+      (subst (λ a. Adds d (says d out_of_memory_text whole) (listed (reply_by (shown_host site.host) (limit_of d) a None))) (sym (lacking d.guest.config d.guest.peer (exchanges d.guest.config d.guest.peer d.guest.heard) line Unasked is)) (adds_says d out_of_memory_text whole)) t
 
   hang_none : (d : Did) → Adds d (does d (HangsUp d.guest.number ∷ []) Leaves) []
   hang_none d = record { guest = refl; said = said_more d.guest.number d.effects (HangsUp d.guest.number ∷ []); apart = λ s h. said_more s d.effects (HangsUp d.guest.number ∷ []) ∙ append-nil (said_to s d.effects) }
@@ -176,14 +184,16 @@ module _ (site : Site) (moment : ℕ) where
   drop_told false g d t = over_told g d Cut t
 
   choice_told : (g : Guest) (d : Did) (choice : Choice) (line : Option Line) → IsTold g d → IsTold g (by_choice site moment d choice line)
-  choice_told g d (Normal whole) (Some line) t = normal_told g d line (answer_of d.guest.peer d.guest.heard line) whole refl t
+  choice_told g d (Normal said first whole) (Some line) t = normal_told g d line said (answer_by d said line) first whole refl t
   choice_told g d (OutOfMemory whole) (Some line) t = short_told (is_passed d.guest line) g d line whole refl t
-  choice_told g d SpoolFails (Some line) t = fails_told g d (answer_of d.guest.peer d.guest.heard line) t
+  choice_told g d (SpoolFails first) (Some line) t = fails_told g d (answer_by d Unasked line) first t
+  choice_told g d JudgeFails (Some line) t = over_told g d (By FilesFault) t
   choice_told g d Disconnects (Some line) t = drop_told d.may_disconnect g d t
   choice_told g d Disconnects None t = drop_told d.may_disconnect g d t
-  choice_told g d (Normal whole) None t = over_told g d Cut t
+  choice_told g d (Normal said first whole) None t = over_told g d Cut t
   choice_told g d (OutOfMemory whole) None t = over_told g d Cut t
-  choice_told g d SpoolFails None t = over_told g d Cut t
+  choice_told g d (SpoolFails first) None t = over_told g d Cut t
+  choice_told g d JudgeFails None t = over_told g d Cut t
 
   goes_told : (way : Way) (g : Guest) (d e : Did) → IsTold g d → IsTold g e → IsTold g (goes_on way d e)
   goes_told GoesOn g d e t u = u

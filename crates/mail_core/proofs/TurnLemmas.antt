@@ -8,16 +8,16 @@ use Rattle.smtp_lines.specs.declared.line.Line.{Line}
 use Rattle.smtp_lines.specs.declared.line.Mode.{Mode}
 use Rattle.smtp_lines.specs.declared.line.Mode.TheVariants.{Commands}
 use Rattle.smtp_lines.specs.Stream.{Reads, asks, granted_mode, has_end, line_of, mode_after, reading_of}
-use Rattle.smtp_receive.specs.declared.received.Received.{Received}
-use Rattle.smtp_receive.specs.Dialogue.{Answer, Says, Greets, Grants, Closes as Ends, Gives, Takes as Passes, is_grant}
-use Rattle.smtp_receive.specs.Replies.{text_of, grant_text, hello_text, closing_text, stored_text, shown_host, out_of_memory_text}
-use Rattle.smtp_receive.specs.Sessions.{answer_of}
+use Rattle.mail_base.specs.declared.message.Message.{Message}
+use Rattle.smtp_receive.specs.Dialogue.{Answer, Says, Refuses, Greets, Extends, Grants, Closes as Ends, Gives, Takes as Passes, is_grant}
+use Rattle.smtp_receive.specs.Judging.{Said, Unasked}
+use Rattle.smtp_receive.specs.Replies.{text_of, refusal_text, grant_text, hello_text, extended_text, closing_text, stored_text, shown_host, out_of_memory_text}
 use Rattle.spool_store.specs.Entries.{Table}
 use Rattle.mail_core.specs.Sites.{Site}
 use Rattle.mail_core.specs.Effects.{Effect, Commits, Sends, HangsUp, speech}
 use Rattle.mail_core.specs.Guests.{Guest, grants_of, is_passed, next_line, with_line, lines_heard}
-use Rattle.mail_core.specs.Machine.{Choice, Normal, OutOfMemory, Disconnects, SpoolFails, SpoolFault, IdsSpent, Finish, By, Cut, Way, GoesOn, Leaves, Over, Did, does, says, closes, is_over, commits, accepts, replies, fails, heard_line, heard_where, id_by, is_answered, by_choice, goes_on, answered, settled_by, settled, fresh_start, all_answered}
-use Rattle.mail_core.specs.Messages.{accept_of, is_spent}
+use Rattle.mail_core.specs.Machine.{Choice, Normal, OutOfMemory, Disconnects, SpoolFails, JudgeFails, SpoolFault, IdsSpent, FilesFault, Finish, By, Cut, Way, GoesOn, Leaves, Over, Did, answer_by, limit_of, does, says, closes, is_over, commits, accepts, replies, fails, heard_line, heard_where, id_by, is_answered, by_choice, goes_on, answered, settled_by, settled, fresh_start, all_answered}
+use Rattle.mail_core.specs.Messages.{accept_of, headed, is_spent}
 use Rattle.mail_core.specs.Told.{IsInTurn, brought_by, brought_of}
 use Rattle.mail_core.proofs.AnswerLemmas.{answer_kept, grants_more, lines_more}
 use Rattle.mail_core.proofs.FeedLemmas.{how_many_heard}
@@ -37,35 +37,35 @@ first_of g t = record { last = t.last; rest = t.rest; reads = t.reads }
 at_heard : (g : Guest) → next_line g ≡ slice_get (reading_of g.received (grants_of g)).lines (length (lines_heard g))
 at_heard g = ap (slice_get (reading_of g.received (grants_of g)).lines) (sym (how_many_heard g.heard))
 
-first_more : (g : Guest) (line : Line) (short : Bool) (id : Option ℕ) (last : Mode) (rest : List ℕ) → Reads Commands g.received (grants_of g ++ (if asks line then is_grant (answer_kept g line short) ∷ [] else [])) (lines_heard g ++ line ∷ []) last rest → AreFirst (with_line g line short id)
-first_more g line short id last rest h = record {
+first_more : (g : Guest) (line : Line) (said : Said) (short : Bool) (id : Option ℕ) (last : Mode) (rest : List ℕ) → Reads Commands g.received (grants_of g ++ (if asks line then is_grant (answer_kept g line said short) ∷ [] else [])) (lines_heard g ++ line ∷ []) last rest → AreFirst (with_line g line said short id)
+first_more g line said short id last rest h = record {
   last = last;
   rest = rest;
-  reads = subst (λ q. Reads Commands g.received q (lines_heard (with_line g line short id)) last rest) (sym (grants_more g line short id))
-      (subst (λ q. Reads Commands g.received (grants_of g ++ (if asks line then is_grant (answer_kept g line short) ∷ [] else [])) q last rest) (sym (lines_more g line short id)) h);
+  reads = subst (λ q. Reads Commands g.received q (lines_heard (with_line g line said short id)) last rest) (sym (grants_more g line said short id))
+      (subst (λ q. Reads Commands g.received (grants_of g ++ (if asks line then is_grant (answer_kept g line said short) ∷ [] else [])) q last rest) (sym (lines_more g line said short id)) h);
 }
 
-first_line : (g : Guest) (line : Line) (short : Bool) (id : Option ℕ) (f : AreFirst g) → IsNext f.last f.rest line → AreFirst (with_line g line short id)
-first_line g line short id f n =
-    let b = is_grant (answer_kept g line short) in
+first_line : (g : Guest) (line : Line) (said : Said) (short : Bool) (id : Option ℕ) (f : AreFirst g) → IsNext f.last f.rest line → AreFirst (with_line g line said short id)
+first_line g line said short id f n =
+    let b = is_grant (answer_kept g line said short) in
     let one = line_of f.last n.front in
     ⊎_elim
     (λ asking.
     let reads = reads_asked Commands g.received (grants_of g) (lines_heard g) f.last f.rest n.front n.back b n.cut_is.whole n.cut_is.none (ap asks (sym n.is) ∙ asking) f.reads in
-    first_more g line short id (granted_mode b) n.back
+    first_more g line said short id (granted_mode b) n.back
     (subst (λ q. Reads Commands g.received (grants_of g ++ (if q then b ∷ [] else [])) (lines_heard g ++ line ∷ []) (granted_mode b) n.back) (sym asking)
     (subst (λ q. Reads Commands g.received (grants_of g ++ b ∷ []) (lines_heard g ++ q ∷ []) (granted_mode b) n.back) (sym n.is) reads)))
     (λ silent.
     let reads = reads_plain Commands g.received (grants_of g) (lines_heard g) f.last f.rest n.front n.back n.cut_is.whole n.cut_is.none (ap asks (sym n.is) ∙ silent) f.reads in
-    first_more g line short id (mode_after one) n.back
+    first_more g line said short id (mode_after one) n.back
     (subst (λ q. Reads Commands g.received (grants_of g ++ (if q then b ∷ [] else [])) (lines_heard g ++ line ∷ []) (mode_after one) n.back) (sym silent)
     (subst (λ q. Reads Commands g.received q (lines_heard g ++ line ∷ []) (mode_after one) n.back) (sym (append-nil (grants_of g)))
     (subst (λ q. Reads Commands g.received (grants_of g) (lines_heard g ++ q ∷ []) (mode_after one) n.back) (sym n.is) reads))))
     (cases_Bool (asks line))
 
 -- the next line was answered
-pub first_next : (g : Guest) (line : Line) (short : Bool) (id : Option ℕ) → next_line g ≡ Some line → AreFirst g → AreFirst (with_line g line short id)
-first_next g line short id next f = first_line g line short id f (next_reads (length g.received) Commands g.received (grants_of g) (lines_heard g) f.last f.rest line f.reads (sym (at_heard g) ∙ next))
+pub first_next : (g : Guest) (line : Line) (said : Said) (short : Bool) (id : Option ℕ) → next_line g ≡ Some line → AreFirst g → AreFirst (with_line g line said short id)
+first_next g line said short id next f = first_line g line said short id f (next_reads (length g.received) Commands g.received (grants_of g) (lines_heard g) f.last f.rest line f.reads (sym (at_heard g) ∙ next))
 
 -- none is left
 pub turn_of : (g : Guest) → AreFirst g → next_line g ≡ None → IsInTurn g
@@ -87,7 +87,7 @@ speech_brings s n text false = refl
 -- the same session, or one with this line answered
 data Goes (g now : Guest) (line : Option Line) : Type 0 where
   stays : now ≡ g → Goes g now line
-  hears : (one : Line) (short : Bool) (id : Option ℕ) → line ≡ Some one → now ≡ with_line g one short id → Goes g now line
+  hears : (one : Line) (said : Said) (short : Bool) (id : Option ℕ) → line ≡ Some one → now ≡ with_line g one said short id → Goes g now line
 
 record Moves (d e : Did) (line : Option Line) : Type 0 where
   guest : Goes d.guest e.guest line
@@ -119,6 +119,7 @@ idles_over d finish = idles_does d [] (Over finish) (λ s. refl)
 -- of that one session the lines that were answered stand first
 pub record IsKept (g : Guest) (d : Did) : Type 0 where
   pub peer : d.guest.peer ≡ g.peer
+  pub config : d.guest.config ≡ g.config
   pub received : d.guest.received ≡ g.received
   pub first : AreFirst d.guest
 
@@ -134,36 +135,40 @@ not_left : Leaves ≡ GoesOn → ⊥
 not_left h = cc h
 
 module _ (site : Site) (moment : ℕ) where
-  idles_commits : (d : Did) (message : Received) → Idles d (commits site moment d message)
+  idles_commits : (d : Did) (message : Message) → Idles d (commits site moment d message)
   idles_commits d message = record { same = refl; quiet = λ s. brings_none s d.effects (Commits (accept_of site moment message) ∷ []) refl }
 
-  idles_accepts : (spent : Bool) (d : Did) (message : Received) (whole : Bool) → Idles d (if spent then is_over d (By IdsSpent) else says (commits site moment d message) (stored_text d.table.next) whole)
+  idles_accepts : (spent : Bool) (d : Did) (message : Message) (whole : Bool) → Idles d (if spent then is_over d (By IdsSpent) else says (commits site moment d message) (stored_text d.table.next) whole)
   idles_accepts true d message whole = idles_over d (By IdsSpent)
   idles_accepts false d message whole =
       let c = commits site moment d message in
       idles_join d c (says c (stored_text d.table.next) whole) (idles_commits d message) (idles_says c (stored_text d.table.next) whole)
 
-  idles_replies : (d : Did) (answer : Answer) (whole : Bool) → Idles d (replies site moment d answer whole)
-  idles_replies d (Says reply) whole = idles_says d (text_of reply) whole
-  idles_replies d Greets whole = idles_says d (hello_text (shown_host site.host)) whole
-  idles_replies d Grants whole = idles_says d grant_text whole
-  idles_replies d Ends whole = idles_closes d (closing_text (shown_host site.host)) whole
-  idles_replies d (Gives message) whole = idles_accepts (is_spent d.table) d message whole
-  idles_replies d Passes whole = idles_still d
+  idles_replies : (d : Did) (answer : Answer) (first : Option (List ℕ)) (whole : Bool) → Idles d (replies site moment d answer first whole)
+  idles_replies d (Says reply) first whole = idles_says d (text_of reply) whole
+  idles_replies d (Refuses error) first whole = idles_says d (refusal_text error) whole
+  idles_replies d Greets first whole = idles_says d (hello_text (shown_host site.host)) whole
+  idles_replies d Extends first whole = idles_says d (extended_text (shown_host site.host) (limit_of d)) whole
+  idles_replies d Grants first whole = idles_says d grant_text whole
+  idles_replies d Ends first whole = idles_closes d (closing_text (shown_host site.host)) whole
+  idles_replies d (Gives message) first whole = idles_accepts (is_spent d.table) d (headed first message) whole
+  idles_replies d Passes first whole = idles_still d
 
-  idles_failing : (spent : Bool) (d : Did) (message : Received) → Idles d (if spent then is_over d (By IdsSpent) else is_over (commits site moment d message) (By SpoolFault))
+  idles_failing : (spent : Bool) (d : Did) (message : Message) → Idles d (if spent then is_over d (By IdsSpent) else is_over (commits site moment d message) (By SpoolFault))
   idles_failing true d message = idles_over d (By IdsSpent)
   idles_failing false d message =
       let c = commits site moment d message in
       idles_join d c (is_over c (By SpoolFault)) (idles_commits d message) (idles_over c (By SpoolFault))
 
-  idles_fails : (d : Did) (answer : Answer) → Idles d (fails site moment d answer)
-  idles_fails d (Gives message) = idles_failing (is_spent d.table) d message
-  idles_fails d (Says reply) = idles_over d Cut
-  idles_fails d Greets = idles_over d Cut
-  idles_fails d Grants = idles_over d Cut
-  idles_fails d Ends = idles_over d Cut
-  idles_fails d Passes = idles_over d Cut
+  idles_fails : (d : Did) (answer : Answer) (first : Option (List ℕ)) → Idles d (fails site moment d answer first)
+  idles_fails d (Gives message) first = idles_failing (is_spent d.table) d (headed first message)
+  idles_fails d (Says reply) first = idles_over d Cut
+  idles_fails d (Refuses error) first = idles_over d Cut
+  idles_fails d Greets first = idles_over d Cut
+  idles_fails d Extends first = idles_over d Cut
+  idles_fails d Grants first = idles_over d Cut
+  idles_fails d Ends first = idles_over d Cut
+  idles_fails d Passes first = idles_over d Cut
 
   idles_drops : (d : Did) (may : Bool) → Idles d (if may then does d (HangsUp d.guest.number ∷ []) Leaves else is_over d Cut)
   idles_drops d true = record { same = refl; quiet = λ s. brings_none s d.effects (HangsUp d.guest.number ∷ []) refl }
@@ -172,25 +177,27 @@ module _ (site : Site) (moment : ℕ) where
   moves_idle : (d e : Did) (line : Option Line) → Idles d e → Moves d e line
   moves_idle d e line i = record { guest = stays i.same; quiet = i.quiet }
 
-  moves_where : (b : Bool) (d e : Did) (line : Line) (short : Bool) (id : Option ℕ) → Idles d e → Moves d (heard_where b e line short id) (Some line)
-  moves_where true d e line short id i = record { guest = hears line short id refl (ap (λ g. with_line g line short id) i.same); quiet = i.quiet }
-  moves_where false d e line short id i = moves_idle d e (Some line) i
+  moves_where : (b : Bool) (d e : Did) (line : Line) (said : Said) (short : Bool) (id : Option ℕ) → Idles d e → Moves d (heard_where b e line said short id) (Some line)
+  moves_where true d e line said short id i = record { guest = hears line said short id refl (ap (λ g. with_line g line said short id) i.same); quiet = i.quiet }
+  moves_where false d e line said short id i = moves_idle d e (Some line) i
 
-  moves_short : (passed : Bool) (d : Did) (line : Line) (whole : Bool) → Moves d (if passed then is_over d Cut else heard_line (says d out_of_memory_text whole) line true None) (Some line)
+  moves_short : (passed : Bool) (d : Did) (line : Line) (whole : Bool) → Moves d (if passed then is_over d Cut else heard_line (says d out_of_memory_text whole) line Unasked true None) (Some line)
   moves_short true d line whole = moves_idle d (is_over d Cut) (Some line) (idles_over d Cut)
-  moves_short false d line whole = moves_where true d (says d out_of_memory_text whole) line true None (idles_says d out_of_memory_text whole)
+  moves_short false d line whole = moves_where true d (says d out_of_memory_text whole) line Unasked true None (idles_says d out_of_memory_text whole)
 
   moves_choice : (d : Did) (choice : Choice) (line : Option Line) → Moves d (by_choice site moment d choice line) line
-  moves_choice d (Normal whole) (Some line) =
-      let answer = answer_of d.guest.peer d.guest.heard line in
-      moves_where (is_answered d.table answer) d (replies site moment d answer whole) line false (id_by d.table answer) (idles_replies d answer whole)
+  moves_choice d (Normal said first whole) (Some line) =
+      let answer = answer_by d said line in
+      moves_where (is_answered d.table answer) d (replies site moment d answer first whole) line said false (id_by d.table answer) (idles_replies d answer first whole)
   moves_choice d (OutOfMemory whole) (Some line) = moves_short (is_passed d.guest line) d line whole
-  moves_choice d SpoolFails (Some line) = let answer = answer_of d.guest.peer d.guest.heard line in moves_idle d (fails site moment d answer) (Some line) (idles_fails d answer)
+  moves_choice d (SpoolFails first) (Some line) = let answer = answer_by d Unasked line in moves_idle d (fails site moment d answer first) (Some line) (idles_fails d answer first)
+  moves_choice d JudgeFails (Some line) = moves_idle d (is_over d (By FilesFault)) (Some line) (idles_over d (By FilesFault))
   moves_choice d Disconnects (Some line) = moves_idle d _ (Some line) (idles_drops d d.may_disconnect)
   moves_choice d Disconnects None = moves_idle d _ None (idles_drops d d.may_disconnect)
-  moves_choice d (Normal whole) None = moves_idle d (is_over d Cut) None (idles_over d Cut)
+  moves_choice d (Normal said first whole) None = moves_idle d (is_over d Cut) None (idles_over d Cut)
   moves_choice d (OutOfMemory whole) None = moves_idle d (is_over d Cut) None (idles_over d Cut)
-  moves_choice d SpoolFails None = moves_idle d (is_over d Cut) None (idles_over d Cut)
+  moves_choice d (SpoolFails first) None = moves_idle d (is_over d Cut) None (idles_over d Cut)
+  moves_choice d JudgeFails None = moves_idle d (is_over d Cut) None (idles_over d Cut)
 
   -- ---- what is done for a piece brings nothing
 
@@ -220,18 +227,19 @@ module _ (site : Site) (moment : ℕ) where
   -- ---- a piece
 
   kept_by : (g : Guest) (d : Did) (now : Guest) (effects : List Effect) (line : Option Line) → next_line d.guest ≡ line → Goes d.guest now line → IsKept g d
-      → (now.peer ≡ g.peer) × (now.received ≡ g.received) × AreFirst now
-  kept_by g d now effects line next (stays same) k = (ap (λ (x : Guest). x.peer) same ∙ k.peer, ap (λ (x : Guest). x.received) same ∙ k.received, subst AreFirst (sym same) k.first)
-  kept_by g d now effects line next (hears one short id is same) k = (
+      → (now.peer ≡ g.peer) × (now.config ≡ g.config) × (now.received ≡ g.received) × AreFirst now
+  kept_by g d now effects line next (stays same) k = (ap (λ (x : Guest). x.peer) same ∙ k.peer, ap (λ (x : Guest). x.config) same ∙ k.config, ap (λ (x : Guest). x.received) same ∙ k.received, subst AreFirst (sym same) k.first)
+  kept_by g d now effects line next (hears one said short id is same) k = (
     ap (λ (x : Guest). x.peer) same ∙ k.peer,
+    ap (λ (x : Guest). x.config) same ∙ k.config,
     ap (λ (x : Guest). x.received) same ∙ k.received,
-    subst AreFirst (sym same) (first_next d.guest one short id (next ∙ is) k.first),
+    subst AreFirst (sym same) (first_next d.guest one said short id (next ∙ is) k.first),
   )
 
   kept_moves : (g : Guest) (d e : Did) → Moves d e (next_line d.guest) → IsKept g d → IsKept g e
   kept_moves g d e m k =
       let parts = kept_by g d e.guest e.effects (next_line d.guest) refl m.guest k in
-      record { peer = parts.0; received = parts.1; first = parts.2 }
+      record { peer = parts.0; config = parts.1; received = parts.2; first = parts.3 }
 
   kept_goes : (way : Way) (g : Guest) (d e : Did) → IsKept g d → IsKept g e → IsKept g (goes_on way d e)
   kept_goes GoesOn g d e k next = next
@@ -245,7 +253,7 @@ module _ (site : Site) (moment : ℕ) where
       kept_all g (goes_on d.way d e) choices (kept_goes d.way g d e k (kept_moves g d e (moves_choice d choice (next_line d.guest)) k))
 
   kept_over : (g : Guest) (d : Did) (finish : Finish) → IsKept g d → IsKept g (is_over d finish)
-  kept_over g d finish k = record { peer = k.peer; received = k.received; first = k.first }
+  kept_over g d finish k = record { peer = k.peer; config = k.config; received = k.received; first = k.first }
 
   settles : (g : Guest) (d : Did) (way : Way) (line : Option Line) → d.way ≡ way → next_line d.guest ≡ line → IsKept g d → IsSettled g (settled_by way line d)
   settles g d GoesOn (Some line) on next k = record { kept = kept_over g d Cut k; none = λ e. absurd (not_over Cut e) }
@@ -256,4 +264,4 @@ module _ (site : Site) (moment : ℕ) where
   pub piece_settled : (table : Table) (g : Guest) (choices : List Choice) → AreFirst g → IsSettled g (all_answered site moment table g choices)
   piece_settled table g choices first =
       let d = fold (answered site moment) (fresh_start table g) choices in
-      settles g d d.way (next_line d.guest) refl refl (kept_all g (fresh_start table g) choices (record { peer = refl; received = refl; first = first }))
+      settles g d d.way (next_line d.guest) refl refl (kept_all g (fresh_start table g) choices (record { peer = refl; config = refl; received = refl; first = first }))

@@ -14,7 +14,9 @@ use Rattle.mail_core.specs.declared.serving.Act.{Act}
 use Rattle.mail_core.specs.declared.serving.CoreStop.{CoreStop}
 use Rattle.mail_core.specs.Sites.{Site}
 use Rattle.mail_core.specs.Causes.{EndsSo, ending_of, is_well}
-use Rattle.mail_core.specs.Machine.{Choices, Ending, State, Step, stepped}
+use Rattle.mail_core.specs.Machine.{Choices, Ending, State, Step, at_moment, stepped}
+use Rattle.mail_core.specs.Judges.{JudgeSeen}
+use Rattle.mail_core.specs.Meant.{IsEventMeant}
 use Rattle.mail_core.specs.Seen.{Seen, Ran}
 use Rattle.mail_core.specs.Standing.{Stands}
 
@@ -40,11 +42,13 @@ abbrev pub step_of : Site → State → (event : Event) → ℕ → Choices even
 step_of site m event reading choices =
     stepped site m (record { event = event; reading = reading; choices = choices })
 
--- by some choices, the machine's step is what happened from a to b; the core stands for its state
+-- by some choices, which are as the configuration means them, the machine's step is what happened
+-- from a to b; the core stands for its state
 -- where the run goes on, and else it ended the run so
-pub record Turns (site : Site) (m : State) (event : Event) (reading : ℕ) (a b : Seen) (core : Core)
+pub record Turns (j : JudgeSeen) (site : Site) (m : State) (event : Event) (reading : ℕ) (a b : Seen) (core : Core)
     (went : Result Act CoreStop) : Type 0 where
   pub choices : Choices event
+  pub meant : IsEventMeant j site (at_moment m reading) event choices
   pub ran : Ran site.dirs m.table a b
       (step_of site m event reading choices).effects (is_well went)
   pub stands : ending_of went ≡ None → Stands site core (step_of site m event reading choices).state

@@ -1,8 +1,10 @@
 pub mod Sites
 pub mod Effects
 pub mod Guests
+pub mod Judges
 pub mod Messages
 pub mod Machine
+pub mod Meant
 pub mod Seen
 pub mod Causes
 pub mod Standing

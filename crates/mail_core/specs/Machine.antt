@@ -6,16 +6,18 @@ use Rattle.link_edge.specs.declared.event.Event.{Event}
 use Rattle.link_edge.specs.declared.event.Event.TheVariants.{Opens, Brings, Closes, Rests, Stops}
 use Rattle.smtp_lines.specs.declared.line.Line.{Line}
 use Rattle.smtp_lines.specs.Stream.{asks}
-use Rattle.smtp_receive.specs.declared.received.Received.{Received}
-use Rattle.smtp_receive.specs.Dialogue.{Answer, Says, Greets, Grants, Closes as Ends, Gives, Takes as Passes}
-use Rattle.smtp_receive.specs.Replies.{text_of, grant_text, hello_text, closing_text, greeting_text, stored_text, shown_host, out_of_memory_text, too_many_sessions_text}
-use Rattle.smtp_receive.specs.Sessions.{answer_of}
+use Rattle.mail_base.specs.Limits.{message_limit}
+use Rattle.mail_base.specs.declared.message.Message.{Message}
+use Rattle.smtp_receive.specs.Dialogue.{Answer, Says, Refuses, Greets, Extends, Grants, Closes as Ends, Gives, Takes as Passes}
+use Rattle.smtp_receive.specs.Judging.{Question, Said, Unasked}
+use Rattle.smtp_receive.specs.Replies.{text_of, refusal_text, grant_text, hello_text, extended_text, closing_text, greeting_text, stored_text, shown_host, out_of_memory_text, too_many_sessions_text}
+use Rattle.smtp_receive.specs.Sessions.{answer_of, question_of}
 use Rattle.spool_store.specs.Entries.{Table}
 use Rattle.queue_table.specs.Commands.{after}
 use Rattle.mail_core.specs.Effects.{Effect, Takes, Ticks, Commits, Sends, HangsUp, speech}
 use Rattle.mail_core.specs.Guests.{Guest, newcomer, next_line, is_passed, has_bytes_left, with_bytes, with_line, guest_of, is_here, without, with_guest}
 use Rattle.mail_core.specs.Sites.{Site}
-use Rattle.mail_core.specs.Messages.{accept_of, is_spent}
+use Rattle.mail_core.specs.Messages.{accept_of, headed, is_spent}
 
 -- what is left open at an opening: its greeting, or its 421, is sent whole or not; or the session
 -- ends for want of memory
@@ -23,13 +25,16 @@ pub data Opening : Type 0 where
   Replied : (whole : Bool) → Opening
   Dropped : Opening
 
--- what is left open at a line: its reply, sent whole or not; 452 4.3.1 in place of it; the
--- session's end for want of memory; a fault of the spool
+-- what is left open at a line: its reply, sent whole or not, by what the judge said of the line
+-- and, where a message is taken in, the header that is put first; 452 4.3.1 in place of it; the
+-- session's end for want of memory; a fault of the spool, or of the judge. What the judge may say,
+-- and which header it is, isn't left open (`IsMeant`)
 pub data Choice : Type 0 where
-  Normal : (whole : Bool) → Choice
+  Normal : (said : Said) (first : Option (List ℕ)) (whole : Bool) → Choice
   OutOfMemory : (whole : Bool) → Choice
   Disconnects : Choice
-  SpoolFails : Choice
+  SpoolFails : (first : Option (List ℕ)) → Choice
+  JudgeFails : Choice
 
 -- what is left open at an event: at an opening, and at each line that a piece completes; nothing
 -- else is
@@ -40,11 +45,13 @@ Choices (Closes session) = Unit {0}
 Choices Rests = Unit {0}
 Choices Stops = Unit {0}
 
--- why a run ended: the floor told Stop; the spool failed; a message needs an id and none is left
+-- why a run ended: the floor told Stop; the spool failed; a message needs an id and none is left;
+-- files failed that the judge reads
 pub data Ending : Type 0 where
   Stopped : Ending
   SpoolFault : Ending
   IdsSpent : Ending
+  FilesFault : Ending
 
 -- how a run is over: it ended so, or it is cut where a choice is missing
 pub data Finish : Type 0 where
@@ -87,48 +94,66 @@ closes d text whole = does d (Sends d.guest.number text whole ∷ HangsUp d.gues
 abbrev pub is_over : Did → Finish → Did
 is_over d finish = does d [] (Over finish)
 
+-- the answer to a line by what the judge says of it
+abbrev pub answer_by : Did → Said → Line → Answer
+answer_by d said line = answer_of d.guest.config d.guest.peer d.guest.heard said line
+
+-- what a line asks of the judge
+abbrev pub question_here : Did → Line → Option Question
+question_here d line = question_of d.guest.config d.guest.peer d.guest.heard line
+
 -- a message is asked of the table
-abbrev pub commits : Site → ℕ → Did → Received → Did
+abbrev pub commits : Site → ℕ → Did → Message → Did
 commits site moment d message = record d {
   table = after d.table (accept_of site moment message);
   effects = d.effects ++ Commits (accept_of site moment message) ∷ [];
 }
 
 -- a message is accepted, and then its 250 said; where no id is left the run ends
-abbrev pub accepts : Site → ℕ → Did → Received → Bool → Did
+abbrev pub accepts : Site → ℕ → Did → Message → Bool → Did
 accepts site moment d message whole =
     if is_spent d.table then is_over d (By IdsSpent)
     else says (commits site moment d message) (stored_text d.table.next) whole
 
--- the answer that the dialogue has, sent whole or not
-abbrev pub replies : Site → ℕ → Did → Answer → Bool → Did
-replies site moment d (Says reply) whole = says d (text_of reply) whole
-replies site moment d Greets whole = says d (hello_text (shown_host site.host)) whole
-replies site moment d Grants whole = says d grant_text whole
-replies site moment d Ends whole = closes d (closing_text (shown_host site.host)) whole
-replies site moment d (Gives message) whole = accepts site moment d message whole
-replies site moment d Passes whole = d
+-- the bytes that a message of a session may have
+abbrev pub limit_of : Did → ℕ
+limit_of d = message_limit d.guest.config.options
+
+-- the answer that the dialogue has, sent whole or not, with the header that a message gets
+abbrev pub replies : Site → ℕ → Did → Answer → Option (List ℕ) → Bool → Did
+replies site moment d (Says reply) first whole = says d (text_of reply) whole
+replies site moment d (Refuses error) first whole = says d (refusal_text error) whole
+replies site moment d Greets first whole = says d (hello_text (shown_host site.host)) whole
+replies site moment d Extends first whole =
+    says d (extended_text (shown_host site.host) (limit_of d)) whole
+replies site moment d Grants first whole = says d grant_text whole
+replies site moment d Ends first whole = closes d (closing_text (shown_host site.host)) whole
+replies site moment d (Gives message) first whole =
+    accepts site moment d (headed first message) whole
+replies site moment d Passes first whole = d
 
 -- the spool fails at a message, where an id is left for it; nothing else is asked of it
-abbrev pub fails : Site → ℕ → Did → Answer → Did
-fails site moment d (Gives message) =
+abbrev pub fails : Site → ℕ → Did → Answer → Option (List ℕ) → Did
+fails site moment d (Gives message) first =
     if is_spent d.table then is_over d (By IdsSpent)
-    else is_over (commits site moment d message) (By SpoolFault)
-fails site moment d answer = is_over d Cut
+    else is_over (commits site moment d (headed first message)) (By SpoolFault)
+fails site moment d answer first = is_over d Cut
 
 -- the line was answered; bytes that came after one that asks may be what want of memory keeps from
 -- being read
-abbrev pub heard_line : Did → Line → Bool → Option ℕ → Did
-heard_line d line short id = record d {
-  guest = with_line d.guest line short id;
-  may_disconnect = asks line && has_bytes_left (with_line d.guest line short id);
+abbrev pub heard_line : Did → Line → Said → Bool → Option ℕ → Did
+heard_line d line said short id = record d {
+  guest = with_line d.guest line said short id;
+  may_disconnect = asks line && has_bytes_left (with_line d.guest line said short id);
 }
 
 -- the id that is given at an answer: a message that is taken in gets one
 abbrev pub id_by : Table → Answer → Option ℕ
 id_by table (Gives message) = Some table.next
 id_by table (Says reply) = None
+id_by table (Refuses error) = None
 id_by table Greets = None
+id_by table Extends = None
 id_by table Grants = None
 id_by table Ends = None
 id_by table Passes = None
@@ -137,34 +162,38 @@ id_by table Passes = None
 abbrev pub is_answered : Table → Answer → Bool
 is_answered table (Gives message) = not (is_spent table)
 is_answered table (Says reply) = true
+is_answered table (Refuses error) = true
 is_answered table Greets = true
+is_answered table Extends = true
 is_answered table Grants = true
 is_answered table Ends = true
 is_answered table Passes = true
 
 -- the line is among those that were answered, but where the run ends at it
-abbrev pub heard_where : Bool → Did → Line → Bool → Option ℕ → Did
-heard_where true d line short id = heard_line d line short id
-heard_where false d line short id = d
+abbrev pub heard_where : Bool → Did → Line → Said → Bool → Option ℕ → Did
+heard_where true d line said short id = heard_line d line said short id
+heard_where false d line said short id = d
 
 -- a line is answered by a choice; 452 4.3.1 comes to no line of data that is dropped. Want of
 -- memory for a piece, or for the bytes after a line that asks, drops them whole and ends the
 -- session
 abbrev pub by_choice : Site → ℕ → Did → Choice → Option Line → Did
-by_choice site moment d (Normal whole) (Some line) =
-    heard_where (is_answered d.table (answer_of d.guest.peer d.guest.heard line))
-    (replies site moment d (answer_of d.guest.peer d.guest.heard line) whole) line false
-    (id_by d.table (answer_of d.guest.peer d.guest.heard line))
+by_choice site moment d (Normal said first whole) (Some line) =
+    heard_where (is_answered d.table (answer_by d said line))
+    (replies site moment d (answer_by d said line) first whole) line said false
+    (id_by d.table (answer_by d said line))
 by_choice site moment d (OutOfMemory whole) (Some line) =
     if is_passed d.guest line then is_over d Cut
-    else heard_line (says d out_of_memory_text whole) line true None
-by_choice site moment d SpoolFails (Some line) =
-    fails site moment d (answer_of d.guest.peer d.guest.heard line)
+    else heard_line (says d out_of_memory_text whole) line Unasked true None
+by_choice site moment d (SpoolFails first) (Some line) =
+    fails site moment d (answer_by d Unasked line) first
+by_choice site moment d JudgeFails (Some line) = is_over d (By FilesFault)
 by_choice site moment d Disconnects line =
     if d.may_disconnect then does d (HangsUp d.guest.number ∷ []) Leaves else is_over d Cut
-by_choice site moment d (Normal whole) None = is_over d Cut
+by_choice site moment d (Normal said first whole) None = is_over d Cut
 by_choice site moment d (OutOfMemory whole) None = is_over d Cut
-by_choice site moment d SpoolFails None = is_over d Cut
+by_choice site moment d (SpoolFails first) None = is_over d Cut
+by_choice site moment d JudgeFails None = is_over d Cut
 
 -- the next line is answered where the session still goes on
 abbrev pub goes_on : Way → Did → Did → Did
@@ -232,7 +261,7 @@ turned_away m session Dropped = cut m
 abbrev pub welcomed : Site → State → ℕ → List ℕ → Opening → Step
 welcomed site m session peer (Replied true) =
     record {
-      state = record m { guests = m.guests ++ newcomer session peer ∷ [] };
+      state = record m { guests = m.guests ++ newcomer site.config session peer ∷ [] };
       effects = Sends session (greeting_text (shown_host site.host)) true ∷ [];
     }
 welcomed site m session peer (Replied false) =

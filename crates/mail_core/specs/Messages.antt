@@ -1,71 +1,96 @@
 -- The command that a received message becomes (Sendmail Installation and Operation Guide, "The
--- queue"; until recipients are routed each message has one, primary, in the group mqueue).
-use Rattle.std.specs.Prelude.{ℕ, pos, List, [], ◌∷◌, Bool, true, false, codes, nat_lt}
-use Rattle.mail_base.specs.declared.control.Draft.{Draft}
-use Rattle.mail_base.specs.declared.draw.Draw.{Draw}
+-- queue", and H: Define Header for the header Received; until aliases are read each recipient is
+-- one row, primary, in the group mqueue).
+use Rattle.std.specs.Prelude.{◌≡◌, ℕ, ◌-◌, ◌≤◌, List, [], ◌∷◌, length, take, drop, Bool, Option, None, Some, codes, nat_lt}
+use Rattle.mail_base.specs.Catalogs.{with_value}
+use Rattle.mail_base.specs.Names.{id_text}
+use Rattle.mail_base.specs.declared.config.Config.{Config}
 use Rattle.mail_base.specs.declared.id.TheConstants.Id.{MOST}
 use Rattle.mail_base.specs.declared.message.Cut.{Cut}
-use Rattle.mail_base.specs.declared.message.Marks.{Marks}
+use Rattle.mail_base.specs.declared.message.Kept.{Kept}
 use Rattle.mail_base.specs.declared.message.Message.{Message}
-use Rattle.mail_base.specs.declared.route.Resolved.{Resolved}
-use Rattle.mail_base.specs.declared.route.Resolved.TheVariants.{Goes}
-use Rattle.smtp_receive.specs.declared.received.Received.{Received}
+use Rattle.cf_macros.specs.Dates.{IsDateText}
+use Rattle.cf_macros.specs.declared.form.Form.TheVariants.{Mail, Unix, Short}
+use Rattle.mail_header.specs.Fields.{IsDate, date_told}
+use Rattle.mail_header.specs.Made.{received_of}
 use Rattle.spool_store.specs.Entries.{Table}
 use Rattle.queue_table.specs.Commands.{Command}
-use Rattle.queue_table.specs.Commands as commands
 use Rattle.queue_table.specs.Commands.Command.{Accept}
-use Rattle.queue_table.specs.declared.terms.Terms.{Terms}
 use Rattle.mail_core.specs.Sites.{Site, terms_at}
 
--- where a recipient goes that isn't routed
-abbrev pub nowhere : Resolved
-nowhere = Goes (record { mailer = []; host = []; user = [] })
+-- ---- the header Received
 
--- the recipient
-abbrev pub draw_of : Received → Draw
-draw_of message =
-    record {
-      address = message.recipient;
-      sender = message.sender;
-      primary = true;
-      resolved = nowhere;
-    }
+-- a path without the angles around it
+abbrev pub unangled : List ℕ → List ℕ
+unangled path = take (length path - 2) (drop 1 path)
 
-abbrev pub no_marks : Marks
-no_marks = record { bounce = false; double = false; warned = false }
+-- the macros a, b, d and t of a message
+pub record Dates : Type 0 where
+  pub told : List ℕ
+  pub mail : List ℕ
+  pub unix : List ℕ
+  pub short : List ℕ
 
--- the message, of class 0
-abbrev pub message_of : Received → Message
-message_of message =
-    record {
-      sender = message.sender;
-      rows = draw_of message ∷ [];
-      headers = message.headers;
-      body = message.body;
-      size = message.size;
-      class = pos 0;
-      eight = false;
-      marks = no_marks;
-      kept = message.kept;
-    }
+-- these are its dates at a moment
+pub record AreDates (message : Message) (moment : ℕ) (dates : Dates) : Type 0 where
+  pub told : IsDate (date_told message.headers) moment dates.told
+  pub mail : IsDateText Mail moment dates.mail
+  pub unix : IsDateText Unix moment dates.unix
+  pub short : IsDateText Short moment dates.short
 
--- the one part of it
-abbrev pub cut_of : Received → Cut
+-- the macros that are set of a session: what is kept of it, and f, which is the sender without its
+-- angles
+abbrev pub session_macros : Config → Kept → List ℕ → List (List ℕ × List ℕ)
+session_macros config kept sender =
+    with_value (codes "f") (unangled sender)
+    (with_value (codes "client_addr") kept.client
+    (with_value (codes "s") kept.helo
+    (with_value (codes "r") kept.protocol config.macros)))
+
+-- the macros of a message on receipt: those of its session, its dates and its id
+abbrev pub receipt_macros : Config → Message → Dates → ℕ → List (List ℕ × List ℕ)
+receipt_macros config message dates id =
+    with_value (codes "i") (id_text id)
+    (with_value (codes "t") dates.short
+    (with_value (codes "d") dates.unix
+    (with_value (codes "b") dates.mail
+    (with_value (codes "a") dates.told
+    (session_macros config message.kept message.sender)))))
+
+-- the header that the configuration puts first on a message that is taken in, if it has one
+pub record IsReceived (config : Config) (moment : ℕ) (message : Message) (id : ℕ)
+    (first : Option (List ℕ)) : Type 0 where
+  pub dates : Dates
+  pub are : AreDates message moment dates
+  pub is : first ≡ received_of config.headers (receipt_macros config message dates id)
+
+-- a message that is taken in has a row, and gets that header
+pub record IsTaken (config : Config) (moment : ℕ) (message : Message) (id : ℕ)
+    (first : Option (List ℕ)) : Type 0 where
+  pub some : 1 ≤ length message.rows
+  pub received : IsReceived config moment message id first
+
+-- headers with one more in front, if there is one
+abbrev pub put_first : Option (List ℕ) → List (List ℕ) → List (List ℕ)
+put_first None headers = headers
+put_first (Some first) headers = first ∷ headers
+
+abbrev pub headed : Option (List ℕ) → Message → Message
+headed first message = record message { headers = put_first first message.headers }
+
+-- ---- the command
+
+-- the one part of a message
+abbrev pub cut_of : Message → Cut
 cut_of message =
-    record { sender = message.sender; group = codes "mqueue"; rows = draw_of message ∷ [] }
+    record { sender = message.sender; group = codes "mqueue"; rows = message.rows }
 
-abbrev pub cuts_of : Received → List Cut
+abbrev pub cuts_of : Message → List Cut
 cuts_of message = cut_of message ∷ []
 
 -- the command that takes a message in
-abbrev pub accept_of : Site → ℕ → Received → Command
-accept_of site moment message =
-    Accept (terms_at site) (message_of message) (cuts_of message) moment
-
--- the draft of its entry
-abbrev pub draft_by : Terms → ℕ → Received → Draft
-draft_by terms moment message =
-    commands.draft_of terms (message_of message) moment (cut_of message)
+abbrev pub accept_of : Site → ℕ → Message → Command
+accept_of site moment message = Accept (terms_at site) message (cuts_of message) moment
 
 -- the table of a queue that was never used: the first id is 1
 abbrev pub start : Table

@@ -20,6 +20,8 @@ use Rattle.mail_core.specs.declared.serving.Act.{Act}
 use Rattle.mail_core.specs.declared.serving.CoreStop.{CoreStop}
 use Rattle.mail_core.specs.Causes.{EndsSo, ending_of, is_well}
 use Rattle.mail_core.specs.Machine.{Ending, Turn, Step, run, beginning}
+use Rattle.mail_core.specs.Judges.{JudgeSeen}
+use Rattle.mail_core.specs.Meant.{IsRunMeant}
 use Rattle.mail_core.specs.Seen.{Seen, IsPart, Leaves, table_after}
 
 -- a run of these turns over a table
@@ -76,8 +78,10 @@ pub record IsSpared (dirs : List (List ℕ)) (old : FileMap) (told : Option File
   pub others : KeepsOthers dirs old files
 
 -- these turns are all that happened from a to b, over files that stood for the table
-pub record Headline (site : Site) (table : Table) (turns : List Turn) (a b : Seen)
+pub record Headline (j : JudgeSeen) (site : Site) (table : Table) (turns : List Turn) (a b : Seen)
     (well : Bool) : Type 0 where
+  -- what the judge said, and the headers Received, are those of the configuration
+  pub meant : IsRunMeant j site (beginning table) turns
   -- the floor tells just what the machine does at these turns, and the clock their readings
   pub floor : Gains a.floor.told b.floor.told (heard_of (run_over site table turns).effects)
   pub clock : Gains a.clock.told b.clock.told (readings_of (run_over site table turns).effects)
@@ -102,14 +106,14 @@ pub record Headline (site : Site) (table : Table) (turns : List Turn) (a b : See
   pub spool_faults : a.spool.faults ≤ b.spool.faults
 
 -- a run of so many turns, of which the last ended it so, and for its cause
-pub record IsEnded (site : Site) (table : Table) (count : ℕ) (a b : Seen)
+pub record IsEnded (j : JudgeSeen) (site : Site) (table : Table) (count : ℕ) (a b : Seen)
     (went : Result Act CoreStop) : Type 0 where
   pub turns : List Turn
   pub before : List Turn
   pub last : Turn
   pub whole : turns ≡ before ++ last ∷ []
   pub events : length turns ≡ count
-  pub headline : Headline site table turns a b (is_well went)
+  pub headline : Headline j site table turns a b (is_well went)
   pub readings : b.clock.readings ≡ a.clock.readings + count
   pub ended : (ending : Ending) → ending_of went ≡ Some ending
       → EndsSo ending last.event (run_over site table turns).state a b

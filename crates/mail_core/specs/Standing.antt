@@ -1,6 +1,8 @@
 -- What the core keeps, and what of the machine it stands for.
 use Rattle.std.specs.Prelude.{◌≡◌, ◌≢◌, ◌<◌, ◌^◌, List, [], ◌∷◌, ◌++◌, All, Option, Some, None, false}
+use Rattle.mail_base.specs.declared.config.Config.{Config}
 use Rattle.smtp_lines.specs.Reader.{Reader, Stream, awaited, Stands as Reads}
+use Rattle.smtp_receive.specs.Forms.{AreFormed}
 use Rattle.smtp_receive.specs.Sessions.{Stands as Speaks}
 use Rattle.smtp_receive.specs.Replies.{out_of_memory_text, too_many_sessions_text}
 use Rattle.spool_disk.specs.Disk.{FileMap}
@@ -29,10 +31,13 @@ pub record Serves (site : Site) (intake : Intake) (table : Table) : Type 0 where
   pub short : intake.short ≡ out_of_memory_text
   pub range : intake.moment < 2 ^ 64
 
--- a caller's session stands for the lines that were answered
+-- a caller's session stands for the lines that were answered, under the site's configuration; all
+-- that the judge said of them is in its form
 pub record Talks (site : Site) (caller : Caller) (g : Guest) : Type 0 where
   pub number : caller.number ≡ g.number
-  pub session : Speaks caller.session site.host g.peer g.heard
+  pub config : g.config ≡ site.config
+  pub session : Speaks caller.session g.config site.host g.peer g.heard
+  pub formed : AreFormed g.config g.peer g.heard
   pub peer : All (λ b. b ≢ 10) g.peer
 
 -- a reader stands for the bytes that were received; all lines that it gave were answered
@@ -73,8 +78,9 @@ pub record Stands (site : Site) (core : Core) (m : State) : Type 0 where
 abbrev pub IsTallied : Core → Option FileMap → Type 0
 IsTallied core told = Tallies core.intake.table told
 
--- a core that stands for some state
-pub record IsStanding (core : Core) : Type 0 where
+-- a core that stands for some state, under a configuration
+pub record IsStanding (core : Core) (config : Config) : Type 0 where
   pub site : Site
+  pub under : site.config ≡ config
   pub state : State
   pub stands : Stands site core state

@@ -27,7 +27,7 @@ said_to session effects = flat_map (said_by session) effects
 
 -- the replies of a session to the lines that were answered
 abbrev pub replies_of : Site → Guest → List (List ℕ)
-replies_of site g = replies_to (shown_host site.host) g.peer g.heard
+replies_of site g = replies_to g.config (shown_host site.host) g.peer g.heard
 
 -- an event opens no SMTP session of a number
 abbrev pub opens_none : ℕ → Event → Bool
@@ -81,6 +81,7 @@ pub record Converses (site : Site) (g : Guest) (bytes : List ℕ) (texts : List 
     (found : Option Guest) : Type 0 where
   pub now : Guest
   pub peer : now.peer ≡ g.peer
+  pub config : now.config ≡ g.config
   pub last : Mode
   pub rest : List ℕ
   pub reads : Reads Commands (g.received ++ bytes) (grants_of now) (lines_heard now) last rest
@@ -96,5 +97,5 @@ pub data Welcomes (site : Site) (session : ℕ) (peer bytes : List ℕ) (texts :
   turns_away : texts ≡ too_many_sessions_text ∷ [] → found ≡ None
       → Welcomes site session peer bytes texts found
   greets : (later : List (List ℕ)) → texts ≡ greeting_text (shown_host site.host) ∷ later
-      → Converses site (newcomer session peer) bytes later found
+      → Converses site (newcomer site.config session peer) bytes later found
       → Welcomes site session peer bytes texts found

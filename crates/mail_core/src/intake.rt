@@ -1,4 +1,4 @@
-ghost use Rattle.std.specs.Prelude.{◌≡◌, ◌<◌, ◌⊎◌, ◌++◌, ◌∷◌, ◌^◌, [], List, ℕ, Bool, Option, None, IfOk, IsErrOf, true, false};
+ghost use Rattle.std.specs.Prelude.{◌≡◌, ◌<◌, ◌≤◌, length, ◌⊎◌, ◌++◌, ◌∷◌, ◌^◌, [], List, ℕ, Bool, Option, None, IfOk, IfSome, IsErrOf, true, false};
 ghost use Rattle.mail_base.specs.Histories.{Gains};
 ghost use Rattle.mail_base.specs.declared.fault.StoreFault.TheVariants.{IdsSpent as NoIdLeft, SpoolFault as SpoolBroke};
 ghost use Rattle.mail_edge.specs.Seen.{ClockSeen};
@@ -6,33 +6,38 @@ ghost use Rattle.link_edge.specs.Heard.{IsSoundAt};
 ghost use Rattle.smtp_lines.specs.declared.line.Line.{Line as AnyLine};
 ghost use Rattle.smtp_lines.specs.declared.line.Line.TheVariants.{DataEnd};
 ghost use Rattle.smtp_lines.specs.Reader.{OnlyLastAsks, StandsFirst};
+ghost use Rattle.mail_base.specs.declared.config.Config.{Config as Configuration};
 ghost use Rattle.smtp_receive.specs.Dialogue.{Heard, exchanges, is_dropped};
+ghost use Rattle.smtp_receive.specs.Judging.{Said, Unasked};
 ghost use Rattle.smtp_receive.specs.Replies.{out_of_memory_text};
 ghost use Rattle.smtp_receive.specs.Sessions.{Stands as Speaks};
 ghost use Rattle.spool_store.specs.Entries.{Table as Entries};
-ghost use Rattle.queue_table.specs.Calls.{AreDirs, AreValid, IsAccepting, IsSame, Tallies, store};
+ghost use Rattle.queue_table.specs.Calls.{AreDirs, AreValid, IsSame, Tallies, store};
 ghost use Rattle.mail_core.specs.Sites.{Site};
 ghost use Rattle.mail_core.specs.Effects.{heard_of, speech, Sends, HangsUp};
 ghost use Rattle.mail_core.specs.inner.Going.{AnswersLine, AnswersLines, AnswersMessage, Feeds, is_onward, stays_open};
-ghost use Rattle.mail_core.specs.Causes.{is_well};
+ghost use Rattle.mail_core.specs.Causes.{is_judge_fault, is_well};
+ghost use Rattle.mail_core.specs.Judges.{IsAsked, judge_seen};
 ghost use Rattle.mail_core.specs.Guests.{Guest, lines_of, lines_heard};
 ghost use Rattle.mail_core.specs.Machine as machine;
 ghost use Rattle.mail_core.specs.Machine.{moment_by};
-ghost use Rattle.mail_core.specs.Messages.{cuts_of, last_id, message_of};
+ghost use Rattle.mail_core.specs.Messages.{cuts_of, headed, last_id};
+ghost use Rattle.mail_core.specs.inner.Made.{IsMade};
+ghost use Rattle.mail_base.specs.Texts.{IsHeader};
 ghost use Rattle.mail_core.specs.Seen.{seen};
 ghost use Rattle.mail_core.specs.Standing.{Keeps, Serves, Talks};
 ghost use Rattle.mail_core.specs.inner.Handling.{IsReady};
 
 use crate::caller::Caller;
-use crate::message::plain;
+use crate::message::{cuts_of, headed, received_header};
 use crate::next::Next;
 use crate::serving::CoreStop;
 use crate::speech::say;
 use link_edge::Floor;
-use mail_base::{NoMemory, StoreFault, Text};
+use mail_base::{Config, Id, JudgeFault, Message, NoMemory, StoreFault, Text};
 use queue_table::{Accepting, Table};
 use smtp_lines::{Line, last_asks};
-use smtp_receive::{Did, Received, out_of_memory};
+use smtp_receive::{Did, Judge, out_of_memory};
 use spool_disk::Spool;
 use std::alloc::Global;
 
@@ -113,16 +118,18 @@ impl Intake {
         ensures next { (result ≡ Next.Continue) ⊎ (result ≡ Next.Closed) }
         ensures number { caller.new.number ≡ caller.old.number }
         ensures lines { caller.new.lines ≡ caller.old.lines }
-        ensures line { (host peer : List ℕ) (heard : List Heard) (line : AnyLine)
-            → Speaks caller.old.session host peer heard
-            → is_dropped (exchanges peer heard) line ≡ false
-            → Speaks caller.new.session host peer
-            (heard ++ record { line = line; short = true; id = None } ∷ []) }
-        ensures ended { (host peer : List ℕ) (heard : List Heard) (a b : Bool) (i j : Option ℕ)
-            → Speaks caller.old.session host peer
-            (heard ++ record { line = DataEnd; short = a; id = i } ∷ [])
-            → Speaks caller.new.session host peer
-            (heard ++ record { line = DataEnd; short = b; id = j } ∷ []) }
+        ensures line { (config : Configuration) (host peer : List ℕ) (heard : List Heard)
+            (line : AnyLine)
+            → Speaks caller.old.session config host peer heard
+            → is_dropped (exchanges config peer heard) line ≡ false
+            → Speaks caller.new.session config host peer
+            (heard ++ record { line = line; said = Unasked; short = true; id = None } ∷ []) }
+        ensures ended { (config : Configuration) (host peer : List ℕ) (heard : List Heard)
+            (said says : Said) (a b : Bool) (i j : Option ℕ)
+            → Speaks caller.old.session config host peer
+            (heard ++ record { line = DataEnd; said = said; short = a; id = i } ∷ [])
+            → Speaks caller.new.session config host peer
+            (heard ++ record { line = DataEnd; said = says; short = b; id = j } ∷ []) }
     {
         caller.session.reset();
         Intake::reply(floor, caller.number, &self.short)
@@ -130,12 +137,14 @@ impl Intake {
 
     // Makes a message ready to be taken in.
     #[tactic(auto, unfolding(crate::specs::Messages::last_id))]
-    fn plan(&mut self, message: Received) -> Result<Accepting, StoreFault>
+    fn plan(&mut self, config: &Config, message: Message) -> Result<Accepting, StoreFault>
         requires dirs { AreDirs self.old.table.terms (store self.old.table).dirs }
-        requires valid { AreValid self.old.table.terms (message_of message) self.old.moment
+        requires valid { (first : Option (List ℕ)) → IfSome first IsHeader
+            → AreValid self.old.table.terms (headed first message) self.old.moment
             (cuts_of message) }
+        requires rows { 1 ≤ length message.rows }
         ensures is { IfOk result
-            (IsAccepting self.new.table (message_of message) (cuts_of message) self.old.moment) }
+            (IsMade config.now self.old.moment (store self.old.table).next self.new.table message) }
         ensures id { IfOk result
             (λ accepting. accepting.parcel.parent.entry.id ≡ (store self.old.table).next) }
         ensures table { IsSame self.old.table self.new.table }
@@ -143,7 +152,13 @@ impl Intake {
         ensures spent { IsErrOf result NoIdLeft → last_id < (store self.old.table).next }
         ensures never { IsErrOf result SpoolBroke → ⊥ }
     {
-        let (message, cuts) = plain(self.alloc, message)?;
+        let next = self.table.next();
+        if next > Id::MOST {
+            return Err(StoreFault::IdsSpent);
+        }
+        let first = received_header(self.alloc, config, self.moment, &message, Id::new(next))?;
+        let cuts = cuts_of(self.alloc, &message)?;
+        let message = headed(first, message)?;
         self.table.plan_accept(message, cuts.items(), self.moment)
     }
 
@@ -153,16 +168,19 @@ impl Intake {
         &mut self,
         floor: &mut F,
         spool: &mut D,
+        config: &Config,
         caller: &mut Caller,
-        message: Received,
+        message: Message,
     ) -> Result<Next, CoreStop>
         requires sound { IsSoundAt (F.seen floor.old) caller.old.number }
         requires dirs { AreDirs self.old.table.terms (store self.old.table).dirs }
-        requires valid { AreValid self.old.table.terms (message_of message) self.old.moment
+        requires valid { (first : Option (List ℕ)) → IfSome first IsHeader
+            → AreValid self.old.table.terms (headed first message) self.old.moment
             (cuts_of message) }
+        requires rows { 1 ≤ length message.rows }
         requires tallied { Tallies self.old.table (D.seen spool.old).told }
         ensures accepts { (site : Site) (d : machine.Did) (clock : ClockSeen)
-            → d.way ≡ machine.GoesOn → Serves site self.old d.table
+            → site.config ≡ config.now → d.way ≡ machine.GoesOn → Serves site self.old d.table
             → caller.old.number ≡ d.guest.number → AnswersMessage site self.old.moment d message
             (seen (F.seen floor.old) (D.seen spool.old) clock)
             (seen (F.seen floor.new) (D.seen spool.new) clock)
@@ -178,7 +196,7 @@ impl Intake {
         ensures lines { caller.new.lines ≡ caller.old.lines }
         ensures sound { is_onward result ≡ true → IsSoundAt (F.seen floor.new) caller.old.number }
     {
-        let accepting = match self.plan(message) {
+        let accepting = match self.plan(config, message) {
             Ok(accepting) => accepting,
             Err(StoreFault::IdsSpent) => return Err(CoreStop::IdsSpent),
             Err(StoreFault::SpoolFault) => return Err(CoreStop::SpoolFault),
@@ -192,23 +210,27 @@ impl Intake {
     }
 
     // Answers a line.
-    fn answer<F: Floor, D: Spool>(
+    fn answer<F: Floor, D: Spool, J: Judge>(
         &mut self,
         floor: &mut F,
         spool: &mut D,
+        config: &Config,
+        judge: &mut J,
         caller: &mut Caller,
         line: &Line,
     ) -> Result<Next, CoreStop>
         requires sound { IsSoundAt (F.seen floor.old) caller.old.number }
-        requires ready { IsReady self.old caller.old }
+        requires ready { IsReady self.old caller.old config.now }
         requires tallied { Tallies self.old.table (D.seen spool.old).told }
         ensures answers { (site : Site) (d : machine.Did) (clock : ClockSeen)
-            → d.way ≡ machine.GoesOn → Serves site self.old d.table → Talks site caller.old d.guest
-            → AnswersLine site self.old.moment d line.now
+            → site.config ≡ config.now → d.way ≡ machine.GoesOn → Serves site self.old d.table → Talks site caller.old d.guest
+            → AnswersLine (judge_seen (J.seen judge.old) (J.answers judge.old)) site self.old.moment d line.now
             (seen (F.seen floor.old) (D.seen spool.old) clock)
             (seen (F.seen floor.new) (D.seen spool.new) clock)
             self.new caller.new result }
-        ensures ready { is_onward result ≡ true → IsReady self.new caller.new }
+        ensures ready { is_onward result ≡ true → IsReady self.new caller.new config.now }
+        ensures asked { IsAsked (judge_seen (J.seen judge.old) (J.answers judge.old))
+            (judge_seen (J.seen judge.new) (J.answers judge.new)) (is_judge_fault result) }
         ensures own { (F.seen floor.new).faults ≡ (F.seen floor.old).faults }
         ensures begun { (F.seen floor.new).begun ≡ (F.seen floor.old).begun }
         ensures calm { is_well result ≡ true
@@ -220,36 +242,41 @@ impl Intake {
         ensures lines { caller.new.lines ≡ caller.old.lines }
         ensures sound { is_onward result ≡ true → IsSoundAt (F.seen floor.new) caller.old.number }
     {
-        match caller.session.line(line) {
+        match caller.session.line(line, config, judge) {
             Ok(Did::Reply(text)) => Ok(Intake::reply(floor, caller.number, &text)),
             Ok(Did::Granted(text)) => Ok(Intake::grant(floor, caller.number, &text)),
             Ok(Did::Bye(text)) => Ok(part(floor, caller.number, &text)),
             Ok(Did::Taken) => Ok(Next::Continue),
-            Ok(Did::Message(message)) => self.accept(floor, spool, caller, message),
-            Err(_no_memory) => Ok(self.lack(floor, caller)),
+            Ok(Did::Message(message)) => self.accept(floor, spool, config, caller, message),
+            Err(JudgeFault::FilesFault) => Err(CoreStop::FilesFault),
+            Err(JudgeFault::NoMemory) => Ok(self.lack(floor, caller)),
         }
     }
 
     // Answers lines in turn, up to where the session or the run ends.
-    fn answer_all<F: Floor, D: Spool>(
+    fn answer_all<F: Floor, D: Spool, J: Judge>(
         &mut self,
         floor: &mut F,
         spool: &mut D,
+        config: &Config,
+        judge: &mut J,
         caller: &mut Caller,
         lines: &[Line],
     ) -> Result<Next, CoreStop>
         requires sound { IsSoundAt (F.seen floor.old) caller.old.number }
-        requires ready { IsReady self.old caller.old }
+        requires ready { IsReady self.old caller.old config.now }
         requires tallied { Tallies self.old.table (D.seen spool.old).told }
         ensures answers { (site : Site) (d : machine.Did) (clock : ClockSeen)
-            → d.way ≡ machine.GoesOn → Serves site self.old d.table → Talks site caller.old d.guest
+            → site.config ≡ config.now → d.way ≡ machine.GoesOn → Serves site self.old d.table → Talks site caller.old d.guest
             → OnlyLastAsks lines.now
             → StandsFirst (lines_heard d.guest ++ lines.now) (lines_of d.guest)
-            → AnswersLines site self.old.moment d lines.now
+            → AnswersLines (judge_seen (J.seen judge.old) (J.answers judge.old)) site self.old.moment d lines.now
             (seen (F.seen floor.old) (D.seen spool.old) clock)
             (seen (F.seen floor.new) (D.seen spool.new) clock)
             self.new caller.new result }
-        ensures ready { is_onward result ≡ true → IsReady self.new caller.new }
+        ensures ready { is_onward result ≡ true → IsReady self.new caller.new config.now }
+        ensures asked { IsAsked (judge_seen (J.seen judge.old) (J.answers judge.old))
+            (judge_seen (J.seen judge.new) (J.answers judge.new)) (is_judge_fault result) }
         ensures own { (F.seen floor.new).faults ≡ (F.seen floor.old).faults }
         ensures begun { (F.seen floor.new).begun ≡ (F.seen floor.old).begun }
         ensures calm { is_well result ≡ true
@@ -263,7 +290,7 @@ impl Intake {
     {
         let mut last = Next::Continue;
         for line in lines {
-            last = self.answer(floor, spool, caller, line)?;
+            last = self.answer(floor, spool, config, judge, caller, line)?;
             if !last.stays_open() {
                 return Ok(last);
             }
@@ -273,22 +300,26 @@ impl Intake {
 
     /// Takes a piece of a session's bytes, and answers the lines that it completes. Want of memory
     /// for the piece, or for what follows a line with the verb DATA, hangs up.
-    pub(crate) fn feed<F: Floor, D: Spool>(
+    pub(crate) fn feed<F: Floor, D: Spool, J: Judge>(
         &mut self,
         floor: &mut F,
         spool: &mut D,
+        config: &Config,
+        judge: &mut J,
         caller: &mut Caller,
         piece: &[u8],
     ) -> Result<Next, CoreStop>
         requires sound { IsSoundAt (F.seen floor.old) caller.old.number }
-        requires ready { IsReady self.old caller.old }
+        requires ready { IsReady self.old caller.old config.now }
         requires tallied { Tallies self.old.table (D.seen spool.old).told }
         ensures feeds { (site : Site) (table : Entries) (g : Guest) (clock : ClockSeen)
-            → Serves site self.old table → Keeps site caller.old g
-            → Feeds site self.old.moment table g piece.now
+            → site.config ≡ config.now → Serves site self.old table → Keeps site caller.old g
+            → Feeds (judge_seen (J.seen judge.old) (J.answers judge.old)) site self.old.moment table g piece.now
             (seen (F.seen floor.old) (D.seen spool.old) clock)
             (seen (F.seen floor.new) (D.seen spool.new) clock)
             self.new caller.new result }
+        ensures asked { IsAsked (judge_seen (J.seen judge.old) (J.answers judge.old))
+            (judge_seen (J.seen judge.new) (J.answers judge.new)) (is_judge_fault result) }
         ensures own { (F.seen floor.new).faults ≡ (F.seen floor.old).faults }
         ensures begun { (F.seen floor.new).begun ≡ (F.seen floor.old).begun }
         ensures calm { is_well result ≡ true
@@ -302,7 +333,7 @@ impl Intake {
         };
         let mut lines = given;
         'answers: while last_asks(lines.items()) {
-            let next = self.answer_all(floor, spool, caller, lines.items())?;
+            let next = self.answer_all(floor, spool, config, judge, caller, lines.items())?;
             if !next.stays_open() {
                 return Ok(next);
             }
@@ -312,7 +343,7 @@ impl Intake {
             };
             lines = more;
         }
-        self.answer_all(floor, spool, caller, lines.items())
+        self.answer_all(floor, spool, config, judge, caller, lines.items())
     }
 }
 

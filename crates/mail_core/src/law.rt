@@ -2,16 +2,19 @@ ghost use Rattle.std.specs.Prelude.{◌≡◌, ◌++◌, ◌∷◌, [], List, �
 ghost use Rattle.mail_core.specs.Sites.{Site};
 ghost use Rattle.spool_store.specs.Entries.{Table};
 ghost use Rattle.mail_core.specs.Guests.{Guest, guest_of};
+ghost use Rattle.mail_core.specs.Judges.{untold};
+ghost use Rattle.mail_core.specs.Meant.{IsRunMeant};
 ghost use Rattle.mail_core.specs.Machine.{Choice, Opening, State, Turn, all_answered, run};
 ghost use Rattle.mail_core.specs.Runs.{AreAcked};
 ghost use Rattle.mail_core.specs.Seen.{table_after};
 ghost use Rattle.mail_core.specs.Told.{Converses, IsInTurn, NeverOpens, Welcomes, brought_of, opening_of, replies_of, said_to};
 
 /// A final 250 is said only where its message is in the table: whatever the turns and the choices
-/// of a run are, each one names an entry of the table as it is then.
+/// of a run are, where these say what a judge may say and what the configuration does, each one
+/// names an entry of the table as it is then.
 pub fn acknowledged_messages_are_in_the_table()
     ensures { (site : Site) (m : State) (turns : List Turn)
-        → AreAcked m.table (run site m turns).effects }
+        → IsRunMeant untold site m turns → AreAcked m.table (run site m turns).effects }
 {}
 
 /// The table that a run comes to is the one that its commands make of the first.

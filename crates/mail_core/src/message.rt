@@ -1,63 +1,140 @@
-ghost use Rattle.std.specs.Prelude.{◌≡◌, ◌∷◌, [], IfOk};
-ghost use Rattle.mail_core.specs.Messages.{cuts_of, draw_of, message_of, no_marks, nowhere};
+ghost use Rattle.std.specs.Prelude.{◌≡◌, ◌∷◌, ℕ, IfOk, IfSome, OnOk, List};
+ghost use Rattle.mail_base.specs.Catalogs.{with_value};
+ghost use Rattle.mail_base.specs.Names.{id_text as shown_id};
+ghost use Rattle.mail_base.specs.Texts.{IsHeader};
+ghost use Rattle.mail_core.specs.Messages.{Dates, IsReceived, cuts_of, headed, receipt_macros, session_macros, unangled};
+ghost use Rattle.mail_core.specs.inner.Made.{IsMacros};
 
-use mail_base::{Cut, Draw, Marks, Message, NoMemory, Resolved, Seq, Text, Triple, TryCopy};
-use smtp_receive::Received;
+use cf_macros::{Form, date};
+use mail_base::{Config, Cut, Id, Kept, Kind, Macros, Message, NoMemory, Seq, Text, TryCopy};
+use mail_header::{date_of, received};
 use std::alloc::Global;
 
-/// A message that was received, and its parts. Its recipient is one primary row of the group
-/// mqueue.
-pub(crate) fn plain(alloc: Global, message: Received) -> Result<(Message, Seq<Cut>), NoMemory>
-    ensures message { IfOk result (λ parts. parts.0 ≡ message_of message) }
-    ensures cuts { IfOk result (λ parts. parts.1 ≡ cuts_of message) }
+/// The header `Received` that is put first on a message that is taken in at a moment under an id,
+/// if the configuration has one.
+pub(crate) fn received_header(
+    alloc: Global,
+    config: &Config,
+    moment: u64,
+    message: &Message,
+    id: Id,
+) -> Result<Option<Text>, NoMemory>
+    ensures is { IfOk result (IsReceived config.now moment message.now id) }
+    ensures header { IfOk result (λ first. IfSome first IsHeader) }
 {
-    let rows = rows_of(alloc, &message)?;
-    let cuts = cuts_of(alloc, &message)?;
-    let message = Message {
-        sender: message.sender,
-        rows,
-        headers: message.headers,
-        body: message.body,
-        size: message.size,
-        class: 0,
-        eight: false,
-        marks: Marks {
-            bounce: false,
-            double: false,
-            warned: false,
-        },
-        kept: message.kept,
-    };
-    Ok((message, cuts))
+    let macros = message_macros(alloc, config, moment, message, id)?;
+    received(config, &macros)
 }
 
-// The one part of a message.
-fn cuts_of(alloc: Global, message: &Received) -> Result<Seq<Cut>, NoMemory>
+// The macros of a message on receipt: those of its session, its dates and its id.
+fn message_macros(
+    alloc: Global,
+    config: &Config,
+    moment: u64,
+    message: &Message,
+    id: Id,
+) -> Result<Macros, NoMemory>
+    ensures { IfOk result (IsMacros config.now moment message.now id) }
+{
+    let told = date_of(&message.headers, moment)?;
+    let mail = date(alloc, moment, Form::Mail)?;
+    let unix = date(alloc, moment, Form::Unix)?;
+    let short = date(alloc, moment, Form::Short)?;
+    let id = id_text(alloc, id)?;
+    let mut macros = session_macros(alloc, config, &message.kept, &message.sender)?;
+    set(&mut macros, b"a", &told)?;
+    set(&mut macros, b"b", &mail)?;
+    set(&mut macros, b"d", &unix)?;
+    set(&mut macros, b"t", &short)?;
+    set(&mut macros, b"i", &id)?;
+    Ok(macros)
+}
+
+/// The macros of a session: the configuration's, what is kept of it, and f, which is the sender
+/// without its angles.
+pub(crate) fn session_macros(
+    alloc: Global,
+    config: &Config,
+    kept: &Kept,
+    sender: &Text,
+) -> Result<Macros, NoMemory>
+    ensures { IfOk result (λ macros. macros ≡ session_macros config.now kept.now sender.now) }
+{
+    let sender = Text::of(alloc, unangled(sender.bytes()))?;
+    let mut macros = config.macros.copy()?;
+    set(&mut macros, b"r", &kept.protocol)?;
+    set(&mut macros, b"s", &kept.helo)?;
+    set(&mut macros, b"client_addr", &kept.client)?;
+    set(&mut macros, b"f", &sender)?;
+    Ok(macros)
+}
+
+// Sets a macro.
+fn set(macros: &mut Macros, name: &[u8], value: &Text) -> Result<(), NoMemory>
+    ensures { OnOk result (macros.new ≡ with_value name.now value.now macros.old) }
+{
+    let name = Text::of(macros.values().allocator(), name)?;
+    macros.set(&name, value)
+}
+
+// An id as replies show it.
+#[tactic(auto, using(smtp_receive::proofs::ReplyLemmas::name_long))]
+fn id_text(alloc: Global, id: Id) -> Result<Text, NoMemory>
+    ensures { IfOk result (λ text. text ≡ shown_id id) }
+{
+    let name = id.name(Kind::Qf);
+    let (_kind, text) = name.bytes().split_at(2);
+    Text::of(alloc, text)
+}
+
+// A path without the angles around it.
+fn unangled(path: &[u8]) -> &[u8]
+    ensures { result.now ≡ unangled path.now }
+{
+    match path {
+        [_, inner @ .., _] => inner,
+        _ => &[],
+    }
+}
+
+/// A message with one header more in front, if there is one.
+pub(crate) fn headed(first: Option<Text>, message: Message) -> Result<Message, NoMemory>
+    ensures { IfOk result (λ all. all ≡ headed first message) }
+{
+    let Some(first) = first else {
+        return Ok(message);
+    };
+    let headers = with_first(first, message.headers)?;
+    Ok(Message {
+        sender: message.sender,
+        rows: message.rows,
+        headers,
+        body: message.body,
+        size: message.size,
+        class: message.class,
+        eight: message.eight,
+        marks: message.marks,
+        kept: message.kept,
+    })
+}
+
+fn with_first(first: Text, headers: Seq<Text>) -> Result<Seq<Text>, NoMemory>
+    ensures { IfOk result (λ all. all ≡ first ∷ headers) }
+{
+    let mut items = headers.into_vec();
+    items.insert(0, first)?;
+    Ok(Seq::from_vec(items))
+}
+
+/// The one part of a message, in the group mqueue.
+pub(crate) fn cuts_of(alloc: Global, message: &Message) -> Result<Seq<Cut>, NoMemory>
     ensures { IfOk result (λ cuts. cuts ≡ cuts_of message.now) }
 {
     let mut cuts = Seq::new(alloc);
     cuts.push(Cut {
         sender: message.sender.copy()?,
         group: Text::of(alloc, b"mqueue")?,
-        rows: rows_of(alloc, message)?,
+        rows: message.rows.copy()?,
     })?;
     Ok(cuts)
-}
-
-// The row of its recipient, which isn't routed.
-fn rows_of(alloc: Global, message: &Received) -> Result<Seq<Draw>, NoMemory>
-    ensures { IfOk result (λ rows. rows ≡ draw_of message.now ∷ []) }
-{
-    let mut rows = Seq::new(alloc);
-    rows.push(Draw {
-        address: message.recipient.copy()?,
-        sender: message.sender.copy()?,
-        primary: true,
-        resolved: Resolved::Goes(Triple {
-            mailer: Text::new(alloc),
-            host: Text::new(alloc),
-            user: Text::new(alloc),
-        }),
-    })?;
-    Ok(rows)
 }

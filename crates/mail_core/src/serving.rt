@@ -1,5 +1,6 @@
 ghost use Rattle.std.specs.Prelude.{◌≡◌, ◌≢◌, ◌∷◌, [], Bool, true, IfOk, IfSome, All, Option};
 ghost use Rattle.mail_base.specs.Histories.{Gains};
+ghost use Rattle.mail_base.specs.declared.config.Config.{Config as Configuration};
 ghost use Rattle.mail_edge.specs.Seen.{ClockSeen};
 ghost use Rattle.link_edge.specs.Heard.{Heard, IsSoundAt};
 ghost use Rattle.link_edge.specs.Turns.{Fits};
@@ -9,7 +10,8 @@ ghost use Rattle.spool_disk.specs.Disk.{FileMap};
 ghost use Rattle.mail_core.specs.Effects.{Sends, HangsUp, heard_of};
 ghost use Rattle.mail_core.specs.Events.{IsTaken, IsHeardAt, Turns, event_of};
 ghost use Rattle.mail_core.specs.inner.Handling.{IsTakenUp, IsOpened, Steps, IsReady, is_hosted};
-ghost use Rattle.mail_core.specs.Causes.{is_well};
+ghost use Rattle.mail_core.specs.Causes.{is_judge_fault, is_well};
+ghost use Rattle.mail_core.specs.Judges.{IsAsked, judge_seen};
 ghost use Rattle.mail_core.specs.Guests.{newcomer};
 ghost use Rattle.mail_core.specs.declared.serving.CoreStop.TheVariants.{SpoolFault as SpoolStop};
 ghost use Rattle.mail_core.specs.Machine.{State, beginning};
@@ -23,10 +25,10 @@ use crate::caller::Caller;
 use crate::intake::{Intake, part};
 use crate::speech::say;
 use link_edge::{Floor, Turn};
-use mail_base::{NoMemory, Text};
+use mail_base::{Config, NoMemory, Text};
 use queue_table::Table;
 use smtp_lines::Lines;
-use smtp_receive::{Session, out_of_memory, too_many_sessions};
+use smtp_receive::{Judge, Session, too_many_sessions};
 use spool_disk::Spool;
 use spool_store::SpoolFault;
 use std::alloc::Global;
@@ -38,6 +40,8 @@ pub enum CoreStop {
     SpoolFault,
     /// A message needs an id above 999,999,999,999.
     IdsSpent,
+    /// Files failed that the judge reads.
+    FilesFault,
 }
 
 impl From<SpoolFault> for CoreStop {
@@ -107,25 +111,29 @@ impl Core {
     /// Want of memory is answered by 452 4.3.1, or ends the session. After `Ended` and an error
     /// nothing more is done. A fault of the spool ends the run with it: its count stays with every
     /// other answer, and the floor's own with each.
-    pub fn turn<F: Floor, D: Spool>(
+    pub fn turn<F: Floor, D: Spool, J: Judge>(
         &mut self,
         floor: &mut F,
         spool: &mut D,
+        config: &Config,
+        judge: &mut J,
         reading: u64,
         turn: Turn,
         buf: &[u8],
     ) -> Result<Act, CoreStop>
         requires fits { Fits turn buf.now }
         requires sound { IsHeardAt (F.seen floor.old) turn }
-        requires standing { IsStanding self.old }
+        requires standing { IsStanding self.old config.now }
         requires tallied { IsTallied self.old (D.seen spool.old).told }
         ensures turns { (site : Site) (m : State) (before : Heard) (clock read : ClockSeen)
-            → Stands site self.old m
+            → site.config ≡ config.now → Stands site self.old m
             → IsTaken before (F.seen floor.old) clock read (event_of turn buf.now) reading
-            → Turns site m (event_of turn buf.now) reading
+            → Turns (judge_seen (J.seen judge.old) (J.answers judge.old)) site m (event_of turn buf.now) reading
             (seen before (D.seen spool.old) clock)
             (seen (F.seen floor.new) (D.seen spool.new) read)
             self.new result }
+        ensures asked { IsAsked (judge_seen (J.seen judge.old) (J.answers judge.old))
+            (judge_seen (J.seen judge.new) (J.answers judge.new)) (is_judge_fault result) }
         ensures own { (F.seen floor.new).faults ≡ (F.seen floor.old).faults }
         ensures begun { (F.seen floor.new).begun ≡ (F.seen floor.old).begun }
         ensures calm { is_well result ≡ true
@@ -134,26 +142,31 @@ impl Core {
             → IsTallied self.new (D.seen spool.new).told }
     {
         self.intake.at(reading);
-        self.handle(floor, spool, turn, buf)
+        self.handle(floor, spool, config, judge, turn, buf)
     }
 
     // What a turn asks for.
-    fn handle<F: Floor, D: Spool>(
+    fn handle<F: Floor, D: Spool, J: Judge>(
         &mut self,
         floor: &mut F,
         spool: &mut D,
+        config: &Config,
+        judge: &mut J,
         turn: Turn,
         buf: &[u8],
     ) -> Result<Act, CoreStop>
         requires fits { Fits turn buf.now }
         requires sound { IsHeardAt (F.seen floor.old) turn }
-        requires standing { IsStanding self.old }
+        requires standing { IsStanding self.old config.now }
         requires tallied { IsTallied self.old (D.seen spool.old).told }
-        ensures steps { (site : Site) (m : State) (clock : ClockSeen) → Stands site self.old m
-            → Steps site m (event_of turn buf.now)
+        ensures steps { (site : Site) (m : State) (clock : ClockSeen) → site.config ≡ config.now
+            → Stands site self.old m
+            → Steps (judge_seen (J.seen judge.old) (J.answers judge.old)) site m (event_of turn buf.now)
             (seen (F.seen floor.old) (D.seen spool.old) clock)
             (seen (F.seen floor.new) (D.seen spool.new) clock)
             self.new result }
+        ensures asked { IsAsked (judge_seen (J.seen judge.old) (J.answers judge.old))
+            (judge_seen (J.seen judge.new) (J.answers judge.new)) (is_judge_fault result) }
         ensures own { (F.seen floor.new).faults ≡ (F.seen floor.old).faults }
         ensures begun { (F.seen floor.new).begun ≡ (F.seen floor.old).begun }
         ensures calm { is_well result ≡ true
@@ -166,7 +179,7 @@ impl Core {
                 self.open(floor, session, &buf[..count]);
                 Ok(Act::Went)
             }
-            Turn::Piece(session, count) => self.piece(floor, spool, session, &buf[..count]),
+            Turn::Piece(session, count) => self.piece(floor, spool, config, judge, session, &buf[..count]),
             Turn::Closed(session) => {
                 let _caller = self.take(session);
                 Ok(Act::Went)
@@ -220,7 +233,7 @@ impl Core {
         requires line { All (λ b. b ≢ 10) peer.now }
         ensures keeps { IfOk result
             (λ pair. (site : Site) → self.now.host ≡ site.host
-            → Keeps site pair.0 (newcomer session peer.now)) }
+            → Keeps site pair.0 (newcomer site.config session peer.now)) }
         ensures greeting { IfOk result (λ pair. pair.1 ≡ greeting_text (shown_host self.now.host)) }
     {
         let peer = Text::of(self.alloc, peer)?;
@@ -237,8 +250,8 @@ impl Core {
     fn take(&mut self, session: u64) -> Option<Caller>
         ensures taken { (site : Site) (m : State) → Stands site self.old m
             → IsTakenUp site m session result self.new }
-        ensures ready { IsStanding self.old
-            → IfSome result (λ caller. IsReady self.new.intake caller) }
+        ensures ready { (config : Configuration) → IsStanding self.old config
+            → IfSome result (λ caller. IsReady self.new.intake caller config) }
         ensures number { IfSome result (λ caller. caller.number ≡ session) }
         ensures intake { self.new.intake ≡ self.old.intake }
     {
@@ -259,21 +272,26 @@ impl Core {
     }
 
     // Takes a piece of a session's bytes; one of a session that isn't open is dropped.
-    fn piece<F: Floor, D: Spool>(
+    fn piece<F: Floor, D: Spool, J: Judge>(
         &mut self,
         floor: &mut F,
         spool: &mut D,
+        config: &Config,
+        judge: &mut J,
         session: u64,
         piece: &[u8],
     ) -> Result<Act, CoreStop>
         requires sound { IsSoundAt (F.seen floor.old) session }
-        requires standing { IsStanding self.old }
+        requires standing { IsStanding self.old config.now }
         requires tallied { IsTallied self.old (D.seen spool.old).told }
-        ensures steps { (site : Site) (m : State) (clock : ClockSeen) → Stands site self.old m
-            → Steps site m (Brings session piece.now)
+        ensures steps { (site : Site) (m : State) (clock : ClockSeen) → site.config ≡ config.now
+            → Stands site self.old m
+            → Steps (judge_seen (J.seen judge.old) (J.answers judge.old)) site m (Brings session piece.now)
             (seen (F.seen floor.old) (D.seen spool.old) clock)
             (seen (F.seen floor.new) (D.seen spool.new) clock)
             self.new result }
+        ensures asked { IsAsked (judge_seen (J.seen judge.old) (J.answers judge.old))
+            (judge_seen (J.seen judge.new) (J.answers judge.new)) (is_judge_fault result) }
         ensures own { (F.seen floor.new).faults ≡ (F.seen floor.old).faults }
         ensures begun { (F.seen floor.new).begun ≡ (F.seen floor.old).begun }
         ensures calm { is_well result ≡ true
@@ -284,7 +302,7 @@ impl Core {
         let Some(mut caller) = self.take(session) else {
             return Ok(Act::Went);
         };
-        let next = self.intake.feed(floor, spool, &mut caller, piece)?;
+        let next = self.intake.feed(floor, spool, config, judge, &mut caller, piece)?;
         if next.stays_open() {
             self.caller = Some(caller);
             return Ok(Act::Went);

@@ -1,11 +1,13 @@
 -- What the code does for lines and pieces, as some choices of the machine: the contracts of its
 -- steps. It need not be believed: only private contracts cite it.
 use Rattle.std.specs.Prelude.{Result, Ok, Err, is_ok, ◌≡◌, ℕ, List, [], ◌∷◌, ◌++◌, fold, Bool, true, false, not, Option, Some, None, ◌≢◌, if◌then◌else◌}
+use Rattle.mail_base.specs.declared.config.Config.{Config}
 use Rattle.link_edge.specs.declared.event.Event.{Event}
 use Rattle.smtp_lines.specs.declared.line.Line.{Line}
 use Rattle.smtp_lines.specs.declared.line.Line.TheVariants.{DataEnd}
-use Rattle.smtp_receive.specs.declared.received.Received.{Received}
+use Rattle.mail_base.specs.declared.message.Message.{Message}
 use Rattle.smtp_receive.specs.Dialogue.{Heard, Gives}
+use Rattle.smtp_receive.specs.Judging.{Said, Unasked}
 use Rattle.smtp_receive.specs.Replies.{out_of_memory_text}
 use Rattle.smtp_receive.specs.Sessions.{Stands as Speaks}
 use Rattle.smtp_lines.specs.Reader.{asked_after}
@@ -18,9 +20,11 @@ use Rattle.mail_core.specs.declared.intake.Intake.{Intake}
 use Rattle.mail_core.specs.Effects.{Effect}
 use Rattle.mail_core.specs.Guests.{Guest, grants_of, has_bytes_left, with_bytes, lines_heard}
 use Rattle.mail_core.specs.Sites.{Site}
-use Rattle.mail_core.specs.Messages.{is_spent}
+use Rattle.mail_core.specs.Judges.{JudgeSeen}
+use Rattle.mail_core.specs.Meant.{AreMeant, IsMeant}
+use Rattle.mail_core.specs.Messages.{IsTaken, headed, is_spent}
 use Rattle.mail_core.specs.Causes.{HasCause, ending_by, is_well}
-use Rattle.mail_core.specs.Machine.{Ending, Choice, Normal, OutOfMemory, Disconnects, SpoolFails, Way, GoesOn, Leaves, Over, By, Cut, Did, is_over, says, accepts, fails, by_choice, heard_line, heard_where, answered, all_answered}
+use Rattle.mail_core.specs.Machine.{Ending, Choice, Normal, OutOfMemory, Disconnects, SpoolFails, JudgeFails, Way, GoesOn, Leaves, Over, By, Cut, Did, is_over, says, accepts, fails, fresh_start, by_choice, heard_line, heard_where, answered, all_answered}
 use Rattle.mail_core.specs.Seen.{Seen, Ran, table_after}
 use Rattle.mail_core.specs.Standing.{Serves, Talks, Keeps}
 
@@ -68,6 +72,7 @@ pub record Stays (site : Site) (d e : Did) (intake : Intake) (caller : Caller) :
   pub serves : Serves site intake e.table
   pub talks : Talks site caller e.guest
   pub peer : e.guest.peer ≡ d.guest.peer
+  pub config : e.guest.config ≡ d.guest.config
   pub received : e.guest.received ≡ d.guest.received
 
 -- the grant that was given, if one was asked for
@@ -83,9 +88,10 @@ pub record Hears (site : Site) (d e : Did) (lines : List Line) (intake : Intake)
   pub may_disconnect : asked_after false lines ≡ true → e.may_disconnect ≡ has_bytes_left e.guest
 
 -- by a choice, a line was answered
-pub record AnswersLine (site : Site) (moment : ℕ) (d : Did) (line : Line) (a b : Seen)
+pub record AnswersLine (j : JudgeSeen) (site : Site) (moment : ℕ) (d : Did) (line : Line) (a b : Seen)
     (intake : Intake) (caller : Caller) (fed : Result Next CoreStop) : Type 0 where
   pub choice : Choice
+  pub meant : IsMeant j site moment d choice (Some line)
   pub does : Does site d (by_choice site moment d choice (Some line)) a b fed
   pub alive : is_ok fed ≡ true
       → Serves site intake (by_choice site moment d choice (Some line)).table
@@ -93,39 +99,66 @@ pub record AnswersLine (site : Site) (moment : ℕ) (d : Did) (line : Line) (a b
       → Hears site d (by_choice site moment d choice (Some line)) (line ∷ []) intake caller fed
 
 -- what a message comes to by a choice
-abbrev pub message_by : Site → ℕ → Did → Received → Choice → Did
-message_by site moment d message (Normal whole) = accepts site moment d message whole
+abbrev pub message_by : Site → ℕ → Did → Message → Choice → Did
+message_by site moment d message (Normal said first whole) =
+    accepts site moment d (headed first message) whole
 message_by site moment d message (OutOfMemory whole) = says d out_of_memory_text whole
 message_by site moment d message Disconnects = is_over d Cut
-message_by site moment d message SpoolFails = fails site moment d (Gives message)
+message_by site moment d message (SpoolFails first) = fails site moment d (Gives message) first
+message_by site moment d message JudgeFails = is_over d Cut
+
+-- at a message nothing is put to the judge, and its header is that of the configuration
+abbrev pub IsMessageMeant : Site → ℕ → Did → Message → Choice → Type 0
+IsMessageMeant site moment d message (Normal said first whole) =
+    (said ≡ Unasked)
+    × (is_spent d.table ≡ false → IsTaken site.config moment message d.table.next first)
+IsMessageMeant site moment d message (OutOfMemory whole) = Unit {0}
+IsMessageMeant site moment d message Disconnects = Unit {0}
+IsMessageMeant site moment d message JudgeFails = ⊥
+IsMessageMeant site moment d message (SpoolFails first) =
+    is_spent d.table ≡ false → IsTaken site.config moment message d.table.next first
+
+-- what the judge said
+abbrev pub said_in : Choice → Said
+said_in (Normal said first whole) = said
+said_in (OutOfMemory whole) = Unasked
+said_in Disconnects = Unasked
+said_in (SpoolFails first) = Unasked
+said_in JudgeFails = Unasked
 
 -- whether 452 4.3.1 was said
 abbrev pub is_short : Choice → Bool
-is_short (Normal whole) = false
+is_short (Normal said first whole) = false
 is_short (OutOfMemory whole) = true
 is_short Disconnects = false
-is_short SpoolFails = false
+is_short (SpoolFails first) = false
+is_short JudgeFails = false
 
 -- the line of a message is among those that were answered, but where the run ended at it
 abbrev pub heard_chosen : Table → Choice → Did → Line → Did
-heard_chosen table (Normal whole) d line =
-    heard_where (not (is_spent table)) d line false (Some table.next)
-heard_chosen table (OutOfMemory whole) d line = heard_line d line true None
+heard_chosen table (Normal said first whole) d line =
+    heard_where (not (is_spent table)) d line said false (Some table.next)
+heard_chosen table (OutOfMemory whole) d line = heard_line d line Unasked true None
 heard_chosen table Disconnects d line = d
-heard_chosen table SpoolFails d line = d
+heard_chosen table (SpoolFails first) d line = d
+heard_chosen table JudgeFails d line = d
 
 -- the id that a message got
 abbrev pub id_chosen : Table → Choice → Option ℕ
-id_chosen table (Normal whole) = Some table.next
+id_chosen table (Normal said first whole) = Some table.next
 id_chosen table (OutOfMemory whole) = None
 id_chosen table Disconnects = None
-id_chosen table SpoolFails = None
+id_chosen table (SpoolFails first) = None
+id_chosen table JudgeFails = None
 
 -- the session of a caller was reset after the end of data
 abbrev pub IsReset : Caller → Caller → Type 0
-IsReset old new = (host peer : List ℕ) (heard : List Heard) (a b : Bool) (i j : Option ℕ)
-    → Speaks old.session host peer (heard ++ record { line = DataEnd; short = a; id = i } ∷ [])
-    → Speaks new.session host peer (heard ++ record { line = DataEnd; short = b; id = j } ∷ [])
+IsReset old new = (config : Config) (host peer : List ℕ) (heard : List Heard) (said says : Said)
+    (a b : Bool) (i j : Option ℕ)
+    → Speaks old.session config host peer
+    (heard ++ record { line = DataEnd; said = said; short = a; id = i } ∷ [])
+    → Speaks new.session config host peer
+    (heard ++ record { line = DataEnd; said = says; short = b; id = j } ∷ [])
 
 -- the session is as before, or was reset after 452 4.3.1
 abbrev pub IsAnswered : Bool → Caller → Caller → Type 0
@@ -133,10 +166,11 @@ IsAnswered false old new = new ≡ old
 IsAnswered true old new = IsReset old new
 
 -- by a choice, a message was taken in or not
-pub record AnswersMessage (site : Site) (moment : ℕ) (d : Did) (message : Received) (a b : Seen)
+pub record AnswersMessage (site : Site) (moment : ℕ) (d : Did) (message : Message) (a b : Seen)
     (intake : Intake) (old new : Caller) (fed : Result Next CoreStop) : Type 0 where
   pub choice : Choice
   pub answers : choice ≢ Disconnects
+  pub meant : IsMessageMeant site moment d message choice
   pub does : Does site d (message_by site moment d message choice) a b fed
   pub guest : (message_by site moment d message choice).guest ≡ d.guest
   pub serves : is_ok fed ≡ true → Serves site intake (message_by site moment d message choice).table
@@ -149,18 +183,20 @@ reached site moment d choices = fold (answered site moment) d choices
 
 -- by some choices, these lines were answered, or the first of them up to where the session or the
 -- run ended
-pub record AnswersLines (site : Site) (moment : ℕ) (d : Did) (lines : List Line) (a b : Seen)
+pub record AnswersLines (j : JudgeSeen) (site : Site) (moment : ℕ) (d : Did) (lines : List Line) (a b : Seen)
     (intake : Intake) (caller : Caller) (fed : Result Next CoreStop) : Type 0 where
   pub choices : List Choice
+  pub meant : AreMeant j site moment d choices
   pub does : Does site d (reached site moment d choices) a b fed
   pub alive : is_ok fed ≡ true → Serves site intake (reached site moment d choices).table
   pub hears : is_onward fed ≡ true
       → Hears site d (reached site moment d choices) lines intake caller fed
 
 -- by some choices, this is what came of a piece
-pub record Feeds (site : Site) (moment : ℕ) (table : Table) (g : Guest) (bytes : List ℕ)
+pub record Feeds (j : JudgeSeen) (site : Site) (moment : ℕ) (table : Table) (g : Guest) (bytes : List ℕ)
     (a b : Seen) (intake : Intake) (caller : Caller) (fed : Result Next CoreStop) : Type 0 where
   pub choices : List Choice
+  pub meant : AreMeant j site moment (fresh_start table (with_bytes g bytes)) choices
   pub ran : Ran site.dirs table a b
       (all_answered site moment table (with_bytes g bytes) choices).effects (is_well fed)
   pub way : (all_answered site moment table (with_bytes g bytes) choices).way ≡ way_after fed

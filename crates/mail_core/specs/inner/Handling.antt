@@ -11,8 +11,11 @@ use Rattle.link_edge.specs.declared.event.Event.{Event}
 use Rattle.mail_core.specs.declared.serving.Act.{Act}
 use Rattle.mail_core.specs.declared.serving.CoreStop.{CoreStop}
 use Rattle.mail_core.specs.Causes.{EndsSo, ending_of, is_well}
+use Rattle.mail_core.specs.Judges.{JudgeSeen}
+use Rattle.mail_core.specs.Meant.{IsEventMeant}
 use Rattle.mail_core.specs.Seen.{Seen, Ran}
 use Rattle.mail_base.specs.Histories.{Gains}
+use Rattle.mail_base.specs.declared.config.Config.{Config}
 use Rattle.link_edge.specs.Heard.{Heard}
 use Rattle.mail_core.specs.Effects.{heard_of}
 use Rattle.spool_store.specs.Entries.{Table}
@@ -29,9 +32,10 @@ pub record IsTakenOut (site : Site) (m : State) (session : ℕ) (caller : Caller
 
 -- by some choices, what the machine does at an event, beside the turn itself, is what happened from
 -- a to b; the core stands for its state where the run goes on, and else it ended the run so
-pub record Steps (site : Site) (m : State) (event : Event) (a b : Seen) (core : Core)
+pub record Steps (j : JudgeSeen) (site : Site) (m : State) (event : Event) (a b : Seen) (core : Core)
     (went : Result Act CoreStop) : Type 0 where
   pub choices : Choices event
+  pub meant : IsEventMeant j site m event choices
   pub ran : Ran site.dirs m.table a b (handled site m event choices).effects (is_well went)
   pub stands : ending_of went ≡ None → Stands site core (handled site m event choices).state
   pub ended : (ending : Ending) → ending_of went ≡ Some ending
@@ -49,9 +53,10 @@ abbrev pub IsTakenUp : Site → State → ℕ → Option Caller → Core → Typ
 IsTakenUp site m session None core = (guest_of session m.guests ≡ None) × Stands site core m
 IsTakenUp site m session (Some caller) core = IsTakenOut site m session caller core
 
--- an intake that takes messages in, and a caller whose session it answers
-pub record IsReady (intake : Intake) (caller : Caller) : Type 0 where
+-- an intake that takes messages in, and a caller whose session it answers under a configuration
+pub record IsReady (intake : Intake) (caller : Caller) (config : Config) : Type 0 where
   pub site : Site
+  pub under : site.config ≡ config
   pub table : Table
   pub guest : Guest
   pub serves : Serves site intake table

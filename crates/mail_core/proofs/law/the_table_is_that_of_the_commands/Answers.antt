@@ -1,5 +1,6 @@
+use Rattle.mail_core.specs.Judges.{untold}
 use Rattle.mail_core.proofs.MachineLemmas.{run_leads}
 use Rattle.mail_core.proofs.law.the_table_is_that_of_the_commands.Goals as goal
 
 pub returns : goal.returns
-returns c = λ site m turns. let leads = run_leads site m turns in leads.table
+returns c = λ site m turns. let leads = run_leads untold site m turns in leads.table

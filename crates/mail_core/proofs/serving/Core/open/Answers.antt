@@ -18,7 +18,7 @@ returns-then-say-clause-opens g c = λ site m st.
       host = st.host;
       full = st.full;
       latest = st.latest;
-      callers = record { guest = newcomer c.args.session c.args.peer.now; alone = ap (λ q. q ++ newcomer c.args.session c.args.peer.now ∷ []) none; keeps = c.in-Ok.ensures.keeps site st.host };
+      callers = record { guest = newcomer site.config c.args.session c.args.peer.now; alone = ap (λ q. q ++ newcomer site.config c.args.session c.args.peer.now ∷ []) none; keeps = c.in-Ok.ensures.keeps site st.host };
       on = st.on;
     })
 

@@ -8,16 +8,17 @@ use Rattle.mail_core.proofs.serving.Core.turn.Goals as goal
 pub handle-requires-clause-standing : goal.handle-requires-clause-standing
 handle-requires-clause-standing g c =
     let r = c.requires.standing in
-    record { site = r.site; state = at_moment r.state c.args.reading; stands = at_stands r.site r.state c.args.self.now c.at.new.self c.args.reading r.stands c.at.ensures.moment c.at.ensures.range }
+    record { site = r.site; under = r.under; state = at_moment r.state c.args.reading; stands = at_stands r.site r.state c.args.self.now c.at.new.self c.args.reading r.stands c.at.ensures.moment c.at.ensures.range }
 
 pub handle-requires-clause-tallied : goal.handle-requires-clause-tallied
 handle-requires-clause-tallied g c = subst (λ (i : Intake). Tallies i.table (g.D.Spool.seen c.args.spool.now).told) (sym c.at.ensures.moment) c.requires.tallied
 
 pub returns : goal.returns
 returns g c = record {
-  turns = λ site m before clock read st taken.
-      turns_of site m _ c.args.reading before _ _ clock read _ _ _ st.on taken
-      (c.handle.ensures.steps site (at_moment m c.args.reading) read (at_stands site m c.args.self.now c.at.new.self c.args.reading st c.at.ensures.moment c.at.ensures.range));
+  turns = λ site m before clock read under st taken.
+      turns_of _ site m _ c.args.reading before _ _ clock read _ _ _ st.on taken
+      (c.handle.ensures.steps site (at_moment m c.args.reading) read under (at_stands site m c.args.self.now c.at.new.self c.args.reading st c.at.ensures.moment c.at.ensures.range));
+  asked = c.handle.ensures.asked;
   own = c.handle.ensures.own;
   begun = c.handle.ensures.begun;
   calm = c.handle.ensures.calm;
