@@ -28,6 +28,7 @@ use Rattle.queue_table.specs.declared.table.Table.{Table as Kept}
 use Rattle.queue_table.specs.declared.terms.Terms.{Terms}
 use Rattle.queue_table.proofs.DirLemmas.{each_is_there}
 use Rattle.mail_core.specs.declared.serving.Core.{Core}
+use Rattle.mail_core.specs.Judges.{JudgeSeen}
 use Rattle.mail_core.specs.Sites.{Site}
 use Rattle.mail_core.specs.Machine.{beginning}
 use Rattle.mail_core.specs.Messages.{start}
@@ -85,14 +86,14 @@ pub untouched : (site : Site) (s : Spooled) (floor : Heard) (clock : ClockSeen) 
 untouched site s floor clock = unserved site s s floor clock (taken_none site.dirs s) (le_refl s.faults)
 
 -- a fault of the opening ends session mode so
-pub serves_unopened : (site : Site) (s t : Spooled) (floor : Heard) (clock : ClockSeen) (fault : StoreFault) (end : SessionEnd) → (fault ≡ faults.SpoolFault → end ≡ ends.NotOpened) → (fault ≢ faults.SpoolFault → end ≡ ends.NoMemory)
-    → IsTakenOver site.dirs s t → s.faults ≤ t.faults → (IsErrOf {T = Queue} (Err fault) faults.SpoolFault → Rose s.faults t.faults) → Serves site (seen floor s clock) (seen floor t clock) end
-serves_unopened site s t floor clock faults.SpoolFault end broke memory taken later rose =
-    subst (Serves site (seen floor s clock) (seen floor t clock)) (sym (broke refl)) (unserved site s t floor clock taken later, rose refl)
-serves_unopened site s t floor clock faults.IdsSpent end broke memory taken later rose =
-    subst (Serves site (seen floor s clock) (seen floor t clock)) (sym (memory (λ e. cc e))) (unserved site s t floor clock taken later)
-serves_unopened site s t floor clock faults.NoMemory end broke memory taken later rose =
-    subst (Serves site (seen floor s clock) (seen floor t clock)) (sym (memory (λ e. cc e))) (unserved site s t floor clock taken later)
+pub serves_unopened : (j : JudgeSeen) (site : Site) (s t : Spooled) (floor : Heard) (clock : ClockSeen) (fault : StoreFault) (end : SessionEnd) → (fault ≡ faults.SpoolFault → end ≡ ends.NotOpened) → (fault ≢ faults.SpoolFault → end ≡ ends.NoMemory)
+    → IsTakenOver site.dirs s t → s.faults ≤ t.faults → (IsErrOf {T = Queue} (Err fault) faults.SpoolFault → Rose s.faults t.faults) → Serves j site (seen floor s clock) (seen floor t clock) end
+serves_unopened j site s t floor clock faults.SpoolFault end broke memory taken later rose =
+    subst (Serves j site (seen floor s clock) (seen floor t clock)) (sym (broke refl)) (unserved site s t floor clock taken later, rose refl)
+serves_unopened j site s t floor clock faults.IdsSpent end broke memory taken later rose =
+    subst (Serves j site (seen floor s clock) (seen floor t clock)) (sym (memory (λ e. cc e))) (unserved site s t floor clock taken later)
+serves_unopened j site s t floor clock faults.NoMemory end broke memory taken later rose =
+    subst (Serves j site (seen floor s clock) (seen floor t clock)) (sym (memory (λ e. cc e))) (unserved site s t floor clock taken later)
 
 -- and only a fault of the spool raises the count of its faults
 pub rises_by : (before after : ℕ) (fault : StoreFault) (end : SessionEnd) → (fault ≡ faults.SpoolFault → end ≡ ends.NotOpened) → IsErrOf {T = Queue} (Err fault) faults.SpoolFault ⊎ (after ≡ before) → RisesOnlyAt outcomes.SpoolFault (of_session end) before after

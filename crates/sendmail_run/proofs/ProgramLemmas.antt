@@ -8,6 +8,9 @@ use Rattle.mail_base.specs.Histories.{Rose}
 use Rattle.mail_core.specs.declared.serving.CoreStop.{CoreStop}
 use Rattle.mail_core.specs.declared.serving.CoreStop.TheVariants as stops
 use Rattle.mail_core.specs.Machine.{SpoolFault}
+use Rattle.mail_core.specs.Causes.{is_judge_fault}
+use Rattle.mail_core.specs.declared.serving.Act.{Act}
+use Rattle.mail_core.specs.Judges.{JudgeSeen}
 use Rattle.mail_core.specs.Sites.{Site}
 use Rattle.mail_core.specs.Seen.{seen as core_seen}
 use Rattle.mail_edge.specs.Moves.{Loses}
@@ -42,7 +45,7 @@ use Rattle.sendmail_run.specs.Outcomes.{of_config, of_maps, of_session, of_test,
 use Rattle.sendmail_run.specs.Printing.{Basis, basis}
 use Rattle.sendmail_run.specs.Rises.{Counts, RisesOnlyAt}
 use Rattle.sendmail_run.specs.Runs.{Completes, Ends, EndsAtFile, EndsAtMaps, EndsAtWords, EndsAtWork, Finds, IsReady, IsShort, IsSound, IsUntouched, IsWhole, NoneFailed, Stays, Works}
-use Rattle.sendmail_run.specs.Serving.{IsServedOut, Serves, session_site}
+use Rattle.sendmail_run.specs.Serving.{IsServedOut, Serves, judge_by, session_site}
 use Rattle.sendmail_run.specs.Testing.{IsLarge, Tests}
 use Rattle.sendmail_run.proofs.CommandLemmas.{one_mode, not_both}
 use Rattle.sendmail_run.proofs.ServingLemmas.{left_alone, serves_later}
@@ -104,7 +107,7 @@ ends_tested words f0 f1 f2 i0 i1 o0 o1 l s k mode config maps how outcome told s
 
 -- session mode ends with the outcome of its end
 pub ends_served : (words : List (List ℕ)) (f0 f1 f2 : FilesSeen) (i : SourceSeen) (o : SinkSeen) (l0 l1 : Heard) (s0 s1 : Spooled) (k0 k1 : ClockSeen) (mode : Mode) (config : Config) (maps : Loaded) (how : SessionEnd) (outcome : Outcome) → outcome ≡ of_session how
-    → IsCommandLine words mode → mode.job ≡ Session → Begins mode.file f0 f1 (Ok config) → Loads config f0 f2 (Ok maps) → Serves (session_site config) (core_seen l0 s0 k0) (core_seen l1 s1 k1) how → Ends words (world f0 i o l0 s0 k0) (world f2 i o l1 s1 k1) outcome
+    → IsCommandLine words mode → mode.job ≡ Session → Begins mode.file f0 f1 (Ok config) → Loads config f0 f2 (Ok maps) → Serves (judge_by config maps) (session_site config) (core_seen l0 s0 k0) (core_seen l1 s1 k1) how → Ends words (world f0 i o l0 s0 k0) (world f2 i o l1 s1 k1) outcome
 ends_served words f0 f1 f2 i o l0 l1 s0 s1 k0 k1 mode config maps how outcome told said does begins loads serves =
     ends_at_work words (world f0 i o l0 s0 k0) (world f2 i o l1 s1 k1) mode Session config maps outcome said does begins loads
     (record { how = how; told = told; serves = serves; idle = record { input = refl; output = refl } })
@@ -170,11 +173,11 @@ stays_tested f0 f1 f2 i0 i1 o0 o1 l s k outcome map kept later asks input output
 }
 
 -- session mode leaves the files, and counts a fault of floor or spool only where it ended by it
-pub stays_served : (site : Site) (f0 f1 f2 : FilesSeen) (i : SourceSeen) (o : SinkSeen) (l0 l1 : Heard) (s0 s1 : Spooled) (k0 k1 : ClockSeen) (how : SessionEnd) (outcome : Outcome) → outcome ≡ of_session how → f1.map ≡ f0.map → f1.faults ≡ f0.faults
-    → f0.faults ≤ f1.faults → Asks f1 f2 false → Serves site (core_seen l0 s0 k0) (core_seen l1 s1 k1) how → RisesOnlyAt outcomes.FloorFault (of_session how) l0.faults l1.faults → RisesOnlyAt outcomes.SpoolFault (of_session how) s0.faults s1.faults
+pub stays_served : (j : JudgeSeen) (site : Site) (f0 f1 f2 : FilesSeen) (i : SourceSeen) (o : SinkSeen) (l0 l1 : Heard) (s0 s1 : Spooled) (k0 k1 : ClockSeen) (how : SessionEnd) (outcome : Outcome) → outcome ≡ of_session how → f1.map ≡ f0.map → f1.faults ≡ f0.faults
+    → f0.faults ≤ f1.faults → Asks f1 f2 false → Serves j site (core_seen l0 s0 k0) (core_seen l1 s1 k1) how → RisesOnlyAt outcomes.FloorFault (of_session how) l0.faults l1.faults → RisesOnlyAt outcomes.SpoolFault (of_session how) s0.faults s1.faults
     → Stays (world f0 i o l0 s0 k0) (world f2 i o l1 s1 k1) outcome
-stays_served site f0 f1 f2 i o l0 l1 s0 s1 k0 k1 how outcome told map kept later asks serves floor spool =
-    let no_less = serves_later site (core_seen l0 s0 k0) (core_seen l1 s1 k1) how serves in record {
+stays_served j site f0 f1 f2 i o l0 l1 s0 s1 k0 k1 how outcome told map kept later asks serves floor spool =
+    let no_less = serves_later j site (core_seen l0 s0 k0) (core_seen l1 s1 k1) how serves in record {
       map = asks.fixed ∙ map;
       files = files_asked f0 f1 f2 outcome kept later asks;
       input = same_count outcomes.ReadFault outcome i.faults;
@@ -245,21 +248,22 @@ maps_whole config before after job map (maps_faults.NoFile name) told none sound
 maps_whole config before after job map maps_faults.FilesFault told none sound is = absurd (sound is)
 maps_whole config before after job map maps_faults.NoMemory told none sound is = whole_memory job
 
-over_whole : (site : Site) (before after : World) (stop : CoreStop) → NoneFailed Session before after → IsServedOut site (core_of before) (core_of after) (Err stop) → IsWhole Session (of_session (session_ends.Over stop))
-over_whole site before after stops.SpoolFault sound is = absurd (sound.1 (is.over.run.ended SpoolFault refl).cause)
-over_whole site before after stops.IdsSpent sound is = inr (inr (inl refl))
+over_whole : (j : JudgeSeen) (site : Site) (before after : World) (stop : CoreStop) → NoneFailed Session before after → (is_judge_fault {T = Act} (Err stop) ≡ false) × IsServedOut j site (core_of before) (core_of after) (Err stop) → IsWhole Session (of_session (session_ends.Over stop))
+over_whole j site before after stops.SpoolFault sound is = absurd (sound.1 (is.1.over.run.ended SpoolFault refl).cause)
+over_whole j site before after stops.IdsSpent sound is = inr (inr (inl refl))
+over_whole j site before after stops.FilesFault sound is = absurd (cc (is.0))
 
-session_whole : (site : Site) (before after : World) (how : SessionEnd) → NoneFailed Session before after → Serves site (core_of before) (core_of after) how → IsWhole Session (of_session how)
-session_whole site before after session_ends.NotOpened sound is = absurd (sound.1 is.1)
-session_whole site before after session_ends.NoMemory sound is = inr (inl refl)
-session_whole site before after session_ends.FloorFault sound is = absurd (sound.0 is.rose)
-session_whole site before after session_ends.Stopped sound is = inl refl
-session_whole site before after (session_ends.Over stop) sound is = over_whole site before after stop sound is
-session_whole site before after (session_ends.TurnsSpent count) sound is = inr (inr (inr (ap (λ (n : ℕ). outcomes.TurnsSpent n) is.0)))
+session_whole : (j : JudgeSeen) (site : Site) (before after : World) (how : SessionEnd) → NoneFailed Session before after → Serves j site (core_of before) (core_of after) how → IsWhole Session (of_session how)
+session_whole j site before after session_ends.NotOpened sound is = absurd (sound.1 is.1)
+session_whole j site before after session_ends.NoMemory sound is = inr (inl refl)
+session_whole j site before after session_ends.FloorFault sound is = absurd (sound.0 is.rose)
+session_whole j site before after session_ends.Stopped sound is = inl refl
+session_whole j site before after (session_ends.Over stop) sound is = over_whole j site before after stop sound is
+session_whole j site before after (session_ends.TurnsSpent count) sound is = inr (inr (inr (ap (λ (n : ℕ). outcomes.TurnsSpent n) is.0)))
 
 work_whole : (config : Config) (maps : Loaded) (before after : World) (job : Job) (outcome : Outcome) → Finds job before → NoneFailed job before after → Works job config maps before after outcome → IsWhole job outcome
 work_whole config maps before after Test outcome finds sound is = subst (λ (o : Outcome). IsWhole Test o) (sym is.told) (lines_whole (basis config maps) before after is.how finds sound is.tests)
-work_whole config maps before after Session outcome finds sound is = subst (λ (o : Outcome). IsWhole Session o) (sym is.told) (session_whole (session_site config) before after is.how sound is.serves)
+work_whole config maps before after Session outcome finds sound is = subst (λ (o : Outcome). IsWhole Session o) (sym is.told) (session_whole (judge_by config maps) (session_site config) before after is.how sound is.serves)
 
 -- what a run's end says of a run that is ready
 complete_at_words : (words : List (List ℕ)) (before after : World) (outcome : Outcome) → EndsAtWords words before after outcome → Completes words before after outcome

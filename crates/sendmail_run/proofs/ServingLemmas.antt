@@ -1,7 +1,8 @@
 -- How session mode goes on and ends.
-use Rattle.std.proofs.Common.{◌≡◌, ℕ, ◌+◌, ◌<◌, ◌≤◌, ◌^◌, List, [], ◌∷◌, Option, Some, None, Result, Ok, Err, true, refl, sym, ◌∙◌, ap, subst, arith, inl, inr}
+use Rattle.std.proofs.Common.{◌≡◌, ℕ, ◌+◌, ◌<◌, ◌≤◌, ◌^◌, List, [], ◌∷◌, Option, Some, None, Result, Ok, Err, Bool, true, false, refl, sym, ◌∙◌, ap, subst, arith, inl, inr}
 use Rattle.std.specs.Prelude.{IfSome}
 use Rattle.mail_base.specs.Histories.{Gains, Rose}
+use Rattle.mail_base.specs.declared.config.Config.{Config}
 use Rattle.mail_edge.specs.Seen.{ClockSeen}
 use Rattle.link_edge.specs.Heard.{Heard}
 use Rattle.link_edge.specs.Sessions.{Follows, is_sound, is_among}
@@ -24,6 +25,9 @@ use Rattle.mail_core.specs.declared.serving.Act.{Act}
 use Rattle.mail_core.specs.declared.serving.Act.TheVariants.{Ended, Went}
 use Rattle.mail_core.specs.declared.serving.CoreStop.{CoreStop}
 use Rattle.mail_core.specs.declared.serving.CoreStop.TheVariants as stops
+use Rattle.map_tables.specs.Answers.{Loaded}
+use Rattle.mail_judge.specs.Judged.{Grounds, IsJudged, teller}
+use Rattle.mail_core.specs.Judges.{JudgeSeen, judge_seen}
 use Rattle.mail_core.specs.Sites.{Site}
 use Rattle.mail_core.specs.Causes.{is_well}
 use Rattle.mail_core.specs.Events.{IsTaken, IsHeardAt, Turns, event_of}
@@ -38,7 +42,8 @@ use Rattle.sendmail_run.specs.declared.outcome.Outcome.TheVariants as outcomes
 use Rattle.sendmail_run.specs.inner.Opened.{IsFound, IsGoing, IsOpened}
 use Rattle.sendmail_run.specs.Outcomes.{of_session}
 use Rattle.sendmail_run.specs.Rises.{RisesOnlyAt}
-use Rattle.sendmail_run.specs.Serving.{IsBegun, IsLeftAlone, IsOverQueue, IsRun, IsServed, IsServedOut, IsTakenOver, IsUnserved, Serves, from_id}
+use Rattle.sendmail_run.specs.Serving.{IsBegun, IsLeftAlone, IsOverQueue, IsRun, IsServed, IsServedOut, IsTakenOver, IsUnserved, Serves, from_id, judge_by}
+use Rattle.mail_core.proofs.JudgeLemmas.{IsAlike, alike_itself}
 use Rattle.mail_core.proofs.RunLemmas.{cut_off, ended_by, under_way_begin, under_way_floor, under_way_more}
 
 -- ---- what is read or left alone
@@ -81,47 +86,47 @@ taken f g k l Stop buf reading told follows later read counted = record { told =
 -- ---- turns over each table
 
 -- a core over the queue that was opened has begun
-pub going_begin : (site : Site) (core : Core) (f g : Heard) (s t : Spooled) (c : ClockSeen) → IsTakenOver site.dirs s t → IsSparing site.dirs s t true → g.told ≡ f.told → f.faults ≤ g.faults → s.faults ≤ t.faults → IsOpened site s.told core → IsTallied core t.told
-    → IsGoing site core 0 (seen f s c) (seen g t c)
-going_begin site core f g s t c taken sparing same floor_faults spool_faults opened tallied = record {
+pub going_begin : (j : JudgeSeen) (site : Site) (core : Core) (f g : Heard) (s t : Spooled) (c : ClockSeen) → IsTakenOver site.dirs s t → IsSparing site.dirs s t true → g.told ≡ f.told → f.faults ≤ g.faults → s.faults ≤ t.faults → IsOpened site s.told core → IsTallied core t.told
+    → IsGoing j site core 0 (seen f s c) (seen g t c)
+going_begin j site core f g s t c taken sparing same floor_faults spool_faults opened tallied = record {
   store = opened.store;
   found = opened.found;
-  runs = λ table holds. under_way_begin site table core f g s t c (taken.stands table) sparing same floor_faults spool_faults (opened.stands table holds) tallied;
+  runs = λ table holds. under_way_begin j site table core f g s t c (taken.stands table) sparing same floor_faults spool_faults (opened.stands table holds) tallied;
 }
 
 -- one turn more
-pub going_more : (site : Site) (core new : Core) (n : ℕ) (event : Event) (reading : ℕ) (a b c : Seen) → IsGoing site core n a b → ((m : State) → Stands site core m → Turns site m event reading b c new (Ok Went)) → c.clock.readings ≡ b.clock.readings + 1 → IsTallied new c.spool.told
-    → IsGoing site new (n + 1) a c
-going_more site core new n event reading a b c going turns counted tallied = record {
+pub going_more : (j i : JudgeSeen) (site : Site) (core new : Core) (n : ℕ) (event : Event) (reading : ℕ) (a b c : Seen) → IsGoing j site core n a b → IsAlike j i → ((m : State) → Stands site core m → Turns i site m event reading b c new (Ok Went)) → c.clock.readings ≡ b.clock.readings + 1 → IsTallied new c.spool.told
+    → IsGoing j site new (n + 1) a c
+going_more j i site core new n event reading a b c going alike turns counted tallied = record {
   store = going.store;
   found = going.found;
-  runs = λ table holds. let u = going.runs table holds in under_way_more site table core new n event reading a b c u (turns (run_over site table u.turns).state u.stands) counted tallied;
+  runs = λ table holds. let u = going.runs table holds in under_way_more j i site table core new n event reading a b c u alike (turns (run_over site table u.turns).state u.stands) counted tallied;
 }
 
 -- a turn that the floor failed to give
-pub going_floor : (site : Site) (core : Core) (n : ℕ) (a : Seen) (f g : Heard) (s : Spooled) (k : ClockSeen) → IsGoing site core n a (seen f s k) → Gains f.told g.told [] → f.faults ≤ g.faults → IsGoing site core n a (seen g s k)
-going_floor site core n a f g s k going told later = record {
+pub going_floor : (j : JudgeSeen) (site : Site) (core : Core) (n : ℕ) (a : Seen) (f g : Heard) (s : Spooled) (k : ClockSeen) → IsGoing j site core n a (seen f s k) → Gains f.told g.told [] → f.faults ≤ g.faults → IsGoing j site core n a (seen g s k)
+going_floor j site core n a f g s k going told later = record {
   store = going.store;
   found = going.found;
-  runs = λ table holds. under_way_floor site table core n a f g s k (going.runs table holds) told later;
+  runs = λ table holds. under_way_floor j site table core n a f g s k (going.runs table holds) told later;
 }
 
-one_run : (site : Site) (core : Core) (n : ℕ) (a b : Seen) → (going : IsGoing site core n a b) → IsUnderWay site going.found.some core n a b
-one_run site core n a b going = going.runs going.found.some going.found.holds
+one_run : (j : JudgeSeen) (site : Site) (core : Core) (n : ℕ) (a b : Seen) → (going : IsGoing j site core n a b) → IsUnderWay j site going.found.some core n a b
+one_run j site core n a b going = going.runs going.found.some going.found.holds
 
 -- a core under way stands for the machine's state
-pub standing : (site : Site) (core : Core) (n : ℕ) (a b : Seen) → IsGoing site core n a b → IsStanding core
-standing site core n a b going =
-    let u = one_run site core n a b going in
-    record { site = site; state = (run_over site going.found.some u.turns).state; stands = u.stands }
+pub standing : (j : JudgeSeen) (site : Site) (core : Core) (n : ℕ) (a b : Seen) → IsGoing j site core n a b → (config : Config) → site.config ≡ config → IsStanding core config
+standing j site core n a b going config under =
+    let u = one_run j site core n a b going in
+    record { site = site; under = under; state = (run_over site going.found.some u.turns).state; stands = u.stands }
 
 -- and has what the files say
-pub tallied_so : (site : Site) (core : Core) (n : ℕ) (a b : Seen) → IsGoing site core n a b → IsTallied core b.spool.told
-tallied_so site core n a b going = (one_run site core n a b going).tallied
+pub tallied_so : (j : JudgeSeen) (site : Site) (core : Core) (n : ℕ) (a b : Seen) → IsGoing j site core n a b → IsTallied core b.spool.told
+tallied_so j site core n a b going = (one_run j site core n a b going).tallied
 
 -- no count of the floor falls
-pub floor_later : (site : Site) (core : Core) (n : ℕ) (a b : Seen) → IsGoing site core n a b → a.floor.faults ≤ b.floor.faults
-floor_later site core n a b going = (one_run site core n a b going).ran.floor_faults
+pub floor_later : (j : JudgeSeen) (site : Site) (core : Core) (n : ℕ) (a b : Seen) → IsGoing j site core n a b → a.floor.faults ≤ b.floor.faults
+floor_later j site core n a b going = (one_run j site core n a b going).ran.floor_faults
 
 -- ---- how it ends
 
@@ -139,39 +144,39 @@ over site a store Run found runs = record {
   each = λ f table told stands. runs (from_id store.next table) (found.each f table told stands);
 }
 
-ran_so : (site : Site) (table : Table) (core : Core) (n : ℕ) (a b : Seen) → OnlyNow a → IsUnderWay site table core n a b → IsRun site table n a b
-ran_so site table core n a b only u = record {
+ran_so : (j : JudgeSeen) (site : Site) (table : Table) (core : Core) (n : ℕ) (a b : Seen) → OnlyNow a → IsUnderWay j site table core n a b → IsRun j site table n a b
+ran_so j site table core n a b only u = record {
   turns = u.turns;
   events = u.events;
   on = u.stands.on;
-  headline = cut_off site table core n a b u only;
+  headline = cut_off j site table core n a b u only;
   readings = u.readings;
 }
 
-served : (site : Site) (core : Core) (n : ℕ) (a b : Seen) → IsBegun a b → OnlyNow a → IsGoing site core n a b → IsServed site n a b
-served site core n a b begun only going = record {
+served : (j : JudgeSeen) (site : Site) (core : Core) (n : ℕ) (a b : Seen) → IsBegun a b → OnlyNow a → IsGoing j site core n a b → IsServed j site n a b
+served j site core n a b begun only going = record {
   begun = begun;
-  over = over site a going.store (λ table. IsRun site table n a b) going.found (λ table holds. ran_so site table core n a b only (going.runs table holds));
+  over = over site a going.store (λ table. IsRun j site table n a b) going.found (λ table holds. ran_so j site table core n a b only (going.runs table holds));
 }
 
 -- the floor failed
-pub serves_lost : (site : Site) (core : Core) (n : ℕ) (a b : Seen) → IsBegun a b → OnlyNow a → n ≤ 2 ^ 60 → IsGoing site core n a b → Rose a.floor.faults b.floor.faults → Serves site a b ends.FloorFault
-serves_lost site core n a b begun only few going rose = record { count = n; few = few; served = served site core n a b begun only going; rose = rose }
+pub serves_lost : (j : JudgeSeen) (site : Site) (core : Core) (n : ℕ) (a b : Seen) → IsBegun a b → OnlyNow a → n ≤ 2 ^ 60 → IsGoing j site core n a b → Rose a.floor.faults b.floor.faults → Serves j site a b ends.FloorFault
+serves_lost j site core n a b begun only few going rose = record { count = n; few = few; served = served j site core n a b begun only going; rose = rose }
 
 -- all turns were taken
-pub serves_spent : (site : Site) (core : Core) (n most : ℕ) (a b : Seen) → IsBegun a b → OnlyNow a → n ≡ most → most ≡ 2 ^ 60 → IsGoing site core n a b → Serves site a b (ends.TurnsSpent most)
-serves_spent site core n most a b begun only all is going = (is, served site core most a b begun only (subst (λ (q : ℕ). IsGoing site core q a b) all going))
+pub serves_spent : (j : JudgeSeen) (site : Site) (core : Core) (n most : ℕ) (a b : Seen) → IsBegun a b → OnlyNow a → n ≡ most → most ≡ 2 ^ 60 → IsGoing j site core n a b → Serves j site a b (ends.TurnsSpent most)
+serves_spent j site core n most a b begun only all is going = (is, served j site core most a b begun only (subst (λ (q : ℕ). IsGoing j site core q a b) all going))
 
 -- a turn ended the run
-pub served_out : (site : Site) (core new : Core) (n : ℕ) (a b c : Seen) (event : Event) (reading : ℕ) (went : Result Act CoreStop) → IsBegun a c → OnlyNow a → n < 2 ^ 60 → IsGoing site core n a b
-    → ((m : State) → Stands site core m → Turns site m event reading b c new went) → c.clock.readings ≡ b.clock.readings + 1 → IsServedOut site a c went
-served_out site core new n a b c event reading went begun only few going turns counted = record {
+pub served_out : (j i : JudgeSeen) (site : Site) (core new : Core) (n : ℕ) (a b c : Seen) (event : Event) (reading : ℕ) (went : Result Act CoreStop) → IsBegun a c → OnlyNow a → n < 2 ^ 60 → IsGoing j site core n a b
+    → IsAlike j i → ((m : State) → Stands site core m → Turns i site m event reading b c new went) → c.clock.readings ≡ b.clock.readings + 1 → IsServedOut j site a c went
+served_out j i site core new n a b c event reading went begun only few going alike turns counted = record {
   count = n + 1;
   few = omega (arith, few);
   begun = begun;
-  over = over site a going.store (λ table. IsEnded site table (n + 1) a c went) going.found (λ table holds.
+  over = over site a going.store (λ table. IsEnded j site table (n + 1) a c went) going.found (λ table holds.
       let u = going.runs table holds in
-      ended_by site table core new n event reading a b c went u (turns (run_over site table u.turns).state u.stands) only counted);
+      ended_by j i site table core new n event reading a b c went u alike (turns (run_over site table u.turns).state u.stands) only counted);
 }
 
 -- ---- what each end says of the counts of faults
@@ -181,24 +186,37 @@ pub record IsNoLess (a b : Seen) : Type 0 where
   pub spool : a.spool.faults ≤ b.spool.faults
 
 unserved_later : (site : Site) (a b : Seen) → IsUnserved site a b → IsNoLess a b
-unserved_later site a b is = record { floor = let e = ap (λ (h : Heard). h.faults) is.floor in omega (arith, e); spool = is.spool_faults }
+unserved_later j site a b is = record { floor = let e = ap (λ (h : Heard). h.faults) is.floor in omega (arith, e); spool = is.spool_faults }
 
-out_later : (site : Site) (a b : Seen) (went : Result Act CoreStop) → IsServedOut site a b went → IsNoLess a b
-out_later site a b went is = record { floor = is.over.run.headline.floor_faults; spool = is.over.run.headline.spool_faults }
+out_later : (j : JudgeSeen) (site : Site) (a b : Seen) (went : Result Act CoreStop) → IsServedOut j site a b went → IsNoLess a b
+out_later j site a b went is = record { floor = is.over.run.headline.floor_faults; spool = is.over.run.headline.spool_faults }
 
-served_later : (site : Site) (n : ℕ) (a b : Seen) → IsServed site n a b → IsNoLess a b
-served_later site n a b is = record { floor = is.over.run.headline.floor_faults; spool = is.over.run.headline.spool_faults }
+served_later : (j : JudgeSeen) (site : Site) (n : ℕ) (a b : Seen) → IsServed j site n a b → IsNoLess a b
+served_later j site n a b is = record { floor = is.over.run.headline.floor_faults; spool = is.over.run.headline.spool_faults }
 
 -- what session mode leaves behind is no less than what was there
-pub serves_later : (site : Site) (a b : Seen) (how : SessionEnd) → Serves site a b how → IsNoLess a b
-serves_later site a b ends.NotOpened is = unserved_later site a b is.0
-serves_later site a b ends.NoMemory is = unserved_later site a b is
-serves_later site a b ends.FloorFault is = served_later site is.count a b is.served
-serves_later site a b ends.Stopped is = out_later site a b (Ok Ended) is
-serves_later site a b (ends.Over stop) is = out_later site a b (Err stop) is
-serves_later site a b (ends.TurnsSpent count) is = served_later site count a b is.1
+pub serves_later : (j : JudgeSeen) (site : Site) (a b : Seen) (how : SessionEnd) → Serves j site a b how → IsNoLess a b
+serves_later j site a b ends.NotOpened is = unserved_later j site a b is.0
+serves_later j site a b ends.NoMemory is = unserved_later j site a b is
+serves_later j site a b ends.FloorFault is = served_later j site is.count a b is.served
+serves_later j site a b ends.Stopped is = out_later j site a b (Ok Ended) is
+serves_later j site a b (ends.Over stop) is = out_later j site a b (Err stop) is.1
+serves_later j site a b (ends.TurnsSpent count) is = served_later j site count a b is.1
 
 -- the count of the spool rises in a turn only where the spool's fault ends the run
 pub spool_ended : (stop : CoreStop) (first before now : ℕ) → before ≡ first → (is_well {T = Act} (Err stop) ≡ true → now ≡ before) → RisesOnlyAt outcomes.SpoolFault (of_session (ends.Over stop)) first now
 spool_ended stops.SpoolFault first before now same calm = inl refl
 spool_ended stops.IdsSpent first before now same calm = inr (calm refl ∙ same)
+spool_ended stops.FilesFault first before now same calm = inr (calm refl ∙ same)
+
+-- a judge that counts no fault never fails
+pub never_failed : (failed : Bool) → (failed ≡ true → Rose 0 0) → failed ≡ false
+never_failed true rose = absurd (none_rose (rose refl)) where
+  none_rose : Rose 0 0 → ⊥
+  none_rose (inl less) = omega (arith, less)
+  none_rose (inr last) = omega (arith, last)
+never_failed false rose = refl
+
+-- the rules of a configuration judge by it
+pub judge_new : (config : Config) (maps : Loaded) (rules : Grounds) → rules ≡ record { config = config; maps = maps } → IsAlike (judge_by config maps) (judge_seen teller (IsJudged rules.config rules.maps))
+judge_new config maps rules is = subst (λ (r : Grounds). IsAlike (judge_by config maps) (judge_seen teller (IsJudged r.config r.maps))) (sym is) (alike_itself (judge_by config maps))

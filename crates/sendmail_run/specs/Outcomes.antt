@@ -46,6 +46,7 @@ of_test test_ends.NoMemory = NoMemory
 abbrev pub of_stop : CoreStop → Outcome
 of_stop stops.SpoolFault = SpoolFault
 of_stop stops.IdsSpent = IdsSpent
+of_stop stops.FilesFault = FilesFault
 
 -- the end of session mode
 abbrev pub of_session : SessionEnd → Outcome

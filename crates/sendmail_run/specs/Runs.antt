@@ -22,7 +22,7 @@ use Rattle.sendmail_run.specs.MapFiles.{Loads, first_missing}
 use Rattle.sendmail_run.specs.Outcomes.{of_config, of_maps, of_session, of_test, of_words}
 use Rattle.sendmail_run.specs.Printing.{basis}
 use Rattle.sendmail_run.specs.Rises.{Counts}
-use Rattle.sendmail_run.specs.Serving.{IsLeftAlone, Serves, session_site}
+use Rattle.sendmail_run.specs.Serving.{IsLeftAlone, Serves, judge_by, session_site}
 use Rattle.sendmail_run.specs.Testing.{Tests}
 
 -- ---- how a run ends
@@ -77,17 +77,19 @@ pub record HasTested (config : Config) (maps : Loaded) (before after : World)
   pub tests : Tests (basis config maps) (streams_of before) (streams_of after) how
   pub alone : IsLeftAlone (core_of before) (core_of after)
 
--- session mode did its work, and left the input and the output alone
-pub record HasServed (config : Config) (before after : World) (outcome : Outcome) : Type 0 where
+-- session mode did its work, with these maps, and left the input and the output alone
+pub record HasServed (config : Config) (maps : Loaded) (before after : World)
+    (outcome : Outcome) : Type 0 where
   pub how : SessionEnd
   pub told : outcome ≡ of_session how
-  pub serves : Serves (session_site config) (core_of before) (core_of after) how
+  pub serves : Serves (judge_by config maps) (session_site config) (core_of before) (core_of after)
+      how
   pub idle : IsIdle (streams_of before) (streams_of after)
 
 -- how the work of a mode ends
 abbrev pub Works : Job → Config → Loaded → World → World → Outcome → Type 0
 Works Test config maps before after outcome = HasTested config maps before after outcome
-Works Session config maps before after outcome = HasServed config before after outcome
+Works Session config maps before after outcome = HasServed config maps before after outcome
 
 -- the words were taken, the file that they name is a configuration, the files of its maps gave
 -- them, and the mode's work was done

@@ -1,6 +1,6 @@
 -- How session mode ends, and what was served by then (Sendmail Installation and Operation Guide,
 -- "Command Line Flags": -bs; the replies are those of RFC 5321; the ends are own).
-use Rattle.std.specs.Prelude.{◌≡◌, ℕ, ◌+◌, ◌^◌, ◌≤◌, List, [], length, take, None, Some, IfSome, Result, Ok, Err, codes, true}
+use Rattle.std.specs.Prelude.{◌≡◌, ℕ, ◌+◌, ◌^◌, ◌≤◌, List, [], length, take, None, Some, IfSome, Result, Ok, Err, codes, true, false}
 use Rattle.std.specs.Result.{result_unwrap_or}
 use Rattle.mail_base.specs.declared.config.Config.{Config}
 use Rattle.mail_base.specs.Histories.{Rose}
@@ -14,7 +14,11 @@ use Rattle.spool_store.specs.Moves.{Moves}
 use Rattle.spool_store.specs.Openings.{IsNext}
 use Rattle.spool_store.specs.Settled.{StandsFor}
 use Rattle.spool_store.specs.Tidying.{IsTidied}
+use Rattle.map_tables.specs.Answers.{Loaded}
+use Rattle.mail_core.specs.Causes.{is_judge_fault}
+use Rattle.mail_core.specs.Judges.{JudgeSeen, judge_seen}
 use Rattle.mail_core.specs.Sites.{Site}
+use Rattle.mail_judge.specs.Judged.{IsJudged, teller}
 use Rattle.mail_core.specs.declared.serving.Act.{Act}
 use Rattle.mail_core.specs.declared.serving.Act.TheVariants.{Ended}
 use Rattle.mail_core.specs.declared.serving.CoreStop.{CoreStop}
@@ -38,6 +42,10 @@ session_site config =
       dirs = all_dirs (terms_of config);
       config = config;
     }
+
+-- who judges the paths of sessions: the rules of the configuration over its maps
+abbrev pub judge_by : Config → Loaded → JudgeSeen
+judge_by config maps = judge_seen teller (IsJudged config maps)
 
 -- the floor, the spool and the clock are as before
 pub record IsLeftAlone (a b : Seen) : Type 0 where
@@ -85,38 +93,41 @@ IsBegun a b = b.floor.begun ≡ begun_after a.floor.begun Standard 1
 -- so many turns over a table, after which the run goes on: what floor and clock tell since is the
 -- machine's run of these turns, the files stand for its table, and each final 250 names an entry
 -- whose two files are there (`Headline`)
-pub record IsRun (site : Site) (table : Table) (count : ℕ) (a b : Seen) : Type 0 where
+pub record IsRun (j : JudgeSeen) (site : Site) (table : Table) (count : ℕ) (a b : Seen)
+    : Type 0 where
   pub turns : List Turn
   pub events : length turns ≡ count
   pub on : (run_over site table turns).state.over ≡ None
-  pub headline : Headline site table turns a b true
+  pub headline : Headline j site table turns a b true
   pub readings : b.clock.readings ≡ a.clock.readings + count
 
 -- the floor was begun so, and so many turns were served over the queue
-pub record IsServed (site : Site) (count : ℕ) (a b : Seen) : Type 0 where
+pub record IsServed (j : JudgeSeen) (site : Site) (count : ℕ) (a b : Seen) : Type 0 where
   pub begun : IsBegun a b
-  pub over : IsOverQueue site a (λ table. IsRun site table count a b)
+  pub over : IsOverQueue site a (λ table. IsRun j site table count a b)
 
 -- the floor was begun so, at most 2^60 turns were served over the queue, and the last of them ended
 -- the run so
-pub record IsServedOut (site : Site) (a b : Seen) (went : Result Act CoreStop) : Type 0 where
+pub record IsServedOut (j : JudgeSeen) (site : Site) (a b : Seen) (went : Result Act CoreStop)
+    : Type 0 where
   pub count : ℕ
   pub few : count ≤ 2 ^ 60
   pub begun : IsBegun a b
-  pub over : IsOverQueue site a (λ table. IsEnded site table count a b went)
+  pub over : IsOverQueue site a (λ table. IsEnded j site table count a b went)
 
 -- the floor failed as it began, or at the turn after so many
-pub record HasLostFloor (site : Site) (a b : Seen) : Type 0 where
+pub record HasLostFloor (j : JudgeSeen) (site : Site) (a b : Seen) : Type 0 where
   pub count : ℕ
   pub few : count ≤ 2 ^ 60
-  pub served : IsServed site count a b
+  pub served : IsServed j site count a b
   pub rose : Rose a.floor.faults b.floor.faults
 
--- how session mode ends
-abbrev pub Serves : Site → Seen → Seen → SessionEnd → Type 0
-Serves site a b ends.NotOpened = IsUnserved site a b × Rose a.spool.faults b.spool.faults
-Serves site a b ends.NoMemory = IsUnserved site a b
-Serves site a b ends.FloorFault = HasLostFloor site a b
-Serves site a b ends.Stopped = IsServedOut site a b (Ok Ended)
-Serves site a b (ends.Over stop) = IsServedOut site a b (Err stop)
-Serves site a b (ends.TurnsSpent count) = (count ≡ 2 ^ 60) × IsServed site count a b
+-- how session mode ends; the judge never fails
+abbrev pub Serves : JudgeSeen → Site → Seen → Seen → SessionEnd → Type 0
+Serves j site a b ends.NotOpened = IsUnserved site a b × Rose a.spool.faults b.spool.faults
+Serves j site a b ends.NoMemory = IsUnserved site a b
+Serves j site a b ends.FloorFault = HasLostFloor j site a b
+Serves j site a b ends.Stopped = IsServedOut j site a b (Ok Ended)
+Serves j site a b (ends.Over stop) =
+    (is_judge_fault {T = Act} (Err stop) ≡ false) × IsServedOut j site a b (Err stop)
+Serves j site a b (ends.TurnsSpent count) = (count ≡ 2 ^ 60) × IsServed j site count a b

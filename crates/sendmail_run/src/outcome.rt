@@ -122,6 +122,7 @@ impl Outcome {
             SessionEnd::Stopped => Outcome::Done,
             SessionEnd::Over(CoreStop::SpoolFault) => Outcome::SpoolFault,
             SessionEnd::Over(CoreStop::IdsSpent) => Outcome::IdsSpent,
+            SessionEnd::Over(CoreStop::FilesFault) => Outcome::FilesFault,
             SessionEnd::TurnsSpent(count) => Outcome::TurnsSpent(count),
         }
     }

@@ -98,7 +98,9 @@ fn run<F: Files, D: Spool, L: Floor, C: Clock, I: Source, O: Sink>(
     };
     match mode.job {
         Job::Test => Outcome::of_test(address_test(alloc, &mut config, &maps, input, output)),
-        Job::Session => Outcome::of_session(session_mode(alloc, &config, spool, floor, clock)),
+        Job::Session => Outcome::of_session(session_mode(
+            alloc, &config, &maps, spool, floor, clock,
+        )),
     }
 }
 

@@ -7,12 +7,13 @@ ghost use Rattle.spool_store.specs.Entries.{Table as Entries};
 ghost use Rattle.spool_store.specs.Keepers.{seen as queue_seen};
 ghost use Rattle.spool_store.specs.Stores.{Agrees, Holds};
 ghost use Rattle.queue_table.specs.Directories.{all_dirs, terms_of};
+ghost use Rattle.map_tables.specs.Answers.{Loaded};
 ghost use Rattle.mail_core.specs.Machine.{beginning};
 ghost use Rattle.mail_core.specs.Seen.{IsSparing, seen};
 ghost use Rattle.mail_core.specs.Standing.{IsTallied, Stands};
 ghost use Rattle.sendmail_run.specs.Outcomes.{of_session};
 ghost use Rattle.sendmail_run.specs.Rises.{RisesOnlyAt};
-ghost use Rattle.sendmail_run.specs.Serving.{IsTakenOver, Serves, session_site};
+ghost use Rattle.sendmail_run.specs.Serving.{IsTakenOver, Serves, judge_by, session_site};
 ghost use Rattle.sendmail_run.specs.inner.Opened.{IsOpened};
 ghost use Rattle.sendmail_run.specs.declared.outcome.Outcome.TheVariants.{FloorFault, SpoolFault};
 ghost use Rattle.sendmail_run.specs.declared.session_mode.SessionEnd.TheVariants as ends;
@@ -23,6 +24,8 @@ use link_edge::{Floor, Place};
 use mail_base::{Config, MOST_PIECE, NoMemory, StoreFault};
 use mail_core::{Act, Core, CoreStop};
 use mail_edge::Clock;
+use mail_judge::Rules;
+use map_tables::Maps;
 use queue_table::Table;
 use spool_disk::Spool;
 use spool_store::{Queue, opening_settles};
@@ -59,6 +62,7 @@ pub enum SessionEnd {
 pub fn session_mode<D: Spool, L: Floor, C: Clock>(
     alloc: Global,
     config: &Config,
+    maps: &Maps,
     spool: &mut D,
     floor: &mut L,
     clock: &mut C,
@@ -68,14 +72,14 @@ pub fn session_mode<D: Spool, L: Floor, C: Clock>(
         (L.seen floor.new).faults }
     ensures rises_spool { RisesOnlyAt SpoolFault (of_session result) (D.seen spool.old).faults
         (D.seen spool.new).faults }
-    ensures serves { Serves (session_site config.now)
+    ensures serves { Serves (judge_by config.now maps.now) (session_site config.now)
         (seen (L.seen floor.old) (D.seen spool.old) (C.seen clock.old))
         (seen (L.seen floor.new) (D.seen spool.new) (C.seen clock.new)) result }
 {
     let Ok(mut buffer) = zeros(alloc, MOST_PIECE) else {
         return SessionEnd::NoMemory;
     };
-    serve(alloc, config, spool, floor, clock, &mut buffer)
+    serve(alloc, config, maps, spool, floor, clock, &mut buffer)
 }
 
 // Opens the queue, begins the floor and serves its turns, taking as many bytes at once as the
@@ -83,6 +87,7 @@ pub fn session_mode<D: Spool, L: Floor, C: Clock>(
 fn serve<D: Spool, L: Floor, C: Clock>(
     alloc: Global,
     config: &Config,
+    maps: &Maps,
     spool: &mut D,
     floor: &mut L,
     clock: &mut C,
@@ -94,7 +99,7 @@ fn serve<D: Spool, L: Floor, C: Clock>(
         (L.seen floor.new).faults }
     ensures rises_spool { RisesOnlyAt SpoolFault (of_session result) (D.seen spool.old).faults
         (D.seen spool.new).faults }
-    ensures serves { Serves (session_site config.now)
+    ensures serves { Serves (judge_by config.now maps.now) (session_site config.now)
         (seen (L.seen floor.old) (D.seen spool.old) (C.seen clock.old))
         (seen (L.seen floor.new) (D.seen spool.new) (C.seen clock.new)) result }
 {
@@ -105,12 +110,13 @@ fn serve<D: Spool, L: Floor, C: Clock>(
     let Ok(()) = floor.begin(&Place::Standard, 1) else {
         return SessionEnd::FloorFault;
     };
+    let mut judge = Rules::new(config, maps);
     for _ in 0..MOST_TURNS {
         let Ok(turn) = floor.turn(buffer) else {
             return SessionEnd::FloorFault;
         };
         let reading = clock.now();
-        match core.turn(floor, spool, reading, turn, buffer) {
+        match core.turn(floor, spool, config, &mut judge, reading, turn, buffer) {
             Ok(Act::Went) => {}
             Ok(Act::Ended) => return SessionEnd::Stopped,
             Err(stop) => return SessionEnd::Over(stop),
@@ -129,7 +135,8 @@ fn opened<D: Spool>(alloc: Global, config: &Config, spool: &mut D) -> Result<Cor
     ensures sparing { IfOk result
         (λ _. IsSparing (session_site config.now).dirs (D.seen spool.old) (D.seen spool.new) true) }
     ensures serves { IfErr result
-        (λ end. (floor : Heard) (clock : ClockSeen) → Serves (session_site config.now)
+        (λ end. (maps : Loaded) (floor : Heard) (clock : ClockSeen)
+        → Serves (judge_by config.now maps) (session_site config.now)
         (seen floor (D.seen spool.old) clock) (seen floor (D.seen spool.new) clock) end) }
     ensures kept { OnOk result ((D.seen spool.new).faults ≡ (D.seen spool.old).faults) }
     ensures rises { IfErr result

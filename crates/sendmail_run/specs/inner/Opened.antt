@@ -7,6 +7,7 @@ use Rattle.spool_store.specs.Openings.{IsNext}
 use Rattle.spool_store.specs.Settled.{StandsFor}
 use Rattle.spool_store.specs.Stores.{Holds, StoreSeen}
 use Rattle.mail_core.specs.declared.serving.Core.{Core}
+use Rattle.mail_core.specs.Judges.{JudgeSeen}
 use Rattle.mail_core.specs.Sites.{Site}
 use Rattle.mail_core.specs.Machine.{beginning}
 use Rattle.mail_core.specs.Seen.{Seen}
@@ -32,7 +33,8 @@ pub record IsOpened (site : Site) (told : Option FileMap) (core : Core) : Type 0
   pub stands : (table : Table) → Holds store table → Stands site core (beginning table)
 
 -- so many turns since: a run that goes on, over each table that the store held then
-pub record IsGoing (site : Site) (core : Core) (count : ℕ) (a b : Seen) : Type 0 where
+pub record IsGoing (j : JudgeSeen) (site : Site) (core : Core) (count : ℕ) (a b : Seen)
+    : Type 0 where
   pub store : StoreSeen
   pub found : IsFound site.dirs a.spool.told store
-  pub runs : (table : Table) → Holds store table → IsUnderWay site table core count a b
+  pub runs : (table : Table) → Holds store table → IsUnderWay j site table core count a b
