@@ -211,10 +211,7 @@ spool_ended stops.FilesFault first before now same calm = inr (calm refl ∙ sam
 
 -- a judge that counts no fault never fails
 pub never_failed : (failed : Bool) → (failed ≡ true → Rose 0 0) → failed ≡ false
-never_failed true rose = absurd (none_rose (rose refl)) where
-  none_rose : Rose 0 0 → ⊥
-  none_rose (inl less) = omega (arith, less)
-  none_rose (inr last) = omega (arith, last)
+never_failed true rose = let no : 1 ≤ 0 = rose refl in absurd (omega (arith, no))
 never_failed false rose = refl
 
 -- the rules of a configuration judge by it
