@@ -12,6 +12,9 @@ use Rattle.link_edge.specs.Heard.{Heard}
 use Rattle.link_edge.specs.declared.event.Event.{Event}
 use Rattle.link_edge.specs.declared.event.Event.TheVariants.{Opens, Brings, Stops}
 use Rattle.spool_disk.specs.Spooled.{Spooled}
+use Rattle.smtp_lines.specs.Reader.{Reader, Stands as Reads, awaited, empty_stream, fresh}
+use Rattle.smtp_receive.specs.Sessions.{Stands as Speaks}
+use Rattle.smtp_receive.specs.declared.session.Session.{Session}
 use Rattle.smtp_receive.specs.Replies.{greeting_text, shown_host, too_many_sessions_text}
 use Rattle.mail_core.specs.declared.caller.Caller.{Caller}
 use Rattle.mail_core.specs.declared.next.Next.{Next}
@@ -32,10 +35,27 @@ use Rattle.mail_core.specs.Machine.{Ending, Stopped, Opening, Replied, Dropped, 
 use Rattle.mail_core.specs.Judges.{JudgeSeen}
 use Rattle.mail_core.specs.Meant.{ArePieceMeant, IsEventMeant}
 use Rattle.mail_core.specs.Seen.{Seen, seen, Ran}
-use Rattle.mail_core.specs.Standing.{Stores, IsAlone, Hosts, Stands}
+use Rattle.mail_core.specs.Standing.{Stores, IsAlone, Hosts, Keeps, Stands}
 use Rattle.mail_core.proofs.GoingLemmas.{cause_since, way_onward}
 use Rattle.mail_core.proofs.LineLemmas.{onward_alive}
 use Rattle.mail_core.proofs.RanLemmas.{ran_join, ran_quiet, ran_none, ran_floor}
+
+-- ---- a new session
+
+-- a caller of which nothing has come
+pub keeps_new : (site : Site) (number : ℕ) (peer : List ℕ) (session : Session) (reader : Reader) → All (λ b. b ≢ 10) peer → Speaks session site.config site.host peer [] → reader ≡ fresh → Reads reader empty_stream
+    → Keeps site (record { number = number; session = session; lines = reader }) (newcomer site.config number peer)
+keeps_new site number peer session reader line speaks is stands = record {
+  talks = record { number = refl; config = refl; session = speaks; formed = tt; peer = line };
+  follows = record {
+    stream = empty_stream;
+    stands = stands;
+    received = refl;
+    lines = refl;
+    granted = ap (λ (r : Reader). awaited r.under.may_turn false) is;
+  };
+  left = ap (λ (r : Reader). r.left) is;
+}
 
 -- ---- peers
 

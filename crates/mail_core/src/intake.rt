@@ -29,7 +29,7 @@ ghost use Rattle.mail_core.specs.Standing.{Keeps, Serves, Talks};
 ghost use Rattle.mail_core.specs.inner.Handling.{IsReady};
 
 use crate::caller::Caller;
-use crate::message::{cuts_of, headed, received_header};
+use crate::message::{has_class, cuts_of, headed, received_header};
 use crate::next::Next;
 use crate::serving::CoreStop;
 use crate::speech::say;
@@ -187,6 +187,7 @@ impl Intake {
             self.new caller.old caller.new result }
         ensures own { (F.seen floor.new).faults ≡ (F.seen floor.old).faults }
         ensures begun { (F.seen floor.new).begun ≡ (F.seen floor.old).begun }
+        ensures unjudged { is_judge_fault result ≡ false }
         ensures calm { is_well result ≡ true
             → (D.seen spool.new).faults ≡ (D.seen spool.old).faults }
         ensures tallied { is_well result ≡ true
@@ -247,7 +248,10 @@ impl Intake {
             Ok(Did::Granted(text)) => Ok(Intake::grant(floor, caller.number, &text)),
             Ok(Did::Bye(text)) => Ok(part(floor, caller.number, &text)),
             Ok(Did::Taken) => Ok(Next::Continue),
-            Ok(Did::Message(message)) => self.accept(floor, spool, config, caller, message),
+            Ok(Did::Message(message)) => {
+                has_class(&message);
+                self.accept(floor, spool, config, caller, message)
+            }
             Err(JudgeFault::FilesFault) => Err(CoreStop::FilesFault),
             Err(JudgeFault::NoMemory) => Ok(self.lack(floor, caller)),
         }

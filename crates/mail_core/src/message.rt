@@ -1,4 +1,5 @@
-ghost use Rattle.std.specs.Prelude.{◌≡◌, ◌∷◌, ℕ, IfOk, IfSome, OnOk, List};
+ghost use Rattle.std.specs.Int.{w64};
+ghost use Rattle.std.specs.Prelude.{◌≡◌, ◌∷◌, ℕ, FitsSigned, IfOk, IfSome, OnOk, List};
 ghost use Rattle.mail_base.specs.Catalogs.{with_value};
 ghost use Rattle.mail_base.specs.Names.{id_text as shown_id};
 ghost use Rattle.mail_base.specs.Texts.{IsHeader};
@@ -95,6 +96,13 @@ fn unangled(path: &[u8]) -> &[u8]
         [_, inner @ .., _] => inner,
         _ => &[],
     }
+}
+
+/// The class of a message has the range of its type: to read it says so.
+pub(crate) fn has_class(message: &Message)
+    ensures { FitsSigned w64 message.now.class }
+{
+    let _class = message.class;
 }
 
 /// A message with one header more in front, if there is one.

@@ -234,7 +234,9 @@ impl Core {
         ensures keeps { IfOk result
             (λ pair. (site : Site) → self.now.host ≡ site.host
             → Keeps site pair.0 (newcomer site.config session peer.now)) }
-        ensures greeting { IfOk result (λ pair. pair.1 ≡ greeting_text (shown_host self.now.host)) }
+        ensures greeting { IfOk result
+            (λ pair. (site : Site) → self.now.host ≡ site.host
+            → pair.1 ≡ greeting_text (shown_host site.host)) }
     {
         let peer = Text::of(self.alloc, peer)?;
         let caller = Caller {

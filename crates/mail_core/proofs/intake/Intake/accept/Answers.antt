@@ -31,6 +31,7 @@ returns-in-Err-NoMemory g c = record {
   sound = c.lack.ensures.sound;
   own = c.lack.ensures.own;
   begun = c.lack.ensures.begun;
+  unjudged = refl;
   calm = λ well. refl;
   tallied = λ well. tallies_same c.args.self.now.table c.plan.new.self.table _ c.plan.ensures.table c.requires.tallied;
 }

@@ -1,4 +1,4 @@
-use Rattle.std.proofs.Common.{Ok, Err, refl, sym, ◌∙◌, ap, subst, true, false, [], ◌∷◌, ◌≡◌}
+use Rattle.std.proofs.Common.{Ok, Err, arith, refl, sym, ◌∙◌, ap, subst, true, false, [], ◌∷◌, ◌≡◌}
 use Rattle.smtp_receive.specs.Dialogue.{exchanges, is_dropped}
 use Rattle.smtp_receive.specs.Judging.{Unasked}
 use Rattle.smtp_receive.specs.Replies.{shown_host}
@@ -10,7 +10,7 @@ use Rattle.mail_core.specs.declared.next.Next.TheVariants.{Continue, BeginData}
 use Rattle.mail_core.specs.Effects.{Sends, HangsUp, heard_of}
 use Rattle.mail_core.specs.inner.Going.{AnswersLine}
 use Rattle.mail_core.specs.Guests.{is_passed}
-use Rattle.mail_core.specs.Judges.{judge_seen}
+use Rattle.mail_core.specs.Judges.{IsAsked, judge_seen}
 use Rattle.mail_core.specs.Machine.{answer_by, fresh_start, limit_of}
 use Rattle.mail_core.specs.Seen.{seen}
 use Rattle.mail_core.proofs.AnswerLemmas.{reply_is, grant_is, bye_is, taken_is, message_is}
@@ -29,7 +29,7 @@ accept-requires-clause-valid g c =
     let r = c.requires.ready in
     let d = fresh_start r.table r.guest in
     let a = answers_at (judge_seen (g.J.Judge.seen c.args.judge.now) (g.J.Judge.answers c.args.judge.now)) r.site c.args.config.now d c.args.line.now c.args.caller.now c.line.new.self _ r.under r.talks c.in-Ok-Message.ensures.answered in
-    λ first header. valid_parts c.args.self.now.table.terms c.args.self.now.moment first c.in-Ok-Message.message r.guest.peer r.serves.range r.talks.peer (record { sfits = c.in-Ok-Message.message.type_inv }) header
+    λ first header. valid_parts c.args.self.now.table.terms c.args.self.now.moment first c.in-Ok-Message.message r.guest.peer r.serves.range r.talks.peer c.has_class.ensures header
     (given_formed r.guest.config r.guest.peer r.guest.heard a.said c.args.line.now c.in-Ok-Message.message r.talks.formed
     (message_is _ _ _ c.in-Ok-Message.message (sym c.in-Ok-Message.field-0-is ∙ a.did_is)))
 
@@ -120,3 +120,10 @@ returns-in-Err-NoMemory-clause-answers g c = λ site d clock under way serves ta
 
 pub returns-in-Err-NoMemory-clause-ready : goal.returns-in-Err-NoMemory-clause-ready
 returns-in-Err-NoMemory-clause-ready g c = ready_by _ _ _ _ _ _ _ _ _ _ c.requires.ready (returns-in-Err-NoMemory-clause-answers g c)
+
+-- a message isn't judged
+pub returns-in-Ok-Message-clause-asked : goal.returns-in-Ok-Message-clause-asked
+returns-in-Ok-Message-clause-asked g c =
+    let calm = c.in-Ok-Message.ensures.calm refl in
+    subst (λ b. IsAsked (judge_seen (g.J.Judge.seen c.args.judge.now) (g.J.Judge.answers c.args.judge.now)) (judge_seen (g.J.Judge.seen c.line.new.judge) (g.J.Judge.answers c.line.new.judge)) b) (sym c.accept.ensures.unjudged)
+      (record { steady = c.in-Ok-Message.ensures.steady; later = omega (arith, calm); rose = λ e. absurd (cc e); calm = λ e. calm })

@@ -13,7 +13,7 @@ returns-then-is_some-clause-opens g c = λ site m st.
 pub returns-then-say-clause-opens : goal.returns-then-say-clause-opens
 returns-then-say-clause-opens g c = λ site m st.
     let none = empty_at site _ m.guests c.if-is_some.ensures st.callers in
-    opens_new site m c.args.session c.args.peer.now _ _ _ c.in-Ok.greeting none (c.in-Ok.ensures.greeting ∙ ap (λ h. greeting_text (shown_host h)) st.host) c.if-say.ensures.told (record {
+    opens_new site m c.args.session c.args.peer.now _ _ _ c.in-Ok.greeting none (c.in-Ok.ensures.greeting site st.host) c.if-say.ensures.told (record {
       intake = st.intake;
       host = st.host;
       full = st.full;
@@ -25,7 +25,7 @@ returns-then-say-clause-opens g c = λ site m st.
 pub returns-else-say-clause-opens : goal.returns-else-say-clause-opens
 returns-else-say-clause-opens g c = λ site m st.
     let none = empty_at site _ m.guests c.if-is_some.ensures st.callers in
-    opens_unsent site m c.args.session c.args.peer.now _ _ _ c.in-Ok.greeting none (c.in-Ok.ensures.greeting ∙ ap (λ h. greeting_text (shown_host h)) st.host) c.if-say.ensures.told st
+    opens_unsent site m c.args.session c.args.peer.now _ _ _ c.in-Ok.greeting none (c.in-Ok.ensures.greeting site st.host) c.if-say.ensures.told st
 
 pub returns-in-Err-clause-opens : goal.returns-in-Err-clause-opens
 returns-in-Err-clause-opens g c = λ site m st.
