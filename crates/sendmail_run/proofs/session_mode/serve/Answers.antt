@@ -72,7 +72,7 @@ returns-in-Ok-Ended-clause-serves g c =
 -- the run can't go on
 pub returns-in-Err-turn-clause-serves : goal.returns-in-Err-turn-clause-serves
 returns-in-Err-turn-clause-serves g c = (
-  rw c.in-Err-turn.is at never_failed _ c.turn-in-loop.ensures.asked.rose,
+  never_failed _ c.in-Err-turn.ensures.asked.rose,
   served_out (judge_by c.args.config.now c.args.maps.now) (judge_seen teller (IsJudged c.loop.judge.config c.loop.judge.maps)) (session_site c.args.config.now) c.loop.core c.turn-in-loop.new.self c.loop.counter
       (seen (g.L.Floor.seen c.args.floor.now) (g.D.Spool.seen c.args.spool.now) (g.C.Clock.seen c.args.clock.now))
       (seen (g.L.Floor.seen c.loop.floor) (g.D.Spool.seen c.loop.spool) (g.C.Clock.seen c.loop.clock))
