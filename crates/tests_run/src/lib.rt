@@ -15,6 +15,8 @@ mod maps;
 #[cfg(test)]
 mod queues;
 #[cfg(test)]
+mod receipt;
+#[cfg(test)]
 mod serving;
 #[cfg(test)]
 mod session_files;

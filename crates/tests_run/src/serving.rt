@@ -52,12 +52,17 @@ fn words(alloc: Global) -> Result<Seq<Text>, NoMemory>
     Ok(words)
 }
 
-// Steps of a floor whose one session says this in pieces of so many bytes.
-fn steps(alloc: Global, asked: &[u8], size: usize) -> Result<Seq<Step>, NoMemory>
+/// Steps of a floor whose one session is with this peer, and says this in pieces of so many bytes.
+pub(crate) fn steps(
+    alloc: Global,
+    peer: &[u8],
+    asked: &[u8],
+    size: usize,
+) -> Result<Seq<Step>, NoMemory>
     requires { 0 < size }
 {
     let mut steps = Seq::new(alloc);
-    steps.push(Step::Open(Text::of(alloc, PEER)?))?;
+    steps.push(Step::Open(Text::of(alloc, peer)?))?;
     for piece in asked.chunks(size) {
         steps.push(Step::Say(1, Text::of(alloc, piece)?))?;
     }
@@ -75,7 +80,7 @@ pub(crate) fn script_floor(
 ) -> Result<ScriptFloor, NoMemory>
     requires { 0 < size }
 {
-    let steps = steps(alloc, asked, size)?;
+    let steps = steps(alloc, PEER, asked, size)?;
     let turns = calls(alloc, turns)?;
     Ok(ScriptFloor::new(alloc, steps, turns, calls(alloc, sends)?))
 }
