@@ -1,8 +1,7 @@
 //! Runs over the directories of several groups, each of one session with a message.
 
-use crate::devices::files_of;
 use crate::queues::name_of;
-use crate::serving::{ASKED, BODY, CONTROL, holds_in, outcome_over, script_floor};
+use crate::serving::{ASKED, BODY, CONTROL, holds_in, outcome_over, routed_files, script_floor};
 use mail_base::{NoMemory, Seq, Text};
 use spool_disk::{File, MemSpool};
 use std::alloc::Global;
@@ -15,7 +14,7 @@ const DRAFT: &[u8] = b"tfw000000000009";
 type Row = (&'static [u8], &'static [u8], &'static [u8], bool);
 
 static ROWS: [Row; 5] = [
-    (b"S5\n", b"/var/spool/mqueue", b"w000000000001", false),
+    (b"", b"/var/spool/mqueue", b"w000000000001", false),
     (
         b"Qbulk, Path=/bulk\n",
         b"/var/spool/mqueue",
@@ -48,7 +47,7 @@ fn with_draft(alloc: Global) -> Result<MemSpool, NoMemory> {
 }
 
 fn is_as(alloc: Global, row: &Row) -> Result<bool, Fail> {
-    let mut files = files_of(alloc, row.0, &[])?;
+    let mut files = routed_files(alloc, row.0, &[])?;
     let mut spool = with_draft(alloc)?;
     let mut floor = script_floor(alloc, ASKED, 65_536, &[], &[])?;
     let outcome = outcome_over(alloc, &mut files, &mut spool, &mut floor)?;

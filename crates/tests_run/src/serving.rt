@@ -2,7 +2,7 @@
 
 ghost use Rattle.std.specs.Prelude.{◌≡◌, ◌<◌, IfOk, length};
 
-use crate::devices::{CONFIG, calls, files_of};
+use crate::devices::{calls, files_of};
 use link_edge::{Floor, FloorEvent, ScriptFloor, Step};
 use mail_base::{NoMemory, Seq, Text};
 use mail_edge::{MemClock, MemFiles, MemSink, MemSource};
@@ -10,6 +10,9 @@ use sendmail_run::{Outcome, sendmail};
 use spool_disk::{File, Spool};
 use std::alloc::Global;
 use std::test::Fail;
+
+// Lines by which each address goes to a mailer.
+const ROUTES: &[u8] = b"Mlocal, P=/bin/mail, A=mail -d $u\nS0\nR$*\t$#local $: $1\n";
 
 // What the clock reads.
 const NOW: u64 = 1_767_225_600;
@@ -85,6 +88,14 @@ pub(crate) fn script_floor(
     Ok(ScriptFloor::new(alloc, steps, turns, calls(alloc, sends)?))
 }
 
+/// Files whose configuration has these lines and routes each address, and which of their calls are
+/// to fail.
+pub(crate) fn routed_files(alloc: Global, lines: &[u8], failing: &[u64]) -> Result<MemFiles, Fail> {
+    let mut config = Text::of(alloc, lines)?;
+    config.extend(ROUTES)?;
+    files_of(alloc, config.bytes(), failing)
+}
+
 /// How session mode ends over these files, this spool and this floor.
 pub(crate) fn outcome_over<D: Spool, L: Floor>(
     alloc: Global,
@@ -115,7 +126,7 @@ pub(crate) fn status_with<D: Spool, L: Floor>(
     spool: &mut D,
     floor: &mut L,
 ) -> Result<u8, Fail> {
-    let mut files = files_of(alloc, CONFIG, failing)?;
+    let mut files = routed_files(alloc, b"", failing)?;
     let outcome = outcome_over(alloc, &mut files, spool, floor)?;
     Ok(outcome.status())
 }

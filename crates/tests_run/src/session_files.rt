@@ -1,8 +1,9 @@
 // The files that session mode reads before it opens the queue.
-use crate::devices::{calls, files_of};
+use crate::devices::calls;
 use crate::lines::place_of;
 use crate::serving::{
-    ALL_REPLIES, ASKED, CONTROL, is_stored, joined, outcome_over, said_to, script_floor,
+    ALL_REPLIES, ASKED, CONTROL, is_stored, joined, outcome_over, routed_files, said_to,
+    script_floor,
 };
 use link_edge::ScriptFloor;
 use mail_base::{Seq, Text};
@@ -63,7 +64,7 @@ struct Served {
 }
 
 fn serve(alloc: Global, row: &Row) -> Result<Served, Fail> {
-    let mut files = files_of(alloc, row.0, row.1)?;
+    let mut files = routed_files(alloc, row.0, row.1)?;
     let mut spool = MemSpool::new(alloc, calls(alloc, row.2)?);
     let mut floor = script_floor(alloc, ASKED, 65_536, &[], &[])?;
     let outcome = outcome_over(alloc, &mut files, &mut spool, &mut floor)?;
