@@ -21,6 +21,9 @@ const ROOT: &str = "/tmp/sendmail-whole";
 
 const QUEUE: &str = "/tmp/sendmail-whole/var/spool/mqueue";
 
+/// Each address goes to a mailer.
+const CONFIG: &[u8] = b"Mlocal, P=/bin/mail, A=mail -d $u\nS0\nR$*\t$#local $: $1\n";
+
 const ASKED: &[u8] = b"HELO c.example\r\n\
     MAIL FROM:<bob@c.example>\r\n\
     RCPT TO:<ann@mx.example>\r\n\
@@ -56,7 +59,7 @@ const BEHIND: &[u8] = b"\nK0\nN0\nP30022\nc0\n\
 fn make_site(rt: &HostRuntime) -> io::Result<()> {
     make_empty(rt, ROOT)?;
     fs::create_dir_all(rt, QUEUE)?;
-    fs::write(rt, "/tmp/sendmail-whole/sendmail.cf", b"S5\n".as_slice())
+    fs::write(rt, "/tmp/sendmail-whole/sendmail.cf", CONFIG)
 }
 
 // The command line.
