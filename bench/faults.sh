@@ -16,7 +16,7 @@ printf '%s\r\n' 'HELO c.example' 'MAIL FROM:<bob@c.example>' 'RCPT TO:<ann@mx.ex
 serve() {
     rm -rf "${queue:?}"/*
     status=0
-    strace -y -o "$work/calls" "$@" "$program" -bs "-C$work/empty.cf" \
+    strace -y -o "$work/calls" "$@" "$program" -bs "-C$work/local.cf" \
         < "$work/asked" > "$work/replies" 2> "$work/errors" || status=$?
 }
 

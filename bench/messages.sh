@@ -23,7 +23,7 @@ for lines in 13 1300; do
         for _ in $(seq 5); do
             rm -f /var/spool/mqueue/*
             begun=$(date +%s%N)
-            cat "$work/asked" | LD_PRELOAD=$library "$program" -bs "-C$work/empty.cf" | cat > "$work/replies"
+            cat "$work/asked" | LD_PRELOAD=$library "$program" -bs "-C$work/local.cf" | cat > "$work/replies"
             took=$(($(date +%s%N) - begun))
             [ "$(grep -c '^250 2.0.0 w' "$work/replies")" = 100 ]
             [ "$best" ] && [ "$best" -le "$took" ] || best=$took

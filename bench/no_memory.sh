@@ -74,11 +74,11 @@ queued() {
 
 printf '%s\r\n' 'HELO c.example' 'MAIL FROM:<bob@c.example>' 'RCPT TO:<ann@mx.example>' DATA 'Subject: hi' '' hello . \
     QUIT > "$work/asked"
-! run 1000000 -bs "-C$work/empty.cf"
+! run 1000000 -bs "-C$work/local.cf"
 cp "$work/answers" "$work/whole"
 queued
 at=1
-while run "$at" -bs "-C$work/empty.cf"; do
+while run "$at" -bs "-C$work/local.cf"; do
     is_silent && [ -z "$(ls /var/spool/mqueue)" ] || answered ||
         { echo "-bs, allocation $at: status $status"; cat "$work/answers"; exit 1; }
     at=$((at + 1))

@@ -9,14 +9,14 @@ message() {
 }
 
 mkfifo "$work/first"
-"$program" -bs "-C$work/empty.cf" < "$work/first" > "$work/replies" &
+"$program" -bs "-C$work/local.cf" < "$work/first" > "$work/replies" &
 exec 3> "$work/first"
 for _ in $(seq 100); do
     [ -s "$work/replies" ] && break
     sleep 0.05
 done
 status=0
-message second | "$program" -bs "-C$work/empty.cf" > "$work/second" 2> "$work/errors" || status=$?
+message second | "$program" -bs "-C$work/local.cf" > "$work/second" 2> "$work/errors" || status=$?
 message first >&3
 exec 3>&-
 wait $!

@@ -25,7 +25,7 @@ for data in headers lines line; do
     session "$work/$data" 1 > "$work/asked"
     for each in "$program" $OTHER; do
         rm -f /var/spool/mqueue/*
-        /usr/bin/time -f %M -o "$work/peak" "$each" -bs "-C$work/empty.cf" < "$work/asked" > "$work/replies"
+        /usr/bin/time -f %M -o "$work/peak" "$each" -bs "-C$work/local.cf" < "$work/asked" > "$work/replies"
         echo "$data: $(cat "$work/peak") KiB at most, $(grep -c '^250 2.0.0 w' "$work/replies" || true) stored, by $each"
     done
 done
@@ -34,7 +34,7 @@ session "$work/lines" 8 > "$work/asked"
 for _ in $(seq 9); do
     for each in "$program" $OTHER; do
         rm -f /var/spool/mqueue/*
-        /usr/bin/time -f '%U %S' -o "$work/times" "$each" -bs "-C$work/empty.cf" < "$work/asked" > "$work/replies"
+        /usr/bin/time -f '%U %S' -o "$work/times" "$each" -bs "-C$work/local.cf" < "$work/asked" > "$work/replies"
         [ "$(grep -c '^250 2.0.0 w' "$work/replies")" = 8 ]
         echo "$(cat "$work/times") $each"
     done

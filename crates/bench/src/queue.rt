@@ -15,6 +15,9 @@ use spool_disk::{File, MemSpool};
 use spool_store::Queue;
 use std::alloc::Global;
 
+// Each address goes to a mailer.
+const CONFIG: &[u8] = b"Mlocal, P=/bin/mail, A=mail -d $u\nS0\nR$*\t$#local $: $1\n";
+
 const DIR: &[u8] = b"/var/spool/mqueue";
 
 const CONTROL: &[u8] =
@@ -75,7 +78,7 @@ fn words(alloc: Global) -> Result<Seq<Text>, NoMemory>
 /// The configuration: nothing but its defaults.
 fn files(alloc: Global) -> Result<MemFiles> {
     let mut files = Seq::new(alloc);
-    files.push((Text::of(alloc, b"queue.cf")?, Text::of(alloc, b"S5\n")?))?;
+    files.push((Text::of(alloc, b"queue.cf")?, Text::of(alloc, CONFIG)?))?;
     let Some(sure) = SureFiles::new(files) else {
         bail!("a large text");
     };
