@@ -113,7 +113,7 @@ type Row = (&'static [u8], &'static [u8]);
 
 /// A stream, and what is said to it: the cases of a command in their order, and of neighbours the
 /// first.
-static SESSIONS: [Row; 58] = [
+static SESSIONS: [Row; 59] = [
     (
         b"HELO c.example\r\nMAIL FROM:<bob@c.example>\r\nRCPT TO:<ann@mx.example>\r\nDATA\r\n\
             Subject: hi\r\n\r\nhello\r\n.\r\nQUIT\r\n",
@@ -211,6 +211,7 @@ static SESSIONS: [Row; 58] = [
         b"553 5.1.3 Bad address\r\n250 2.1.0 Sender ok\r\n",
     ),
     (b"MAIL FROM:<a<b>\r\n", b"553 5.1.3 Bad address\r\n"),
+    (b"MAIL FROM:<a\\>\r\n", b"553 5.1.3 Bad address\r\n"),
     (b"MAIL FROM:<>\r\n", b"250 2.1.0 Sender ok\r\n"),
     (b"MAIL FROM:<a> \t\r\n", b"250 2.1.0 Sender ok\r\n"),
     (b"MAIL FROM:<a> body=7bit\r\n", b"250 2.1.0 Sender ok\r\n"),
@@ -358,7 +359,7 @@ static PATHS: [Row; 10] = [
     (b"<\"a\\\"b>\"@c>", b"<\"a\\\"b>\"@c>"),
     (b"<\"a>\\\\\"@c>", b"<\"a>\\\\\"@c>"),
     (b"<\">\"a\">\"@c>", b"<\">\"a\">\"@c>"),
-    (b"<a\\>", b"<a\\>"),
+    (b"<a\\b>", b"<a\\b>"),
     (b"bob@c", b"<bob@c>"),
     (b"<@a>", b"<@a>"),
 ];
