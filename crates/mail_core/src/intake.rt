@@ -29,7 +29,7 @@ ghost use Rattle.mail_core.specs.Standing.{Keeps, Serves, Talks};
 ghost use Rattle.mail_core.specs.inner.Handling.{IsReady};
 
 use crate::caller::Caller;
-use crate::message::{has_class, cuts_of, headed, received_header};
+use crate::message::{cuts_of, has_class, headed, received_header};
 use crate::next::Next;
 use crate::serving::CoreStop;
 use crate::speech::say;

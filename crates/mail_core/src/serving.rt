@@ -179,7 +179,14 @@ impl Core {
                 self.open(floor, session, &buf[..count]);
                 Ok(Act::Went)
             }
-            Turn::Piece(session, count) => self.piece(floor, spool, config, judge, session, &buf[..count]),
+            Turn::Piece(session, count) => self.piece(
+                floor,
+                spool,
+                config,
+                judge,
+                session,
+                &buf[..count],
+            ),
             Turn::Closed(session) => {
                 let _caller = self.take(session);
                 Ok(Act::Went)
@@ -304,7 +311,9 @@ impl Core {
         let Some(mut caller) = self.take(session) else {
             return Ok(Act::Went);
         };
-        let next = self.intake.feed(floor, spool, config, judge, &mut caller, piece)?;
+        let next = self
+            .intake
+            .feed(floor, spool, config, judge, &mut caller, piece)?;
         if next.stays_open() {
             self.caller = Some(caller);
             return Ok(Act::Went);

@@ -39,7 +39,7 @@ accept-requires-clause-rows g c =
     let d = fresh_start r.table r.guest in
     let a = answers_at (judge_seen (g.J.Judge.seen c.args.judge.now) (g.J.Judge.answers c.args.judge.now)) r.site c.args.config.now d c.args.line.now c.args.caller.now c.line.new.self _ r.under r.talks c.in-Ok-Message.ensures.answered in
     let form = given_formed r.guest.config r.guest.peer r.guest.heard a.said c.args.line.now c.in-Ok-Message.message r.talks.formed
-        (message_is _ _ _ c.in-Ok-Message.message (sym c.in-Ok-Message.field-0-is ∙ a.did_is)) in form.rows_form.some
+    (message_is _ _ _ c.in-Ok-Message.message (sym c.in-Ok-Message.field-0-is ∙ a.did_is)) in form.rows_form.some
 
 pub returns-in-Ok-Reply-clause-answers : goal.returns-in-Ok-Reply-clause-answers
 returns-in-Ok-Reply-clause-answers g c = λ site d clock under way serves talks.
@@ -126,4 +126,4 @@ pub returns-in-Ok-Message-clause-asked : goal.returns-in-Ok-Message-clause-asked
 returns-in-Ok-Message-clause-asked g c =
     let calm = c.in-Ok-Message.ensures.calm refl in
     subst (λ b. IsAsked (judge_seen (g.J.Judge.seen c.args.judge.now) (g.J.Judge.answers c.args.judge.now)) (judge_seen (g.J.Judge.seen c.line.new.judge) (g.J.Judge.answers c.line.new.judge)) b) (sym c.accept.ensures.unjudged)
-      (record { steady = c.in-Ok-Message.ensures.steady; later = omega (arith, calm); rose = λ e. absurd (cc e); calm = λ e. calm })
+    (record { steady = c.in-Ok-Message.ensures.steady; later = omega (arith, calm); rose = λ e. absurd (cc e); calm = λ e. calm })

@@ -14,4 +14,4 @@ plan_accept-requires-clause-cuts c = subst AreCuts (sym (c.items.ensures ∙ c.i
 pub plan_accept-requires-clause-valid : goal.plan_accept-requires-clause-valid
 plan_accept-requires-clause-valid c =
     subst (λ (q : List Cut). AreValid c.args.self.now.table.terms c.in_ok-message.message c.args.self.now.moment q) (sym (c.items.ensures ∙ c.in_ok-cuts.ensures))
-      (subst (λ (m : Message). AreValid c.args.self.now.table.terms m c.args.self.now.moment (cuts_of c.args.message)) (sym c.in_ok-message.ensures) (c.requires.valid c.in_ok-first.first c.in_ok-first.ensures.header))
+    (subst (λ (m : Message). AreValid c.args.self.now.table.terms m c.args.self.now.moment (cuts_of c.args.message)) (sym c.in_ok-message.ensures) (c.requires.valid c.in_ok-first.first c.in_ok-first.ensures.header))
