@@ -186,7 +186,7 @@ pub record IsNoLess (a b : Seen) : Type 0 where
   pub spool : a.spool.faults ≤ b.spool.faults
 
 unserved_later : (site : Site) (a b : Seen) → IsUnserved site a b → IsNoLess a b
-unserved_later j site a b is = record { floor = let e = ap (λ (h : Heard). h.faults) is.floor in omega (arith, e); spool = is.spool_faults }
+unserved_later site a b is = record { floor = let e = ap (λ (h : Heard). h.faults) is.floor in omega (arith, e); spool = is.spool_faults }
 
 out_later : (j : JudgeSeen) (site : Site) (a b : Seen) (went : Result Act CoreStop) → IsServedOut j site a b went → IsNoLess a b
 out_later j site a b went is = record { floor = is.over.run.headline.floor_faults; spool = is.over.run.headline.spool_faults }
@@ -196,8 +196,8 @@ served_later j site n a b is = record { floor = is.over.run.headline.floor_fault
 
 -- what session mode leaves behind is no less than what was there
 pub serves_later : (j : JudgeSeen) (site : Site) (a b : Seen) (how : SessionEnd) → Serves j site a b how → IsNoLess a b
-serves_later j site a b ends.NotOpened is = unserved_later j site a b is.0
-serves_later j site a b ends.NoMemory is = unserved_later j site a b is
+serves_later j site a b ends.NotOpened is = unserved_later site a b is.0
+serves_later j site a b ends.NoMemory is = unserved_later site a b is
 serves_later j site a b ends.FloorFault is = served_later j site is.count a b is.served
 serves_later j site a b ends.Stopped is = out_later j site a b (Ok Ended) is
 serves_later j site a b (ends.Over stop) is = out_later j site a b (Err stop) is.1
