@@ -20,10 +20,10 @@ const ANOTHER_MESSAGE: &[u8] =
     b"HELO c.example\r\nMAIL FROM:<bob@c.example>\r\nRCPT TO:<ann@mx.example>\r\nDATA\r\n\
         Subject: hi\r\n\r\nagain\r\n.\r\nQUIT\r\n";
 
-const REFUSALS: &[u8] =
-    b"RCPT TO:<ann@mx.example>\r\nDATA\r\nHELO c.example\r\nMAIL FROM:<bob@c.example> SIZE=9\r\n\
+const REFUSALS: &[u8] = b"RCPT TO:<ann@mx.example>\r\nDATA\r\nHELO c.example\r\n\
+        MAIL FROM:<bob@c.example> SIZE=99999999\r\n\
         MAIL FROM:<bob@c.example>\r\nDATA\r\nRCPT TO:<ann@mx.example>\r\n\
-        RCPT TO:<cid@mx.example>\r\n\
+        RCPT TO:<>\r\n\
         VRFY ann\r\nDATA\r\nSubject: hi\r\n\r\nhello\r\n.\r\nDATA\r\nQUIT\r\n";
 
 const TO_MID_DATA: &[u8] =
