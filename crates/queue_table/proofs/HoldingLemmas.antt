@@ -9,7 +9,8 @@ use Rattle.spool_store.specs.Entries.{Stored, Table, ids}
 use Rattle.spool_store.specs.Stores.{Agrees, Holds, IsHeld, StoreSeen}
 use Rattle.spool_store.specs.declared.held.Held.{Held}
 use Rattle.queue_table.specs.Commands.{control_at}
-use Rattle.queue_table.proofs.EntryLemmas.{contains_cases, contains_head, contains_tail, found}
+use Rattle.spool_store.proofs.Standing.{contains_cases, contains_head, contains_tail}
+use Rattle.queue_table.proofs.EntryLemmas.{found}
 
 -- what a store holds of an entry of the table
 pub record IsHeldIn (held : List Held) (s : Stored) : Type 0 where

@@ -19,7 +19,8 @@ use Rattle.queue_table.specs.Reserves.{IsReserved}
 use Rattle.queue_table.specs.Results.{is_old, recorded}
 use Rattle.queue_table.specs.declared.recording.Reserved.{Reserved}
 use Rattle.queue_table.specs.declared.terms.Terms.{Terms}
-use Rattle.queue_table.proofs.EntryLemmas.{contains_cases, contains_head, contains_tail, found}
+use Rattle.spool_store.proofs.Standing.{contains_cases, contains_head, contains_tail}
+use Rattle.queue_table.proofs.EntryLemmas.{found}
 use Rattle.queue_table.proofs.ResultLemmas.{results_addresses}
 
 -- a store and its table have the same ids
