@@ -3,9 +3,10 @@
 //! these are left out. Each time a message comes: one of 65,520 bytes of headers, or one of
 //! 16,777,200 bytes of body. It tells how many bytes were received.
 
-ghost use Rattle.std.specs.Prelude.{◌<◌};
+ghost use Rattle.std.specs.Prelude.{◌<◌, IfOk};
 ghost use Rattle.mail_base.specs.Answering.{Answerer};
-ghost use Rattle.smtp_receive.specs.Judging.{Question, Said};
+ghost use Rattle.mail_base.specs.Texts.{IsAddress, IsBracketed};
+ghost use Rattle.smtp_receive.specs.Judging.{AreRows, IsDrawn, Question, Said};
 
 use crate::gather::{Part, message};
 use anyhow::{Result, bail, ensure};
@@ -41,12 +42,15 @@ fn words(over: &str) -> Result<(&str, usize)> {
 }
 
 /// A judge that accepts all, with one row a recipient.
+#[derive(Drop)]
 struct Willing;
 
 impl Judge for Willing {
+    ghost use Rattle.std.specs.Prelude.{false};
+
     ghost seen = { λ _. record { faults = 0; tells = false } };
 
-    ghost answers = { λ _ _ _. Unit };
+    ghost answers = { λ _ _ _. Unit {0} };
 
     fn sender(
         &mut self,
@@ -64,27 +68,44 @@ impl Judge for Willing {
         sender: &Text,
         _kept: &Kept,
     ) -> Result<Verdict, JudgeFault> {
-        let mut rows = Seq::new(alloc);
-        rows.push(row_of(path, sender)?)?;
-        Ok(Verdict::Rows(rows))
+        // A path with its angles has some bytes.
+        if path.is_empty() {
+            return Err(JudgeFault::NoMemory);
+        }
+        Ok(Verdict::Rows(one_row(alloc, path, sender)?))
     }
 }
 
-fn row_of(path: &Text, sender: &Text) -> Result<Draw, NoMemory> {
+#[tactic(auto, unfolding(mail_base::specs::Limits::most_rows))]
+fn one_row(alloc: Global, path: &Text, sender: &Text) -> Result<Seq<Draw>, NoMemory>
+    requires path { IsAddress path.now }
+    requires sender { IsBracketed sender.now }
+    ensures { IfOk result AreRows }
+{
+    let mut rows = Seq::new(alloc);
+    rows.push(row_of(alloc, path, sender)?)?;
+    Ok(rows)
+}
+
+fn row_of(alloc: Global, path: &Text, sender: &Text) -> Result<Draw, NoMemory>
+    requires path { IsAddress path.now }
+    requires sender { IsBracketed sender.now }
+    ensures { IfOk result IsDrawn }
+{
     Ok(Draw {
         address: path.copy()?,
         sender: sender.copy()?,
         primary: true,
-        resolved: Resolved::Goes(triple(path)?),
+        resolved: Resolved::Goes(triple(alloc)),
     })
 }
 
-fn triple(path: &Text) -> Result<Triple, NoMemory> {
-    Ok(Triple {
-        mailer: Text::of(path.allocator(), b"local")?,
-        host: Text::new(path.allocator()),
-        user: path.copy()?,
-    })
+fn triple(alloc: Global) -> Triple {
+    Triple {
+        mailer: Text::new(alloc),
+        host: Text::new(alloc),
+        user: Text::new(alloc),
+    }
 }
 
 fn receive(alloc: Global, message: &[u8], size: usize, rounds: u32) -> Result<u64, NoMemory>
@@ -129,9 +150,10 @@ fn receive_one(
 
 /// The bytes of the messages that lines end.
 fn hear(session: &mut Session, config: &Config, lines: &Seq<Line>) -> Result<u64, NoMemory> {
+    let mut judge = Willing;
     let mut received = 0u64;
     for line in lines.items() {
-        match session.line(line, config, &mut Willing) {
+        match session.line(line, config, &mut judge) {
             Ok(Did::Message(message)) => received = received.wrapping_add(message.size),
             Ok(_) => (),
             Err(_) => return Err(NoMemory),
