@@ -150,14 +150,25 @@ fn receive_one(
 
 /// The bytes of the messages that lines end.
 fn hear(session: &mut Session, config: &Config, lines: &Seq<Line>) -> Result<u64, NoMemory> {
-    let mut judge = Willing;
     let mut received = 0u64;
     for line in lines.items() {
-        match session.line(line, config, &mut judge) {
-            Ok(Did::Message(message)) => received = received.wrapping_add(message.size),
-            Ok(_) => (),
-            Err(_) => return Err(NoMemory),
-        }
+        received = received.wrapping_add(hear_line(session, config, line)?);
     }
     Ok(received)
+}
+
+fn hear_line(session: &mut Session, config: &Config, line: &Line) -> Result<u64, NoMemory> {
+    let mut judge = Willing;
+    match session.line(line, config, &mut judge) {
+        Ok(did) => Ok(size_of(&did)),
+        Err(_fault) => Err(NoMemory),
+    }
+}
+
+/// The bytes of the message that a line ended, if it ended one.
+fn size_of(did: &Did) -> u64 {
+    match did {
+        Did::Message(message) => message.size,
+        _ => 0,
+    }
 }
