@@ -1,5 +1,5 @@
 use crate::talk::{Limits, NO_LIMITS, Talk};
-use mail_base::NoMemory;
+use mail_base::{NoMemory, Text};
 use std::alloc::Global;
 
 /// What is said before a line, the line, and the reply to it.
@@ -488,15 +488,16 @@ static RECIPIENTS: [Step; 4] = [
 
 /// Rows at and above their number, where there may be more recipients; a refusal stands
 /// before it.
-static DRAWN: [Step; 8] = [
+static DRAWN: [Step; 9] = [
     (b"MAIL FROM:<a>\r\n", 1, b"250 2.1.0 Sender ok\r\n"),
-    (b"RCPT TO:<many@a>\r\n", 1, b"250 2.1.5 Recipient ok\r\n"),
+    (b"RCPT TO:<two@a>\r\n", 4_999, b"250 2.1.5 Recipient ok\r\n"),
+    (b"RCPT TO:<a>\r\n", 1, b"250 2.1.5 Recipient ok\r\n"),
     (
-        b"RCPT TO:<many@b>\r\n",
+        b"RCPT TO:<two@b>\r\n",
         1,
         b"452 4.5.3 Too many recipients\r\n",
     ),
-    (b"RCPT TO:<a>\r\n", 4_000, b"250 2.1.5 Recipient ok\r\n"),
+    (b"RCPT TO:<a>\r\n", 1, b"250 2.1.5 Recipient ok\r\n"),
     (b"RCPT TO:<b>\r\n", 2, b"452 4.5.3 Too many recipients\r\n"),
     (b"RCPT TO:<no>\r\n", 1, b"550 5.7.1 Refused\r\n"),
     (b"RSET\r\n", 1, b"250 2.0.0 Reset state\r\n"),
@@ -586,13 +587,21 @@ fn dialogue(number: usize) -> (Limits, &'static [Step]) {
 // Whether each time the same is said.
 fn goes(talk: &mut Talk, step: &Step) -> Result<bool, NoMemory> {
     for _ in 0..step.1 {
-        talk.said.clear();
-        talk.take(step.0)?;
-        if talk.said.bytes() != step.2 {
+        if !is_said(talk, step.0, step.2)? {
             return Ok(false);
         }
     }
     Ok(true)
+}
+
+fn is_said(talk: &mut Talk, given: &[u8], wanted: &[u8]) -> Result<bool, NoMemory> {
+    talk.said.clear();
+    talk.take(given)?;
+    Ok(is_text(&talk.said, wanted))
+}
+
+fn is_text(said: &Text, wanted: &[u8]) -> bool {
+    said.bytes() == wanted
 }
 
 // The first place of a step to which something else is said.

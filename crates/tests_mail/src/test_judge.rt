@@ -1,15 +1,19 @@
+ghost use Rattle.std.specs.Prelude.{◌≡◌, ◌<◌, ◌≤◌, IfOk, length};
 ghost use Rattle.mail_base.specs.Answering.{Answerer};
-ghost use Rattle.smtp_receive.specs.Judging.{Question, Said};
+ghost use Rattle.mail_base.specs.Histories.{Rose};
+ghost use Rattle.mail_base.specs.Refusals.{IsRefusal};
+ghost use Rattle.mail_base.specs.Texts.{IsAddress, IsBracketed, IsSaid};
+ghost use Rattle.smtp_receive.specs.Judging.{AreRows, IsDrawn, IsFormedSaid, OfRecipient, Question, Said};
 
 use mail_base::{
-    Cause, Draw, JudgeFault, Kept, NoMemory, Resolved, RouteError, Seq, Status, Text, Triple,
+    Cause, Draw, JudgeFault, Kept, NoMemory, Note, Resolved, RouteError, Seq, Status, Text, Triple,
     TryCopy,
 };
 use smtp_receive::{Judge, Verdict};
 use std::alloc::Global;
 
 /// A judge that goes by the first letters of a path: it refuses `no`, can't read a file at `fault`,
-/// gives 6,000 rows to `many`, and one to any other.
+/// gives two rows to `two`, and one to any other. It tells nothing.
 #[derive(Drop)]
 pub struct TestJudge {
     faults: u64,
@@ -20,16 +24,20 @@ impl TestJudge {
         TestJudge { faults: 0 }
     }
 
-    fn fail(&mut self) -> JudgeFault {
+    fn fail(&mut self)
+        ensures later { self.old.faults ≤ self.new.faults }
+        ensures rose { Rose self.old.faults self.new.faults }
+    {
         self.faults = self.faults.saturating_add(1);
-        JudgeFault::FilesFault
     }
 }
 
 impl Judge for TestJudge {
+    ghost use Rattle.std.specs.Prelude.{false};
+
     ghost seen = { λ judge. record { faults = judge.faults; tells = false } };
 
-    ghost answers = { λ _ _ _. Unit };
+    ghost answers = { λ _ _ _. Unit {0} };
 
     fn sender(
         &mut self,
@@ -38,7 +46,8 @@ impl Judge for TestJudge {
         _kept: &Kept,
     ) -> Result<Option<RouteError>, JudgeFault> {
         if path.bytes().starts_with(b"<fault") {
-            return Err(self.fail());
+            self.fail();
+            return Err(JudgeFault::FilesFault);
         }
         if path.bytes().starts_with(b"<no") {
             return Ok(Some(refusal(alloc)?));
@@ -54,58 +63,104 @@ impl Judge for TestJudge {
         _kept: &Kept,
     ) -> Result<Verdict, JudgeFault> {
         if path.bytes().starts_with(b"<fault") {
-            return Err(self.fail());
+            self.fail();
+            return Err(JudgeFault::FilesFault);
         }
-        if path.bytes().starts_with(b"<no") {
-            return Ok(Verdict::No(refusal(alloc)?));
-        }
-        let more = if path.bytes().starts_with(b"<many") {
-            5_999
-        } else {
-            0
-        };
-        Ok(Verdict::Rows(rows_of(path, sender, more)?))
+        Ok(verdict(alloc, path, sender)?)
     }
 }
 
-fn refusal(alloc: Global) -> Result<RouteError, NoMemory> {
+fn verdict(alloc: Global, path: &Text, sender: &Text) -> Result<Verdict, NoMemory>
+    requires path { IsBracketed path.now }
+    requires sender { IsBracketed sender.now }
+    ensures { IfOk result (λ verdict. IsFormedSaid (OfRecipient verdict)) }
+{
+    if path.bytes().starts_with(b"<no") {
+        return Ok(Verdict::No(refusal(alloc)?));
+    }
+    // A path with its angles has some bytes.
+    if path.len() == 0 {
+        return Err(NoMemory);
+    }
+    Ok(Verdict::Rows(rows(alloc, path, sender)?))
+}
+
+fn refusal(alloc: Global) -> Result<RouteError, NoMemory>
+    ensures { IfOk result IsRefusal }
+{
+    let Some(status) = Status::of(b"5.7.1") else {
+        return Err(NoMemory);
+    };
     Ok(RouteError {
-        code: 550,
-        status: refused_status(),
-        text: Text::of(alloc, b"Refused")?,
+        text: refused(alloc)?,
         cause: Cause::ErrorMailer,
+        code: 550,
+        status,
     })
 }
 
-fn refused_status() -> Status {
-    match Status::of(b"5.7.1") {
-        Some(status) => status,
-        None => unreachable!(),
+fn refused(alloc: Global) -> Result<Text, NoMemory>
+    ensures some { IfOk result (λ text. 0 < length text) }
+    ensures line { IfOk result IsSaid }
+{
+    let Some(note) = Note::of(b"Refused") else {
+        return Err(NoMemory);
+    };
+    Text::of(alloc, note.bytes())
+}
+
+fn rows(alloc: Global, path: &Text, sender: &Text) -> Result<Seq<Draw>, NoMemory>
+    requires path { IsAddress path.now }
+    requires sender { IsBracketed sender.now }
+    ensures { IfOk result AreRows }
+{
+    if path.bytes().starts_with(b"<two") {
+        two_rows(alloc, path, sender)
+    } else {
+        one_row(alloc, path, sender)
     }
 }
 
-fn rows_of(path: &Text, sender: &Text, more: usize) -> Result<Seq<Draw>, NoMemory> {
-    let mut rows = Seq::new(path.allocator());
-    rows.push(row_of(path, sender)?)?;
-    for _ in 0..more {
-        rows.push(row_of(path, sender)?)?;
-    }
+#[tactic(auto, unfolding(mail_base::specs::Limits::most_rows))]
+fn one_row(alloc: Global, path: &Text, sender: &Text) -> Result<Seq<Draw>, NoMemory>
+    requires path { IsAddress path.now }
+    requires sender { IsBracketed sender.now }
+    ensures { IfOk result AreRows }
+{
+    let mut rows = Seq::new(alloc);
+    rows.push(row(path, sender)?)?;
     Ok(rows)
 }
 
-fn row_of(path: &Text, sender: &Text) -> Result<Draw, NoMemory> {
+#[tactic(auto, unfolding(mail_base::specs::Limits::most_rows))]
+fn two_rows(alloc: Global, path: &Text, sender: &Text) -> Result<Seq<Draw>, NoMemory>
+    requires path { IsAddress path.now }
+    requires sender { IsBracketed sender.now }
+    ensures { IfOk result AreRows }
+{
+    let mut rows = Seq::new(alloc);
+    rows.push(row(path, sender)?)?;
+    rows.push(row(path, sender)?)?;
+    Ok(rows)
+}
+
+fn row(path: &Text, sender: &Text) -> Result<Draw, NoMemory>
+    requires path { IsAddress path.now }
+    requires sender { IsBracketed sender.now }
+    ensures { IfOk result IsDrawn }
+{
     Ok(Draw {
         address: path.copy()?,
         sender: sender.copy()?,
         primary: true,
-        resolved: Resolved::Goes(triple(path)?),
+        resolved: Resolved::Goes(nowhere(path.allocator())),
     })
 }
 
-fn triple(path: &Text) -> Result<Triple, NoMemory> {
-    Ok(Triple {
-        mailer: Text::of(path.allocator(), b"local")?,
-        host: Text::new(path.allocator()),
-        user: path.copy()?,
-    })
+fn nowhere(alloc: Global) -> Triple {
+    Triple {
+        mailer: Text::new(alloc),
+        host: Text::new(alloc),
+        user: Text::new(alloc),
+    }
 }
