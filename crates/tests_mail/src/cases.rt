@@ -490,10 +490,14 @@ static RECIPIENTS: [Step; 4] = [
 /// before it.
 static DRAWN: [Step; 9] = [
     (b"MAIL FROM:<a>\r\n", 1, b"250 2.1.0 Sender ok\r\n"),
-    (b"RCPT TO:<two@a>\r\n", 4_999, b"250 2.1.5 Recipient ok\r\n"),
+    (
+        b"RCPT TO:<twin@a>\r\n",
+        4_999,
+        b"250 2.1.5 Recipient ok\r\n",
+    ),
     (b"RCPT TO:<a>\r\n", 1, b"250 2.1.5 Recipient ok\r\n"),
     (
-        b"RCPT TO:<two@b>\r\n",
+        b"RCPT TO:<twin@b>\r\n",
         1,
         b"452 4.5.3 Too many recipients\r\n",
     ),

@@ -226,7 +226,7 @@ static SESSIONS: [Row; 59] = [
         b"250 2.1.0 Sender ok\r\n550 5.7.1 Refused\r\n503 5.5.1 Need RCPT first\r\n",
     ),
     (
-        b"MAIL FROM:<a>\r\nRCPT TO:<two>\r\nRCPT TO:<no>\r\nRCPT TO:<b>\r\n",
+        b"MAIL FROM:<a>\r\nRCPT TO:<twin>\r\nRCPT TO:<no>\r\nRCPT TO:<b>\r\n",
         b"250 2.1.0 Sender ok\r\n250 2.1.5 Recipient ok\r\n550 5.7.1 Refused\r\n\
             250 2.1.5 Recipient ok\r\n",
     ),

@@ -13,7 +13,7 @@ use smtp_receive::{Judge, Verdict};
 use std::alloc::Global;
 
 /// A judge that goes by the first letters of a path: it refuses `no`, can't read a file at `fault`,
-/// gives two rows to `two`, and one to any other. It tells nothing.
+/// gives two rows to `twin`, and one to any other. It tells nothing.
 #[derive(Drop)]
 pub struct TestJudge {
     faults: u64,
@@ -114,7 +114,7 @@ fn rows(alloc: Global, path: &Text, sender: &Text) -> Result<Seq<Draw>, NoMemory
     requires sender { IsBracketed sender.now }
     ensures { IfOk result AreRows }
 {
-    if path.bytes().starts_with(b"<two") {
+    if path.bytes().starts_with(b"<twin") {
         two_rows(alloc, path, sender)
     } else {
         one_row(alloc, path, sender)
