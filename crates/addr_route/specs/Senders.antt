@@ -1,8 +1,9 @@
 -- The sender that a mailer is given (Sendmail Installation and Operation Guide, R and S: rewriting
 -- rules, the sets 3, 1 and 4; M: define mailer, its field S; RFC 5321, section 4.5.5; the sender
 -- after an error is own).
-use Rattle.std.specs.Prelude.{◌≡◌, ℕ, ◌-◌, ◌==◌, ◌&&◌, Bool, true, false, List, [], ◌∷◌, None, Result, Ok, Err, length, take, slice_index, bytes_eq, codes, refl, if◌then◌else◌}
+use Rattle.std.specs.Prelude.{◌≡◌, ℕ, true, false, List, [], None, Result, Ok, Err, bytes_eq}
 use Rattle.mail_base.specs.Drawing.{null_sender}
+use Rattle.mail_base.specs.Texts.{without_angles}
 use Rattle.mail_base.specs.declared.config.Config.{Config}
 use Rattle.mail_base.specs.declared.mailer.Mailer.{Mailer}
 use Rattle.mail_base.specs.declared.route.Cause.{Cause}
@@ -12,24 +13,10 @@ use Rattle.map_tables.specs.Answers.{Loaded}
 use Rattle.ruleset_run.specs.Sites.{Macros, site_of}
 use Rattle.addr_route.specs.Sets.{Passes, sender_sets}
 
--- a text ends in a `>` (62)
-abbrev pub ends_in_angle : List ℕ → Bool
-ends_in_angle text = slice_index text (length text - 1) == 62
-
--- a text without the angles around it, of which 60 opens
-abbrev pub unbracketed : List ℕ → List ℕ
-unbracketed [] = []
-unbracketed (first ∷ rest) =
-    if first == 60 && ends_in_angle rest then take (length rest - 1) rest else first ∷ rest
-
-example : (unbracketed (codes "<bob@c>") ≡ codes "bob@c")
-    × (unbracketed (codes "<bob") ≡ codes "<bob") × (unbracketed (codes "<") ≡ codes "<")
-example = (refl, refl, refl)
-
 -- the list joined without blanks; where there is none, the address without its brackets
 abbrev pub sent : List ℕ → Result (List Token) Cause → List ℕ
 sent address (Ok list) = joined None list
-sent address (Err cause) = unbracketed address
+sent address (Err cause) = without_angles address
 
 pub data Sends (config : Config) (maps : Loaded) (macros : Macros) (mailer : Mailer)
     (address : List ℕ) : List ℕ → Type 0 where

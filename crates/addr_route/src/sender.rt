@@ -1,13 +1,13 @@
-ghost use Rattle.std.specs.Prelude.{◌≡◌, ℕ, List, IfOk, IsTrue, ◌<◌, bytes_eq, length};
+ghost use Rattle.std.specs.Prelude.{◌≡◌, IfOk, bytes_eq};
 ghost use Rattle.mail_base.specs.Drawing.{null_sender};
-ghost use Rattle.addr_route.specs.Senders.{Sends, ends_in_angle, unbracketed};
+ghost use Rattle.addr_route.specs.Senders.{Sends};
 
 use crate::fault::Refusal;
 use crate::law::one_sender;
 use crate::sets::sender_sets;
 use crate::through::passed;
 use addr_tokens::join;
-use mail_base::{Config, Macros, Mailer, NoMemory, Text};
+use mail_base::{Config, Macros, Mailer, NoMemory, Text, without_angles};
 use map_tables::Maps;
 use std::alloc::Global;
 
@@ -48,7 +48,7 @@ fn sent(
     let sets = sender_sets(alloc, mailer)?;
     match passed(alloc, config, maps, macros, sets.items(), sender) {
         Ok(tokens) => join(alloc, &tokens, None),
-        Err(Refusal::Because(_cause)) => Text::of(alloc, unbracketed(sender.bytes())),
+        Err(Refusal::Because(_cause)) => Text::of(alloc, without_angles(sender.bytes())),
         Err(Refusal::NoMemory) => Err(NoMemory),
     }
 }
@@ -57,26 +57,4 @@ fn is_null(sender: &[u8]) -> bool
     ensures { result ≡ bytes_eq sender.now null_sender }
 {
     sender == b"<>".as_slice()
-}
-
-// An address without the angles around it.
-fn unbracketed(address: &[u8]) -> &[u8]
-    ensures { result.now ≡ unbracketed address.now }
-{
-    match address.split_first() {
-        Some((first, rest)) => {
-            if *first == b'<' && ends_in_angle(rest) {
-                return &rest[..rest.len() - 1];
-            }
-            address
-        }
-        None => address,
-    }
-}
-
-fn ends_in_angle(text: &[u8]) -> bool
-    ensures value { result ≡ ends_in_angle text.now }
-    ensures some { IsTrue result → 0 < length text.now }
-{
-    !text.is_empty() && text[text.len() - 1] == b'>'
 }

@@ -7,6 +7,7 @@ pub mod Classes
 pub mod Configs
 pub mod Drawing
 pub mod Histories
+pub mod Lasts
 pub mod Lending
 pub mod Limits
 pub mod Metas

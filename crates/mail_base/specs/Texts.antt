@@ -1,6 +1,6 @@
 -- The forms of texts (RFC 5321, sections 2.3.8 and 4.1.2; RFC 5322, sections 2.1 and 2.2.3; that a
 -- line is any bytes but its end is our own).
-use Rattle.std.specs.Prelude.{◌≡◌, ◌≢◌, ◌⊎◌, ◌||◌, ◌==◌, ◌++◌, ℕ, ◌+◌, ◌-◌, ◌<◌, Bool, List, [], ◌∷◌, All, length, take, drop, slice_index, codes, refl}
+use Rattle.std.specs.Prelude.{◌≡◌, ◌≢◌, ◌⊎◌, ◌||◌, ◌&&◌, ◌==◌, ◌++◌, ℕ, ◌+◌, ◌-◌, ◌<◌, Bool, List, [], ◌∷◌, All, length, take, drop, slice_index, nat_lt, codes, refl, if◌then◌else◌}
 use Rattle.std.specs.List.{list_any, prefix_len, suffix_len}
 use Rattle.std.specs.Str.Lines.{lines}
 use Rattle.mail_base.specs.Notes.{IsLineByte}
@@ -24,6 +24,20 @@ without_blanks text = drop (prefix_len is_blank text) text
 -- a text without the blanks at both ends
 abbrev pub trimmed : List ℕ → List ℕ
 trimmed text = let rest = without_blanks text in take (length rest - suffix_len is_blank rest) rest
+
+-- a text ends in a byte
+abbrev pub ends_in : ℕ → List ℕ → Bool
+ends_in byte text = nat_lt 0 (length text) && slice_index text (length text - 1) == byte
+
+-- a text without the two bytes around it, where it begins with the one and ends in the other
+abbrev pub without_ends : ℕ → ℕ → List ℕ → List ℕ
+without_ends opens closes [] = []
+without_ends opens closes (first ∷ rest) =
+    if first == opens && ends_in closes rest then take (length rest - 1) rest else first ∷ rest
+
+-- a path without its angles (60 and 62)
+abbrev pub without_angles : List ℕ → List ℕ
+without_angles path = without_ends 60 62 path
 
 -- an LF, as a test, and whether a text has one
 abbrev pub is_lf : ℕ → Bool
@@ -61,4 +75,6 @@ lines_of_header header = lines header
 
 example : (lines_of_header (codes "To: a," ++ crlf ++ codes " b") ≡ codes "To: a," ∷ codes " b" ∷ [])
     × (trimmed (codes " a b\t") ≡ codes "a b")
-example = (refl, refl)
+    × (without_angles (codes "<bob@c>") ≡ codes "bob@c")
+    × (without_angles (codes "<bob") ≡ codes "<bob") × (without_angles (codes "<") ≡ codes "<")
+example = (refl, refl, refl, refl, refl)

@@ -1,6 +1,6 @@
-ghost use Rattle.std.specs.Prelude.{◌≡◌, ◌≤◌, ◌-◌, length};
+ghost use Rattle.std.specs.Prelude.{◌≡◌, ◌≤◌, ◌<◌, ◌-◌, IsTrue, length};
 ghost use Rattle.std.specs.List.{position_or_len, prefix_len, suffix_len};
-ghost use Rattle.mail_base.specs.Texts.{is_blank, without_blanks, trimmed};
+ghost use Rattle.mail_base.specs.Texts.{ends_in, is_blank, trimmed, without_angles, without_blanks, without_ends};
 ghost use Rattle.mail_base.specs.Whites.{is_white, without_whites};
 
 use crate::is_white;
@@ -52,6 +52,36 @@ pub fn trimmed(text: &[u8]) -> &[u8]
 {
     let rest = without_blanks(text);
     &rest[..last_end(rest)]
+}
+
+/// The text without the two bytes around it, where it begins with `opens` and ends in `closes`; any
+/// other text as it is.
+pub fn without_ends(text: &[u8], opens: u8, closes: u8) -> &[u8]
+    ensures { result.now ≡ without_ends opens closes text.now }
+{
+    match text.split_first() {
+        Some((first, rest)) => {
+            if *first == opens && ends_in(rest, closes) {
+                return &rest[..rest.len() - 1];
+            }
+            text
+        }
+        None => text,
+    }
+}
+
+/// A path without its angles; any other text as it is.
+pub fn without_angles(path: &[u8]) -> &[u8]
+    ensures { result.now ≡ without_angles path.now }
+{
+    without_ends(path, b'<', b'>')
+}
+
+fn ends_in(text: &[u8], byte: u8) -> bool
+    ensures value { result ≡ ends_in byte text.now }
+    ensures some { IsTrue result → 0 < length text.now }
+{
+    !text.is_empty() && text[text.len() - 1] == byte
 }
 
 fn blanks_length(text: &[u8]) -> usize

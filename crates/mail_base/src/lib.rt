@@ -47,7 +47,10 @@ pub use config::Config;
 pub use control::{Control, Draft, Entry, Parent, Row, State, Stray};
 pub use cutting::{push_words, split_line, texts_of, without_return, words, words_of};
 pub use draw::{Draw, Draws};
-pub use ends::{trimmed, whites_length, without_blanks, without_whites, word_length};
+pub use ends::{
+    trimmed, whites_length, without_angles, without_blanks, without_ends, without_whites,
+    word_length,
+};
 pub use fault::{EdgeFault, Failed, JudgeFault, NoMemory, StoreFault};
 pub use id::{Id, Kind, Name};
 pub use limits::{

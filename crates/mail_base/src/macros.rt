@@ -49,6 +49,16 @@ impl Macros {
         self.values.set(name, value)
     }
 
+    /// Sets a macro whose name is given by its bytes, as [`Macros::set`] does.
+    pub fn define(&mut self, name: &[u8], value: &Text) -> Result<(), NoMemory>
+        ensures ok { OnOk result (self.new ≡ with_value name.now value.now self.old) }
+        ensures err { OnErr result (self.new ≡ self.old) }
+    {
+        let name = Text::of(self.values.allocator(), name)?;
+        let value = value.copy()?;
+        self.values.set(name, value)
+    }
+
     /// Takes a macro out. It takes no memory.
     pub fn unset(&mut self, name: &Text)
         ensures { self.new ≡ without_name name.now self.old }

@@ -1,28 +1,24 @@
 -- The command that a received message becomes (Sendmail Installation and Operation Guide, "The
 -- queue", and H: Define Header for the header Received; until aliases are read each recipient is
 -- one row, primary, in the group mqueue).
-use Rattle.std.specs.Prelude.{◌≡◌, ℕ, ◌-◌, ◌≤◌, List, [], ◌∷◌, length, take, drop, Bool, Option, None, Some, codes, nat_lt}
+use Rattle.std.specs.Prelude.{◌≡◌, ℕ, ◌≤◌, List, [], ◌∷◌, length, Bool, Option, None, Some, codes, nat_lt}
 use Rattle.mail_base.specs.Catalogs.{with_value}
 use Rattle.mail_base.specs.Names.{id_text}
 use Rattle.mail_base.specs.declared.config.Config.{Config}
 use Rattle.mail_base.specs.declared.id.TheConstants.Id.{MOST}
 use Rattle.mail_base.specs.declared.message.Cut.{Cut}
-use Rattle.mail_base.specs.declared.message.Kept.{Kept}
 use Rattle.mail_base.specs.declared.message.Message.{Message}
 use Rattle.cf_macros.specs.Dates.{IsDateText}
 use Rattle.cf_macros.specs.declared.form.Form.TheVariants.{Mail, Unix, Short}
 use Rattle.mail_header.specs.Fields.{IsDate, date_told}
 use Rattle.mail_header.specs.Made.{received_of}
+use Rattle.smtp_receive.specs.SessionMacros.{session_macros}
 use Rattle.spool_store.specs.Entries.{Table}
 use Rattle.queue_table.specs.Commands.{Command}
 use Rattle.queue_table.specs.Commands.Command.{Accept}
 use Rattle.mail_core.specs.Sites.{Site, terms_at}
 
 -- ---- the header Received
-
--- a path without the angles around it
-abbrev pub unangled : List ℕ → List ℕ
-unangled path = take (length path - 2) (drop 1 path)
 
 -- the macros a, b, d and t of a message
 pub record Dates : Type 0 where
@@ -37,15 +33,6 @@ pub record AreDates (message : Message) (moment : ℕ) (dates : Dates) : Type 0 
   pub mail : IsDateText Mail moment dates.mail
   pub unix : IsDateText Unix moment dates.unix
   pub short : IsDateText Short moment dates.short
-
--- the macros that are set of a session: what is kept of it, and f, which is the sender without its
--- angles
-abbrev pub session_macros : Config → Kept → List ℕ → List (List ℕ × List ℕ)
-session_macros config kept sender =
-    with_value (codes "f") (unangled sender)
-    (with_value (codes "client_addr") kept.client
-    (with_value (codes "s") kept.helo
-    (with_value (codes "r") kept.protocol config.macros)))
 
 -- the macros of a message on receipt: those of its session, its dates and its id
 abbrev pub receipt_macros : Config → Message → Dates → ℕ → List (List ℕ × List ℕ)

@@ -1,14 +1,14 @@
 ghost use Rattle.std.specs.Int.{w64};
 ghost use Rattle.std.specs.Prelude.{◌≡◌, ◌∷◌, ℕ, FitsSigned, IfOk, IfSome, OnOk, List};
-ghost use Rattle.mail_base.specs.Catalogs.{with_value};
 ghost use Rattle.mail_base.specs.Names.{id_text as shown_id};
 ghost use Rattle.mail_base.specs.Texts.{IsHeader};
-ghost use Rattle.mail_core.specs.Messages.{Dates, IsReceived, cuts_of, headed, receipt_macros, session_macros, unangled};
+ghost use Rattle.mail_core.specs.Messages.{Dates, IsReceived, cuts_of, headed, receipt_macros};
 ghost use Rattle.mail_core.specs.inner.Made.{IsMacros};
 
 use cf_macros::{Form, date};
 use mail_base::{Config, Cut, Id, Kept, Kind, Macros, Message, NoMemory, Seq, Text, TryCopy};
 use mail_header::{date_of, received};
+use smtp_receive::session_macros;
 use std::alloc::Global;
 
 /// The header `Received` that is put first on a message that is taken in at a moment under an id,
@@ -43,39 +43,12 @@ fn message_macros(
     let short = date(alloc, moment, Form::Short)?;
     let id = id_text(alloc, id)?;
     let mut macros = session_macros(alloc, config, &message.kept, &message.sender)?;
-    set(&mut macros, b"a", &told)?;
-    set(&mut macros, b"b", &mail)?;
-    set(&mut macros, b"d", &unix)?;
-    set(&mut macros, b"t", &short)?;
-    set(&mut macros, b"i", &id)?;
+    macros.define(b"a", &told)?;
+    macros.define(b"b", &mail)?;
+    macros.define(b"d", &unix)?;
+    macros.define(b"t", &short)?;
+    macros.define(b"i", &id)?;
     Ok(macros)
-}
-
-/// The macros of a session: the configuration's, what is kept of it, and f, which is the sender
-/// without its angles.
-pub(crate) fn session_macros(
-    alloc: Global,
-    config: &Config,
-    kept: &Kept,
-    sender: &Text,
-) -> Result<Macros, NoMemory>
-    ensures { IfOk result (λ macros. macros ≡ session_macros config.now kept.now sender.now) }
-{
-    let sender = Text::of(alloc, unangled(sender.bytes()))?;
-    let mut macros = config.macros.copy()?;
-    set(&mut macros, b"r", &kept.protocol)?;
-    set(&mut macros, b"s", &kept.helo)?;
-    set(&mut macros, b"client_addr", &kept.client)?;
-    set(&mut macros, b"f", &sender)?;
-    Ok(macros)
-}
-
-// Sets a macro.
-fn set(macros: &mut Macros, name: &[u8], value: &Text) -> Result<(), NoMemory>
-    ensures { OnOk result (macros.new ≡ with_value name.now value.now macros.old) }
-{
-    let name = Text::of(macros.values().allocator(), name)?;
-    macros.set(&name, value)
 }
 
 // An id as replies show it.
@@ -86,16 +59,6 @@ fn id_text(alloc: Global, id: Id) -> Result<Text, NoMemory>
     let name = id.name(Kind::Qf);
     let (_kind, text) = name.bytes().split_at(2);
     Text::of(alloc, text)
-}
-
-// A path without the angles around it.
-fn unangled(path: &[u8]) -> &[u8]
-    ensures { result.now ≡ unangled path.now }
-{
-    match path {
-        [_, inner @ .., _] => inner,
-        _ => &[],
-    }
 }
 
 /// The class of a message has the range of its type: to read it says so.

@@ -17,7 +17,8 @@ use Rattle.addr_route.specs.Sets.{Rewrites, rewrites}
 use Rattle.smtp_receive.specs.declared.judge.Verdict.{Verdict}
 use Rattle.smtp_receive.specs.declared.judge.Verdict.TheVariants.{Rows, No}
 use Rattle.smtp_receive.specs.Judging.{Question, AsksSender, AsksRecipient, Said, Unasked, OfSender, OfRecipient}
-use Rattle.mail_judge.specs.Judged.{IsJudged, Judges, is_checked, is_refused, goes, row_to, session_macros}
+use Rattle.smtp_receive.specs.SessionMacros.{session_macros}
+use Rattle.mail_judge.specs.Judged.{IsJudged, Judges, is_checked, is_refused, goes, row_to}
 
 -- a check has one answer
 abbrev pub IsOneCheck : Type 0

@@ -14,9 +14,9 @@ use Rattle.map_tables.specs.Answers.{Loaded}
 use Rattle.ruleset_run.specs.Sites.{Macros}
 use Rattle.addr_route.specs.Checks.{Checks}
 use Rattle.addr_route.specs.Routes.{Routes}
-use Rattle.addr_route.specs.Senders.{unbracketed}
 use Rattle.smtp_receive.specs.declared.judge.Verdict.{Verdict}
 use Rattle.smtp_receive.specs.declared.judge.Verdict.TheVariants.{Rows, No}
+use Rattle.smtp_receive.specs.SessionMacros.{session_macros}
 use Rattle.smtp_receive.specs.Judging.{Question, AsksSender, AsksRecipient, Said, Unasked, OfSender, OfRecipient}
 
 -- what a judgement stands on: a configuration, and its maps
@@ -27,30 +27,6 @@ pub record Grounds : Type 0 where
 -- no call fails but for want of memory, and what is said is told
 abbrev pub teller : Answerer
 teller = record { faults = 0; tells = true }
-
--- the macros that rules see in a session: those of the configuration, what is kept of the session,
--- and f, its sender without the angles
-abbrev pub macros_with : Macros → Kept → List ℕ → Macros
-macros_with macros kept sender =
-    with_value (codes "f") (unbracketed sender)
-    (with_value (codes "client_addr") kept.client
-    (with_value (codes "s") kept.helo
-    (with_value (codes "r") kept.protocol macros)))
-
-abbrev pub session_macros : Config → Kept → List ℕ → Macros
-session_macros config kept sender = macros_with config.macros kept sender
-
-abbrev session : Kept
-session = record {
-  protocol = codes "ESMTP";
-  helo = codes "c.example";
-  client = codes "192.0.2.1";
-}
-
-example : macros_with ((codes "s", codes "old") ∷ []) session (codes "<bob@c>")
-    ≡ (codes "s", codes "c.example") ∷ (codes "r", codes "ESMTP")
-    ∷ (codes "client_addr", codes "192.0.2.1") ∷ (codes "f", codes "bob@c") ∷ []
-example = refl
 
 -- the row of a recipient that goes: it stands for the path itself
 abbrev pub row_to : List ℕ → List ℕ → Triple → Draw

@@ -2,9 +2,9 @@ ghost use Rattle.std.specs.Prelude.{◌≡◌, ◌∷◌, [], IfOk, None, OnOk, 
 ghost use Rattle.mail_base.specs.Catalogs.{with_value};
 ghost use Rattle.mail_base.specs.Texts.{IsBracketed};
 ghost use Rattle.addr_route.specs.Checks.{Checks, IsBoundedIf};
-ghost use Rattle.addr_route.specs.Senders.{unbracketed};
 ghost use Rattle.smtp_receive.specs.Judging.{IsFormedSaid, OfRecipient};
-ghost use Rattle.mail_judge.specs.Judged.{IsJudged, Judges, row_to, session_macros, teller};
+ghost use Rattle.smtp_receive.specs.SessionMacros.{session_macros};
+ghost use Rattle.mail_judge.specs.Judged.{IsJudged, Judges, row_to, teller};
 
 use crate::law::one_judgement;
 use addr_route::{check, route};
@@ -13,7 +13,7 @@ use mail_base::{
     TryCopy,
 };
 use map_tables::Maps;
-use smtp_receive::{Judge, Verdict};
+use smtp_receive::{Judge, Verdict, session_macros};
 use std::alloc::Global;
 use std::marker::Model;
 
@@ -72,7 +72,7 @@ impl Judge for Rules<'_> {
     ) -> Result<Verdict, JudgeFault> {
         // A law: a question has one answer.
         one_judgement();
-        let macros = macros_of(alloc, self.config, sender, kept)?;
+        let macros = session_macros(alloc, self.config, kept, sender)?;
         Ok(verdict_of(alloc, self.config, self.maps, &macros, path, sender)?)
     }
 }
@@ -90,7 +90,7 @@ fn refusal_of(
         (session_macros config.now kept.now path.now) (codes "check_mail") path.now) }
     ensures bounded { IfOk result IsBoundedIf }
 {
-    let macros = macros_of(alloc, config, path, kept)?;
+    let macros = session_macros(alloc, config, kept, path)?;
     let set = Text::of(alloc, b"check_mail")?;
     check(alloc, config, maps, &macros, &set, path)
 }
@@ -151,34 +151,4 @@ fn row_to(alloc: Global, path: &Text, sender: &Text, triple: Triple) -> Result<S
         resolved: Resolved::Goes(triple),
     })?;
     Ok(rows)
-}
-
-// The macros that rules see in a session whose sender is this path.
-fn macros_of(alloc: Global, config: &Config, sender: &Text, kept: &Kept) -> Result<Macros, NoMemory>
-    requires { IsBracketed sender.now }
-    ensures { IfOk result (λ macros. macros ≡ session_macros config.now kept.now sender.now) }
-{
-    let inside = Text::of(alloc, inside(sender))?;
-    let mut macros = config.macros.copy()?;
-    set(alloc, &mut macros, b"r", &kept.protocol)?;
-    set(alloc, &mut macros, b"s", &kept.helo)?;
-    set(alloc, &mut macros, b"client_addr", &kept.client)?;
-    set(alloc, &mut macros, b"f", &inside)?;
-    Ok(macros)
-}
-
-fn set(alloc: Global, macros: &mut Macros, name: &[u8], value: &Text) -> Result<(), NoMemory>
-    ensures { OnOk result (macros.new ≡ with_value name.now value.now macros.old) }
-{
-    let name = Text::of(alloc, name)?;
-    macros.set(&name, value)
-}
-
-// A path without its angles.
-fn inside(path: &Text) -> &[u8]
-    requires { IsBracketed path.now }
-    ensures { result.now ≡ unbracketed path.now }
-{
-    let bytes = path.bytes();
-    &bytes[1..bytes.len() - 1]
 }

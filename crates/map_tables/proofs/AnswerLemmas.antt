@@ -10,7 +10,8 @@ use Rattle.mail_base.specs.declared.lines.MapClass.TheVariants.{Text as TextClas
 use Rattle.map_tables.specs.declared.answer.Answer.{Answer}
 use Rattle.map_tables.specs.declared.hosts.HostLine.{HostLine}
 use Rattle.map_tables.specs.declared.table.Table.{Table}
-use Rattle.map_tables.specs.Answers.{answer, answer_by, answer_of_place, answers, last_place, later, map_answer, with_answer}
+use Rattle.mail_base.proofs.LastLemmas.{last_put}
+use Rattle.map_tables.specs.Answers.{answer, answer_by, answer_of_place, answers, map_answer, name_of, with_answer}
 use Rattle.map_tables.specs.inner.MapPlaces.{is_sequence, IsPlaced}
 
 module _ {X : Type 0} where
@@ -96,32 +97,6 @@ unless_sequence Arith hosts key args one other map e = refl
 unless_sequence Macro hosts key args one other map e = refl
 unless_sequence (Other name) hosts key args one other map e = refl
 
-later_none : (met : Bool) → later None met ≡ cond met (Some 0) None
-later_none true = refl
-later_none false = refl
-
-later_cond : (b met : Bool) (place : ℕ) (found : Option ℕ) → later (cond b (Some place) found) met ≡ cond b (Some (suc place)) (later found met)
-later_cond true met place found = refl
-later_cond false met place found = refl
-
--- one K line more
-last_more : (name : List ℕ) (maps : List Table) (map : Table) → last_place name (maps ++ map ∷ []) ≡ cond (bytes_eq name map.line.name) (Some (length maps)) (last_place name maps)
-last_more name [] map = later_none (bytes_eq name map.line.name)
-last_more name (first ∷ maps) map =
-    ap (λ (found : Option ℕ). later found (bytes_eq name first.line.name)) (last_more name maps map)
-    ∙ later_cond (bytes_eq name map.line.name) (bytes_eq name first.line.name) (length maps) (last_place name maps)
-
-placed_more : (maps : List Table) (map : Table) (old new : List (List ℕ × ℕ)) → IsPlaced maps old → SetsValue {V = ℕ} map.line.name (Some (length maps)) old new → IsPlaced (maps ++ map ∷ []) new
-placed_more maps map old new placed sets name = by (bytes_eq name map.line.name) refl
-  where
-    by : (b : Bool) → bytes_eq name map.line.name ≡ b → value_at name new ≡ last_place name (maps ++ map ∷ [])
-    by true same =
-        subst (λ (n : List ℕ). value_at n new ≡ Some (length maps)) (sym ((bytes_eq-Decides name map.line.name).0 same)) sets.value
-        ∙ sym (last_more name maps map ∙ cond-true _ (Some (length maps)) (last_place name maps) same)
-    by false other =
-        sets.others name (λ same. false≢true (sym other ∙ (bytes_eq-Decides name map.line.name).1 same)) ∙ placed name
-        ∙ sym (last_more name maps map ∙ cond-false _ (Some (length maps)) (last_place name maps) other)
-
 module _ (hosts : List HostLine) (key : List ℕ) (args : List (List ℕ)) where
   -- the answer that is made at a place is the one that stands there
   pub place_is : (maps : List Table) (k : ℕ) (map : Table) (one : Answer) (shown given : List Answer) → one ≡ answer hosts key args shown map → shown ≡ given
@@ -147,4 +122,4 @@ placed_next maps i map name old new within at named placed sets =
     let long : length (take i maps) ≡ i = length-take-le i maps (omega (arith, within)) in
     let there = subst (λ (k : ℕ). SetsValue {V = ℕ} name (Some k) old new) (sym long) sets in
     subst (λ (m : List Table). IsPlaced m new) (sym (take_more maps i map within ∙ ap (λ (m : Table). take i maps ++ m ∷ []) (sym at)))
-    (placed_more (take i maps) map old new placed (subst (λ (n : List ℕ). SetsValue {V = ℕ} n (Some (length (take i maps))) old new) named there))
+    (last_put name_of (take i maps) map old new placed (subst (λ (n : List ℕ). SetsValue {V = ℕ} n (Some (length (take i maps))) old new) named there))

@@ -1,8 +1,10 @@
 -- What the maps answer (Sendmail Installation and Operation Guide, K; that a sequence holds the
 -- maps of its own line is our own).
-use Rattle.std.specs.Prelude.{◌≡◌, ◌==◌, ◌&&◌, ◌-◌, ℕ, suc, length, take, slice_index, Bool, true, false, List, [], ◌∷◌, ◌++◌, Option, None, Some, Result, Ok, Err, fold, map, bytes_eq, unwrap_or, option_map, slice_get, if◌then◌else◌}
+use Rattle.std.specs.Prelude.{◌≡◌, ℕ, Bool, true, false, List, [], ◌∷◌, ◌++◌, Option, None, Some, Result, Ok, Err, fold, map, unwrap_or, option_map, slice_get, if◌then◌else◌}
 use Rattle.std.specs.List.{find}
 use Rattle.mail_base.specs.Catalogs.{value_at, with_value, without_name}
+use Rattle.mail_base.specs.Lasts.{last_named}
+use Rattle.mail_base.specs.Texts.{without_ends}
 use Rattle.mail_base.specs.declared.lines.MapClass.{MapClass}
 use Rattle.mail_base.specs.declared.lines.MapClass.TheVariants.{Text as TextClass, Hash, Btree, Host, Dequote, Sequence, Null, Arith, Macro, Other}
 use Rattle.mail_base.specs.declared.lines.MapLine.{MapLine}
@@ -87,16 +89,13 @@ with_answer hosts key args before table = before ++ answer hosts key args before
 abbrev pub answers : List HostLine → List ℕ → List (List ℕ) → List Table → List Answer
 answers hosts key args maps = fold (with_answer hosts key args) [] maps
 
--- a later place, or else this one where the name is met
-abbrev pub later : Option ℕ → Bool → Option ℕ
-later (Some place) met = Some (suc place)
-later None true = Some 0
-later None false = None
+-- the name of a map
+abbrev pub name_of : Table → List ℕ
+name_of table = table.line.name
 
 -- the place of the last K line of a name
 abbrev pub last_place : List ℕ → List Table → Option ℕ
-last_place name [] = None
-last_place name (table ∷ maps) = later (last_place name maps) (bytes_eq name table.line.name)
+last_place = last_named name_of
 
 -- the answer at a place that may be there
 abbrev pub answer_of_place : List Answer → Option ℕ → Option Answer
@@ -125,15 +124,9 @@ abbrev pub TellsOr : Result Found MapFault → Result Found MapFault → Type 0
 TellsOr wanted (Err NoMemory) = Unit {0}
 TellsOr wanted result = result ≡ wanted
 
--- a text ends in a closing brace (125)
-abbrev pub ends_in_brace : List ℕ → Bool
-ends_in_brace text = slice_index text (length text - 1) == 125
-
--- the name of a macro as a key writes it: in braces, of which 123 opens, or as it is
+-- the name of a macro as a key writes it: in braces (123 and 125), or as it is
 abbrev pub macro_name : List ℕ → List ℕ
-macro_name [] = []
-macro_name (byte ∷ rest) =
-    if byte == 123 && ends_in_brace rest then take (length rest - 1) rest else byte ∷ rest
+macro_name key = without_ends 123 125 key
 
 -- the macro of that name has the first argument as its value, or isn't set where there is none
 abbrev pub with_macro : List ℕ → List (List ℕ) → List (List ℕ × List ℕ) → List (List ℕ × List ℕ)

@@ -1,6 +1,6 @@
-ghost use Rattle.std.specs.Prelude.{◌≡◌, ◌<◌, IfOk, IsTrue, OnOk, OnErr, length, map};
+ghost use Rattle.std.specs.Prelude.{◌≡◌, IfOk, OnOk, OnErr, map};
 ghost use Rattle.std.specs.Option.{option_copied};
-ghost use Rattle.map_tables.specs.Answers.{TellsOr, ends_in_brace, loaded, macro_name, macros_after, map_answer, told, with_macro};
+ghost use Rattle.map_tables.specs.Answers.{TellsOr, loaded, macro_name, macros_after, map_answer, told, with_macro};
 ghost use Rattle.map_tables.specs.Hosts.{host_address};
 ghost use Rattle.map_tables.specs.Tables.{table};
 ghost use Rattle.map_tables.specs.inner.MapPlaces.{IsPlaced};
@@ -10,7 +10,7 @@ use crate::answering::place_answer;
 use crate::host_table::HostTable;
 use crate::texts::first_places;
 use crate::{Found, MapFault, Named, Table};
-use mail_base::{Catalog, Config, Macros, MapLine, NoMemory, Seq, Text, TryCopy};
+use mail_base::{Catalog, Config, Macros, MapLine, NoMemory, Seq, Text, TryCopy, without_ends};
 use std::alloc::Global;
 use std::marker::Model;
 
@@ -157,20 +157,5 @@ fn set_macro(key: &Text, args: &Seq<Text>, macros: &mut Macros) -> Result<(), No
 pub fn macro_name(key: &[u8]) -> &[u8]
     ensures { result.now ≡ macro_name key.now }
 {
-    match key.split_first() {
-        Some((first, rest)) => {
-            if *first == b'{' && ends_in_brace(rest) {
-                return &rest[..rest.len() - 1];
-            }
-            key
-        }
-        None => key,
-    }
-}
-
-fn ends_in_brace(text: &[u8]) -> bool
-    ensures value { result ≡ ends_in_brace text.now }
-    ensures some { IsTrue result → 0 < length text.now }
-{
-    !text.is_empty() && text[text.len() - 1] == b'}'
+    without_ends(key, b'{', b'}')
 }

@@ -21,13 +21,13 @@ use Rattle.smtp_lines.specs.declared.line.Line.TheVariants.{DataEnd}
 use Rattle.smtp_receive.specs.Dialogue.{Answer, Says, Gives, Exchange, did_of, eight_in, end_answer, kept_in, lines_in, message_answer, no_marks, rows_in, sender_in}
 use Rattle.smtp_receive.specs.Judging.{Question, Said, Unasked}
 use Rattle.smtp_receive.specs.Replies.{shown_host}
-use Rattle.smtp_receive.specs.Sessions.{Holds, Keeps}
+use Rattle.smtp_receive.specs.Sessions.{Holds, Keeps, cleared}
 use Rattle.smtp_receive.specs.declared.did.Did.{Did}
 use Rattle.smtp_receive.specs.declared.ending.End.{End}
 use Rattle.smtp_receive.specs.declared.ending.End.TheVariants.{Refused, Whole}
 use Rattle.smtp_receive.specs.declared.reply.Reply.TheVariants.{MessageTooLarge, HeaderTooLarge, TooManyHops}
 use Rattle.smtp_receive.specs.declared.session.Session.{Session}
-use Rattle.smtp_receive.specs.inner.Steps.{Ends, Goes, IsSmallIfSome, cleared, end_of, ending_of, ends_as, given_in, given_or, message_of}
+use Rattle.smtp_receive.specs.inner.Steps.{Ends, Goes, IsSmallIfSome, end_of, ending_of, ends_as, given_in, given_or, message_of}
 use Rattle.smtp_receive.proofs.KeepLemmas.{keep_end}
 
 -- ---- what is kept is small

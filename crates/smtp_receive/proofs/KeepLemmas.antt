@@ -16,13 +16,13 @@ use Rattle.smtp_lines.specs.declared.line.Line.TheVariants.{Command, TooLong, Da
 use Rattle.smtp_receive.specs.Dialogue.{Answer, Says, Refuses, Greets, Extends, Grants, Closes, Gives, Takes, Exchange, Heard, Standing, answer_heard, answer_to, argument_in, asked, command_answer, count_in, count_of, did_of, eight_of, ends, exchange_of, exchanges, helo_by, helo_in, is_dropped, kept_in, lines_in, lines_of, or_else, order_question, path_in, protocol_by, protocol_in, protocol_of, question, rows_of, sender_in, sender_of, standing_in, transaction, with_heard, with_text}
 use Rattle.smtp_receive.specs.Judging.{Question, Said, Unasked, IsSaid, drawn_in}
 use Rattle.smtp_receive.specs.Replies.{shown_host, text_of}
-use Rattle.smtp_receive.specs.Sessions.{Holds, Keeps, Stands}
+use Rattle.smtp_receive.specs.Sessions.{Holds, Keeps, Stands, cleared}
 use Rattle.smtp_receive.specs.declared.did.Did.{Did}
 use Rattle.smtp_receive.specs.declared.did.Did.TheVariants.{Reply as Replied, Taken}
 use Rattle.smtp_receive.specs.declared.reply.Reply.{Reply}
 use Rattle.smtp_receive.specs.declared.reply.Reply.TheVariants.{LineTooLong, SenderOk, RecipientOk, ResetState}
 use Rattle.smtp_receive.specs.declared.session.Session.{Session}
-use Rattle.smtp_receive.specs.inner.Steps.{AddsLine, Changes, Does, Goes, after, answer_by, cleared, is_data, question_by, standing_of}
+use Rattle.smtp_receive.specs.inner.Steps.{AddsLine, Changes, Does, Goes, after, answer_by, is_data, question_by, standing_of}
 
 -- a line after which the answer is this
 abbrev pub exchange : Line → Said → Option Answer → Exchange

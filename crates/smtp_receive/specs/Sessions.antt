@@ -30,6 +30,10 @@ pub record Keeps (s : Session) (config : Config) (host peer : List ℕ) (before 
   pub count_is : s.count ≡ count_in before
   pub message_is : Holds (message_limit config.options) s.message (lines_in before)
 
+-- a session without its transaction
+abbrev pub cleared : Session → Session
+cleared s = record s { sender = None; eight = false; rows = []; count = 0; message = None }
+
 -- the answer to a line after those that were heard, by what the judge says of it
 abbrev pub answer_of : Config → List ℕ → List Heard → Said → Line → Answer
 answer_of config peer heard said line =

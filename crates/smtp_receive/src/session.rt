@@ -4,8 +4,7 @@ ghost use Rattle.mail_base.specs.Texts.{crlf};
 ghost use Rattle.smtp_receive.specs.Dialogue.{Heard, exchanges, is_dropped};
 ghost use Rattle.smtp_receive.specs.Judging.{IsSteady, Said, is_calm};
 ghost use Rattle.smtp_receive.specs.Replies.{greeting_text, stored_text, shown_host};
-ghost use Rattle.smtp_receive.specs.Sessions.{Answered, IsBounded, Stands, question_of};
-ghost use Rattle.smtp_receive.specs.inner.Steps.{cleared};
+ghost use Rattle.smtp_receive.specs.Sessions.{Answered, IsBounded, Stands, question_of, cleared};
 ghost use Rattle.mail_base.specs.declared.config.Config.{Config as Configuration};
 
 use crate::did::Did;

@@ -8,9 +8,9 @@ ghost use Rattle.smtp_lines.specs.Reading.{order_of};
 ghost use Rattle.smtp_receive.specs.Dialogue.{Exchange, asked, bracketed, data_answer, did_of, is_uncut, mail_fault, rcpt_fault, read_in, recipient_answer, sender_answer, with_text};
 ghost use Rattle.smtp_receive.specs.Judging.{Answers, AsksRecipient, AsksSender, IsFormedSaid, OfRecipient, OfSender, drawn_in, refusal_in};
 ghost use Rattle.smtp_receive.specs.Replies.{closing_text, extended_text, hello_text, refusal_text, text_of};
-ghost use Rattle.smtp_receive.specs.Sessions.{Holds, Keeps};
+ghost use Rattle.smtp_receive.specs.Sessions.{Holds, Keeps, cleared};
 ghost use Rattle.smtp_receive.specs.inner.Steps as spec;
-ghost use Rattle.smtp_receive.specs.inner.Steps.{BeginsMessage, Does, Goes, Uses, after, cleared, end_of, given_by, greeted, is_data, question_by};
+ghost use Rattle.smtp_receive.specs.inner.Steps.{BeginsMessage, Does, Goes, Uses, after, end_of, given_by, greeted, is_data, question_by};
 
 use crate::did::Did;
 use crate::ending::{End, ending, has_looped};

@@ -20,7 +20,7 @@ use Rattle.smtp_lines.specs.declared.line.Line.TheVariants.{Command, TooLong, Da
 use Rattle.smtp_receive.specs.Dialogue.{Answer, Says, Greets, Extends, Grants, Exchange, Standing, answer_to, argument_in, bracketed, command_answer, did_of, is_eight, is_uncut, no_marks, order_question, or_else, path_in, protocol_of, question, read_in, recipient_answer, sender_answer, with_text}
 use Rattle.smtp_receive.specs.Judging.{Answers, AsksRecipient, AsksSender, Question, Said, OfRecipient, OfSender, IsSaid, IsSteady, drawn_in, is_calm, refusal_in}
 use Rattle.smtp_receive.specs.Replies.{shown_host, text_of}
-use Rattle.smtp_receive.specs.Sessions.{Holds, Keeps}
+use Rattle.smtp_receive.specs.Sessions.{Holds, Keeps, cleared}
 use Rattle.smtp_receive.specs.declared.did.Did.{Did}
 use Rattle.smtp_receive.specs.declared.did.Did.TheVariants.{Reply as Replied, Message, Taken}
 use Rattle.smtp_receive.specs.declared.ending.End.{End}
@@ -41,10 +41,6 @@ pub record Uses {A : Type 0} (before now : Answerer) (Before Now : Question → 
 abbrev pub judged : {A : Type 0} → Result A NoMemory → Result A JudgeFault
 judged (Ok answer) = Ok answer
 judged (Err fault) = Err JudgeMemory
-
--- a session without its transaction
-abbrev pub cleared : Session → Session
-cleared s = record s { sender = None; eight = false; rows = []; count = 0; message = None }
 
 -- a session greeted
 abbrev pub greeted : Session → Option Order → Session

@@ -2,7 +2,8 @@ use Rattle.std.proofs.Common.{◌≡◌, List, ℕ, None, Ok, Err, false, true, 
 use Rattle.std.specs.Prelude.{bytes_eq}
 use Rattle.mail_base.specs.Drawing.{null_sender}
 use Rattle.addr_tokens.specs.Joins.{joined}
-use Rattle.addr_route.specs.Senders.{Sends, null, sends, unbracketed}
+use Rattle.mail_base.specs.Texts.{without_angles}
+use Rattle.addr_route.specs.Senders.{Sends, null, sends}
 use Rattle.addr_route.proofs.EndLemmas.{if_ok}
 use Rattle.addr_route.proofs.sender.sent.Goals as goal
 
@@ -26,5 +27,5 @@ returns-in-Err-Because c =
     let Q : List ℕ → Type 0 = Sends a.config.now a.maps.now a.macros.now a.mailer.now a.sender.now in
     let not : bytes_eq a.sender.now null_sender ≡ false = sym (rw c.bytes.ensures at c.is_null.ensures) ∙ c.if-is_null.false in
     let p = rw (c.items.ensures, c.in_ok-sets.ensures) at (rw c.in-Err-Because.field-0-is at c.in-Err-Because.ensures) in
-    let same : c.unbracketed.result.now ≡ unbracketed a.sender.now = rw c.bytes-in-Err-Because.ensures at c.unbracketed.ensures in
-    if_ok (λ text. text ≡ c.unbracketed.result.now) Q (λ text e. subst Q (sym (e ∙ same)) (sends (Err c.in-Err-Because._cause) not p)) c.of.result c.of.ensures
+    let same : c.without_angles.result.now ≡ without_angles a.sender.now = rw c.bytes-in-Err-Because.ensures at c.without_angles.ensures in
+    if_ok (λ text. text ≡ c.without_angles.result.now) Q (λ text e. subst Q (sym (e ∙ same)) (sends (Err c.in-Err-Because._cause) not p)) c.of.result c.of.ensures

@@ -1,6 +1,7 @@
 use Rattle.std.proofs.Common.{◌∙◌, ◌≡◌, ap, sym}
 use Rattle.smtp_lines.specs.declared.line.Line.TheVariants.{Command}
-use Rattle.smtp_receive.specs.inner.Steps.{Ends, cleared}
+use Rattle.smtp_receive.specs.Sessions.{cleared}
+use Rattle.smtp_receive.specs.inner.Steps.{Ends}
 use Rattle.smtp_receive.proofs.EndLemmas.{end_goes}
 use Rattle.smtp_receive.proofs.KeepLemmas.{command_goes}
 use Rattle.smtp_receive.proofs.StepLemmas.{ok_of}
