@@ -1,3 +1,4 @@
+pub mod WayLemmas
 pub mod SparingLemmas
 pub mod JudgeLemmas
 pub mod RanLemmas

@@ -14,7 +14,7 @@ use Rattle.mail_core.specs.Effects.{Effect, Sends, HangsUp}
 use Rattle.mail_core.specs.Guests.{Guest, grants_of, guest_of, has_number, is_here, newcomer, with_bytes, with_guest, without, lines_heard}
 use Rattle.mail_core.specs.Machine.{Opening, Replied, Dropped, Choice, Choices, Way, GoesOn, Leaves, Over, Did, State, Step, Turn, all_answered, at_moment, brought, handled, most_guests, opened, pieced, run, stepped, still, taken, turned_away, welcomed}
 use Rattle.mail_core.specs.Told.{Converses, IsInTurn, NeverOpens, Welcomes, hangs_up, turns_away, greets, brought_in, brought_of, opening_of, opens_none, replies_of, said_to}
-use Rattle.mail_core.proofs.SpokenLemmas.{found_number, pushed_other, skipped, changed_other, changed_own, left_other, left_own, not_true}
+use Rattle.mail_core.proofs.SpokenLemmas.{found_number, pushed_other, skipped, changed_other, changed_own, gone, left_other, left_own, not_true}
 use Rattle.mail_core.proofs.StreamLemmas.{none_is, reads_more, some_is}
 use Rattle.mail_core.proofs.ToldLemmas.{IsTold, closing_other, piece_all, said_more, said_once, speech_other}
 use Rattle.mail_core.proofs.TurnLemmas.{AreFirst, IsSettled, brought_more, piece_quiet, piece_settled, turn_of}
@@ -44,8 +44,9 @@ module _ (site : Site) (s : ℕ) where
   Lives None found bytes texts = (found ≡ None) × (texts ≡ [])
   Lives (Some g) found bytes texts = IsInTurn g → Converses site g bytes texts found
 
-  over_same : (g : Guest) (found : Option Guest) → found ≡ None → IsInTurn g → Converses site g [] [] found
-  over_same g found none turn = record {
+  -- a session to which nothing was done, whether it is still there or not
+  nothing_done : (g : Guest) (found : Option Guest) → IsInTurn g → ((other : Guest) → found ≡ Some other → other ≡ g) → Converses site g [] [] found
+  nothing_done g found turn same = record {
     now = g;
     peer = refl;
     config = refl;
@@ -53,28 +54,16 @@ module _ (site : Site) (s : ℕ) where
     rest = turn.rest;
     reads = subst (λ q. Reads Commands q (grants_of g) (lines_heard g) turn.last turn.rest) (sym (append-nil g.received)) turn.reads;
     replies = sym (append-nil (replies_of site g));
-    still = λ other is. absurd (none_is other (sym none ∙ is));
-  }
-
-  goes_same : (g : Guest) → IsInTurn g → Converses site g [] [] (Some g)
-  goes_same g turn = record {
-    now = g;
-    peer = refl;
-    config = refl;
-    last = turn.last;
-    rest = turn.rest;
-    reads = subst (λ q. Reads Commands q (grants_of g) (lines_heard g) turn.last turn.rest) (sym (append-nil g.received)) turn.reads;
-    replies = sym (append-nil (replies_of site g));
-    still = λ other is. (some_is other g (sym is), sym (append-nil g.received), turn);
+    still = λ other is. (same other is, sym (append-nil g.received), turn);
   }
 
   lives_same : (o : Option Guest) → Lives o o [] []
   lives_same None = (refl, refl)
-  lives_same (Some g) = goes_same g
+  lives_same (Some g) turn = nothing_done g (Some g) turn (λ other is. some_is other g (sym is))
 
   lives_over : (o found : Option Guest) → found ≡ None → Lives o found [] []
   lives_over None found none = (none, refl)
-  lives_over (Some g) found none = over_same g found none
+  lives_over (Some g) found none turn = nothing_done g found turn (λ other is. absurd (none_is other (sym none ∙ is)))
 
   lives_as : (o found : Option Guest) (bytes : List ℕ) (texts : List (List ℕ)) → found ≡ o → bytes ≡ [] → texts ≡ [] → Lives o found bytes texts
   lives_as o found bytes texts same none quiet = subst (λ q. Lives o q bytes texts) (sym same) (subst (λ q. Lives o o q texts) (sym none) (subst (λ q. Lives o o [] q) (sym quiet) (lives_same o)))
@@ -170,9 +159,6 @@ module _ (site : Site) (s : ℕ) where
   brought_apart m Leaves d apart said quiet = record { said = said; quiet = quiet; guest = left_other s d.guest.number m.guests apart }
   brought_apart m (Over finish) d apart said quiet = record { said = said; quiet = quiet; guest = left_other s d.guest.number m.guests apart }
 
-  gone : (m : State) (d : Did) → d.guest.number ≡ s → guest_of s (without d.guest.number m.guests) ≡ None
-  gone m d own = ap (λ n. guest_of s (without n m.guests)) own ∙ left_own s m.guests
-
   -- the session was answered
   converses : (g : Guest) (bytes : List ℕ) (d : Did) (found : Option Guest) → IsSettled (with_bytes g bytes) d → replies_of site d.guest ≡ replies_of site g ++ said_to s d.effects
       → ((other : Guest) → found ≡ Some other → (other ≡ d.guest) × (d.way ≡ GoesOn)) → Converses site g bytes (said_to s d.effects) found
@@ -191,8 +177,8 @@ module _ (site : Site) (s : ℕ) where
       → Converses site g bytes (said_to s (brought m way d).effects) (guest_of s (brought m way d).state.guests)
   own_lives m g bytes GoesOn d on found own told k =
       converses g bytes d (guest_of s (with_guest d.guest m.guests)) k told (λ other h. (some_is other d.guest (sym h ∙ changed_own s d.guest g m.guests own found), on))
-  own_lives m g bytes Leaves d on found own told k = converses g bytes d (guest_of s (without d.guest.number m.guests)) k told (λ other h. absurd (none_is other (sym (gone m d own) ∙ h)))
-  own_lives m g bytes (Over finish) d on found own told k = converses g bytes d (guest_of s (without d.guest.number m.guests)) k told (λ other h. absurd (none_is other (sym (gone m d own) ∙ h)))
+  own_lives m g bytes Leaves d on found own told k = converses g bytes d (guest_of s (without d.guest.number m.guests)) k told (λ other h. absurd (none_is other (sym (gone s m d own) ∙ h)))
+  own_lives m g bytes (Over finish) d on found own told k = converses g bytes d (guest_of s (without d.guest.number m.guests)) k told (λ other h. absurd (none_is other (sym (gone s m d own) ∙ h)))
 
   -- more bytes stand behind the lines
   first_fed : (g : Guest) (bytes : List ℕ) → IsInTurn g → AreFirst (with_bytes g bytes)

@@ -27,6 +27,7 @@ use Rattle.mail_core.specs.Sites.{Site, terms_at}
 use Rattle.mail_core.specs.Effects.{Effect, Takes, Ticks, Commits, Sends, HangsUp, speech}
 use Rattle.mail_core.specs.Guests.{Guest, is_passed, guest_of, is_here, next_line, with_bytes}
 use Rattle.mail_core.specs.Machine.{SpoolFault, IdsSpent, FilesFault, Opening, Replied, Dropped, Choice, Normal, OutOfMemory, Disconnects, SpoolFails, JudgeFails, Choices, Way, GoesOn, Leaves, Over, Finish, By, Cut, Did, answer_by, limit_of, question_here, way_of, does, says, closes, is_over, commits, accepts, replies, fails, heard_line, id_by, is_answered, heard_where, by_choice, goes_on, answered, settled_by, settled, fresh_start, all_answered, State, Step, still, most_guests, turned_away, welcomed, opened, brought, pieced, handled, Turn, at_moment, taken, stepped, followed, run}
+use Rattle.mail_core.proofs.WayLemmas.{goes_keeps}
 use Rattle.mail_core.specs.Judges.{JudgeSeen}
 use Rattle.mail_core.specs.Meant.{AreMeant, ArePieceMeant, IsEventMeant, IsHeadedAt, IsMeant, IsRunMeant}
 use Rattle.mail_core.specs.Messages.{accept_of, cut_of, headed, is_spent, last_id}
@@ -283,13 +284,10 @@ choice_grows j site moment d (OutOfMemory whole) None = over_grows (Unit {0}) d 
 choice_grows j site moment d (SpoolFails first) None = over_grows (Unit {0}) d Cut
 choice_grows j site moment d JudgeFails None = over_grows (Unit {0}) d Cut
 
-goes_grows : (F : Type 0) (way : Way) (d e : Did) → Grows F d e → Grows F d (goes_on way d e)
-goes_grows F GoesOn d e h = h
-goes_grows F Leaves d e h = grows_none F d
-goes_grows F (Over finish) d e h = grows_none F d
-
 answered_grows : (j : JudgeSeen) (site : Site) (moment : ℕ) (d : Did) (choice : Choice) → Grows (IsMeant j site moment d choice (next_line d.guest)) d (answered site moment d choice)
-answered_grows j site moment d choice = goes_grows (IsMeant j site moment d choice (next_line d.guest)) d.way d (by_choice site moment d choice (next_line d.guest)) (choice_grows j site moment d choice (next_line d.guest))
+answered_grows j site moment d choice =
+    let F = IsMeant j site moment d choice (next_line d.guest) in
+    goes_keeps (Grows F d) d.way d (by_choice site moment d choice (next_line d.guest)) (grows_none F d) (choice_grows j site moment d choice (next_line d.guest))
 
 fold_grows : (j : JudgeSeen) (site : Site) (moment : ℕ) (d : Did) (choices : List Choice) → Grows (AreMeant j site moment d choices) d (fold (answered site moment) d choices)
 fold_grows j site moment d [] = grows_none (Unit {0}) d

@@ -32,7 +32,7 @@ use Rattle.mail_core.specs.Sites.{Site, terms_at}
 use Rattle.mail_core.specs.Effects.{heard_of, speech}
 use Rattle.mail_core.specs.inner.Going.{Does, AnswersMessage, IsReset, is_onward, is_granted}
 use Rattle.mail_core.specs.Machine.{IdsSpent, Normal, OutOfMemory, SpoolFails, GoesOn, By, Did, says, is_over, commits, accepts}
-use Rattle.mail_core.specs.Messages.{IsReceived, IsTaken, accept_of, cuts_of, headed, is_spent, last_id}
+use Rattle.mail_core.specs.Messages.{IsReceived, IsTakenIn, accept_of, cuts_of, headed, is_spent, last_id}
 use Rattle.mail_core.specs.Seen.{IsEither, IsSparing, seen}
 use Rattle.mail_core.specs.Standing.{Serves, Stores}
 use Rattle.mail_core.proofs.SparingLemmas.{sparing_call}
@@ -139,7 +139,7 @@ spared_at site old new table s t is stays before behind moves =
 received_at : (site : Site) (config : Config) (moment next : ℕ) (table : Table) (message : Message) (first : Option (List ℕ)) → site.config ≡ config → next ≡ table.next → IsReceived config moment message next first → IsReceived site.config moment message table.next first
 received_at site config moment next table message first under same r = subst (λ q. IsReceived q moment message table.next first) (sym under) (subst (λ n. IsReceived config moment message n first) same r)
 
-pub taken_at : (site : Site) (config : Config) (moment next : ℕ) (table : Table) (message : Message) (first : Option (List ℕ)) → site.config ≡ config → next ≡ table.next → 1 ≤ length message.rows → IsReceived config moment message next first → IsTaken site.config moment message table.next first
+pub taken_at : (site : Site) (config : Config) (moment next : ℕ) (table : Table) (message : Message) (first : Option (List ℕ)) → site.config ≡ config → next ≡ table.next → 1 ≤ length message.rows → IsReceived config moment message next first → IsTakenIn site.config moment message table.next first
 taken_at site config moment next table message first under same some r = record { some = some; received = received_at site config moment next table message first under same r }
 
 -- ---- the exits of accept
@@ -172,7 +172,7 @@ module _ (site : Site) (moment : ℕ) (d : Did) (message : Message) (old new : C
     granted = granted;
   }
 
-  module _ (first : Option (List ℕ)) (taken : IsTaken site.config moment message d.table.next first) where
+  module _ (first : Option (List ℕ)) (taken : IsTakenIn site.config moment message d.table.next first) where
     -- the message with the header that is put first
     abbrev whole_message : Message
     whole_message = headed first message

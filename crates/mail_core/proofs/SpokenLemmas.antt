@@ -87,6 +87,10 @@ module _ (s : ℕ) where
 
 -- ---- what becomes of a session that isn't opened
 
+-- a session that has left isn't found
+pub gone : (s : ℕ) (m : State) (d : Did) → d.guest.number ≡ s → guest_of s (without d.guest.number m.guests) ≡ None
+gone s m d own = ap (λ n. guest_of s (without n m.guests)) own ∙ left_own s m.guests
+
 module _ (site : Site) (s : ℕ) where
   abbrev Passes : Option Guest → Option Guest → List Effect → Type 0
   Passes None None effects = Unit {0}
@@ -149,15 +153,12 @@ module _ (site : Site) (s : ℕ) where
   other_passes m Leaves d apart quiet = passes_as (guest_of s m.guests) _ d.effects (left_other s d.guest.number m.guests apart) quiet
   other_passes m (Over finish) d apart quiet = passes_as (guest_of s m.guests) _ d.effects (left_other s d.guest.number m.guests apart) quiet
 
-  gone : (m : State) (d : Did) → d.guest.number ≡ s → guest_of s (without d.guest.number m.guests) ≡ None
-  gone m d own = ap (λ n. guest_of s (without n m.guests)) own ∙ left_own s m.guests
-
   own_passes : (m : State) (g : Guest) (way : Way) (d : Did) → guest_of s m.guests ≡ Some g → d.guest.number ≡ s → replies_of site d.guest ≡ replies_of site g ++ said_to s d.effects → StepPasses m (brought m way d)
   own_passes m g GoesOn d found own told =
       subst (λ o. Passes o (guest_of s (with_guest d.guest m.guests)) d.effects) (sym found)
       (subst (λ o. Passes (Some g) o d.effects) (sym (changed_own s d.guest g m.guests own found)) told)
-  own_passes m g Leaves d found own told = passes_left (guest_of s m.guests) _ d.effects (gone m d own)
-  own_passes m g (Over finish) d found own told = passes_left (guest_of s m.guests) _ d.effects (gone m d own)
+  own_passes m g Leaves d found own told = passes_left (guest_of s m.guests) _ d.effects (gone s m d own)
+  own_passes m g (Over finish) d found own told = passes_left (guest_of s m.guests) _ d.effects (gone s m d own)
 
   pieced_passes : (m : State) (n : ℕ) (bytes : List ℕ) (choices : List Choice) (o : Option Guest) → guest_of n m.guests ≡ o → StepPasses m (pieced site m bytes choices o)
   pieced_passes m n bytes choices None found = still_passes m

@@ -16,7 +16,8 @@ use Rattle.spool_store.specs.Entries.{Table}
 use Rattle.mail_core.specs.Sites.{Site}
 use Rattle.mail_core.specs.Effects.{Effect, Commits, Sends, HangsUp, speech}
 use Rattle.mail_core.specs.Guests.{Guest, is_passed, next_line, with_line}
-use Rattle.mail_core.specs.Machine.{Choice, Normal, OutOfMemory, Disconnects, SpoolFails, JudgeFails, SpoolFault, IdsSpent, FilesFault, Finish, By, Cut, Way, GoesOn, Leaves, Over, Did, answer_by, limit_of, does, says, closes, is_over, commits, replies, fails, heard_line, heard_where, id_by, is_answered, by_choice, goes_on, answered, settled_by, fresh_start, all_answered}
+use Rattle.mail_core.specs.Machine.{Choice, Normal, OutOfMemory, Disconnects, SpoolFails, JudgeFails, SpoolFault, IdsSpent, FilesFault, Finish, By, Cut, Way, GoesOn, Leaves, Over, Did, answer_by, limit_of, does, says, closes, is_over, commits, replies, fails, heard_line, heard_where, id_by, is_answered, by_choice, answered, settled_by, fresh_start, all_answered}
+use Rattle.mail_core.proofs.WayLemmas.{goes_keeps}
 use Rattle.mail_core.specs.Messages.{accept_of, headed, is_spent}
 use Rattle.mail_core.specs.Told.{said_to, replies_of}
 
@@ -195,15 +196,10 @@ module _ (site : Site) (moment : ℕ) where
   choice_told g d (SpoolFails first) None t = over_told g d Cut t
   choice_told g d JudgeFails None t = over_told g d Cut t
 
-  goes_told : (way : Way) (g : Guest) (d e : Did) → IsTold g d → IsTold g e → IsTold g (goes_on way d e)
-  goes_told GoesOn g d e t u = u
-  goes_told Leaves g d e t u = t
-  goes_told (Over finish) g d e t u = t
-
   all_told : (g : Guest) (d : Did) (choices : List Choice) → IsTold g d → IsTold g (fold (answered site moment) d choices)
   all_told g d [] t = t
   all_told g d (choice ∷ choices) t =
-      all_told g (answered site moment d choice) choices (goes_told d.way g d (by_choice site moment d choice (next_line d.guest)) t (choice_told g d choice (next_line d.guest) t))
+      all_told g (answered site moment d choice) choices (goes_keeps (IsTold g) d.way d (by_choice site moment d choice (next_line d.guest)) t (choice_told g d choice (next_line d.guest) t))
 
   settled_told : (way : Way) (line : Option Line) (g : Guest) (d : Did) → IsTold g d → IsTold g (settled_by way line d)
   settled_told GoesOn (Some line) g d t = over_told g d Cut t

@@ -19,6 +19,7 @@ use Rattle.mail_core.specs.Guests.{Guest, grants_of, is_passed, next_line, with_
 use Rattle.mail_core.specs.Machine.{Choice, Normal, OutOfMemory, Disconnects, SpoolFails, JudgeFails, SpoolFault, IdsSpent, FilesFault, Finish, By, Cut, Way, GoesOn, Leaves, Over, Did, answer_by, limit_of, does, says, closes, is_over, commits, accepts, replies, fails, heard_line, heard_where, id_by, is_answered, by_choice, goes_on, answered, settled_by, settled, fresh_start, all_answered}
 use Rattle.mail_core.specs.Messages.{accept_of, headed, is_spent}
 use Rattle.mail_core.specs.Told.{IsInTurn, brought_by, brought_of}
+use Rattle.mail_core.proofs.WayLemmas.{goes_keeps}
 use Rattle.mail_core.proofs.AnswerLemmas.{answer_kept, grants_more, lines_more}
 use Rattle.mail_core.proofs.FeedLemmas.{how_many_heard}
 use Rattle.mail_core.proofs.StreamLemmas.{IsNext, next_reads, none_left, reads_asked, reads_plain}
@@ -201,17 +202,12 @@ module _ (site : Site) (moment : ℕ) where
 
   -- ---- what is done for a piece brings nothing
 
-  quiet_goes : (s : ℕ) (way : Way) (d e : Did) → brought_of s d.effects ≡ [] → brought_of s e.effects ≡ [] → brought_of s (goes_on way d e).effects ≡ []
-  quiet_goes s GoesOn d e h k = k
-  quiet_goes s Leaves d e h k = h
-  quiet_goes s (Over finish) d e h k = h
-
   quiet_all : (s : ℕ) (d : Did) (choices : List Choice) → brought_of s d.effects ≡ [] → brought_of s (fold (answered site moment) d choices).effects ≡ []
   quiet_all s d [] h = h
   quiet_all s d (choice ∷ choices) h =
       let e = by_choice site moment d choice (next_line d.guest) in
       let m = moves_choice d choice (next_line d.guest) in
-      quiet_all s (goes_on d.way d e) choices (quiet_goes s d.way d e h (m.quiet s ∙ h))
+      quiet_all s (goes_on d.way d e) choices (goes_keeps (λ (x : Did). brought_of s x.effects ≡ []) d.way d e h (m.quiet s ∙ h))
 
   quiet_settled : (s : ℕ) (way : Way) (line : Option Line) (d : Did) → brought_of s d.effects ≡ [] → brought_of s (settled_by way line d).effects ≡ []
   quiet_settled s GoesOn (Some line) d h = let i = idles_over d Cut in i.quiet s ∙ h
@@ -241,16 +237,11 @@ module _ (site : Site) (moment : ℕ) where
       let parts = kept_by g d e.guest e.effects (next_line d.guest) refl m.guest k in
       record { peer = parts.0; config = parts.1; received = parts.2; first = parts.3 }
 
-  kept_goes : (way : Way) (g : Guest) (d e : Did) → IsKept g d → IsKept g e → IsKept g (goes_on way d e)
-  kept_goes GoesOn g d e k next = next
-  kept_goes Leaves g d e k next = k
-  kept_goes (Over finish) g d e k next = k
-
   kept_all : (g : Guest) (d : Did) (choices : List Choice) → IsKept g d → IsKept g (fold (answered site moment) d choices)
   kept_all g d [] k = k
   kept_all g d (choice ∷ choices) k =
       let e = by_choice site moment d choice (next_line d.guest) in
-      kept_all g (goes_on d.way d e) choices (kept_goes d.way g d e k (kept_moves g d e (moves_choice d choice (next_line d.guest)) k))
+      kept_all g (goes_on d.way d e) choices (goes_keeps (IsKept g) d.way d e k (kept_moves g d e (moves_choice d choice (next_line d.guest)) k))
 
   kept_over : (g : Guest) (d : Did) (finish : Finish) → IsKept g d → IsKept g (is_over d finish)
   kept_over g d finish k = record { peer = k.peer; config = k.config; received = k.received; first = k.first }

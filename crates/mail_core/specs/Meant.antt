@@ -11,7 +11,7 @@ use Rattle.spool_store.specs.Entries.{Table}
 use Rattle.mail_core.specs.Guests.{Guest, guest_of, next_line, with_bytes}
 use Rattle.mail_core.specs.Judges.{JudgeSeen, Says}
 use Rattle.mail_core.specs.Machine.{Choice, Normal, OutOfMemory, Disconnects, SpoolFails, JudgeFails, Choices, Did, State, Turn, answer_by, answered, at_moment, fresh_start, question_here, stepped}
-use Rattle.mail_core.specs.Messages.{IsTaken, is_spent}
+use Rattle.mail_core.specs.Messages.{IsTakenIn, is_spent}
 use Rattle.mail_core.specs.Sites.{Site}
 
 -- what a judge says of the path of a line, if it is put to it
@@ -21,7 +21,7 @@ IsSaidAt j d line said = Says j (question_here d line) said
 -- a message that an answer gives has a row, and gets its header, where an id is left for it
 abbrev pub IsHeadedAt : Site → ℕ → Table → Answer → Option (List ℕ) → Type 0
 IsHeadedAt site moment table (Gives message) first =
-    is_spent table ≡ false → IsTaken site.config moment message table.next first
+    is_spent table ≡ false → IsTakenIn site.config moment message table.next first
 IsHeadedAt site moment table (Replies reply) first = Unit {0}
 IsHeadedAt site moment table (Refuses error) first = Unit {0}
 IsHeadedAt site moment table Greets first = Unit {0}

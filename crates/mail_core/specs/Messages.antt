@@ -52,7 +52,7 @@ pub record IsReceived (config : Config) (moment : ℕ) (message : Message) (id :
   pub is : first ≡ received_of config.headers (receipt_macros config message dates id)
 
 -- a message that is taken in has a row, and gets that header
-pub record IsTaken (config : Config) (moment : ℕ) (message : Message) (id : ℕ)
+pub record IsTakenIn (config : Config) (moment : ℕ) (message : Message) (id : ℕ)
     (first : Option (List ℕ)) : Type 0 where
   pub some : 1 ≤ length message.rows
   pub received : IsReceived config moment message id first

@@ -1,12 +1,12 @@
 ghost use Rattle.std.specs.Int.{w64};
-ghost use Rattle.std.specs.Prelude.{◌≡◌, ◌∷◌, ℕ, FitsSigned, IfOk, IfSome, OnOk, List};
+ghost use Rattle.std.specs.Prelude.{◌≡◌, ◌∷◌, ℕ, FitsSigned, IfOk, IfSome};
 ghost use Rattle.mail_base.specs.Names.{id_text as shown_id};
 ghost use Rattle.mail_base.specs.Texts.{IsHeader};
-ghost use Rattle.mail_core.specs.Messages.{Dates, IsReceived, cuts_of, headed, receipt_macros};
+ghost use Rattle.mail_core.specs.Messages.{IsReceived, cuts_of, headed};
 ghost use Rattle.mail_core.specs.inner.Made.{IsMacros};
 
 use cf_macros::{Form, date};
-use mail_base::{Config, Cut, Id, Kept, Kind, Macros, Message, NoMemory, Seq, Text, TryCopy};
+use mail_base::{Config, Cut, Id, Kind, Macros, Message, NoMemory, Seq, Text, TryCopy};
 use mail_header::{date_of, received};
 use smtp_receive::session_macros;
 use std::alloc::Global;

@@ -1,9 +1,8 @@
 -- What the rules of a configuration say of the paths of sessions (cf/README, the sets check_mail
 -- and check_rcpt; Sendmail Installation and Operation Guide, R and S: rewriting rules; D: define
 -- macro, for r, s, f and {client_addr}; that a recipient is one row, which is itself, is own).
-use Rattle.std.specs.Prelude.{◌≡◌, ℕ, List, [], ◌∷◌, Option, None, Some, true, codes, refl}
+use Rattle.std.specs.Prelude.{ℕ, List, [], ◌∷◌, Option, None, Some, true, codes}
 use Rattle.mail_base.specs.Answering.{Answerer}
-use Rattle.mail_base.specs.Catalogs.{value_at, with_value}
 use Rattle.mail_base.specs.declared.config.Config.{Config}
 use Rattle.mail_base.specs.declared.draw.Draw.{Draw}
 use Rattle.mail_base.specs.declared.message.Kept.{Kept}

@@ -1,5 +1,4 @@
-ghost use Rattle.std.specs.Prelude.{◌≡◌, ◌∷◌, [], IfOk, None, OnOk, codes};
-ghost use Rattle.mail_base.specs.Catalogs.{with_value};
+ghost use Rattle.std.specs.Prelude.{◌≡◌, ◌∷◌, [], IfOk, None, codes};
 ghost use Rattle.mail_base.specs.Texts.{IsBracketed};
 ghost use Rattle.addr_route.specs.Checks.{Checks, IsBoundedIf};
 ghost use Rattle.smtp_receive.specs.Judging.{IsFormedSaid, OfRecipient};

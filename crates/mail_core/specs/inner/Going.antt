@@ -22,7 +22,7 @@ use Rattle.mail_core.specs.Guests.{Guest, grants_of, has_bytes_left, with_bytes,
 use Rattle.mail_core.specs.Sites.{Site}
 use Rattle.mail_core.specs.Judges.{JudgeSeen}
 use Rattle.mail_core.specs.Meant.{AreMeant, IsMeant}
-use Rattle.mail_core.specs.Messages.{IsTaken, headed, is_spent}
+use Rattle.mail_core.specs.Messages.{IsTakenIn, headed, is_spent}
 use Rattle.mail_core.specs.Causes.{HasCause, ending_by, is_well}
 use Rattle.mail_core.specs.Machine.{Ending, Choice, Normal, OutOfMemory, Disconnects, SpoolFails, JudgeFails, Way, GoesOn, Leaves, Over, By, Cut, Did, is_over, says, accepts, fails, fresh_start, by_choice, heard_line, heard_where, answered, all_answered}
 use Rattle.mail_core.specs.Seen.{Seen, Ran, table_after}
@@ -111,12 +111,12 @@ message_by site moment d message JudgeFails = is_over d Cut
 abbrev pub IsMessageMeant : Site → ℕ → Did → Message → Choice → Type 0
 IsMessageMeant site moment d message (Normal said first whole) =
     (said ≡ Unasked)
-    × (is_spent d.table ≡ false → IsTaken site.config moment message d.table.next first)
+    × (is_spent d.table ≡ false → IsTakenIn site.config moment message d.table.next first)
 IsMessageMeant site moment d message (OutOfMemory whole) = Unit {0}
 IsMessageMeant site moment d message Disconnects = Unit {0}
 IsMessageMeant site moment d message JudgeFails = ⊥
 IsMessageMeant site moment d message (SpoolFails first) =
-    is_spent d.table ≡ false → IsTaken site.config moment message d.table.next first
+    is_spent d.table ≡ false → IsTakenIn site.config moment message d.table.next first
 
 -- what the judge said
 abbrev pub said_in : Choice → Said
