@@ -1,22 +1,16 @@
 -- The members that `.C` adds to a class, and how members are listed (Sendmail Installation and
 -- Operation Guide, "C and F: Define Classes"; which words are refused is our own).
-use Rattle.std.specs.Prelude.{◌↔◌, ℕ, List, map, Contains, Option, None, Result, Ok, Err}
+use Rattle.std.specs.Prelude.{◌↔◌, ℕ, List, map, Contains, Option}
 use Rattle.std.specs.List.Sorted.{IsStrictlySortedBy}
 use Rattle.std.specs.Cmp.Lexicographic.{slice_cmp}
 use Rattle.std.specs.Ordering.{nat_cmp}
 use Rattle.mail_base.specs.Catalogs.{value_at, with_value, members_of}
 use Rattle.mail_base.specs.Classes.{with_members}
 use Rattle.mail_base.specs.declared.class.Member.{Member}
-use Rattle.addr_tokens.specs.Members.{member_of, words_or_none}
-use Rattle.cf_macros.specs.declared.fault.ExpandFault.{ExpandFault}
+use Rattle.addr_tokens.specs.Members.{member_of, words_in}
 use Rattle.cf_macros.specs.Expansion.{value}
-use Rattle.mail_base.specs.Words.{words_of}
 
 -- ---- the words of a text
-
-abbrev pub words_in : Result (List ℕ) ExpandFault → Option (List (List ℕ))
-words_in (Ok text) = words_or_none (words_of text)
-words_in (Err fault) = None
 
 -- the words of a text once it is expanded, or nothing where it can't be expanded, or one of them
 -- can't be cut

@@ -2,6 +2,7 @@
 use Rattle.std.proofs.Common.{◌≡◌, ◌≢◌, ℕ, ◌+◌, ◌-◌, ◌<◌, ◌≤◌, ◌==◌, Bool, true, false, not, ◌&&◌, ◌||◌, cond, List, [], ◌∷◌, ◌++◌, length, drop, get_or, Ok, Err, refl, sym, ◌∙◌, ap, subst, arith}
 use Rattle.std.proofs.lemmas.Bool.{cond-true, cond-false, and_parts, and_from, or_from, not-true, not_from_false, or_parts, eqb-true, eq-eqb, ne_eqb, both_ways, false≢true}
 use Rattle.std.proofs.lemmas.List.{append_assoc, append-nil, length-append}
+use Rattle.mail_base.proofs.FeedLemmas.{clash, heads, tails}
 use Rattle.addr_tokens.specs.declared.fault.ScanFault.{ScanFault}
 use Rattle.addr_tokens.specs.declared.fault.ScanFault.TheVariants.{Unbalanced, BadQuote, BadDollar, Long}
 use Rattle.mail_base.specs.Whites.{is_white}
@@ -15,17 +16,6 @@ use Rattle.addr_tokens.proofs.CommentLemmas.{CommentEnds, comment_read, past_com
 
 taken : (text front rest : List ℕ) → text ≡ front ++ rest → front_of text rest ≡ front
 taken text front rest whole = ap (λ t. front_of t rest) whole ∙ front_is front rest
-
--- the same heads
-heads : (x y : ℕ) (xs ys : List ℕ) → x ∷ xs ≡ y ∷ ys → x ≡ y
-heads x y xs ys e = ap (λ l. get_or l 0 0) e
-
-tails : (x y : ℕ) (xs ys : List ℕ) → x ∷ xs ≡ y ∷ ys → xs ≡ ys
-tails x y xs ys e = ap (drop 1) e
-
--- other heads
-other_heads : (x y : ℕ) (xs ys : List ℕ) → (x == y) ≡ false → x ∷ xs ≡ y ∷ ys → ⊥
-other_heads x y xs ys other e = both_ways (x == y) other (eq-eqb x y (heads x y xs ys e))
 
 module _ (alphabet : Alphabet) where
   at_place : (text : List ℕ) (place m n : ℕ) → m ≡ n → Stops alphabet text place (BadQuote m) → Stops alphabet text place (BadQuote n)
@@ -120,16 +110,16 @@ module _ (alphabet : Alphabet) where
       let p = word_parts alphabet b (more ++ rest) (not (is_listed alphabet b)) w in
       both_ways (is_dollar alphabet.dollars 36 after)
       ((λ i. is_dollar alphabet.dollars (heads 36 b after (more ++ rest) whole i) (tails 36 b after (more ++ rest) whole i)) ∙ p.0) begins
-  run_begins after _ _ begins single some (word_escaped b more rest is) whole = other_heads 36 92 after (b ∷ (more ++ rest)) refl whole
+  run_begins after _ _ begins single some (word_escaped b more rest is) whole = clash 36 92 after (b ∷ (more ++ rest)) refl whole
   run_begins after _ _ begins single some (word_doubled more rest two is) whole =
       both_ways (is_pair alphabet 36 after) single (ap (is_pair alphabet 36) (tails 36 36 after (36 ∷ (more ++ rest)) whole) ∙ two)
 
   none_begins : (place : ℕ) (after : List ℕ) → is_dollar alphabet.dollars 36 after ≡ true → is_pair alphabet 36 after ≡ false → first_dollar alphabet place after ≡ Err (BadDollar place) → BeginsNone alphabet (36 ∷ after)
   none_begins place after begins single refused (White b) rest is whole = both_ways (is_white b) (ap is_white (sym (heads 36 b after rest whole))) is
   none_begins place after begins single refused (Comment bytes) rest is whole =
-      other_heads 36 40 after ((is.inside ++ 41 ∷ []) ++ rest) refl (whole ∙ ap (λ x. x ++ rest) is.whole)
+      clash 36 40 after ((is.inside ++ 41 ∷ []) ++ rest) refl (whole ∙ ap (λ x. x ++ rest) is.whole)
   none_begins place after begins single refused (Quotation bytes) rest is whole =
-      other_heads 36 34 after ((is.inside ++ 34 ∷ []) ++ rest) refl (whole ∙ ap (λ x. x ++ rest) is.whole)
+      clash 36 34 after ((is.inside ++ 34 ∷ []) ++ rest) refl (whole ∙ ap (λ x. x ++ rest) is.whole)
   none_begins place after begins single refused (Operator b) rest is whole =
       let p = word_parts alphabet b rest (is_listed alphabet b) is in
       both_ways (is_dollar alphabet.dollars 36 after) ((λ i. is_dollar alphabet.dollars (heads 36 b after rest whole i) (tails 36 b after rest whole i)) ∙ p.0) begins
@@ -225,14 +215,14 @@ module _ (alphabet : Alphabet) where
 
   -- a stop at a dollar sign is refused there
   fault_at : (text after : List ℕ) (place : ℕ) (fault : ScanFault) → Stops alphabet text place fault → text ≡ 36 ∷ after → fault ≡ BadDollar place
-  fault_at _ rest _ _ (closing after place) e = absurd (other_heads 41 36 _ _ refl e)
-  fault_at _ rest _ _ (opening inside place is) e = absurd (other_heads 40 36 _ _ refl e)
-  fault_at _ rest _ _ (opening_ended inside place is) e = absurd (other_heads 40 36 _ _ refl e)
-  fault_at _ rest _ _ (backslash place) e = absurd (other_heads 92 36 _ _ refl e)
-  fault_at _ rest _ _ (quote inside place is) e = absurd (other_heads 34 36 _ _ refl e)
-  fault_at _ rest _ _ (quote_ended inside place is) e = absurd (other_heads 34 36 _ _ refl e)
-  fault_at _ rest _ _ (quoted_control inside b after place is c) e = absurd (other_heads 34 36 _ _ refl e)
-  fault_at _ rest _ _ (escaped_control inside b after place is c) e = absurd (other_heads 34 36 _ _ refl e)
+  fault_at _ rest _ _ (closing after place) e = absurd (clash 41 36 _ _ refl e)
+  fault_at _ rest _ _ (opening inside place is) e = absurd (clash 40 36 _ _ refl e)
+  fault_at _ rest _ _ (opening_ended inside place is) e = absurd (clash 40 36 _ _ refl e)
+  fault_at _ rest _ _ (backslash place) e = absurd (clash 92 36 _ _ refl e)
+  fault_at _ rest _ _ (quote inside place is) e = absurd (clash 34 36 _ _ refl e)
+  fault_at _ rest _ _ (quote_ended inside place is) e = absurd (clash 34 36 _ _ refl e)
+  fault_at _ rest _ _ (quoted_control inside b after place is c) e = absurd (clash 34 36 _ _ refl e)
+  fault_at _ rest _ _ (escaped_control inside b after place is c) e = absurd (clash 34 36 _ _ refl e)
   fault_at _ rest _ _ (dollar after place none) e = refl
 
   refused_by : (place : ℕ) (after : List ℕ) (first : First) → BeginsNone alphabet (36 ∷ after) → FirstReads place (36 ∷ after) first → first ≡ Err (BadDollar place)

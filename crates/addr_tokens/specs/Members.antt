@@ -2,6 +2,7 @@
 -- "C and F: Define Classes"; which words are refused is our own).
 use Rattle.std.specs.Prelude.{ℕ, Bool, true, false, List, [], Option, Some, None, Result, Ok, Err, if◌then◌else◌}
 use Rattle.std.specs.List.{list_any}
+use Rattle.mail_base.specs.Words.{words_of}
 use Rattle.mail_base.specs.declared.class.Member.{Member}
 use Rattle.mail_base.specs.declared.token.Token.{Token}
 use Rattle.addr_tokens.specs.declared.fault.ScanFault.{ScanFault}
@@ -22,6 +23,11 @@ cannot_be_cut word = is_fault_anyway (tokens_or_fault (plain []) false word)
 -- these words, or nothing where one of them can't be cut
 abbrev pub words_or_none : List (List ℕ) → Option (List (List ℕ))
 words_or_none words = if list_any cannot_be_cut words then None else Some words
+
+-- the words of a text, or nothing where there is no text or one of them can't be cut
+abbrev pub words_in : {E : Type 0} → Result (List ℕ) E → Option (List (List ℕ))
+words_in (Ok text) = words_or_none (words_of text)
+words_in (Err fault) = None
 
 -- the tokens of a text, or none where it can't be cut
 abbrev pub tokens_in : Result (List Token) ScanFault → Option (List Token)

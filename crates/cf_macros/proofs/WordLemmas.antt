@@ -2,17 +2,13 @@
 use Rattle.std.proofs.Common.{◌≡◌, ℕ, zero, suc, ◌+◌, ◌<◌, ◌≤◌, List, [], ◌∷◌, length, Bool, true, false, not, Option, None, Some, sym, ap, refl, ◌∙◌, arith}
 use Rattle.std.specs.Prelude.{◌==◌}
 use Rattle.std.specs.List.{position, prefix_len}
-use Rattle.std.proofs.lemmas.Bool.{cond-true, cond-false, lt-ltb, le-ltb}
+use Rattle.std.proofs.lemmas.Bool.{cond-true, cond-false, lt-ltb, le-ltb, false_from_ne_true}
 use Rattle.bstr.specs.Find.{IsFirstByte, Passes, Nowhere, is_byte}
-
-not-true : (b : Bool) → (b ≡ true → ⊥) → b ≡ false
-not-true true h = absurd (h refl)
-not-true false h = refl
 
 none-first : (text : List ℕ) → Nowhere (Passes (is_byte 125) text) 0 (length text) → prefix_len (λ x. not (x == 125)) text ≡ length text
 none-first [] h = refl
 none-first (b ∷ text) h =
-    let other : (b == 125) ≡ false = not-true (b == 125) (h 0 (omega arith) (omega arith)) in
+    let other : (b == 125) ≡ false = false_from_ne_true (b == 125) (h 0 (omega arith) (omega arith)) in
     let one : 1 + length text ≡ suc (length text) = omega arith in
     cond-true _ _ _ (ap not other) ∙ ap (λ n. 1 + n) (none-first text (λ k low high. h (suc k) (omega arith) (omega arith))) ∙ one
 
@@ -20,7 +16,7 @@ some-first : (text : List ℕ) (place : ℕ) → place < length text → Passes 
 some-first [] place within here before = absurd (omega arith)
 some-first (b ∷ text) zero within here before = cond-false _ _ _ (ap not here)
 some-first (b ∷ text) (suc place) within here before =
-    let other : (b == 125) ≡ false = not-true (b == 125) (before 0 (omega arith) (omega arith)) in
+    let other : (b == 125) ≡ false = false_from_ne_true (b == 125) (before 0 (omega arith) (omega arith)) in
     let one : 1 + place ≡ suc place = omega arith in
     cond-true _ _ _ (ap not other) ∙ ap (λ n. 1 + n) (some-first text place (omega arith) here (λ k low high. before (suc k) (omega arith) (omega arith))) ∙ one
 

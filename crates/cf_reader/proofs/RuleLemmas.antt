@@ -2,7 +2,7 @@
 use Rattle.std.proofs.Common.{◌≡◌, ℕ, zero, suc, ◌+◌, ◌<◌, List, [], ◌∷◌, ◌++◌, length, take, drop, get_or, Bool, true, false, cond, not, ◌&&◌, ◌||◌, eqb, Option, Some, None, Ok, Err, slice_get, refl, sym, ◌∙◌, ap, subst, arith}
 use Rattle.std.specs.List.{prefix_len}
 use Rattle.std.proofs.lemmas.List.{append_assoc, drop_more}
-use Rattle.std.proofs.lemmas.Bool.{cond_both, cond-true, cond-false, eqb-true, or_cases, or_parts}
+use Rattle.std.proofs.lemmas.Bool.{cond_both, cond-true, cond-false, eqb-true, or_cases, or_parts, not-true, not-false}
 use Rattle.std.proofs.Common.{⊎_elim}
 use Rattle.mail_base.specs.declared.rule.Step.{Step}
 use Rattle.addr_tokens.specs.declared.lexeme.Lexeme.{Lexeme}
@@ -146,14 +146,6 @@ bracket opening inside b after e plain is =
 abbrev is_plain : Lexeme → Bool
 is_plain lexeme = not (is_bracket lexeme)
 
-false_of_not : (b : Bool) → not b ≡ true → b ≡ false
-false_of_not true e = cc
-false_of_not false e = refl
-
-true_of_not : (b : Bool) → not b ≡ false → b ≡ true
-true_of_not true e = refl
-true_of_not false e = cc
-
 one_more : (n : ℕ) → 1 + n ≡ suc n
 one_more n = omega arith
 
@@ -161,7 +153,7 @@ plain_front : (xs : List Lexeme) → ArePlain (take (prefix_len is_plain xs) xs)
 plain_front [] = tt
 plain_front (x ∷ xs) =
     cond_both (is_plain x) (1 + prefix_len is_plain xs) 0 (λ n. ArePlain (take n (x ∷ xs)))
-    (λ p. subst (λ (n : ℕ). ArePlain (take n (x ∷ xs))) (sym (one_more (prefix_len is_plain xs))) (false_of_not (is_bracket x) p, plain_front xs))
+    (λ p. subst (λ (n : ℕ). ArePlain (take n (x ∷ xs))) (sym (one_more (prefix_len is_plain xs))) (not-true (is_bracket x) p, plain_front xs))
     (λ p. tt)
 
 at_front : (xs : List Lexeme) (b : Lexeme) → slice_get xs (prefix_len is_plain xs) ≡ Some b → is_bracket b ≡ true
@@ -169,13 +161,13 @@ at_front [] b g = cc
 at_front (x ∷ xs) b g =
     cond_both (is_plain x) (1 + prefix_len is_plain xs) 0 (λ n. slice_get (x ∷ xs) n ≡ Some b → is_bracket b ≡ true)
     (λ p. λ k. at_front xs b (subst (λ (n : ℕ). slice_get (x ∷ xs) n ≡ Some b) (one_more (prefix_len is_plain xs)) k))
-    (λ p. λ k. let same : x ≡ b = cc in subst (λ (y : Lexeme). is_bracket y ≡ true) same (true_of_not (is_bracket x) p)) g
+    (λ p. λ k. let same : x ≡ b = cc in subst (λ (y : Lexeme). is_bracket y ≡ true) same (not-false (is_bracket x) p)) g
 
 no_front : (xs : List Lexeme) → slice_get xs (prefix_len is_plain xs) ≡ None → ArePlain xs
 no_front [] g = tt
 no_front (x ∷ xs) g =
     cond_both (is_plain x) (1 + prefix_len is_plain xs) 0 (λ n. slice_get (x ∷ xs) n ≡ None → ArePlain (x ∷ xs))
-    (λ p. λ k. (false_of_not (is_bracket x) p, no_front xs (subst (λ (n : ℕ). slice_get (x ∷ xs) n ≡ None) (one_more (prefix_len is_plain xs)) k)))
+    (λ p. λ k. (not-true (is_bracket x) p, no_front xs (subst (λ (n : ℕ). slice_get (x ∷ xs) n ≡ None) (one_more (prefix_len is_plain xs)) k)))
     (λ p. λ k. absurd (cc)) g
 
 module _ {X : Type 0} where

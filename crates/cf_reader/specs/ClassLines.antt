@@ -6,7 +6,7 @@ use Rattle.std.specs.Str.Lines.{lines}
 use Rattle.mail_base.specs.declared.class.Member.{Member}
 use Rattle.mail_base.specs.Catalogs.{value_at, with_value, members_of}
 use Rattle.mail_base.specs.Classes.{with_members}
-use Rattle.addr_tokens.specs.Members.{member_of, words_or_none}
+use Rattle.addr_tokens.specs.Members.{member_of, words_in}
 use Rattle.cf_macros.specs.declared.fault.ExpandFault.{ExpandFault}
 use Rattle.cf_macros.specs.Expansion.{value}
 use Rattle.mail_edge.specs.Seen.{FileMap, text_of}
@@ -24,11 +24,6 @@ use Rattle.mail_base.specs.Words.{words_of}
 abbrev pub text_in : Result (List ℕ) ExpandFault → Option (List ℕ)
 text_in (Ok text) = Some text
 text_in (Err fault) = None
-
--- the words of that
-abbrev pub words_in : Result (List ℕ) ExpandFault → Option (List (List ℕ))
-words_in (Ok text) = words_or_none (words_of text)
-words_in (Err fault) = None
 
 -- the words of a C line, whose text behind the name is expanded at once
 abbrev pub class_words : List ℕ → List (List ℕ × List ℕ) → Option (List (List ℕ))

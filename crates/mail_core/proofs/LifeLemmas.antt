@@ -1,7 +1,7 @@
 -- What a session is sent from its opening on, wherever it ends.
 use Rattle.std.proofs.Common.{◌≡◌, ℕ, List, [], ◌∷◌, ◌++◌, Bool, true, false, Option, Some, None, refl, sym, ◌∙◌, ap, subst, append_assoc, ⊎_elim}
 use Rattle.std.specs.Prelude.{length, is_some, nat_le, nat_eq, if◌then◌else◌}
-use Rattle.std.proofs.lemmas.Bool.{cases_Bool, cond-true, cond-false, eq-eqb, eqb-true, or_from}
+use Rattle.std.proofs.lemmas.Bool.{cases_Bool, cond-true, cond-false, eq-eqb, eqb-true, or_from, not-true}
 use Rattle.std.proofs.lemmas.List.{append-nil}
 use Rattle.mail_base.specs.declared.config.Config.{Config}
 use Rattle.link_edge.specs.declared.event.Event.{Event}
@@ -14,7 +14,7 @@ use Rattle.mail_core.specs.Effects.{Effect, Sends, HangsUp}
 use Rattle.mail_core.specs.Guests.{Guest, grants_of, guest_of, has_number, is_here, newcomer, with_bytes, with_guest, without, lines_heard}
 use Rattle.mail_core.specs.Machine.{Opening, Replied, Dropped, Choice, Choices, Way, GoesOn, Leaves, Over, Did, State, Step, Turn, all_answered, at_moment, brought, handled, most_guests, opened, pieced, run, stepped, still, taken, turned_away, welcomed}
 use Rattle.mail_core.specs.Told.{Converses, IsInTurn, NeverOpens, Welcomes, hangs_up, turns_away, greets, brought_in, brought_of, opening_of, opens_none, replies_of, said_to}
-use Rattle.mail_core.proofs.SpokenLemmas.{found_number, pushed_other, skipped, changed_other, changed_own, gone, left_other, left_own, not_true}
+use Rattle.mail_core.proofs.SpokenLemmas.{found_number, pushed_other, skipped, changed_other, changed_own, gone, left_other, left_own}
 use Rattle.mail_core.proofs.StreamLemmas.{none_is, reads_more, some_is}
 use Rattle.mail_core.proofs.ToldLemmas.{IsTold, closing_other, piece_all, said_more, said_once, speech_other}
 use Rattle.mail_core.proofs.TurnLemmas.{AreFirst, IsSettled, brought_more, piece_quiet, piece_settled, turn_of}
@@ -238,7 +238,7 @@ module _ (site : Site) (s : ℕ) where
   -- ---- a turn, and a run
 
   handled_lives : (m : State) (event : Event) (choices : Choices event) → opens_none s event ≡ true → Handles m event (handled site m event choices)
-  handled_lives m (Opens n peer) choice none = apart_handles m (Opens n peer) (opened site m n peer choice) refl (opened_apart m n peer choice (not_true site s (nat_eq n s) none))
+  handled_lives m (Opens n peer) choice none = apart_handles m (Opens n peer) (opened site m n peer choice) refl (opened_apart m n peer choice (not-true site s (nat_eq n s) none))
   handled_lives m (Brings n bytes) choices none = pieced_lives m n bytes choices (guest_of n m.guests) refl
   handled_lives m (Closes n) choices none = closes_lives m n
   handled_lives m Rests choices none = apart_handles m Rests (still m) refl (same_apart m m refl)

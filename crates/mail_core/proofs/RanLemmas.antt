@@ -12,18 +12,14 @@ use Rattle.spool_store.specs.Moves.{Moves}
 use Rattle.spool_store.specs.Settled.{StandsFor}
 use Rattle.spool_store.proofs.MovesLemmas.{moves_join, moves_none, moves_weaker}
 use Rattle.queue_table.specs.Commands.{Command, after, applied}
+use Rattle.queue_table.proofs.CommandLemmas.{applied_append}
 use Rattle.mail_core.specs.Effects.{Effect, Commits, heard, read, commanded, heard_of, readings_of, commands_of}
 use Rattle.mail_core.specs.Seen.{IsEither, IsPart, IsSparing, Leaves, Ran, Seen, seen, table_after}
 use Rattle.mail_core.proofs.SparingLemmas.{sparing_join, sparing_none}
 
--- commands one after the other make of a table what all of them make
-applied_more : (table : Table) (some more : List Command) → applied table (some ++ more) ≡ applied (applied table some) more
-applied_more table [] more = refl
-applied_more table (command ∷ some) more = applied_more (after table command) some more
-
 -- the table after two lists of effects
 pub table_more : (table : Table) (xs ys : List Effect) → table_after table (xs ++ ys) ≡ table_after (table_after table xs) ys
-table_more table xs ys = ap (applied table) (flat_map-append commanded xs ys) ∙ applied_more table (commands_of xs) (commands_of ys)
+table_more table xs ys = ap (applied table) (flat_map-append commanded xs ys) ∙ applied_append table (commands_of xs) (commands_of ys)
 
 part_before : (dirs : List (List ℕ)) (table : Table) (xs ys : List Effect) (f : FileMap) → IsPart dirs table xs f → IsPart dirs table (xs ++ ys) f
 part_before dirs table xs ys f p = record { done = p.done; rest = p.rest ++ ys; whole = ap (λ q. q ++ ys) p.whole ∙ append_assoc p.done p.rest ys; stands = p.stands }

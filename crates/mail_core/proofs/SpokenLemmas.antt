@@ -1,7 +1,7 @@
 -- What is said to a session in a run are the replies of its dialogue.
 use Rattle.std.proofs.Common.{◌≡◌, ℕ, List, [], ◌∷◌, ◌++◌, Bool, true, false, not, Option, Some, None, refl, sym, ◌∙◌, ap, subst, append_assoc, ⊎_elim}
 use Rattle.std.specs.Prelude.{length, is_some, nat_le, nat_eq, if◌then◌else◌}
-use Rattle.std.proofs.lemmas.Bool.{cases_Bool, cond-true, cond-false, eq-eqb, eqb-true, false≢true}
+use Rattle.std.proofs.lemmas.Bool.{cases_Bool, cond-true, cond-false, eq-eqb, eqb-true, false≢true, not-true}
 use Rattle.std.proofs.lemmas.List.{append-nil}
 use Rattle.link_edge.specs.declared.event.Event.{Event}
 use Rattle.link_edge.specs.declared.event.Event.TheVariants.{Opens, Brings, Closes, Rests, Stops}
@@ -185,12 +185,8 @@ module _ (site : Site) (s : ℕ) where
 
   -- ---- a turn, and a run
 
-  pub not_true : (b : Bool) → not b ≡ true → b ≡ false
-  not_true true h = absurd (false≢true h)
-  not_true false h = refl
-
   handled_passes : (m : State) (event : Event) (choices : Choices event) → opens_none s event ≡ true → StepPasses m (handled site m event choices)
-  handled_passes m (Opens n peer) choice none = opened_passes m n peer choice (not_true (nat_eq n s) none)
+  handled_passes m (Opens n peer) choice none = opened_passes m n peer choice (not-true (nat_eq n s) none)
   handled_passes m (Brings n bytes) choices none = pieced_passes m n bytes choices (guest_of n m.guests) refl
   handled_passes m (Closes n) choices none = closes_passes m n
   handled_passes m Rests choices none = still_passes m

@@ -5,17 +5,12 @@ use Rattle.std.proofs.lemmas.Bool.{cond-false, cases_Bool, and_parts, or_parts, 
 use Rattle.std.proofs.lemmas.List.{append_assoc}
 use Rattle.mail_base.specs.Texts.{is_blank, crlf}
 use Rattle.mail_base.specs.declared.message.Split.{Split}
+use Rattle.mail_base.proofs.FeedLemmas.{heads, tails}
 use Rattle.mail_header.specs.Headers.{is_name_byte, is_plain, is_header, is_continuation, IsFolded, last_fold, one_fold, IsHeaderText, unfolded, folded, AreHeaders, no_headers, one_header, with_end, text_of, is_some_line, EndsHeaders, IsBody, behind_empty_line, at_once, IsSplit, has_crlf, AreLines, no_lines, one_line}
 use Rattle.mail_header.specs.Lines.{belongs, block_of, rest_of, goes_on, joined, headers_in, headers_of, without_empty, body_of, size_of}
 use Rattle.mail_header.proofs.SizeLemmas.{ended_size}
 
 -- ---- lines and their ends
-
-heads : (x y : ℕ) (xs ys : List ℕ) → x ∷ xs ≡ y ∷ ys → x ≡ y
-heads x y xs ys e = cc
-
-tails : (x y : ℕ) (xs ys : List ℕ) → x ∷ xs ≡ y ∷ ys → xs ≡ ys
-tails x y xs ys e = cc
 
 plain_byte : (b : ℕ) → is_plain b ≡ true → ((b == 13) ≡ false) × ((b == 10) ≡ false)
 plain_byte b h = let p = and_parts (not (b == 13)) (not (b == 10)) h in (not-true _ p.0, not-true _ p.1)

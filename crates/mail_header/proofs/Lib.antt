@@ -1,7 +1,7 @@
 mod FoundLemmas
 mod GatherLemmas
 pub mod GrammarLemmas
-mod MadeLemmas
+pub mod MadeLemmas
 mod SearchLemmas
 pub mod SizeLemmas
 pub mod SplitLemmas

@@ -8,7 +8,8 @@ use Rattle.mail_header.specs.Headers.{is_plain}
 use Rattle.mail_header.specs.Made.{folds, tidied, made_of}
 use Rattle.mail_header.specs.inner.Tidy.{tidy_first}
 
-blank_is : (b : ℕ) → is_blank b ≡ true → IsBlank b
+-- what is tested as a blank is one
+pub blank_is : (b : ℕ) → is_blank b ≡ true → IsBlank b
 blank_is b h = ⊎_elim (λ space. inl (eqb-true b 32 space)) (λ tab. inr (eqb-true b 9 tab)) (or_cases (b == 32) (b == 9) h)
 
 -- a blank stays

@@ -4,6 +4,7 @@ use Rattle.std.specs.Prelude.{IfOk, bytes_eq, slice_get, is_some, option_map}
 use Rattle.std.proofs.lemmas.Bool.{cond-true, cond-false, false≢true}
 use Rattle.std.proofs.lemmas.List.{length-append, length-take-le, take_more}
 use Rattle.std.proofs.lemmas.Slice.Eq.{bytes_eq-Decides}
+use Rattle.std.proofs.lemmas.Option.{none-some}
 use Rattle.mail_base.specs.Catalogs.{SetsValue, value_at}
 use Rattle.mail_base.specs.declared.lines.MapClass.{MapClass}
 use Rattle.mail_base.specs.declared.lines.MapClass.TheVariants.{Text as TextClass, Hash, Btree, Host, Dequote, Sequence, Null, Arith, Macro, Other}
@@ -15,9 +16,6 @@ use Rattle.map_tables.specs.Answers.{answer, answer_by, answer_of_place, answers
 use Rattle.map_tables.specs.inner.MapPlaces.{is_sequence, IsPlaced}
 
 module _ {X : Type 0} where
-  none_some : (x : X) → None ≡ Some x → ⊥
-  none_some x same = false≢true (ap is_some same)
-
   -- an item of the first list stands at its place in both
   pub at_front : (xs ys : List X) (k : ℕ) → k < length xs → slice_get (xs ++ ys) k ≡ slice_get xs k
   at_front [] ys k lt = absurd (omega (arith, lt))
@@ -46,7 +44,7 @@ module _ (hosts : List HostLine) (key : List ℕ) (args : List (List ℕ)) where
 
   gives : (given : List Answer) (maps : List Table) (k : ℕ) (map : Table) → Some map ≡ slice_get maps k
       → slice_get (fold (with_answer hosts key args) given maps) (length given + k) ≡ Some (answer hosts key args (fold (with_answer hosts key args) given (take k maps)) map)
-  gives given [] k map is = absurd (none_some map (sym is))
+  gives given [] k map is = absurd (none-some map (sym is))
   gives given (first ∷ maps) zero map is =
       let end : length given + 0 ≡ length given = omega arith in
       let one = answer hosts key args given first in
@@ -74,12 +72,12 @@ module _ (hosts : List HostLine) (key : List ℕ) (args : List (List ℕ)) where
     where
       at_least : (ms : List Table) (i : ℕ) → None ≡ slice_get ms i → length ms ≤ i
       at_least [] i e = omega arith
-      at_least (m ∷ ms) zero e = absurd (none_some m e)
+      at_least (m ∷ ms) zero e = absurd (none-some m e)
       at_least (m ∷ ms) (suc i) e = omega (arith, at_least ms i e)
 
 -- what stands at a place is within
 pub stands_within : (maps : List Table) (k : ℕ) (map : Table) → Some map ≡ slice_get maps k → k < length maps
-stands_within [] k map e = absurd (none_some map (sym e))
+stands_within [] k map e = absurd (none-some map (sym e))
 stands_within (m ∷ maps) zero map e = omega arith
 stands_within (m ∷ maps) (suc k) map e = omega (arith, stands_within maps k map e)
 

@@ -3,7 +3,7 @@ use Rattle.std.proofs.Common.{◌≡◌, ℕ, ◌+◌, ◌<◌, ◌≤◌, Bool,
 use Rattle.std.specs.Prelude.{IfOk, slice_get, unwrap_or}
 use Rattle.std.specs.List.{list_any}
 use Rattle.std.proofs.Math.Seq.{take-append_seam}
-use Rattle.std.proofs.lemmas.Bool.{cases_order, eq-eqb}
+use Rattle.std.proofs.lemmas.Bool.{cases_order, eq-eqb, or_left, or_right}
 use Rattle.std.proofs.lemmas.List.{length-take-le}
 use Rattle.std.proofs.lemmas.Option.{slice_get-get_or, slice_get_past}
 use Rattle.mail_base.specs.declared.lines.MapClass.{MapClass}
@@ -16,14 +16,6 @@ use Rattle.map_tables.specs.Answers.{answer, answer_at, answer_by, answers, firs
 use Rattle.map_tables.specs.inner.Members.{Agree, AreMarked, IsClosed, members_in}
 use Rattle.map_tables.proofs.AnswerLemmas.{at_front, at_last, long, place_gives}
 use Rattle.map_tables.proofs.LawLemmas.{before}
-
-or_left : (a b : Bool) → a ≡ true → (a || b) ≡ true
-or_left true b h = refl
-or_left false b h = absurd (true≢false (sym h))
-
-or_right : (a b : Bool) → b ≡ true → (a || b) ≡ true
-or_right true b h = refl
-or_right false b h = h
 
 -- ---- marks
 

@@ -2,6 +2,7 @@
 use Rattle.std.proofs.Common.{◌≡◌, ℕ, Bool, true, false, cond, List, [], ◌∷◌, ◌++◌, Option, Some, None, Result, Ok, Err, fold, refl, sym, ap, ◌∙◌}
 use Rattle.std.specs.Prelude.{OnOk, bytes_eq, is_some}
 use Rattle.std.proofs.lemmas.Bool.{cond-true, cond-false, false≢true}
+use Rattle.std.proofs.lemmas.Option.{none-some}
 use Rattle.std.proofs.lemmas.Slice.Eq.{bytes_eq-Decides}
 use Rattle.mail_base.specs.Catalogs.{value_at, with_value}
 use Rattle.map_tables.specs.Tables.{with_first, first_pairs}
@@ -76,12 +77,9 @@ module _ {V : Type 0} where
   first_known key value pairs old known = sym (cond-true _ pairs (pairs ++ (key, value) ∷ []) (ap is_some (sym known)))
 
   -- a pair of a new key goes last
-  none_some : (value : V) → None ≡ Some value → ⊥
-  none_some value same = false≢true (ap is_some same)
-
   new_by : (b : Bool) (key : List ℕ) (value : V) (pair : List ℕ × V) (pairs : Pairs V) → bytes_eq key pair.0 ≡ b → None ≡ value_at key (pair ∷ pairs)
       → (None ≡ value_at key pairs → with_value key value pairs ≡ pairs ++ (key, value) ∷ []) → with_value key value (pair ∷ pairs) ≡ (pair ∷ pairs) ++ (key, value) ∷ []
-  new_by true key value pair pairs same none go = absurd (none_some pair.1 (none ∙ cond-true _ (Some pair.1) (value_at key pairs) same))
+  new_by true key value pair pairs same none go = absurd (none-some pair.1 (none ∙ cond-true _ (Some pair.1) (value_at key pairs) same))
   new_by false key value pair pairs other none go =
       cond-false _ ((pair.0, value) ∷ pairs) (pair ∷ with_value key value pairs) other
       ∙ ap (λ (r : Pairs V). pair ∷ r) (go (none ∙ cond-false _ (Some pair.1) (value_at key pairs) other))

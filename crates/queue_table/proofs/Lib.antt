@@ -6,7 +6,7 @@ mod PriorityLemmas
 mod EntryLemmas
 mod GoingLemmas
 mod SoundLemmas
-mod CommandLemmas
+pub mod CommandLemmas
 mod ResultLemmas
 mod RecordLemmas
 mod ClaimLemmas

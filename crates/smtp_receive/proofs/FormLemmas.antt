@@ -26,6 +26,7 @@ use Rattle.smtp_receive.specs.Forms.{AreFormed, AreFormedIn, FormedFor, IsFormed
 use Rattle.smtp_receive.specs.Judging.{AreRows, IsDrawn, Said, drawn_in}
 use Rattle.smtp_receive.specs.Sessions.{answer_of}
 use Rattle.smtp_receive.specs.declared.reply.Reply.TheVariants.{SenderOk, RecipientOk, MessageTooLarge, HeaderTooLarge, TooManyHops}
+use Rattle.mail_header.proofs.MadeLemmas.{blank_is}
 use Rattle.smtp_receive.proofs.PathLemmas.{NotLf, OrderLine, brackets_form, order_line}
 use Rattle.smtp_receive.proofs.RowLemmas.{Fits, heard_fits, rows_few}
 use Rattle.smtp_receive.proofs.ToldLemmas.{gift_at_end}
@@ -202,9 +203,6 @@ block_lines begun (line ∷ lines) =
     (λ met. (block_line begun line met, block_lines true lines))
     (λ unmet. tt)
 
-blank_byte : (b : ℕ) → is_blank b ≡ true → IsBlank b
-blank_byte b is = ⊎_elim (λ space. inl (eqb-true b 32 space)) (λ tab. inr (eqb-true b 9 tab)) (or_cases (b == 32) (b == 9) is)
-
 -- the first of headers, if there is one, begins with a blank
 abbrev FirstBlank : List (List ℕ) → Type 0
 FirstBlank [] = Unit {0}
@@ -222,7 +220,7 @@ joined_first (b ∷ line) true (header ∷ headers) blank = blank
 headers_first : (lines : List (List ℕ)) → goes_on lines ≡ true → FirstBlank (headers_in lines)
 headers_first [] is = absurd (false≢true is)
 headers_first (line ∷ lines) is =
-    joined_first line (goes_on lines) (headers_in lines) (blank_byte (slice_index line 0) (and_parts (is_blank (slice_index line 0)) (list_all is_plain line) is).0)
+    joined_first line (goes_on lines) (headers_in lines) (blank_is (slice_index line 0) (and_parts (is_blank (slice_index line 0)) (list_all is_plain line) is).0)
 
 joined_all : (line : List ℕ) (goes : Bool) (headers : List (List ℕ)) → IsLine line → (goes ≡ true → FirstBlank headers) → AllByRecursion Goes headers → AllByRecursion Goes (joined line goes headers)
 joined_all line false headers plain first all = (goes_line line plain, all)

@@ -2,6 +2,7 @@
 use Rattle.std.proofs.Common.{◌≡◌, ◌≢◌, ◌∷◌, Some, Bool, true, false, true≢false, refl, sym, ap}
 use Rattle.std.specs.Prelude.{◌&&◌, bytes_eq, if◌then◌else◌}
 use Rattle.std.specs.Cmp.Lexicographic.{bytes_decides}
+use Rattle.std.proofs.lemmas.Bool.{false_from_ne_true}
 use Rattle.spool_disk.specs.Disk.{Place, FileMap, bytes_at, lies_at}
 use Rattle.spool_disk.specs.declared.file.File.{File}
 
@@ -21,12 +22,8 @@ second_of false b e = absurd (true≢false (sym e))
 pub lies : (p : Place) (file : File) → p ≡ (file.dir, file.name) → lies_at p file ≡ true
 lies p file e = both _ _ ((bytes_decides p.0 file.dir).1 (ap (λ (q : Place). q.0) e)) ((bytes_decides p.1 file.name).1 (ap (λ (q : Place). q.1) e))
 
-not_true : (b : Bool) → (b ≡ true → ⊥) → b ≡ false
-not_true true h = absurd (h refl)
-not_true false h = refl
-
 pub lies_not : (p : Place) (file : File) → p ≢ (file.dir, file.name) → lies_at p file ≡ false
-lies_not p file ne = not_true (lies_at p file) (λ e.
+lies_not p file ne = false_from_ne_true (lies_at p file) (λ e.
     let a : p.0 ≡ file.dir = (bytes_decides p.0 file.dir).0 (first_of _ _ e) in
     let b : p.1 ≡ file.name = (bytes_decides p.1 file.name).0 (second_of (bytes_eq p.0 file.dir) _ e) in
     ne (λ i. (a i, b i)))

@@ -285,11 +285,6 @@ unwanted_none dirs f found x h none = record {
   live = λ t c d k live needs. let y = h.all t (live_read live).bytes (live_read live).there in none y.0 y.1 (ap (λ (w : Spot). w.id) y.2 ∙ k);
 }
 
--- what isn't denied is true
-pub not_false : (b : Bool) → not b ≡ false → b ≡ true
-not_false true e = refl
-not_false false e = absurd (true≢false e)
-
 -- drafts that are picked of names lie in the same directories
 pub drafts_within : (n : ℕ) (names drafts : List Named) → AreDrafts names drafts → ((x : Named) → Contains names x → x.dir < n) → (x : Named) → Contains drafts x → x.dir < n
 drafts_within n names drafts pd h x c = let y = pd.each x c in subst (λ (w : Named). w.dir < n) y.2 (h y.0 y.1)
