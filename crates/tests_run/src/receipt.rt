@@ -77,6 +77,30 @@ static ROWS: [Row; 4] = [
     ),
 ];
 
+// Sets of checks that refuse a sender and a recipient, and a set 0 that refuses a host, leads one
+// user to a mailer and others nowhere.
+static ROUTED: &[u8] = b"Djmx.example\nO QueueDirectory=/q\nO OperatorChars=.:%@!^/[]+\n\
+    Mlocal, P=/bin/mail, F=lsDFMAw5n, A=mail -d $u\nScanonify=3\nR$* < $+ > $*\t$2\n\
+    R$+ @ $+\t$: $1 < @ $2 >\nSparse=0\nR$+ < @ refused.example >\t\
+    $#error $@ 5.1.1 $: \"550 no such host\"\nRann < @ $+ >\t$#local $: ann\nSfinal=4\n\
+    R$+ < @ $+ >\t$1 @ $2\nScheck_mail\nR$* mallory $*\t$#error $@ 5.7.1 $: \"550 not you\"\n\
+    Scheck_rcpt\nR$* cid $*\t$#error $@ 4.2.1 $: \"450 not now\"\n";
+
+static ROUTED_ASKED: &[u8] = b"EHLO c.example\r\nMAIL FROM:<mallory@c.example>\r\n\
+    MAIL FROM:<bob@c.example>\r\nRCPT TO:<ann@refused.example>\r\nRCPT TO:<ann@mx.example>\r\n\
+    RCPT TO:<cid@mx.example>\r\nRCPT TO:<dan@mx.example>\r\nDATA\r\n.\r\nQUIT\r\n";
+
+static ROUTED_SAID: &[u8] = b"220 mx.example ESMTP ready\r\n250-mx.example Hello\r\n\
+    250-PIPELINING\r\n250-SIZE 16777216\r\n250 8BITMIME\r\n550 5.7.1 not you\r\n\
+    250 2.1.0 Sender ok\r\n550 5.1.1 no such host\r\n250 2.1.5 Recipient ok\r\n\
+    450 4.2.1 not now\r\n554 5.3.5 Address does not resolve\r\n\
+    354 Enter mail, end with \".\" on a line by itself\r\n\
+    250 2.0.0 w000000000001 Message accepted for delivery\r\n\
+    221 2.0.0 mx.example closing connection\r\n";
+
+static ROUTED_CONTROL: &[u8] = b"V1\nv1\ngmqueue\nT1767225600\nK0\nN0\nP30000\nc0\n\
+    S<bob@c.example>\n$rESMTP\n$sc.example\n${client_addr}\nRPFD:<ann@mx.example>\neQ\n.\n";
+
 // How a session went, and what it left.
 #[derive(Drop)]
 struct Received {
@@ -85,11 +109,12 @@ struct Received {
     files: Seq<File>,
 }
 
-// A session with a peer whose address isn't known, who says this in pieces of so many bytes.
-fn receive(alloc: Global, asked: &[u8], size: usize) -> Result<Received, Fail>
+// A session under a configuration with a peer whose address isn't known, who says this in pieces of
+// so many bytes.
+fn receive(alloc: Global, config: &[u8], asked: &[u8], size: usize) -> Result<Received, Fail>
     requires { 0 < size }
 {
-    let mut files = files_of(alloc, CONFIG, &[])?;
+    let mut files = files_of(alloc, config, &[])?;
     let mut spool = MemSpool::new(alloc, Seq::new(alloc));
     let steps = steps(alloc, b"", asked, size)?;
     let mut floor = ScriptFloor::new(alloc, steps, Seq::new(alloc), Seq::new(alloc));
@@ -124,7 +149,7 @@ impl Received {
 // The first row that goes otherwise.
 fn wrong_row(alloc: Global) -> Result<Option<usize>, Fail> {
     for (at, row) in ROWS.iter().enumerate() {
-        let received = receive(alloc, row.0, row.1.max(1) as usize)?;
+        let received = receive(alloc, CONFIG, row.0, row.1.max(1) as usize)?;
         if !received.is_as(row) {
             return Ok(Some(at));
         }
@@ -185,8 +210,17 @@ fn replied(alloc: Global) -> Result<Text, NoMemory> {
 fn a_session_goes_on_behind_faults(rt: HostRuntime) -> Result<(), Fail> {
     let asked = asked_wrongly(rt.alloc())?;
     let wanted = replied(rt.alloc())?;
-    let received = receive(rt.alloc(), asked.bytes(), 65_536)?;
+    let received = receive(rt.alloc(), CONFIG, asked.bytes(), 65_536)?;
     assert_eq!(rt; received.status, 0);
     assert_eq!(rt; received.said.bytes(), wanted.bytes());
+    Ok(())
+}
+
+// A program that takes each recipient as it comes, or refuses each, goes otherwise.
+#[test]
+fn recipients_go_where_rulesets_lead(rt: HostRuntime) -> Result<(), Fail> {
+    let received = receive(rt.alloc(), ROUTED, ROUTED_ASKED, 65_536)?;
+    assert_eq!(rt; received.said.bytes(), ROUTED_SAID);
+    assert!(rt; holds_in(&received.files, b"/q", b"qfw000000000001", ROUTED_CONTROL));
     Ok(())
 }
