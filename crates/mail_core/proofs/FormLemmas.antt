@@ -4,7 +4,6 @@ use Rattle.std.specs.Prelude.{All, FitsSigned, IfSome, codes, length}
 use Rattle.std.specs.Int.{w64, w128}
 use Rattle.std.proofs.lemmas.List.{length-map}
 use Rattle.std.proofs.lemmas.List.Elements.{All-nil, All-cons, All-head, All-tail}
-use Rattle.mail_base.specs.Limits.{most_rows}
 use Rattle.qf_format.specs.Valid.{IsValid, IsRow}
 use Rattle.mail_base.specs.declared.draw.Draw.{Draw}
 use Rattle.mail_base.specs.declared.message.Message.{Message}

@@ -1,10 +1,10 @@
 -- What a judge says stays so, and choices that are meant join.
-use Rattle.std.proofs.Common.{◌≡◌, ℕ, List, [], ◌∷◌, ◌++◌, Bool, true, false, Option, Some, None, refl, sym, ◌∙◌, ap, subst, arith}
+use Rattle.std.proofs.Common.{◌≡◌, ℕ, List, [], ◌∷◌, ◌++◌, Bool, false, Option, Some, None, refl, sym, ◌∙◌, subst, arith}
 use Rattle.std.specs.Prelude.{◌↔◌, IsTrue, fold}
 use Rattle.link_edge.specs.declared.event.Event.{Event}
 use Rattle.link_edge.specs.declared.event.Event.TheVariants.{Opens, Brings, Closes, Rests, Stops}
 use Rattle.smtp_lines.specs.declared.line.Line.{Line}
-use Rattle.smtp_receive.specs.Judging.{Answers, IsSteady, Question, Said, Unasked}
+use Rattle.smtp_receive.specs.Judging.{IsSteady, Question, Said}
 use Rattle.mail_core.specs.Guests.{Guest, guest_of, next_line, with_bytes}
 use Rattle.mail_core.specs.Judges.{IsAsked, JudgeSeen, Says}
 use Rattle.mail_core.specs.Machine.{Choice, Normal, OutOfMemory, Disconnects, SpoolFails, JudgeFails, Choices, Did, State, Turn, answered, at_moment, fresh_start, question_here, run, stepped}

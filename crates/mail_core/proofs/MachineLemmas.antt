@@ -26,7 +26,7 @@ use Rattle.queue_table.specs.Commands.Command.{Accept, Record, Return, Warn}
 use Rattle.mail_core.specs.Sites.{Site, terms_at}
 use Rattle.mail_core.specs.Effects.{Effect, Takes, Ticks, Commits, Sends, HangsUp, speech}
 use Rattle.mail_core.specs.Guests.{Guest, is_passed, guest_of, is_here, next_line, with_bytes}
-use Rattle.mail_core.specs.Machine.{SpoolFault, IdsSpent, FilesFault, Opening, Replied, Dropped, Choice, Normal, OutOfMemory, Disconnects, SpoolFails, JudgeFails, Choices, Way, GoesOn, Leaves, Over, Finish, By, Cut, Did, answer_by, limit_of, question_here, way_of, does, says, closes, is_over, commits, accepts, replies, fails, heard_line, id_by, is_answered, heard_where, by_choice, goes_on, answered, settled_by, settled, fresh_start, all_answered, State, Step, still, most_guests, turned_away, welcomed, opened, brought, pieced, handled, Turn, at_moment, taken, stepped, followed, run}
+use Rattle.mail_core.specs.Machine.{SpoolFault, IdsSpent, FilesFault, Opening, Replied, Dropped, Choice, Normal, OutOfMemory, Disconnects, SpoolFails, JudgeFails, Choices, Way, GoesOn, Leaves, Over, Finish, By, Cut, Did, answer_by, limit_of, question_here, way_of, does, says, closes, is_over, commits, accepts, replies, fails, heard_line, id_by, is_answered, heard_where, by_choice, answered, settled_by, settled, fresh_start, all_answered, State, Step, still, most_guests, turned_away, welcomed, opened, brought, pieced, handled, Turn, at_moment, taken, stepped, followed, run}
 use Rattle.mail_core.proofs.WayLemmas.{goes_keeps}
 use Rattle.mail_core.specs.Judges.{JudgeSeen}
 use Rattle.mail_core.specs.Meant.{AreMeant, ArePieceMeant, IsEventMeant, IsHeadedAt, IsMeant, IsRunMeant}

@@ -9,9 +9,9 @@ use Rattle.smtp_lines.specs.declared.line.Line.TheVariants.{Data, DataEnd}
 use Rattle.smtp_lines.specs.Parameters.{listed}
 use Rattle.smtp_receive.specs.Dialogue.{Answer, Closes, Exchange, Gives, Grants, Greets, Heard, Takes as Passes, answer_heard, exchanges, replies_to, reply_by, reply_heard}
 use Rattle.smtp_receive.specs.Replies.{shown_host}
-use Rattle.smtp_receive.proofs.Examples.{of_recipient, of_sender, peer, helo, mail, rcpt, data_line, subject, body, quit, message, begun, granted, taken as whole, more as one_more}
+use Rattle.smtp_receive.proofs.Examples.{of_recipient, of_sender, peer, helo, mail, rcpt, data_line, subject, body, quit, message, taken as whole, more as one_more}
 use Rattle.smtp_receive.proofs.DialogueLemmas.{replies_more}
-use Rattle.mail_core.proofs.ExampleLemmas.{by_said, heard_by, input, lacked, plain}
+use Rattle.mail_core.proofs.ExampleLemmas.{by_said, heard_by, input, plain}
 use Rattle.mail_core.proofs.Examples.{given_lines, recipient_ok, sender_ok}
 
 abbrev host : List ℕ

@@ -29,7 +29,7 @@ use Rattle.mail_core.specs.declared.serving.Act.{Act}
 use Rattle.mail_core.specs.declared.serving.Act.TheVariants.{Went}
 use Rattle.mail_core.specs.declared.serving.CoreStop.{CoreStop}
 use Rattle.queue_table.specs.Commands.{Command, after}
-use Rattle.mail_core.specs.Effects.{Effect, Takes, Ticks, Commits, Sends, HangsUp, heard, heard_of, commands_of}
+use Rattle.mail_core.specs.Effects.{Effect, Takes, Ticks, Commits, Sends, HangsUp, heard, heard_of}
 use Rattle.mail_core.specs.Causes.{EndsSo, is_well}
 use Rattle.mail_core.specs.Events.{Turns}
 use Rattle.mail_core.specs.Judges.{JudgeSeen, untold}

@@ -1,14 +1,13 @@
 -- A front of a stream's lines stays one when bytes come, and grows by the next line.
-use Rattle.std.proofs.Common.{◌≡◌, ℕ, zero, suc, List, [], ◌∷◌, ◌++◌, Bool, true, false, Option, Some, None, refl, sym, ◌∙◌, ap, subst, append_assoc, ⊎_elim, arith}
+use Rattle.std.proofs.Common.{◌≡◌, ℕ, zero, suc, List, [], ◌∷◌, ◌++◌, Bool, true, false, Some, None, refl, sym, ◌∙◌, ap, subst, append_assoc, ⊎_elim, arith}
 use Rattle.std.specs.Prelude.{length, drop, slice_get, ◌==◌, ◌≤◌, if◌then◌else◌}
-use Rattle.std.proofs.lemmas.Bool.{cases_Bool, eqb-true, and_parts, or_parts, or_from, cond-true, cond-false, false≢true}
-use Rattle.std.proofs.lemmas.List.{length-append}
+use Rattle.std.proofs.lemmas.Bool.{cases_Bool, eqb-true, and_parts, or_from, cond-true, cond-false, false≢true}
 use Rattle.smtp_lines.specs.declared.line.Line.{Line}
 use Rattle.smtp_lines.specs.declared.line.Mode.{Mode}
 use Rattle.smtp_lines.specs.declared.line.Mode.TheVariants.{Commands, Message}
 use Rattle.smtp_lines.specs.Stream.{Reads, nothing, plain, asked, asks, begins_with_end, cut, end_of, granted_mode, has_end, line_of, longer, mode_after, Reading, parts_by, reading_by, reading_of}
 use Rattle.smtp_lines.specs.Reader.{StandsFirst}
-use Rattle.smtp_lines.proofs.GivenLemmas.{reading_by-first, follows_front}
+use Rattle.smtp_lines.proofs.GivenLemmas.{reading_by-first}
 use Rattle.smtp_lines.proofs.ReadingLemmas.{cut-at, follows_itself, follows_refused, reads-length}
 
 -- no value is none

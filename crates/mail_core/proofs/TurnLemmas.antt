@@ -1,5 +1,5 @@
 -- The lines of a session that were answered stand first in what it sent, and what came of it is what was taken.
-use Rattle.std.proofs.Common.{◌≡◌, ℕ, List, [], ◌∷◌, ◌++◌, Bool, true, false, not, Option, Some, None, refl, sym, ◌∙◌, ap, subst, ⊎_elim}
+use Rattle.std.proofs.Common.{◌≡◌, ℕ, List, [], ◌∷◌, ◌++◌, Bool, true, false, Option, Some, None, refl, sym, ◌∙◌, ap, subst, ⊎_elim}
 use Rattle.std.specs.Prelude.{fold, length, slice_get, if◌then◌else◌}
 use Rattle.std.proofs.lemmas.Bool.{cases_Bool}
 use Rattle.std.proofs.lemmas.Grind.{flat_map-append}
@@ -7,7 +7,7 @@ use Rattle.std.proofs.lemmas.List.{append-nil}
 use Rattle.smtp_lines.specs.declared.line.Line.{Line}
 use Rattle.smtp_lines.specs.declared.line.Mode.{Mode}
 use Rattle.smtp_lines.specs.declared.line.Mode.TheVariants.{Commands}
-use Rattle.smtp_lines.specs.Stream.{Reads, asks, granted_mode, has_end, line_of, mode_after, reading_of}
+use Rattle.smtp_lines.specs.Stream.{Reads, asks, granted_mode, line_of, mode_after, reading_of}
 use Rattle.mail_base.specs.declared.message.Message.{Message}
 use Rattle.smtp_receive.specs.Dialogue.{Answer, Says, Refuses, Greets, Extends, Grants, Closes as Ends, Gives, Takes as Passes, is_grant}
 use Rattle.smtp_receive.specs.Judging.{Said, Unasked}
@@ -16,7 +16,7 @@ use Rattle.spool_store.specs.Entries.{Table}
 use Rattle.mail_core.specs.Sites.{Site}
 use Rattle.mail_core.specs.Effects.{Effect, Commits, Sends, HangsUp, speech}
 use Rattle.mail_core.specs.Guests.{Guest, grants_of, is_passed, next_line, with_line, lines_heard}
-use Rattle.mail_core.specs.Machine.{Choice, Normal, OutOfMemory, Disconnects, SpoolFails, JudgeFails, SpoolFault, IdsSpent, FilesFault, Finish, By, Cut, Way, GoesOn, Leaves, Over, Did, answer_by, limit_of, does, says, closes, is_over, commits, accepts, replies, fails, heard_line, heard_where, id_by, is_answered, by_choice, goes_on, answered, settled_by, settled, fresh_start, all_answered}
+use Rattle.mail_core.specs.Machine.{Choice, Normal, OutOfMemory, Disconnects, SpoolFails, JudgeFails, SpoolFault, IdsSpent, FilesFault, Finish, By, Cut, Way, GoesOn, Leaves, Over, Did, answer_by, limit_of, does, says, closes, is_over, commits, replies, fails, heard_line, heard_where, id_by, is_answered, by_choice, goes_on, answered, settled_by, fresh_start, all_answered}
 use Rattle.mail_core.specs.Messages.{accept_of, headed, is_spent}
 use Rattle.mail_core.specs.Told.{IsInTurn, brought_by, brought_of}
 use Rattle.mail_core.proofs.WayLemmas.{goes_keeps}

@@ -1,5 +1,5 @@
 -- What is seen of a judge, and what calls do to it (own).
-use Rattle.std.specs.Prelude.{◌≡◌, ℕ, ◌≤◌, Bool, true, false, Option, Result, Ok, Err}
+use Rattle.std.specs.Prelude.{◌≡◌, ◌≤◌, Bool, true, false, Option}
 use Rattle.mail_base.specs.Answering.{Answerer}
 use Rattle.mail_base.specs.Histories.{Rose}
 use Rattle.smtp_receive.specs.Judging.{IsSaid, IsSteady, Question, Said}

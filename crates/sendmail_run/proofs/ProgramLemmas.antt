@@ -44,7 +44,7 @@ use Rattle.sendmail_run.specs.inner.Loading.{Gives, is_files_fault}
 use Rattle.sendmail_run.specs.Outcomes.{of_config, of_maps, of_session, of_test, of_words}
 use Rattle.sendmail_run.specs.Printing.{Basis, basis}
 use Rattle.sendmail_run.specs.Rises.{Counts, RisesOnlyAt}
-use Rattle.sendmail_run.specs.Runs.{Completes, Ends, EndsAtFile, EndsAtMaps, EndsAtWords, EndsAtWork, Finds, IsReady, IsShort, IsSound, IsUntouched, IsWhole, NoneFailed, Stays, Works}
+use Rattle.sendmail_run.specs.Runs.{Completes, Ends, EndsAtFile, EndsAtMaps, EndsAtWords, EndsAtWork, Finds, IsReady, IsShort, IsUntouched, IsWhole, NoneFailed, Stays, Works}
 use Rattle.sendmail_run.specs.Serving.{IsServedOut, Serves, judge_by, session_site}
 use Rattle.sendmail_run.specs.Testing.{IsLarge, Tests}
 use Rattle.sendmail_run.proofs.CommandLemmas.{one_mode, not_both}

@@ -1,4 +1,4 @@
-use Rattle.std.proofs.Common.{ℕ, List, [], false, refl, ◌∙◌, ap, subst, Ok, Err}
+use Rattle.std.proofs.Common.{ℕ, List, false, refl, ◌∙◌, ap, subst, Ok, Err}
 use Rattle.std.proofs.lemmas.Result.{err_from_is_err_and}
 use Rattle.smtp_receive.specs.Replies.{stored_text}
 use Rattle.mail_core.specs.declared.next.Next.TheVariants.{Continue}

@@ -1,7 +1,5 @@
-use Rattle.std.proofs.Common.{Ok, Err, arith, refl, sym, ◌∙◌, ap, subst, true, false, [], ◌∷◌, ◌≡◌}
+use Rattle.std.proofs.Common.{Ok, arith, refl, sym, ◌∙◌, subst, true, false, [], ◌∷◌, ◌≡◌}
 use Rattle.smtp_receive.specs.Dialogue.{exchanges, is_dropped}
-use Rattle.smtp_receive.specs.Judging.{Unasked}
-use Rattle.smtp_receive.specs.Replies.{shown_host}
 use Rattle.smtp_receive.specs.Sessions.{Stands as Speaks}
 use Rattle.smtp_receive.proofs.FormLemmas.{given_formed}
 use Rattle.smtp_receive.proofs.ToldLemmas.{gift_at_end}

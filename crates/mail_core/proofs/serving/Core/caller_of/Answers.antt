@@ -1,4 +1,4 @@
-use Rattle.std.proofs.Common.{◌∙◌, ap, [], subst, refl}
+use Rattle.std.proofs.Common.{◌∙◌, ap, [], subst}
 use Rattle.smtp_receive.specs.Replies.{greeting_text, shown_host}
 use Rattle.smtp_receive.specs.Sessions.{Stands as Speaks}
 use Rattle.mail_core.proofs.CoreLemmas.{keeps_new}
