@@ -9,7 +9,8 @@ use Rattle.cf_reader.specs.declared.fault.LineStop.TheVariants as stops
 use Rattle.cf_reader.specs.declared.file_line.Wanted.{Wanted}
 use Rattle.cf_reader.specs.ClassLines.{words_of_file, wanted_by, wanted_of, text_or, file_text, fault_of_file, file_class_of}
 use Rattle.cf_macros.specs.Names.{split_name}
-use Rattle.cf_reader.specs.Reads.{Finds, Opens, first_fault}
+use Rattle.cf_reader.specs.Reads.{first_fault}
+use Rattle.cf_reader.specs.inner.Readings.{Finds, Opens}
 use Rattle.mail_base.specs.Words.{words_of}
 use Rattle.cf_reader.specs.inner.Steps.{class_in}
 

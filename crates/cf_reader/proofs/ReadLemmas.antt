@@ -6,7 +6,8 @@ use Rattle.addr_tokens.specs.declared.lexeme.Lexeme.{Lexeme}
 use Rattle.cf_reader.specs.declared.fault.Fault.{Fault}
 use Rattle.cf_reader.specs.declared.fault.Fault.TheVariants.{NoTab}
 use Rattle.cf_reader.specs.declared.fault.LineStop.{LineStop}
-use Rattle.cf_reader.specs.Reads.{Reads, first_fault}
+use Rattle.cf_reader.specs.Reads.{first_fault}
+use Rattle.cf_reader.specs.inner.Readings.{Reads}
 use Rattle.cf_reader.specs.Sides.{left_of, right_of, lexemes_in}
 use Rattle.cf_reader.specs.Rules.{lacks_tab, sides, rule_in, faults_in, fault_of_rule, rule_of}
 

@@ -1,5 +1,6 @@
 -- What private contracts alone cite.
 pub mod Places
+pub mod Readings
 pub mod Steps
 pub mod Making
 pub mod Additions

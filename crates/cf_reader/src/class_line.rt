@@ -2,7 +2,7 @@ ghost use Rattle.cf_macros.specs.Expansion.{value};
 ghost use Rattle.cf_reader.specs.declared.fault.Fault.TheVariants.{BadPattern};
 ghost use Rattle.cf_reader.specs.ClassLines.{class_of, fault_of_class, text_in};
 ghost use Rattle.addr_tokens.specs.Members.{words_in};
-ghost use Rattle.cf_reader.specs.Reads.{Reads, Opens};
+ghost use Rattle.cf_reader.specs.inner.Readings.{Reads, Opens};
 
 use crate::fault::{Fault, LineStop};
 use addr_tokens::any_refused;

@@ -1,6 +1,6 @@
 ghost use Rattle.std.specs.Prelude.{◌≡◌, IfOk, OnOk, fold};
 ghost use Rattle.std.specs.List.{list_any};
-ghost use Rattle.cf_reader.specs.Reads.{Reads};
+ghost use Rattle.cf_reader.specs.inner.Readings.{Reads};
 ghost use Rattle.cf_reader.specs.GroupLines as spec;
 
 use crate::fault::{Fault, LineStop};

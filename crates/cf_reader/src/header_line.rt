@@ -1,6 +1,6 @@
 ghost use Rattle.std.specs.Prelude.{◌≡◌, option_map, IfOk};
 ghost use Rattle.cf_values.specs.Flags.{flags_of};
-ghost use Rattle.cf_reader.specs.Reads.{Reads};
+ghost use Rattle.cf_reader.specs.inner.Readings.{Reads};
 ghost use Rattle.cf_reader.specs.HeaderLines.{fault_of_header, header_of};
 ghost use Rattle.cf_reader.specs.HeaderLines as spec;
 

@@ -1,5 +1,5 @@
 ghost use Rattle.std.specs.Prelude.{◌≡◌, IfOk, OnOk, Some, fold};
-ghost use Rattle.cf_reader.specs.Reads.{Reads};
+ghost use Rattle.cf_reader.specs.inner.Readings.{Reads};
 ghost use Rattle.cf_reader.specs.Words.{stripped};
 ghost use Rattle.cf_reader.specs.Values.{if_some};
 ghost use Rattle.cf_reader.specs.MailerLines as spec;

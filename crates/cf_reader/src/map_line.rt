@@ -1,6 +1,7 @@
 ghost use Rattle.std.specs.Prelude.{◌≡◌, ◌≤◌, [], ◌∷◌, bytes_eq, length, option_map, unwrap_or, Some, IfOk};
 ghost use Rattle.std.specs.List.{list_any, prefix_len};
-ghost use Rattle.cf_reader.specs.Reads.{Reads, first_fault};
+ghost use Rattle.cf_reader.specs.Reads.{first_fault};
+ghost use Rattle.cf_reader.specs.inner.Readings.{Reads};
 ghost use Rattle.cf_reader.specs.declared.fault.Fault.TheVariants as faults;
 ghost use Rattle.cf_reader.specs.MapLines.{fault_of_map, is_bad_line, is_dashed, is_unknown, lacks_member, map_by, map_of, members_of};
 ghost use Rattle.cf_reader.specs.MapLines as spec;

@@ -1,5 +1,6 @@
 ghost use Rattle.std.specs.Prelude.{◌≡◌, ◌↔◌, ◌∷◌, [], OnOk, OnErr, IsTrue, Some, None, not};
-ghost use Rattle.cf_reader.specs.Reads.{Reads, first_fault};
+ghost use Rattle.cf_reader.specs.Reads.{first_fault};
+ghost use Rattle.cf_reader.specs.inner.Readings.{Reads};
 ghost use Rattle.cf_reader.specs.declared.fault.Fault.TheVariants.{BadOption};
 ghost use Rattle.cf_reader.specs.declared.setting.Setting.TheVariants.{DaemonPort};
 ghost use Rattle.cf_reader.specs.OptionLines as spec;

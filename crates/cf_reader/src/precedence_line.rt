@@ -1,5 +1,5 @@
 ghost use Rattle.std.specs.Prelude.{◌≡◌, IfOk, option_map, pos};
-ghost use Rattle.cf_reader.specs.Reads.{Reads};
+ghost use Rattle.cf_reader.specs.inner.Readings.{Reads};
 ghost use Rattle.cf_reader.specs.Values.{number_in};
 ghost use Rattle.cf_reader.specs.PrecedenceLines as spec;
 

@@ -2,7 +2,8 @@ ghost use Rattle.std.specs.Prelude.{◌≡◌, ◌≤◌, [], ◌∷◌, length,
 ghost use Rattle.std.specs.Result.{result_ok};
 ghost use Rattle.std.specs.List.{prefix_len};
 ghost use Rattle.cf_macros.specs.Expansion.{rule_value};
-ghost use Rattle.cf_reader.specs.Reads.{Reads, first_fault};
+ghost use Rattle.cf_reader.specs.Reads.{first_fault};
+ghost use Rattle.cf_reader.specs.inner.Readings.{Reads};
 ghost use Rattle.cf_reader.specs.Sides as sides;
 ghost use Rattle.cf_reader.specs.declared.fault.Fault.TheVariants.{TooManyMetas, BadReference};
 ghost use Rattle.mail_base.specs.Metas.{is_meta};
