@@ -1,4 +1,4 @@
-ghost use Rattle.std.specs.Prelude.{◌≡◌, IfOk, bytes_eq};
+ghost use Rattle.std.specs.Prelude.{◌≡◌, ℕ, List, IfOk, bytes_eq};
 ghost use Rattle.mail_base.specs.Drawing.{null_sender};
 ghost use Rattle.addr_route.specs.Senders.{Sends};
 
