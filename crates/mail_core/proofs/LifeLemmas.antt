@@ -59,11 +59,11 @@ module _ (site : Site) (s : ℕ) where
 
   lives_same : (o : Option Guest) → Lives o o [] []
   lives_same None = (refl, refl)
-  lives_same (Some g) turn = nothing_done g (Some g) turn (λ other is. some_is other g (sym is))
+  lives_same (Some g) = λ turn. nothing_done g (Some g) turn (λ other is. some_is other g (sym is))
 
   lives_over : (o found : Option Guest) → found ≡ None → Lives o found [] []
   lives_over None found none = (none, refl)
-  lives_over (Some g) found none turn = nothing_done g found turn (λ other is. absurd (none_is other (sym none ∙ is)))
+  lives_over (Some g) found none = λ turn. nothing_done g found turn (λ other is. absurd (none_is other (sym none ∙ is)))
 
   lives_as : (o found : Option Guest) (bytes : List ℕ) (texts : List (List ℕ)) → found ≡ o → bytes ≡ [] → texts ≡ [] → Lives o found bytes texts
   lives_as o found bytes texts same none quiet = subst (λ q. Lives o q bytes texts) (sym same) (subst (λ q. Lives o o q texts) (sym none) (subst (λ q. Lives o o [] q) (sym quiet) (lives_same o)))
@@ -238,7 +238,7 @@ module _ (site : Site) (s : ℕ) where
   -- ---- a turn, and a run
 
   handled_lives : (m : State) (event : Event) (choices : Choices event) → opens_none s event ≡ true → Handles m event (handled site m event choices)
-  handled_lives m (Opens n peer) choice none = apart_handles m (Opens n peer) (opened site m n peer choice) refl (opened_apart m n peer choice (not-true site s (nat_eq n s) none))
+  handled_lives m (Opens n peer) choice none = apart_handles m (Opens n peer) (opened site m n peer choice) refl (opened_apart m n peer choice (not-true (nat_eq n s) none))
   handled_lives m (Brings n bytes) choices none = pieced_lives m n bytes choices (guest_of n m.guests) refl
   handled_lives m (Closes n) choices none = closes_lives m n
   handled_lives m Rests choices none = apart_handles m Rests (still m) refl (same_apart m m refl)
