@@ -1,0 +1,8 @@
+mod BucketLemmas
+mod FirstLemmas
+mod FitLemmas
+mod GroupLemmas
+mod LawLemmas
+mod PartLemmas
+mod PlaceLemmas
+mod RowLemmas

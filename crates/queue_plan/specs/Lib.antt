@@ -1,0 +1,4 @@
+pub mod Groups
+pub mod Parts
+pub mod Rows
+pub mod inner
