@@ -1,0 +1,5 @@
+mod AliasLemmas
+mod JoinLemmas
+mod MemberLemmas
+mod PieceLemmas
+mod HomeLemmas

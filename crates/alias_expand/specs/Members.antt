@@ -1,0 +1,130 @@
+-- The members of a list of addresses (Sendmail Installation and Operation Guide, "The Alias
+-- Database" and ":include:"; aliases(5); what a backslash does, and where quotes of a program or a
+-- file go, is our own).
+use Rattle.std.specs.Prelude.{◌≡◌, ℕ, suc, ◌+◌, ◌-◌, nat_lt, Bool, true, false, not, ◌&&◌, ◌||◌, ◌==◌, List, [], ◌∷◌, length, take, drop, map, filter, bytes_eq, if◌then◌else◌, codes, refl}
+use Rattle.std.specs.List.{flat_map, onto_first, slice_split, suffix_len}
+use Rattle.mail_base.specs.Texts.{IsAddress, IsLine, is_lf}
+use Rattle.mail_base.specs.Whites.{is_white, without_whites}
+use Rattle.map_tables.specs.Marks.{begins_with}
+use Rattle.alias_expand.specs.declared.place.Place.{Place}
+use Rattle.alias_expand.specs.declared.place.Separator.{Separator}
+use Rattle.alias_expand.specs.declared.place.Separator.TheVariants.{Comma, Colon}
+use Rattle.alias_expand.specs.declared.members.Member.{Member}
+use Rattle.alias_expand.specs.declared.members.Member.TheVariants.{Address, Include}
+
+-- outside of quotes, comments and angles, and behind no backslash
+abbrev pub outside : Place
+outside = record { quoted = false; escaped = false; comments = 0; angles = 0 }
+
+abbrev pub is_outside : Place → Bool
+is_outside place = not place.quoted && not place.escaped && place.comments == 0 && place.angles == 0
+
+-- where the byte behind one stands that isn't quoted and is no backslash: comments nest, and in one
+-- a double quote (34) and an angle are bytes as others
+abbrev pub after_plain : Place → ℕ → Place
+after_plain place b =
+    if b == 40 then record place { comments = place.comments + 1 }
+    else if nat_lt 0 place.comments then
+    record place { comments = if b == 41 then place.comments - 1 else place.comments }
+    else if b == 34 then record place { quoted = true }
+    else if b == 60 then record place { angles = place.angles + 1 }
+    else if b == 62 then record place { angles = place.angles - 1 }
+    else place
+
+-- where the byte behind this one stands: a backslash (92) quotes whatever is behind it
+abbrev pub after : Place → ℕ → Place
+after place b =
+    if place.escaped then record place { escaped = false }
+    else if b == 92 then record place { escaped = true }
+    else if place.quoted then record place { quoted = not (b == 34) }
+    else after_plain place b
+
+-- a comma (44) outside stands between two members; a colon (58) ends a name where it stands in no
+-- quotes and behind no backslash
+abbrev pub separates : Separator → Place → ℕ → Bool
+separates Comma place b = b == 44 && is_outside place
+separates Colon place b = b == 58 && not place.quoted && not place.escaped
+
+-- how many bytes stand before the first that separates, in a text that begins at a place
+abbrev pub length_to : Separator → Place → List ℕ → ℕ
+length_to separator place [] = 0
+length_to separator place (b ∷ bs) = if separates separator place b then 0
+    else suc (length_to separator (after place b) bs)
+
+-- what stands between the commas that separate, in a text that begins at a place
+abbrev pub pieces_from : Place → List ℕ → List (List ℕ)
+pieces_from place [] = [] ∷ []
+pieces_from place (b ∷ bs) =
+    if separates Comma place b then [] ∷ pieces_from outside bs
+    else onto_first b (pieces_from (after place b) bs)
+
+-- a text without the white space at both ends
+abbrev pub stripped : List ℕ → List ℕ
+stripped text =
+    let rest = without_whites text in take (length rest - suffix_len is_white rest) rest
+
+-- the members of a text as they are written: white space around one is dropped, and a piece of
+-- nothing else is none
+abbrev pub written : List ℕ → List (List ℕ)
+written text = filter (λ piece. not (length piece == 0)) (map stripped (pieces_from outside text))
+
+-- a backslash quotes the byte behind it, unless it is quoted itself
+abbrev pub escapes : Bool → ℕ → Bool
+escapes escaped b = not escaped && b == 92
+
+-- behind a double quote, and maybe behind a backslash: the first double quote that no backslash
+-- quotes ends the text
+abbrev pub closes_last : Bool → List ℕ → Bool
+closes_last escaped [] = false
+closes_last escaped (b ∷ bs) =
+    if not escaped && b == 34 then length bs == 0 else closes_last (escapes escaped b) bs
+
+-- a program `|program` or a file `/file`, by its first byte
+abbrev pub is_local : List ℕ → Bool
+is_local text = begins_with 124 text || begins_with 47 text
+
+-- within one pair of double quotes
+abbrev pub is_paired : List ℕ → Bool
+is_paired text = begins_with 34 text && closes_last false (drop 1 text)
+
+-- a program or a file goes without the pair of quotes that it may stand in
+abbrev pub unpaired : List ℕ → List ℕ
+unpaired text = if is_paired text && is_local (drop 1 text) then take (length text - 2) (drop 1 text) else text
+
+-- what names a file of members
+abbrev pub include_mark : List ℕ
+include_mark = codes ":include:"
+
+-- a member as it is written: the file of `:include:file`, or an address, which may have a backslash
+-- in front, and may be a program or a file
+abbrev pub member_of : List ℕ → Member
+member_of text =
+    if bytes_eq (take 9 text) include_mark then Include (drop 9 text) else Address (unpaired text)
+
+-- the members of a text
+abbrev pub members_in : List ℕ → List Member
+members_in text = map member_of (written text)
+
+-- what a line of a file of members says; one that begins with `#` (35) says nothing
+abbrev pub line_members : List ℕ → List Member
+line_members line = if begins_with 35 line then [] else members_in line
+
+-- the members of an include or forward file: they stand by commas and by lines, so that what a line
+-- leaves open ends with it
+abbrev pub file_members : List ℕ → List Member
+file_members text = flat_map line_members (slice_split is_lf text)
+
+-- a member is on one line, and its address isn't empty
+abbrev pub IsMember : Member → Type 0
+IsMember (Address text) = IsAddress text
+IsMember (Include file) = IsLine file
+
+example :
+    (members_in (codes "a, \"b,c\" <d,e>,(f, (g)),, \\h,|i,\"/j \\\"k\\\"\",:include:/l")
+    ≡ Address (codes "a") ∷ Address (codes "\"b,c\" <d,e>") ∷ Address (codes "(f, (g))")
+    ∷ Address (codes "\\h") ∷ Address (codes "|i") ∷ Address (codes "/j \\\"k\\\"")
+    ∷ Include (codes "/l") ∷ [])
+    × (file_members (codes "a, b\n#c\n\"d,e\n(f\r\n, g") ≡
+    Address (codes "a") ∷ Address (codes "b") ∷ Address (codes "\"d,e") ∷ Address (codes "(f")
+    ∷ Address (codes "g") ∷ [])
+example = (refl, refl)

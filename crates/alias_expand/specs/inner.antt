@@ -1,0 +1,3 @@
+pub mod AliasPlaces
+pub mod Cutting
+pub mod Pieces

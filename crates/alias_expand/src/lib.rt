@@ -1,0 +1,17 @@
+//! Aliases and home files, and the rows that an address comes to: [`Aliases`] has the lines of alias
+//! files, [`Homes`] those of a file of homes, and [`members_of`] reads an include or forward file.
+//! What a line and a member are is said in `specs/Lines.antt`, `Members.antt` and `Aliases.antt`.
+#![tactic(auto)]
+
+mod alias_line;
+mod aliases;
+mod fault;
+mod homes;
+mod lines;
+mod members;
+mod place;
+
+pub use aliases::{Alias, Aliases};
+pub use fault::AliasFault;
+pub use homes::Homes;
+pub use members::{Member, members_of};
