@@ -41,7 +41,7 @@ fn row_of(alloc: Global, number: u32, user: u32) -> Result<Draw, NoMemory> {
 fn rows_of(alloc: Global, count: u32, users: u32) -> Result<Seq<Draw>, NoMemory> {
     let mut rows = Seq::new(alloc);
     for number in 0..count {
-        rows.push(row_of(alloc, number, number % users)?)?;
+        rows.push(row_of(alloc, number, number % users.max(1))?)?;
     }
     Ok(rows)
 }
