@@ -6,12 +6,25 @@
 mod alias_line;
 mod aliases;
 mod fault;
+mod file_reads;
+mod frame;
 mod homes;
+mod law;
+mod lead;
+mod leaf;
 mod lines;
 mod members;
+mod owner;
 mod place;
+mod reading;
+mod refusal;
+mod site;
+mod stand;
+mod triples;
 
 pub use aliases::{Alias, Aliases};
 pub use fault::AliasFault;
 pub use homes::Homes;
+pub use law::one_expansion;
 pub use members::{Member, members_of};
+pub use refusal::ExpandRefusal;

@@ -1,0 +1,18 @@
+ghost use Rattle.std.specs.Prelude.{◌≡◌, ℕ, List, Result, Some};
+ghost use Rattle.mail_base.specs.declared.draw.Draw.{Draw};
+ghost use Rattle.mail_edge.specs.Seen.{FileMap};
+ghost use Rattle.alias_expand.specs.declared.refusal.ExpandRefusal.{ExpandRefusal};
+ghost use Rattle.alias_expand.specs.Rows.{Expands, Site};
+
+use addr_route::one_route;
+
+/// An address comes to one outcome, where the files are told.
+pub fn one_expansion()
+    ensures { (site : Site) (files : FileMap) (address sender : List ℕ)
+        (one another : Result (List Draw) ExpandRefusal)
+        → Expands site (Some files) address sender one
+        → Expands site (Some files) address sender another → one ≡ another }
+{
+    // A law: an address has one route.
+    one_route();
+}
