@@ -5,8 +5,9 @@ Use: bench/side_by_side.py [--rounds N] [--messages N] THEIRS [COMMAND], where T
 Sendmail's own program and COMMAND ours, by default the built one. A session takes messages of 1,014
 and of 101,400 bytes, each command after the reply to the one before it. Of each program it prints
 messages a second by the clock, in the slowest and the fastest round; milliseconds of processor a
-message with the program's start, the least round; its greatest memory behind the last message; and
-its syncs to the disk a message, by strace, where that is there. The queue is below the home folder.
+message with the program's start, the least round; its greatest memory behind the last message, and
+what of its memory no other process shares then, which is what one session more would take; and its
+syncs to the disk a message, by strace, where that is there. The queue is below the home folder.
 It ends with status 1 where a message isn't taken, or where ours syncs more than four times a
 message. This is no part of the gate.
 """
@@ -63,11 +64,15 @@ class Session:
         self.ask(data + b".\r\n")
 
     def memory(self):
-        """The greatest memory so far, in KiB, of the program that a wrapper may have begun."""
+        """In KiB the greatest memory so far, and what is its own alone now, of the program that a
+        wrapper may have begun."""
         number = self.process.pid
         while children := Path(f"/proc/{number}/task/{number}/children").read_text().split():
             number = children[0]
-        return int(re.search(r"VmHWM:\s*(\d+)", Path(f"/proc/{number}/status").read_text())[1])
+        status = Path(f"/proc/{number}/status").read_text()
+        parts = Path(f"/proc/{number}/smaps_rollup").read_text()
+        own = sum(int(part) for part in re.findall(r"Private_\w+:\s*(\d+)", parts))
+        return int(re.search(r"VmHWM:\s*(\d+)", status)[1]), own
 
     def close(self):
         """The processor's seconds."""
@@ -82,7 +87,7 @@ class Session:
 
 
 def serve(server, data, messages, front=()):
-    """One session: its seconds by the clock for its messages, of the processor, and its memory."""
+    """One session: its seconds by the clock for its messages, of the processor, its memory."""
     server.clear()
     session = Session([*front, *server.command])
     session.ask(b"HELO c.example\r\n")
@@ -90,12 +95,12 @@ def serve(server, data, messages, front=()):
     for _ in range(messages):
         session.hand_over(data)
     taken = time.monotonic() - begun
-    memory = session.memory()
+    memory, own = session.memory()
     used = session.close()
     there = len(server.entries())
     if there != messages:
         raise Wrong(f"{there} entries for {messages} messages")
-    return taken, used, memory
+    return taken, used, memory, own
 
 
 def syncs(server, data, messages):
@@ -116,10 +121,11 @@ def measured(servers, lines, rounds, messages):
         for name, server in servers.items():
             runs[name].append(serve(server, data, messages))
     for name, server in servers.items():
-        taken, used, memory = map(min, zip(*runs[name]))
+        taken, used, memory, own = map(min, zip(*runs[name]))
         slowest = max(run[0] for run in runs[name])
         rates = f"{messages / slowest:.0f} to {messages / taken:.0f}"
-        yield name, len(LINE) * lines, rates, used / messages, memory, syncs(server, data, messages)
+        counted = syncs(server, data, messages)
+        yield name, len(LINE) * lines, rates, used / messages, memory, own, counted
 
 
 def parsed():
@@ -146,10 +152,11 @@ def main():
             servers[name] = Server(command, name == "theirs", Path(folder) / name)
         for lines in SIZES:
             for row in measured(servers, lines, words.rounds, words.messages):
-                name, size, rates, used, memory, counted = row
+                name, size, rates, used, memory, own, counted = row
                 told = "not counted" if counted is None else f"{counted:.2f}"
                 print(f"{name}: {size} bytes: {rates} messages a second, {used * 1000:.2f} ms of")
-                print(f"    processor a message, {memory} KiB at most, {told} syncs a message")
+                print(f"    processor a message, {memory} KiB at most, {own} its own,")
+                print(f"    {told} syncs a message")
                 is_good &= name != "ours" or counted is None or counted <= MOST_SYNCS
     return 0 if is_good else 1
 
