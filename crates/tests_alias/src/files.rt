@@ -1,19 +1,13 @@
 // Alias files: what a name comes to, and which line is refused.
-use crate::shown::show;
-use alias_expand::{AliasFault, Aliases};
+use crate::shown::{outcome_of, show};
+use alias_expand::Aliases;
 use mail_base::{NoMemory, Text};
 use std::alloc::Global;
 use std::test::Fail;
 
-// What reading a text comes to: 0 where it is taken, its line where it is refused, and `None` where
-// there was no memory.
 fn taken(aliases: &mut Aliases, alloc: Global, text: &[u8]) -> Result<Option<u32>, NoMemory> {
     let text = Text::of(alloc, text)?;
-    match aliases.read(&text) {
-        Ok(()) => Ok(Some(0)),
-        Err(AliasFault::Refused { line }) => Ok(Some(line)),
-        Err(AliasFault::NoMemory) => Ok(None),
-    }
+    Ok(outcome_of(aliases, &text))
 }
 
 fn is_shown(
