@@ -1,8 +1,8 @@
 //! Does one thing over much input, so that its time can be measured. The first word says what:
 //! `lines`, `headers`, `body`, `receipt`, `tokens`, `control`, `conf`, `maps`, `matches`, `rules`,
-//! `classes`, `spool`, `commits` or `opening`. The second says over what, as each module tells, and
-//! the third how many times it is done, once where it is left out. The scripts in `bench/` measure
-//! it.
+//! `classes`, `table`, `idle`, `woken`, `spool`, `commits` or `opening`. The second says over what,
+//! as each module tells, and the third how many times it is done, once where it is left out. The
+//! scripts in `bench/` measure it.
 #![tactic(auto)]
 
 mod classes;
@@ -17,15 +17,16 @@ mod queue;
 mod receipt;
 mod rules;
 mod spool;
+mod table;
 mod tokens;
 
 use crate::gather::Part;
 use anyhow::{Result, bail};
-use std::env;
+use std::alloc::Global;
+use std::{env, rt};
 
 fn main(rt: HostRuntime) -> Result<()> {
-    let alloc = rt.alloc();
-    let mut what = String::new(alloc);
+    let mut what = String::new(rt.alloc());
     let mut over = None;
     let mut rounds = 1u32;
     for (place, word) in env::args(&rt)?.enumerate() {
@@ -36,23 +37,37 @@ fn main(rt: HostRuntime) -> Result<()> {
             _ => {}
         }
     }
-    let answer = match what.as_str() {
-        "lines" => lines::answer(alloc, over.as_deref(), rounds)?,
-        "headers" => gather::answer(alloc, Part::Headers, over.as_deref(), rounds)?,
-        "body" => gather::answer(alloc, Part::Body, over.as_deref(), rounds)?,
-        "receipt" => receipt::answer(alloc, over.as_deref(), rounds)?,
-        "tokens" => tokens::answer(alloc, over.as_deref(), rounds)?,
-        "conf" => conf::answer(&rt, over.as_deref(), rounds)?,
-        "control" => control::answer(alloc, over.as_deref(), rounds)?,
-        "classes" => classes::answer(alloc, over.as_deref(), rounds)?,
-        "maps" => maps::answer(alloc, over.as_deref(), rounds)?,
-        "matches" => matches::answer(alloc, over.as_deref(), rounds)?,
-        "rules" => rules::answer(alloc, over.as_deref(), rounds)?,
-        "spool" => spool::answer(alloc, over.as_deref(), rounds)?,
-        "commits" => queue::commits(alloc, over.as_deref(), rounds)?,
-        "opening" => queue::opening(alloc, over.as_deref(), rounds)?,
-        _ => bail!("nothing to measure"),
-    };
+    let answer = measured(&rt, &what, over.as_deref(), rounds)?;
     println!(rt; "{answer}")?;
     Ok(())
+}
+
+// Does what the first word says.
+fn measured<R: rt::Files + Alloc<A = Global>>(
+    rt: &R,
+    what: &str,
+    over: Option<&str>,
+    rounds: u32,
+) -> Result<String> {
+    let alloc = rt.alloc();
+    match what {
+        "lines" => lines::answer(alloc, over, rounds),
+        "headers" => gather::answer(alloc, Part::Headers, over, rounds),
+        "body" => gather::answer(alloc, Part::Body, over, rounds),
+        "receipt" => receipt::answer(alloc, over, rounds),
+        "tokens" => tokens::answer(alloc, over, rounds),
+        "conf" => conf::answer(rt, over, rounds),
+        "control" => control::answer(alloc, over, rounds),
+        "classes" => classes::answer(alloc, over, rounds),
+        "maps" => maps::answer(alloc, over, rounds),
+        "matches" => matches::answer(alloc, over, rounds),
+        "rules" => rules::answer(alloc, over, rounds),
+        "table" => table::changes(alloc, over, rounds),
+        "idle" => table::idle(alloc, over, rounds),
+        "woken" => table::woken(alloc, over, rounds),
+        "spool" => spool::answer(alloc, over, rounds),
+        "commits" => queue::commits(alloc, over, rounds),
+        "opening" => queue::opening(alloc, over, rounds),
+        _ => bail!("nothing to measure"),
+    }
 }
