@@ -1,8 +1,11 @@
 mod AliasLemmas
+mod CostLemmas
 mod JoinLemmas
 mod MemberLemmas
 mod OneLemmas
 mod PieceLemmas
 mod HomeLemmas
 mod StepLemmas
+mod TreeLemmas
 mod TripleLemmas
+mod WholeLemmas

@@ -6,14 +6,12 @@ use Rattle.mail_base.specs.declared.route.Resolved.TheVariants.{Goes, Refuses}
 use Rattle.mail_base.specs.declared.route.RouteError.{RouteError}
 use Rattle.mail_base.specs.declared.route.Triple.{Triple}
 use Rattle.alias_expand.specs.Triples.{is_among}
-use Rattle.mail_edge.specs.Seen.{FileMap, text_of}
+use Rattle.mail_edge.specs.Seen.{FileMap}
 use Rattle.alias_expand.specs.declared.members.Member.{Member}
-use Rattle.alias_expand.specs.declared.members.Member.TheVariants.{Address, Include}
 use Rattle.alias_expand.specs.declared.reading.Reading.{Reading}
 use Rattle.alias_expand.specs.declared.refusal.ExpandRefusal.{ExpandRefusal}
-use Rattle.alias_expand.specs.declared.refusal.ExpandRefusal.TheVariants as refusals
 use Rattle.alias_expand.specs.declared.stand.Stand.{Stand}
-use Rattle.alias_expand.specs.Rows.{Act, Stops, Stays, Opens, Site, RoutesTo, HasText, Forwards, no_file, spent, absent, there, Leads, alias, no_alias, Includes, read_before, reads_spent, not_there, included, Meets, unrouted, itself, met_before, meets, Comes, too_deep, of_file, of_address, Reads, reads_none, stops, stays, opens, opens_to_refusal, Ends, Starts, refused, starts, Expands, expands, rows_of, alias_members, forward_file, is_deep, is_spent, is_itself, escaped, added, row_at, with_met, nothing_read}
+use Rattle.alias_expand.specs.Rows.{Act, Stops, Stays, Opens, Site, RoutesTo, HasText, Forwards, no_file, spent, absent, there, Leads, alias, no_alias, Includes, read_before, reads_spent, not_there, included, Meets, unrouted, itself, met_before, meets, Comes, too_deep, of_file, of_address, Reads, reads_none, stops, stays, opens, opens_to_refusal, Ends, Starts, refused, starts, Expands, expands, rows_of, forward_file, is_itself, escaped, added, row_at, with_met, nothing_read}
 
 true≢false : true ≡ false → ⊥
 true≢false e = cc e

@@ -1,5 +1,5 @@
 -- What a member or an address comes to, by what was done of it.
-use Rattle.std.proofs.Common.{◌≡◌, ℕ, List, Option, Some, None, Result, Ok, Err, Bool, true, false, refl, sym, subst, ◌≤◌, ◌<◌}
+use Rattle.std.proofs.Common.{◌≡◌, ℕ, List, Option, Some, None, Result, Ok, Err, true, false, sym, subst}
 use Rattle.mail_base.specs.declared.route.Resolved.{Resolved}
 use Rattle.mail_base.specs.declared.route.Resolved.TheVariants.{Goes, Refuses}
 use Rattle.mail_base.specs.declared.route.RouteError.{RouteError}
@@ -14,7 +14,7 @@ use Rattle.alias_expand.specs.declared.refusal.ExpandRefusal.TheVariants as refu
 use Rattle.alias_expand.specs.declared.stand.Stand.{Stand}
 use Rattle.alias_expand.specs.Members.{file_members}
 use Rattle.alias_expand.specs.Triples.{is_among, is_read, with_read}
-use Rattle.alias_expand.specs.Rows.{Act, Stops, Stays, Opens, Site, RoutesTo, HasText, Forwards, no_file, spent, absent, there, Leads, alias, no_alias, Includes, included, not_there, Meets, unrouted, itself, met_before, meets, Comes, of_file, of_address, Starts, starts, added, row_at, leaf_at, alias_members, forward_file, is_deep, is_spent, is_itself, escaped, under_alias, under_user, with_file, with_met, with_self, nothing_read}
+use Rattle.alias_expand.specs.Rows.{Act, Stops, Stays, Opens, Site, RoutesTo, HasText, Forwards, no_file, absent, there, Leads, alias, no_alias, Includes, included, not_there, Meets, unrouted, itself, meets, Comes, of_file, of_address, added, row_at, leaf_at, alias_members, forward_file, is_deep, is_spent, is_itself, escaped, under_alias, under_user, with_met, with_self}
 use Rattle.alias_expand.specs.inner.Steps.{Does, Met, StopsWith}
 
 -- a refusal with one fact has another
@@ -32,6 +32,10 @@ pub does_map : {P Q : Act → Type 0} (result : Result (Option Opened) ExpandRef
 does_map (Ok None) reading f p = f (Stays reading) p
 does_map (Ok (Some opened)) reading f p = f (Opens opened.stand opened.members reading) p
 does_map (Err refusal) reading f p = stops_map refusal (λ r. f (Stops r)) p
+
+-- a fact of an address where it stands is one of the parts that say where
+pub spotted : (P : ℕ → List ℕ → List ℕ → Type 0) (l m : ℕ) (s r t u : List ℕ) → l ≡ m → s ≡ r → t ≡ u → P l s t → P m r u
+spotted P l m s r t u a b c p = subst (λ (x : ℕ). P x r u) a (subst (λ (x : List ℕ). P l x u) b (subst (λ (x : List ℕ). P l s x) c p))
 
 module _ (site : Site) (files : Option FileMap) where
   module _ (level : ℕ) (sender text : List ℕ) (triple : Triple) (reading : Reading) where

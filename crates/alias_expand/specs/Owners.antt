@@ -1,6 +1,6 @@
 -- The senders of the members of an alias (Sendmail Installation and Operation Guide, "The Alias
 -- Database", owners; that a list which isn't one address counts as one user is our own).
-use Rattle.std.specs.Prelude.{◌≡◌, ℕ, Bool, not, ◌&&◌, ◌||◌, ◌==◌, List, [], ◌∷◌, ◌++◌, map, Option, None, Some, unwrap_or, Result, bytes_eq, if◌then◌else◌, codes, refl}
+use Rattle.std.specs.Prelude.{◌≡◌, ℕ, Bool, not, ◌&&◌, ◌||◌, ◌==◌, List, [], ◌∷◌, ◌++◌, map, Option, None, Some, unwrap_or, bytes_eq, if◌then◌else◌, codes, refl}
 use Rattle.std.specs.List.{list_all}
 use Rattle.std.specs.Result.{result_unwrap_or}
 use Rattle.mail_base.specs.Notes.{blanked}
@@ -10,7 +10,7 @@ use Rattle.cf_macros.specs.Expansion.{value}
 use Rattle.ruleset_run.specs.Sites.{Macros}
 use Rattle.alias_expand.specs.declared.aliases.Alias.{Alias}
 use Rattle.alias_expand.specs.declared.members.Member.{Member}
-use Rattle.alias_expand.specs.declared.members.Member.TheVariants.{Address, Include}
+use Rattle.alias_expand.specs.declared.members.Member.TheVariants.{Address}
 use Rattle.alias_expand.specs.Aliases.{members_named}
 use Rattle.alias_expand.specs.Members.{is_local}
 

@@ -1,7 +1,7 @@
 -- The rows of an address (Sendmail Installation and Operation Guide, "The Alias Database",
 -- ":include:", "Per-User Forwarding", the mailer's flags A and w, MaxAliasRecursion; aliases(5);
 -- the limits of rows and of reads, the order, and that a file is read once are our own).
-use Rattle.std.specs.Prelude.{◌≡◌, ℕ, zero, suc, ◌+◌, ◌<◌, ◌≤◌, Bool, true, false, not, ◌&&◌, ◌||◌, ◌==◌, nat_lt, nat_le, List, [], ◌∷◌, ◌++◌, All, length, Option, None, Some, option_map, IfSome, Result, Ok, Err, if◌then◌else◌, codes, refl}
+use Rattle.std.specs.Prelude.{◌≡◌, ℕ, ◌+◌, ◌≤◌, Bool, true, false, not, ◌&&◌, ◌==◌, nat_lt, nat_le, List, [], ◌∷◌, ◌++◌, All, length, Option, None, Some, option_map, IfSome, Result, Ok, Err, if◌then◌else◌, codes}
 use Rattle.mail_base.specs.Catalogs.{value_like}
 use Rattle.mail_base.specs.Limits.{most_rows}
 use Rattle.mail_base.specs.Texts.{IsAddress, IsBracketed}
@@ -38,6 +38,10 @@ pub record Site : Type 0 where
   pub config : Config
   pub maps : Loaded
   pub macros : Macros
+
+abbrev pub site_of : List Alias → List (List ℕ × List ℕ) → Config → Loaded → Macros → Site
+site_of aliases homes config maps macros =
+    record { aliases = aliases; homes = homes; config = config; maps = maps; macros = macros }
 
 -- what was read so far: the triples that were met; those of aliases and users that became rows
 -- themselves; the files that were read, each with the alias or user for whom it was; and the rows

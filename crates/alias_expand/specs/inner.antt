@@ -1,4 +1,5 @@
 pub mod AliasPlaces
+pub mod Costs
 pub mod Cutting
 pub mod Holding
 pub mod Pieces

@@ -5,6 +5,7 @@
 
 mod alias_line;
 mod aliases;
+mod expansion;
 mod fault;
 mod file_reads;
 mod frame;
@@ -13,6 +14,7 @@ mod law;
 mod lead;
 mod leaf;
 mod lines;
+mod member;
 mod members;
 mod owner;
 mod place;
@@ -20,9 +22,11 @@ mod reading;
 mod refusal;
 mod site;
 mod stand;
+mod tree;
 mod triples;
 
 pub use aliases::{Alias, Aliases};
+pub use expansion::expand;
 pub use fault::AliasFault;
 pub use homes::Homes;
 pub use law::one_expansion;

@@ -1,5 +1,5 @@
 -- What a step of reading a tree gives, and how the rest of it goes on.
-use Rattle.std.specs.Prelude.{◌≡◌, ℕ, ◌+◌, Bool, true, false, List, [], ◌∷◌, drop, Option, None, Some, Result, Ok, Err}
+use Rattle.std.specs.Prelude.{◌≡◌, ℕ, ◌+◌, false, List, [], ◌∷◌, drop, Option, None, Some, Result, Ok, Err}
 use Rattle.mail_base.specs.declared.route.Resolved.TheVariants.{Goes}
 use Rattle.mail_base.specs.declared.route.Triple.{Triple}
 use Rattle.mail_edge.specs.Seen.{FileMap}
@@ -68,6 +68,6 @@ module _ (site : Site) (files : Option FileMap) where
   GoesOn Rest (Err refusal) end = end ≡ Err refusal
 
   -- what is left in these frames, the innermost first, comes to this end
-  pub Completes : List Frame → Reading → Result Reading ExpandRefusal → Type 0
+  abbrev pub Completes : List Frame → Reading → Result Reading ExpandRefusal → Type 0
   Completes [] reading end = end ≡ Ok reading
   Completes (frame ∷ frames) reading end = (first : Result Reading ExpandRefusal) × (Reads site files frame.stand (left_of frame) reading first × GoesOn (Completes frames) first end)

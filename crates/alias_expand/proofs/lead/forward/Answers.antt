@@ -1,6 +1,6 @@
-use Rattle.std.proofs.Common.{◌≡◌, ◌∙◌, sym, subst, Bool}
+use Rattle.std.proofs.Common.{◌∙◌, sym, subst, Bool}
 use Rattle.alias_expand.specs.Asking.{Asks}
-use Rattle.alias_expand.specs.Rows.{Act, spent}
+use Rattle.alias_expand.specs.Rows.{spent}
 use Rattle.alias_expand.proofs.StepLemmas.{does_map, forwards_absent, forwards_there}
 use Rattle.alias_expand.proofs.lead.forward.Goals as goal
 

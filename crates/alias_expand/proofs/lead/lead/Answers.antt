@@ -1,4 +1,4 @@
-use Rattle.std.proofs.Common.{◌≡◌, ◌∙◌, sym}
+use Rattle.std.proofs.Common.{◌∙◌, sym}
 use Rattle.alias_expand.proofs.StepLemmas.{does_map, leads_alias, leads_forward, leads_leaf}
 use Rattle.alias_expand.proofs.lead.lead.Goals as goal
 

@@ -1,4 +1,4 @@
-use Rattle.std.proofs.Common.{◌≡◌, ◌∙◌, refl, ap, sym}
+use Rattle.std.proofs.Common.{refl, sym}
 use Rattle.alias_expand.proofs.TripleLemmas.{add_file}
 use Rattle.alias_expand.proofs.file_reads.FileReads.add.Goals as goal
 

@@ -1,5 +1,5 @@
-use Rattle.std.proofs.Common.{◌≡◌, ◌∙◌, refl, ap, sym}
-use Rattle.alias_expand.proofs.TripleLemmas.{any_file, has_file}
+use Rattle.std.proofs.Common.{◌∙◌, refl, sym}
+use Rattle.alias_expand.proofs.TripleLemmas.{has_file}
 use Rattle.alias_expand.proofs.file_reads.FileReads.has.Goals as goal
 
 pub returns : goal.returns

@@ -1,6 +1,4 @@
-use Rattle.std.proofs.Common.{◌≡◌, ◌∙◌, refl, ap, sym}
-use Rattle.alias_expand.specs.inner.Holding.{triple_of}
-use Rattle.alias_expand.specs.Triples.{with_triple}
+use Rattle.std.proofs.Common.{refl, sym}
 use Rattle.alias_expand.proofs.TripleLemmas.{add_held}
 use Rattle.alias_expand.proofs.triples.Triples.add.Goals as goal
 

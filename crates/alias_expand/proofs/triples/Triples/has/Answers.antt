@@ -1,4 +1,4 @@
-use Rattle.std.proofs.Common.{◌≡◌, ◌∙◌, refl, ap, sym}
+use Rattle.std.proofs.Common.{◌∙◌, refl, sym}
 use Rattle.alias_expand.specs.inner.Holding.{triple_of}
 use Rattle.alias_expand.specs.Triples.{is_same}
 use Rattle.alias_expand.proofs.TripleLemmas.{any_held}
