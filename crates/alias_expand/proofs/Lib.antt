@@ -1,10 +1,11 @@
 mod AliasLemmas
 mod CostLemmas
+mod FormLemmas
+mod HomeLemmas
 mod JoinLemmas
 mod MemberLemmas
 mod OneLemmas
 mod PieceLemmas
-mod HomeLemmas
 mod StepLemmas
 mod TreeLemmas
 mod TripleLemmas

@@ -4,7 +4,7 @@ ghost use Rattle.alias_expand.specs.Aliases.{ExplainsRefusal, file_aliases, firs
 ghost use Rattle.alias_expand.specs.Aliases as spec;
 ghost use Rattle.mail_base.specs.Places.{IsFirstAt, IsIndexed, Keeps, is_held_for};
 ghost use Rattle.alias_expand.specs.Members.{IsMember};
-ghost use Rattle.alias_expand.specs.inner.AliasPlaces.{IsIndexedTo, is_up_to};
+ghost use Rattle.alias_expand.specs.inner.AliasPlaces.{HasMembers, IsIndexedTo, is_up_to};
 
 use crate::alias_line::file_aliases;
 use crate::{AliasFault, Member};
@@ -96,6 +96,13 @@ impl Aliases {
             Some(alias) => Some(&alias.members),
             None => None,
         }
+    }
+
+    /// A fact alone: the members of each line are on one line, and their addresses aren't empty.
+    pub(crate) fn have_members(&self)
+        ensures { All HasMembers self.now }
+    {
+        let _ = &self.lines;
     }
 }
 

@@ -1,8 +1,9 @@
-ghost use Rattle.std.specs.Prelude.{◌≡◌, List, Result, IfSome, Some};
+ghost use Rattle.std.specs.Prelude.{◌≡◌, List, Result, IfOk, IfSome, Some};
+ghost use Rattle.mail_base.specs.Texts.{IsAddress, IsBracketed};
 ghost use Rattle.mail_base.specs.declared.draw.Draw.{Draw as TheDraw};
 ghost use Rattle.alias_expand.specs.Asking.{Asks};
 ghost use Rattle.alias_expand.specs.declared.refusal.ExpandRefusal.{ExpandRefusal as TheRefusal};
-ghost use Rattle.alias_expand.specs.Rows.{Expands, HoldsOf, Starts, is_files_fault, nothing_read, site_of};
+ghost use Rattle.alias_expand.specs.Rows.{AreRows, Expands, HoldsOf, Starts, is_files_fault, nothing_read, site_of};
 ghost use Rattle.alias_expand.specs.inner.Steps.{ComesTo, Does};
 
 use crate::frame::Opened;
@@ -18,7 +19,8 @@ use map_tables::Maps;
 use std::alloc::Global;
 
 /// The rows of an address with this sender, at least one and at most 10,000 (Sendmail Installation
-/// and Operation Guide, "The Alias Database", "Per-User Forwarding").
+/// and Operation Guide, "The Alias Database", "Per-User Forwarding"), or why it has none. At most
+/// 20,000 files are read, and each that is open is held whole. Memory is taken from `alloc`.
 pub fn expand<F: Files>(
     alloc: Global,
     aliases: &Aliases,
@@ -36,10 +38,12 @@ pub fn expand<F: Files>(
     ensures only { IfSome (F.seen files.old).map (λ map. (one : Result (List TheDraw) TheRefusal)
         → Expands (site_of aliases.now homes.now config.now maps.now macros.now) (Some map)
         address.now sender.now one → HoldsOf result (λ other. other ≡ one)) }
+    ensures forms { IsAddress address.now → IsBracketed sender.now → IfOk result AreRows }
     ensures asks { Asks (F.seen files.old) (F.seen files.new) (is_files_fault result) }
 {
-    // A law: an address comes to one outcome.
+    // Laws: an address comes to one outcome, and aliases have members.
     one_expansion();
+    aliases.have_members();
     let site = Site {
         alloc,
         aliases,

@@ -2,6 +2,7 @@ use Rattle.std.proofs.Common.{Ok, Err, refl}
 use Rattle.std.proofs.lemmas.Result.{err_from_is_err_and}
 use Rattle.alias_expand.specs.declared.refusal.ExpandRefusal.TheVariants as refusals
 use Rattle.alias_expand.specs.Rows.{site_of}
+use Rattle.alias_expand.proofs.FormLemmas.{outcome_form}
 use Rattle.alias_expand.proofs.WholeLemmas.{false≢true, only_outcome, rows_none, rows_refused, rows_some}
 use Rattle.alias_expand.proofs.expansion.expand.Goals as goal
 
@@ -36,3 +37,8 @@ pub returns-clause-only : goal.returns-clause-only
 returns-clause-only g c =
     let a = c.args in
     only_outcome (site_of a.aliases.now a.homes.now a.config.now a.maps.now a.macros.now) (g.F.Files.seen a.files.now).map a.address.now a.sender.now (λ map one another x y. c.one_expansion.ensures (site_of a.aliases.now a.homes.now a.config.now a.maps.now a.macros.now) map a.address.now a.sender.now one another x y) (Ok c.in_ok-reading.reading.rows) (rows_some (site_of a.aliases.now a.homes.now a.config.now a.maps.now a.macros.now) (g.F.Files.seen a.files.now).map a.address.now a.sender.now c.in_ok-reading.reading (λ e. false≢true (c.if-is_empty.ensures.1 e)) c.in_ok-reading.ensures.reads)
+
+pub returns-clause-forms : goal.returns-clause-forms
+returns-clause-forms g c =
+    let a = c.args in
+    λ address sender. outcome_form (site_of a.aliases.now a.homes.now a.config.now a.maps.now a.macros.now) (g.F.Files.seen a.files.now).map c.have_members.ensures a.address.now a.sender.now (Ok c.in_ok-reading.reading.rows) address sender (rows_some (site_of a.aliases.now a.homes.now a.config.now a.maps.now a.macros.now) (g.F.Files.seen a.files.now).map a.address.now a.sender.now c.in_ok-reading.reading (λ e. false≢true (c.if-is_empty.ensures.1 e)) c.in_ok-reading.ensures.reads)
