@@ -11,4 +11,8 @@ mod long;
 #[cfg(test)]
 mod members;
 #[cfg(test)]
+mod rows;
+#[cfg(test)]
 mod shown;
+#[cfg(test)]
+mod worlds;

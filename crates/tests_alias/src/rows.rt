@@ -1,0 +1,200 @@
+// What an address comes to: its rows, or why it has none.
+use crate::worlds::{World, files_of, world_of};
+use alias_expand::{Aliases, ExpandRefusal, Homes, expand};
+use mail_base::{Draw, NoMemory, Resolved, RouteError, Seq, Text, Triple};
+use std::alloc::Global;
+use std::test::Fail;
+
+// An address, its sender, and the rows that it comes to, each as its text, `=` where it stands for
+// the address itself, its sender, and where it goes; or the refusal.
+type Row = (&'static [u8], &'static [u8], &'static [u8]);
+
+const ALIASES: &[u8] = b"one: ann\ntwo: one, bob@far\nowner-two: olga\nself: self, ann\n\
+    loop: pool\npool: loop\nround: around, ann\naround: round\n\
+    a1: a2\na2: a3\na3: ann\nprog: \"|/bin/x y\"\nesc: \\one\n\
+    inc: :include:/list\nlost: :include:/none\ntwice: :include:/list, :include:/list\n\
+    nohost: ann@off, bob@far\nboth: bob@far, bob@far\nowned: ann\nowner-owned: x, y\n";
+
+const HOMES: &[u8] = b"kim /k\nlee /l\nmoved /m\nsue /s\n";
+
+static FILES: [(&[u8], &[u8]); 6] = [
+    (b"/list", b"ann, :include:/more\n# none\nbob@far\n"),
+    (b"/more", b"joe\n:include:/list\n"),
+    (b"/k/.forward", b"kim, ann\n"),
+    (b"/l/.forward", b"\\lee, bob@far\n"),
+    (b"/m/.forward", b"ann\n"),
+    (b"/empty", b""),
+];
+
+static ROWS: [Row; 24] = [
+    // A leaf; one that set 5 sends on; one by its host.
+    (b"ann", b"<s>", b"ann=<s>local//ann;"),
+    (b"moved", b"<s>", b"moved=<s>smtp/near/moved;"),
+    (b"bob@far", b"<s>", b"bob@far=<s>smtp/far/bob;"),
+    // Its own route is an error; that of a member is a row.
+    (b"ann@off", b"<s>", b"refused 550 no"),
+    (
+        b"nohost",
+        b"<s>",
+        b"ann@off<s>550 no;bob@far<s>smtp/far/bob;",
+    ),
+    // Aliases, in the order of their members, with the sender of an owner.
+    (b"one", b"<s>", b"ann<s>local//ann;"),
+    (b"ONE", b"<s>", b"ann<s>local//ann;"),
+    (
+        b"two",
+        b"<s>",
+        b"ann<olga>local//ann;bob@far<olga>smtp/far/bob;",
+    ),
+    (b"two", b"<>", b"ann<>local//ann;bob@far<>smtp/far/bob;"),
+    (b"owned", b"<s>", b"ann<owner-owned@HOST>local//ann;"),
+    // A triple is met once.
+    (b"both", b"<s>", b"bob@far<s>smtp/far/bob;"),
+    (b"loop", b"<s>", b"no one"),
+    (b"round", b"<s>", b"ann<s>local//ann;"),
+    // Levels go to 2.
+    (b"a2", b"<s>", b"ann<s>local//ann;"),
+    (b"a1", b"<s>", b"too deep"),
+    // A backslash, a program, and an alias that names itself.
+    (b"\\one", b"<s>", b"\\one=<s>local//one;"),
+    (b"esc", b"<s>", b"\\one<s>local//one;"),
+    (b"prog", b"<s>", b"|/bin/x y<s>prog///bin/x y;"),
+    (b"self", b"<s>", b"\\self<s>local//self;ann<s>local//ann;"),
+    // Include files, of which one includes the other, once each.
+    (
+        b"inc",
+        b"<s>",
+        b"ann<s>local//ann;joe<s>local//joe;bob@far<s>smtp/far/bob;",
+    ),
+    (b"lost", b"<s>", b"absent /none"),
+    // Forward files: they may name the user, also with a backslash, and none may be there.
+    (b"kim", b"<s>", b"\\kim<s>local//kim;ann<s>local//ann;"),
+    (
+        b"lee",
+        b"<s>",
+        b"\\lee<s>local//lee;bob@far<s>smtp/far/bob;",
+    ),
+    (b"sue", b"<s>", b"sue=<s>local//sue;"),
+];
+
+fn put_code(out: &mut Text, code: u16) -> Result<(), NoMemory> {
+    let digits = format!(in out.allocator(); "{code} ")?;
+    out.extend(digits.as_bytes())
+}
+
+fn put_error(out: &mut Text, error: &RouteError) -> Result<(), NoMemory> {
+    put_code(out, error.code)?;
+    out.extend(error.text.bytes())
+}
+
+fn put_triple(out: &mut Text, triple: &Triple) -> Result<(), NoMemory> {
+    out.extend(triple.mailer.bytes())?;
+    out.push(b'/')?;
+    out.extend(triple.host.bytes())?;
+    out.push(b'/')?;
+    out.extend(triple.user.bytes())
+}
+
+fn put_resolved(out: &mut Text, resolved: &Resolved) -> Result<(), NoMemory> {
+    match resolved {
+        Resolved::Goes(triple) => put_triple(out, triple),
+        Resolved::Refuses(error) => put_error(out, error),
+    }
+}
+
+fn put_row(out: &mut Text, row: &Draw) -> Result<(), NoMemory> {
+    out.extend(row.address.bytes())?;
+    if row.primary {
+        out.push(b'=')?;
+    }
+    out.extend(row.sender.bytes())?;
+    put_resolved(out, &row.resolved)?;
+    out.push(b';')
+}
+
+fn put_refusal(out: &mut Text, refusal: &ExpandRefusal) -> Result<(), NoMemory> {
+    match refusal {
+        ExpandRefusal::Refuses(error) => {
+            out.extend(b"refused ")?;
+            put_error(out, error)
+        }
+        ExpandRefusal::IncludeAbsent(name) => {
+            out.extend(b"absent ")?;
+            out.extend(name.bytes())
+        }
+        ExpandRefusal::TooDeep => out.extend(b"too deep"),
+        ExpandRefusal::TooMany => out.extend(b"too many"),
+        ExpandRefusal::NoOne => out.extend(b"no one"),
+        ExpandRefusal::FilesFault => out.extend(b"a fault of files"),
+        ExpandRefusal::NoMemory => Err(NoMemory),
+    }
+}
+
+fn put_outcome(out: &mut Text, outcome: &Result<Seq<Draw>, ExpandRefusal>) -> Result<(), NoMemory> {
+    match outcome {
+        Ok(rows) => {
+            for row in rows.items() {
+                put_row(out, row)?;
+            }
+            Ok(())
+        }
+        Err(refusal) => put_refusal(out, refusal),
+    }
+}
+
+/// The aliases and homes of the cases.
+#[derive(Drop)]
+struct Names {
+    aliases: Aliases,
+    homes: Homes,
+}
+
+fn names_of(alloc: Global) -> Result<Names, Fail> {
+    let mut aliases = Aliases::new(alloc);
+    if aliases.read(&Text::of(alloc, ALIASES)?).is_err() {
+        return Err(Fail::from("refused aliases"));
+    }
+    let homes = Homes::read(alloc, &Text::of(alloc, HOMES)?)?;
+    Ok(Names { aliases, homes })
+}
+
+fn is_right(alloc: Global, world: &World, names: &Names, row: &Row) -> Result<bool, Fail> {
+    let mut files = files_of(alloc, &FILES)?;
+    let address = Text::of(alloc, row.0)?;
+    let sender = Text::of(alloc, row.1)?;
+    let outcome = expand(
+        alloc,
+        &names.aliases,
+        &names.homes,
+        &world.config,
+        &world.maps,
+        &world.config.macros,
+        &mut files,
+        &address,
+        &sender,
+    );
+    let mut out = Text::new(alloc);
+    put_outcome(&mut out, &outcome)?;
+    Ok(out.bytes() == row.2)
+}
+
+fn wrong_row(alloc: Global, world: &World, names: &Names) -> Result<Option<usize>, Fail> {
+    for (at, row) in ROWS.iter().enumerate() {
+        if !is_right(alloc, world, names, row)? {
+            return Ok(Some(at));
+        }
+    }
+    Ok(None)
+}
+
+fn wrong(alloc: Global) -> Result<Option<usize>, Fail> {
+    let world = world_of(alloc)?;
+    let names = names_of(alloc)?;
+    wrong_row(alloc, &world, &names)
+}
+
+#[test]
+fn addresses_have_their_rows(rt: HostRuntime) -> Result<(), Fail> {
+    assert_eq!(rt; wrong(rt.alloc())?, None);
+    Ok(())
+}
