@@ -1,9 +1,12 @@
 # To be sourced by a script that measures crates/bench: goes to the top of the repository, proves and builds the
-# program, and makes a folder for what the script writes.
+# program, or takes the one that PROGRAM names, and makes a folder for what the script writes.
 set -euo pipefail
+bench=${PROGRAM:+$(realpath "$PROGRAM")}
 cd "$(dirname "$0")/.."
-(cd crates/bench && rt run -- control 1 > /dev/null)
-bench=$PWD/crates/bench/out/bench
+if [ -z "$bench" ]; then
+    (cd crates/bench && rt run -- control 1 > /dev/null)
+    bench=$PWD/crates/bench/out/bench
+fi
 work=$(mktemp -d)
 trap 'rm -rf "$work"' EXIT
 

@@ -4,19 +4,7 @@
 # turn that asks which entry is due where none is, with 10, 1,000 and 10,000 entries that wait, of 1,000,000 such turns
 # and of 100 of which each comes after a change of the table. The program is crates/bench, or another one that PROGRAM
 # names. This is no part of the gate.
-if [ -n "${PROGRAM:-}" ]; then
-    set -euo pipefail
-    bench=$(realpath "$PROGRAM")
-    work=$(mktemp -d)
-    trap 'rm -rf "$work"' EXIT
-    taken() {
-        local begun=$(date +%s%N)
-        "$@" > "$work/answer" < /dev/null
-        echo $(($(date +%s%N) - begun))
-    }
-else
-    . "$(dirname "$0")/bench.sh"
-fi
+. "$(dirname "$0")/bench.sh"
 
 # Instructions that the program takes.
 counted() {
@@ -27,24 +15,22 @@ best() {
     for _ in 1 2 3 4 5; do taken "$bench" "$@"; done | sort -n | head -1
 }
 
-stages=('nothing' 'put in' 'recorded' 'finished')
-for count in 1000 10000; do
-    before=$(best table "$count" 0)
-    for stage in 1 2 3; do
-        after=$(best table "$count" "$stage")
-        echo "$count entries, ${stages[stage]}: $(((after - before) / count)) nanoseconds an entry"
-        before=$after
+# What each stage takes an entry, by a measure of runs up to it and with it.
+stages() {
+    for count in 1000 10000; do
+        local before=$("$1" table "$count" 0) after stage=0
+        for name in 'put in' recorded finished; do
+            stage=$((stage + 1))
+            after=$("$1" table "$count" "$stage")
+            echo "$count entries, $name: $(((after - before) / count)) $2 an entry"
+            before=$after
+        done
     done
-done
+}
+
+stages best nanoseconds
 command -v valgrind > /dev/null || exit 0
-for count in 1000 10000; do
-    before=$(counted table "$count" 0)
-    for stage in 1 2 3; do
-        after=$(counted table "$count" "$stage")
-        echo "$count entries, ${stages[stage]}: $(((after - before) / count)) instructions an entry"
-        before=$after
-    done
-done
+stages counted instructions
 # Words of one length, since the words stand on the stack, and what copies bytes minds where that begins.
 for count in 10 1000 10000; do
     once=$(counted idle "$count" 0000001)
