@@ -21,7 +21,8 @@ use Rattle.alias_expand.specs.declared.stand.Stand.{Stand}
 use Rattle.alias_expand.specs.Aliases.{has_name, members_named}
 use Rattle.alias_expand.specs.Members.{IsMember}
 use Rattle.alias_expand.specs.Owners.{bracketed, host_in, owned, owner_name, sender_under}
-use Rattle.alias_expand.specs.Rows.{Act, Stops, Stays, Opens, Site, Forwards, no_file, spent, absent, there, Leads, alias, no_alias, Includes, read_before, reads_spent, not_there, included, Meets, unrouted, itself, met_before, meets, Comes, too_deep, of_file, of_address, Reads, reads_none, stops, stays, opens, opens_to_refusal, Ends, Starts, refused, starts, Expands, expands, AreRows, IsDrawn, rows_of, added, row_at, leaf_by, alias_members, forward_file, has_mailer_flag, is_escaped, escaped, with_row, with_file, with_met, with_self, nothing_read}
+use Rattle.mail_base.specs.Drawing.{AreRows, IsDrawn}
+use Rattle.alias_expand.specs.Rows.{Act, Stops, Stays, Opens, Site, Forwards, no_file, spent, absent, there, Leads, alias, no_alias, Includes, read_before, reads_spent, not_there, included, Meets, unrouted, itself, met_before, meets, Comes, too_deep, of_file, of_address, Reads, reads_none, stops, stays, opens, opens_to_refusal, Ends, Starts, refused, starts, Expands, expands, rows_of, added, row_at, leaf_by, alias_members, forward_file, has_mailer_flag, is_escaped, escaped, with_row, with_file, with_met, with_self, nothing_read}
 use Rattle.alias_expand.specs.inner.AliasPlaces.{HasMembers}
 use Rattle.alias_expand.proofs.AliasLemmas.{found_has}
 use Rattle.alias_expand.proofs.MemberLemmas.{file_each}

@@ -1,7 +1,6 @@
 mod AliasLemmas
 mod CostLemmas
 mod FormLemmas
-mod HomeLemmas
 mod JoinLemmas
 mod MemberLemmas
 mod OneLemmas

@@ -1,14 +1,12 @@
 -- What an address comes to in the end, by what was done of it.
-use Rattle.std.proofs.Common.{◌≡◌, ℕ, ◌≤◌, List, [], ◌∷◌, length, eq-eqb, ne_eqb, Option, Some, None, Result, Ok, Err, Bool, true, false, IfSome, refl, ◌∙◌, ap, subst, ◌==◌, arith}
-use Rattle.mail_base.specs.Histories.{Rose}
+use Rattle.std.proofs.Common.{◌≡◌, ℕ, ◌≤◌, List, [], ◌∷◌, length, eq-eqb, ne_eqb, Option, Some, None, Result, Ok, Err, true, false, IfSome, refl, ◌∙◌, ap, subst, ◌==◌, arith}
 use Rattle.mail_base.specs.declared.draw.Draw.{Draw}
 use Rattle.mail_base.specs.declared.route.Resolved.TheVariants.{Goes}
 use Rattle.mail_base.specs.declared.route.Resolved.{Resolved}
 use Rattle.mail_base.specs.declared.route.RouteError.{RouteError}
 use Rattle.mail_base.specs.declared.route.Resolved.TheVariants as routes
 use Rattle.mail_base.specs.declared.route.Triple.{Triple}
-use Rattle.mail_edge.specs.Seen.{FileMap, FilesSeen}
-use Rattle.alias_expand.specs.Asking.{Asks}
+use Rattle.mail_edge.specs.Seen.{FileMap}
 use Rattle.alias_expand.specs.Triples.{with_triple}
 use Rattle.alias_expand.specs.declared.frame.Opened.{Opened}
 use Rattle.alias_expand.specs.declared.reading.Reading.{Reading}
@@ -17,20 +15,6 @@ use Rattle.alias_expand.specs.declared.refusal.ExpandRefusal.TheVariants as refu
 use Rattle.alias_expand.specs.Rows.{Act, Stops, Stays, Opens, Site, RoutesTo, Leads, Reads, Starts, refused, starts, Expands, expands, HoldsOf, most_reads, nothing_read, rows_of, with_met}
 use Rattle.alias_expand.specs.inner.Steps.{ComesTo, Does, StopsWith}
 use Rattle.alias_expand.proofs.CostLemmas.{lead_climbs}
-
--- nothing is asked of files
-pub asks_none : (files : FilesSeen) → Asks files files false
-asks_none files = record { fixed = refl; later = omega arith; rose = λ f. absurd (cc f); calm = λ f. refl }
-
--- what is asked one after the other, if only the last failed
-pub asks_join : (a b c : FilesSeen) (failed : Bool) → Asks a b false → Asks b c failed → Asks a c failed
-asks_join a b c failed ab bc =
-    let same : b.faults ≡ a.faults = ab.calm refl in record {
-      fixed = bc.fixed ∙ ab.fixed;
-      later = omega (arith, ab.later, bc.later);
-      rose = λ f. subst (λ (n : ℕ). Rose n c.faults) same (bc.rose f);
-      calm = λ f. bc.calm f ∙ same;
-    }
 
 -- a refusal with a fact is a result with it
 pub stops_holds : {T : Type 0} (P : Result T ExpandRefusal → Type 0) (refusal : ExpandRefusal) → StopsWith refusal (λ r. P (Err r)) → HoldsOf (Err refusal) P

@@ -1,4 +1,3 @@
-pub mod Asking
 pub mod Aliases
 pub mod Homes
 pub mod Lines

@@ -1,10 +1,9 @@
 -- The rows of an address (Sendmail Installation and Operation Guide, "The Alias Database",
 -- ":include:", "Per-User Forwarding", the mailer's flags A and w, MaxAliasRecursion; aliases(5);
 -- the limits of rows and of reads, the order, and that a file is read once are our own).
-use Rattle.std.specs.Prelude.{◌≡◌, ℕ, ◌+◌, ◌≤◌, Bool, true, false, not, ◌&&◌, ◌==◌, nat_lt, nat_le, List, [], ◌∷◌, ◌++◌, All, length, Option, None, Some, option_map, IfSome, Result, Ok, Err, if◌then◌else◌, codes}
+use Rattle.std.specs.Prelude.{◌≡◌, ℕ, ◌+◌, ◌≤◌, Bool, true, false, not, ◌&&◌, ◌==◌, nat_lt, nat_le, List, [], ◌∷◌, ◌++◌, length, Option, None, Some, option_map, IfSome, Result, Ok, Err, if◌then◌else◌, codes}
 use Rattle.mail_base.specs.Catalogs.{value_like}
 use Rattle.mail_base.specs.Limits.{most_rows}
-use Rattle.mail_base.specs.Texts.{IsAddress, IsBracketed}
 use Rattle.mail_base.specs.declared.config.Config.{Config}
 use Rattle.mail_base.specs.declared.draw.Draw.{Draw}
 use Rattle.mail_base.specs.declared.route.Resolved.{Resolved}
@@ -290,14 +289,3 @@ HoldsOf (Err refusal) P = P (Err refusal)
 abbrev pub is_files_fault : {T : Type 0} → Result T ExpandRefusal → Bool
 is_files_fault (Err refusals.FilesFault) = true
 is_files_fault result = false
-
--- a row has an address, and a sender in its angles
-pub record IsDrawn (row : Draw) : Type 0 where
-  pub address_form : IsAddress row.address
-  pub sender_form : IsBracketed row.sender
-
--- rows are one at least, and no more than an entry has
-pub record AreRows (rows : List Draw) : Type 0 where
-  pub some : 1 ≤ length rows
-  pub few : length rows ≤ most_rows
-  pub each : All IsDrawn rows

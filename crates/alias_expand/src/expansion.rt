@@ -1,9 +1,10 @@
 ghost use Rattle.std.specs.Prelude.{◌≡◌, List, Result, IfOk, IfSome, Some};
 ghost use Rattle.mail_base.specs.Texts.{IsAddress, IsBracketed};
 ghost use Rattle.mail_base.specs.declared.draw.Draw.{Draw as TheDraw};
-ghost use Rattle.alias_expand.specs.Asking.{Asks};
+ghost use Rattle.mail_edge.specs.Asking.{Asks};
 ghost use Rattle.alias_expand.specs.declared.refusal.ExpandRefusal.{ExpandRefusal as TheRefusal};
-ghost use Rattle.alias_expand.specs.Rows.{AreRows, Expands, HoldsOf, Starts, is_files_fault, nothing_read, site_of};
+ghost use Rattle.mail_base.specs.Drawing.{AreRows};
+ghost use Rattle.alias_expand.specs.Rows.{Expands, HoldsOf, Starts, is_files_fault, nothing_read, site_of};
 ghost use Rattle.alias_expand.specs.inner.Steps.{ComesTo, Does};
 
 use crate::frame::Opened;

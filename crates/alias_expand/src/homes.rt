@@ -4,8 +4,8 @@ ghost use Rattle.map_tables.specs.Hosts.{before_comment};
 ghost use Rattle.map_tables.specs.Tables.{with_first};
 ghost use Rattle.alias_expand.specs.Homes.{home_by, home_line, home_of, homes_of};
 
-use bstr::ByteSlice;
 use mail_base::{Catalog, NoMemory, Text, split_line, words};
+use map_tables::{before_comment, put_pair};
 use std::alloc::Global;
 use std::marker::Model;
 
@@ -41,7 +41,7 @@ impl Homes {
         let mut rest = text.bytes();
         'lines: while !rest.is_empty() {
             let (line, after) = split_line(rest);
-            put(&mut homes, home_line(alloc, line)?)?;
+            put_pair(&mut homes, home_line(alloc, line)?)?;
             rest = after;
         }
         Ok(Homes { homes })
@@ -63,39 +63,11 @@ fn home_line(alloc: Global, line: &[u8]) -> Result<Option<(Text, Text)>, NoMemor
     home_by(alloc, words.as_slice())
 }
 
-fn before_comment(line: &[u8]) -> &[u8]
-    ensures { result.now ≡ before_comment line.now }
-{
-    match line.find_byte(b'#') {
-        Some(end) => &line[..end],
-        None => line,
-    }
-}
-
 fn home_by(alloc: Global, words: &[&[u8]]) -> Result<Option<(Text, Text)>, NoMemory>
     ensures { IfOk result (λ home. home ≡ home_by (map (λ word. word.now) words.now)) }
 {
     match words {
         [user, path, ..] => Ok(Some((Text::of(alloc, user)?, Text::of(alloc, path)?))),
         _ => Ok(None),
-    }
-}
-
-// Puts in a user with a home, unless the user has one.
-fn put(homes: &mut Catalog<Text>, home: Option<(Text, Text)>) -> Result<(), NoMemory>
-    ensures { OnOk result (homes.new ≡ fold with_first homes.old (option_to_list home)) }
-{
-    match home {
-        Some((user, path)) => put_first(homes, user, path),
-        None => Ok(()),
-    }
-}
-
-fn put_first(homes: &mut Catalog<Text>, user: Text, path: Text) -> Result<(), NoMemory>
-    ensures { OnOk result (homes.new ≡ with_first homes.old (user, path)) }
-{
-    match homes.get(&user) {
-        Some(_) => Ok(()),
-        None => homes.set(user, path),
     }
 }

@@ -1,5 +1,5 @@
 ghost use Rattle.std.specs.Prelude.{◌≡◌, ◌<◌, ◌≤◌, ◌^◌, IfErr, IfOk, IfSome, Some, length};
-ghost use Rattle.alias_expand.specs.Asking.{Asks};
+ghost use Rattle.mail_edge.specs.Asking.{Asks};
 ghost use Rattle.alias_expand.specs.Members.{file_members};
 ghost use Rattle.alias_expand.specs.Rows.{Forwards, HasText, Leads, is_files_fault, under_alias, under_user};
 ghost use Rattle.alias_expand.specs.inner.Steps.{Does, IsDeviceFault};

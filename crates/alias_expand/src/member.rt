@@ -1,6 +1,6 @@
 ghost use Rattle.std.specs.Prelude.{◌≡◌, ◌<◌, ◌^◌, IfOk, false, true};
 ghost use Rattle.mail_base.specs.declared.route.Resolved.{Resolved as TheResolved};
-ghost use Rattle.alias_expand.specs.Asking.{Asks};
+ghost use Rattle.mail_edge.specs.Asking.{Asks};
 ghost use Rattle.alias_expand.specs.Members.{file_members};
 ghost use Rattle.alias_expand.specs.Rows.{Comes, Includes, Meets, RoutesTo, added, is_deep, is_files_fault, is_itself, row_at, with_self};
 ghost use Rattle.alias_expand.specs.Rows as spec;

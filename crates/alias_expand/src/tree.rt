@@ -1,5 +1,5 @@
 ghost use Rattle.std.specs.Prelude.{◌≡◌, [], ◌∷◌, ◌++◌, ◌<◌, ◌≤◌, ◌^◌, Err, Result, IfOk, IfSome, OnOk, IfErr, length, reverse};
-ghost use Rattle.alias_expand.specs.Asking.{Asks};
+ghost use Rattle.mail_edge.specs.Asking.{Asks};
 ghost use Rattle.alias_expand.specs.declared.reading.Reading.{Reading as TheReading};
 ghost use Rattle.alias_expand.specs.declared.refusal.ExpandRefusal.{ExpandRefusal as TheRefusal};
 ghost use Rattle.alias_expand.specs.Rows.{Reads, is_files_fault, most_reads};

@@ -6,7 +6,8 @@
 ghost use Rattle.std.specs.Prelude.{◌<◌, IfOk};
 ghost use Rattle.mail_base.specs.Answering.{Answerer};
 ghost use Rattle.mail_base.specs.Texts.{IsAddress, IsBracketed};
-ghost use Rattle.smtp_receive.specs.Judging.{AreRows, IsDrawn, Question, Said};
+ghost use Rattle.mail_base.specs.Drawing.{AreRows, IsDrawn};
+ghost use Rattle.smtp_receive.specs.Judging.{Question, Said};
 
 use crate::gather::{Part, message};
 use anyhow::{Result, bail, ensure};

@@ -1,8 +1,7 @@
 -- Reading line by line.
-use Rattle.std.proofs.Common.{◌≡◌, ◌∙◌, ℕ, ◌+◌, ◌<◌, false, Bool, List, ◌∷◌, length, drop, get_or, Some, None, Ok, Err, refl, sym, ap, subst, arith}
+use Rattle.std.proofs.Common.{◌≡◌, ◌∙◌, ℕ, ◌+◌, ◌<◌, false, List, ◌∷◌, length, drop, get_or, Some, None, Ok, Err, sym, ap, subst}
 use Rattle.std.specs.Prelude.{Option, Result, IfSome}
 use Rattle.std.proofs.lemmas.List.{drop_more}
-use Rattle.mail_base.specs.Histories.{Rose}
 use Rattle.mail_base.specs.declared.config.Config.{Config}
 use Rattle.mail_edge.specs.Seen.{FileMap, FilesSeen}
 use Rattle.cf_reader.specs.declared.fault.CfFault.{CfFault}
@@ -12,7 +11,8 @@ use Rattle.cf_reader.specs.declared.state.State.{State}
 use Rattle.cf_reader.specs.Configuration.{read_lines, refused_or}
 use Rattle.cf_reader.specs.Faults.{fault}
 use Rattle.cf_reader.specs.Letters.{after_line}
-use Rattle.cf_reader.specs.Reads.{Asks, Gives}
+use Rattle.mail_edge.specs.Asking.{Asks}
+use Rattle.cf_reader.specs.Reads.{Gives}
 use Rattle.cf_reader.specs.inner.Steps.{Goes}
 
 -- ---- told files
@@ -25,22 +25,6 @@ if_all (Some map) h = h map
 if_both : {P Q R : FileMap → Type 0} (files : Option FileMap) → ((map : FileMap) → P map → Q map → R map) → IfSome files P → IfSome files Q → IfSome files R
 if_both None f h k = tt
 if_both (Some map) f h k = f map h k
-
--- ---- asking files twice
-
--- no question to the files changes nothing
-pub asks_none : (files : FilesSeen) → Asks files files false
-asks_none files = record { fixed = refl; later = omega arith; rose = λ f. absurd (cc f); calm = λ f. refl }
-
--- questions one after the other are questions, if only the last one failed
-pub asks_join : (a b c : FilesSeen) (failed : Bool) → Asks a b false → Asks b c failed → Asks a c failed
-asks_join a b c failed ab bc =
-    let same : b.faults ≡ a.faults = ab.calm refl in record {
-      fixed = bc.fixed ∙ ab.fixed;
-      later = omega (arith, ab.later, bc.later);
-      rose = λ f. subst (λ (n : ℕ). Rose n c.faults) same (bc.rose f);
-      calm = λ f. bc.calm f ∙ same;
-    }
 
 -- ---- one line
 

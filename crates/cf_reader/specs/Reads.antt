@@ -1,7 +1,5 @@
 -- What reading gives, what it asks of the files, and the first fault of a table (our own).
 use Rattle.std.specs.Prelude.{◌≡◌, ◌≤◌, Bool, true, false, List, [], ◌∷◌, Option, Some, None, Result, Ok, Err, if◌then◌else◌}
-use Rattle.mail_base.specs.Histories.{Rose}
-use Rattle.mail_edge.specs.Seen.{FilesSeen}
 use Rattle.mail_base.specs.declared.config.Config.{Config}
 use Rattle.cf_reader.specs.declared.fault.CfFault.{CfFault}
 use Rattle.cf_reader.specs.declared.fault.CfFault.TheVariants as whole
@@ -11,14 +9,6 @@ use Rattle.cf_reader.specs.declared.fault.Fault.{Fault}
 abbrev pub first_fault : List (Fault × Bool) → Option Fault
 first_fault [] = None
 first_fault ((fault, holds) ∷ rows) = if holds then Some fault else first_fault rows
-
--- what was asked of the files, and whether they failed: the count of their faults rose exactly
--- then, or stood at its end
-pub record Asks (before after : FilesSeen) (failed : Bool) : Type 0 where
-  pub fixed : after.map ≡ before.map
-  pub later : before.faults ≤ after.faults
-  pub rose : failed ≡ true → Rose before.faults after.faults
-  pub calm : failed ≡ false → after.faults ≡ before.faults
 
 -- the files failed
 abbrev pub is_failed : {V : Type 0} → Result V CfFault → Bool

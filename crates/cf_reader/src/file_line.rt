@@ -3,7 +3,7 @@ ghost use Rattle.std.specs.List.{before_first};
 ghost use Rattle.mail_edge.specs.Seen.{text_of};
 ghost use Rattle.cf_reader.specs.declared.fault.Fault.TheVariants.{NoSuchFile};
 ghost use Rattle.cf_reader.specs.ClassLines as spec;
-ghost use Rattle.cf_reader.specs.Reads.{Asks};
+ghost use Rattle.mail_edge.specs.Asking.{Asks};
 ghost use Rattle.cf_reader.specs.inner.Readings.{Finds, Opens, is_files_fault};
 ghost use Rattle.mail_base.specs.Words.{words_of};
 ghost use Rattle.cf_reader.specs.inner.Steps.{IsRead, class_in};

@@ -7,7 +7,7 @@ ghost use Rattle.cf_reader.specs.MailerLines.{fault_of_mailer};
 ghost use Rattle.cf_reader.specs.MapLines.{fault_of_map};
 ghost use Rattle.cf_reader.specs.OptionLines.{fault_of_option};
 ghost use Rattle.cf_reader.specs.PrecedenceLines.{fault_of_precedence};
-ghost use Rattle.cf_reader.specs.Reads.{Asks};
+ghost use Rattle.mail_edge.specs.Asking.{Asks};
 ghost use Rattle.cf_reader.specs.inner.Readings.{is_files_fault};
 ghost use Rattle.cf_reader.specs.Rules.{fault_of_rule};
 ghost use Rattle.cf_reader.specs.Faults.{had_name};

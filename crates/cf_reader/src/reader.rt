@@ -2,7 +2,8 @@ ghost use Rattle.std.specs.Prelude.{◌≡◌, ◌<◌, ◌^◌, length, IfSome}
 ghost use Rattle.cf_reader.specs.Configuration.{configuration};
 ghost use Rattle.cf_reader.specs.Faults.{fault};
 ghost use Rattle.cf_reader.specs.Letters.{after_line, ignored};
-ghost use Rattle.cf_reader.specs.Reads.{Asks, Gives, is_failed};
+ghost use Rattle.mail_edge.specs.Asking.{Asks};
+ghost use Rattle.cf_reader.specs.Reads.{Gives, is_failed};
 ghost use Rattle.cf_reader.specs.inner.Readings.{is_files_fault};
 ghost use Rattle.cf_reader.specs.inner.Steps as spec;
 ghost use Rattle.cf_reader.specs.inner.Steps.{Goes, Seeks, Steps, fault_at, fault_of_other};

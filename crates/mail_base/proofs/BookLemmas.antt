@@ -11,7 +11,8 @@ use Rattle.mail_base.specs.declared.fault.NoMemory.{NoMemory}
 use Rattle.mail_base.specs.Places.{Held, is_held_for, IsIndexed, Keeps}
 use Rattle.mail_base.specs.Rulesets.{Ruled, is_named, with_name}
 use Rattle.mail_base.specs.inner.Books.{HoldsAll}
-use Rattle.mail_base.proofs.PlaceLemmas.{held_alike, either}
+use Rattle.std.proofs.lemmas.Bool.{or_cases}
+use Rattle.mail_base.proofs.PlaceLemmas.{held_alike}
 
 -- where each ruleset is held for its names, the first of each name is
 pub indexed_first : (sets shown : List Ruled) (held : Held) → shown ≡ sets → HoldsAll sets held → IsIndexed is_named shown held
@@ -71,7 +72,7 @@ renamed sets place d name was now lt keeps held indexed =
     by other at one (inr new) named =
         let joined : is_named other (with_name (get_or sets place d) name) ≡ true = ap (is_named other) (sym new.1) ∙ named in
         let parts = list_any-append (λ given. str_eq_ignore_ascii_case given other) (get_or sets place d).names (name ∷ []) in
-        subst (λ (k : ℕ). is_held_for other k now ≡ true) (sym new.0) (old other (either _ _ (sym parts ∙ joined)))
+        subst (λ (k : ℕ). is_held_for other k now ≡ true) (sym new.0) (old other (or_cases _ _ (sym parts ∙ joined)))
 
 -- what `push_name` leaves, whether it found memory or not
 pub named_set : (r : Result (Unit {0}) NoMemory) (sets : List Ruled) (place : ℕ) (old made : Ruled) (name : List ℕ) (was now : Held) → old ≡ get_or sets place old → place < length sets
@@ -90,7 +91,7 @@ pub held_next : (names : List (List ℕ)) (i place : ℕ) (name : List ℕ) (was
     → ((other : List ℕ) → list_any (λ given. str_eq_ignore_ascii_case given other) (take i names) ≡ true → is_held_for other place was ≡ true)
     → (other : List ℕ) → list_any (λ given. str_eq_ignore_ascii_case given other) (take (i + 1) names) ≡ true → is_held_for other place now ≡ true
 held_next names i place name was now lt is keeps held so other there =
-    by (either _ _ (sym (list_any_more (λ given. str_eq_ignore_ascii_case given other) names i name lt) ∙ there))
+    by (or_cases _ _ (sym (list_any_more (λ given. str_eq_ignore_ascii_case given other) names i name lt) ∙ there))
   where
     by : (list_any (λ given. str_eq_ignore_ascii_case given other) (take i names) ≡ true) ⊎ (str_eq_ignore_ascii_case (get_or names i name) other ≡ true) → is_held_for other place now ≡ true
     by (inl before) = keeps other place (so other before)

@@ -8,12 +8,13 @@ use Rattle.std.proofs.lemmas.List.{get_or_default, take_all}
 use Rattle.std.proofs.lemmas.Bool.{false_from_ne_true, cond-false, ne_eqb}
 use Rattle.bstr.specs.Find.{IsFirstByte, is_byte}
 
-nonempty : (ps : List (List ℕ)) (n : ℕ) → length ps ≡ n + 1 → (first : List ℕ) × (more : List (List ℕ)) × (ps ≡ first ∷ more)
+-- a list of so many items and one more has a first one
+pub nonempty : (ps : List (List ℕ)) (n : ℕ) → length ps ≡ n + 1 → (first : List ℕ) × (more : List (List ℕ)) × (ps ≡ first ∷ more)
 nonempty [] n e = absurd (omega (arith, e))
 nonempty (p ∷ ps) n e = (p, ps, refl)
 
 -- a first part before others is a line without its return
-parts_first : (x : List ℕ) (rest : List ℕ) → lines_of_parts (x ∷ slice_split (is_byte 10) rest) ≡ strip_carriage_return x ∷ lines_of_parts (slice_split (is_byte 10) rest)
+pub parts_first : (x : List ℕ) (rest : List ℕ) → lines_of_parts (x ∷ slice_split (is_byte 10) rest) ≡ strip_carriage_return x ∷ lines_of_parts (slice_split (is_byte 10) rest)
 parts_first x rest =
     let some = nonempty (slice_split (is_byte 10) rest) _ (length-slice_split (is_byte 10) rest) in
     subst (λ (q : List (List ℕ)). lines_of_parts (x ∷ q) ≡ strip_carriage_return x ∷ lines_of_parts q) (sym some.2) refl
@@ -32,7 +33,8 @@ lines_first text k found =
     let split = slice_split_first (is_byte 10) text 0 (omega arith) in
     ap lines_of_parts (split ∙ ap (λ (n : ℕ). take n text ∷ slice_split (is_byte 10) (drop (n + 1) text)) is) ∙ parts_first (take k text) (drop (k + 1) text)
 
-one_part : (text : List ℕ) → 0 < length text → lines_of_parts (text ∷ []) ≡ text ∷ []
+-- one part with bytes is one line
+pub one_part : (text : List ℕ) → 0 < length text → lines_of_parts (text ∷ []) ≡ text ∷ []
 one_part [] some = absurd (omega arith)
 one_part (b ∷ bs) some = cond-false _ [] ((b ∷ bs) ∷ []) (ne_eqb (length (b ∷ bs)) 0 (λ e. absurd (omega (arith, e))))
 

@@ -6,7 +6,7 @@ use Rattle.std.specs.Map.{lookup}
 use Rattle.std.specs.Char.{to_ascii_lowercase}
 use Rattle.std.specs.Str.{str_to_ascii_lowercase, str_eq_ignore_ascii_case}
 use Rattle.std.proofs.lemmas.Slice.Eq.{bytes_eq-Decides}
-use Rattle.std.proofs.lemmas.Bool.{cases_order, eqb-true, eq-eqb, ltb-true, ltb-false}
+use Rattle.std.proofs.lemmas.Bool.{cases_order, or_cases, or_left, or_right, eqb-true, eq-eqb, ltb-true, ltb-false}
 use Rattle.std.proofs.lemmas.List.Folds.{find_at}
 use Rattle.std.proofs.lemmas.List.Sums.{position_or_len_is}
 use Rattle.std.proofs.lemmas.Option.{slice_get-get_or, slice_get_past, slice_get_within}
@@ -60,18 +60,6 @@ module _ {X : Type 0} (test : X → Bool) where
 
 -- ---- the least place that is held
 
-pub either : (a b : Bool) → (a || b) ≡ true → (a ≡ true) ⊎ (b ≡ true)
-either true b h = inl refl
-either false b h = inr h
-
-or_right : (a b : Bool) → b ≡ true → (a || b) ≡ true
-or_right true b h = refl
-or_right false b h = h
-
-or_left : (a b : Bool) → a ≡ true → (a || b) ≡ true
-or_left true b h = refl
-or_left false b h = absurd (true≢false (sym h))
-
 module _ {X : Type 0} (test : X → Bool) (items : List X) (held : ℕ → Bool) where
   abbrev named_at : ℕ → Bool
   named_at place = passes_at test (slice_get items place)
@@ -114,7 +102,7 @@ module _ {X : Type 0} (test : X → Bool) (items : List X) (held : ℕ → Bool)
       record {
         good = rest.good;
         stays = λ other h. rest.stays other (step.stays other h);
-        takes = λ place h n. by place (rest.takes place) (rest.stays place) step.takes (either (nat_eq place p) (list_any (nat_eq place) places) h) n;
+        takes = λ place h n. by place (rest.takes place) (rest.stays place) step.takes (or_cases (nat_eq place p) (list_any (nat_eq place) places) h) n;
       }
     where
       by : (place : ℕ) → (list_any (nat_eq place) places ≡ true → named_at place ≡ true → IsUpTo place (fold (earlier test items) (earlier test items first p) places))
@@ -140,7 +128,7 @@ module _ {X : Type 0} (test : X → Bool) (items : List X) (others : List ℕ) w
   finds (Some q) =
       let step = stepped test items (held_at (Some q)) None q tt (or_left (nat_eq q q) (list_any (nat_eq q) others) (eq-eqb q q refl)) in
       let rest = least test items (held_at (Some q)) others (earlier test items None q) step.good (λ place h. or_right (nat_eq place q) (list_any (nat_eq place) others) h) in
-      record { good = rest.good; takes = λ place h n. by place (rest.takes place) (rest.stays place) step.takes (either (nat_eq place q) (list_any (nat_eq place) others) h) n }
+      record { good = rest.good; takes = λ place h n. by place (rest.takes place) (rest.stays place) step.takes (or_cases (nat_eq place q) (list_any (nat_eq place) others) h) n }
     where
       by : (place : ℕ) → (list_any (nat_eq place) others ≡ true → named_at test items (held_at (Some q)) place ≡ true → IsUpTo test items (held_at (Some q)) place (fold (earlier test items) (earlier test items None q) others))
           → (IsUpTo test items (held_at (Some q)) place (earlier test items None q) → IsUpTo test items (held_at (Some q)) place (fold (earlier test items) (earlier test items None q) others)) → (named_at test items (held_at (Some q)) q ≡ true → IsUpTo test items (held_at (Some q)) q (earlier test items None q))

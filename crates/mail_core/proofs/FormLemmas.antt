@@ -8,7 +8,7 @@ use Rattle.qf_format.specs.Valid.{IsValid, IsRow}
 use Rattle.mail_base.specs.declared.draw.Draw.{Draw}
 use Rattle.mail_base.specs.declared.message.Message.{Message}
 use Rattle.mail_base.specs.Texts.{IsHeader}
-use Rattle.smtp_receive.specs.Judging.{IsDrawn}
+use Rattle.mail_base.specs.Drawing.{IsDrawn}
 use Rattle.smtp_receive.specs.Forms.{IsFormed}
 use Rattle.queue_table.specs.Calls.{AreValid}
 use Rattle.queue_table.specs.Commands.{new_control, new_row}

@@ -1,3 +1,4 @@
+pub mod AskLemmas
 pub mod Causing
 mod Examples
 mod Finding

@@ -1,3 +1,4 @@
+pub mod Asking
 pub mod Moves
 pub mod Readings
 pub mod Seen

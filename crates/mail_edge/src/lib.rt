@@ -4,6 +4,7 @@
 
 mod clock;
 mod files;
+mod law;
 mod mem_clock;
 mod mem_files;
 mod mem_sink;
@@ -13,6 +14,7 @@ mod source;
 
 pub use clock::Clock;
 pub use files::{Files, LARGEST_FILE};
+pub use law::files_are_asked_in_turn;
 pub use mem_clock::MemClock;
 pub use mem_files::{MemFiles, SureFiles};
 pub use mem_sink::MemSink;

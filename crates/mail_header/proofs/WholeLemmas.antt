@@ -1,9 +1,8 @@
 -- A whole text, line by line.
 use Rattle.std.proofs.Common.{◌≡◌, ℕ, zero, suc, ◌+◌, ◌-◌, ◌<◌, ◌≤◌, ◌==◌, ◌||◌, ◌&&◌, Bool, true, false, not, List, [], ◌∷◌, ◌++◌, length, take, drop, get_or, slice_index, nat_lt, Some, None, refl, sym, ap, subst, ◌∙◌, arith, ⊎_elim}
-use Rattle.std.specs.List.{list_any, list_all, position_or_len}
-use Rattle.std.proofs.lemmas.Bool.{cond-true, cond-false, cases_Bool, and_parts, or_parts, or_from, or_cases, not_from_true, not_from_false, eqb-true, eqb-false, not-true, lt-ltb, false≢true, false_from_ne_true}
+use Rattle.std.specs.List.{list_all}
+use Rattle.std.proofs.lemmas.Bool.{cond-true, cond-false, cases_Bool, and_parts, or_parts, or_from, or_cases, not-true, lt-ltb, false≢true, false_from_ne_true}
 use Rattle.std.proofs.lemmas.List.{append_assoc, append-nil, length-append, length-take, length-drop, take_more, get_or_at}
-use Rattle.std.proofs.lemmas.List.Sums.{split_at_first, prefix_len_is}
 use Rattle.bstr.specs.Find.{IsFirstByte, is_byte}
 use Rattle.mail_base.specs.Texts.{crlf, is_lf, has_lf}
 use Rattle.mail_base.proofs.FeedLemmas.{tails, first_lf, no_lf, cut_lf}

@@ -1,6 +1,6 @@
 -- What a message's headers say (RFC 5322, sections 2.2, 3.6.1 and 3.6.7; RFC 5321, section 6.3;
 -- Sendmail Installation and Operation Guide, "P: Precedence Definitions").
-use Rattle.std.specs.Prelude.{◌≡◌, ℕ, ℤ, pos, ◌-◌, slice_index, ◌==◌, Bool, List, [], ◌∷◌, length, take, drop, Option, Some, None, option_map, option_and_then, unwrap_or, find, count_by, if◌then◌else◌, codes, refl}
+use Rattle.std.specs.Prelude.{◌≡◌, ℕ, ℤ, pos, ◌-◌, slice_index, ◌==◌, Bool, List, [], ◌∷◌, length, take, Option, Some, None, option_map, option_and_then, unwrap_or, find, count_by, if◌then◌else◌, codes, refl}
 use Rattle.std.specs.List.{before_first, after_first}
 use Rattle.std.specs.Str.{str_eq_ignore_ascii_case}
 use Rattle.mail_base.specs.Texts.{trimmed}

@@ -6,7 +6,7 @@ use Rattle.mail_base.specs.Limits.{most_rows}
 use Rattle.mail_base.specs.Texts.{IsAddress, IsBracketed}
 use Rattle.mail_base.specs.declared.draw.Draw.{Draw}
 use Rattle.mail_base.specs.declared.route.Triple.{Triple}
-use Rattle.smtp_receive.specs.Judging.{AreRows, IsDrawn}
+use Rattle.mail_base.specs.Drawing.{AreRows, IsDrawn}
 use Rattle.mail_judge.specs.Judged.{row_to}
 
 -- what begins with an angle isn't empty

@@ -1,7 +1,7 @@
 -- What the rules of a configuration say of the paths of sessions (cf/README, the sets check_mail
 -- and check_rcpt; Sendmail Installation and Operation Guide, R and S: rewriting rules; D: define
 -- macro, for r, s, f and {client_addr}; that a recipient is one row, which is itself, is own).
-use Rattle.std.specs.Prelude.{ℕ, List, [], ◌∷◌, Option, None, Some, true, codes}
+use Rattle.std.specs.Prelude.{ℕ, List, [], ◌∷◌, None, Some, true, codes}
 use Rattle.mail_base.specs.Answering.{Answerer}
 use Rattle.mail_base.specs.declared.config.Config.{Config}
 use Rattle.mail_base.specs.declared.draw.Draw.{Draw}
@@ -16,7 +16,7 @@ use Rattle.addr_route.specs.Routes.{Routes}
 use Rattle.smtp_receive.specs.declared.judge.Verdict.{Verdict}
 use Rattle.smtp_receive.specs.declared.judge.Verdict.TheVariants.{Rows, No}
 use Rattle.smtp_receive.specs.SessionMacros.{session_macros}
-use Rattle.smtp_receive.specs.Judging.{Question, AsksSender, AsksRecipient, Said, Unasked, OfSender, OfRecipient}
+use Rattle.smtp_receive.specs.Judging.{Question, AsksSender, AsksRecipient, Said, OfSender, OfRecipient}
 
 -- what a judgement stands on: a configuration, and its maps
 pub record Grounds : Type 0 where

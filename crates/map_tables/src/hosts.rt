@@ -61,7 +61,8 @@ fn host_line(alloc: Global, line: &[u8]) -> Result<Option<HostLine>, NoMemory>
     host_of(alloc, words.as_slice())
 }
 
-fn before_comment(line: &[u8]) -> &[u8]
+/// The text of a line before its comment, which `#` begins.
+pub fn before_comment(line: &[u8]) -> &[u8]
     ensures { result.now ≡ before_comment line.now }
 {
     match line.find_byte(b'#') {

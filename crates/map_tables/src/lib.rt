@@ -21,8 +21,8 @@ mod texts;
 
 pub use files::{MapFile, wanted};
 pub use found::{Found, MapFault};
-pub use hosts::HostLine;
+pub use hosts::{HostLine, before_comment};
 pub use law::{each_lookup_is_told, sequence_hands_on};
 pub use maps::{Maps, macro_name};
 pub use named::Named;
-pub use table::{Table, first_line_counts};
+pub use table::{Table, first_line_counts, put_pair};

@@ -67,14 +67,15 @@ fn pairs_of(alloc: Global, map: &MapLine, text: &[u8]) -> Result<Catalog<Text>, 
     let mut rest = text;
     'lines: while !rest.is_empty() {
         let (line, after) = split_line(rest);
-        put(&mut pairs, line_pair(alloc, map, line)?)?;
+        put_pair(&mut pairs, line_pair(alloc, map, line)?)?;
         rest = after;
     }
     Ok(pairs)
 }
 
-// Puts in what a line says, unless its key is there.
-fn put(pairs: &mut Catalog<Text>, pair: Option<(Text, Text)>) -> Result<(), NoMemory>
+/// Puts in the pair that a line says, if it says one, unless its key is there: the first line of a
+/// key counts.
+pub fn put_pair(pairs: &mut Catalog<Text>, pair: Option<(Text, Text)>) -> Result<(), NoMemory>
     ensures { OnOk result (pairs.new ≡ fold with_first pairs.old (option_to_list pair)) }
 {
     match pair {

@@ -1,5 +1,5 @@
 -- No text of a valid control is longer than its room.
-use Rattle.std.proofs.Common.{◌≡◌, ℕ, suc, ◌+◌, ◌^◌, ◌<◌, ◌≤◌, Bool, true, false, List, [], ◌∷◌, ◌++◌, length, Option, Some, None, sum_by, refl, arith, length-append, ℤ, pos, negsuc, zero, ◌/◌, rules}
+use Rattle.std.proofs.Common.{◌≡◌, ℕ, suc, ◌+◌, ◌^◌, ◌<◌, ◌≤◌, Bool, true, false, List, [], ◌∷◌, ◌++◌, length, Option, Some, None, sum_by, arith, length-append, ℤ, pos, negsuc, ◌/◌, rules}
 use Rattle.std.specs.Prelude.{All, IfSome, codes, FitsSigned}
 use Rattle.std.specs.Int.{w64, w128}
 use Rattle.std.specs.List.{flat_map}
@@ -8,7 +8,8 @@ use Rattle.std.proofs.lemmas.Fmt.{length-decimal-le, length-decimal-le_wide}
 use Rattle.std.proofs.lemmas.List.Elements.{All-head, All-tail}
 use Rattle.std.proofs.lemmas.List.Sums.{sum_by-cons}
 use Rattle.std.proofs.lemmas.Int.{ints}
-use Rattle.mail_base.specs.Names.{digits, id_text}
+use Rattle.mail_base.proofs.Digits.{length-digits}
+use Rattle.mail_base.specs.Names.{id_text}
 use Rattle.mail_base.specs.Notes.{is_status}
 use Rattle.mail_base.specs.declared.control.Control.{Control}
 use Rattle.mail_base.specs.declared.control.Parent.{Parent}
@@ -32,16 +33,11 @@ class_len : (z : ℤ) → FitsSigned w64 z → length (signed_decimal z) ≤ 20
 class_len (pos n) h = let l = length-decimal-le 20 n (omega arith) (omega (arith, ints)) (omega (arith, ints)) in omega arith
 class_len (negsuc n) h = let l = length-decimal-le 19 (suc n) (omega arith) (omega (arith, ints)) (omega (arith, ints)) in omega arith
 
-digits_len : (k n : ℕ) → length (digits k n) ≡ k
-unfolding digits
-digits_len zero n = refl
-digits_len (suc k) n = simp length-append (omega (arith, digits_len k (n / 10)))
-
 line_len : (x : List ℕ) → length (line x) ≡ length x + 1
 line_len x = length-append x (10 ∷ [])
 
 id_len : (n : ℕ) → length (id_text n) ≡ 13
-id_len n = omega (arith, digits_len 12 n)
+id_len n = omega (arith, length-digits 12 n)
 
 parent_len : (p : Option Parent) → IfSome p IsParent → length (parent_line p) ≤ 36
 parent_len None h = omega arith

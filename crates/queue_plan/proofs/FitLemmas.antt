@@ -10,7 +10,8 @@ use Rattle.mail_base.specs.declared.config.Config.{Config}
 use Rattle.mail_base.specs.declared.draw.Draw.{Draw}
 use Rattle.mail_base.specs.declared.message.Cut.{Cut}
 use Rattle.queue_plan.specs.declared.heading.Heading.{Heading}
-use Rattle.queue_plan.specs.Parts.{IsPart, IsRow, Placed, cut_of, heading_of, headings, limit_of, parts_of, parts_under, portion_size, portions_within, rows_of, same_heading, within_limit}
+use Rattle.mail_base.specs.Drawing.{IsDrawn}
+use Rattle.queue_plan.specs.Parts.{IsPart, Placed, cut_of, heading_of, headings, limit_of, parts_of, parts_under, portion_size, portions_within, rows_of, same_heading, within_limit}
 use Rattle.queue_plan.specs.Rows.{firsts}
 use Rattle.queue_plan.proofs.BucketLemmas.{headings_equiv}
 
@@ -54,16 +55,16 @@ first_part config (row ∷ rows) (group ∷ groups) same some =
 -- ---- each part
 
 abbrev IsPlaced : Placed → Type 0
-IsPlaced p = IsRow p.0 × IsLine p.1
+IsPlaced p = IsDrawn p.0 × IsLine p.1
 
 abbrev IsHead : Heading → Type 0
 IsHead heading = IsBracketed heading.sender × IsLine heading.group
 
-all_placed : (rows : List Draw) (groups : List (List ℕ)) → All IsRow rows → All IsLine groups → All IsPlaced (zip rows groups)
+all_placed : (rows : List Draw) (groups : List (List ℕ)) → All IsDrawn rows → All IsLine groups → All IsPlaced (zip rows groups)
 all_placed [] groups rs gs = All-nil IsPlaced
 all_placed (row ∷ rows) [] rs gs = All-nil IsPlaced
 all_placed (row ∷ rows) (group ∷ groups) rs gs =
-    All-cons IsPlaced (row, group) (zip rows groups) (All-head IsRow row rows rs, All-head IsLine group groups gs) (all_placed rows groups (All-tail IsRow row rows rs) (All-tail IsLine group groups gs))
+    All-cons IsPlaced (row, group) (zip rows groups) (All-head IsDrawn row rows rs, All-head IsLine group groups gs) (all_placed rows groups (All-tail IsDrawn row rows rs) (All-tail IsLine group groups gs))
 
 all_firsts : {X : Type 0} (same : X → X → Bool) (P : X → Type 0) (xs : List X) → All P xs → All P (firsts same xs)
 all_firsts same P [] all = All-nil P
@@ -87,16 +88,16 @@ fewer heading (p ∷ placed) = by (same_heading heading (heading_of p)) (fewer h
 record IsPortion (most : ℕ) (rows : List Draw) : Type 0 where
   some : 0 < length rows
   few : length rows ≤ most
-  each : All IsRow rows
+  each : All IsDrawn rows
 
-each_portion : (most n size : ℕ) (rows : List Draw) → 0 < size → length rows ≤ most → All IsRow rows → All (IsPortion most) (portions_within n size rows)
+each_portion : (most n size : ℕ) (rows : List Draw) → 0 < size → length rows ≤ most → All IsDrawn rows → All (IsPortion most) (portions_within n size rows)
 each_portion most zero size rows some few each = All-nil (IsPortion most)
 each_portion most (suc n) size [] some few each = All-nil (IsPortion most)
 each_portion most (suc n) size (row ∷ rows) some few each =
     let front = length-take size (row ∷ rows) in
     let back = length-drop size (row ∷ rows) in
-    let one : IsPortion most (take size (row ∷ rows)) = record { some = omega (arith, front, some); few = omega (arith, front, few); each = All-take IsRow size (row ∷ rows) each } in
-    All-cons (IsPortion most) (take size (row ∷ rows)) (portions_within n size (drop size (row ∷ rows))) one (each_portion most n size (drop size (row ∷ rows)) some (omega (arith, back, few)) (All-drop IsRow size (row ∷ rows) each))
+    let one : IsPortion most (take size (row ∷ rows)) = record { some = omega (arith, front, some); few = omega (arith, front, few); each = All-take IsDrawn size (row ∷ rows) each } in
+    All-cons (IsPortion most) (take size (row ∷ rows)) (portions_within n size (drop size (row ∷ rows))) one (each_portion most n size (drop size (row ∷ rows)) some (omega (arith, back, few)) (All-drop IsDrawn size (row ∷ rows) each))
 
 -- a portion has an item
 pub some_size : (limit count : ℕ) → 0 < portion_size limit count
@@ -108,7 +109,7 @@ each_under config placed heading few all head =
     let rows = rows_of heading placed in
     let limit = limit_of (value_at heading.group config.groups) in
     let short = fewer heading placed in
-    let own : All IsRow rows = All-map IsRow (λ (p : Placed). p.0) (filter (λ (p : Placed). same_heading heading (heading_of p)) placed) (All-weaker IsPlaced (λ (p : Placed). IsRow p.0) (λ p h. h.0) (filter (λ (p : Placed). same_heading heading (heading_of p)) placed) (All-filter (λ (p : Placed). same_heading heading (heading_of p)) IsPlaced placed all)) in
+    let own : All IsDrawn rows = All-map IsDrawn (λ (p : Placed). p.0) (filter (λ (p : Placed). same_heading heading (heading_of p)) placed) (All-weaker IsPlaced (λ (p : Placed). IsDrawn p.0) (λ p h. h.0) (filter (λ (p : Placed). same_heading heading (heading_of p)) placed) (All-filter (λ (p : Placed). same_heading heading (heading_of p)) IsPlaced placed all)) in
     All-map IsPart (cut_of heading) (within_limit limit rows) (All-weaker (IsPortion most_rows) (λ (rs : List Draw). IsPart (cut_of heading rs)) (λ rs h. record { sender = head.0; group = head.1; some = h.some; few = h.few; each = h.each }) (within_limit limit rows) (each_portion most_rows (length rows) (portion_size limit (length rows)) rows (some_size limit (length rows)) (omega (arith, short, few)) own))
 
 each_over : (f : Heading → List Cut) (hs : List Heading) → All (λ h. All IsPart (f h)) hs → All IsPart (flat_map f hs)
@@ -117,7 +118,7 @@ each_over f (h ∷ hs) all =
     All-append IsPart (f h) (flat_map f hs) (All-head (λ (x : Heading). All IsPart (f x)) h hs all) (each_over f hs (All-tail (λ (x : Heading). All IsPart (f x)) h hs all))
 
 -- each part may become an entry
-pub each_part : (config : Config) (rows : List Draw) (groups : List (List ℕ)) → length rows ≤ most_rows → All IsRow rows → All IsLine groups → All IsPart (parts_of config rows groups)
+pub each_part : (config : Config) (rows : List Draw) (groups : List (List ℕ)) → length rows ≤ most_rows → All IsDrawn rows → All IsLine groups → All IsPart (parts_of config rows groups)
 each_part config rows groups few rs gs =
     let placed : List Placed = zip rows groups in
     let all = all_placed rows groups rs gs in

@@ -18,7 +18,7 @@ use Rattle.ruleset_run.specs.declared.fault.RunFault.TheVariants as faults
 use Rattle.ruleset_run.specs.declared.runner.Ran.{Ran}
 use Rattle.ruleset_run.specs.Runs.{Done, Gives, GivesFault, Outcome, RunsSet}
 use Rattle.ruleset_run.specs.Sites.{Macros, Site, site_of}
-use Rattle.queue_plan.specs.Groups.{Answers, no_tokens, run_fails, answers, Says, unasked, asked, Groups, grouped, IsGroupName, cut, group_by, is_group, main_group, name_said, own_group, set_name}
+use Rattle.queue_plan.specs.Groups.{Answers, no_tokens, run_fails, answers, Says, unasked, asked, Groups, grouped, IsGroupName, cut, group_by, is_group, main_group_name, name_said, own_group, set_name}
 use Rattle.queue_plan.specs.inner.Answering.{Runs, fails, ends}
 
 -- what is said of a result's value may be said more weakly
@@ -29,11 +29,11 @@ ok_so P Q go (Err e) h = tt
 -- ---- the name of a group
 
 -- the first of some names is mqueue or that of a group
-first_name : (config : Config) (names : List (List ℕ)) → IsGroupName config (unwrap_or (find (is_group config) names) main_group)
+first_name : (config : Config) (names : List (List ℕ)) → IsGroupName config (unwrap_or (find (is_group config) names) main_group_name)
 first_name config [] = inl refl
 first_name config (name ∷ names) = by (is_group config name) refl (first_name config names)
   where
-    by : (c : Bool) → is_group config name ≡ c → IsGroupName config (unwrap_or (find (is_group config) names) main_group) → IsGroupName config (unwrap_or (cond c (Some name) (find (is_group config) names)) main_group)
+    by : (c : Bool) → is_group config name ≡ c → IsGroupName config (unwrap_or (find (is_group config) names) main_group_name) → IsGroupName config (unwrap_or (cond c (Some name) (find (is_group config) names)) main_group_name)
     by true e rest = inr e
     by false e rest = rest
 

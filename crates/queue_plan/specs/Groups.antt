@@ -56,8 +56,8 @@ pub data Says (site : Site) (macros : Macros) (address : List ℕ) : Option (Lis
 -- ---- the group
 
 -- the name of the group that is there from the start
-abbrev pub main_group : List ℕ
-main_group = codes "mqueue"
+abbrev pub main_group_name : List ℕ
+main_group_name = codes "mqueue"
 
 abbrev pub is_group : Config → List ℕ → Bool
 is_group config name = is_some (value_at name config.groups)
@@ -69,7 +69,8 @@ own_group (Some mailer) = mailer.group
 
 -- the first of these names that is a group's, or else mqueue
 abbrev pub group_by : Config → Option (List ℕ) → Option (List ℕ) → List ℕ
-group_by config said own = unwrap_or (find (is_group config) (option_to_list said ++ option_to_list own)) main_group
+group_by config said own =
+    unwrap_or (find (is_group config) (option_to_list said ++ option_to_list own)) main_group_name
 
 -- the group of a row: by what the set says of its address, and else by its mailer
 pub data Groups (config : Config) (maps : Loaded) (macros : Macros) (address mailer : List ℕ)
@@ -85,7 +86,7 @@ mailer_of (Refuses error) = []
 
 -- a name that entries may have: mqueue, or that of a group
 abbrev pub IsGroupName : Config → List ℕ → Type 0
-IsGroupName config name = (name ≡ main_group) ⊎ (is_group config name ≡ true)
+IsGroupName config name = (name ≡ main_group_name) ⊎ (is_group config name ≡ true)
 
 -- a name of three tokens; a configuration with the group mqueue alone
 example : (name_said (Sign mark.Mailer ∷ Word (codes "far") ∷ Op 46 ∷ Word (codes "net") ∷ [])

@@ -5,7 +5,7 @@ use Rattle.std.specs.List.{flat_map, zip}
 use Rattle.mail_base.specs.Catalogs.{value_at}
 use Rattle.mail_base.specs.Configs.{initial, main_group}
 use Rattle.mail_base.specs.Limits.{most_rows}
-use Rattle.mail_base.specs.Texts.{IsAddress, IsBracketed, IsLine}
+use Rattle.mail_base.specs.Texts.{IsBracketed, IsLine}
 use Rattle.mail_base.specs.declared.config.Config.{Config}
 use Rattle.mail_base.specs.declared.draw.Draw.{Draw}
 use Rattle.mail_base.specs.declared.mailer.Group.{Group}
@@ -113,18 +113,13 @@ is_under heading cut =
 
 -- ---- what a part may be
 
--- a row that may stand in an entry
-pub record IsRow (row : Draw) : Type 0 where
-  pub sender : IsBracketed row.sender
-  pub address : IsAddress row.address
-
 -- a part that may become an entry
 pub record IsPart (cut : Cut) : Type 0 where
   pub sender : IsBracketed cut.sender
   pub group : IsLine cut.group
   pub some : 0 < length cut.rows
   pub few : length cut.rows ≤ most_rows
-  pub each : All IsRow cut.rows
+  pub each : All IsDrawn cut.rows
 
 -- so many rows are within a limit; 0 is none
 abbrev pub IsWithin : ℕ → ℕ → Type 0

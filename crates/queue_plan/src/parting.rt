@@ -3,7 +3,8 @@ ghost use Rattle.std.specs.Option.{option_copied};
 ghost use Rattle.mail_base.specs.Catalogs.{value_at};
 ghost use Rattle.mail_base.specs.Limits.{most_rows};
 ghost use Rattle.mail_base.specs.Texts.{IsLine};
-ghost use Rattle.queue_plan.specs.Parts.{IsPart, IsRow, heading_of, limit_of, parts_of};
+ghost use Rattle.mail_base.specs.Drawing.{IsDrawn};
+ghost use Rattle.queue_plan.specs.Parts.{IsPart, heading_of, limit_of, parts_of};
 ghost use Rattle.queue_plan.specs.Parts as spec;
 ghost use Rattle.queue_plan.specs.inner.Buckets.{part_at, parts_in};
 
@@ -28,7 +29,7 @@ pub fn parts(
     requires placed { length groups.now ≡ length rows.now }
     ensures is { IfOk result (λ cuts. cuts ≡ parts_of config.now rows.now groups.now) }
     ensures some { 0 < length rows.now → IfOk result (λ cuts. 0 < length cuts) }
-    ensures each { length rows.now ≤ most_rows → All IsRow rows.now → All IsLine groups.now
+    ensures each { length rows.now ≤ most_rows → All IsDrawn rows.now → All IsLine groups.now
         → IfOk result (All IsPart) }
 {
     parted(alloc, rows, groups, config)

@@ -1,5 +1,5 @@
 -- What a call does of what it commits, and what one that fails before leaves.
-use Rattle.std.proofs.Common.{◌≡◌, ◌⊎◌, inl, inr, ⊎_elim, ℕ, ◌≤◌, List, Option, Some, None, Result, Ok, Err, Bool, true, false, refl, sym, ◌∙◌, ap, subst}
+use Rattle.std.proofs.Common.{◌≡◌, ◌⊎◌, inl, inr, ⊎_elim, ℕ, ◌≤◌, List, Option, Some, None, Result, Ok, Err, true, refl, sym, ◌∙◌, ap, subst}
 use Rattle.std.specs.Prelude.{IfSome, IsErrOf, OnOk, OnErr}
 use Rattle.std.proofs.Math.Nat.{le_refl}
 use Rattle.std.proofs.lemmas.Result.{on_ok_weaker}
@@ -11,17 +11,17 @@ use Rattle.mail_base.specs.declared.message.Cut.{Cut}
 use Rattle.mail_base.specs.declared.message.Message.{Message}
 use Rattle.spool_disk.specs.Disk.{FileMap, bytes_at}
 use Rattle.spool_disk.specs.Spooled.{Spooled}
-use Rattle.spool_store.specs.Entries.{Stored, Table}
+use Rattle.spool_store.specs.Entries.{Table}
 use Rattle.spool_store.specs.Moves.{Becomes, Ends, Moves}
-use Rattle.spool_store.specs.Parcels.{IsBelowLast, IsParcel, IsParcelUnder, IsReady, IsReadyUnder, with_children, with_commit}
+use Rattle.spool_store.specs.Parcels.{IsBelowLast, IsParcel, IsReady, IsReadyUnder, with_children, with_commit}
 use Rattle.spool_store.specs.Parts.{IsEitherTable}
 use Rattle.spool_store.specs.Settled.{IsSettled, StandsFor}
-use Rattle.spool_store.specs.Stores.{Agrees, Holds, KeepsOthers, StoreSeen}
+use Rattle.spool_store.specs.Stores.{Holds, KeepsOthers, StoreSeen}
 use Rattle.spool_store.specs.Writes.{after_commit}
 use Rattle.spool_store.specs.declared.held.Held.{Held}
 use Rattle.spool_store.specs.declared.parcel.Parcel.{Parcel}
 use Rattle.spool_store.proofs.MovesLemmas.{moves_none, told_after}
-use Rattle.queue_table.specs.Calls.{CarriesOut, HoldsTable, IsAccepting, IsPlanned, IsSame, LeadsTo, MayStop, Stays, broken_one, store}
+use Rattle.queue_table.specs.Calls.{CarriesOut, HoldsTable, IsAccepting, IsPlanned, IsSame, LeadsTo, MayStop, broken_one, store}
 use Rattle.queue_table.specs.Commands.{Command, accepted, after, draft_of, drafts_of}
 use Rattle.queue_table.specs.Commands.Command.{Accept, Record, Return, Warn}
 use Rattle.queue_table.specs.declared.accepting.Accepting.{Accepting}

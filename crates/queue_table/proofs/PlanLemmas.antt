@@ -1,10 +1,10 @@
 -- What is made ready before a call writes.
-use Rattle.std.proofs.Common.{◌≡◌, ◌≢◌, ◌⊎◌, inl, inr, ⊎_elim, ℕ, ◌+◌, ◌-◌, ◌<◌, ◌≤◌, ◌^◌, List, [], ◌∷◌, ◌++◌, map, length, Option, Some, None, Result, Ok, Err, Bool, true, false, refl, sym, ◌∙◌, ap, subst, arith, Contains}
-use Rattle.std.specs.Prelude.{◌↔◌, All, IfOk, IfSome, IsSome, IsTrue, sum_by}
+use Rattle.std.proofs.Common.{◌≡◌, ◌≢◌, ◌⊎◌, ⊎_elim, ℕ, ◌+◌, ◌-◌, ◌<◌, ◌≤◌, ◌^◌, List, [], ◌∷◌, ◌++◌, map, length, Option, Some, None, Result, Ok, Err, Bool, true, false, refl, sym, ◌∙◌, ap, subst, arith, Contains}
+use Rattle.std.specs.Prelude.{◌↔◌, All, IfOk, IfSome, IsSome, IsTrue}
 use Rattle.std.proofs.lemmas.Bool.{cases_lt}
 use Rattle.std.specs.List.Sorted.{IsStrictlySortedBy}
 use Rattle.std.specs.Ordering.{nat_cmp}
-use Rattle.std.proofs.lemmas.List.{append-nil, length-map, length-append}
+use Rattle.std.proofs.lemmas.List.{append-nil, length-map}
 use Rattle.std.proofs.lemmas.List.Elements.{All-head, All-tail, All-nil, All-cons}
 use Rattle.mail_base.specs.Limits.{IsId, most_rows}
 use Rattle.mail_base.specs.declared.control.Control.{Control}
@@ -21,22 +21,22 @@ use Rattle.mail_base.specs.declared.message.Message.{Message}
 use Rattle.qf_format.specs.Valid.{IsRevision, IsRow, IsState, IsValid}
 use Rattle.spool_store.specs.Entries.{Stored, Table, with_control}
 use Rattle.spool_store.specs.Keepers.{raised}
-use Rattle.spool_store.specs.Parcels.{CanPrepare, CanPrepareUnder, IsBelowLast, IsParcel, IsParcelUnder}
+use Rattle.spool_store.specs.Parcels.{CanPrepare, CanPrepareUnder, IsParcel, IsParcelUnder}
 use Rattle.spool_store.specs.Queue.{IsOpen}
 use Rattle.spool_store.specs.Stores.{HasId, StoreSeen}
 use Rattle.spool_store.specs.Writes.{IsDraftable, after_commit, heir, numbered}
 use Rattle.spool_store.specs.declared.held.Held.{Held}
 use Rattle.spool_store.specs.declared.parcel.Parcel.{Parcel}
-use Rattle.queue_table.specs.Calls.{AreBacksValid, AreDirs, AreValid, HoldsTable, IsAccepting, IsAsked, IsFit, IsSame, MayStop, store}
-use Rattle.queue_table.specs.Commands.{Command, after, control_at, draft_of, drafts_of, with_children, with_entry}
+use Rattle.queue_table.specs.Calls.{AreBacksValid, AreDirs, AreValid, HoldsTable, IsAccepting, IsAsked, IsFit, IsSame, store}
+use Rattle.queue_table.specs.Commands.{Command, control_at, draft_of, drafts_of, with_children, with_entry}
 use Rattle.queue_table.specs.Commands.Command.{Return, Warn}
 use Rattle.queue_table.specs.Results.{given_back, with_returns, with_warning}
-use Rattle.queue_table.specs.Soundness.{AreBounces, AreCuts, HasEntry, IsBack}
+use Rattle.queue_table.specs.Soundness.{AreBounces, HasEntry, IsBack}
 use Rattle.queue_table.specs.declared.accepting.Accepting.{Accepting}
 use Rattle.queue_table.specs.declared.table.Table.{Table as Kept}
 use Rattle.queue_table.specs.declared.terms.Terms.{Terms}
 use Rattle.queue_table.specs.inner.Planning.{AreDrafts, IsOpenAt, Makes, control_by, given_by, next_draft, row_by}
-use Rattle.queue_table.proofs.HoldingLemmas.{held_found, held_in, holds_same}
+use Rattle.queue_table.proofs.HoldingLemmas.{held_found, held_in}
 
 -- drafts of valid parts can be committed
 pub all_draftable : (dirs : List (List ℕ)) (terms : Terms) (message : Message) (moment : ℕ) (cuts : List Cut) → AreDirs terms dirs → AreValid terms message moment cuts → All (IsDraftable dirs) (drafts_of terms message moment cuts)

@@ -1,15 +1,16 @@
 -- Lines of input that are ended, the rest behind them, and the text that answers them.
 use Rattle.std.proofs.Common.{◌≡◌, ℕ, suc, ◌+◌, ◌<◌, List, [], ◌∷◌, ◌++◌, length, take, drop, get_or, Bool, true, false, ◌||◌, Some, None, refl, sym, ◌∙◌, ap, subst, arith, append_assoc, append-nil, add-one, length-append}
 use Rattle.std.specs.Prelude.{MatchBool}
-use Rattle.std.specs.List.{slice_split, list_any, flat_map, All}
+use Rattle.std.specs.List.{list_any, flat_map, All}
 use Rattle.std.specs.Str.Lines.{lines_of_parts, strip_carriage_return}
-use Rattle.std.proofs.lemmas.List.Splits.{slice_split_at, slice_split_none, length-slice_split}
+use Rattle.std.proofs.lemmas.List.Splits.{slice_split_at, slice_split_none}
 use Rattle.std.proofs.lemmas.List.Folds.{list_any-append, list_any_at, list_any_none}
 use Rattle.std.proofs.lemmas.List.{map-append, get_or-take, get_or_default, length-take}
 use Rattle.std.proofs.lemmas.Grind.{flat_map-append}
-use Rattle.std.proofs.lemmas.Bool.{false_from_ne_true, cond-true, cond-false, ne_eqb, eqb-true, or_from, or_left, or_parts, or_right}
+use Rattle.std.proofs.lemmas.Bool.{false_from_ne_true, cond-true, cond-false, eqb-true, or_from, or_left, or_parts, or_right}
 use Rattle.std.proofs.Math.Seq.{split_at}
 use Rattle.memchr.specs.Find.{IsFirstByte, is_byte}
+use Rattle.mail_base.proofs.LineLemmas.{one_part, parts_first}
 use Rattle.sendmail_run.specs.declared.input.Partial.{Partial}
 use Rattle.cf_reader.specs.LogicalLines.{physical_lines}
 use Rattle.addr_test.specs.declared.answers.Reply.{Reply}
@@ -46,15 +47,6 @@ none_joined p xs ys h k = list_any-append p xs ys ∙ or_from (list_any p xs) (l
 
 -- ---- physical lines
 
-nonempty : (ps : List (List ℕ)) (n : ℕ) → length ps ≡ n + 1 → (first : List ℕ) × (more : List (List ℕ)) × (ps ≡ first ∷ more)
-nonempty [] n e = absurd (omega (arith, e))
-nonempty (p ∷ ps) n e = (p, ps, refl)
-
-parts_first : (x rest : List ℕ) → lines_of_parts (x ∷ slice_split (is_byte 10) rest) ≡ strip_carriage_return x ∷ lines_of_parts (slice_split (is_byte 10) rest)
-parts_first x rest =
-    let some = nonempty (slice_split (is_byte 10) rest) _ (length-slice_split (is_byte 10) rest) in
-    subst (λ (q : List (List ℕ)). lines_of_parts (x ∷ q) ≡ strip_carriage_return x ∷ lines_of_parts q) (sym some.2) refl
-
 lines_at : (raw tail : List ℕ) → has_end raw ≡ false → physical_lines (raw ++ 10 ∷ tail) ≡ strip_carriage_return raw ∷ physical_lines tail
 lines_at raw tail none = ap lines_of_parts (slice_split_at (is_byte 10) raw 10 tail (none_at (is_byte 10) raw none) refl) ∙ parts_first raw tail
 
@@ -66,10 +58,6 @@ lines_cut [] more none = refl
 lines_cut (raw ∷ raws) more none =
     let parts = or_parts (has_end raw) (list_any has_end raws) none in
     ap physical_lines (regroup raw raws more) ∙ lines_at raw (flat_map with_end raws ++ more) parts.0 ∙ ap (λ (ls : List (List ℕ)). strip_carriage_return raw ∷ ls) (lines_cut raws more parts.1)
-
-one_part : (text : List ℕ) → 0 < length text → lines_of_parts (text ∷ []) ≡ text ∷ []
-one_part [] some = absurd (omega arith)
-one_part (b ∷ bs) some = cond-false _ [] ((b ∷ bs) ∷ []) (ne_eqb (length (b ∷ bs)) 0 (λ e. absurd (omega (arith, e))))
 
 line_last : (b : ℕ) (bs : List ℕ) → has_end (b ∷ bs) ≡ false → physical_lines (b ∷ bs) ≡ (b ∷ bs) ∷ []
 line_last b bs none = ap lines_of_parts (slice_split_none (is_byte 10) (b ∷ bs) (none_at (is_byte 10) (b ∷ bs) none)) ∙ one_part (b ∷ bs) (omega arith)

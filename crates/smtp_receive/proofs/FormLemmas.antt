@@ -2,7 +2,7 @@
 use Rattle.std.proofs.Common.{◌≡◌, ℕ, zero, suc, ◌+◌, Bool, true, false, cond, ◌&&◌, ◌==◌, min, List, [], ◌∷◌, ◌++◌, length, Option, Some, None, is_some, Result, Ok, Err, IfOk, refl, sym, ap, subst, ◌∙◌, ⊎_elim, inl, inr, unwrap_or, fold, codes, arith}
 use Rattle.std.specs.Prelude.{◌⊎◌, ◌≤◌, All, IfSome, slice_index, nat_lt}
 use Rattle.std.specs.List.{list_all, AllByRecursion, prefix_len}
-use Rattle.std.proofs.lemmas.Bool.{false≢true, cond_both, or_cases, and_parts, eqb-true, ltb-false}
+use Rattle.std.proofs.lemmas.Bool.{false≢true, cond_both, or_cases, and_parts, ltb-false}
 use Rattle.std.proofs.lemmas.List.{length-append}
 use Rattle.std.proofs.lemmas.List.Elements.{All-nil, All-cons, All-head, All-tail, All-append, All-weaker, All-from_recursion}
 use Rattle.mail_base.specs.Limits.{message_limit, most_message, most_headers}
@@ -23,7 +23,8 @@ use Rattle.smtp_lines.specs.declared.line.Line.{Line}
 use Rattle.smtp_lines.specs.declared.line.Line.TheVariants.{Command, TooLong, Data as DataLine, DataEnd}
 use Rattle.smtp_receive.specs.Dialogue.{Answer, Says, Greets, Extends, Grants, Gives, Exchange, Heard, answer_heard, answer_to, argument_in, asked, count_of, eight_in, end_answer, ends, exchange_of, exchanges, helo_by, helo_in, kept_in, lines_in, lines_of, message_answer, no_marks, or_else, path_in, protocol_by, protocol_in, protocol_of, question, read_in, rows_in, rows_of, sender_by, sender_in, sender_of, standing_in, transaction, with_heard, with_text}
 use Rattle.smtp_receive.specs.Forms.{AreFormed, AreFormedIn, FormedFor, IsFormed}
-use Rattle.smtp_receive.specs.Judging.{AreRows, IsDrawn, Said, drawn_in}
+use Rattle.mail_base.specs.Drawing.{AreRows, IsDrawn}
+use Rattle.smtp_receive.specs.Judging.{Said, drawn_in}
 use Rattle.smtp_receive.specs.Sessions.{answer_of}
 use Rattle.smtp_receive.specs.declared.reply.Reply.TheVariants.{SenderOk, RecipientOk, MessageTooLarge, HeaderTooLarge, TooManyHops}
 use Rattle.mail_header.proofs.MadeLemmas.{blank_is}

@@ -1,19 +1,14 @@
 -- What is known of a judge and of what it said.
-use Rattle.std.specs.Prelude.{◌↔◌, ◌≤◌, IfSome, IfErr, IsTrue}
-use Rattle.std.proofs.Common.{◌≡◌, ℕ, Bool, true, false, List, [], ◌∷◌, ◌++◌, Option, Some, None, Result, Ok, Err, IfOk, OnErr, refl, sym, ap, subst, ◌∙◌, arith}
-use Rattle.std.proofs.lemmas.Bool.{false≢true}
-use Rattle.mail_base.specs.Answering.{Answerer, HasAnswered, HasJudgeCause}
-use Rattle.mail_base.specs.Histories.{Rose}
+use Rattle.std.specs.Prelude.{◌↔◌, ◌≤◌, IfSome}
+use Rattle.std.proofs.Common.{◌≡◌, ℕ, Bool, true, false, List, [], ◌∷◌, ◌++◌, Option, Some, None, sym, subst, ◌∙◌}
+use Rattle.mail_base.specs.Answering.{Answerer}
 use Rattle.mail_base.specs.declared.config.Config.{Config}
 use Rattle.mail_base.specs.declared.fault.JudgeFault.{JudgeFault}
-use Rattle.mail_base.specs.declared.fault.JudgeFault.TheVariants.{FilesFault, NoMemory as JudgeMemory}
 use Rattle.mail_base.specs.declared.fault.NoMemory.{NoMemory}
-use Rattle.smtp_lines.specs.declared.line.Line.{Line}
-use Rattle.smtp_receive.specs.Dialogue.{Answer, Exchange, Heard, answer_heard, exchanges, is_dropped, question}
+use Rattle.smtp_receive.specs.Dialogue.{Heard, answer_heard, exchanges, question}
 use Rattle.smtp_receive.specs.Forms.{AreFormed, AreFormedIn, FormedFor}
-use Rattle.smtp_receive.specs.Judging.{Answers, Question, Said, Unasked, IsFormedSaid, IsSaid, IsSteady, as_said, is_answer_to, is_calm}
+use Rattle.smtp_receive.specs.Judging.{Question, Said, IsFormedSaid, IsSaid}
 use Rattle.smtp_receive.specs.Sessions.{question_of}
-use Rattle.smtp_receive.specs.inner.Steps.{Uses, judged}
 use Rattle.smtp_receive.proofs.KeepLemmas.{heard_more}
 
 -- ---- what is said is formed

@@ -21,7 +21,8 @@ use Rattle.smtp_lines.specs.declared.line.Line.{Line}
 use Rattle.smtp_lines.specs.declared.line.Line.TheVariants.{Command, TooLong, Data as DataLine, DataEnd}
 use Rattle.smtp_receive.specs.Dialogue.{Answer, Says, Grants, Gives, Exchange, Heard, Standing, answer_heard, answer_to, command_answer, eight_in, end_answer, ends, exchange_of, exchanges, fault_reply, is_dropped, is_large, is_uncut, kept_in, lines_in, mail_answer, mail_fault, mail_question, message_answer, no_marks, order_question, path_reply, question, rcpt_answer, rcpt_fault, rcpt_question, read_in, recipient_answer, rows_in, rows_of, sender_answer, sender_in, standing_in, transaction, with_heard, with_rows}
 use Rattle.smtp_receive.specs.Forms.{FormedFor}
-use Rattle.smtp_receive.specs.Judging.{Question, AreRows, Said, Unasked, OfSender, OfRecipient, drawn_in, refusal_in}
+use Rattle.mail_base.specs.Drawing.{AreRows}
+use Rattle.smtp_receive.specs.Judging.{Question, Said, Unasked, OfSender, OfRecipient, drawn_in, refusal_in}
 use Rattle.smtp_receive.specs.declared.judge.Verdict.TheVariants.{Rows, No}
 use Rattle.smtp_receive.specs.declared.reply.Reply.{Reply}
 use Rattle.smtp_receive.specs.declared.reply.Reply.TheVariants.{NeedRcpt, UserRequired, TooManyRecipients, RecipientOk, MessageTooLarge, HeaderTooLarge, TooManyHops, SyntaxError, PathTooLong, ParameterNotKnown}

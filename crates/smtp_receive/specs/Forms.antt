@@ -7,7 +7,8 @@ use Rattle.mail_base.specs.declared.config.Config.{Config}
 use Rattle.mail_base.specs.declared.message.Message.{Message}
 use Rattle.mail_header.specs.Headers.{IsSplit}
 use Rattle.smtp_receive.specs.Dialogue.{Exchange, Heard, exchanges, no_marks, question}
-use Rattle.smtp_receive.specs.Judging.{AreRows, IsFormedSaid, Question, Said, is_answer_to}
+use Rattle.mail_base.specs.Drawing.{AreRows}
+use Rattle.smtp_receive.specs.Judging.{IsFormedSaid, Question, Said, is_answer_to}
 
 -- a message of this peer has its parts in these forms
 pub record IsFormed (message : Message) (peer : List ℕ) : Type 0 where

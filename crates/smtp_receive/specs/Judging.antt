@@ -1,10 +1,9 @@
 -- What a judge is asked of the paths of a session and what it says (RFC 5321, sections 3.3 and
 -- 7.9: a server may refuse a sender or a recipient; the rows of a recipient are the queue's, own).
-use Rattle.std.specs.Prelude.{◌≡◌, ℕ, ◌≤◌, ◌↔◌, Bool, true, false, List, [], All, length, Option, Some, None, Result, Ok, Err, IsTrue}
+use Rattle.std.specs.Prelude.{◌≡◌, ℕ, ◌≤◌, ◌↔◌, Bool, true, false, List, [], Option, Some, None, Result, Ok, Err, IsTrue}
 use Rattle.mail_base.specs.Answering.{Answerer}
-use Rattle.mail_base.specs.Limits.{most_rows}
+use Rattle.mail_base.specs.Drawing.{AreRows}
 use Rattle.mail_base.specs.Refusals.{IsRefusal}
-use Rattle.mail_base.specs.Texts.{IsAddress, IsBracketed}
 use Rattle.mail_base.specs.declared.draw.Draw.{Draw}
 use Rattle.mail_base.specs.declared.fault.JudgeFault.{JudgeFault}
 use Rattle.mail_base.specs.declared.fault.JudgeFault.TheVariants.{FilesFault, NoMemory}
@@ -39,17 +38,6 @@ drawn_in Unasked = []
 drawn_in (OfSender refusal) = []
 drawn_in (OfRecipient (Rows rows)) = rows
 drawn_in (OfRecipient (No error)) = []
-
--- a row has an address, and a sender in its angles
-pub record IsDrawn (row : Draw) : Type 0 where
-  pub address_form : IsAddress row.address
-  pub sender_form : IsBracketed row.sender
-
--- rows are one at least, and no more than an entry has
-pub record AreRows (rows : List Draw) : Type 0 where
-  pub some : 1 ≤ length rows
-  pub few : length rows ≤ most_rows
-  pub each : All IsDrawn rows
 
 -- what is said is in its form: a refusal can stand in a reply, and rows can stand in an entry
 abbrev pub IsFormedSaid : Said → Type 0

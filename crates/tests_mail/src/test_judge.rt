@@ -3,7 +3,8 @@ ghost use Rattle.mail_base.specs.Answering.{Answerer};
 ghost use Rattle.mail_base.specs.Histories.{Rose};
 ghost use Rattle.mail_base.specs.Refusals.{IsRefusal};
 ghost use Rattle.mail_base.specs.Texts.{IsAddress, IsBracketed, IsSaid};
-ghost use Rattle.smtp_receive.specs.Judging.{AreRows, IsDrawn, IsFormedSaid, OfRecipient, Question, Said};
+ghost use Rattle.mail_base.specs.Drawing.{AreRows, IsDrawn};
+ghost use Rattle.smtp_receive.specs.Judging.{IsFormedSaid, OfRecipient, Question, Said};
 
 use mail_base::{
     Cause, Draw, JudgeFault, Kept, NoMemory, Note, Resolved, RouteError, Seq, Status, Text, Triple,

@@ -1,7 +1,6 @@
 -- What calls of the table make before they write. It need not be believed: only private contracts
 -- cite it.
-use Rattle.std.specs.Prelude.{◌≡◌, ℕ, List, [], ◌∷◌, map, length, Option, None, Some, IfSome, Contains, true, false}
-use Rattle.mail_base.specs.Limits.{IsId}
+use Rattle.std.specs.Prelude.{◌≡◌, ℕ, List, ◌∷◌, map, Option, None, Some, Contains, true, false}
 use Rattle.mail_base.specs.declared.control.Control.{Control}
 use Rattle.mail_base.specs.declared.control.Draft.{Draft}
 use Rattle.mail_base.specs.declared.control.Row.{Row}

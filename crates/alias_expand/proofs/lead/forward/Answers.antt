@@ -1,5 +1,5 @@
 use Rattle.std.proofs.Common.{◌∙◌, sym, subst, Bool}
-use Rattle.alias_expand.specs.Asking.{Asks}
+use Rattle.mail_edge.specs.Asking.{Asks}
 use Rattle.alias_expand.specs.Rows.{spent}
 use Rattle.alias_expand.proofs.StepLemmas.{does_map, forwards_absent, forwards_there}
 use Rattle.alias_expand.proofs.lead.forward.Goals as goal

@@ -2,7 +2,7 @@ use Rattle.std.proofs.Common.{◌∙◌, ◌-◌, ap, append-nil, reverse, take,
 use Rattle.std.proofs.lemmas.Result.{err_from_is_err_and}
 use Rattle.alias_expand.specs.inner.Costs.{deepest}
 use Rattle.alias_expand.proofs.TreeLemmas.{all_read, begun, begun_fits, falls_on, steps_on, steps_stop}
-use Rattle.alias_expand.proofs.WholeLemmas.{asks_join, asks_none}
+use Rattle.mail_edge.proofs.AskLemmas.{asks_join, asks_none}
 use Rattle.alias_expand.proofs.tree.read_members.Goals as goal
 
 pub frames-init : goal.frames-init

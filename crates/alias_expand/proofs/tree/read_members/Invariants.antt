@@ -1,5 +1,5 @@
 use Rattle.std.proofs.Common.{[], ◌∷◌, Result, reverse, false}
-use Rattle.alias_expand.specs.Asking.{Asks}
+use Rattle.mail_edge.specs.Asking.{Asks}
 use Rattle.alias_expand.specs.declared.reading.Reading.{Reading}
 use Rattle.alias_expand.specs.declared.refusal.ExpandRefusal.{ExpandRefusal}
 use Rattle.alias_expand.specs.inner.Costs.{Fits, deepest, worth}

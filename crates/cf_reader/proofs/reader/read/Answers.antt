@@ -2,7 +2,8 @@ use Rattle.std.proofs.Common.{◌≡◌, ◌∙◌, ap}
 use Rattle.std.proofs.lemmas.Result.{err_from_is_err_and}
 use Rattle.cf_reader.specs.Configuration.{configuration, read_lines}
 use Rattle.cf_reader.specs.LogicalLines.{logical_lines}
-use Rattle.cf_reader.proofs.ReadingLemmas.{if_all, asks_none, asks_join, read_stops, read_on}
+use Rattle.mail_edge.proofs.AskLemmas.{asks_none, asks_join}
+use Rattle.cf_reader.proofs.ReadingLemmas.{if_all, read_stops, read_on}
 use Rattle.cf_reader.proofs.reader.read.Goals as goal
 
 pub loop-line-init : goal.loop-line-init

@@ -1,7 +1,7 @@
 use Rattle.std.proofs.Common.{◌≡◌, drop, false}
 use Rattle.std.specs.Prelude.{IfSome}
 use Rattle.cf_reader.specs.Configuration.{read_lines, configuration}
-use Rattle.cf_reader.specs.Reads.{Asks}
+use Rattle.mail_edge.specs.Asking.{Asks}
 use Rattle.cf_reader.proofs.reader.read.Given as goal
 
 -- what the rest of the lines gives is what all give, and the files didn't fail

@@ -1,6 +1,4 @@
 -- The least of all.
-use Rattle.std.proofs.Common.{length, subst}
-use Rattle.queue_table.specs.inner.Least.{IsLeastAt}
 use Rattle.queue_table.proofs.ClaimLemmas.{least_is}
 use Rattle.queue_table.proofs.waiting.Waiting.least_due.Goals as goal
 
