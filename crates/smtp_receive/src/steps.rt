@@ -51,7 +51,11 @@ impl Session {
         match line {
             Line::Command(text) => self.command(text.bytes(), config, judge),
             Line::TooLong => judged(self.say(Reply::LineTooLong)),
-            Line::Data(text) => judged(self.data(text.bytes(), config)),
+            // On a way of its own, since what `judged` moves is large and these lines are many.
+            Line::Data(text) => match self.data(text.bytes(), config) {
+                Ok(()) => Ok(Did::Taken),
+                Err(_) => Err(JudgeFault::NoMemory),
+            },
             Line::DataEnd => judged(self.data_end(config)),
         }
     }
@@ -422,15 +426,13 @@ impl Session {
         Ok(Did::Granted(reply))
     }
 
-    fn data(&mut self, line: &[u8], config: &Config) -> Result<Did, NoMemory>
-        ensures taken { IfOk result (λ did. did ≡ Did.Taken) }
-        ensures ok { IfOk result (λ _. spec.AddsLine (message_limit config.now.options)
+    fn data(&mut self, line: &[u8], config: &Config) -> Result<(), NoMemory>
+        ensures ok { OnOk result (spec.AddsLine (message_limit config.now.options)
             self.old self.new line.now) }
-        ensures silent { self.old.message ≡ None → result ≡ Ok Did.Taken }
+        ensures silent { self.old.message ≡ None → IsOk result }
         ensures err { OnErr result (self.new ≡ self.old) }
     {
-        add_line(&mut self.message, line, config)?;
-        Ok(Did::Taken)
+        add_line(&mut self.message, line, config)
     }
 
     fn data_end(&mut self, config: &Config) -> Result<Did, NoMemory>
