@@ -29,7 +29,7 @@ use Rattle.sendmail_run.specs.declared.fault.MapsFault.{MapsFault}
 use Rattle.sendmail_run.specs.declared.fault.MapsFault.TheVariants as maps_faults
 use Rattle.cf_reader.specs.declared.fault.CfFault.{CfFault}
 use Rattle.cf_reader.specs.declared.fault.CfFault.TheVariants as reasons
-use Rattle.cf_reader.specs.Reads.{Asks}
+use Rattle.mail_edge.specs.Asking.{Asks}
 use Rattle.map_tables.specs.declared.files.MapFile.{MapFile}
 use Rattle.map_tables.specs.Answers.{Loaded}
 use Rattle.sendmail_run.specs.declared.outcome.Outcome.{Outcome}

@@ -1,6 +1,6 @@
 ghost use Rattle.std.specs.Prelude.{◌≡◌, IfSome, Ok};
 ghost use Rattle.mail_edge.specs.Seen.{text_of};
-ghost use Rattle.cf_reader.specs.Reads.{Asks};
+ghost use Rattle.mail_edge.specs.Asking.{Asks};
 ghost use Rattle.sendmail_run.specs.MapFiles.{hosts_in, maps_by};
 ghost use Rattle.sendmail_run.specs.inner.Loading.{Gives, Takes, is_files_fault, texts_by};
 

@@ -1,6 +1,6 @@
 use Rattle.std.proofs.Common.{◌≡◌, drop, false}
 use Rattle.std.specs.Prelude.{IfSome}
-use Rattle.cf_reader.specs.Reads.{Asks}
+use Rattle.mail_edge.specs.Asking.{Asks}
 use Rattle.sendmail_run.specs.inner.Loading.{behind, texts_by}
 use Rattle.sendmail_run.proofs.maps.texts_of.Given as goal
 
