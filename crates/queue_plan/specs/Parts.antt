@@ -4,6 +4,7 @@ use Rattle.std.specs.Prelude.{◌≡◌, ℕ, zero, suc, ◌<◌, ◌≤◌, Lis
 use Rattle.std.specs.List.{flat_map, zip}
 use Rattle.mail_base.specs.Catalogs.{value_at}
 use Rattle.mail_base.specs.Configs.{initial, main_group}
+use Rattle.mail_base.specs.Drawing.{IsDrawn}
 use Rattle.mail_base.specs.Limits.{most_rows}
 use Rattle.mail_base.specs.Texts.{IsBracketed, IsLine}
 use Rattle.mail_base.specs.declared.config.Config.{Config}
