@@ -24,6 +24,7 @@ mod raises;
 mod recovery;
 mod room;
 mod shelf;
+mod snug;
 mod swept;
 mod verdict;
 
