@@ -1,5 +1,5 @@
 -- Parts fit into entries.
-use Rattle.std.proofs.Common.{◌≡◌, ℕ, zero, suc, ◌<◌, ◌≤◌, List, [], ◌∷◌, ◌++◌, Bool, true, false, cond, filter, flat_map, length, take, drop, zip, arith}
+use Rattle.std.proofs.Common.{◌≡◌, ℕ, zero, suc, ◌<◌, ◌≤◌, List, [], ◌∷◌, ◌++◌, Bool, true, false, cond, not, filter, flat_map, length, take, drop, zip, arith}
 use Rattle.std.specs.Prelude.{map, All, IfOk, Result, Ok, Err}
 use Rattle.std.proofs.lemmas.List.{length-drop, length-take}
 use Rattle.std.proofs.lemmas.List.Elements.{All-append, All-cons, All-drop, All-filter, All-head, All-map, All-nil, All-tail, All-take, All-weaker}
@@ -66,12 +66,27 @@ all_placed (row ∷ rows) [] rs gs = All-nil IsPlaced
 all_placed (row ∷ rows) (group ∷ groups) rs gs =
     All-cons IsPlaced (row, group) (zip rows groups) (All-head IsDrawn row rows rs, All-head IsLine group groups gs) (all_placed rows groups (All-tail IsDrawn row rows rs) (All-tail IsLine group groups gs))
 
-all_firsts : {X : Type 0} (same : X → X → Bool) (P : X → Type 0) (xs : List X) → All P xs → All P (firsts same xs)
+pub all_firsts : {X : Type 0} (same : X → X → Bool) (P : X → Type 0) (xs : List X) → All P xs → All P (firsts same xs)
 all_firsts same P [] all = All-nil P
 all_firsts same P (x ∷ xs) all =
     All-cons P x _ (All-head P x xs all) (All-filter _ P (firsts same xs) (all_firsts same P xs (All-tail P x xs all)))
 
-zip_short : (rows : List Draw) (groups : List (List ℕ)) → length (zip rows groups) ≤ length rows
+shorter : {X : Type 0} (p : X → Bool) (xs : List X) → length (filter p xs) ≤ length xs
+shorter p [] = omega arith
+shorter p (x ∷ xs) = by (p x) (shorter p xs)
+  where
+    by : (c : Bool) → length (filter p xs) ≤ length xs → length (cond c (x ∷ filter p xs) (filter p xs)) ≤ suc (length xs)
+    by true rest = omega (arith, rest)
+    by false rest = omega (arith, rest)
+
+-- the first ones are no more than all
+pub few_firsts : {X : Type 0} (same : X → X → Bool) (xs : List X) → length (firsts same xs) ≤ length xs
+few_firsts same [] = omega arith
+few_firsts same (x ∷ xs) =
+    let rest = few_firsts same xs in
+    let less = shorter (λ y. not (same x y)) (firsts same xs) in omega (arith, rest, less)
+
+pub zip_short : (rows : List Draw) (groups : List (List ℕ)) → length (zip rows groups) ≤ length rows
 zip_short [] groups = omega arith
 zip_short (row ∷ rows) [] = omega arith
 zip_short (row ∷ rows) (group ∷ groups) = let rest = zip_short rows groups in omega (arith, rest)

@@ -1,6 +1,7 @@
 mod BucketLemmas
+pub mod CountLemmas
 mod FirstLemmas
-mod FitLemmas
+pub mod FitLemmas
 mod GroupLemmas
 mod LawLemmas
 mod PartLemmas

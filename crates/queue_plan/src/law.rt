@@ -1,4 +1,4 @@
-ghost use Rattle.std.specs.Prelude.{◌≡◌, ℕ, All, List, filter, flat_map, length, zip};
+ghost use Rattle.std.specs.Prelude.{◌≡◌, ◌<◌, ℕ, All, List, filter, flat_map, length, zip};
 ghost use Rattle.std.specs.List.{find};
 ghost use Rattle.mail_base.specs.Catalogs.{value_at};
 ghost use Rattle.mail_base.specs.declared.config.Config.{Config};
@@ -40,7 +40,7 @@ pub fn rows_stay_once()
 {}
 
 /// Each row is in one part: those of a sender and a group are in its parts, each once and in their
-/// order, and no part has more than the limit of its group.
+/// order, and no part has more than the limit of its group, or none.
 pub fn rows_have_parts()
     ensures rows { (config : Config) (rows : List Draw) (groups : List (List ℕ))
         (heading : TheHeading)
@@ -50,4 +50,6 @@ pub fn rows_have_parts()
         → All (λ cut.
         IsWithin (limit_of (value_at cut.group config.groups)) (length cut.rows))
         (parts_of config rows groups) }
+    ensures filled { (config : Config) (rows : List Draw) (groups : List (List ℕ))
+        → All (λ cut. 0 < length cut.rows) (parts_of config rows groups) }
 {}

@@ -29,6 +29,7 @@ pub fn parts(
     requires placed { length groups.now ≡ length rows.now }
     ensures is { IfOk result (λ cuts. cuts ≡ parts_of config.now rows.now groups.now) }
     ensures some { 0 < length rows.now → IfOk result (λ cuts. 0 < length cuts) }
+    ensures few { IfOk result (λ cuts. length cuts ≤ length rows.now) }
     ensures each { length rows.now ≤ most_rows → All IsDrawn rows.now → All IsLine groups.now
         → IfOk result (All IsPart) }
 {

@@ -1,5 +1,6 @@
 ghost use Rattle.std.specs.Prelude.{◌≡◌, IfOk, OnOk};
 ghost use Rattle.indexmap.specs.IndexSet.{insert_key};
+ghost use Rattle.mail_base.specs.Drawing.{AreRows};
 ghost use Rattle.queue_plan.specs.Rows as spec;
 ghost use Rattle.queue_plan.specs.inner.Targets.{same_target, target_of, with_row};
 
@@ -15,6 +16,13 @@ use std::alloc::Global;
 /// Equal rows are found by an index, so that the time grows as the number of rows.
 pub fn distinct(alloc: Global, rows: Seq<Draw>) -> Result<Seq<Draw>, NoMemory>
     ensures is { IfOk result (λ kept. kept ≡ spec.distinct rows) }
+    ensures form { AreRows rows → IfOk result AreRows }
+{
+    firsts_of(alloc, rows)
+}
+
+fn firsts_of(alloc: Global, rows: Seq<Draw>) -> Result<Seq<Draw>, NoMemory>
+    ensures { IfOk result (λ kept. kept ≡ spec.distinct rows) }
 {
     let mut met = IndexSet::new(alloc);
     let mut kept = Seq::new(alloc);

@@ -1,13 +1,13 @@
-use Rattle.std.proofs.Common.{sym, ◌∙◌, ap, map}
-use Rattle.queue_plan.specs.inner.Targets.{target_of}
-use Rattle.queue_plan.proofs.RowLemmas.{kept_one, met_one}
+-- What the definition has, the result has.
+use Rattle.std.proofs.Common.{◌≡◌, List, sym, subst}
+use Rattle.mail_base.specs.Drawing.{AreRows}
+use Rattle.mail_base.specs.declared.draw.Draw.{Draw}
+use Rattle.queue_plan.specs.Rows as spec
+use Rattle.queue_plan.proofs.CountLemmas.{rows_kept}
+use Rattle.queue_plan.proofs.FitLemmas.{if_ok}
 use Rattle.queue_plan.proofs.rows.distinct.Goals as goal
 
-pub loop-row-preserved : goal.loop-row-preserved
-loop-row-preserved c =
-    let l = c.loop-row in
-    let row = c.in-Some.row in
-    record {
-      kept = c.in_ok-keep.ensures.kept ∙ kept_one l.yielded l.kept l.met.keys row l.invariant.kept l.invariant.met;
-      met = c.in_ok-keep.ensures.met ∙ met_one l.kept l.met.keys row l.invariant.met ∙ ap (map target_of) (sym c.in_ok-keep.ensures.kept);
-    }
+pub returns-clause-form : goal.returns-clause-form
+returns-clause-form c = λ form.
+    if_ok (λ (kept : List Draw). kept ≡ spec.distinct c.args.rows) (λ (kept : List Draw). AreRows kept)
+    (λ kept is. subst AreRows (sym is) (rows_kept c.args.rows form)) c.firsts_of.result c.firsts_of.ensures

@@ -2,7 +2,7 @@
 use Rattle.std.proofs.Common.{◌≡◌, map}
 use Rattle.queue_plan.specs.Rows as spec
 use Rattle.queue_plan.specs.inner.Targets.{target_of}
-use Rattle.queue_plan.proofs.rows.distinct.Given as goal
+use Rattle.queue_plan.proofs.rows.firsts_of.Given as goal
 
 abbrev pub invariant-loop-row : goal.invariant-loop-row
 invariant-loop-row l = record {
