@@ -10,7 +10,7 @@ ghost use Rattle.smtp_receive.specs.Judging.{Answers, AsksRecipient, AsksSender,
 ghost use Rattle.smtp_receive.specs.Replies.{closing_text, extended_text, hello_text, refusal_text, text_of};
 ghost use Rattle.smtp_receive.specs.Sessions.{Holds, Keeps, cleared};
 ghost use Rattle.smtp_receive.specs.inner.Steps as spec;
-ghost use Rattle.smtp_receive.specs.inner.Steps.{BeginsMessage, Does, Goes, Uses, after, end_of, given_by, greeted, is_data, question_by};
+ghost use Rattle.smtp_receive.specs.inner.Steps.{BeginsMessage, Does, Goes, Uses, after, end_of, given_by, greeted, is_data, is_text, question_by};
 
 use crate::did::Did;
 use crate::ending::{End, ending, has_looped};
@@ -49,13 +49,39 @@ impl Session {
             (J.answers judge.new) result }
     {
         match line {
-            Line::Command(text) => self.command(text.bytes(), config, judge),
-            Line::TooLong => judged(self.say(Reply::LineTooLong)),
-            // On a way of its own, since what `judged` moves is large and these lines are many.
             Line::Data(text) => match self.data(text.bytes(), config) {
                 Ok(()) => Ok(Did::Taken),
                 Err(_) => Err(JudgeFault::NoMemory),
             },
+            Line::Command(_) | Line::TooLong | Line::DataEnd => self.reply_to(line, config, judge),
+        }
+    }
+
+    // Answers a line that isn't of a message. It is apart from `answer` since its results are large
+    // and lines of a message are many: on its way each of them would pay for moving one.
+    fn reply_to<J: Judge>(
+        &mut self,
+        line: &Line,
+        config: &Config,
+        judge: &mut J,
+    ) -> Result<Did, JudgeFault>
+        requires told { is_text line.now ≡ false }
+        ensures goes { (host peer : List ℕ) (before : List Exchange)
+            → Keeps self.old config.now host peer before
+            → IfOk result (Goes (J.seen judge.old) (J.answers judge.old) self.new config.now
+            host peer before line.now) }
+        ensures silent { self.old.message ≡ None → is_data line.now ≡ true
+            → result ≡ Ok Did.Taken }
+        ensures unasked { question_by config.now self.old (asked line.now) ≡ None
+            → judge.new ≡ judge.old }
+        ensures err { OnErr result (self.new ≡ self.old) }
+        ensures uses { Uses (J.seen judge.old) (J.seen judge.new) (J.answers judge.old)
+            (J.answers judge.new) result }
+    {
+        match line {
+            Line::Command(text) => self.command(text.bytes(), config, judge),
+            Line::TooLong => judged(self.say(Reply::LineTooLong)),
+            Line::Data(_) => unreachable!(),
             Line::DataEnd => judged(self.data_end(config)),
         }
     }

@@ -149,6 +149,13 @@ is_data TooLong = false
 is_data (DataLine text) = true
 is_data DataEnd = true
 
+-- whether it is of a message
+abbrev pub is_text : Line → Bool
+is_text (Command text) = false
+is_text TooLong = false
+is_text (DataLine text) = true
+is_text DataEnd = false
+
 -- what the end of data comes to after the lines of a message
 abbrev pub ending_of : ℕ → Gathered → End
 ending_of limit g =

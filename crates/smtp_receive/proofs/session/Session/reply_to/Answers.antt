@@ -5,7 +5,7 @@ use Rattle.smtp_receive.specs.inner.Steps.{Ends}
 use Rattle.smtp_receive.proofs.EndLemmas.{end_goes}
 use Rattle.smtp_receive.proofs.KeepLemmas.{command_goes}
 use Rattle.smtp_receive.proofs.StepLemmas.{ok_of}
-use Rattle.smtp_receive.proofs.session.Session.answer.Goals as goal
+use Rattle.smtp_receive.proofs.session.Session.reply_to.Goals as goal
 
 pub returns-in-Command-clause-goes : goal.returns-in-Command-clause-goes
 returns-in-Command-clause-goes g c =
