@@ -1,8 +1,8 @@
 -- Where a line ends, over lists that are joined, and from what the searches tell.
-use Rattle.std.proofs.Common.{◌≡◌, ℕ, zero, suc, ◌+◌, ◌-◌, ◌<◌, ◌==◌, Bool, true, false, List, [], ◌∷◌, ◌++◌, length, take, get_or, slice_index, refl, sym, ap, subst, ◌∙◌, arith, append_assoc}
-use Rattle.std.proofs.lemmas.Bool.{or_parts, or_from, false_from_ne_true, and_parts, eqb-true, false≢true}
-use Rattle.std.proofs.lemmas.List.{take_more, take_all, length-take, get_or-take}
-use Rattle.bstr.specs.Find.{OccursAt}
+use Rattle.std.proofs.Common.{◌≡◌, ℕ, zero, suc, ◌+◌, ◌-◌, ◌<◌, ◌≤◌, ◌==◌, Bool, true, false, List, [], ◌∷◌, ◌++◌, length, take, drop, get_or, slice_index, Some, None, refl, sym, ap, subst, ◌∙◌, ⊎_elim, arith, append_assoc}
+use Rattle.std.proofs.lemmas.Bool.{or_parts, or_from, false_from_ne_true, and_parts, eqb-true, eq-eqb, cases_lt, false≢true}
+use Rattle.std.proofs.lemmas.List.{take_more, take_all, length-take, length-drop, get_or-take, get_or-drop}
+use Rattle.bstr.specs.Find.{OccursAt, NoneBefore, Passes, IsFirstByte, is_byte}
 use Rattle.smtp_lines.specs.declared.line.Mode.TheVariants.{Commands, Message}
 use Rattle.smtp_lines.specs.Stream.{has_end, ends_in_cr}
 use Rattle.smtp_lines.specs.inner.Readings.{EndsAt}
@@ -156,3 +156,62 @@ split_ends begun (b ∷ bytes) none cr some lf =
       whole = ap (λ c. begun ++ c ∷ []) (eqb-true b 10 lf) ∙ ap (λ x. x ++ 10 ∷ []) e ∙ append_assoc (take (length begun - 1) begun) (13 ∷ []) (10 ∷ []);
       none = crlf_front (take (length begun - 1) begun) (13 ∷ []) (subst (λ x. has_end Message x ≡ false) e none);
     }
+
+-- ---- a search for CR LF by its LF
+
+-- no CR LF has its LF before a place
+abbrev pub NoneUpTo : List ℕ → ℕ → Type 0
+NoneUpTo bytes from = (k : ℕ) → k + 1 < from → OccursAt bytes (13 ∷ 10 ∷ []) k → ⊥
+
+cr_of : (bytes : List ℕ) (k : ℕ) → OccursAt bytes (13 ∷ 10 ∷ []) k → get_or bytes k 0 ≡ 13
+cr_of bytes k here = let e : k + 0 ≡ k = omega arith in sym (ap (λ n. get_or bytes n 0) e) ∙ here.reads 0 (omega arith)
+
+-- nor before a later one, where no LF stands between
+skipped : (bytes : List ℕ) (from n : ℕ) → NoneUpTo bytes from
+    → ((j : ℕ) → 0 ≤ j → j < n → Passes (is_byte 10) (drop from bytes) j → ⊥) → NoneUpTo bytes (from + n)
+skipped bytes from n none no_lf k lt here =
+    ⊎_elim (λ low. none k low here)
+    (λ high.
+    let j = k + 1 - from in
+    let at : from + j ≡ k + 1 = omega (arith, high) in
+    let lf : get_or (drop from bytes) j 0 ≡ 10 = get_or-drop from bytes j 0 ∙ ap (λ n. get_or bytes n 0) at ∙ here.reads 1 (omega arith) in
+    no_lf j (omega arith) (omega (arith, high, lt)) (eq-eqb (get_or (drop from bytes) j 0) 10 lf))
+    (cases_lt (k + 1) from)
+
+pub none_yet : (bytes : List ℕ) → NoneUpTo bytes 0
+none_yet bytes k lt here = absurd (omega (arith, lt))
+
+-- the first LF from there on ends the first CR LF, where a CR stands before it
+pub found_by_lf : (bytes : List ℕ) (from place : ℕ) → NoneUpTo bytes from → IsFirstByte (is_byte 10) (drop from bytes) (Some place)
+    → 0 < from + place → get_or bytes (from + place - 1) 0 ≡ 13
+    → NoneBefore (OccursAt bytes (13 ∷ 10 ∷ [])) 0 (length bytes + 1) (from + place - 1) × OccursAt bytes (13 ∷ 10 ∷ []) (from + place - 1)
+found_by_lf bytes from place none found some cr =
+    let high = found.0.high in
+    let len = length-drop from bytes in
+    let next : suc (from + place - 1) ≡ from + place = omega (arith, some) in
+    let lf : get_or bytes (from + place) 0 ≡ 10 = sym (get_or-drop from bytes place 0) ∙ eqb-true (get_or (drop from bytes) place 0) 10 found.1 in (
+      record {
+        low = omega arith;
+        high = omega (arith, high, len);
+        before = λ k low lt here. skipped bytes from place none found.0.before k (omega (arith, lt)) here;
+      },
+      occurs bytes (from + place - 1) (omega (arith, high, len, next)) cr (ap (λ n. get_or bytes n 0) next ∙ lf),
+    )
+
+-- it ends none where no CR does
+pub passed_lf : (bytes : List ℕ) (from place : ℕ) → NoneUpTo bytes from → IsFirstByte (is_byte 10) (drop from bytes) (Some place)
+    → (0 < from + place → get_or bytes (from + place - 1) 0 ≡ 13 → ⊥) → NoneUpTo bytes (from + place + 1)
+passed_lf bytes from place none found other k lt here =
+    ⊎_elim (λ low. skipped bytes from place none found.0.before k low here)
+    (λ high.
+    let at : from + place - 1 ≡ k = omega (arith, high, lt) in
+    other (omega (arith, high)) (ap (λ n. get_or bytes n 0) at ∙ cr_of bytes k here))
+    (cases_lt (k + 1) (from + place))
+
+-- without an LF there is none
+pub none_by_lf : (bytes : List ℕ) (from : ℕ) → NoneUpTo bytes from → IsFirstByte (is_byte 10) (drop from bytes) None
+    → (k : ℕ) → OccursAt bytes (13 ∷ 10 ∷ []) k → ⊥
+none_by_lf bytes from none nowhere k here =
+    let fits = here.fits in
+    let len = length-drop from bytes in
+    skipped bytes from (length (drop from bytes)) none nowhere k (omega (arith, fits, len)) here

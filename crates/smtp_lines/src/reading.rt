@@ -1,4 +1,6 @@
 ghost use Rattle.std.specs.Prelude.{◌≡◌, ◌≤◌, ◌<◌, ◌+◌, ℕ, List, ◌++◌, length, take, IfOk, IfSome, IsTrue, slice_index, ◌==◌, false};
+ghost use Rattle.bstr.specs.Find.{FindsNeedle};
+ghost use Rattle.mail_base.specs.Texts.{crlf};
 ghost use Rattle.smtp_lines.specs.Stream.{has_end, ends_in_cr, line_of, end_of, command_line, message_line};
 ghost use Rattle.smtp_lines.specs.Reader.{asked_after};
 ghost use Rattle.smtp_lines.specs.inner.Readings.{Ends, IsKept, ReadsOn};
@@ -55,10 +57,26 @@ fn message_line_end(after_cr: bool, bytes: &[u8]) -> Option<usize>
     if after_cr && begins_in_lf(bytes) {
         return Some(1);
     }
-    match bytes.find(b"\r\n") {
+    match find_crlf(bytes) {
         Some(place) => Some(place + 2),
         None => None,
     }
+}
+
+/// Where the first CR LF stands. It is found by its LF: a search for two bytes would be made ready
+/// anew at each line, which takes longer than to find one.
+fn find_crlf(bytes: &[u8]) -> Option<usize>
+    ensures { FindsNeedle bytes.now crlf 0 result }
+{
+    let mut from = 0;
+    'feeds: while let Some(place) = (&bytes[from..]).find_byte(b'\n') {
+        let feed = from + place;
+        if feed > 0 && bytes[feed - 1] == b'\r' {
+            return Some(feed - 1);
+        }
+        from = feed + 1;
+    }
+    None
 }
 
 fn begins_in_lf(bytes: &[u8]) -> bool
