@@ -124,6 +124,9 @@ fn message_line_of(alloc: Global, kept: &[u8], bytes: &[u8]) -> Result<Line, NoM
 fn joined(alloc: Global, front: &[u8], back: &[u8], most: usize) -> Result<Vec<u8>, NoMemory>
     ensures { IfOk result (λ bytes. bytes.items ≡ take most (front.now ++ back.now)) }
 {
+    if front.is_empty() {
+        return Ok(Vec::from_slice(alloc, &back[..most.min(back.len())])?);
+    }
     if most < front.len() {
         return Ok(Vec::from_slice(alloc, &front[..most])?);
     }
