@@ -138,5 +138,5 @@ each_part config rows groups few rs gs =
     let placed : List Placed = zip rows groups in
     let all = all_placed rows groups rs gs in
     let short = zip_short rows groups in
-    let heads : All IsHead (headings placed) = all_firsts same_heading IsHead (map heading_of placed) (All-map IsHead heading_of placed (All-weaker IsPlaced (λ (p : Placed). IsHead (heading_of p)) (λ p h. (h.0.sender, h.1)) placed all)) in
+    let heads : All IsHead (headings placed) = all_firsts same_heading IsHead (map heading_of placed) (All-map IsHead heading_of placed (All-weaker IsPlaced (λ (p : Placed). IsHead (heading_of p)) (λ p h. (h.0.sender_form, h.1)) placed all)) in
     each_over (parts_under config placed) (headings placed) (All-weaker IsHead (λ (h : Heading). All IsPart (parts_under config placed h)) (λ h head. each_under config placed h (omega (arith, short, few)) all head) (headings placed) heads)
