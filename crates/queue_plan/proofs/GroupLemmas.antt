@@ -1,7 +1,10 @@
 -- The group of a row: one, by what the set says.
-use Rattle.std.proofs.Common.{◌≡◌, ℕ, List, [], ◌∷◌, ◌++◌, Bool, true, false, Option, None, Some, inl, inr, option_to_list, refl, sym, ap, subst}
-use Rattle.std.specs.Prelude.{Result, Ok, Err, IfOk, cond, unwrap_or}
+use Rattle.std.proofs.Common.{◌≡◌, ℕ, List, [], ◌∷◌, ◌++◌, Bool, true, false, Option, None, Some, inl, inr, option_to_list, refl, sym, ◌∙◌, ap, subst, ◌==◌, true≢false, get_or}
+use Rattle.std.specs.Prelude.{Result, Ok, Err, IfOk, cond, not, unwrap_or}
 use Rattle.std.specs.List.{find}
+use Rattle.std.proofs.lemmas.Bool.{and_parts, eq-eqb}
+use Rattle.std.proofs.lemmas.List.Folds.{list_any_at}
+use Rattle.mail_base.specs.Texts.{IsLine}
 use Rattle.mail_base.specs.Catalogs.{value_like}
 use Rattle.mail_base.specs.Rulesets.{is_named}
 use Rattle.mail_base.specs.declared.config.Config.{Config}
@@ -18,7 +21,7 @@ use Rattle.ruleset_run.specs.declared.fault.RunFault.TheVariants as faults
 use Rattle.ruleset_run.specs.declared.runner.Ran.{Ran}
 use Rattle.ruleset_run.specs.Runs.{Done, Gives, GivesFault, Outcome, RunsSet}
 use Rattle.ruleset_run.specs.Sites.{Macros, Site, site_of}
-use Rattle.queue_plan.specs.Groups.{Answers, no_tokens, run_fails, answers, Says, unasked, asked, Groups, grouped, IsGroupName, cut, group_by, is_group, main_group_name, name_said, own_group, set_name}
+use Rattle.queue_plan.specs.Groups.{Answers, no_tokens, run_fails, answers, Says, unasked, asked, Groups, grouped, IsGroupName, cut, group_by, is_group, is_one_line, main_group_name, name_said, own_group, set_name}
 use Rattle.queue_plan.specs.inner.Answering.{Runs, fails, ends}
 
 -- what is said of a result's value may be said more weakly
@@ -39,6 +42,22 @@ first_name config (name ∷ names) = by (is_group config name) refl (first_name 
 
 pub group_named : (config : Config) (said own : Option (List ℕ)) → IsGroupName config (group_by config said own)
 group_named config said own = first_name config (option_to_list said ++ option_to_list own)
+
+-- a name without LF (10) is on one line
+on_line : (name : List ℕ) → is_one_line name ≡ true → IsLine name
+on_line name one = λ k d lt same. absurd (true≢false (sym (list_any_at (λ (byte : ℕ). byte == 10) name k d lt (eq-eqb (get_or name k d) 10 same)) ∙ is_false _ one))
+  where
+    is_false : (b : Bool) → not b ≡ true → b ≡ false
+    is_false true e = absurd (true≢false (sym e))
+    is_false false e = refl
+
+main_line : IsLine main_group_name
+main_line = on_line main_group_name refl
+
+-- the name of a group is on one line
+pub named_line : (config : Config) (name : List ℕ) → IsGroupName config name → IsLine name
+named_line config name (inl is) = subst IsLine (sym is) main_line
+named_line config name (inr is) = on_line name (and_parts (is_one_line name) _ is).0
 
 -- ---- what the set answers
 

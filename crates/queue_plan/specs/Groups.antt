@@ -1,7 +1,7 @@
 -- The queue group of a row (Sendmail Installation and Operation Guide, "Queue Groups" and M: Define
 -- Mailer, its field Q; cf/README, the ruleset queuegroup).
-use Rattle.std.specs.Prelude.{◌≡◌, ◌⊎◌, ℕ, List, [], ◌∷◌, ◌++◌, Bool, true, Option, None, Some, Result, Ok, Err, codes, is_some, option_to_list, refl, unwrap_or}
-use Rattle.std.specs.List.{find, flat_map}
+use Rattle.std.specs.Prelude.{◌≡◌, ◌⊎◌, ℕ, List, [], ◌∷◌, ◌++◌, Bool, true, not, ◌&&◌, ◌==◌, Option, None, Some, Result, Ok, Err, codes, is_some, option_to_list, refl, unwrap_or}
+use Rattle.std.specs.List.{find, flat_map, list_any}
 use Rattle.mail_base.specs.Catalogs.{value_at, value_like}
 use Rattle.mail_base.specs.Configs.{initial}
 use Rattle.mail_base.specs.Rulesets.{is_named}
@@ -59,8 +59,13 @@ pub data Says (site : Site) (macros : Macros) (address : List ℕ) : Option (Lis
 abbrev pub main_group_name : List ℕ
 main_group_name = codes "mqueue"
 
+-- a name is on one line: no other can stand in the text of an entry
+abbrev pub is_one_line : List ℕ → Bool
+is_one_line name = not (list_any (λ byte. byte == 10) name)
+
+-- the name of a group that an entry may have
 abbrev pub is_group : Config → List ℕ → Bool
-is_group config name = is_some (value_at name config.groups)
+is_group config name = is_one_line name && is_some (value_at name config.groups)
 
 -- the group of the field Q of a mailer
 abbrev pub own_group : Option Mailer → Option (List ℕ)

@@ -1,6 +1,8 @@
-ghost use Rattle.std.specs.Prelude.{◌≡◌, ℕ, IfOk, List, None};
+ghost use Rattle.std.specs.Prelude.{◌≡◌, ◌==◌, ℕ, IfOk, List, None};
+ghost use Rattle.std.specs.List.{list_any};
 ghost use Rattle.std.specs.Option.{option_copied};
 ghost use Rattle.mail_base.specs.Catalogs.{value_like};
+ghost use Rattle.mail_base.specs.Texts.{IsLine};
 ghost use Rattle.queue_plan.specs.Groups.{Groups, IsGroupName, group_by, mailer_of, own_group};
 ghost use Rattle.queue_plan.specs.Groups as spec;
 
@@ -15,7 +17,7 @@ use std::alloc::Global;
 /// `queuegroup` answers where that is `$#` and the name of a group, else the group of the mailer's
 /// field Q where there is one of that name, else `mqueue`. An address that can't be cut into tokens
 /// and a run that fails answer nothing. Names of groups compare byte by byte, those of mailers
-/// without case.
+/// without case. A group whose name isn't on one line counts as none: no entry can name it.
 pub fn group_of(
     alloc: Global,
     config: &Config,
@@ -30,6 +32,7 @@ pub fn group_of(
         → Groups config.now maps.now macros.now address.now mailer.now name
         → IfOk result (λ given. given ≡ name) }
     ensures name { IfOk result (IsGroupName config.now) }
+    ensures line { IfOk result IsLine }
 {
     // A law: a row has one group.
     one_group();
@@ -109,9 +112,15 @@ fn of_mailer(alloc: Global, config: &Config, own: &Option<Text>) -> Result<Text,
     }
 }
 
-// Whether there is a group of a name.
+// Whether there is a group of a name that an entry may have.
 fn is_group(config: &Config, name: &Text) -> bool
     ensures { result ≡ spec.is_group config.now name.now }
 {
-    config.groups.get(name).is_some()
+    !has_lf(name.bytes()) && config.groups.get(name).is_some()
+}
+
+fn has_lf(name: &[u8]) -> bool
+    ensures { result ≡ list_any (λ byte. byte == 10) name.now }
+{
+    name.iter().any(|byte| *byte == b'\n')
 }
