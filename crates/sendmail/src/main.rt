@@ -59,10 +59,11 @@ must be there; mail that is in them stays, and ids go on behind the greatest.
 
 The exit status is 0 when the work is done. Each other end has a line on
 standard error:
-  64 bad word            66 no file             69 floor fault
-  70 turns spent         71 no memory           72 files fault
-  73 write fault         74 read fault          75 spool fault
-  76 input too large     77 ids spent           78 configuration line
+  64 bad word            65 alias refused       66 no file
+  69 floor fault         70 turns spent         71 no memory
+  72 files fault         73 write fault         74 read fault
+  75 spool fault         76 input too large     77 ids spent
+  78 configuration line
 ";
 
 /// The most words whose places a `u32` can tell.

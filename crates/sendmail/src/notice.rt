@@ -18,6 +18,11 @@ pub fn tell(errors: &mut impl Write, outcome: &Outcome) -> io::Result<()> {
         Outcome::WriteFault => errors.write_all(b"sendmail: write fault\n"),
         Outcome::ReadFault => errors.write_all(b"sendmail: read fault\n"),
         Outcome::InputLarge => errors.write_all(b"sendmail: input too large\n"),
+        Outcome::AliasLine(name, line) => {
+            errors.write_all(b"sendmail: ")?;
+            errors.write_all(name.bytes())?;
+            writeln!(errors, ", line {line}: alias refused")
+        }
         Outcome::ConfigLine(line, fault) => {
             writeln!(errors, "sendmail: configuration line {line}: {fault}")
         }

@@ -168,8 +168,17 @@ fn an_outcome_of_any_mode_has_a_status_and_a_line(rt: HostRuntime) -> Result<(),
 }
 
 #[test]
-fn an_outcome_of_one_mode_has_a_status_and_a_line(rt: HostRuntime) {
+fn an_outcome_of_one_mode_has_a_status_and_a_line(rt: HostRuntime) -> Result<(), Fail> {
+    let alias = Outcome::AliasLine(Text::of(rt.alloc(), b"/aliases")?, 7);
     let turns = Outcome::TurnsSpent(1 << 60);
+    assert!(rt;
+        is_told(
+            &rt,
+            &alias,
+            65,
+            b"sendmail: /aliases, line 7: alias refused\n"
+        )
+    );
     assert!(rt; is_told(&rt, &Outcome::WriteFault, 73, b"sendmail: write fault\n"));
     assert!(rt; is_told(&rt, &Outcome::ReadFault, 74, b"sendmail: read fault\n"));
     assert!(rt;
@@ -184,4 +193,5 @@ fn an_outcome_of_one_mode_has_a_status_and_a_line(rt: HostRuntime) {
     assert!(rt; is_told(&rt, &turns, 70, b"sendmail: turns spent\n"));
     assert!(rt; is_told(&rt, &Outcome::SpoolFault, 75, b"sendmail: spool fault\n"));
     assert!(rt; is_told(&rt, &Outcome::IdsSpent, 77, b"sendmail: ids spent\n"));
+    Ok(())
 }

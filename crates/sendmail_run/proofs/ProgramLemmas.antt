@@ -25,6 +25,9 @@ use Rattle.sendmail_run.specs.declared.command_line.WordFault.{WordFault}
 use Rattle.sendmail_run.specs.declared.command_line.WordFault.TheVariants as word_faults
 use Rattle.sendmail_run.specs.declared.fault.ConfigFault.{ConfigFault}
 use Rattle.sendmail_run.specs.declared.fault.ConfigFault.TheVariants as config_faults
+use Rattle.sendmail_run.specs.declared.aliases.Names.{Names}
+use Rattle.sendmail_run.specs.declared.fault.AliasesFault.{AliasesFault}
+use Rattle.sendmail_run.specs.declared.fault.AliasesFault.TheVariants as alias_faults
 use Rattle.sendmail_run.specs.declared.fault.MapsFault.{MapsFault}
 use Rattle.sendmail_run.specs.declared.fault.MapsFault.TheVariants as maps_faults
 use Rattle.cf_reader.specs.declared.fault.CfFault.{CfFault}
@@ -36,15 +39,17 @@ use Rattle.sendmail_run.specs.declared.outcome.Outcome.{Outcome}
 use Rattle.sendmail_run.specs.declared.outcome.Outcome.TheVariants as outcomes
 use Rattle.sendmail_run.specs.declared.session_mode.SessionEnd.{SessionEnd}
 use Rattle.sendmail_run.specs.declared.session_mode.SessionEnd.TheVariants as session_ends
+use Rattle.sendmail_run.specs.AliasFiles.{GiveNames, LoadsNames, first_fault, names_by, names_of, unless_fault}
 use Rattle.sendmail_run.specs.Beginning.{Begins, Says, said_by}
 use Rattle.sendmail_run.specs.CommandLines.{Fails, IsCommandLine}
 use Rattle.sendmail_run.specs.Devices.{World, streams, streams_of, core_of, world}
 use Rattle.sendmail_run.specs.MapFiles.{GiveMaps, Loads, first_missing, maps_by, maps_of, unless_missing}
+use Rattle.sendmail_run.specs.inner.AliasLoading as alias_loading
 use Rattle.sendmail_run.specs.inner.Loading.{Gives, is_files_fault}
-use Rattle.sendmail_run.specs.Outcomes.{of_config, of_maps, of_session, of_test, of_words}
+use Rattle.sendmail_run.specs.Outcomes.{of_aliases, of_config, of_maps, of_session, of_test, of_words}
 use Rattle.sendmail_run.specs.Printing.{Basis, basis}
 use Rattle.sendmail_run.specs.Rises.{Counts, RisesOnlyAt}
-use Rattle.sendmail_run.specs.Runs.{Completes, Ends, EndsAtFile, EndsAtMaps, EndsAtWords, EndsAtWork, Finds, IsReady, IsShort, IsUntouched, IsWhole, NoneFailed, Stays, Works}
+use Rattle.sendmail_run.specs.Runs.{Completes, Ends, EndsAtFile, EndsAtMaps, EndsAtWords, EndsAtWork, Finds, IsReady, IsShort, IsSound, IsUntouched, IsWhole, NoneFailed, Stays, Works}
 use Rattle.sendmail_run.specs.Serving.{IsServedOut, Serves, judge_by, session_site}
 use Rattle.sendmail_run.specs.Testing.{IsLarge, Tests}
 use Rattle.sendmail_run.proofs.CommandLemmas.{one_mode, not_both}
@@ -105,12 +110,36 @@ ends_tested words f0 f1 f2 i0 i1 o0 o1 l s k mode config maps how outcome told s
     ends_at_work words (world f0 i0 o0 l s k) (world f2 i1 o1 l s k) mode Test config maps outcome said does begins loads
     (record { how = how; told = told; tests = tests; alone = left_alone (core_seen l s k) })
 
+-- the aliases and homes that files give, or why they give none, by what was asked of them
+loads_names : (config : Config) (f0 f1 : FilesSeen) (result : Result Names AliasesFault) → IfSome f0.map (λ map. alias_loading.Gives result (names_by map config)) → Asks f0 f1 (alias_loading.is_files_fault result) → LoadsNames config f0 f1 result
+loads_names config f0 f1 (Ok names) told asks = told
+loads_names config f0 f1 (Err (alias_faults.NoFile name)) told asks = told
+loads_names config f0 f1 (Err (alias_faults.Refused name line)) told asks = told
+loads_names config f0 f1 (Err alias_faults.FilesFault) told asks = asks.rose refl
+loads_names config f0 f1 (Err alias_faults.NoMemory) told asks = tt
+
+-- session mode whose aliases aren't loaded ends with the outcome of this fault
+pub works_at_aliases : (f0 f1 : FilesSeen) (i : SourceSeen) (o : SinkSeen) (l : Heard) (s : Spooled) (k : ClockSeen) (config : Config) (maps : Loaded) (fault : AliasesFault) (outcome : Outcome) → outcome ≡ of_aliases fault
+    → IfSome f0.map (λ map. alias_loading.Gives {V = Names} (Err fault) (names_by map config)) → Asks f0 f1 (alias_loading.is_files_fault {V = Names} (Err fault)) → Works Session config maps (world f0 i o l s k) (world f1 i o l s k) outcome
+works_at_aliases f0 f1 i o l s k config maps fault outcome told given asks =
+    inl (record { fault = fault; told = told; loads = loads_names config f0 f1 (Err fault) given asks; untouched = untouched f0 f1 i o l s k })
+
 -- session mode ends with the outcome of its end
-pub ends_served : (words : List (List ℕ)) (f0 f1 f2 : FilesSeen) (i : SourceSeen) (o : SinkSeen) (l0 l1 : Heard) (s0 s1 : Spooled) (k0 k1 : ClockSeen) (mode : Mode) (config : Config) (maps : Loaded) (how : SessionEnd) (outcome : Outcome) → outcome ≡ of_session how
-    → IsCommandLine words mode → mode.job ≡ Session → Begins mode.file f0 f1 (Ok config) → Loads config f0 f2 (Ok maps) → Serves (judge_by config maps) (session_site config) (core_seen l0 s0 k0) (core_seen l1 s1 k1) how → Ends words (world f0 i o l0 s0 k0) (world f2 i o l1 s1 k1) outcome
-ends_served words f0 f1 f2 i o l0 l1 s0 s1 k0 k1 mode config maps how outcome told said does begins loads serves =
-    ends_at_work words (world f0 i o l0 s0 k0) (world f2 i o l1 s1 k1) mode Session config maps outcome said does begins loads
-    (record { how = how; told = told; serves = serves; idle = record { input = refl; output = refl } })
+pub works_served : (f0 f1 : FilesSeen) (i : SourceSeen) (o : SinkSeen) (l0 l1 : Heard) (s0 s1 : Spooled) (k0 k1 : ClockSeen) (config : Config) (maps : Loaded) (names : Names) (how : SessionEnd) (outcome : Outcome) → outcome ≡ of_session how
+    → IfSome f0.map (λ map. alias_loading.Gives (Ok names) (names_by map config)) → Asks f0 f1 false → Serves (judge_by config maps) (session_site config) (core_seen l0 s0 k0) (core_seen l1 s1 k1) how → Works Session config maps (world f0 i o l0 s0 k0) (world f1 i o l1 s1 k1) outcome
+works_served f0 f1 i o l0 l1 s0 s1 k0 k1 config maps names how outcome told given asks serves =
+    inr (record { names = names; loads = loads_names config f0 f1 (Ok names) given asks; how = how; told = told; serves = serves; idle = record { input = refl; output = refl } })
+
+-- files that are as they were at the start of the run
+same_files : (f0 f1 f2 : FilesSeen) → f1.map ≡ f0.map → f1.faults ≡ f0.faults → Asks f1 f2 false → f2 ≡ f0
+same_files f0 f1 f2 map kept asks = λ i. record { map = (asks.fixed ∙ map) i; faults = (asks.calm refl ∙ kept) i }
+
+-- a run in session mode ends with its work
+pub ends_in_session : (words : List (List ℕ)) (f0 f1 f2 f3 : FilesSeen) (i : SourceSeen) (o : SinkSeen) (l0 l1 : Heard) (s0 s1 : Spooled) (k0 k1 : ClockSeen) (mode : Mode) (config : Config) (maps : Loaded) (outcome : Outcome) → IsCommandLine words mode → mode.job ≡ Session
+    → Begins mode.file f0 f1 (Ok config) → f1.map ≡ f0.map → f1.faults ≡ f0.faults → Loads config f0 f2 (Ok maps) → Asks f1 f2 false → Works Session config maps (world f2 i o l0 s0 k0) (world f3 i o l1 s1 k1) outcome → Ends words (world f0 i o l0 s0 k0) (world f3 i o l1 s1 k1) outcome
+ends_in_session words f0 f1 f2 f3 i o l0 l1 s0 s1 k0 k1 mode config maps outcome said does begins map kept loads asks works =
+    ends_at_work words (world f0 i o l0 s0 k0) (world f3 i o l1 s1 k1) mode Session config maps outcome said does begins loads
+    (subst (λ (f : FilesSeen). Works Session config maps (world f i o l0 s0 k0) (world f3 i o l1 s1 k1) outcome) (same_files f0 f1 f2 map kept asks) works)
 
 -- ---- what stays
 
@@ -172,19 +201,36 @@ stays_tested f0 f1 f2 i0 i1 o0 o1 l s k outcome map kept later asks input output
   spool = same_count outcomes.SpoolFault outcome s.faults;
 }
 
+-- a count that rises in the files of aliases and homes
+aliases_rise : (f0 f1 : FilesSeen) (fault : AliasesFault) → Asks f0 f1 (alias_loading.is_files_fault {V = Names} (Err fault)) → RisesOnlyAt outcomes.FilesFault (of_aliases fault) f0.faults f1.faults
+aliases_rise f0 f1 (alias_faults.NoFile name) asks = inr (asks.calm refl)
+aliases_rise f0 f1 (alias_faults.Refused name line) asks = inr (asks.calm refl)
+aliases_rise f0 f1 alias_faults.FilesFault asks = inl refl
+aliases_rise f0 f1 alias_faults.NoMemory asks = inr (asks.calm refl)
+
+-- session mode whose aliases aren't loaded leaves the files, and counts a fault of theirs alone
+pub stays_at_aliases : (f0 f1 : FilesSeen) (i : SourceSeen) (o : SinkSeen) (l : Heard) (s : Spooled) (k : ClockSeen) (fault : AliasesFault) (outcome : Outcome) → outcome ≡ of_aliases fault → Asks f0 f1 (alias_loading.is_files_fault {V = Names} (Err fault)) → Stays (world f0 i o l s k) (world f1 i o l s k) outcome
+stays_at_aliases f0 f1 i o l s k fault outcome told asks =
+    stays_at_file f0 f1 i o l s k outcome asks.fixed (counts outcomes.FilesFault outcome (of_aliases fault) f0.faults f1.faults told asks.later (aliases_rise f0 f1 fault asks))
+
 -- session mode leaves the files, and counts a fault of floor or spool only where it ended by it
-pub stays_served : (j : JudgeSeen) (site : Site) (f0 f1 f2 : FilesSeen) (i : SourceSeen) (o : SinkSeen) (l0 l1 : Heard) (s0 s1 : Spooled) (k0 k1 : ClockSeen) (how : SessionEnd) (outcome : Outcome) → outcome ≡ of_session how → f1.map ≡ f0.map → f1.faults ≡ f0.faults
-    → f0.faults ≤ f1.faults → Asks f1 f2 false → Serves j site (core_seen l0 s0 k0) (core_seen l1 s1 k1) how → RisesOnlyAt outcomes.FloorFault (of_session how) l0.faults l1.faults → RisesOnlyAt outcomes.SpoolFault (of_session how) s0.faults s1.faults
-    → Stays (world f0 i o l0 s0 k0) (world f2 i o l1 s1 k1) outcome
-stays_served j site f0 f1 f2 i o l0 l1 s0 s1 k0 k1 how outcome told map kept later asks serves floor spool =
+pub stays_served : (j : JudgeSeen) (site : Site) (f0 f1 : FilesSeen) (i : SourceSeen) (o : SinkSeen) (l0 l1 : Heard) (s0 s1 : Spooled) (k0 k1 : ClockSeen) (how : SessionEnd) (outcome : Outcome) → outcome ≡ of_session how
+    → Asks f0 f1 false → Serves j site (core_seen l0 s0 k0) (core_seen l1 s1 k1) how → RisesOnlyAt outcomes.FloorFault (of_session how) l0.faults l1.faults → RisesOnlyAt outcomes.SpoolFault (of_session how) s0.faults s1.faults
+    → Stays (world f0 i o l0 s0 k0) (world f1 i o l1 s1 k1) outcome
+stays_served j site f0 f1 i o l0 l1 s0 s1 k0 k1 how outcome told asks serves floor spool =
     let no_less = serves_later j site (core_seen l0 s0 k0) (core_seen l1 s1 k1) how serves in record {
-      map = asks.fixed ∙ map;
-      files = files_asked f0 f1 f2 outcome kept later asks;
+      map = asks.fixed;
+      files = record { later = asks.later; rises = inr (asks.calm refl) };
       input = same_count outcomes.ReadFault outcome i.faults;
       output = same_count outcomes.WriteFault outcome o.faults;
       floor = counts outcomes.FloorFault outcome (of_session how) l0.faults l1.faults told no_less.floor floor;
       spool = counts outcomes.SpoolFault outcome (of_session how) s0.faults s1.faults told no_less.spool spool;
     }
+
+-- a run in session mode leaves what its work leaves
+pub stays_in_session : (f0 f1 f2 f3 : FilesSeen) (i : SourceSeen) (o : SinkSeen) (l0 l1 : Heard) (s0 s1 : Spooled) (k0 k1 : ClockSeen) (outcome : Outcome) → f1.map ≡ f0.map → f1.faults ≡ f0.faults → Asks f1 f2 false → Stays (world f2 i o l0 s0 k0) (world f3 i o l1 s1 k1) outcome → Stays (world f0 i o l0 s0 k0) (world f3 i o l1 s1 k1) outcome
+stays_in_session f0 f1 f2 f3 i o l0 l1 s0 s1 k0 k1 outcome map kept asks stays =
+    subst (λ (f : FilesSeen). Stays (world f i o l0 s0 k0) (world f3 i o l1 s1 k1) outcome) (same_files f0 f1 f2 map kept asks) stays
 
 -- ---- a run that is ready, and in which no device fails, does the mode's whole work
 
@@ -248,6 +294,21 @@ maps_whole config before after job map (maps_faults.NoFile name) told none sound
 maps_whole config before after job map maps_faults.FilesFault told none sound is = absurd (sound is)
 maps_whole config before after job map maps_faults.NoMemory told none sound is = whole_memory job
 
+-- files of which each alias file is taken give aliases and homes
+none_faulty : (files : FilesSeen) (map : FileMap) (config : Config) (fault : AliasesFault) → files.map ≡ Some map → first_fault map config.options.alias_files ≡ None → GiveNames files config (Err fault) → ⊥
+none_faulty files map config fault told none gives =
+    let here : names_by map config ≡ Err fault = subst (λ (o : Option FileMap). IfSome o (λ m. names_by m config ≡ Err fault)) told gives in
+    let there : names_by map config ≡ Ok (names_of map config) = ap (λ (o : Option AliasesFault). unless_fault o (names_of map config)) none in
+    let same : Err fault ≡ Ok (names_of map config) = sym here ∙ there in
+    cc same
+
+aliases_whole : (config : Config) (before after : World) (map : FileMap) (fault : AliasesFault) → before.files.map ≡ Some map → first_fault map config.options.alias_files ≡ None → ¬ (Rose before.files.faults after.files.faults)
+    → LoadsNames config before.files after.files (Err fault) → IsWhole Session (of_aliases fault)
+aliases_whole config before after map (alias_faults.NoFile name) told none sound is = absurd (none_faulty before.files map config (alias_faults.NoFile name) told none is)
+aliases_whole config before after map (alias_faults.Refused name line) told none sound is = absurd (none_faulty before.files map config (alias_faults.Refused name line) told none is)
+aliases_whole config before after map alias_faults.FilesFault told none sound is = absurd (sound is)
+aliases_whole config before after map alias_faults.NoMemory told none sound is = inr (inl refl)
+
 over_whole : (j : JudgeSeen) (site : Site) (before after : World) (stop : CoreStop) → NoneFailed Session before after → (is_judge_fault {T = Act} (Err stop) ≡ false) × IsServedOut j site (core_of before) (core_of after) (Err stop) → IsWhole Session (of_session (session_ends.Over stop))
 over_whole j site before after stops.SpoolFault sound is = absurd (sound.1 (is.1.over.run.ended SpoolFault refl).cause)
 over_whole j site before after stops.IdsSpent sound is = inr (inr (inl refl))
@@ -261,9 +322,10 @@ session_whole j site before after session_ends.Stopped sound is = inl refl
 session_whole j site before after (session_ends.Over stop) sound is = over_whole j site before after stop sound is
 session_whole j site before after (session_ends.TurnsSpent count) sound is = inr (inr (inr (ap (λ (n : ℕ). outcomes.TurnsSpent n) is.0)))
 
-work_whole : (config : Config) (maps : Loaded) (before after : World) (job : Job) (outcome : Outcome) → Finds job before → NoneFailed job before after → Works job config maps before after outcome → IsWhole job outcome
-work_whole config maps before after Test outcome finds sound is = subst (λ (o : Outcome). IsWhole Test o) (sym is.told) (lines_whole (basis config maps) before after is.how finds sound is.tests)
-work_whole config maps before after Session outcome finds sound is = subst (λ (o : Outcome). IsWhole Session o) (sym is.told) (session_whole (judge_by config maps) (session_site config) before after is.how sound is.serves)
+work_whole : (map : FileMap) (config : Config) (maps : Loaded) (before after : World) (job : Job) (outcome : Outcome) → before.files.map ≡ Some map → Finds job map config before → IsSound job before after → Works job config maps before after outcome → IsWhole job outcome
+work_whole map config maps before after Test outcome told finds sound is = subst (λ (o : Outcome). IsWhole Test o) (sym is.told) (lines_whole (basis config maps) before after is.how finds sound.own is.tests)
+work_whole map config maps before after Session outcome told finds sound (inl is) = subst (λ (o : Outcome). IsWhole Session o) (sym is.told) (aliases_whole config before after map is.fault told finds sound.files is.loads)
+work_whole map config maps before after Session outcome told finds sound (inr is) = subst (λ (o : Outcome). IsWhole Session o) (sym is.told) (session_whole (judge_by config maps) (session_site config) before after is.how sound.own is.serves)
 
 -- what a run's end says of a run that is ready
 complete_at_words : (words : List (List ℕ)) (before after : World) (outcome : Outcome) → EndsAtWords words before after outcome → Completes words before after outcome
@@ -293,7 +355,8 @@ complete_at_work words before after outcome is = λ job ready sound.
     let same = one_mode words is.mode ready.mode is.said ready.said in
     let does : is.mode.job ≡ job = ap (λ (m : Mode). m.job) same ∙ ready.does in
     let works : Works job is.config is.maps before after outcome = subst (λ (j : Job). Works j is.config is.maps before after outcome) does is.works in
-    work_whole is.config is.maps before after job outcome ready.finds sound.own works
+    let found : Works job ready.config is.maps before after outcome = subst (λ (c : Config). Works job c is.maps before after outcome) (config_of words before after job ready is.mode is.config is.said is.begins) works in
+    work_whole ready.map ready.config is.maps before after job outcome ready.told ready.finds sound found
 
 -- however a run ends, it does the whole work of its mode where it is ready and no device fails
 pub completes : (words : List (List ℕ)) (before after : World) (outcome : Outcome) → Ends words before after outcome → Completes words before after outcome

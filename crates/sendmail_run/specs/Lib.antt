@@ -7,5 +7,6 @@ pub mod Testing
 pub mod Serving
 pub mod Beginning
 pub mod MapFiles
+pub mod AliasFiles
 pub mod Runs
 pub mod inner

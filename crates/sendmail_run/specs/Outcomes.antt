@@ -7,6 +7,8 @@ use Rattle.sendmail_run.specs.declared.command_line.WordFault.{WordFault}
 use Rattle.sendmail_run.specs.declared.command_line.WordFault.TheVariants as word_faults
 use Rattle.sendmail_run.specs.declared.fault.ConfigFault.{ConfigFault}
 use Rattle.sendmail_run.specs.declared.fault.ConfigFault.TheVariants as config_faults
+use Rattle.sendmail_run.specs.declared.fault.AliasesFault.{AliasesFault}
+use Rattle.sendmail_run.specs.declared.fault.AliasesFault.TheVariants as alias_faults
 use Rattle.sendmail_run.specs.declared.fault.MapsFault.{MapsFault}
 use Rattle.sendmail_run.specs.declared.fault.MapsFault.TheVariants as maps_faults
 use Rattle.sendmail_run.specs.declared.address_test.TestEnd.{TestEnd}
@@ -14,7 +16,7 @@ use Rattle.sendmail_run.specs.declared.address_test.TestEnd.TheVariants as test_
 use Rattle.sendmail_run.specs.declared.session_mode.SessionEnd.{SessionEnd}
 use Rattle.sendmail_run.specs.declared.session_mode.SessionEnd.TheVariants as session_ends
 use Rattle.sendmail_run.specs.declared.outcome.Outcome.{Outcome}
-use Rattle.sendmail_run.specs.declared.outcome.Outcome.TheVariants.{Done, Usage, NoFile, NoMemory, FilesFault, WriteFault, ReadFault, InputLarge, ConfigLine, FloorFault, TurnsSpent, SpoolFault, IdsSpent}
+use Rattle.sendmail_run.specs.declared.outcome.Outcome.TheVariants.{Done, Usage, NoFile, NoMemory, FilesFault, WriteFault, ReadFault, InputLarge, ConfigLine, AliasLine, FloorFault, TurnsSpent, SpoolFault, IdsSpent}
 
 -- words that are refused
 abbrev pub of_words : WordFault → Outcome
@@ -33,6 +35,13 @@ abbrev pub of_maps : MapsFault → Outcome
 of_maps (maps_faults.NoFile name) = NoFile name
 of_maps maps_faults.FilesFault = FilesFault
 of_maps maps_faults.NoMemory = NoMemory
+
+-- aliases that aren't loaded
+abbrev pub of_aliases : AliasesFault → Outcome
+of_aliases (alias_faults.NoFile name) = NoFile name
+of_aliases (alias_faults.Refused name line) = AliasLine name line
+of_aliases alias_faults.FilesFault = FilesFault
+of_aliases alias_faults.NoMemory = NoMemory
 
 -- the end of address test mode
 abbrev pub of_test : TestEnd → Outcome
@@ -61,6 +70,7 @@ of_session (session_ends.TurnsSpent count) = TurnsSpent count
 abbrev pub status_of : Outcome → ℕ
 status_of Done = 0
 status_of (Usage place) = 64
+status_of (AliasLine name line) = 65
 status_of (NoFile name) = 66
 status_of FloorFault = 69
 status_of (TurnsSpent count) = 70

@@ -6,20 +6,23 @@ use Rattle.mail_base.specs.Histories.{Rose}
 use Rattle.mail_edge.specs.Seen.{FileMap}
 use Rattle.map_tables.specs.Answers.{Loaded}
 use Rattle.sendmail_run.specs.declared.address_test.TestEnd.{TestEnd}
+use Rattle.sendmail_run.specs.declared.aliases.Names.{Names}
 use Rattle.sendmail_run.specs.declared.command_line.Job.{Job}
 use Rattle.sendmail_run.specs.declared.command_line.Job.TheVariants.{Test, Session}
 use Rattle.sendmail_run.specs.declared.command_line.Mode.{Mode}
 use Rattle.sendmail_run.specs.declared.command_line.WordFault.{WordFault}
+use Rattle.sendmail_run.specs.declared.fault.AliasesFault.{AliasesFault}
 use Rattle.sendmail_run.specs.declared.fault.ConfigFault.{ConfigFault}
 use Rattle.sendmail_run.specs.declared.fault.MapsFault.{MapsFault}
 use Rattle.sendmail_run.specs.declared.outcome.Outcome.{Outcome}
 use Rattle.sendmail_run.specs.declared.outcome.Outcome.TheVariants as ends
 use Rattle.sendmail_run.specs.declared.session_mode.SessionEnd.{SessionEnd}
+use Rattle.sendmail_run.specs.AliasFiles.{LoadsNames, first_fault}
 use Rattle.sendmail_run.specs.Beginning.{Begins, said_by}
 use Rattle.sendmail_run.specs.CommandLines.{Fails, IsCommandLine}
 use Rattle.sendmail_run.specs.Devices.{Streams, World, core_of, streams_of}
 use Rattle.sendmail_run.specs.MapFiles.{Loads, first_missing}
-use Rattle.sendmail_run.specs.Outcomes.{of_config, of_maps, of_session, of_test, of_words}
+use Rattle.sendmail_run.specs.Outcomes.{of_aliases, of_config, of_maps, of_session, of_test, of_words}
 use Rattle.sendmail_run.specs.Printing.{basis}
 use Rattle.sendmail_run.specs.Rises.{Counts}
 use Rattle.sendmail_run.specs.Serving.{IsLeftAlone, Serves, judge_by, session_site}
@@ -77,9 +80,20 @@ pub record HasTested (config : Config) (maps : Loaded) (before after : World)
   pub tests : Tests (basis config maps) (streams_of before) (streams_of after) how
   pub alone : IsLeftAlone (core_of before) (core_of after)
 
--- session mode did its work, with these maps, and left the input and the output alone
+-- the files of aliases and homes gave none, and nothing was taken, written or served
+pub record EndsAtAliases (config : Config) (before after : World) (outcome : Outcome)
+    : Type 0 where
+  pub fault : AliasesFault
+  pub told : outcome ≡ of_aliases fault
+  pub loads : LoadsNames config before.files after.files (Err fault)
+  pub untouched : IsUntouched before after
+
+-- session mode had its aliases and homes and did its work, with these maps, and left the input and
+-- the output alone
 pub record HasServed (config : Config) (maps : Loaded) (before after : World)
     (outcome : Outcome) : Type 0 where
+  pub names : Names
+  pub loads : LoadsNames config before.files after.files (Ok names)
   pub how : SessionEnd
   pub told : outcome ≡ of_session how
   pub serves : Serves (judge_by config maps) (session_site config) (core_of before) (core_of after)
@@ -89,7 +103,8 @@ pub record HasServed (config : Config) (maps : Loaded) (before after : World)
 -- how the work of a mode ends
 abbrev pub Works : Job → Config → Loaded → World → World → Outcome → Type 0
 Works Test config maps before after outcome = HasTested config maps before after outcome
-Works Session config maps before after outcome = HasServed config maps before after outcome
+Works Session config maps before after outcome =
+    EndsAtAliases config before after outcome ⊎ HasServed config maps before after outcome
 
 -- the words were taken, the file that they name is a configuration, the files of its maps gave
 -- them, and the mode's work was done
@@ -129,10 +144,11 @@ pub record IsShort (left : Option (List ℕ)) : Type 0 where
   pub told : left ≡ Some bytes
   pub few : length bytes < 2 ^ 32
 
--- what a mode wants of its devices: session mode takes any queue
-abbrev pub Finds : Job → World → Type 0
-Finds Test before = IsShort before.input.left
-Finds Session before = Unit {0}
+-- what a mode wants, under a configuration over files: address test mode a short input, and session
+-- mode that each alias file is taken, and any queue
+abbrev pub Finds : Job → FileMap → Config → World → Type 0
+Finds Test map config before = IsShort before.input.left
+Finds Session map config before = first_fault map config.options.alias_files ≡ None
 
 -- the words say this mode, they, the file and its lines are all taken, of files that are told, no
 -- file of its maps is missing, and the mode finds what it wants
@@ -145,7 +161,7 @@ pub record IsReady (words : List (List ℕ)) (before : World) (job : Job) : Type
   pub config : Config
   pub read : said_by map mode.file ≡ Some (Ok config)
   pub all_there : first_missing map config ≡ None
-  pub finds : Finds job before
+  pub finds : Finds job map config before
 
 -- no device of a mode failed; a send may have
 abbrev pub NoneFailed : Job → World → World → Type 0

@@ -2,3 +2,4 @@ pub mod Loading
 pub mod Taking
 pub mod Opened
 pub mod Words
+pub mod AliasLoading

@@ -1,4 +1,5 @@
 ghost use Rattle.std.specs.Prelude.{◌≡◌};
+ghost use Rattle.sendmail_run.specs.declared.fault.AliasesFault.TheVariants as aliases;
 ghost use Rattle.sendmail_run.specs.declared.fault.MapsFault.TheVariants as maps;
 
 use cf_reader::Fault;
@@ -31,5 +32,25 @@ impl From<NoMemory> for MapsFault {
 
     fn from(_error: NoMemory) -> MapsFault {
         MapsFault::NoMemory
+    }
+}
+
+/// Why the alias files and the file of homes give no names.
+#[derive(Drop)]
+pub enum AliasesFault {
+    /// There is no alias file of this name.
+    NoFile(Text),
+    /// The first line that is refused of the alias file of this name, by its number from 1.
+    Refused { name: Text, line: u32 },
+    /// One of the files could not be read.
+    FilesFault,
+    NoMemory,
+}
+
+impl From<NoMemory> for AliasesFault {
+    ghost from_gives = { λ _ e. e ≡ aliases.NoMemory };
+
+    fn from(_error: NoMemory) -> AliasesFault {
+        AliasesFault::NoMemory
     }
 }

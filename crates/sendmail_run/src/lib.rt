@@ -2,6 +2,7 @@
 #![tactic(auto)]
 
 mod address_test;
+mod aliases;
 mod buffer;
 mod command_line;
 mod fault;

@@ -3,7 +3,7 @@ ghost use Rattle.sendmail_run.specs.Outcomes as spec;
 
 use crate::address_test::TestEnd;
 use crate::command_line::WordFault;
-use crate::fault::{ConfigFault, MapsFault};
+use crate::fault::{AliasesFault, ConfigFault, MapsFault};
 use crate::session_mode::SessionEnd;
 use cf_reader::Fault;
 use mail_base::Text;
@@ -18,7 +18,8 @@ pub enum Outcome {
     /// The words are refused at this place, counted from 0; a word that is missing stands at their
     /// number.
     Usage(u32),
-    /// There is no file of this name: that of the configuration, or that of a map without `-o`.
+    /// There is no file of this name: that of the configuration, that of a map without `-o`, or an
+    /// alias file.
     NoFile(Text),
     NoMemory,
     /// A file could not be read.
@@ -31,6 +32,8 @@ pub enum Outcome {
     InputLarge,
     /// The configuration's line of this number, counted from 1, is refused.
     ConfigLine(u32, Fault),
+    /// The line of this number, counted from 1, is refused of the alias file of this name.
+    AliasLine(Text, u32),
     /// The floor could not begin, or a turn of it failed; one that fails to send only ends that
     /// session.
     FloorFault,
@@ -51,6 +54,7 @@ impl Outcome {
         match self {
             Outcome::Done => 0,
             Outcome::Usage(_) => 64,
+            Outcome::AliasLine(..) => 65,
             Outcome::NoFile(_) => 66,
             Outcome::NoMemory => 71,
             Outcome::FilesFault => 72,
@@ -95,6 +99,18 @@ impl Outcome {
             MapsFault::NoFile(name) => Outcome::NoFile(name),
             MapsFault::FilesFault => Outcome::FilesFault,
             MapsFault::NoMemory => Outcome::NoMemory,
+        }
+    }
+
+    /// That of a run that has no aliases.
+    pub(crate) fn of_aliases(fault: AliasesFault) -> Outcome
+        ensures { result ≡ spec.of_aliases fault }
+    {
+        match fault {
+            AliasesFault::NoFile(name) => Outcome::NoFile(name),
+            AliasesFault::Refused { name, line } => Outcome::AliasLine(name, line),
+            AliasesFault::FilesFault => Outcome::FilesFault,
+            AliasesFault::NoMemory => Outcome::NoMemory,
         }
     }
 

@@ -1,12 +1,15 @@
 ghost use Rattle.std.specs.Prelude.{◌≡◌, ◌<◌, ◌≤◌, ◌^◌, length, IfErr, IfOk, OnOk};
+ghost use Rattle.mail_edge.specs.Seen.{SinkSeen, SourceSeen};
 ghost use Rattle.sendmail_run.specs.Beginning.{Begins};
 ghost use Rattle.sendmail_run.specs.Devices.{world};
 ghost use Rattle.sendmail_run.specs.Outcomes.{of_config};
 ghost use Rattle.sendmail_run.specs.Rises.{RisesOnlyAt};
-ghost use Rattle.sendmail_run.specs.Runs.{Completes, Ends, Stays};
+ghost use Rattle.sendmail_run.specs.Runs.{Completes, Ends, Stays, Works};
+ghost use Rattle.sendmail_run.specs.declared.command_line.Job.TheVariants.{Session};
 ghost use Rattle.sendmail_run.specs.declared.outcome.Outcome.TheVariants.{FilesFault};
 
 use crate::address_test::address_test;
+use crate::aliases::load_names;
 use crate::command_line::{Job, words};
 use crate::fault::ConfigFault;
 use crate::maps::load_maps;
@@ -16,6 +19,7 @@ use cf_reader::{CfFault, read};
 use link_edge::Floor;
 use mail_base::{Config, EdgeFault, Seq, Text};
 use mail_edge::{Clock, Files, Sink, Source};
+use map_tables::Maps;
 use spool_disk::Spool;
 use std::alloc::Global;
 
@@ -23,7 +27,8 @@ use std::alloc::Global;
 ///
 /// The steps are taken in this order, and the first refusal ends the run: the words, the
 /// configuration file, its lines, the files of maps in the order of K lines, the host table, and
-/// then in address test mode the lines of input, and in session mode the steps of [`session_mode`].
+/// then in address test mode the lines of input, and in session mode the alias files with the lines
+/// of each, the file of homes and the steps of [`session_mode`].
 pub fn sendmail<F: Files, D: Spool, L: Floor, C: Clock, I: Source, O: Sink>(
     alloc: Global,
     arguments: &Seq<Text>,
@@ -98,10 +103,41 @@ fn run<F: Files, D: Spool, L: Floor, C: Clock, I: Source, O: Sink>(
     };
     match mode.job {
         Job::Test => Outcome::of_test(address_test(alloc, &mut config, &maps, input, output)),
-        Job::Session => Outcome::of_session(session_mode(
-            alloc, &config, &maps, spool, floor, clock,
-        )),
+        Job::Session => session(alloc, &config, &maps, files, spool, floor, clock),
     }
+}
+
+// Session mode, with the files of aliases and homes that it reads before it opens the queue.
+fn session<F: Files, D: Spool, L: Floor, C: Clock>(
+    alloc: Global,
+    config: &Config,
+    maps: &Maps,
+    files: &mut F,
+    spool: &mut D,
+    floor: &mut L,
+    clock: &mut C,
+) -> Outcome
+    requires { (C.seen clock.old).readings ≤ 2 ^ 63 }
+    ensures works { (input : SourceSeen) (output : SinkSeen)
+        → Works Session config.now maps.now
+        (world (F.seen files.old) input output (L.seen floor.old) (D.seen spool.old)
+        (C.seen clock.old))
+        (world (F.seen files.new) input output (L.seen floor.new) (D.seen spool.new)
+        (C.seen clock.new))
+        result }
+    ensures stays { (input : SourceSeen) (output : SinkSeen)
+        → Stays
+        (world (F.seen files.old) input output (L.seen floor.old) (D.seen spool.old)
+        (C.seen clock.old))
+        (world (F.seen files.new) input output (L.seen floor.new) (D.seen spool.new)
+        (C.seen clock.new))
+        result }
+{
+    let _names = match load_names(alloc, config, files) {
+        Ok(names) => names,
+        Err(fault) => return Outcome::of_aliases(fault),
+    };
+    Outcome::of_session(session_mode(alloc, config, maps, spool, floor, clock))
 }
 
 // The configuration that the file of that name gives.

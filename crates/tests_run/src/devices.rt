@@ -7,12 +7,17 @@ use std::test::Fail;
 pub(crate) const CONFIG: &[u8] = b"S5\nR$-:$+\t$@ $2 @ $1\n";
 
 /// The files that stand beside each configuration.
-static FILES: [(&str, &[u8]); 2] = [
+static FILES: [(&str, &[u8]); 7] = [
     ("/t", b"k v%1\nbad (\nfar here\n"),
     (
         "/hosts",
         b"127.0.0.1 far.example far\n127.0.0.1 c.example\n",
     ),
+    ("/aliases", b""),
+    ("/list", b"l: ann, bob\nowner-l: cid\n"),
+    ("/refused", b"a b\n"),
+    ("/third", b"# names\nl: ann\na b\nc d\n"),
+    ("/homes", b"ann /home/ann\n"),
 ];
 
 /// The words of a command line, which blanks part.

@@ -339,6 +339,11 @@ pub(crate) fn place_of(alloc: Global, outcome: &Outcome) -> Result<Text, NoMemor
     match outcome {
         Outcome::NoFile(name) => return Text::of(alloc, name.bytes()),
         Outcome::Usage(at) => place = format!(in alloc; "word {at}")?,
+        Outcome::AliasLine(name, at) => {
+            let mut told = Text::of(alloc, name.bytes())?;
+            told.extend(format!(in alloc; ", line {at}")?.as_bytes())?;
+            return Ok(told);
+        }
         Outcome::ConfigLine(at, fault) => place = format!(in alloc; "line {at} {fault}")?,
         _ => {}
     }

@@ -9,7 +9,7 @@ use std::test::Fail;
 /// A configuration, lines of input, and what is written.
 type Answer = (&'static [u8], &'static [u8], &'static [u8]);
 
-static ANSWERS: [Answer; 26] = [
+static ANSWERS: [Answer; 27] = [
     // Items of a left side: nothing, any tokens, and at least one.
     (
         b"SA\nR$@\t$@ zero\nSB\nR$*\t$@ star\nSC\nR$+\t$@ plus\n",
@@ -96,6 +96,12 @@ static ANSWERS: [Answer; 26] = [
         b"S9\nR$-\t$@ $[ $1 $: no $]\n",
         b"9 far\n",
         b"9 returns: no\n",
+    ),
+    // The files of aliases and homes are those of session mode alone.
+    (
+        b"O AliasFile=/none,/refused\nO HomesFile=/homes\nS1\nR$*\t$@ $1 b\n",
+        b"1 a\n",
+        b"1 returns: a b\n",
     ),
     // A macro that a look-up sets lives up to the end of its line.
     (

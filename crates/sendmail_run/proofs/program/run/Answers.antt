@@ -1,8 +1,7 @@
 use Rattle.std.specs.Prelude.{Ok, Err}
 use Rattle.sendmail_run.specs.declared.outcome.Outcome.TheVariants.{FilesFault, ReadFault, WriteFault}
 use Rattle.sendmail_run.specs.Outcomes.{of_config, of_test}
-use Rattle.sendmail_run.specs.Serving.{judge_by, session_site}
-use Rattle.sendmail_run.proofs.ProgramLemmas.{counts, loads_since, ends_at_words, ends_at_file, ends_at_maps, ends_tested, ends_served, stays_at_words, stays_at_file, stays_at_maps, stays_tested, stays_served}
+use Rattle.sendmail_run.proofs.ProgramLemmas.{counts, loads_since, ends_at_words, ends_at_file, ends_at_maps, ends_tested, ends_in_session, stays_at_words, stays_at_file, stays_at_maps, stays_tested, stays_in_session}
 use Rattle.sendmail_run.proofs.program.run.Goals as goal
 
 pub returns-in-Err-clause-ends : goal.returns-in-Err-clause-ends
@@ -52,13 +51,12 @@ returns-in-Test-clause-stays g c =
 
 pub returns-clause-ends : goal.returns-clause-ends
 returns-clause-ends g c =
-    ends_served c.args.arguments.now (g.F.Files.seen c.args.files.now) (g.F.Files.seen c.configuration.new.files) (g.F.Files.seen c.load_maps.new.files) (g.I.Source.seen c.args.input.now) (g.O.Sink.seen c.args.output.now) (g.L.Floor.seen c.args.floor.now) (g.L.Floor.seen c.session_mode.new.floor) (g.D.Spool.seen c.args.spool.now) (g.D.Spool.seen c.session_mode.new.spool) (g.C.Clock.seen c.args.clock.now) (g.C.Clock.seen c.session_mode.new.clock)
-    c.in-Ok.mode c.in-Ok-configuration.config c.in-Ok-load_maps.maps c.session_mode.result c.of_session.result c.of_session.ensures c.in-Ok.ensures c.in-Session.is c.in-Ok-configuration.ensures.begins
+    ends_in_session c.args.arguments.now (g.F.Files.seen c.args.files.now) (g.F.Files.seen c.configuration.new.files) (g.F.Files.seen c.load_maps.new.files) (g.F.Files.seen c.session.new.files) (g.I.Source.seen c.args.input.now) (g.O.Sink.seen c.args.output.now) (g.L.Floor.seen c.args.floor.now) (g.L.Floor.seen c.session.new.floor) (g.D.Spool.seen c.args.spool.now) (g.D.Spool.seen c.session.new.spool) (g.C.Clock.seen c.args.clock.now) (g.C.Clock.seen c.session.new.clock)
+    c.in-Ok.mode c.in-Ok-configuration.config c.in-Ok-load_maps.maps c.session.result c.in-Ok.ensures c.in-Session.is c.in-Ok-configuration.ensures.begins c.in-Ok-configuration.ensures.map c.in-Ok-configuration.ensures.kept
     (loads_since c.in-Ok-configuration.config (g.F.Files.seen c.args.files.now) (g.F.Files.seen c.configuration.new.files) (g.F.Files.seen c.load_maps.new.files) (Ok c.in-Ok-load_maps.maps) c.in-Ok-configuration.ensures.map c.in-Ok-configuration.ensures.kept c.in-Ok-load_maps.ensures.told c.in-Ok-load_maps.ensures.asks)
-    c.session_mode.ensures.serves
+    c.in-Ok-load_maps.ensures.asks (c.session.ensures.works (g.I.Source.seen c.args.input.now) (g.O.Sink.seen c.args.output.now))
 
 pub returns-clause-stays : goal.returns-clause-stays
 returns-clause-stays g c =
-    stays_served (judge_by c.in-Ok-configuration.config c.in-Ok-load_maps.maps) (session_site c.in-Ok-configuration.config) (g.F.Files.seen c.args.files.now) (g.F.Files.seen c.configuration.new.files) (g.F.Files.seen c.load_maps.new.files) (g.I.Source.seen c.args.input.now) (g.O.Sink.seen c.args.output.now) (g.L.Floor.seen c.args.floor.now) (g.L.Floor.seen c.session_mode.new.floor) (g.D.Spool.seen c.args.spool.now) (g.D.Spool.seen c.session_mode.new.spool) (g.C.Clock.seen c.args.clock.now) (g.C.Clock.seen c.session_mode.new.clock)
-    c.session_mode.result c.of_session.result c.of_session.ensures c.in-Ok-configuration.ensures.map c.in-Ok-configuration.ensures.kept c.in-Ok-configuration.ensures.later c.in-Ok-load_maps.ensures.asks
-    c.session_mode.ensures.serves c.session_mode.ensures.rises_floor c.session_mode.ensures.rises_spool
+    stays_in_session (g.F.Files.seen c.args.files.now) (g.F.Files.seen c.configuration.new.files) (g.F.Files.seen c.load_maps.new.files) (g.F.Files.seen c.session.new.files) (g.I.Source.seen c.args.input.now) (g.O.Sink.seen c.args.output.now) (g.L.Floor.seen c.args.floor.now) (g.L.Floor.seen c.session.new.floor) (g.D.Spool.seen c.args.spool.now) (g.D.Spool.seen c.session.new.spool) (g.C.Clock.seen c.args.clock.now) (g.C.Clock.seen c.session.new.clock)
+    c.session.result c.in-Ok-configuration.ensures.map c.in-Ok-configuration.ensures.kept c.in-Ok-load_maps.ensures.asks (c.session.ensures.stays (g.I.Source.seen c.args.input.now) (g.O.Sink.seen c.args.output.now))
