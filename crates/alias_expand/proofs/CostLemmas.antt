@@ -24,7 +24,7 @@ pub record Within (old new : ℕ) : Type 0 where
   pub grows : old ≤ new
   pub bounded : old ≤ most_reads → new ≤ most_reads
 
-within_same : (n : ℕ) → Within n n
+pub within_same : (n : ℕ) → Within n n
 within_same n = record { grows = omega arith; bounded = λ h. h }
 
 -- a file more was read
@@ -98,7 +98,7 @@ module _ (site : Site) (files : Option FileMap) where
     meet_climbs text act (met_before triple route other among) = within_same (length reading.files)
     meet_climbs text act (meets triple a route other first leads) = lead_climbs stand.level stand.sender text triple (with_met triple reading) act leads
 
-    come_climbs : (member : Member) (act : Act) → Comes site files stand reading member act → Climbing act
+    pub come_climbs : (member : Member) (act : Act) → Comes site files stand reading member act → Climbing act
     come_climbs member act (too_deep m deep) = tt
     come_climbs member act (of_file file a deep by) = include_climbs file act by
     come_climbs member act (of_address text a deep by) = meet_climbs text act by

@@ -5,6 +5,7 @@ mod JoinLemmas
 mod MemberLemmas
 mod OneLemmas
 mod PieceLemmas
+mod SomeLemmas
 mod StepLemmas
 mod TreeLemmas
 mod TripleLemmas

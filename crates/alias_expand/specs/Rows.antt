@@ -1,9 +1,10 @@
 -- The rows of an address (Sendmail Installation and Operation Guide, "The Alias Database",
 -- ":include:", "Per-User Forwarding", the mailer's flags A and w, MaxAliasRecursion; aliases(5);
 -- the limits of rows and of reads, the order, and that a file is read once are our own).
-use Rattle.std.specs.Prelude.{◌≡◌, ℕ, ◌+◌, ◌≤◌, Bool, true, false, not, ◌&&◌, ◌==◌, nat_lt, nat_le, List, [], ◌∷◌, ◌++◌, length, Option, None, Some, option_map, IfSome, Result, Ok, Err, if◌then◌else◌, codes}
+use Rattle.std.specs.Prelude.{◌≡◌, ℕ, ◌+◌, Bool, true, false, not, ◌&&◌, ◌==◌, nat_lt, nat_le, List, [], ◌∷◌, ◌++◌, length, Option, None, Some, option_map, IfSome, Result, Ok, Err, if◌then◌else◌, codes}
 use Rattle.mail_base.specs.Catalogs.{value_like}
 use Rattle.mail_base.specs.Limits.{most_rows}
+use Rattle.mail_base.specs.Refusals.{IsRefusal}
 use Rattle.mail_base.specs.declared.config.Config.{Config}
 use Rattle.mail_base.specs.declared.draw.Draw.{Draw}
 use Rattle.mail_base.specs.declared.route.Resolved.{Resolved}
@@ -289,3 +290,14 @@ HoldsOf (Err refusal) P = P (Err refusal)
 abbrev pub is_files_fault : {T : Type 0} → Result T ExpandRefusal → Bool
 is_files_fault (Err refusals.FilesFault) = true
 is_files_fault result = false
+
+-- why an address has no rows, as it is told: the error of a route can stand in a reply
+abbrev pub IsTellable : ExpandRefusal → Type 0
+IsTellable (refusals.Refuses error) = IsRefusal error
+IsTellable refusal = Unit {0}
+
+-- an outcome that an address has: neither a fault of files nor want of memory
+abbrev pub IsMeant : Result (List Draw) ExpandRefusal → Type 0
+IsMeant (Err refusals.FilesFault) = ⊥
+IsMeant (Err refusals.NoMemory) = ⊥
+IsMeant outcome = Unit {0}

@@ -1,10 +1,10 @@
-ghost use Rattle.std.specs.Prelude.{◌≡◌, List, Result, IfOk, IfSome, Some};
+ghost use Rattle.std.specs.Prelude.{◌≡◌, List, Result, IfErr, IfOk, IfSome, Some};
 ghost use Rattle.mail_base.specs.Texts.{IsAddress, IsBracketed};
 ghost use Rattle.mail_base.specs.declared.draw.Draw.{Draw as TheDraw};
 ghost use Rattle.mail_edge.specs.Asking.{Asks};
 ghost use Rattle.alias_expand.specs.declared.refusal.ExpandRefusal.{ExpandRefusal as TheRefusal};
 ghost use Rattle.mail_base.specs.Drawing.{AreRows};
-ghost use Rattle.alias_expand.specs.Rows.{Expands, HoldsOf, Starts, is_files_fault, nothing_read, site_of};
+ghost use Rattle.alias_expand.specs.Rows.{Expands, HoldsOf, IsTellable, Starts, is_files_fault, nothing_read, site_of};
 ghost use Rattle.alias_expand.specs.inner.Steps.{ComesTo, Does};
 
 use crate::frame::Opened;
@@ -40,6 +40,7 @@ pub fn expand<F: Files>(
         → Expands (site_of aliases.now homes.now config.now maps.now macros.now) (Some map)
         address.now sender.now one → HoldsOf result (λ other. other ≡ one)) }
     ensures forms { IsAddress address.now → IsBracketed sender.now → IfOk result AreRows }
+    ensures refusal { IfErr result IsTellable }
     ensures asks { Asks (F.seen files.old) (F.seen files.new) (is_files_fault result) }
 {
     // Laws: an address comes to one outcome, and aliases have members.
@@ -68,6 +69,7 @@ fn read<F: Files>(
     sender: &Text,
 ) -> Result<Reading, ExpandRefusal>
     ensures reads { HoldsOf result (ComesTo site.now (F.seen files.old).map address.now sender.now) }
+    ensures tellable { IfErr result IsTellable }
     ensures asks { Asks (F.seen files.old) (F.seen files.new) (is_files_fault result) }
 {
     let mut reading = Reading::new(site.alloc);
@@ -92,6 +94,7 @@ fn start<F: Files>(
     requires { reading.old ≡ nothing_read }
     ensures starts { Does result reading.new
         (Starts site.now (F.seen files.old).map address.now sender.now) }
+    ensures tellable { IfErr result IsTellable }
     ensures asks { Asks (F.seen files.old) (F.seen files.new) (is_files_fault result) }
 {
     let resolved = site.route(address, false)?;

@@ -2,9 +2,9 @@ ghost use Rattle.std.specs.Prelude.{◌≡◌, ℕ, List, Result, Some};
 ghost use Rattle.mail_base.specs.declared.draw.Draw.{Draw};
 ghost use Rattle.mail_edge.specs.Seen.{FileMap};
 ghost use Rattle.alias_expand.specs.declared.refusal.ExpandRefusal.{ExpandRefusal};
-ghost use Rattle.alias_expand.specs.Rows.{Expands, Site};
+ghost use Rattle.alias_expand.specs.Rows.{Expands, IsMeant, Site};
 
-use addr_route::one_route;
+use addr_route::{one_route, some_route};
 
 /// An address comes to one outcome, where the files are told.
 pub fn one_expansion()
@@ -15,4 +15,15 @@ pub fn one_expansion()
 {
     // A law: an address has one route.
     one_route();
+}
+
+/// It comes to an outcome, whatever aliases and files name one another, which is neither a fault of
+/// files nor want of memory.
+pub fn some_expansion()
+    ensures { (site : Site) (files : FileMap) (address sender : List ℕ)
+        → (outcome : Result (List Draw) ExpandRefusal)
+        × (Expands site (Some files) address sender outcome × IsMeant outcome) }
+{
+    // A law: an address has a route.
+    some_route();
 }

@@ -1,7 +1,8 @@
 ghost use Rattle.std.specs.Prelude.{◌≡◌, ◌<◌, ◌≤◌, ◌^◌, IfErr, IfOk, IfSome, Some, length};
+ghost use Rattle.addr_route.specs.Routes.{IsBounded};
 ghost use Rattle.mail_edge.specs.Asking.{Asks};
 ghost use Rattle.alias_expand.specs.Members.{file_members};
-ghost use Rattle.alias_expand.specs.Rows.{Forwards, HasText, Leads, is_files_fault, under_alias, under_user};
+ghost use Rattle.alias_expand.specs.Rows.{Forwards, HasText, IsTellable, Leads, is_files_fault, under_alias, under_user};
 ghost use Rattle.alias_expand.specs.inner.Steps.{Does, IsDeviceFault};
 
 use crate::frame::Opened;
@@ -27,6 +28,7 @@ pub(crate) fn lead<F: Files>(
     requires { spot.level < 2 ^ 64 }
     ensures leads { Does result reading.new (Leads site.now (F.seen files.old).map
         spot.entry.level spot.entry.sender.now spot.entry.text.now triple reading.old) }
+    ensures tellable { IfErr result IsTellable }
     ensures asks { Asks (F.seen files.old) (F.seen files.new) (is_files_fault result) }
 {
     if let Some(members) = site.alias_members(spot.text, &triple) {
@@ -78,9 +80,11 @@ fn forward<F: Files>(
     file: &Text,
     reading: &mut Reading,
 ) -> Result<Option<Opened>, ExpandRefusal>
-    requires { spot.level < 2 ^ 64 }
+    requires level { spot.level < 2 ^ 64 }
+    requires bounded { IsBounded resolved }
     ensures forwards { Does result reading.new (Forwards site.now (F.seen files.old).map
         spot.entry.level spot.entry.sender.now spot.entry.text.now triple resolved reading.old (Some file.now)) }
+    ensures tellable { IfErr result IsTellable }
     ensures asks { Asks (F.seen files.old) (F.seen files.new) (is_files_fault result) }
 {
     if reading.is_spent() {

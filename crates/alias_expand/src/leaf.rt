@@ -1,5 +1,6 @@
-ghost use Rattle.std.specs.Prelude.{◌≡◌, IfOk, false};
-ghost use Rattle.alias_expand.specs.Rows.{added, is_files_fault, leaf_at, row_at};
+ghost use Rattle.std.specs.Prelude.{◌≡◌, IfErr, IfOk, false};
+ghost use Rattle.addr_route.specs.Routes.{IsBounded};
+ghost use Rattle.alias_expand.specs.Rows.{IsTellable, added, is_files_fault, leaf_at, row_at};
 ghost use Rattle.alias_expand.specs.inner.Steps.{Does};
 
 use crate::ExpandRefusal;
@@ -14,8 +15,10 @@ pub(crate) fn leaf(
     resolved: Resolved,
     reading: &mut Reading,
 ) -> Result<Option<Opened>, ExpandRefusal>
+    requires { IsBounded resolved }
     ensures comes { Does result reading.new
         (λ act. act ≡ leaf_at spot.entry.level spot.entry.sender.now spot.entry.text.now resolved reading.old) }
+    ensures tellable { IfErr result IsTellable }
     ensures calm { is_files_fault result ≡ false }
 {
     if spot.level > 0 {
@@ -35,6 +38,7 @@ pub(crate) fn add_row(
 ) -> Result<Option<Opened>, ExpandRefusal>
     ensures comes { Does result reading.new
         (λ act. act ≡ added (row_at spot.entry.level spot.entry.sender.now spot.entry.text.now resolved) reading.old) }
+    ensures tellable { IfErr result IsTellable }
     ensures calm { is_files_fault result ≡ false }
 {
     add(row_at(spot, resolved)?, reading)
@@ -44,6 +48,7 @@ pub(crate) fn add_row(
 #[tactic(auto, unfolding(mail_base::specs::Limits::most_rows))]
 fn add(row: Draw, reading: &mut Reading) -> Result<Option<Opened>, ExpandRefusal>
     ensures comes { Does result reading.new (λ act. act ≡ added row reading.old) }
+    ensures tellable { IfErr result IsTellable }
     ensures calm { is_files_fault result ≡ false }
 {
     if reading.rows.len() >= MOST_ROWS {

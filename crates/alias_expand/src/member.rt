@@ -1,8 +1,8 @@
-ghost use Rattle.std.specs.Prelude.{◌≡◌, ◌<◌, ◌^◌, IfOk, false, true};
+ghost use Rattle.std.specs.Prelude.{◌≡◌, ◌<◌, ◌^◌, IfErr, IfOk, false, true};
 ghost use Rattle.mail_base.specs.declared.route.Resolved.{Resolved as TheResolved};
 ghost use Rattle.mail_edge.specs.Asking.{Asks};
 ghost use Rattle.alias_expand.specs.Members.{file_members};
-ghost use Rattle.alias_expand.specs.Rows.{Comes, Includes, Meets, RoutesTo, added, is_deep, is_files_fault, is_itself, row_at, with_self};
+ghost use Rattle.alias_expand.specs.Rows.{Comes, Includes, IsTellable, Meets, RoutesTo, added, is_deep, is_files_fault, is_itself, row_at, with_self};
 ghost use Rattle.alias_expand.specs.Rows as spec;
 ghost use Rattle.alias_expand.specs.inner.Steps.{Does, Met};
 
@@ -28,6 +28,7 @@ pub(crate) fn member<F: Files>(
 ) -> Result<Option<Opened>, ExpandRefusal>
     ensures comes { Does result reading.new
         (Comes site.now (F.seen files.old).map stand.now reading.old member.now) }
+    ensures tellable { IfErr result IsTellable }
     ensures asks { Asks (F.seen files.old) (F.seen files.new) (is_files_fault result) }
 {
     if is_deep(site, stand) {
@@ -57,6 +58,7 @@ fn include<F: Files>(
 ) -> Result<Option<Opened>, ExpandRefusal>
     ensures includes { Does result reading.new
         (Includes site.now (F.seen files.old).map stand.now reading.old file.now) }
+    ensures tellable { IfErr result IsTellable }
     ensures asks { Asks (F.seen files.old) (F.seen files.new) (is_files_fault result) }
 {
     if reading.files.has(&stand.namer, file)? {
@@ -103,6 +105,7 @@ fn meet<F: Files>(
     requires { stand.now.level < 2 ^ 64 }
     ensures meets { Does result reading.new
         (Meets site.now (F.seen files.old).map stand.now reading.old text.now) }
+    ensures tellable { IfErr result IsTellable }
     ensures asks { Asks (F.seen files.old) (F.seen files.new) (is_files_fault result) }
 {
     let resolved = site.route(text, false)?;
@@ -138,6 +141,7 @@ fn met<F: Files>(
     requires { stand.now.level < 2 ^ 64 }
     ensures meets { Does result reading.new
         (Met site.now (F.seen files.old).map stand.now reading.old text.now triple) }
+    ensures tellable { IfErr result IsTellable }
     ensures asks { Asks (F.seen files.old) (F.seen files.new) (is_files_fault result) }
 {
     if is_itself(stand, &triple, reading)? {
@@ -172,6 +176,7 @@ fn itself(
         × (RoutesTo site.now (spec.escaped text.now) true resolved
         × (act ≡ added (row_at stand.now.level stand.now.sender (spec.escaped text.now) resolved)
         (with_self triple.now reading.old)))) }
+    ensures tellable { IfErr result IsTellable }
     ensures calm { is_files_fault result ≡ false }
 {
     let text = escaped(site.alloc, text)?;

@@ -2,7 +2,7 @@ ghost use Rattle.std.specs.Prelude.{◌≡◌, [], ◌∷◌, ◌++◌, ◌<◌,
 ghost use Rattle.mail_edge.specs.Asking.{Asks};
 ghost use Rattle.alias_expand.specs.declared.reading.Reading.{Reading as TheReading};
 ghost use Rattle.alias_expand.specs.declared.refusal.ExpandRefusal.{ExpandRefusal as TheRefusal};
-ghost use Rattle.alias_expand.specs.Rows.{Reads, is_files_fault, most_reads};
+ghost use Rattle.alias_expand.specs.Rows.{IsTellable, Reads, is_files_fault, most_reads};
 ghost use Rattle.alias_expand.specs.inner.Costs.{Falls, Fits, deepest};
 ghost use Rattle.alias_expand.specs.inner.Steps.{Completes, ReadsTo, StopsWith, advanced, frame_of, frames_of};
 
@@ -25,6 +25,7 @@ pub(crate) fn read_members<F: Files>(
     requires { length reading.old.files ≤ most_reads }
     ensures reads { ReadsTo result reading.new (Reads site.now (F.seen files.old).map
         opened.stand opened.members reading.old) }
+    ensures tellable { IfErr result IsTellable }
     ensures asks { Asks (F.seen files.old) (F.seen files.new) (is_files_fault result) }
 {
     let mut stack = stack_of(site.alloc, opened)?;
@@ -65,6 +66,7 @@ fn step<F: Files>(
     ensures falls { OnOk result (Fits (frame ∷ reverse stack.old.items) reading.old
         → Falls (deepest site.now) (frame ∷ reverse stack.old.items) (reverse stack.new.items)
         reading.new) }
+    ensures tellable { IfErr result IsTellable }
     ensures asks { Asks (F.seen files.old) (F.seen files.new) (is_files_fault result) }
 {
     let _bound = frame.members.len();
