@@ -11,7 +11,6 @@ use Rattle.map_tables.specs.Answers.{Loaded}
 use Rattle.ruleset_run.specs.Sites.{Macros}
 use Rattle.addr_route.specs.Checks.{Checks}
 use Rattle.addr_route.specs.Routes.{Routes}
-use Rattle.smtp_receive.specs.declared.judge.Verdict.{Verdict}
 use Rattle.smtp_receive.specs.declared.judge.Verdict.TheVariants.{Rows, No}
 use Rattle.mail_judge.specs.Judged.{Judges, is_checked, is_refused, goes, row_to}
 

@@ -74,7 +74,7 @@ module _ (one_check : IsOneCheck) (one_route : IsOneRoute) (config : Config) (ma
 
 -- ---- an answer
 
-module _ (has_route : HasRoute) (has_rewriting : HasRewriting) (config : Config) (maps : Loaded) where
+module _ (has_rewriting : HasRewriting) (config : Config) (maps : Loaded) where
   module _ (macros : Macros) (set path : List ℕ) where
     by_sets : (rules : RuleSet) → find (is_named set) config.book ≡ Some rules → (rewritten : Rewritten) → Rewrites (site_of config maps) macros (set ∷ []) path rewritten → (refusal : Option RouteError) × Checks config maps macros set path refusal
     by_sets rules e _ (rewrites answer p) = (verdict answer, checked rules answer e p)
@@ -83,9 +83,10 @@ module _ (has_route : HasRoute) (has_rewriting : HasRewriting) (config : Config)
     by_book None e = (None, unchecked e)
     by_book (Some rules) e = let w = has_rewriting (site_of config maps) macros (set ∷ []) path in by_sets rules e w.0 w.1
 
-    some_check : (refusal : Option RouteError) × Checks config maps macros set path refusal
+    pub some_check : (refusal : Option RouteError) × Checks config maps macros set path refusal
     some_check = by_book (find (is_named set) config.book) refl
 
+module _ (has_route : HasRoute) (has_rewriting : HasRewriting) (config : Config) (maps : Loaded) where
   module _ (macros : Macros) (path sender : List ℕ) where
     abbrev Comes : Type 0
     Comes = (verdict : Verdict) × Judges config maps macros path sender verdict
@@ -100,9 +101,9 @@ module _ (has_route : HasRoute) (has_rewriting : HasRewriting) (config : Config)
 
   -- a question has an answer
   pub some_said : (question : Question) → (said : Said) × IsJudged config maps question said
-  some_said (AsksSender path kept) = let w = some_check (session_macros config kept path) (codes "check_mail") path in (OfSender w.0, w.1)
+  some_said (AsksSender path kept) = let w = some_check has_rewriting config maps (session_macros config kept path) (codes "check_mail") path in (OfSender w.0, w.1)
   some_said (AsksRecipient path sender kept) =
       let macros = session_macros config kept sender in
-      let w = some_check macros (codes "check_rcpt") path in
+      let w = some_check has_rewriting config maps macros (codes "check_rcpt") path in
       let v = by_refusal macros path sender w.0 w.1 in
       (OfRecipient v.0, v.1)

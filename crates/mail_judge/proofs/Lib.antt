@@ -1,3 +1,5 @@
+mod DrawnLaws
+mod DrawnLemmas
 mod FormLemmas
 mod JudgeLemmas
 mod LawLemmas

@@ -1,0 +1,13 @@
+use Rattle.smtp_receive.specs.Judging.{AsksSender}
+use Rattle.mail_judge.proofs.DrawnLemmas.{tells_one}
+use Rattle.mail_judge.proofs.drawing.DrawerJudge.sender.Goals as goal
+
+pub returns-in_err-refusal_of-clause-one : goal.returns-in_err-refusal_of-clause-one
+returns-in_err-refusal_of-clause-one g c =
+    let a = c.args in
+    tells_one c.one_drawing.ensures a.self.now.grounds (g.F.Files.seen a.self.now.files.now) (AsksSender a.path.now a.kept.now)
+
+pub returns-clause-one : goal.returns-clause-one
+returns-clause-one g c =
+    let a = c.args in
+    tells_one c.one_drawing.ensures a.self.now.grounds (g.F.Files.seen a.self.now.files.now) (AsksSender a.path.now a.kept.now)
