@@ -14,17 +14,22 @@ use Rattle.smtp_receive.proofs.DialogueLemmas.{dialogue_more}
 use Rattle.mail_core.specs.Sites.{Site}
 use Rattle.mail_core.specs.Guests.{Guest, grant_in, grants_of, with_line, line_in, lines_heard}
 use Rattle.mail_core.specs.Machine.{Did, says, closes, limit_of, replies, is_answered}
-use Rattle.mail_core.specs.Meant.{IsHeadedAt}
+use Rattle.mail_core.specs.Meant.{IsMadeAt}
+use Rattle.mail_core.specs.Messages.{Made}
 use Rattle.spool_store.specs.Entries.{Table}
 
 -- ---- what is told, and the machine's reply
 
+-- what is made where there is no message
+abbrev pub unmade : Made
+unmade = record { first = None; cuts = [] }
+
 -- what a reply in words comes to
 pub record IsReply (site : Site) (moment : ℕ) (d : Did) (answer : Answer) (text : List ℕ) (grant : Bool) : Type 0 where
-  pub says_it : (first : Option (List ℕ)) (whole : Bool) → replies site moment d answer first whole ≡ says d text whole
-  pub answered : (table : Table) → is_answered table answer ≡ true
+  pub says_it : (made : Made) (whole : Bool) → replies site moment d answer made whole ≡ says d text whole
+  pub answered : (table : Table) (made : Made) → is_answered table made answer ≡ true
   pub grant_is : is_grant (Some answer) ≡ grant
-  pub headed : (table : Table) (first : Option (List ℕ)) → IsHeadedAt site moment table answer first
+  pub meant : (table : Table) (made : Made) → IsMadeAt site moment table answer made
 
 -- the same words
 abbrev same_words : (d : Did) (one other : List ℕ) (whole : Bool) → one ≡ other → says d other whole ≡ says d one whole
@@ -32,10 +37,10 @@ same_words d one other whole e = ap (λ t. says d t whole) (sym e)
 
 -- a reply that a session gives is its answer's text, without a grant
 pub reply_is : (site : Site) (moment : ℕ) (d : Did) (answer : Answer) (text : List ℕ) → Replied text ≡ did_of (shown_host site.host) (limit_of d) answer → IsReply site moment d answer text false
-reply_is site moment d (Says reply) text e = record { says_it = λ first whole. same_words d text (text_of reply) whole (cc e); answered = λ table. refl; grant_is = refl; headed = λ table first. tt }
-reply_is site moment d (Refuses error) text e = record { says_it = λ first whole. same_words d text (refusal_text error) whole (cc e); answered = λ table. refl; grant_is = refl; headed = λ table first. tt }
-reply_is site moment d Greets text e = record { says_it = λ first whole. same_words d text _ whole (cc e); answered = λ table. refl; grant_is = refl; headed = λ table first. tt }
-reply_is site moment d Extends text e = record { says_it = λ first whole. same_words d text _ whole (cc e); answered = λ table. refl; grant_is = refl; headed = λ table first. tt }
+reply_is site moment d (Says reply) text e = record { says_it = λ made whole. same_words d text (text_of reply) whole (cc e); answered = λ table made. refl; grant_is = refl; meant = λ table made. tt }
+reply_is site moment d (Refuses error) text e = record { says_it = λ made whole. same_words d text (refusal_text error) whole (cc e); answered = λ table made. refl; grant_is = refl; meant = λ table made. tt }
+reply_is site moment d Greets text e = record { says_it = λ made whole. same_words d text _ whole (cc e); answered = λ table made. refl; grant_is = refl; meant = λ table made. tt }
+reply_is site moment d Extends text e = record { says_it = λ made whole. same_words d text _ whole (cc e); answered = λ table made. refl; grant_is = refl; meant = λ table made. tt }
 reply_is site moment d Grants text e = absurd (cc e)
 reply_is site moment d Closes text e = absurd (cc e)
 reply_is site moment d (Gives message) text e = absurd (cc e)
@@ -47,16 +52,16 @@ grant_is site moment d (Says reply) text e = absurd (cc e)
 grant_is site moment d (Refuses error) text e = absurd (cc e)
 grant_is site moment d Greets text e = absurd (cc e)
 grant_is site moment d Extends text e = absurd (cc e)
-grant_is site moment d Grants text e = record { says_it = λ first whole. same_words d text grant_text whole (cc e); answered = λ table. refl; grant_is = refl; headed = λ table first. tt }
+grant_is site moment d Grants text e = record { says_it = λ made whole. same_words d text grant_text whole (cc e); answered = λ table made. refl; grant_is = refl; meant = λ table made. tt }
 grant_is site moment d Closes text e = absurd (cc e)
 grant_is site moment d (Gives message) text e = absurd (cc e)
 grant_is site moment d Takes text e = absurd (cc e)
 
 -- what a farewell comes to
 pub record IsBye (site : Site) (moment : ℕ) (d : Did) (answer : Answer) (text : List ℕ) : Type 0 where
-  pub closes_it : (first : Option (List ℕ)) (whole : Bool) → replies site moment d answer first whole ≡ closes d text whole
-  pub answered : (table : Table) → is_answered table answer ≡ true
-  pub headed : (table : Table) (first : Option (List ℕ)) → IsHeadedAt site moment table answer first
+  pub closes_it : (made : Made) (whole : Bool) → replies site moment d answer made whole ≡ closes d text whole
+  pub answered : (table : Table) (made : Made) → is_answered table made answer ≡ true
+  pub meant : (table : Table) (made : Made) → IsMadeAt site moment table answer made
 
 -- a farewell that a session gives closes with its answer's text
 pub bye_is : (site : Site) (moment : ℕ) (d : Did) (answer : Answer) (text : List ℕ) → Bye text ≡ did_of (shown_host site.host) (limit_of d) answer → IsBye site moment d answer text
@@ -65,16 +70,16 @@ bye_is site moment d (Refuses error) text e = absurd (cc e)
 bye_is site moment d Greets text e = absurd (cc e)
 bye_is site moment d Extends text e = absurd (cc e)
 bye_is site moment d Grants text e = absurd (cc e)
-bye_is site moment d Closes text e = record { closes_it = λ first whole. let same : text ≡ _ = cc e in ap (λ t. closes d t whole) (sym same); answered = λ table. refl; headed = λ table first. tt }
+bye_is site moment d Closes text e = record { closes_it = λ made whole. let same : text ≡ _ = cc e in ap (λ t. closes d t whole) (sym same); answered = λ table made. refl; meant = λ table made. tt }
 bye_is site moment d (Gives message) text e = absurd (cc e)
 bye_is site moment d Takes text e = absurd (cc e)
 
 -- nothing is said
 pub record IsSilent (site : Site) (moment : ℕ) (d : Did) (answer : Answer) : Type 0 where
-  pub says_none : (first : Option (List ℕ)) (whole : Bool) → replies site moment d answer first whole ≡ d
-  pub answered : (table : Table) → is_answered table answer ≡ true
+  pub says_none : (made : Made) (whole : Bool) → replies site moment d answer made whole ≡ d
+  pub answered : (table : Table) (made : Made) → is_answered table made answer ≡ true
   pub grant_is : is_grant (Some answer) ≡ false
-  pub headed : (table : Table) (first : Option (List ℕ)) → IsHeadedAt site moment table answer first
+  pub meant : (table : Table) (made : Made) → IsMadeAt site moment table answer made
 
 -- a line that a session takes in silence has no reply
 pub taken_is : (site : Site) (moment : ℕ) (d : Did) (answer : Answer) → Taken ≡ did_of (shown_host site.host) (limit_of d) answer → IsSilent site moment d answer
@@ -85,7 +90,7 @@ taken_is site moment d Extends e = absurd (cc e)
 taken_is site moment d Grants e = absurd (cc e)
 taken_is site moment d Closes e = absurd (cc e)
 taken_is site moment d (Gives message) e = absurd (cc e)
-taken_is site moment d Takes e = record { says_none = λ first whole. refl; answered = λ table. refl; grant_is = refl; headed = λ table first. tt }
+taken_is site moment d Takes e = record { says_none = λ made whole. refl; answered = λ table made. refl; grant_is = refl; meant = λ table made. tt }
 
 -- a message that a session gives is its answer's
 pub message_is : (host : List ℕ) (limit : ℕ) (answer : Answer) (message : Mails) → Message message ≡ did_of host limit answer → answer ≡ Gives message

@@ -1,6 +1,6 @@
 -- What pieces come to, line by line: each fact is of one line, so that examples compute.
 use Rattle.std.proofs.Common.{◌≡◌, ℕ, List, [], ◌∷◌, ◌++◌, length, slice_get, Bool, true, false, Option, Some, None, refl, sym, ◌∙◌, ap, subst, append_assoc}
-use Rattle.std.specs.Prelude.{◌&&◌, not, is_none, is_some, map, reverse, fold, if◌then◌else◌}
+use Rattle.std.specs.Prelude.{◌&&◌, codes, not, is_none, is_some, map, reverse, fold, if◌then◌else◌}
 use Rattle.std.specs.List.{flat_map}
 use Rattle.std.proofs.lemmas.Bool.{and_parts, cond-false}
 use Rattle.std.proofs.lemmas.Grind.{flat_map-append}
@@ -14,6 +14,7 @@ use Rattle.smtp_lines.specs.declared.line.Line.{Line}
 use Rattle.smtp_lines.specs.Stream.{reading_of}
 use Rattle.smtp_receive.specs.Dialogue.{Heard, Exchange, Answer, Says, Refuses, Greets, Extends, Grants, Closes, Gives, Takes as Passes, answer_to, exchanges, is_dropped, with_heard}
 use Rattle.smtp_receive.specs.Judging.{Said, Unasked}
+use Rattle.smtp_receive.proofs.Examples.{message as example_message}
 use Rattle.smtp_receive.specs.Replies.{text_of, refusal_text, grant_text, hello_text, extended_text, closing_text, out_of_memory_text, stored_text, shown_host}
 use Rattle.spool_store.specs.Entries.{Table}
 use Rattle.queue_table.specs.Commands.{after}
@@ -21,8 +22,15 @@ use Rattle.mail_core.specs.Sites.{Site}
 use Rattle.mail_core.specs.Effects.{Effect, Takes, Ticks, Commits, Sends, HangsUp, speech}
 use Rattle.mail_core.specs.Guests.{Guest, grant_in, guest_of, is_passed, next_line, with_bytes}
 use Rattle.mail_core.specs.Machine.{Choice, Normal, OutOfMemory, Way, GoesOn, Leaves, Did, way_of, replies, by_choice, heard_line, id_by, is_answered, heard_where, answered, settled, settled_by, fresh_start, all_answered, State, Step, still, Turn, at_moment, beginning, brought, moment_by, pieced, stepped, taken, followed, run}
-use Rattle.mail_core.specs.Messages.{accept_of, headed, is_spent, start}
+use Rattle.mail_core.specs.Messages.{Made, accept_of, is_spent, start}
 use Rattle.mail_core.proofs.MachineLemmas.{run_more}
+
+-- a message in one part, with no header in front
+abbrev pub in_one : Made
+in_one = record {
+  first = None;
+  cuts = record { sender = example_message.sender; group = codes "mqueue"; rows = example_message.rows } ∷ [];
+}
 
 -- the grants of these exchanges, of which the latest is first
 abbrev pub grants_by : List Exchange → List Bool
@@ -65,7 +73,7 @@ module _ (site : Site) (moment : ℕ) where
   effects_by limit session table Extends whole = speech session (extended_text (shown_host site.host) limit) whole
   effects_by limit session table Grants whole = speech session grant_text whole
   effects_by limit session table Closes whole = Sends session (closing_text (shown_host site.host)) whole ∷ HangsUp session ∷ []
-  effects_by limit session table (Gives message) whole = Commits (accept_of site moment (headed None message)) ∷ speech session (stored_text table.next) whole
+  effects_by limit session table (Gives message) whole = Commits (accept_of site moment message in_one) ∷ speech session (stored_text table.next) whole
   effects_by limit session table Passes whole = []
 
   -- the table after an answer, where a message is accepted
@@ -76,7 +84,7 @@ module _ (site : Site) (moment : ℕ) where
   table_by table Extends = table
   table_by table Grants = table
   table_by table Closes = table
-  table_by table (Gives message) = after table (accept_of site moment (headed None message))
+  table_by table (Gives message) = after table (accept_of site moment message in_one)
   table_by table Passes = table
 
   -- how a session goes on after an answer, by whether it was sent whole
@@ -122,8 +130,8 @@ module _ (site : Site) (moment : ℕ) where
     abbrev most : ℕ
     most = message_limit guest.config.options
 
-    replied : (answer : Answer) (whole : Bool) → is_spent now ≡ false
-        → replies site moment here answer None whole ≡ so_far (table_by now answer) guest heard c.may (effects ++ effects_by most guest.number now answer whole) (way_by answer whole)
+    replied : (answer : Answer) (whole : Bool) → is_spent now in_one ≡ false
+        → replies site moment here answer in_one whole ≡ so_far (table_by now answer) guest heard c.may (effects ++ effects_by most guest.number now answer whole) (way_by answer whole)
     replied (Says reply) whole left = refl
     replied (Refuses error) whole left = refl
     replied Greets whole left = refl
@@ -131,15 +139,15 @@ module _ (site : Site) (moment : ℕ) where
     replied Grants whole left = refl
     replied Closes whole left = refl
     replied (Gives message) whole left =
-        cond-false (is_spent now) _ _ left
-        ∙ ap (λ q. so_far (after now (accept_of site moment (headed None message))) guest heard c.may q (way_of whole))
-        (append_assoc effects (Commits (accept_of site moment (headed None message)) ∷ []) (speech guest.number (stored_text now.next) whole))
+        cond-false (is_spent now in_one) _ _ left
+        ∙ ap (λ q. so_far (after now (accept_of site moment message in_one)) guest heard c.may q (way_of whole))
+        (append_assoc effects (Commits (accept_of site moment message in_one) ∷ []) (speech guest.number (stored_text now.next) whole))
     replied Passes whole left = ap (λ q. so_far now guest heard c.may q GoesOn) (sym (append-nil effects))
 
     heard_more : (h : Heard) → exchanges guest.config guest.peer (heard ++ h ∷ []) ≡ with_heard guest.config guest.peer before h
     heard_more h = fold_push (with_heard guest.config guest.peer) [] heard h ∙ ap (λ b. with_heard guest.config guest.peer b h) c.known
 
-    answered_now : (answer : Answer) → is_spent now ≡ false → is_answered now answer ≡ true
+    answered_now : (answer : Answer) → is_spent now in_one ≡ false → is_answered now in_one answer ≡ true
     answered_now (Gives message) left = ap not left
     answered_now (Says reply) left = refl
     answered_now (Refuses error) left = refl
@@ -150,21 +158,21 @@ module _ (site : Site) (moment : ℕ) where
     answered_now Passes left = refl
 
     -- a line got its answer
-    pub comes_said : (said : Said) (answer : Answer) (whole : Bool) → is_spent now ≡ false → answer_to guest.config guest.peer before said line ≡ answer
-        → Comes table guest (choices ++ Normal said None whole ∷ []) (table_by now answer) (heard ++ heard_by line said false (id_by now answer) ∷ []) (by_said line said answer ∷ before) (effects ++ effects_by most guest.number now answer whole) (way_by answer whole)
+    pub comes_said : (said : Said) (answer : Answer) (whole : Bool) → is_spent now in_one ≡ false → answer_to guest.config guest.peer before said line ≡ answer
+        → Comes table guest (choices ++ Normal said in_one whole ∷ []) (table_by now answer) (heard ++ heard_by line said false (id_by now answer) ∷ []) (by_said line said answer ∷ before) (effects ++ effects_by most guest.number now answer whole) (way_by answer whole)
     comes_said said answer whole left is = record {
       may = (heard_line (so_far (table_by now answer) guest heard c.may (effects ++ effects_by most guest.number now answer whole) (way_by answer whole)) line said false (id_by now answer)).may_disconnect;
       known = heard_more (heard_by line said false (id_by now answer)) ∙ ap (λ a. by_said line said a ∷ before) is;
-      is = chosen (Normal said None whole)
-          ∙ ap (λ q. heard_where (is_answered now (answer_to guest.config guest.peer q said line)) (replies site moment here (answer_to guest.config guest.peer q said line) None whole) line said false (id_by now (answer_to guest.config guest.peer q said line))) c.known
-          ∙ ap (λ q. heard_where (is_answered now q) (replies site moment here q None whole) line said false (id_by now q)) is
-          ∙ ap (λ b. heard_where b (replies site moment here answer None whole) line said false (id_by now answer)) (answered_now answer left)
+      is = chosen (Normal said in_one whole)
+          ∙ ap (λ q. heard_where (is_answered now in_one (answer_to guest.config guest.peer q said line)) (replies site moment here (answer_to guest.config guest.peer q said line) in_one whole) line said false (id_by now (answer_to guest.config guest.peer q said line))) c.known
+          ∙ ap (λ q. heard_where (is_answered now in_one q) (replies site moment here q in_one whole) line said false (id_by now q)) is
+          ∙ ap (λ b. heard_where b (replies site moment here answer in_one whole) line said false (id_by now answer)) (answered_now answer left)
           ∙ ap (λ d. heard_line d line said false (id_by now answer)) (replied answer whole left);
     }
 
     -- the same where it isn't put to the judge
-    pub comes_more : (answer : Answer) (whole : Bool) → is_spent now ≡ false → answer_to guest.config guest.peer before Unasked line ≡ answer
-        → Comes table guest (choices ++ Normal Unasked None whole ∷ []) (table_by now answer) (heard ++ input line false (id_by now answer) ∷ []) (plain line answer ∷ before) (effects ++ effects_by most guest.number now answer whole) (way_by answer whole)
+    pub comes_more : (answer : Answer) (whole : Bool) → is_spent now in_one ≡ false → answer_to guest.config guest.peer before Unasked line ≡ answer
+        → Comes table guest (choices ++ Normal Unasked in_one whole ∷ []) (table_by now answer) (heard ++ input line false (id_by now answer) ∷ []) (plain line answer ∷ before) (effects ++ effects_by most guest.number now answer whole) (way_by answer whole)
     comes_more answer whole left is = comes_said Unasked answer whole left is
 
     -- 452 4.3.1 came in place of it
@@ -290,29 +298,29 @@ module _ (site : Site) (config : Config) (peer : List ℕ) (reading : ℕ) (late
         }
 
     -- it completes one, which gets its answer
-    pub talks_line : (line : Line) (said : Said) (answer : Answer) → line_at (length heard) now (grants_by before) ≡ Some line → is_spent table ≡ false → answer_to config peer before said line ≡ answer
+    pub talks_line : (line : Line) (said : Said) (answer : Answer) → line_at (length heard) now (grants_by before) ≡ Some line → is_spent table in_one ≡ false → answer_to config peer before said line ≡ answer
         → way_by site latest answer true ≡ GoesOn → line_at (length (heard ++ heard_by line said false (id_by table answer) ∷ [])) now (grants_by (by_said line said answer ∷ before)) ≡ None
         → Talks now (table_by site latest table answer) (heard ++ heard_by line said false (id_by table answer) ∷ []) (by_said line said answer ∷ before) (effects ++ answers_of (effects_by site latest (message_limit config.options) 1 table answer true))
     talks_line line said answer next left is on none =
         let c = comes_said site latest table (caller now heard) [] table heard before [] line (comes_none site latest table (caller now heard) before t.known) next said answer true left is in
-        let went = subst (λ w. Comes site latest table (caller now heard) (Normal said None true ∷ []) (table_by site latest table answer) (heard ++ heard_by line said false (id_by table answer) ∷ []) (by_said line said answer ∷ before) (effects_by site latest (message_limit config.options) 1 table answer true) w) on c in record {
-          turns = t.turns ++ byte_turn b (Normal said None true ∷ []) ∷ [];
-          events = events_more (Normal said None true ∷ []);
+        let went = subst (λ w. Comes site latest table (caller now heard) (Normal said in_one true ∷ []) (table_by site latest table answer) (heard ++ heard_by line said false (id_by table answer) ∷ []) (by_said line said answer ∷ before) (effects_by site latest (message_limit config.options) 1 table answer true) w) on c in record {
+          turns = t.turns ++ byte_turn b (Normal said in_one true ∷ []) ∷ [];
+          events = events_more (Normal said in_one true ∷ []);
           done = t.done ++ Takes (one b) ∷ Ticks reading ∷ effects_by site latest (message_limit config.options) 1 table answer true;
-          is = turn_more (Normal said None true ∷ []) _ (all_kept site latest table (table_by site latest table answer) (caller now heard) (Normal said None true ∷ []) (heard ++ heard_by line said false (id_by table answer) ∷ []) (by_said line said answer ∷ before) (effects_by site latest (message_limit config.options) 1 table answer true) went none);
+          is = turn_more (Normal said in_one true ∷ []) _ (all_kept site latest table (table_by site latest table answer) (caller now heard) (Normal said in_one true ∷ []) (heard ++ heard_by line said false (id_by table answer) ∷ []) (by_said line said answer ∷ before) (effects_by site latest (message_limit config.options) 1 table answer true) went none);
           answers = answers_more (effects_by site latest (message_limit config.options) 1 table answer true);
           known = went.known;
         }
 
     -- it completes the last one, which ends the session
-    pub talks_last : (line : Line) (said : Said) (answer : Answer) → line_at (length heard) now (grants_by before) ≡ Some line → is_spent table ≡ false → answer_to config peer before said line ≡ answer → way_by site latest answer true ≡ Leaves
+    pub talks_last : (line : Line) (said : Said) (answer : Answer) → line_at (length heard) now (grants_by before) ≡ Some line → is_spent table in_one ≡ false → answer_to config peer before said line ≡ answer → way_by site latest answer true ≡ Leaves
         → (turns : List Turn) × (map (λ (q : Turn). q.event) turns ≡ Opens 1 peer ∷ map one now) × (answers_of (run site (beginning start) turns).effects ≡ effects ++ answers_of (effects_by site latest (message_limit config.options) 1 table answer true))
     talks_last line said answer next left is off =
         let c = comes_said site latest table (caller now heard) [] table heard before [] line (comes_none site latest table (caller now heard) before t.known) next said answer true left is in
-        let went = subst (λ w. Comes site latest table (caller now heard) (Normal said None true ∷ []) (table_by site latest table answer) (heard ++ heard_by line said false (id_by table answer) ∷ []) (by_said line said answer ∷ before) (effects_by site latest (message_limit config.options) 1 table answer true) w) off c in (
-          t.turns ++ byte_turn b (Normal said None true ∷ []) ∷ [],
-          events_more (Normal said None true ∷ []),
-          ap (λ (s : Step). answers_of s.effects) (turn_more (Normal said None true ∷ []) _ (all_left site latest table (table_by site latest table answer) (caller now heard) (Normal said None true ∷ []) (heard ++ heard_by line said false (id_by table answer) ∷ []) (by_said line said answer ∷ before) (effects_by site latest (message_limit config.options) 1 table answer true) went))
+        let went = subst (λ w. Comes site latest table (caller now heard) (Normal said in_one true ∷ []) (table_by site latest table answer) (heard ++ heard_by line said false (id_by table answer) ∷ []) (by_said line said answer ∷ before) (effects_by site latest (message_limit config.options) 1 table answer true) w) off c in (
+          t.turns ++ byte_turn b (Normal said in_one true ∷ []) ∷ [],
+          events_more (Normal said in_one true ∷ []),
+          ap (λ (s : Step). answers_of s.effects) (turn_more (Normal said in_one true ∷ []) _ (all_left site latest table (table_by site latest table answer) (caller now heard) (Normal said in_one true ∷ []) (heard ++ heard_by line said false (id_by table answer) ∷ []) (by_said line said answer ∷ before) (effects_by site latest (message_limit config.options) 1 table answer true) went))
               ∙ answers_more (effects_by site latest (message_limit config.options) 1 table answer true),
         )
 

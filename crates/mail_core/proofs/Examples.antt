@@ -19,10 +19,10 @@ use Rattle.mail_core.specs.Effects.{Effect, Takes, Ticks, Commits, Sends, HangsU
 use Rattle.mail_core.specs.Guests.{Guest, newcomer}
 use Rattle.mail_core.specs.Machine.{Stopped, id_by, By, Choice, Normal, OutOfMemory, Replied, GoesOn, Leaves, State, Step, Turn, beginning, followed, last_moment, moment_by, most_guests, run}
 use Rattle.mail_core.specs.Messages.{accept_of, is_spent, last_id, start}
-use Rattle.mail_core.proofs.ExampleLemmas.{Comes, Talks, by_said, comes_said, heard_by, effects_by, all_left, answers_of, are_within, comes_more, comes_none, comes_short, grants_by, input, lacked, line_at, one, piece, piece_turn, plain, run_first, so_far, table_by, talks_last, talks_line, talks_within, way_by}
+use Rattle.mail_core.proofs.ExampleLemmas.{Comes, Talks, by_said, comes_said, heard_by, effects_by, in_one, all_left, answers_of, are_within, comes_more, comes_none, comes_short, grants_by, input, lacked, line_at, one, piece, piece_turn, plain, run_first, so_far, table_by, talks_last, talks_line, talks_within, way_by}
 
 abbrev site : Site
-site = record { host = codes "localhost"; dirs = codes "/q" ∷ []; config = initial }
+site = record { host = codes "localhost"; dirs = codes "/q" ∷ []; config = initial; maps = record { maps = []; hosts = [] } }
 
 -- the answer to the latest line
 abbrev latest_answer : List Exchange → Answer
@@ -45,14 +45,14 @@ abbrev guest : Guest
 guest = record { number = 1; config = initial; peer = peer; received = sent; heard = [] }
 
 abbrev kept : Choice
-kept = Normal Unasked None true
+kept = Normal Unasked in_one true
 
 -- the same of MAIL and RCPT
 abbrev kept_mail : Choice
-kept_mail = Normal of_sender None true
+kept_mail = Normal of_sender in_one true
 
 abbrev kept_rcpt : Choice
-kept_rcpt = Normal of_recipient None true
+kept_rcpt = Normal of_recipient in_one true
 
 abbrev hello : List Effect
 hello = Sends 1 (codes "250 localhost Hello\r\n") true ∷ []
@@ -84,14 +84,14 @@ up_to_the_dot =
     comes_more site 5 start guest _ start _ _ _ body six refl Passes true refl refl
 
 abbrev stored_now : Table
-stored_now = after start (accept_of site 5 message)
+stored_now = after start (accept_of site 5 message in_one)
 
 abbrev closing : List Effect
 closing = Sends 1 (codes "221 2.0.0 localhost closing connection\r\n") true ∷ HangsUp 1 ∷ []
 
 -- the whole session, in one piece
 plain_piece : Comes site 5 start guest (data_choices ++ kept ∷ kept ∷ []) stored_now (given_lines ++ input DataEnd false (Some 1) ∷ input quit false None ∷ []) (plain quit Closes ∷ plain DataEnd (Gives message) ∷ whole)
-    (given_effects ++ Commits (accept_of site 5 message) ∷ Sends 1 (codes "250 2.0.0 w000000000001 Message accepted for delivery\r\n") true ∷ closing) Leaves
+    (given_effects ++ Commits (accept_of site 5 message in_one) ∷ Sends 1 (codes "250 2.0.0 w000000000001 Message accepted for delivery\r\n") true ∷ closing) Leaves
 unfolding most_recipients most_rows most_tokens digits most_command most_message most_headers most_path most_local_part most_domain shown_host last_id
 plain_piece =
     let dot = comes_more site 5 start guest _ start _ _ _ DataEnd up_to_the_dot refl (Gives message) true refl refl in
@@ -132,7 +132,7 @@ session_by choices now heard before effects turns later c rest =
 -- the message is in the table before its 250 is sent
 plain_session : run site (beginning start) (opens ∷ piece 1 sent 5 (data_choices ++ kept ∷ kept ∷ []) ∷ stops ∷ []) ≡ record {
   state = record { table = stored_now; guests = []; latest = 5; over = Some (By Stopped) };
-  effects = greeting ++ Takes (Brings 1 sent) ∷ Ticks 5 ∷ (given_effects ++ Commits (accept_of site 5 message) ∷ Sends 1 (codes "250 2.0.0 w000000000001 Message accepted for delivery\r\n") true ∷ closing) ++ Takes Stops ∷ Ticks 5 ∷ [];
+  effects = greeting ++ Takes (Brings 1 sent) ∷ Ticks 5 ∷ (given_effects ++ Commits (accept_of site 5 message in_one) ∷ Sends 1 (codes "250 2.0.0 w000000000001 Message accepted for delivery\r\n") true ∷ closing) ++ Takes Stops ∷ Ticks 5 ∷ [];
 }
 unfolding last_moment
 plain_session =
@@ -153,14 +153,14 @@ memory_is_wanting_at_the_dot : run site (beginning start) (opens ∷ piece 1 sen
 memory_is_wanting_at_the_dot = session_by _ _ _ _ _ [] (record { state = left_state start; effects = [] }) lacking_piece refl
 
 -- the reply to MAIL isn't sent whole: the session is hung up, and the rest of its piece is dropped
-lost_piece : Comes site 5 start guest (kept ∷ Normal of_sender None false ∷ []) start (input helo false None ∷ heard_by mail of_sender false None ∷ []) (by_said mail of_sender sender_ok ∷ plain helo Greets ∷ [])
+lost_piece : Comes site 5 start guest (kept ∷ Normal of_sender in_one false ∷ []) start (input helo false None ∷ heard_by mail of_sender false None ∷ []) (by_said mail of_sender sender_ok ∷ plain helo Greets ∷ [])
     (hello ++ Sends 1 (codes "250 2.1.0 Sender ok\r\n") false ∷ HangsUp 1 ∷ []) Leaves
 unfolding most_recipients most_rows most_tokens most_command most_message most_path most_local_part most_domain shown_host last_id
 lost_piece =
     let one = comes_more site 5 start guest [] start [] [] [] helo (comes_none site 5 start guest [] refl) refl Greets true refl refl in
     comes_said site 5 start guest _ start _ _ _ mail one refl of_sender sender_ok false refl refl
 
-a_send_fails : run site (beginning start) (opens ∷ piece 1 sent 5 (kept ∷ Normal of_sender None false ∷ []) ∷ []) ≡ record {
+a_send_fails : run site (beginning start) (opens ∷ piece 1 sent 5 (kept ∷ Normal of_sender in_one false ∷ []) ∷ []) ≡ record {
   state = record { table = start; guests = []; latest = 5; over = None };
   effects = greeting ++ Takes (Brings 1 sent) ∷ Ticks 5 ∷ hello ++ Sends 1 (codes "250 2.1.0 Sender ok\r\n") false ∷ HangsUp 1 ∷ [];
 }
@@ -184,14 +184,14 @@ opening = record { turns = opens ∷ []; events = refl; done = greeting; is = re
 
 -- the bytes of a line, and the LF that ends it
 line_of : (bytes more : List ℕ) (table : Table) (heard : List Heard) (before : List Exchange) (effects : List Effect) → Bytes bytes table heard before effects → (line : Line) (said : Said) (answer : Answer) → are_within (length heard) (grants_by before) bytes more ≡ true
-    → line_at (length heard) ((bytes ++ more) ++ 10 ∷ []) (grants_by before) ≡ Some line → is_spent table ≡ false → answer_to initial peer before said line ≡ answer → way_by site 5 answer true ≡ GoesOn
+    → line_at (length heard) ((bytes ++ more) ++ 10 ∷ []) (grants_by before) ≡ Some line → is_spent table in_one ≡ false → answer_to initial peer before said line ≡ answer → way_by site 5 answer true ≡ GoesOn
     → line_at (length (heard ++ heard_by line said false (id_by table answer) ∷ [])) ((bytes ++ more) ++ 10 ∷ []) (grants_by (by_said line said answer ∷ before)) ≡ None
     → Bytes ((bytes ++ more) ++ 10 ∷ []) (table_by site 5 table answer) (heard ++ heard_by line said false (id_by table answer) ∷ []) (by_said line said answer ∷ before) (effects ++ answers_of (effects_by site 5 (message_limit initial.options) 1 table answer true))
 line_of bytes more table heard before effects t line said answer within next left is on none =
     talks_line site initial peer 5 5 same_moment (bytes ++ more) table heard before effects (talks_within site initial peer 5 5 same_moment bytes more table heard before effects t within) 10 line said answer next left is on none
 
 by_bytes_to_the_dot : Bytes (codes "HELO c.example\r\nMAIL FROM:<bob@c.example>\r\nRCPT TO:<ann@mx.example>\r\nDATA\r\nSubject: hi\r\n\r\nhello\r\n.\r\n") stored_now (given_lines ++ input DataEnd false (Some 1) ∷ []) (plain DataEnd (Gives message) ∷ whole)
-    (first_effects ++ given_effects ++ Commits (accept_of site 5 message) ∷ Sends 1 (codes "250 2.0.0 w000000000001 Message accepted for delivery\r\n") true ∷ [])
+    (first_effects ++ given_effects ++ Commits (accept_of site 5 message in_one) ∷ Sends 1 (codes "250 2.0.0 w000000000001 Message accepted for delivery\r\n") true ∷ [])
 unfolding most_recipients most_rows most_tokens digits most_command most_message most_headers most_path most_local_part most_domain shown_host last_id
 by_bytes_to_the_dot =
     let one = line_of [] (codes "HELO c.example\r") start [] [] first_effects opening helo Unasked Greets refl refl refl refl refl refl in
@@ -205,7 +205,7 @@ by_bytes_to_the_dot =
 
 -- the same is sent and stored as by one piece
 by_bytes : (turns : List Turn) × (map (λ (t : Turn). t.event) turns ≡ Opens 1 peer ∷ map one sent)
-    × (answers_of (run site (beginning start) turns).effects ≡ first_effects ++ given_effects ++ Commits (accept_of site 5 message) ∷ Sends 1 (codes "250 2.0.0 w000000000001 Message accepted for delivery\r\n") true ∷ closing)
+    × (answers_of (run site (beginning start) turns).effects ≡ first_effects ++ given_effects ++ Commits (accept_of site 5 message in_one) ∷ Sends 1 (codes "250 2.0.0 w000000000001 Message accepted for delivery\r\n") true ∷ closing)
 unfolding most_recipients most_rows most_tokens most_command most_message most_domain shown_host last_id most_path most_local_part
 by_bytes =
     let t = talks_within site initial peer 5 5 same_moment _ (codes "QUIT\r") stored_now _ _ _ by_bytes_to_the_dot refl in

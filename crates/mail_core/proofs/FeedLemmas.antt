@@ -8,6 +8,7 @@ use Rattle.std.proofs.lemmas.List.Sums.{fold_push, fold-append}
 use Rattle.std.proofs.lemmas.Option.{slice_get_past}
 use Rattle.mail_base.specs.Histories.{Gains}
 use Rattle.mail_base.specs.declared.config.Config.{Config}
+use Rattle.map_tables.specs.Answers.{Loaded}
 use Rattle.mail_edge.specs.Seen.{ClockSeen}
 use Rattle.link_edge.specs.Heard.{Heard as FloorHeard}
 use Rattle.smtp_lines.specs.declared.line.Line.{Line}
@@ -322,8 +323,8 @@ talks_same site old new g number session t = record {
 }
 
 -- whether a session is ready doesn't hang on its lines
-pub ready_lines : (intake : Intake) (config : Config) (old new : Caller) → new.number ≡ old.number → new.session ≡ old.session → IsReady intake old config → IsReady intake new config
-ready_lines intake config old new number session r =
+pub ready_lines : (intake : Intake) (config : Config) (maps : Loaded) (old new : Caller) → new.number ≡ old.number → new.session ≡ old.session → IsReady intake old config maps → IsReady intake new config maps
+ready_lines intake config maps old new number session r =
     let t = r.talks in
     record {
       site = r.site;

@@ -3,29 +3,28 @@ use Rattle.std.proofs.Common.{◌≡◌, ◌≢◌, ◌⊎◌, inl, inr, ℕ, �
 use Rattle.std.specs.Prelude.{All, FitsSigned, IfSome, codes, length}
 use Rattle.std.specs.Int.{w64, w128}
 use Rattle.std.proofs.lemmas.List.{length-map}
-use Rattle.std.proofs.lemmas.List.Elements.{All-nil, All-cons, All-head, All-tail}
+use Rattle.std.proofs.lemmas.List.Elements.{All-nil, All-cons, All-head, All-tail, All-weaker}
 use Rattle.qf_format.specs.Valid.{IsValid, IsRow}
 use Rattle.mail_base.specs.declared.draw.Draw.{Draw}
 use Rattle.mail_base.specs.declared.message.Message.{Message}
 use Rattle.mail_base.specs.Texts.{IsHeader}
 use Rattle.mail_base.specs.Drawing.{IsDrawn}
 use Rattle.smtp_receive.specs.Forms.{IsFormed}
+use Rattle.queue_plan.specs.Parts.{IsPart}
 use Rattle.queue_table.specs.Calls.{AreValid}
 use Rattle.queue_table.specs.Commands.{new_control, new_row}
 use Rattle.queue_table.specs.Priorities.{within_128}
 use Rattle.queue_table.specs.Soundness.{AreCuts}
 use Rattle.queue_table.specs.declared.terms.Terms.{Terms}
 use Rattle.mail_base.specs.declared.message.Cut.{Cut}
-use Rattle.mail_core.specs.Messages.{cut_of, cuts_of, headed, put_first}
+use Rattle.mail_core.specs.Messages.{headed, put_first}
+use Rattle.mail_core.specs.inner.Made.{AreForms}
 
 abbrev NotLf : ℕ → Type 0
 NotLf b = b ≢ 10
 
 line_of : (b : ℕ) (bytes : List ℕ) → b ≢ 10 → All NotLf bytes → All NotLf (b ∷ bytes)
 line_of b bytes h k = All-cons NotLf b bytes h k
-
-group_line : All NotLf (codes "mqueue")
-group_line = line_of 109 (113 ∷ 117 ∷ 101 ∷ 117 ∷ 101 ∷ []) (λ e. omega (arith, e)) (line_of 113 (117 ∷ 101 ∷ 117 ∷ 101 ∷ []) (λ e. omega (arith, e)) (line_of 117 (101 ∷ 117 ∷ 101 ∷ []) (λ e. omega (arith, e)) (line_of 101 (117 ∷ 101 ∷ []) (λ e. omega (arith, e)) (line_of 117 (101 ∷ []) (λ e. omega (arith, e)) (line_of 101 ([]) (λ e. omega (arith, e)) (All-nil NotLf))))))
 
 protocol_line : All NotLf (codes "SMTP")
 protocol_line = line_of 83 (77 ∷ 84 ∷ 80 ∷ []) (λ e. omega (arith, e)) (line_of 77 (84 ∷ 80 ∷ []) (λ e. omega (arith, e)) (line_of 84 (80 ∷ []) (λ e. omega (arith, e)) (line_of 80 ([]) (λ e. omega (arith, e)) (All-nil NotLf))))
@@ -50,38 +49,38 @@ protocol_formed protocol (inl e) = subst (All NotLf) (sym e) protocol_line
 protocol_formed protocol (inr e) = subst (All NotLf) (sym e) (line_of 69 (codes "SMTP") (λ e. omega (arith, e)) protocol_line)
 
 -- a message of the right form has a control that is valid
-valid_message : (terms : Terms) (moment : ℕ) (first : Option (List ℕ)) (message : Message) (peer : List ℕ) → moment < 2 ^ 64 → All NotLf peer → FitsSigned w64 message.class → IfSome first IsHeader → IsFormed message peer → IsValid (new_control terms (headed first message) moment (cut_of message))
-valid_message terms moment first message peer fits line class header form = record {
+valid_message : (terms : Terms) (moment : ℕ) (first : Option (List ℕ)) (message : Message) (peer : List ℕ) (cut : Cut) → moment < 2 ^ 64 → All NotLf peer → FitsSigned w64 message.class → IfSome first IsHeader → IsFormed message peer → IsPart cut → IsValid (new_control terms (headed first message) moment cut)
+valid_message terms moment first message peer cut fits line class header form part = record {
   revision_range = record { least = omega arith; most = omega arith };
   parent_form = tt;
-  group_form = group_line;
+  group_form = part.group;
   created_range = fits;
   last_try_range = omega arith;
   tries_range = omega arith;
   priority_range = priority_fits _;
   class_range = class;
-  sender_form = form.sender_form;
+  sender_form = part.sender;
   kept_form = record {
     protocol_form = protocol_formed message.kept.protocol form.protocol_is;
     helo_form = form.helo_form;
     client_form = subst (All NotLf) (sym form.client_is) line;
   };
   rows_form = record {
-    some = omega (arith, form.rows_form.some, length-map message.rows new_row);
-    few = omega (arith, form.rows_form.few, length-map message.rows new_row);
-    each = rows_formed message.rows form.rows_form.each;
+    some = omega (arith, part.some, length-map cut.rows new_row);
+    few = omega (arith, part.few, length-map cut.rows new_row);
+    each = rows_formed cut.rows part.each;
   };
   headers_form = headers_formed first message.headers header form.headers_form;
 }
 
 -- and so has each of its parts
-pub valid_parts : (terms : Terms) (moment : ℕ) (first : Option (List ℕ)) (message : Message) (peer : List ℕ) → moment < 2 ^ 64 → All NotLf peer → FitsSigned w64 message.class → IfSome first IsHeader → IsFormed message peer → AreValid terms (headed first message) moment (cuts_of message)
-valid_parts terms moment first message peer fits line class header form =
-    All-cons (λ cut. IsValid (new_control terms (headed first message) moment cut)) (cut_of message) [] (valid_message terms moment first message peer fits line class header form) (All-nil (λ cut. IsValid (new_control terms (headed first message) moment cut)))
+pub valid_parts : (terms : Terms) (moment : ℕ) (first : Option (List ℕ)) (message : Message) (peer : List ℕ) (cuts : List Cut) → moment < 2 ^ 64 → All NotLf peer → FitsSigned w64 message.class → IfSome first IsHeader → IsFormed message peer → All IsPart cuts → AreValid terms (headed first message) moment cuts
+valid_parts terms moment first message peer cuts fits line class header form parts =
+    All-weaker IsPart (λ (cut : Cut). IsValid (new_control terms (headed first message) moment cut)) (λ cut part. valid_message terms moment first message peer cut fits line class header form part) cuts parts
 
--- the one part of a message with a row
-pub parts_are : (message : Message) → 1 ≤ length message.rows → AreCuts (cuts_of message)
-parts_are message some = record {
-  some = omega arith;
-  each = All-cons (λ (cut : Cut). 0 < length cut.rows) (cut_of message) [] (omega (arith, some)) (All-nil (λ (cut : Cut). 0 < length cut.rows));
-}
+has_row : (cut : Cut) → IsPart cut → 0 < length cut.rows
+has_row cut part = part.some
+
+-- parts that may become entries are parts of a message
+pub parts_are : (cuts : List Cut) → AreForms cuts → AreCuts cuts
+parts_are cuts form = record { some = form.some; each = All-weaker IsPart (λ (cut : Cut). 0 < length cut.rows) has_row cuts form.each }

@@ -1,9 +1,10 @@
 -- What is done for a line joins, and single sends are done.
-use Rattle.std.proofs.Common.{◌≡◌, ◌⊎◌, inl, inr, ℕ, ◌≤◌, List, [], ◌∷◌, ◌++◌, Bool, true, false, Result, Ok, Err, refl, sym, ◌∙◌, ap, subst, arith, append_assoc}
+use Rattle.std.proofs.Common.{◌≡◌, ◌⊎◌, inl, inr, ℕ, ◌+◌, ◌<◌, ◌≤◌, List, [], ◌∷◌, ◌++◌, Bool, true, false, Result, Ok, Err, refl, sym, ◌∙◌, ap, subst, arith, append_assoc}
 use Rattle.std.specs.Prelude.{Option, Some, None, not, if◌then◌else◌}
 use Rattle.std.proofs.lemmas.List.{append-nil}
 use Rattle.std.proofs.lemmas.Bool.{cond-false, false≢true}
 use Rattle.mail_base.specs.Histories.{Gains, Rose}
+use Rattle.mail_base.specs.Limits.{most_rows}
 use Rattle.mail_edge.specs.Seen.{ClockSeen}
 use Rattle.link_edge.specs.Heard.{Heard}
 use Rattle.link_edge.specs.declared.event.Event.{Event}
@@ -25,7 +26,7 @@ use Rattle.mail_core.specs.Effects.{Commits, Sends, HangsUp, heard_of, readings_
 use Rattle.mail_core.specs.Causes.{HasCause, is_well}
 use Rattle.mail_core.specs.inner.Going.{Does, heard_chosen, begins_data, stays_open, way_after, is_onward}
 use Rattle.mail_core.specs.Machine.{Ending, Stopped, SpoolFault, IdsSpent, FilesFault, GoesOn, Leaves, Over, Finish, By, Did, way_of, does, says, closes, is_over, commits, accepts, heard_line, heard_where, Choice, Normal, OutOfMemory, Disconnects, SpoolFails, JudgeFails}
-use Rattle.mail_core.specs.Messages.{accept_of, is_spent}
+use Rattle.mail_core.specs.Messages.{Made, accept_of, is_spent, last_id}
 use Rattle.mail_core.specs.Seen.{IsEither, IsSparing, Ran, Seen, seen, table_after}
 use Rattle.mail_core.proofs.RanLemmas.{table_more, ran_join, ran_none, ran_floor, ran_done, ran_failed}
 
@@ -164,8 +165,8 @@ module _ (site : Site) (d : Did) (f : Heard) (s : Spooled) (k : ClockSeen) where
     cause = λ ending over event. absurd (cc over);
   }
 
-  -- no id is left
-  pub does_spent : is_spent d.table ≡ true → Does site d (is_over d (By IdsSpent)) (seen f s k) (seen f s k) (Err stops.IdsSpent)
+  -- an id is wanting
+  pub does_spent : last_id + 1 < d.table.next + most_rows → Does site d (is_over d (By IdsSpent)) (seen f s k) (seen f s k) (Err stops.IdsSpent)
   does_spent spent = record {
     more = [];
     effects = refl;
@@ -190,43 +191,43 @@ does_judged site d f s k = record {
 
 -- ---- messages
 
-module _ (site : Site) (moment : ℕ) (d : Did) (message : Message) (f : Heard) (s t : Spooled) (k : ClockSeen) where
+module _ (site : Site) (moment : ℕ) (d : Did) (message : Message) (made : Made) (f : Heard) (s t : Spooled) (k : ClockSeen) where
   -- a message was taken in
-  pub does_commits : d.way ≡ GoesOn → Moves s t (StandsFor site.dirs d.table) (StandsFor site.dirs (after d.table (accept_of site moment message))) (IsEither site.dirs d.table (accept_of site moment message)) → IsSparing site.dirs s t true → s.faults ≤ t.faults
-      → Does site d (commits site moment d message) (seen f s k) (seen f t k) (Ok Continue)
+  pub does_commits : d.way ≡ GoesOn → Moves s t (StandsFor site.dirs d.table) (StandsFor site.dirs (after d.table (accept_of site moment message made))) (IsEither site.dirs d.table (accept_of site moment message made)) → IsSparing site.dirs s t true → s.faults ≤ t.faults
+      → Does site d (commits site moment d message made) (seen f s k) (seen f t k) (Ok Continue)
   does_commits way moves sparing later = record {
-    more = Commits (accept_of site moment message) ∷ [];
+    more = Commits (accept_of site moment message made) ∷ [];
     effects = refl;
     table = refl;
     number = refl;
-    ran = ran_done site.dirs d.table (accept_of site moment message) f s t k moves sparing later;
+    ran = ran_done site.dirs d.table (accept_of site moment message made) f s t k moves sparing later;
     way = way;
     cause = λ ending over event. absurd (cc over);
   }
 
   -- the spool failed at a message
-  pub does_failed : is_spent d.table ≡ false → Moves s t (StandsFor site.dirs d.table) (IsEither site.dirs d.table (accept_of site moment message)) (IsEither site.dirs d.table (accept_of site moment message)) → IsSparing site.dirs s t false → s.faults ≤ t.faults → Rose s.faults t.faults
-      → Does site d (if is_spent d.table then is_over d (By IdsSpent) else is_over (commits site moment d message) (By SpoolFault)) (seen f s k) (seen f t k) (Err stops.SpoolFault)
-  does_failed left moves sparing later rose = subst (λ e. Does site d e (seen f s k) (seen f t k) (Err stops.SpoolFault)) (sym (cond-false (is_spent d.table) _ _ left)) (record {
-    more = Commits (accept_of site moment message) ∷ [];
-    effects = append-nil (d.effects ++ Commits (accept_of site moment message) ∷ []);
+  pub does_failed : is_spent d.table made ≡ false → Moves s t (StandsFor site.dirs d.table) (IsEither site.dirs d.table (accept_of site moment message made)) (IsEither site.dirs d.table (accept_of site moment message made)) → IsSparing site.dirs s t false → s.faults ≤ t.faults → Rose s.faults t.faults
+      → Does site d (if is_spent d.table made then is_over d (By IdsSpent) else is_over (commits site moment d message made) (By SpoolFault)) (seen f s k) (seen f t k) (Err stops.SpoolFault)
+  does_failed left moves sparing later rose = subst (λ e. Does site d e (seen f s k) (seen f t k) (Err stops.SpoolFault)) (sym (cond-false (is_spent d.table made) _ _ left)) (record {
+    more = Commits (accept_of site moment message made) ∷ [];
+    effects = append-nil (d.effects ++ Commits (accept_of site moment message made) ∷ []);
     table = refl;
     number = refl;
-    ran = ran_failed site.dirs d.table (accept_of site moment message) f s t k moves sparing later;
+    ran = ran_failed site.dirs d.table (accept_of site moment message made) f s t k moves sparing later;
     way = refl;
-    cause = λ ending over event. ended_as SpoolFault ending event (after d.table (accept_of site moment message)) (seen f s k) (seen f t k) over rose;
+    cause = λ ending over event. ended_as SpoolFault ending event (after d.table (accept_of site moment message made)) (seen f s k) (seen f t k) over rose;
   })
 
 -- a message was taken in, and its 250 said
-pub does_accepts : (site : Site) (moment : ℕ) (d : Did) (message : Message) (f g : Heard) (s t : Spooled) (k : ClockSeen) (fed : Result Next CoreStop) → d.way ≡ GoesOn → is_spent d.table ≡ false
-    → Moves s t (StandsFor site.dirs d.table) (StandsFor site.dirs (after d.table (accept_of site moment message))) (IsEither site.dirs d.table (accept_of site moment message)) → IsSparing site.dirs s t true → s.faults ≤ t.faults
+pub does_accepts : (site : Site) (moment : ℕ) (d : Did) (message : Message) (made : Made) (f g : Heard) (s t : Spooled) (k : ClockSeen) (fed : Result Next CoreStop) → d.way ≡ GoesOn → is_spent d.table made ≡ false
+    → Moves s t (StandsFor site.dirs d.table) (StandsFor site.dirs (after d.table (accept_of site moment message made))) (IsEither site.dirs d.table (accept_of site moment message made)) → IsSparing site.dirs s t true → s.faults ≤ t.faults
     → IsSpoken fed → Gains f.told g.told (heard_of (speech d.guest.number (stored_text d.table.next) (is_onward fed))) → g.faults ≡ f.faults
-    → Does site d (accepts site moment d message (is_onward fed)) (seen f s k) (seen g t k) fed
-does_accepts site moment d message f g s t k fed way left moves sparing later spoken told own =
-    subst (λ e. Does site d e (seen f s k) (seen g t k) fed) (sym (cond-false (is_spent d.table) _ _ left))
-    (does_join site d (commits site moment d message) (says (commits site moment d message) (stored_text d.table.next) (is_onward fed)) (seen f s k) (seen f t k) (seen g t k) fed
-    (does_commits site moment d message f s t k way moves sparing later)
-    (does_says site (commits site moment d message) f g t k (stored_text d.table.next) fed spoken told own))
+    → Does site d (accepts site moment d message made (is_onward fed)) (seen f s k) (seen g t k) fed
+does_accepts site moment d message made f g s t k fed way left moves sparing later spoken told own =
+    subst (λ e. Does site d e (seen f s k) (seen g t k) fed) (sym (cond-false (is_spent d.table made) _ _ left))
+    (does_join site d (commits site moment d message made) (says (commits site moment d message made) (stored_text d.table.next) (is_onward fed)) (seen f s k) (seen f t k) (seen g t k) fed
+    (does_commits site moment d message made f s t k way moves sparing later)
+    (does_says site (commits site moment d message made) f g t k (stored_text d.table.next) fed spoken told own))
 
 -- the line was heard besides
 pub does_heard : (site : Site) (d e : Did) (a b : Seen) (fed : Result Next CoreStop) (line : Line) (said : Said) (short : Bool) (id : Option ℕ) → Does site d e a b fed → Does site d (heard_line e line said short id) a b fed
@@ -238,10 +239,10 @@ does_where site d e a b fed line said id false h = h
 
 -- the line of a message was heard besides, but where the run ended
 pub does_chosen : (site : Site) (d e : Did) (a b : Seen) (fed : Result Next CoreStop) (line : Line) (table : Table) (choice : Choice) → Does site d e a b fed → Does site d (heard_chosen table choice e line) a b fed
-does_chosen site d e a b fed line table (Normal said first whole) h = does_where site d e a b fed line said (Some table.next) (not (is_spent table)) h
+does_chosen site d e a b fed line table (Normal said made whole) h = does_where site d e a b fed line said (Some table.next) (not (is_spent table made)) h
 does_chosen site d e a b fed line table (OutOfMemory whole) h = does_heard site d e a b fed line Unasked true None h
 does_chosen site d e a b fed line table Disconnects h = h
-does_chosen site d e a b fed line table (SpoolFails first) h = h
+does_chosen site d e a b fed line table (SpoolFails made) h = h
 does_chosen site d e a b fed line table JudgeFails h = h
 
 where_table : (answered : Bool) (d : Did) (line : Line) (said : Said) (id : Option ℕ) → (heard_where answered d line said false id).table ≡ d.table
@@ -250,10 +251,10 @@ where_table false d line said id = refl
 
 -- what a session heard of a line, by a choice, doesn't change the table
 pub chosen_table : (table : Table) (choice : Choice) (d : Did) (line : Line) → (heard_chosen table choice d line).table ≡ d.table
-chosen_table table (Normal said first whole) d line = where_table (not (is_spent table)) d line said (Some table.next)
+chosen_table table (Normal said made whole) d line = where_table (not (is_spent table made)) d line said (Some table.next)
 chosen_table table (OutOfMemory whole) d line = refl
 chosen_table table Disconnects d line = refl
-chosen_table table (SpoolFails first) d line = refl
+chosen_table table (SpoolFails made) d line = refl
 chosen_table table JudgeFails d line = refl
 
 accepts_case : (b : Bool) (d x : Did) → x.guest ≡ d.guest → (if b then is_over d (By IdsSpent) else x).guest ≡ d.guest
@@ -261,9 +262,9 @@ accepts_case true d x e = refl
 accepts_case false d x e = e
 
 -- a message that is accepted doesn't change the session
-pub accepts_guest : (site : Site) (moment : ℕ) (d : Did) (message : Message) (whole : Bool) → (accepts site moment d message whole).guest ≡ d.guest
-accepts_guest site moment d message whole = accepts_case (is_spent d.table) d (says (commits site moment d message) (stored_text d.table.next) whole) refl
+pub accepts_guest : (site : Site) (moment : ℕ) (d : Did) (message : Message) (made : Made) (whole : Bool) → (accepts site moment d message made whole).guest ≡ d.guest
+accepts_guest site moment d message made whole = accepts_case (is_spent d.table made) d (says (commits site moment d message made) (stored_text d.table.next) whole) refl
 
 -- a message that isn't accepted doesn't change the session
-pub fails_guest : (site : Site) (moment : ℕ) (d : Did) (message : Message) → (if is_spent d.table then is_over d (By IdsSpent) else is_over (commits site moment d message) (By SpoolFault)).guest ≡ d.guest
-fails_guest site moment d message = accepts_case (is_spent d.table) d (is_over (commits site moment d message) (By SpoolFault)) refl
+pub fails_guest : (site : Site) (moment : ℕ) (d : Did) (message : Message) (made : Made) → (if is_spent d.table made then is_over d (By IdsSpent) else is_over (commits site moment d message made) (By SpoolFault)).guest ≡ d.guest
+fails_guest site moment d message made = accepts_case (is_spent d.table made) d (is_over (commits site moment d message made) (By SpoolFault)) refl

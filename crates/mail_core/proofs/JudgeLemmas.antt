@@ -48,15 +48,15 @@ says_since a b (Some question) said h s = record { kind = s.kind; form = s.form;
 
 module _ (site : Site) (moment : ℕ) where
   meant_since : (a b : JudgeSeen) (d : Did) (choice : Choice) (line : Option Line) → IsAlike a b → IsMeant b site moment d choice line → IsMeant a site moment d choice line
-  meant_since a b d (Normal said first whole) (Some line) h m = (says_since a b (question_here d line) said h m.0, m.1)
+  meant_since a b d (Normal said made whole) (Some line) h m = (says_since a b (question_here d line) said h m.0, m.1)
   meant_since a b d (OutOfMemory whole) (Some line) h m = tt
   meant_since a b d Disconnects (Some line) h m = tt
-  meant_since a b d (SpoolFails first) (Some line) h m = m
+  meant_since a b d (SpoolFails made) (Some line) h m = m
   meant_since a b d JudgeFails (Some line) h m = tt
-  meant_since a b d (Normal said first whole) None h m = m
+  meant_since a b d (Normal said made whole) None h m = m
   meant_since a b d (OutOfMemory whole) None h m = tt
   meant_since a b d Disconnects None h m = tt
-  meant_since a b d (SpoolFails first) None h m = tt
+  meant_since a b d (SpoolFails made) None h m = tt
   meant_since a b d JudgeFails None h m = tt
 
   -- what is meant by a judge later was meant by it before

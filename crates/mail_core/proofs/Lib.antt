@@ -11,6 +11,7 @@ pub mod FormLemmas
 pub mod GoingLemmas
 pub mod LineLemmas
 pub mod MessageLemmas
+pub mod PartLemmas
 pub mod FeedLemmas
 pub mod ExampleLemmas
 pub mod Examples

@@ -4,6 +4,7 @@ use Rattle.std.specs.Prelude.{Result, is_ok, ◌≢◌, ◌&&◌, if◌then◌el
 use Rattle.std.proofs.lemmas.Bool.{cond-false}
 use Rattle.mail_base.specs.Histories.{Gains}
 use Rattle.mail_base.specs.declared.config.Config.{Config}
+use Rattle.map_tables.specs.Answers.{Loaded}
 use Rattle.mail_edge.specs.Seen.{ClockSeen}
 use Rattle.link_edge.specs.Heard.{Heard as FloorHeard}
 use Rattle.smtp_lines.specs.declared.line.Line.{Line}
@@ -27,18 +28,18 @@ use Rattle.mail_core.specs.declared.next.Next.TheVariants.{Continue, BeginData, 
 use Rattle.mail_core.specs.declared.serving.CoreStop.{CoreStop}
 use Rattle.mail_core.specs.declared.serving.CoreStop.TheVariants as stops
 use Rattle.mail_core.specs.declared.intake.Intake.{Intake}
-use Rattle.mail_core.specs.Sites.{Site}
+use Rattle.mail_core.specs.Sites.{IsUnder, Site}
 use Rattle.mail_core.specs.Effects.{Sends, HangsUp, heard_of, speech}
 use Rattle.mail_core.specs.Judges.{JudgeSeen, Says}
-use Rattle.mail_core.specs.Meant.{IsHeadedAt, IsMeant, IsSaidAt}
+use Rattle.mail_core.specs.Meant.{IsMadeAt, IsMeant, IsSaidAt}
 use Rattle.mail_core.specs.inner.Going.{IsMessageMeant, said_in, heard_chosen, id_chosen, way_after, Does, Hears, AnswersLine, AnswersMessage, IsAnswered, message_by, is_onward, is_granted, is_short}
 use Rattle.mail_core.specs.Guests.{grants_of, has_bytes_left, is_passed, with_line, lines_heard}
 use Rattle.mail_core.specs.Machine.{Choice, Normal, OutOfMemory, Disconnects, SpoolFails, JudgeFails, FilesFault, GoesOn, Cut, Did, answer_by, limit_of, question_here, is_over, says, closes, fails, replies, by_choice, heard_line, heard_where, id_by, is_answered, accepts, commits, By, IdsSpent, SpoolFault, fresh_start}
-use Rattle.mail_core.specs.Messages.{headed, is_spent}
+use Rattle.mail_core.specs.Messages.{is_spent}
 use Rattle.mail_core.specs.Seen.{Seen, seen}
 use Rattle.mail_core.specs.Standing.{Serves, Talks}
 use Rattle.mail_core.specs.inner.Handling.{IsReady}
-use Rattle.mail_core.proofs.AnswerLemmas.{IsReply, IsBye, IsSilent, answer_kept, lines_more, grants_more}
+use Rattle.mail_core.proofs.AnswerLemmas.{IsReply, IsBye, IsSilent, answer_kept, lines_more, grants_more, unmade}
 use Rattle.mail_core.proofs.GoingLemmas.{does_chosen, chosen_table, IsSpoken, does_says, does_closes, does_none, does_heard, does_judged}
 
 -- where the session goes on, so does the run
@@ -77,9 +78,9 @@ module _ (j : JudgeSeen) (site : Site) (moment : ℕ) (d : Did) (line : Line) (s
       }
 
   -- what is done at an answer behind which the run goes on
-  normal_is : (x : Did) (whole : Bool) → is_answered d.table answer ≡ true → replies site moment d answer None whole ≡ x → by_choice site moment d (Normal said None whole) (Some line) ≡ heard_line x line said false given
+  normal_is : (x : Did) (whole : Bool) → is_answered d.table unmade answer ≡ true → replies site moment d answer unmade whole ≡ x → by_choice site moment d (Normal said unmade whole) (Some line) ≡ heard_line x line said false given
   normal_is x whole on is =
-      ap (λ y. heard_where (is_answered d.table answer) y line said false given) is ∙ ap (λ b. heard_where b x line said false given) on
+      ap (λ y. heard_where (is_answered d.table unmade answer) y line said false given) is ∙ ap (λ b. heard_where b x line said false given) on
 
   module _ (f g : FloorHeard) (s : Spooled) (k : ClockSeen) where
     -- a reply was said, and the session goes on
@@ -88,9 +89,9 @@ module _ (j : JudgeSeen) (site : Site) (moment : ℕ) (d : Did) (line : Line) (s
         → AnswersLine j site moment d line (seen f s k) (seen g s k) intake caller fed
     line_said text grant fed is_said r spoken grants told own serves talks =
         let whole = is_onward fed in
-        let is = normal_is (says d text whole) whole (r.answered d.table) (r.says_it None whole) in record {
-          choice = Normal said None whole;
-          meant = (is_said, r.headed d.table None);
+        let is = normal_is (says d text whole) whole (r.answered d.table unmade) (r.says_it unmade whole) in record {
+          choice = Normal said unmade whole;
+          meant = (is_said, r.meant d.table unmade);
           does = subst (λ x. Does site d x (seen f s k) (seen g s k) fed) (sym is) (does_heard site d (says d text whole) (seen f s k) (seen g s k) fed line said false given (does_says site d f g s k text fed spoken told own));
           alive = λ live. subst (λ x. Serves site intake x.table) (sym is) serves;
           hears = λ on. subst (λ x. Hears site d x (line ∷ []) intake caller fed) (sym is) (hears_line false given (says d text whole) fed refl (r.grant_is ∙ sym (grants on)) serves talks);
@@ -100,9 +101,9 @@ module _ (j : JudgeSeen) (site : Site) (moment : ℕ) (d : Did) (line : Line) (s
     pub line_closed : (text : List ℕ) (whole : Bool) → IsSaidAt j d line said → IsBye site moment d answer text → Gains f.told g.told (heard_of (Sends d.guest.number text whole ∷ HangsUp d.guest.number ∷ [])) → g.faults ≡ f.faults → Serves site intake d.table
         → AnswersLine j site moment d line (seen f s k) (seen g s k) intake caller (Ok Closed)
     line_closed text whole is_said bye told own serves =
-        let is = normal_is (closes d text whole) whole (bye.answered d.table) (bye.closes_it None whole) in record {
-          choice = Normal said None whole;
-          meant = (is_said, bye.headed d.table None);
+        let is = normal_is (closes d text whole) whole (bye.answered d.table unmade) (bye.closes_it unmade whole) in record {
+          choice = Normal said unmade whole;
+          meant = (is_said, bye.meant d.table unmade);
           does = subst (λ x. Does site d x (seen f s k) (seen g s k) (Ok Closed)) (sym is) (does_heard site d (closes d text whole) (seen f s k) (seen g s k) (Ok Closed) line said false given (does_closes site d f g s k text whole told own));
           alive = λ live. subst (λ x. Serves site intake x.table) (sym is) serves;
           hears = λ on. absurd (cc on);
@@ -112,9 +113,9 @@ module _ (j : JudgeSeen) (site : Site) (moment : ℕ) (d : Did) (line : Line) (s
   pub line_taken : (f : FloorHeard) (s : Spooled) (k : ClockSeen) → d.way ≡ GoesOn → IsSaidAt j d line said → IsSilent site moment d answer → Serves site intake d.table → Talks site caller (with_line d.guest line said false given)
       → AnswersLine j site moment d line (seen f s k) (seen f s k) intake caller (Ok Continue)
   line_taken f s k way is_said silent serves talks =
-      let is = normal_is d true (silent.answered d.table) (silent.says_none None true) in record {
-        choice = Normal said None true;
-        meant = (is_said, silent.headed d.table None);
+      let is = normal_is d true (silent.answered d.table unmade) (silent.says_none unmade true) in record {
+        choice = Normal said unmade true;
+        meant = (is_said, silent.meant d.table unmade);
         does = subst (λ x. Does site d x (seen f s k) (seen f s k) (Ok Continue)) (sym is) (does_heard site d d (seen f s k) (seen f s k) (Ok Continue) line said false given (does_none site d f s k d refl refl refl way));
         alive = λ live. subst (λ x. Serves site intake x.table) (sym is) serves;
         hears = λ on. subst (λ x. Hears site d x (line ∷ []) intake caller (Ok Continue)) (sym is) (hears_line false given d (Ok Continue) refl silent.grant_is serves talks);
@@ -156,10 +157,10 @@ pub record AnswersAt (j : JudgeSeen) (site : Site) (d : Did) (line : Line) (sess
   pub stands : (id : Option ℕ) → Speaks session d.guest.config site.host d.guest.peer (d.guest.heard ++ record { line = line; said = said; short = false; id = id } ∷ [])
 
 -- a caller's session answers for its guest
-pub answers_at : (j : JudgeSeen) (site : Site) (config : Config) (d : Did) (line : Line) (caller : Caller) (session : Session) (did : Done) → site.config ≡ config → Talks site caller d.guest
+pub answers_at : (j : JudgeSeen) (site : Site) (config : Config) (maps : Loaded) (d : Did) (line : Line) (caller : Caller) (session : Session) (did : Done) → IsUnder site config maps → Talks site caller d.guest
     → ((host peer : List ℕ) (heard : List Heard) → Speaks caller.session config host peer heard → Answered j.answerer j.test session config host peer heard line did) → AnswersAt j site d line session did
-answers_at j site config d line caller session did under talks answered =
-    let same : d.guest.config ≡ config = talks.config ∙ under in
+answers_at j site config maps d line caller session did under talks answered =
+    let same : d.guest.config ≡ config = talks.config ∙ under.config_is in
     let a : Answered j.answerer j.test session d.guest.config site.host d.guest.peer d.guest.heard line did =
     subst (λ q. Answered j.answerer j.test session q site.host d.guest.peer d.guest.heard line did) (sym same)
     (answered site.host d.guest.peer d.guest.heard (subst (λ q. Speaks caller.session q site.host d.guest.peer d.guest.heard) same talks.session)) in
@@ -225,21 +226,21 @@ module _ (site : Site) (moment : ℕ) (d : Did) (line : Line) (message : Message
 
   chosen : GivesIt → (choice : Choice) → choice ≢ Disconnects → choice ≢ JudgeFails
       → by_choice site moment d choice (Some line) ≡ heard_chosen d.table choice (message_by site moment d message choice) line
-  chosen gives (Normal said first whole) apart calm = ap (λ a. heard_where (is_answered d.table a) (replies site moment d a first whole) line said false (id_by d.table a)) (gives said)
+  chosen gives (Normal said made whole) apart calm = ap (λ a. heard_where (is_answered d.table made a) (replies site moment d a made whole) line said false (id_by d.table a)) (gives said)
   chosen gives (OutOfMemory whole) apart calm = short_is site moment d line whole (gift_kept d.guest.config d.guest.peer (exchanges d.guest.config d.guest.peer d.guest.heard) Unasked line message (gives Unasked))
   chosen gives Disconnects apart calm = absurd (apart refl)
-  chosen gives (SpoolFails first) apart calm = ap (λ a. fails site moment d a first) (gives Unasked)
+  chosen gives (SpoolFails made) apart calm = ap (λ a. fails site moment d a made) (gives Unasked)
   chosen gives JudgeFails apart calm = absurd (calm refl)
 
   -- where the session goes on, the line is among those that were answered
   chosen_on : (choice : Choice) (fed : Result Next CoreStop) → choice ≢ Disconnects → choice ≢ JudgeFails → (message_by site moment d message choice).way ≡ way_after fed → is_onward fed ≡ true
       → heard_chosen d.table choice (message_by site moment d message choice) line ≡ heard_line (message_by site moment d message choice) line (said_in choice) (is_short choice) (id_chosen d.table choice)
-  chosen_on (Normal said first whole) fed apart calm way on =
-      let x = accepts site moment d (headed first message) whole in
-      ap (λ b. heard_where b x line said false (Some d.table.next)) (spent_on (is_spent d.table) d (says (commits site moment d (headed first message)) (stored_text d.table.next) whole) fed way on)
+  chosen_on (Normal said made whole) fed apart calm way on =
+      let x = accepts site moment d message made whole in
+      ap (λ b. heard_where b x line said false (Some d.table.next)) (spent_on (is_spent d.table made) d (says (commits site moment d message made) (stored_text d.table.next) whole) fed way on)
   chosen_on (OutOfMemory whole) fed apart calm way on = refl
   chosen_on Disconnects fed apart calm way on = absurd (apart refl)
-  chosen_on (SpoolFails first) fed apart calm way on = absurd (failed_on (is_spent d.table) d (commits site moment d (headed first message)) fed way on)
+  chosen_on (SpoolFails made) fed apart calm way on = absurd (failed_on (is_spent d.table made) d (commits site moment d message made) fed way on)
   chosen_on JudgeFails fed apart calm way on = absurd (calm refl)
 
   -- what was done with the message is no grant
@@ -263,28 +264,28 @@ module _ (site : Site) (moment : ℕ) (d : Did) (line : Line) (message : Message
 
   -- what is said at a message is nothing
   said_unasked : (choice : Choice) → IsMessageMeant site moment d message choice → said_in choice ≡ Unasked
-  said_unasked (Normal said first whole) m = m.0
+  said_unasked (Normal said made whole) m = m.0
   said_unasked (OutOfMemory whole) m = refl
   said_unasked Disconnects m = refl
-  said_unasked (SpoolFails first) m = refl
+  said_unasked (SpoolFails made) m = refl
   said_unasked JudgeFails m = refl
 
   not_judged : (choice : Choice) → IsMessageMeant site moment d message choice → choice ≢ JudgeFails
-  not_judged (Normal said first whole) m = λ e. cc e
+  not_judged (Normal said made whole) m = λ e. cc e
   not_judged (OutOfMemory whole) m = λ e. cc e
   not_judged Disconnects m = λ e. cc e
-  not_judged (SpoolFails first) m = λ e. cc e
+  not_judged (SpoolFails made) m = λ e. cc e
   not_judged JudgeFails m = absurd m
 
   -- the choice is one that the line's answer means
   meant_line : (j : JudgeSeen) (choice : Choice) → GivesIt → question_here d line ≡ None → IsMessageMeant site moment d message choice → IsMeant j site moment d choice (Some line)
-  meant_line j (Normal said first whole) gives none m = (
+  meant_line j (Normal said made whole) gives none m = (
     subst (λ q. Says j q said) (sym none) m.0,
-    subst (λ a. IsHeadedAt site moment d.table a first) (sym (gives said)) m.1,
+    subst (λ a. IsMadeAt site moment d.table a made) (sym (gives said)) m.1,
   )
   meant_line j (OutOfMemory whole) gives none m = tt
   meant_line j Disconnects gives none m = tt
-  meant_line j (SpoolFails first) gives none m = subst (λ a. IsHeadedAt site moment d.table a first) (sym (gives Unasked)) m
+  meant_line j (SpoolFails made) gives none m = subst (λ a. IsMadeAt site moment d.table a made) (sym (gives Unasked)) m
   meant_line j JudgeFails gives none m = tt
 
   -- a message that was answered is the answer to the line that gave it
@@ -306,9 +307,9 @@ module _ (site : Site) (moment : ℕ) (d : Did) (line : Line) (message : Message
 -- ---- what an intake is ready for stays so
 
 -- a session that goes on after a line is ready for the next
-pub ready_by : (j : JudgeSeen) (config : Config) (old new : Intake) (before after : Caller) (line : Line) (a b : (k : ClockSeen) → Seen) (fed : Result Next CoreStop) → IsReady old before config
-    → ((site : Site) (d : Did) (k : ClockSeen) → site.config ≡ config → d.way ≡ GoesOn → Serves site old d.table → Talks site before d.guest → AnswersLine j site old.moment d line (a k) (b k) new after fed) → is_onward fed ≡ true → IsReady new after config
-ready_by j config old new before after line a b fed r answers on =
+pub ready_by : (j : JudgeSeen) (config : Config) (maps : Loaded) (old new : Intake) (before after : Caller) (line : Line) (a b : (k : ClockSeen) → Seen) (fed : Result Next CoreStop) → IsReady old before config maps
+    → ((site : Site) (d : Did) (k : ClockSeen) → IsUnder site config maps → d.way ≡ GoesOn → Serves site old d.table → Talks site before d.guest → AnswersLine j site old.moment d line (a k) (b k) new after fed) → is_onward fed ≡ true → IsReady new after config maps
+ready_by j config maps old new before after line a b fed r answers on =
     let h = answers r.site (fresh_start r.table r.guest) (record { told = None; readings = 0 }) r.under refl r.serves r.talks in
     let e = by_choice r.site old.moment (fresh_start r.table r.guest) h.choice (Some line) in
     let stays = (h.hears on).stays in record { site = r.site; under = r.under; table = e.table; guest = e.guest; serves = stays.serves; talks = stays.talks }

@@ -1,15 +1,16 @@
 -- Each step of the machine does effects that lead from its table to the next, and says the final
 -- 250 of entries alone.
-use Rattle.std.proofs.Common.{◌≡◌, ℕ, List, [], ◌∷◌, ◌++◌, Bool, true, false, Option, Some, None, ◌≤◌, map, arith, refl, sym, ◌∙◌, ap, subst, append_assoc}
-use Rattle.std.specs.Prelude.{◌||◌, Contains, if◌then◌else◌, nat_le, length, fold, is_some}
+use Rattle.std.proofs.Common.{◌≡◌, ℕ, List, [], ◌∷◌, ◌++◌, Bool, true, false, Option, Some, None, ◌+◌, ◌<◌, ◌≤◌, map, arith, refl, sym, ◌∙◌, ap, subst, append_assoc}
+use Rattle.std.specs.Prelude.{◌||◌, Contains, if◌then◌else◌, nat_le, length, max, fold, is_some}
 use Rattle.std.specs.List.{list_any}
 use Rattle.std.proofs.lemmas.List.{append-nil}
-use Rattle.std.proofs.lemmas.List.Elements.{Contains-push, Contains-append_left}
+use Rattle.std.proofs.lemmas.List.Elements.{All-head, Contains-push, Contains-append_left, Contains-append_right}
 use Rattle.std.proofs.lemmas.Bool.{ltb-false}
 use Rattle.mail_base.specs.Limits.{IsId}
 use Rattle.link_edge.specs.declared.event.Event.{Event}
 use Rattle.link_edge.specs.declared.event.Event.TheVariants.{Opens, Brings, Closes, Rests, Stops}
 use Rattle.smtp_lines.specs.declared.line.Line.{Line}
+use Rattle.mail_base.specs.declared.message.Cut.{Cut as Part}
 use Rattle.mail_base.specs.declared.message.Message.{Message}
 use Rattle.smtp_receive.specs.Dialogue.{Answer, Says, Refuses, Greets, Extends, Grants, Closes as Ends, Gives, Takes as Passes, did_of}
 use Rattle.smtp_receive.specs.Finals.{IsFinal, text_told}
@@ -23,16 +24,18 @@ use Rattle.mail_base.specs.States.{is_dead, is_open}
 use Rattle.mail_base.specs.declared.draw.Draw.{Draw}
 use Rattle.queue_table.specs.Commands.{Command, after, draft_of, drafts_of, new_row}
 use Rattle.queue_table.specs.Commands.Command.{Accept, Record, Return, Warn}
+use Rattle.queue_table.specs.Soundness.{AreCuts}
 use Rattle.mail_core.specs.Sites.{Site, terms_at}
 use Rattle.mail_core.specs.Effects.{Effect, Takes, Ticks, Commits, Sends, HangsUp, speech}
 use Rattle.mail_core.specs.Guests.{Guest, is_passed, guest_of, is_here, next_line, with_bytes}
 use Rattle.mail_core.specs.Machine.{SpoolFault, IdsSpent, FilesFault, Opening, Replied, Dropped, Choice, Normal, OutOfMemory, Disconnects, SpoolFails, JudgeFails, Choices, Way, GoesOn, Leaves, Over, Finish, By, Cut, Did, answer_by, limit_of, question_here, way_of, does, says, closes, is_over, commits, accepts, replies, fails, heard_line, id_by, is_answered, heard_where, by_choice, answered, settled_by, settled, fresh_start, all_answered, State, Step, still, most_guests, turned_away, welcomed, opened, brought, pieced, handled, Turn, at_moment, taken, stepped, followed, run}
 use Rattle.mail_core.proofs.WayLemmas.{goes_keeps}
 use Rattle.mail_core.specs.Judges.{JudgeSeen}
-use Rattle.mail_core.specs.Meant.{AreMeant, ArePieceMeant, IsEventMeant, IsHeadedAt, IsMeant, IsRunMeant}
-use Rattle.mail_core.specs.Messages.{accept_of, cut_of, headed, is_spent, last_id}
+use Rattle.mail_core.specs.Meant.{AreMeant, ArePieceMeant, IsEventMeant, IsMadeAt, IsMeant, IsRunMeant}
+use Rattle.mail_core.specs.Messages.{Made, accept_of, headed, is_spent, last_id}
 use Rattle.mail_core.specs.Runs.{HasEntry, IsAcked, AreAcked}
 use Rattle.mail_core.specs.Seen.{table_after}
+use Rattle.mail_core.proofs.PartLemmas.{cuts_taken}
 use Rattle.mail_core.proofs.RanLemmas.{table_more}
 
 -- ---- what effects are
@@ -131,24 +134,32 @@ entry_stays id table (HangsUp session ∷ effects) are h = entry_stays id table 
 unlike_final : (table : Table) (session : ℕ) (text : List ℕ) (whole : Bool) → (IsFinal text → ⊥) → IsAcked table (Sends session text whole)
 unlike_final table session text whole not_final = λ id within is. absurd (not_final (id, is))
 
-unspent : (table : Table) → is_spent table ≡ false → IsId table.next
+-- where no id is wanting, there is one for the first part
+unspent : (table : Table) (made : Made) → is_spent table made ≡ false → table.next ≤ last_id
+unspent table made e = let few = ltb-false (last_id + 1) (table.next + max 1 (length made.cuts)) e in omega (arith, few)
+
+next_is_id : (table : Table) (made : Made) → is_spent table made ≡ false → IsId table.next
 unfolding last_id
-unspent table e = ltb-false last_id table.next e
+next_is_id table made e = unspent table made e
 
 -- a new row is open
-rows_open : (rows : List Draw) → 1 ≤ length rows → list_any (λ row. is_open row.state || is_dead row.state) (map new_row rows) ≡ true
+rows_open : (rows : List Draw) → 0 < length rows → list_any (λ row. is_open row.state || is_dead row.state) (map new_row rows) ≡ true
 rows_open [] h = absurd (omega (arith, h))
 rows_open (row ∷ rows) h = refl
 
--- the final 250 of the next id, where it is taken
-entry_of : (site : Site) (moment : ℕ) (table : Table) (message : Message) (session : ℕ) (whole : Bool) → is_spent table ≡ false → 1 ≤ length message.rows → IsAcked (after table (accept_of site moment message)) (Sends session (stored_text table.next) whole)
-entry_of site moment table message session whole left some = λ id within is.
-    let s : Stored = stored table.next message.body (draft_of (terms_at site) message moment (cut_of message)) in record {
+-- the final 250 of the next id, where it is taken, is of the first part
+entry_of : (site : Site) (moment : ℕ) (table : Table) (message : Message) (made : Made) (cuts : List Part) (session : ℕ) (whole : Bool) → is_spent table made ≡ false → made.cuts ≡ cuts → AreCuts cuts → IsAcked (after table (accept_of site moment message made)) (Sends session (stored_text table.next) whole)
+entry_of site moment table message made [] session whole left are some = absurd (let none = some.some in omega (arith, none))
+entry_of site moment table message made (cut ∷ cuts) session whole left are some = λ id within is.
+    let now : Message = headed made.first message in
+    let s : Stored = stored table.next message.body (draft_of (terms_at site) now moment cut) in
+    let later : List Stored = children_of table.next (drafts_of (terms_at site) now moment cuts) (draft_of (terms_at site) now moment cut) message.body None in
+    subst (λ (q : List Part). HasEntry (after table (Accept (terms_at site) now q moment)) id) (sym are) (record {
       stored = s;
-      among = Contains-push table.entries s;
-      id_is = same_id table.next id (unspent table left) within is;
-      wanted = rows_open message.rows some;
-    }
+      among = Contains-append_right table.entries (s ∷ later) s (Contains-append_left (s ∷ []) later s (Contains-push [] s));
+      id_is = same_id table.next id (next_is_id table made left) within is;
+      wanted = rows_open cut.rows (All-head (λ (c : Part). 0 < length c.rows) cut cuts some.each);
+    })
 
 -- ---- single effects
 
@@ -195,58 +206,58 @@ over_grows F d finish = does_grows F d [] (Over finish) (leads_none F d.table)
 drops_grows : (F : Type 0) (d : Did) → Grows F d (does d (HangsUp d.guest.number ∷ []) Leaves)
 drops_grows F d = does_grows F d (HangsUp d.guest.number ∷ []) Leaves (hang_leads F d.table d.guest.number)
 
-commits_grows : (F : Type 0) (site : Site) (moment : ℕ) (d : Did) (message : Message) → Grows F d (commits site moment d message)
-commits_grows F site moment d message = record {
-  more = Commits (accept_of site moment message) ∷ [];
+commits_grows : (F : Type 0) (site : Site) (moment : ℕ) (d : Did) (message : Message) (made : Made) → Grows F d (commits site moment d message made)
+commits_grows F site moment d message made = record {
+  more = Commits (accept_of site moment message made) ∷ [];
   effects = refl;
   leads = record { table = refl; acked = λ f. (tt, tt); taking = (tt, tt) };
   number = refl;
 }
 
-accepts_by : (F : Type 0) (site : Site) (moment : ℕ) (d : Did) (message : Message) (whole spent : Bool) → is_spent d.table ≡ spent → (F → is_spent d.table ≡ false → 1 ≤ length message.rows)
-    → Grows F d (if spent then is_over d (By IdsSpent) else says (commits site moment d message) (stored_text d.table.next) whole)
-accepts_by F site moment d message whole true e some = over_grows F d (By IdsSpent)
-accepts_by F site moment d message whole false e some =
-    let c = commits site moment d message in
-    grows_join F F F (λ f. f) (λ f. f) d c (says c (stored_text d.table.next) whole) (commits_grows F site moment d message)
-    (says_grows F c (stored_text d.table.next) whole (λ f w. entry_of site moment d.table message d.guest.number w e (some f e)))
+accepts_by : (F : Type 0) (site : Site) (moment : ℕ) (d : Did) (message : Message) (made : Made) (whole spent : Bool) → is_spent d.table made ≡ spent → (F → is_spent d.table made ≡ false → AreCuts made.cuts)
+    → Grows F d (if spent then is_over d (By IdsSpent) else says (commits site moment d message made) (stored_text d.table.next) whole)
+accepts_by F site moment d message made whole true e some = over_grows F d (By IdsSpent)
+accepts_by F site moment d message made whole false e some =
+    let c = commits site moment d message made in
+    grows_join F F F (λ f. f) (λ f. f) d c (says c (stored_text d.table.next) whole) (commits_grows F site moment d message made)
+    (says_grows F c (stored_text d.table.next) whole (λ f w. entry_of site moment d.table message made made.cuts d.guest.number w e refl (some f e)))
 
 -- a message is accepted, and its id told
-stores_grows : (F : Type 0) (site : Site) (moment : ℕ) (d : Did) (message : Message) (whole : Bool) → (F → is_spent d.table ≡ false → 1 ≤ length message.rows) → Grows F d (accepts site moment d message whole)
-stores_grows F site moment d message whole some = accepts_by F site moment d message whole (is_spent d.table) refl some
+stores_grows : (F : Type 0) (site : Site) (moment : ℕ) (d : Did) (message : Message) (made : Made) (whole : Bool) → (F → is_spent d.table made ≡ false → AreCuts made.cuts) → Grows F d (accepts site moment d message made whole)
+stores_grows F site moment d message made whole some = accepts_by F site moment d message made whole (is_spent d.table made) refl some
 
 -- no text that an answer says is final
 abbrev IsUnfinal : List ℕ → ℕ → Answer → Type 0
 IsUnfinal host limit answer = (text : List ℕ) → text_told (did_of host limit answer) ≡ Some text → IsFinal text → ⊥
 
-replies_grows : (F : Type 0) (site : Site) (moment : ℕ) (d : Did) (answer : Answer) (first : Option (List ℕ)) (whole : Bool) → (F → IsUnfinal (shown_host site.host) (limit_of d) answer) → (F → IsHeadedAt site moment d.table answer first) → Grows F d (replies site moment d answer first whole)
-replies_grows F site moment d (Says reply) first whole final taken = tells_grows F d (text_of reply) whole (λ f. final f (text_of reply) refl)
-replies_grows F site moment d (Refuses error) first whole final taken = tells_grows F d (refusal_text error) whole (λ f. final f (refusal_text error) refl)
-replies_grows F site moment d Greets first whole final taken = tells_grows F d (hello_text (shown_host site.host)) whole (λ f. final f (hello_text (shown_host site.host)) refl)
-replies_grows F site moment d Extends first whole final taken = tells_grows F d (extended_text (shown_host site.host) (limit_of d)) whole (λ f. final f (extended_text (shown_host site.host) (limit_of d)) refl)
-replies_grows F site moment d Grants first whole final taken = tells_grows F d grant_text whole (λ f. final f grant_text refl)
-replies_grows F site moment d Ends first whole final taken = closes_grows F d (closing_text (shown_host site.host)) whole (λ f. final f (closing_text (shown_host site.host)) refl)
-replies_grows F site moment d (Gives message) first whole final taken = stores_grows F site moment d (headed first message) whole (λ f left. (taken f left).some)
-replies_grows F site moment d Passes first whole final taken = grows_none F d
+replies_grows : (F : Type 0) (site : Site) (moment : ℕ) (d : Did) (answer : Answer) (made : Made) (whole : Bool) → (F → IsUnfinal (shown_host site.host) (limit_of d) answer) → (F → IsMadeAt site moment d.table answer made) → Grows F d (replies site moment d answer made whole)
+replies_grows F site moment d (Says reply) made whole final taken = tells_grows F d (text_of reply) whole (λ f. final f (text_of reply) refl)
+replies_grows F site moment d (Refuses error) made whole final taken = tells_grows F d (refusal_text error) whole (λ f. final f (refusal_text error) refl)
+replies_grows F site moment d Greets made whole final taken = tells_grows F d (hello_text (shown_host site.host)) whole (λ f. final f (hello_text (shown_host site.host)) refl)
+replies_grows F site moment d Extends made whole final taken = tells_grows F d (extended_text (shown_host site.host) (limit_of d)) whole (λ f. final f (extended_text (shown_host site.host) (limit_of d)) refl)
+replies_grows F site moment d Grants made whole final taken = tells_grows F d grant_text whole (λ f. final f grant_text refl)
+replies_grows F site moment d Ends made whole final taken = closes_grows F d (closing_text (shown_host site.host)) whole (λ f. final f (closing_text (shown_host site.host)) refl)
+replies_grows F site moment d (Gives message) made whole final taken = stores_grows F site moment d message made whole (λ f left. cuts_taken site.config site.maps moment message d.table.next made (taken f (unspent d.table made left)))
+replies_grows F site moment d Passes made whole final taken = grows_none F d
 
 lack_grows : (F : Type 0) (d : Did) (whole : Bool) → Grows F d (says d out_of_memory_text whole)
 lack_grows F d whole = tells_grows F d out_of_memory_text whole (λ f. memory_final)
 
-failing_grows : (F : Type 0) (site : Site) (moment : ℕ) (d : Did) (message : Message) (spent : Bool) → Grows F d (if spent then is_over d (By IdsSpent) else is_over (commits site moment d message) (By SpoolFault))
-failing_grows F site moment d message true = over_grows F d (By IdsSpent)
-failing_grows F site moment d message false =
-    let c = commits site moment d message in
-    grows_join F F F (λ f. f) (λ f. f) d c (is_over c (By SpoolFault)) (commits_grows F site moment d message) (over_grows F c (By SpoolFault))
+failing_grows : (F : Type 0) (site : Site) (moment : ℕ) (d : Did) (message : Message) (made : Made) (spent : Bool) → Grows F d (if spent then is_over d (By IdsSpent) else is_over (commits site moment d message made) (By SpoolFault))
+failing_grows F site moment d message made true = over_grows F d (By IdsSpent)
+failing_grows F site moment d message made false =
+    let c = commits site moment d message made in
+    grows_join F F F (λ f. f) (λ f. f) d c (is_over c (By SpoolFault)) (commits_grows F site moment d message made) (over_grows F c (By SpoolFault))
 
-fails_grows : (F : Type 0) (site : Site) (moment : ℕ) (d : Did) (answer : Answer) (first : Option (List ℕ)) → Grows F d (fails site moment d answer first)
-fails_grows F site moment d (Gives message) first = failing_grows F site moment d (headed first message) (is_spent d.table)
-fails_grows F site moment d (Says reply) first = over_grows F d Cut
-fails_grows F site moment d (Refuses error) first = over_grows F d Cut
-fails_grows F site moment d Greets first = over_grows F d Cut
-fails_grows F site moment d Extends first = over_grows F d Cut
-fails_grows F site moment d Grants first = over_grows F d Cut
-fails_grows F site moment d Ends first = over_grows F d Cut
-fails_grows F site moment d Passes first = over_grows F d Cut
+fails_grows : (F : Type 0) (site : Site) (moment : ℕ) (d : Did) (answer : Answer) (made : Made) → Grows F d (fails site moment d answer made)
+fails_grows F site moment d (Gives message) made = failing_grows F site moment d message made (is_spent d.table made)
+fails_grows F site moment d (Says reply) made = over_grows F d Cut
+fails_grows F site moment d (Refuses error) made = over_grows F d Cut
+fails_grows F site moment d Greets made = over_grows F d Cut
+fails_grows F site moment d Extends made = over_grows F d Cut
+fails_grows F site moment d Grants made = over_grows F d Cut
+fails_grows F site moment d Ends made = over_grows F d Cut
+fails_grows F site moment d Passes made = over_grows F d Cut
 
 line_grows : (F : Type 0) (d e : Did) (line : Line) (said : Said) (short : Bool) (id : Option ℕ) → Grows F d e → Grows F d (heard_line e line said short id)
 line_grows F d e line said short id h = record { more = h.more; effects = h.effects; leads = h.leads; number = h.number }
@@ -265,23 +276,23 @@ short_grows F d e true h = over_grows F d Cut
 short_grows F d e false h = h
 
 choice_grows : (j : JudgeSeen) (site : Site) (moment : ℕ) (d : Did) (choice : Choice) (line : Option Line) → Grows (IsMeant j site moment d choice line) d (by_choice site moment d choice line)
-choice_grows j site moment d (Normal said first whole) (Some line) =
-    let F : Type 0 = IsMeant j site moment d (Normal said first whole) (Some line) in
+choice_grows j site moment d (Normal said made whole) (Some line) =
+    let F : Type 0 = IsMeant j site moment d (Normal said made whole) (Some line) in
     let answer = answer_by d said line in
-    where_grows F d (replies site moment d answer first whole) line said (id_by d.table answer) (is_answered d.table answer)
-    (replies_grows F site moment d answer first whole
+    where_grows F d (replies site moment d answer made whole) line said (id_by d.table answer) (is_answered d.table made answer)
+    (replies_grows F site moment d answer made whole
     (λ f text told. told_final d.guest.config (shown_host site.host) d.guest.peer (limit_of d) d.guest.heard said line text (said_formed j.answerer j.test (question_here d line) said f.0) told)
     (λ f. f.1))
 choice_grows j site moment d (OutOfMemory whole) (Some line) =
     short_grows (Unit {0}) d (heard_line (says d out_of_memory_text whole) line Unasked true None) (is_passed d.guest line)
     (line_grows (Unit {0}) d (says d out_of_memory_text whole) line Unasked true None (lack_grows (Unit {0}) d whole))
-choice_grows j site moment d (SpoolFails first) (Some line) = fails_grows (IsMeant j site moment d (SpoolFails first) (Some line)) site moment d (answer_by d Unasked line) first
+choice_grows j site moment d (SpoolFails made) (Some line) = fails_grows (IsMeant j site moment d (SpoolFails made) (Some line)) site moment d (answer_by d Unasked line) made
 choice_grows j site moment d JudgeFails (Some line) = over_grows (Unit {0}) d (By FilesFault)
 choice_grows j site moment d Disconnects (Some line) = drop_grows (Unit {0}) d d.may_disconnect
 choice_grows j site moment d Disconnects None = drop_grows (Unit {0}) d d.may_disconnect
-choice_grows j site moment d (Normal said first whole) None = over_grows (said ≡ Unasked) d Cut
+choice_grows j site moment d (Normal said made whole) None = over_grows (said ≡ Unasked) d Cut
 choice_grows j site moment d (OutOfMemory whole) None = over_grows (Unit {0}) d Cut
-choice_grows j site moment d (SpoolFails first) None = over_grows (Unit {0}) d Cut
+choice_grows j site moment d (SpoolFails made) None = over_grows (Unit {0}) d Cut
 choice_grows j site moment d JudgeFails None = over_grows (Unit {0}) d Cut
 
 answered_grows : (j : JudgeSeen) (site : Site) (moment : ℕ) (d : Did) (choice : Choice) → Grows (IsMeant j site moment d choice (next_line d.guest)) d (answered site moment d choice)

@@ -1,12 +1,17 @@
 -- A message is taken into the queue, or not.
 use Rattle.std.proofs.Common.{◌≡◌, ◌⊎◌, inl, inr, ℕ, ◌+◌, ◌<◌, ◌≤◌, ◌^◌, List, Bool, true, false, Option, Some, None, Result, Err, refl, sym, ◌∙◌, ap, subst, arith}
-use Rattle.std.specs.Prelude.{IfSome, length}
+use Rattle.std.specs.Prelude.{IfSome, length, max}
+use Rattle.std.proofs.lemmas.List.{length-map}
 use Rattle.std.proofs.lemmas.Bool.{cond-true, cond-false, false≢true, lt-ltb, le-ltb}
 use Rattle.mail_base.specs.Histories.{Gains, Rose}
 use Rattle.mail_base.specs.declared.config.Config.{Config}
 use Rattle.mail_edge.specs.Seen.{ClockSeen}
 use Rattle.link_edge.specs.Heard.{Heard as FloorHeard}
+use Rattle.mail_base.specs.Limits.{most_rows}
+use Rattle.mail_base.specs.declared.message.Cut.{Cut}
 use Rattle.mail_base.specs.declared.message.Message.{Message}
+use Rattle.map_tables.specs.Answers.{Loaded}
+use Rattle.smtp_receive.specs.Dialogue.{Gives}
 use Rattle.smtp_receive.specs.Judging.{Unasked}
 use Rattle.smtp_receive.specs.Replies.{out_of_memory_text, stored_text}
 use Rattle.spool_disk.specs.Disk.{FileMap}
@@ -18,7 +23,7 @@ use Rattle.spool_store.specs.Settled.{IsSettled, StandsFor}
 use Rattle.spool_store.specs.Stores.{Agrees, Holds, KeepsOthers, StoreSeen}
 use Rattle.spool_store.proofs.MovesLemmas.{moves_weaker}
 use Rattle.queue_table.specs.Calls.{AreDirs, HoldsTable, IsAccepting, IsSame, Stays, Tallies, store}
-use Rattle.queue_table.specs.Commands.{Command, after}
+use Rattle.queue_table.specs.Commands.{Command, after, draft_of}
 use Rattle.queue_table.specs.Commands.Command.{Accept}
 use Rattle.queue_table.specs.declared.accepting.Accepting.{Accepting}
 use Rattle.queue_table.specs.declared.table.Table.{Table as Kept}
@@ -28,11 +33,12 @@ use Rattle.mail_core.specs.declared.next.Next.{Next}
 use Rattle.mail_core.specs.declared.serving.CoreStop.{CoreStop}
 use Rattle.mail_core.specs.declared.serving.CoreStop.TheVariants as stops
 use Rattle.mail_core.specs.declared.intake.Intake.{Intake}
-use Rattle.mail_core.specs.Sites.{Site, terms_at}
+use Rattle.mail_core.specs.Sites.{IsUnder, Site, terms_at}
 use Rattle.mail_core.specs.Effects.{heard_of, speech}
 use Rattle.mail_core.specs.inner.Going.{Does, AnswersMessage, IsReset, is_onward, is_granted}
 use Rattle.mail_core.specs.Machine.{IdsSpent, Normal, OutOfMemory, SpoolFails, GoesOn, By, Did, says, is_over, commits, accepts}
-use Rattle.mail_core.specs.Messages.{IsReceived, IsTakenIn, accept_of, cuts_of, headed, is_spent, last_id}
+use Rattle.mail_core.specs.Meant.{IsMadeAt}
+use Rattle.mail_core.specs.Messages.{IsTakenIn, Made, accept_of, headed, ids_for, is_spent, last_id}
 use Rattle.mail_core.specs.Seen.{IsEither, IsSparing, seen}
 use Rattle.mail_core.specs.Standing.{Serves, Stores}
 use Rattle.mail_core.proofs.SparingLemmas.{sparing_call}
@@ -90,43 +96,53 @@ rose_of site kept table a b s (inr r) = r
 
 -- ---- ids
 
--- where the next id is past the last one, the table's ids are spent
-pub spent_is : (table : Table) (next : ℕ) → next ≡ table.next → last_id < next → is_spent table ≡ true
-spent_is table next e lt = lt-ltb last_id table.next (omega (arith, e, lt))
+-- where an id is wanting for one of the parts, the table's ids are spent
+pub spent_is : (table : Table) (made : Made) (next : ℕ) → next ≡ table.next → last_id + 1 < next + ids_for made.cuts → is_spent table made ≡ true
+spent_is table made next e lt = lt-ltb (last_id + 1) (table.next + max 1 (length made.cuts)) (omega (arith, e, lt))
 
--- where an entry can be stored, they aren't
-pub left_is : (kept : Kept) (table : Table) (moment : ℕ) (message : Message) (accepting : Accepting) → HoldsTable kept table → IsAccepting kept message (cuts_of message) moment accepting → is_spent table ≡ false
+-- then fewer are left than a message may have rows
+pub wanting_is : (table : Table) (made : Made) (next : ℕ) → next ≡ table.next → length made.cuts ≤ most_rows → last_id + 1 < next + ids_for made.cuts → last_id + 1 < table.next + most_rows
+unfolding most_rows
+wanting_is table made next e few lt = omega (arith, e, few, lt)
+
+-- where the parts can be stored, they aren't
+pub left_is : (kept : Kept) (table : Table) (moment : ℕ) (message : Message) (made : Made) (accepting : Accepting) → HoldsTable kept table → IsAccepting kept message made.cuts moment accepting → is_spent table made ≡ false
 unfolding last_id
-left_is kept table moment message accepting holds p = le-ltb last_id table.next (omega (arith, holds.next, p.parcel.able.room))
+left_is kept table moment message made accepting holds p =
+    let drafts = length-map p.rest (draft_of kept.terms message moment) in
+    let count = ap (λ (q : List Cut). length q) p.whole in
+    let room = p.parcel.able.room in
+    let next = holds.next in
+    le-ltb (last_id + 1) (table.next + max 1 (length made.cuts)) (omega (arith, next, room, drafts, count))
 
 -- ---- what a commit does, said of the site
 
 -- the command is the site's
-command_is : (site : Site) (kept : Kept) (table : Table) (moment : ℕ) (message : Message) → Stores site kept table → Accept kept.terms message (cuts_of message) moment ≡ accept_of site moment message
-command_is site kept table moment message s = ap (λ (q : Terms). Accept q message (cuts_of message) moment) s.terms
+command_is : (site : Site) (kept : Kept) (table : Table) (moment : ℕ) (message : Message) (made : Made) → Stores site kept table → Accept kept.terms (headed made.first message) made.cuts moment ≡ accept_of site moment message made
+command_is site kept table moment message made s = ap (λ (q : Terms). Accept q (headed made.first message) made.cuts moment) s.terms
 
-module _ (site : Site) (moment : ℕ) (message : Message) (a b : Spooled) (kept : Kept) (table : Table) (s : Stores site kept table) where
+module _ (site : Site) (moment : ℕ) (message : Message) (made : Made) (a b : Spooled) (kept : Kept) (table : Table) (s : Stores site kept table) where
   abbrev command : Command
-  command = Accept kept.terms message (cuts_of message) moment
+  command = Accept kept.terms (headed made.first message) made.cuts moment
 
   -- a commit that is done leads to the table with the message
   pub moves_done_at : Moves a b (StandsFor (store kept).dirs table) (IsSettled (store kept).dirs (after table command)) (IsEitherTable (store kept).dirs table (after table command))
-      → Moves a b (StandsFor site.dirs table) (StandsFor site.dirs (after table (accept_of site moment message))) (IsEither site.dirs table (accept_of site moment message))
+      → Moves a b (StandsFor site.dirs table) (StandsFor site.dirs (after table (accept_of site moment message made))) (IsEither site.dirs table (accept_of site moment message made))
   moves_done_at m =
-      subst (λ (q : Command). Moves a b (StandsFor site.dirs table) (StandsFor site.dirs (after table q)) (IsEither site.dirs table q)) (command_is site kept table moment message s)
+      subst (λ (q : Command). Moves a b (StandsFor site.dirs table) (StandsFor site.dirs (after table q)) (IsEither site.dirs table q)) (command_is site kept table moment message made s)
       (subst (λ (q : List (List ℕ)). Moves a b (StandsFor q table) (StandsFor q (after table command)) (IsEither q table command)) s.dirs
       (moves_weaker a b (StandsFor (store kept).dirs table) (IsSettled (store kept).dirs (after table command)) (IsEither (store kept).dirs table command) (StandsFor (store kept).dirs (after table command)) (IsEither (store kept).dirs table command) (λ f h. h.stands) (λ f h. h) m))
 
   -- one that fails leaves the table without the message or with it
   pub moves_failed_at : Moves a b (StandsFor (store kept).dirs table) (IsEitherTable (store kept).dirs table (after table command)) (IsEitherTable (store kept).dirs table (after table command))
-      → Moves a b (StandsFor site.dirs table) (IsEither site.dirs table (accept_of site moment message)) (IsEither site.dirs table (accept_of site moment message))
+      → Moves a b (StandsFor site.dirs table) (IsEither site.dirs table (accept_of site moment message made)) (IsEither site.dirs table (accept_of site moment message made))
   moves_failed_at m =
-      subst (λ (q : Command). Moves a b (StandsFor site.dirs table) (IsEither site.dirs table q) (IsEither site.dirs table q)) (command_is site kept table moment message s)
+      subst (λ (q : Command). Moves a b (StandsFor site.dirs table) (IsEither site.dirs table q) (IsEither site.dirs table q)) (command_is site kept table moment message made s)
       (subst (λ (q : List (List ℕ)). Moves a b (StandsFor q table) (IsEither q table command) (IsEither q table command)) s.dirs m)
 
   -- what is kept then holds the table with it
-  holds_at : (new : Kept) → HoldsTable new (after table command) → HoldsTable new (after table (accept_of site moment message))
-  holds_at new h = subst (λ (q : Command). HoldsTable new (after table q)) (command_is site kept table moment message s) h
+  holds_at : (new : Kept) → HoldsTable new (after table command) → HoldsTable new (after table (accept_of site moment message made))
+  holds_at new h = subst (λ (q : Command). HoldsTable new (after table q)) (command_is site kept table moment message made s) h
 
 -- what a commit spares, said of the site: the table has what is told before and after it
 pub spared_at : (site : Site) (old new : Kept) (table : Table) (s t : Spooled) → Stores site old table → Stays old new → Tallies old s.told → IfSome t.told (Agrees (store new))
@@ -135,24 +151,24 @@ spared_at site old new table s t is stays before behind moves =
     subst (λ (q : List (List ℕ)). IsSparing q s t true) is.dirs
     (sparing_call (store old) (store new) s t (before is.whole) behind stays.dirs stays.strange moves)
 
--- the header is that of the site, under the id that the table gives
-received_at : (site : Site) (config : Config) (moment next : ℕ) (table : Table) (message : Message) (first : Option (List ℕ)) → site.config ≡ config → next ≡ table.next → IsReceived config moment message next first → IsReceived site.config moment message table.next first
-received_at site config moment next table message first under same r = subst (λ q. IsReceived q moment message table.next first) (sym under) (subst (λ n. IsReceived config moment message n first) same r)
-
-pub taken_at : (site : Site) (config : Config) (moment next : ℕ) (table : Table) (message : Message) (first : Option (List ℕ)) → site.config ≡ config → next ≡ table.next → 1 ≤ length message.rows → IsReceived config moment message next first → IsTakenIn site.config moment message table.next first
-taken_at site config moment next table message first under same some r = record { some = some; received = received_at site config moment next table message first under same r }
+-- what is made of a message is what the site makes of it, under the id that the table gives
+pub taken_at : (site : Site) (config : Config) (maps : Loaded) (moment next : ℕ) (table : Table) (message : Message) (made : Made) → IsUnder site config maps → next ≡ table.next → IsTakenIn config maps moment message next made → IsTakenIn site.config site.maps moment message table.next made
+taken_at site config maps moment next table message made under same t =
+    subst (λ (q : Config). IsTakenIn q site.maps moment message table.next made) (sym under.config_is)
+    (subst (λ (q : Loaded). IsTakenIn config q moment message table.next made) (sym under.maps_are)
+    (subst (λ n. IsTakenIn config maps moment message n made) same t))
 
 -- ---- the exits of accept
 
 module _ (site : Site) (moment : ℕ) (d : Did) (message : Message) (old new : Caller) (k : ClockSeen) where
-  -- no id is left
-  pub message_spent : (f : FloorHeard) (s : Spooled) (intake : Intake) → is_spent d.table ≡ true → AnswersMessage site moment d message (seen f s k) (seen f s k) intake old new (Err stops.IdsSpent)
-  message_spent f s intake spent = record {
-    choice = SpoolFails None;
+  -- an id is wanting
+  pub message_spent : (f : FloorHeard) (s : Spooled) (intake : Intake) (made : Made) → is_spent d.table made ≡ true → last_id + 1 < d.table.next + most_rows → IsMadeAt site moment d.table (Gives message) made → AnswersMessage site moment d message (seen f s k) (seen f s k) intake old new (Err stops.IdsSpent)
+  message_spent f s intake made spent wanting meant = record {
+    choice = SpoolFails made;
     answers = λ e. cc e;
-    meant = λ left. absurd (false≢true (sym left ∙ spent));
-    does = subst (λ e. Does site d e (seen f s k) (seen f s k) (Err stops.IdsSpent)) (sym (cond-true (is_spent d.table) _ _ spent)) (does_spent site d f s k spent);
-    guest = fails_guest site moment d message;
+    meant = meant;
+    does = subst (λ e. Does site d e (seen f s k) (seen f s k) (Err stops.IdsSpent)) (sym (cond-true (is_spent d.table made) _ _ spent)) (does_spent site d f s k wanting);
+    guest = fails_guest site moment d message made;
     serves = λ on. absurd (cc on);
     caller = λ on. absurd (cc on);
     granted = refl;
@@ -172,20 +188,16 @@ module _ (site : Site) (moment : ℕ) (d : Did) (message : Message) (old new : C
     granted = granted;
   }
 
-  module _ (first : Option (List ℕ)) (taken : IsTakenIn site.config moment message d.table.next first) where
-    -- the message with the header that is put first
-    abbrev whole_message : Message
-    whole_message = headed first message
-
+  module _ (made : Made) (taken : IsTakenIn site.config site.maps moment message d.table.next made) where
     -- the spool failed
-    pub message_failed : (f : FloorHeard) (s t : Spooled) (intake : Intake) → is_spent d.table ≡ false → Moves s t (StandsFor site.dirs d.table) (IsEither site.dirs d.table (accept_of site moment whole_message)) (IsEither site.dirs d.table (accept_of site moment whole_message)) → IsSparing site.dirs s t false → s.faults ≤ t.faults → Rose s.faults t.faults
+    pub message_failed : (f : FloorHeard) (s t : Spooled) (intake : Intake) → is_spent d.table made ≡ false → Moves s t (StandsFor site.dirs d.table) (IsEither site.dirs d.table (accept_of site moment message made)) (IsEither site.dirs d.table (accept_of site moment message made)) → IsSparing site.dirs s t false → s.faults ≤ t.faults → Rose s.faults t.faults
         → AnswersMessage site moment d message (seen f s k) (seen f t k) intake old new (Err stops.SpoolFault)
     message_failed f s t intake left moves sparing later rose = record {
-      choice = SpoolFails first;
+      choice = SpoolFails made;
       answers = λ e. cc e;
       meant = λ l. taken;
-      does = does_failed site moment d whole_message f s t k left moves sparing later rose;
-      guest = fails_guest site moment d whole_message;
+      does = does_failed site moment d message made f s t k left moves sparing later rose;
+      guest = fails_guest site moment d message made;
       serves = λ on. absurd (cc on);
       caller = λ on. absurd (cc on);
       granted = refl;
@@ -194,30 +206,30 @@ module _ (site : Site) (moment : ℕ) (d : Did) (message : Message) (old new : C
     module _ (f g : FloorHeard) (s t : Spooled) (before intake : Intake) (kept : Kept) (fed : Result Next CoreStop) where
       -- an intake whose table has taken it in
       taken_in : (serves : Serves site before d.table) → intake ≡ record before { table = kept } → Stays before.table kept → (store kept).broken ≡ (store before.table).broken
-          → HoldsTable kept (after d.table (Accept before.table.terms whole_message (cuts_of whole_message) moment)) → Serves site intake (after d.table (accept_of site moment whole_message))
-      taken_in serves is stays on holds = subst (λ i. Serves site i (after d.table (accept_of site moment whole_message))) (sym is) (record {
-        stores = stores_more site before.table kept d.table (after d.table (accept_of site moment whole_message)) serves.stores stays on (holds_at site moment whole_message s t before.table d.table serves.stores kept holds);
+          → HoldsTable kept (after d.table (Accept before.table.terms (headed made.first message) made.cuts moment)) → Serves site intake (after d.table (accept_of site moment message made))
+      taken_in serves is stays on holds = subst (λ i. Serves site i (after d.table (accept_of site moment message made))) (sym is) (record {
+        stores = stores_more site before.table kept d.table (after d.table (accept_of site moment message made)) serves.stores stays on (holds_at site moment message made s t before.table d.table serves.stores kept holds);
         short = serves.short;
         range = serves.range;
       })
 
       -- the table of a message that was taken in
-      accepted_in : (whole : Bool) → is_spent d.table ≡ false → Serves site intake (after d.table (accept_of site moment whole_message)) → Serves site intake (accepts site moment d whole_message whole).table
-      accepted_in whole left serves = subst (λ (e : Did). Serves site intake e.table) (sym (cond-false (is_spent d.table) (is_over d (By IdsSpent)) (says (commits site moment d whole_message) (stored_text d.table.next) whole) left)) serves
+      accepted_in : (whole : Bool) → is_spent d.table made ≡ false → Serves site intake (after d.table (accept_of site moment message made)) → Serves site intake (accepts site moment d message made whole).table
+      accepted_in whole left serves = subst (λ (e : Did). Serves site intake e.table) (sym (cond-false (is_spent d.table made) (is_over d (By IdsSpent)) (says (commits site moment d message made) (stored_text d.table.next) whole) left)) serves
 
       -- it was taken in and acknowledged
-      pub message_stored : (text : List ℕ) → d.way ≡ GoesOn → is_spent d.table ≡ false → text ≡ stored_text d.table.next
-          → Moves s t (StandsFor site.dirs d.table) (StandsFor site.dirs (after d.table (accept_of site moment whole_message))) (IsEither site.dirs d.table (accept_of site moment whole_message)) → IsSparing site.dirs s t true → s.faults ≤ t.faults
+      pub message_stored : (text : List ℕ) → d.way ≡ GoesOn → is_spent d.table made ≡ false → text ≡ stored_text d.table.next
+          → Moves s t (StandsFor site.dirs d.table) (StandsFor site.dirs (after d.table (accept_of site moment message made))) (IsEither site.dirs d.table (accept_of site moment message made)) → IsSparing site.dirs s t true → s.faults ≤ t.faults
           → IsSpoken fed → is_granted fed ≡ false → Gains f.told g.told (heard_of (speech d.guest.number text (is_onward fed))) → g.faults ≡ f.faults
           → Serves site before d.table → intake ≡ record before { table = kept } → Stays before.table kept → (store kept).broken ≡ (store before.table).broken
-          → HoldsTable kept (after d.table (Accept before.table.terms whole_message (cuts_of whole_message) moment)) → new ≡ old
+          → HoldsTable kept (after d.table (Accept before.table.terms (headed made.first message) made.cuts moment)) → new ≡ old
           → AnswersMessage site moment d message (seen f s k) (seen g t k) intake old new fed
       message_stored text way left is moves sparing later spoken granted told own serves is_in stays on holds same = record {
-        choice = Normal Unasked first (is_onward fed);
+        choice = Normal Unasked made (is_onward fed);
         answers = λ e. cc e;
         meant = (refl, λ l. taken);
-        does = does_accepts site moment d whole_message f g s t k fed way left moves sparing later spoken (subst (λ q. Gains f.told g.told (heard_of (speech d.guest.number q (is_onward fed)))) is told) own;
-        guest = accepts_guest site moment d whole_message (is_onward fed);
+        does = does_accepts site moment d message made f g s t k fed way left moves sparing later spoken (subst (λ q. Gains f.told g.told (heard_of (speech d.guest.number q (is_onward fed)))) is told) own;
+        guest = accepts_guest site moment d message made (is_onward fed);
         serves = λ goes. accepted_in (is_onward fed) left (taken_in serves is_in stays on holds);
         caller = λ on. same;
         granted = granted;

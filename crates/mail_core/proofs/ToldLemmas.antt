@@ -18,7 +18,7 @@ use Rattle.mail_core.specs.Effects.{Effect, Commits, Sends, HangsUp, speech}
 use Rattle.mail_core.specs.Guests.{Guest, is_passed, next_line, with_line}
 use Rattle.mail_core.specs.Machine.{Choice, Normal, OutOfMemory, Disconnects, SpoolFails, JudgeFails, SpoolFault, IdsSpent, FilesFault, Finish, By, Cut, Way, GoesOn, Leaves, Over, Did, answer_by, limit_of, does, says, closes, is_over, commits, replies, fails, heard_line, heard_where, id_by, is_answered, by_choice, answered, settled_by, fresh_start, all_answered}
 use Rattle.mail_core.proofs.WayLemmas.{goes_keeps}
-use Rattle.mail_core.specs.Messages.{accept_of, headed, is_spent}
+use Rattle.mail_core.specs.Messages.{Made, accept_of, is_spent}
 use Rattle.mail_core.specs.Told.{said_to, replies_of}
 
 same_number : (n : ℕ) → nat_eq n n ≡ true
@@ -77,18 +77,18 @@ adds_closes d text whole = record {
 }
 
 module _ (site : Site) (moment : ℕ) where
-  commits_none : (s : ℕ) (d : Did) (message : Message) → said_to s (commits site moment d message).effects ≡ said_to s d.effects
-  commits_none s d message = said_more s d.effects (Commits (accept_of site moment message) ∷ []) ∙ append-nil (said_to s d.effects)
+  commits_none : (s : ℕ) (d : Did) (message : Message) (made : Made) → said_to s (commits site moment d message made).effects ≡ said_to s d.effects
+  commits_none s d message made = said_more s d.effects (Commits (accept_of site moment message made) ∷ []) ∙ append-nil (said_to s d.effects)
 
-  adds_stored : (d : Did) (message : Message) (text : List ℕ) (whole : Bool) → Adds d (says (commits site moment d message) text whole) (text ∷ [])
-  adds_stored d message text whole =
-      let a = adds_says (commits site moment d message) text whole in
-      record { guest = refl; said = a.said ∙ ap (λ s. s ++ text ∷ []) (commits_none d.guest.number d message); apart = λ s h. a.apart s h ∙ commits_none s d message }
+  adds_stored : (d : Did) (message : Message) (made : Made) (text : List ℕ) (whole : Bool) → Adds d (says (commits site moment d message made) text whole) (text ∷ [])
+  adds_stored d message made text whole =
+      let a = adds_says (commits site moment d message made) text whole in
+      record { guest = refl; said = a.said ∙ ap (λ s. s ++ text ∷ []) (commits_none d.guest.number d message made); apart = λ s h. a.apart s h ∙ commits_none s d message made }
 
-  adds_failed : (d : Did) (message : Message) → Adds d (is_over (commits site moment d message) (By SpoolFault)) []
-  adds_failed d message =
-      let a = adds_none (commits site moment d message) (Over (By SpoolFault)) in
-      record { guest = refl; said = a.said ∙ ap (λ s. s ++ []) (commits_none d.guest.number d message); apart = λ s h. a.apart s h ∙ commits_none s d message }
+  adds_failed : (d : Did) (message : Message) (made : Made) → Adds d (is_over (commits site moment d message made) (By SpoolFault)) []
+  adds_failed d message made =
+      let a = adds_none (commits site moment d message made) (Over (By SpoolFault)) in
+      record { guest = refl; said = a.said ∙ ap (λ s. s ++ []) (commits_none d.guest.number d message made); apart = λ s h. a.apart s h ∙ commits_none s d message made }
 
   -- ---- what was said since a piece began are the replies to what was answered since
 
@@ -126,12 +126,12 @@ module _ (site : Site) (moment : ℕ) where
         apart = λ s h. a.apart s (subst (λ n. nat_eq n s ≡ false) (sym t.number) h) ∙ t.apart s h;
       }
 
-  gives_told : (spent : Bool) (g : Guest) (d : Did) (line : Line) (said : Said) (message gift : Message) (whole : Bool) → answer_by d said line ≡ Gives gift → IsTold g d
-      → IsTold g (heard_where (not spent) (if spent then is_over d (By IdsSpent) else says (commits site moment d message) (stored_text d.table.next) whole) line said false (Some d.table.next))
-  gives_told true g d line said message gift whole is t = told_none g d (is_over d (By IdsSpent)) (adds_none d (Over (By IdsSpent))) t
-  gives_told false g d line said message gift whole is t =
-      told_line g d (says (commits site moment d message) (stored_text d.table.next) whole) line said false (Some d.table.next)
-      (subst (λ a. Adds d (says (commits site moment d message) (stored_text d.table.next) whole) (listed (reply_by (shown_host site.host) (limit_of d) (Some a) (Some d.table.next)))) (sym is) (adds_stored d message (stored_text d.table.next) whole)) t
+  gives_told : (spent : Bool) (g : Guest) (d : Did) (line : Line) (said : Said) (message : Message) (made : Made) (whole : Bool) → answer_by d said line ≡ Gives message → IsTold g d
+      → IsTold g (heard_where (not spent) (if spent then is_over d (By IdsSpent) else says (commits site moment d message made) (stored_text d.table.next) whole) line said false (Some d.table.next))
+  gives_told true g d line said message made whole is t = told_none g d (is_over d (By IdsSpent)) (adds_none d (Over (By IdsSpent))) t
+  gives_told false g d line said message made whole is t =
+      told_line g d (says (commits site moment d message made) (stored_text d.table.next) whole) line said false (Some d.table.next)
+      (subst (λ a. Adds d (says (commits site moment d message made) (stored_text d.table.next) whole) (listed (reply_by (shown_host site.host) (limit_of d) (Some a) (Some d.table.next)))) (sym is) (adds_stored d message made (stored_text d.table.next) whole)) t
 
   -- a line was answered with these words
   words_told : (g : Guest) (d : Did) (line : Line) (said : Said) (answer : Answer) (text : List ℕ) (whole : Bool) → reply_by (shown_host site.host) (limit_of d) (Some answer) None ≡ Some text → answer_by d said line ≡ answer → IsTold g d
@@ -140,36 +140,36 @@ module _ (site : Site) (moment : ℕ) where
       told_line g d (says d text whole) line said false None
       (subst (λ o. Adds d (says d text whole) (listed o)) (sym (ap (λ a. reply_by (shown_host site.host) (limit_of d) (Some a) None) is ∙ words)) (adds_says d text whole)) t
 
-  normal_told : (g : Guest) (d : Did) (line : Line) (said : Said) (answer : Answer) (first : Option (List ℕ)) (whole : Bool) → answer_by d said line ≡ answer → IsTold g d
-      → IsTold g (heard_where (is_answered d.table answer) (replies site moment d answer first whole) line said false (id_by d.table answer))
-  normal_told g d line said (Gives message) first whole is t = gives_told (is_spent d.table) g d line said (headed first message) message whole is t
-  normal_told g d line said (Says reply) first whole is t = words_told g d line said (Says reply) (text_of reply) whole refl is t
-  normal_told g d line said (Refuses error) first whole is t = words_told g d line said (Refuses error) (refusal_text error) whole refl is t
-  normal_told g d line said Greets first whole is t = words_told g d line said Greets (hello_text (shown_host site.host)) whole refl is t
-  normal_told g d line said Extends first whole is t = words_told g d line said Extends (extended_text (shown_host site.host) (limit_of d)) whole refl is t
-  normal_told g d line said Grants first whole is t = words_told g d line said Grants grant_text whole refl is t
-  normal_told g d line said Ends first whole is t =
+  normal_told : (g : Guest) (d : Did) (line : Line) (said : Said) (answer : Answer) (made : Made) (whole : Bool) → answer_by d said line ≡ answer → IsTold g d
+      → IsTold g (heard_where (is_answered d.table made answer) (replies site moment d answer made whole) line said false (id_by d.table answer))
+  normal_told g d line said (Gives message) made whole is t = gives_told (is_spent d.table made) g d line said message made whole is t
+  normal_told g d line said (Says reply) made whole is t = words_told g d line said (Says reply) (text_of reply) whole refl is t
+  normal_told g d line said (Refuses error) made whole is t = words_told g d line said (Refuses error) (refusal_text error) whole refl is t
+  normal_told g d line said Greets made whole is t = words_told g d line said Greets (hello_text (shown_host site.host)) whole refl is t
+  normal_told g d line said Extends made whole is t = words_told g d line said Extends (extended_text (shown_host site.host) (limit_of d)) whole refl is t
+  normal_told g d line said Grants made whole is t = words_told g d line said Grants grant_text whole refl is t
+  normal_told g d line said Ends made whole is t =
       let text : List ℕ = closing_text (shown_host site.host) in
       told_line g d (closes d text whole) line said false None (subst (λ a. Adds d (closes d text whole) (listed (reply_by (shown_host site.host) (limit_of d) (Some a) None))) (sym is) (adds_closes d text whole)) t
-  normal_told g d line said Passes first whole is t =
+  normal_told g d line said Passes made whole is t =
       told_line g d d line said false None (subst (λ a. Adds d d (listed (reply_by (shown_host site.host) (limit_of d) (Some a) None))) (sym is) (adds_still d)) t
 
-  failing_told : (spent : Bool) (g : Guest) (d : Did) (message : Message) → IsTold g d → IsTold g (if spent then is_over d (By IdsSpent) else is_over (commits site moment d message) (By SpoolFault))
-  failing_told true g d message t = told_none g d (is_over d (By IdsSpent)) (adds_none d (Over (By IdsSpent))) t
-  failing_told false g d message t = told_none g d (is_over (commits site moment d message) (By SpoolFault)) (adds_failed d message) t
+  failing_told : (spent : Bool) (g : Guest) (d : Did) (message : Message) (made : Made) → IsTold g d → IsTold g (if spent then is_over d (By IdsSpent) else is_over (commits site moment d message made) (By SpoolFault))
+  failing_told true g d message made t = told_none g d (is_over d (By IdsSpent)) (adds_none d (Over (By IdsSpent))) t
+  failing_told false g d message made t = told_none g d (is_over (commits site moment d message made) (By SpoolFault)) (adds_failed d message made) t
 
   over_told : (g : Guest) (d : Did) (finish : Finish) → IsTold g d → IsTold g (is_over d finish)
   over_told g d finish t = told_none g d (is_over d finish) (adds_none d (Over finish)) t
 
-  fails_told : (g : Guest) (d : Did) (answer : Answer) (first : Option (List ℕ)) → IsTold g d → IsTold g (fails site moment d answer first)
-  fails_told g d (Gives message) first t = failing_told (is_spent d.table) g d (headed first message) t
-  fails_told g d (Says reply) first t = over_told g d Cut t
-  fails_told g d (Refuses error) first t = over_told g d Cut t
-  fails_told g d Greets first t = over_told g d Cut t
-  fails_told g d Extends first t = over_told g d Cut t
-  fails_told g d Grants first t = over_told g d Cut t
-  fails_told g d Ends first t = over_told g d Cut t
-  fails_told g d Passes first t = over_told g d Cut t
+  fails_told : (g : Guest) (d : Did) (answer : Answer) (made : Made) → IsTold g d → IsTold g (fails site moment d answer made)
+  fails_told g d (Gives message) made t = failing_told (is_spent d.table made) g d message made t
+  fails_told g d (Says reply) made t = over_told g d Cut t
+  fails_told g d (Refuses error) made t = over_told g d Cut t
+  fails_told g d Greets made t = over_told g d Cut t
+  fails_told g d Extends made t = over_told g d Cut t
+  fails_told g d Grants made t = over_told g d Cut t
+  fails_told g d Ends made t = over_told g d Cut t
+  fails_told g d Passes made t = over_told g d Cut t
 
   short_told : (passed : Bool) (g : Guest) (d : Did) (line : Line) (whole : Bool) → is_passed d.guest line ≡ passed → IsTold g d → IsTold g (if passed then is_over d Cut else heard_line (says d out_of_memory_text whole) line Unasked true None)
   short_told true g d line whole is t = over_told g d Cut t
@@ -185,15 +185,15 @@ module _ (site : Site) (moment : ℕ) where
   drop_told false g d t = over_told g d Cut t
 
   choice_told : (g : Guest) (d : Did) (choice : Choice) (line : Option Line) → IsTold g d → IsTold g (by_choice site moment d choice line)
-  choice_told g d (Normal said first whole) (Some line) t = normal_told g d line said (answer_by d said line) first whole refl t
+  choice_told g d (Normal said made whole) (Some line) t = normal_told g d line said (answer_by d said line) made whole refl t
   choice_told g d (OutOfMemory whole) (Some line) t = short_told (is_passed d.guest line) g d line whole refl t
-  choice_told g d (SpoolFails first) (Some line) t = fails_told g d (answer_by d Unasked line) first t
+  choice_told g d (SpoolFails made) (Some line) t = fails_told g d (answer_by d Unasked line) made t
   choice_told g d JudgeFails (Some line) t = over_told g d (By FilesFault) t
   choice_told g d Disconnects (Some line) t = drop_told d.may_disconnect g d t
   choice_told g d Disconnects None t = drop_told d.may_disconnect g d t
-  choice_told g d (Normal said first whole) None t = over_told g d Cut t
+  choice_told g d (Normal said made whole) None t = over_told g d Cut t
   choice_told g d (OutOfMemory whole) None t = over_told g d Cut t
-  choice_told g d (SpoolFails first) None t = over_told g d Cut t
+  choice_told g d (SpoolFails made) None t = over_told g d Cut t
   choice_told g d JudgeFails None t = over_told g d Cut t
 
   all_told : (g : Guest) (d : Did) (choices : List Choice) → IsTold g d → IsTold g (fold (answered site moment) d choices)

@@ -17,7 +17,7 @@ use Rattle.mail_core.specs.Sites.{Site}
 use Rattle.mail_core.specs.Effects.{Effect, Commits, Sends, HangsUp, speech}
 use Rattle.mail_core.specs.Guests.{Guest, grants_of, is_passed, next_line, with_line, lines_heard}
 use Rattle.mail_core.specs.Machine.{Choice, Normal, OutOfMemory, Disconnects, SpoolFails, JudgeFails, SpoolFault, IdsSpent, FilesFault, Finish, By, Cut, Way, GoesOn, Leaves, Over, Did, answer_by, limit_of, does, says, closes, is_over, commits, replies, fails, heard_line, heard_where, id_by, is_answered, by_choice, goes_on, answered, settled_by, fresh_start, all_answered}
-use Rattle.mail_core.specs.Messages.{accept_of, headed, is_spent}
+use Rattle.mail_core.specs.Messages.{Made, accept_of, is_spent}
 use Rattle.mail_core.specs.Told.{IsInTurn, brought_by, brought_of}
 use Rattle.mail_core.proofs.WayLemmas.{goes_keeps}
 use Rattle.mail_core.proofs.AnswerLemmas.{answer_kept, grants_more, lines_more}
@@ -136,40 +136,40 @@ not_left : Leaves ≡ GoesOn → ⊥
 not_left h = cc h
 
 module _ (site : Site) (moment : ℕ) where
-  idles_commits : (d : Did) (message : Message) → Idles d (commits site moment d message)
-  idles_commits d message = record { same = refl; quiet = λ s. brings_none s d.effects (Commits (accept_of site moment message) ∷ []) refl }
+  idles_commits : (d : Did) (message : Message) (made : Made) → Idles d (commits site moment d message made)
+  idles_commits d message made = record { same = refl; quiet = λ s. brings_none s d.effects (Commits (accept_of site moment message made) ∷ []) refl }
 
-  idles_accepts : (spent : Bool) (d : Did) (message : Message) (whole : Bool) → Idles d (if spent then is_over d (By IdsSpent) else says (commits site moment d message) (stored_text d.table.next) whole)
-  idles_accepts true d message whole = idles_over d (By IdsSpent)
-  idles_accepts false d message whole =
-      let c = commits site moment d message in
-      idles_join d c (says c (stored_text d.table.next) whole) (idles_commits d message) (idles_says c (stored_text d.table.next) whole)
+  idles_accepts : (spent : Bool) (d : Did) (message : Message) (made : Made) (whole : Bool) → Idles d (if spent then is_over d (By IdsSpent) else says (commits site moment d message made) (stored_text d.table.next) whole)
+  idles_accepts true d message made whole = idles_over d (By IdsSpent)
+  idles_accepts false d message made whole =
+      let c = commits site moment d message made in
+      idles_join d c (says c (stored_text d.table.next) whole) (idles_commits d message made) (idles_says c (stored_text d.table.next) whole)
 
-  idles_replies : (d : Did) (answer : Answer) (first : Option (List ℕ)) (whole : Bool) → Idles d (replies site moment d answer first whole)
-  idles_replies d (Says reply) first whole = idles_says d (text_of reply) whole
-  idles_replies d (Refuses error) first whole = idles_says d (refusal_text error) whole
-  idles_replies d Greets first whole = idles_says d (hello_text (shown_host site.host)) whole
-  idles_replies d Extends first whole = idles_says d (extended_text (shown_host site.host) (limit_of d)) whole
-  idles_replies d Grants first whole = idles_says d grant_text whole
-  idles_replies d Ends first whole = idles_closes d (closing_text (shown_host site.host)) whole
-  idles_replies d (Gives message) first whole = idles_accepts (is_spent d.table) d (headed first message) whole
-  idles_replies d Passes first whole = idles_still d
+  idles_replies : (d : Did) (answer : Answer) (made : Made) (whole : Bool) → Idles d (replies site moment d answer made whole)
+  idles_replies d (Says reply) made whole = idles_says d (text_of reply) whole
+  idles_replies d (Refuses error) made whole = idles_says d (refusal_text error) whole
+  idles_replies d Greets made whole = idles_says d (hello_text (shown_host site.host)) whole
+  idles_replies d Extends made whole = idles_says d (extended_text (shown_host site.host) (limit_of d)) whole
+  idles_replies d Grants made whole = idles_says d grant_text whole
+  idles_replies d Ends made whole = idles_closes d (closing_text (shown_host site.host)) whole
+  idles_replies d (Gives message) made whole = idles_accepts (is_spent d.table made) d message made whole
+  idles_replies d Passes made whole = idles_still d
 
-  idles_failing : (spent : Bool) (d : Did) (message : Message) → Idles d (if spent then is_over d (By IdsSpent) else is_over (commits site moment d message) (By SpoolFault))
-  idles_failing true d message = idles_over d (By IdsSpent)
-  idles_failing false d message =
-      let c = commits site moment d message in
-      idles_join d c (is_over c (By SpoolFault)) (idles_commits d message) (idles_over c (By SpoolFault))
+  idles_failing : (spent : Bool) (d : Did) (message : Message) (made : Made) → Idles d (if spent then is_over d (By IdsSpent) else is_over (commits site moment d message made) (By SpoolFault))
+  idles_failing true d message made = idles_over d (By IdsSpent)
+  idles_failing false d message made =
+      let c = commits site moment d message made in
+      idles_join d c (is_over c (By SpoolFault)) (idles_commits d message made) (idles_over c (By SpoolFault))
 
-  idles_fails : (d : Did) (answer : Answer) (first : Option (List ℕ)) → Idles d (fails site moment d answer first)
-  idles_fails d (Gives message) first = idles_failing (is_spent d.table) d (headed first message)
-  idles_fails d (Says reply) first = idles_over d Cut
-  idles_fails d (Refuses error) first = idles_over d Cut
-  idles_fails d Greets first = idles_over d Cut
-  idles_fails d Extends first = idles_over d Cut
-  idles_fails d Grants first = idles_over d Cut
-  idles_fails d Ends first = idles_over d Cut
-  idles_fails d Passes first = idles_over d Cut
+  idles_fails : (d : Did) (answer : Answer) (made : Made) → Idles d (fails site moment d answer made)
+  idles_fails d (Gives message) made = idles_failing (is_spent d.table made) d message made
+  idles_fails d (Says reply) made = idles_over d Cut
+  idles_fails d (Refuses error) made = idles_over d Cut
+  idles_fails d Greets made = idles_over d Cut
+  idles_fails d Extends made = idles_over d Cut
+  idles_fails d Grants made = idles_over d Cut
+  idles_fails d Ends made = idles_over d Cut
+  idles_fails d Passes made = idles_over d Cut
 
   idles_drops : (d : Did) (may : Bool) → Idles d (if may then does d (HangsUp d.guest.number ∷ []) Leaves else is_over d Cut)
   idles_drops d true = record { same = refl; quiet = λ s. brings_none s d.effects (HangsUp d.guest.number ∷ []) refl }
@@ -187,17 +187,17 @@ module _ (site : Site) (moment : ℕ) where
   moves_short false d line whole = moves_where true d (says d out_of_memory_text whole) line Unasked true None (idles_says d out_of_memory_text whole)
 
   moves_choice : (d : Did) (choice : Choice) (line : Option Line) → Moves d (by_choice site moment d choice line) line
-  moves_choice d (Normal said first whole) (Some line) =
+  moves_choice d (Normal said made whole) (Some line) =
       let answer = answer_by d said line in
-      moves_where (is_answered d.table answer) d (replies site moment d answer first whole) line said false (id_by d.table answer) (idles_replies d answer first whole)
+      moves_where (is_answered d.table made answer) d (replies site moment d answer made whole) line said false (id_by d.table answer) (idles_replies d answer made whole)
   moves_choice d (OutOfMemory whole) (Some line) = moves_short (is_passed d.guest line) d line whole
-  moves_choice d (SpoolFails first) (Some line) = let answer = answer_by d Unasked line in moves_idle d (fails site moment d answer first) (Some line) (idles_fails d answer first)
+  moves_choice d (SpoolFails made) (Some line) = let answer = answer_by d Unasked line in moves_idle d (fails site moment d answer made) (Some line) (idles_fails d answer made)
   moves_choice d JudgeFails (Some line) = moves_idle d (is_over d (By FilesFault)) (Some line) (idles_over d (By FilesFault))
   moves_choice d Disconnects (Some line) = moves_idle d _ (Some line) (idles_drops d d.may_disconnect)
   moves_choice d Disconnects None = moves_idle d _ None (idles_drops d d.may_disconnect)
-  moves_choice d (Normal said first whole) None = moves_idle d (is_over d Cut) None (idles_over d Cut)
+  moves_choice d (Normal said made whole) None = moves_idle d (is_over d Cut) None (idles_over d Cut)
   moves_choice d (OutOfMemory whole) None = moves_idle d (is_over d Cut) None (idles_over d Cut)
-  moves_choice d (SpoolFails first) None = moves_idle d (is_over d Cut) None (idles_over d Cut)
+  moves_choice d (SpoolFails made) None = moves_idle d (is_over d Cut) None (idles_over d Cut)
   moves_choice d JudgeFails None = moves_idle d (is_over d Cut) None (idles_over d Cut)
 
   -- ---- what is done for a piece brings nothing

@@ -1,6 +1,7 @@
 -- Why a run ends (own).
-use Rattle.std.specs.Prelude.{◌≡◌, Option, Some, None, Result, Ok, Err, Bool, true, false}
+use Rattle.std.specs.Prelude.{◌≡◌, ◌+◌, ◌<◌, Option, Some, None, Result, Ok, Err, Bool, true, false}
 use Rattle.mail_base.specs.Histories.{Rose}
+use Rattle.mail_base.specs.Limits.{most_rows}
 use Rattle.link_edge.specs.declared.event.Event.{Event}
 use Rattle.link_edge.specs.declared.event.Event.TheVariants.{Stops}
 use Rattle.spool_store.specs.Entries.{Table}
@@ -9,7 +10,7 @@ use Rattle.mail_core.specs.declared.serving.Act.TheVariants.{Went, Ended}
 use Rattle.mail_core.specs.declared.serving.CoreStop.{CoreStop}
 use Rattle.mail_core.specs.declared.serving.CoreStop.TheVariants as stops
 use Rattle.mail_core.specs.Machine.{Ending, Stopped, SpoolFault, IdsSpent, FilesFault, By, State}
-use Rattle.mail_core.specs.Messages.{is_spent}
+use Rattle.mail_core.specs.Messages.{last_id}
 use Rattle.mail_core.specs.Seen.{Seen}
 
 -- the ending that an error of the core is
@@ -39,12 +40,13 @@ is_judge_fault (Err stops.IdsSpent) = false
 is_judge_fault (Err stops.FilesFault) = true
 
 -- why a run ended so, at an event that led from a to b, with the table after it: the floor told
--- Stop; the count of the spool rose; a message was to be taken in, and no id is left for it; that
--- the judge's count rose is said beside (`IsAsked`)
+-- Stop; the count of the spool rose; a message was to be taken in, and fewer ids are left than it
+-- may have rows, which are no fewer than its parts; that the judge's count rose is said beside
+-- (`IsAsked`)
 abbrev pub HasCause : Ending → Event → Table → Seen → Seen → Type 0
 HasCause Stopped event table a b = event ≡ Stops
 HasCause SpoolFault event table a b = Rose a.spool.faults b.spool.faults
-HasCause IdsSpent event table a b = is_spent table ≡ true
+HasCause IdsSpent event table a b = last_id + 1 < table.next + most_rows
 HasCause FilesFault event table a b = Unit {0}
 
 -- the run ended so at an event that led from a to b, with this state after it, and for its cause

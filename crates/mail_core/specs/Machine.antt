@@ -17,7 +17,7 @@ use Rattle.queue_table.specs.Commands.{after}
 use Rattle.mail_core.specs.Effects.{Effect, Takes, Ticks, Commits, Sends, HangsUp, speech}
 use Rattle.mail_core.specs.Guests.{Guest, newcomer, next_line, is_passed, has_bytes_left, with_bytes, with_line, guest_of, is_here, without, with_guest}
 use Rattle.mail_core.specs.Sites.{Site}
-use Rattle.mail_core.specs.Messages.{accept_of, headed, is_spent}
+use Rattle.mail_core.specs.Messages.{Made, accept_of, is_spent}
 
 -- what is left open at an opening: its greeting, or its 421, is sent whole or not; or the session
 -- ends for want of memory
@@ -26,14 +26,14 @@ pub data Opening : Type 0 where
   Dropped : Opening
 
 -- what is left open at a line: its reply, sent whole or not, by what the judge said of the line
--- and, where a message is taken in, the header that is put first; 452 4.3.1 in place of it; the
--- session's end for want of memory; a fault of the spool, or of the judge. What the judge may say,
--- and which header it is, isn't left open (`IsMeant`)
+-- and, where a message is taken in, what is made of it; 452 4.3.1 in place of it; the session's end
+-- for want of memory; a fault of the spool, or of the judge. What the judge may say, and what is
+-- made of a message, isn't left open (`IsMeant`)
 pub data Choice : Type 0 where
-  Normal : (said : Said) (first : Option (List ℕ)) (whole : Bool) → Choice
+  Normal : (said : Said) (made : Made) (whole : Bool) → Choice
   OutOfMemory : (whole : Bool) → Choice
   Disconnects : Choice
-  SpoolFails : (first : Option (List ℕ)) → Choice
+  SpoolFails : (made : Made) → Choice
   JudgeFails : Choice
 
 -- what is left open at an event: at an opening, and at each line that a piece completes; nothing
@@ -103,41 +103,41 @@ abbrev pub question_here : Did → Line → Option Question
 question_here d line = question_of d.guest.config d.guest.peer d.guest.heard line
 
 -- a message is asked of the table
-abbrev pub commits : Site → ℕ → Did → Message → Did
-commits site moment d message = record d {
-  table = after d.table (accept_of site moment message);
-  effects = d.effects ++ Commits (accept_of site moment message) ∷ [];
+abbrev pub commits : Site → ℕ → Did → Message → Made → Did
+commits site moment d message made = record d {
+  table = after d.table (accept_of site moment message made);
+  effects = d.effects ++ Commits (accept_of site moment message made) ∷ [];
 }
 
--- a message is accepted, and then its 250 said; where no id is left the run ends
-abbrev pub accepts : Site → ℕ → Did → Message → Bool → Did
-accepts site moment d message whole =
-    if is_spent d.table then is_over d (By IdsSpent)
-    else says (commits site moment d message) (stored_text d.table.next) whole
+-- a message is accepted, and then its 250 said, with the id of its first part; where an id is
+-- wanting the run ends
+abbrev pub accepts : Site → ℕ → Did → Message → Made → Bool → Did
+accepts site moment d message made whole =
+    if is_spent d.table made then is_over d (By IdsSpent)
+    else says (commits site moment d message made) (stored_text d.table.next) whole
 
 -- the bytes that a message of a session may have
 abbrev pub limit_of : Did → ℕ
 limit_of d = message_limit d.guest.config.options
 
--- the answer that the dialogue has, sent whole or not, with the header that a message gets
-abbrev pub replies : Site → ℕ → Did → Answer → Option (List ℕ) → Bool → Did
-replies site moment d (Says reply) first whole = says d (text_of reply) whole
-replies site moment d (Refuses error) first whole = says d (refusal_text error) whole
-replies site moment d Greets first whole = says d (hello_text (shown_host site.host)) whole
-replies site moment d Extends first whole =
+-- the answer that the dialogue has, sent whole or not, with what is made of a message
+abbrev pub replies : Site → ℕ → Did → Answer → Made → Bool → Did
+replies site moment d (Says reply) made whole = says d (text_of reply) whole
+replies site moment d (Refuses error) made whole = says d (refusal_text error) whole
+replies site moment d Greets made whole = says d (hello_text (shown_host site.host)) whole
+replies site moment d Extends made whole =
     says d (extended_text (shown_host site.host) (limit_of d)) whole
-replies site moment d Grants first whole = says d grant_text whole
-replies site moment d Ends first whole = closes d (closing_text (shown_host site.host)) whole
-replies site moment d (Gives message) first whole =
-    accepts site moment d (headed first message) whole
-replies site moment d Passes first whole = d
+replies site moment d Grants made whole = says d grant_text whole
+replies site moment d Ends made whole = closes d (closing_text (shown_host site.host)) whole
+replies site moment d (Gives message) made whole = accepts site moment d message made whole
+replies site moment d Passes made whole = d
 
--- the spool fails at a message, where an id is left for it; nothing else is asked of it
-abbrev pub fails : Site → ℕ → Did → Answer → Option (List ℕ) → Did
-fails site moment d (Gives message) first =
-    if is_spent d.table then is_over d (By IdsSpent)
-    else is_over (commits site moment d (headed first message)) (By SpoolFault)
-fails site moment d answer first = is_over d Cut
+-- the spool fails at a message, where no id is wanting for it; nothing else is asked of it
+abbrev pub fails : Site → ℕ → Did → Answer → Made → Did
+fails site moment d (Gives message) made =
+    if is_spent d.table made then is_over d (By IdsSpent)
+    else is_over (commits site moment d message made) (By SpoolFault)
+fails site moment d answer made = is_over d Cut
 
 -- the line was answered; bytes that came after one that asks may be what want of memory keeps from
 -- being read
@@ -147,7 +147,7 @@ heard_line d line said short id = record d {
   may_disconnect = asks line && has_bytes_left (with_line d.guest line said short id);
 }
 
--- the id that is given at an answer: a message that is taken in gets one
+-- the id that is given at an answer: that of the first part of a message that is taken in
 abbrev pub id_by : Table → Answer → Option ℕ
 id_by table (Gives message) = Some table.next
 id_by table (Says reply) = None
@@ -158,16 +158,16 @@ id_by table Grants = None
 id_by table Ends = None
 id_by table Passes = None
 
--- whether the run goes on behind an answer: a message needs an id
-abbrev pub is_answered : Table → Answer → Bool
-is_answered table (Gives message) = not (is_spent table)
-is_answered table (Says reply) = true
-is_answered table (Refuses error) = true
-is_answered table Greets = true
-is_answered table Extends = true
-is_answered table Grants = true
-is_answered table Ends = true
-is_answered table Passes = true
+-- whether the run goes on behind an answer: a message needs ids
+abbrev pub is_answered : Table → Made → Answer → Bool
+is_answered table made (Gives message) = not (is_spent table made)
+is_answered table made (Says reply) = true
+is_answered table made (Refuses error) = true
+is_answered table made Greets = true
+is_answered table made Extends = true
+is_answered table made Grants = true
+is_answered table made Ends = true
+is_answered table made Passes = true
 
 -- the line is among those that were answered, but where the run ends at it
 abbrev pub heard_where : Bool → Did → Line → Said → Bool → Option ℕ → Did
@@ -178,21 +178,21 @@ heard_where false d line said short id = d
 -- memory for a piece, or for the bytes after a line that asks, drops them whole and ends the
 -- session
 abbrev pub by_choice : Site → ℕ → Did → Choice → Option Line → Did
-by_choice site moment d (Normal said first whole) (Some line) =
-    heard_where (is_answered d.table (answer_by d said line))
-    (replies site moment d (answer_by d said line) first whole) line said false
+by_choice site moment d (Normal said made whole) (Some line) =
+    heard_where (is_answered d.table made (answer_by d said line))
+    (replies site moment d (answer_by d said line) made whole) line said false
     (id_by d.table (answer_by d said line))
 by_choice site moment d (OutOfMemory whole) (Some line) =
     if is_passed d.guest line then is_over d Cut
     else heard_line (says d out_of_memory_text whole) line Unasked true None
-by_choice site moment d (SpoolFails first) (Some line) =
-    fails site moment d (answer_by d Unasked line) first
+by_choice site moment d (SpoolFails made) (Some line) =
+    fails site moment d (answer_by d Unasked line) made
 by_choice site moment d JudgeFails (Some line) = is_over d (By FilesFault)
 by_choice site moment d Disconnects line =
     if d.may_disconnect then does d (HangsUp d.guest.number ∷ []) Leaves else is_over d Cut
-by_choice site moment d (Normal said first whole) None = is_over d Cut
+by_choice site moment d (Normal said made whole) None = is_over d Cut
 by_choice site moment d (OutOfMemory whole) None = is_over d Cut
-by_choice site moment d (SpoolFails first) None = is_over d Cut
+by_choice site moment d (SpoolFails made) None = is_over d Cut
 by_choice site moment d JudgeFails None = is_over d Cut
 
 -- the next line is answered where the session still goes on

@@ -1,7 +1,7 @@
--- What is said of the lines of a run is what its judge says, and the headers Received that messages
--- got are those of the configuration (own; Sendmail Installation and Operation Guide, H: Define
--- Header).
-use Rattle.std.specs.Prelude.{◌≡◌, ℕ, List, [], ◌∷◌, Option, None, Some, false}
+-- What is said of the lines of a run is what its judge says, and the headers Received and the parts
+-- of messages are those of the configuration (own; Sendmail Installation and Operation Guide, H:
+-- Define Header, and "Queue Groups").
+use Rattle.std.specs.Prelude.{◌≡◌, ℕ, ◌≤◌, List, [], ◌∷◌, Option, None, Some}
 use Rattle.link_edge.specs.declared.event.Event.{Event}
 use Rattle.link_edge.specs.declared.event.Event.TheVariants.{Opens, Brings, Closes, Rests, Stops}
 use Rattle.smtp_lines.specs.declared.line.Line.{Line}
@@ -11,39 +11,40 @@ use Rattle.spool_store.specs.Entries.{Table}
 use Rattle.mail_core.specs.Guests.{Guest, guest_of, next_line, with_bytes}
 use Rattle.mail_core.specs.Judges.{JudgeSeen, Says}
 use Rattle.mail_core.specs.Machine.{Choice, Normal, OutOfMemory, Disconnects, SpoolFails, JudgeFails, Choices, Did, State, Turn, answer_by, answered, at_moment, fresh_start, question_here, stepped}
-use Rattle.mail_core.specs.Messages.{IsTakenIn, is_spent}
+use Rattle.mail_core.specs.Messages.{IsTakenIn, Made, last_id}
 use Rattle.mail_core.specs.Sites.{Site}
 
 -- what a judge says of the path of a line, if it is put to it
 abbrev pub IsSaidAt : JudgeSeen → Did → Line → Said → Type 0
 IsSaidAt j d line said = Says j (question_here d line) said
 
--- a message that an answer gives has a row, and gets its header, where an id is left for it
-abbrev pub IsHeadedAt : Site → ℕ → Table → Answer → Option (List ℕ) → Type 0
-IsHeadedAt site moment table (Gives message) first =
-    is_spent table ≡ false → IsTakenIn site.config moment message table.next first
-IsHeadedAt site moment table (Replies reply) first = Unit {0}
-IsHeadedAt site moment table (Refuses error) first = Unit {0}
-IsHeadedAt site moment table Greets first = Unit {0}
-IsHeadedAt site moment table Extends first = Unit {0}
-IsHeadedAt site moment table Grants first = Unit {0}
-IsHeadedAt site moment table Ends first = Unit {0}
-IsHeadedAt site moment table Passes first = Unit {0}
+-- a message that an answer gives has a row, and what is made of it is what the configuration says,
+-- where an id is left for its first part
+abbrev pub IsMadeAt : Site → ℕ → Table → Answer → Made → Type 0
+IsMadeAt site moment table (Gives message) made =
+    table.next ≤ last_id → IsTakenIn site.config site.maps moment message table.next made
+IsMadeAt site moment table (Replies reply) made = Unit {0}
+IsMadeAt site moment table (Refuses error) made = Unit {0}
+IsMadeAt site moment table Greets made = Unit {0}
+IsMadeAt site moment table Extends made = Unit {0}
+IsMadeAt site moment table Grants made = Unit {0}
+IsMadeAt site moment table Ends made = Unit {0}
+IsMadeAt site moment table Passes made = Unit {0}
 
 -- a choice at a line says what the judge does, and what the configuration does
 abbrev pub IsMeant : JudgeSeen → Site → ℕ → Did → Choice → Option Line → Type 0
-IsMeant j site moment d (Normal said first whole) (Some line) =
+IsMeant j site moment d (Normal said made whole) (Some line) =
     IsSaidAt j d line said
-    × IsHeadedAt site moment d.table (answer_by d said line) first
-IsMeant j site moment d (SpoolFails first) (Some line) =
-    IsHeadedAt site moment d.table (answer_by d Unasked line) first
+    × IsMadeAt site moment d.table (answer_by d said line) made
+IsMeant j site moment d (SpoolFails made) (Some line) =
+    IsMadeAt site moment d.table (answer_by d Unasked line) made
 IsMeant j site moment d (OutOfMemory whole) (Some line) = Unit {0}
 IsMeant j site moment d Disconnects (Some line) = Unit {0}
 IsMeant j site moment d JudgeFails (Some line) = Unit {0}
-IsMeant j site moment d (Normal said first whole) None = said ≡ Unasked
+IsMeant j site moment d (Normal said made whole) None = said ≡ Unasked
 IsMeant j site moment d (OutOfMemory whole) None = Unit {0}
 IsMeant j site moment d Disconnects None = Unit {0}
-IsMeant j site moment d (SpoolFails first) None = Unit {0}
+IsMeant j site moment d (SpoolFails made) None = Unit {0}
 IsMeant j site moment d JudgeFails None = Unit {0}
 
 -- and so do the choices at the lines of a piece
@@ -68,8 +69,8 @@ IsEventMeant j site m (Closes session) none = Unit {0}
 IsEventMeant j site m Rests none = Unit {0}
 IsEventMeant j site m Stops none = Unit {0}
 
--- all that was said in a run is what the judge says, and all headers that were put first are those
--- of the configuration
+-- all that was said in a run is what the judge says, and all that was made of its messages is what
+-- the configuration says
 abbrev pub IsRunMeant : JudgeSeen → Site → State → List Turn → Type 0
 IsRunMeant j site m [] = Unit {0}
 IsRunMeant j site m (turn ∷ turns) =

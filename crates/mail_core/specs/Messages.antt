@@ -1,10 +1,12 @@
 -- The command that a received message becomes (Sendmail Installation and Operation Guide, "The
--- queue", and H: Define Header for the header Received; until aliases are read each recipient is
--- one row, primary, in the group mqueue).
-use Rattle.std.specs.Prelude.{◌≡◌, ℕ, ◌≤◌, List, [], ◌∷◌, length, Bool, Option, None, Some, codes, nat_lt}
+-- queue", "Queue Groups", and H: Define Header for the header Received; until aliases are read each
+-- recipient is one row, primary).
+use Rattle.std.specs.Prelude.{◌≡◌, ℕ, ◌+◌, ◌≤◌, List, [], ◌∷◌, length, max, Bool, Option, None, Some, codes, nat_lt}
+use Rattle.std.specs.List.{AllZip}
 use Rattle.mail_base.specs.Catalogs.{with_value}
 use Rattle.mail_base.specs.Names.{id_text}
 use Rattle.mail_base.specs.declared.config.Config.{Config}
+use Rattle.mail_base.specs.declared.draw.Draw.{Draw}
 use Rattle.mail_base.specs.declared.id.TheConstants.Id.{MOST}
 use Rattle.mail_base.specs.declared.message.Cut.{Cut}
 use Rattle.mail_base.specs.declared.message.Message.{Message}
@@ -12,8 +14,13 @@ use Rattle.cf_macros.specs.Dates.{IsDateText}
 use Rattle.cf_macros.specs.declared.form.Form.TheVariants.{Mail, Unix, Short}
 use Rattle.mail_header.specs.Fields.{IsDate, date_told}
 use Rattle.mail_header.specs.Made.{received_of}
+use Rattle.map_tables.specs.Answers.{Loaded}
+use Rattle.ruleset_run.specs.Sites.{Macros}
 use Rattle.smtp_receive.specs.SessionMacros.{session_macros}
 use Rattle.spool_store.specs.Entries.{Table}
+use Rattle.queue_plan.specs.Groups.{Groups, mailer_of}
+use Rattle.queue_plan.specs.Parts.{parts_of}
+use Rattle.queue_plan.specs.Rows.{distinct}
 use Rattle.queue_table.specs.Commands.{Command}
 use Rattle.queue_table.specs.Commands.Command.{Accept}
 use Rattle.mail_core.specs.Sites.{Site, terms_at}
@@ -35,7 +42,7 @@ pub record AreDates (message : Message) (moment : ℕ) (dates : Dates) : Type 0 
   pub short : IsDateText Short moment dates.short
 
 -- the macros of a message on receipt: those of its session, its dates and its id
-abbrev pub receipt_macros : Config → Message → Dates → ℕ → List (List ℕ × List ℕ)
+abbrev pub receipt_macros : Config → Message → Dates → ℕ → Macros
 receipt_macros config message dates id =
     with_value (codes "i") (id_text id)
     (with_value (codes "t") dates.short
@@ -44,40 +51,56 @@ receipt_macros config message dates id =
     (with_value (codes "a") dates.told
     (session_macros config message.kept message.sender)))))
 
--- the header that the configuration puts first on a message that is taken in, if it has one
-pub record IsReceived (config : Config) (moment : ℕ) (message : Message) (id : ℕ)
-    (first : Option (List ℕ)) : Type 0 where
+-- ---- the parts
+
+-- each of these rows goes to the group at its place
+abbrev pub AreGrouped : Config → Loaded → Macros → List Draw → List (List ℕ) → Type 0
+AreGrouped config maps macros rows groups =
+    AllZip (λ row group. Groups config maps macros row.address (mailer_of row.resolved) group) rows
+    groups
+
+-- the parts of rows: of equal rows the first stays, and those that stay are parted by sender and
+-- queue group
+pub record AreParts (config : Config) (maps : Loaded) (macros : Macros) (rows : List Draw)
+    (cuts : List Cut) : Type 0 where
+  pub groups : List (List ℕ)
+  pub grouped : AreGrouped config maps macros (distinct rows) groups
+  pub are : cuts ≡ parts_of config (distinct rows) groups
+
+-- ---- a message on its way into the queue
+
+-- what is made of it: the header that is put first, if there is one, and the parts, each of which
+-- becomes an entry
+pub record Made : Type 0 where
+  pub first : Option (List ℕ)
+  pub cuts : List Cut
+
+-- a message that is taken in under an id has a row, and this is made of it: the header that the
+-- configuration puts first, and the parts of its rows, by the macros on receipt
+pub record IsTakenIn (config : Config) (maps : Loaded) (moment : ℕ) (message : Message) (id : ℕ)
+    (made : Made) : Type 0 where
+  pub some : 1 ≤ length message.rows
   pub dates : Dates
   pub are : AreDates message moment dates
-  pub is : first ≡ received_of config.headers (receipt_macros config message dates id)
-
--- a message that is taken in has a row, and gets that header
-pub record IsTakenIn (config : Config) (moment : ℕ) (message : Message) (id : ℕ)
-    (first : Option (List ℕ)) : Type 0 where
-  pub some : 1 ≤ length message.rows
-  pub received : IsReceived config moment message id first
+  pub first : made.first ≡ received_of config.headers (receipt_macros config message dates id)
+  pub parts : AreParts config maps (receipt_macros config message dates id) message.rows made.cuts
 
 -- headers with one more in front, if there is one
 abbrev pub put_first : Option (List ℕ) → List (List ℕ) → List (List ℕ)
 put_first None headers = headers
 put_first (Some first) headers = first ∷ headers
 
+-- a message with that header; its rows are in the parts
 abbrev pub headed : Option (List ℕ) → Message → Message
-headed first message = record message { headers = put_first first message.headers }
+headed first message =
+    record message { rows = []; headers = put_first first message.headers }
 
 -- ---- the command
 
--- the one part of a message
-abbrev pub cut_of : Message → Cut
-cut_of message =
-    record { sender = message.sender; group = codes "mqueue"; rows = message.rows }
-
-abbrev pub cuts_of : Message → List Cut
-cuts_of message = cut_of message ∷ []
-
 -- the command that takes a message in
-abbrev pub accept_of : Site → ℕ → Message → Command
-accept_of site moment message = Accept (terms_at site) message (cuts_of message) moment
+abbrev pub accept_of : Site → ℕ → Message → Made → Command
+accept_of site moment message made =
+    Accept (terms_at site) (headed made.first message) made.cuts moment
 
 -- the table of a queue that was never used: the first id is 1
 abbrev pub start : Table
@@ -87,6 +110,10 @@ start = record { entries = []; next = 1 }
 unfoldable pub last_id : ℕ
 last_id = MOST
 
--- whether no id is left for a new entry
-abbrev pub is_spent : Table → Bool
-is_spent table = nat_lt last_id table.next
+-- the ids that are wanted for parts: one at least, and one for each
+abbrev pub ids_for : List Cut → ℕ
+ids_for cuts = max 1 (length cuts)
+
+-- whether an id is wanting for one of the parts
+abbrev pub is_spent : Table → Made → Bool
+is_spent table made = nat_lt (last_id + 1) (table.next + ids_for made.cuts)

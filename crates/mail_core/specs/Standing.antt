@@ -1,6 +1,7 @@
 -- What the core keeps, and what of the machine it stands for.
 use Rattle.std.specs.Prelude.{◌≡◌, ◌≢◌, ◌<◌, ◌^◌, List, [], ◌∷◌, ◌++◌, All, Option, Some, None, false}
 use Rattle.mail_base.specs.declared.config.Config.{Config}
+use Rattle.map_tables.specs.Answers.{Loaded}
 use Rattle.smtp_lines.specs.Reader.{Reader, Stream, awaited, Stands as Reads}
 use Rattle.smtp_receive.specs.Forms.{AreFormed}
 use Rattle.smtp_receive.specs.Sessions.{Stands as Speaks}
@@ -13,7 +14,7 @@ use Rattle.mail_core.specs.declared.caller.Caller.{Caller}
 use Rattle.mail_core.specs.declared.intake.Intake.{Intake}
 use Rattle.mail_core.specs.declared.serving.Core.{Core}
 use Rattle.mail_core.specs.Guests.{Guest, grants_of, lines_heard}
-use Rattle.mail_core.specs.Sites.{Site, terms_at}
+use Rattle.mail_core.specs.Sites.{IsUnder, Site, terms_at}
 use Rattle.mail_core.specs.Machine.{State}
 
 -- what is kept of a table has its entries and first free id, and no call on it failed; it is of
@@ -78,9 +79,9 @@ pub record Stands (site : Site) (core : Core) (m : State) : Type 0 where
 abbrev pub IsTallied : Core → Option FileMap → Type 0
 IsTallied core told = Tallies core.intake.table told
 
--- a core that stands for some state, under a configuration
-pub record IsStanding (core : Core) (config : Config) : Type 0 where
+-- a core that stands for some state, under a configuration and maps
+pub record IsStanding (core : Core) (config : Config) (maps : Loaded) : Type 0 where
   pub site : Site
-  pub under : site.config ≡ config
+  pub under : IsUnder site config maps
   pub state : State
   pub stands : Stands site core state

@@ -1,4 +1,4 @@
-ghost use Rattle.std.specs.Prelude.{◌≡◌, ◌<◌, ◌≤◌, length, ◌⊎◌, ◌++◌, ◌∷◌, ◌^◌, [], List, ℕ, Bool, Option, None, IfOk, IfSome, IsErrOf, true, false};
+ghost use Rattle.std.specs.Prelude.{◌≡◌, ◌<◌, All, ◌⊎◌, ◌++◌, ◌∷◌, ◌^◌, [], List, ℕ, Bool, Option, None, IfOk, IfSome, IsErrOf, true, false};
 ghost use Rattle.mail_base.specs.Histories.{Gains};
 ghost use Rattle.mail_base.specs.declared.fault.StoreFault.TheVariants.{IdsSpent as NoIdLeft, SpoolFault as SpoolBroke};
 ghost use Rattle.mail_edge.specs.Seen.{ClockSeen};
@@ -13,7 +13,7 @@ ghost use Rattle.smtp_receive.specs.Replies.{out_of_memory_text};
 ghost use Rattle.smtp_receive.specs.Sessions.{Stands as Speaks};
 ghost use Rattle.spool_store.specs.Entries.{Table as Entries};
 ghost use Rattle.queue_table.specs.Calls.{AreDirs, AreValid, IsSame, Tallies, store};
-ghost use Rattle.mail_core.specs.Sites.{Site};
+ghost use Rattle.mail_core.specs.Sites.{IsUnder, Site};
 ghost use Rattle.mail_core.specs.Effects.{heard_of, speech, Sends, HangsUp};
 ghost use Rattle.mail_core.specs.inner.Going.{AnswersLine, AnswersLines, AnswersMessage, Feeds, is_onward, stays_open};
 ghost use Rattle.mail_core.specs.Causes.{is_judge_fault, is_well};
@@ -21,20 +21,24 @@ ghost use Rattle.mail_core.specs.Judges.{IsAsked, judge_seen};
 ghost use Rattle.mail_core.specs.Guests.{Guest, lines_of, lines_heard};
 ghost use Rattle.mail_core.specs.Machine as machine;
 ghost use Rattle.mail_core.specs.Machine.{moment_by};
-ghost use Rattle.mail_core.specs.Messages.{cuts_of, headed, last_id};
-ghost use Rattle.mail_core.specs.inner.Made.{IsMade};
+ghost use Rattle.mail_core.specs.Messages.{headed};
+ghost use Rattle.mail_core.specs.inner.Made.{IsMade, LacksIds};
+ghost use Rattle.mail_base.specs.Drawing.{AreRows};
 ghost use Rattle.mail_base.specs.Texts.{IsHeader};
+ghost use Rattle.mail_base.specs.declared.message.Cut.{Cut as CutSeen};
+ghost use Rattle.queue_plan.specs.Parts.{IsPart};
 ghost use Rattle.mail_core.specs.Seen.{seen};
 ghost use Rattle.mail_core.specs.Standing.{Keeps, Serves, Talks};
 ghost use Rattle.mail_core.specs.inner.Handling.{IsReady};
 
 use crate::caller::Caller;
-use crate::message::{cuts_of, has_class, headed, received_header};
+use crate::message::{has_class, made};
 use crate::next::Next;
 use crate::serving::CoreStop;
 use crate::speech::say;
 use link_edge::Floor;
 use mail_base::{Config, Id, JudgeFault, Message, NoMemory, StoreFault, Text};
+use map_tables::Maps;
 use queue_table::{Accepting, Table};
 use smtp_lines::{Line, last_asks};
 use smtp_receive::{Did, Judge, out_of_memory};
@@ -137,28 +141,40 @@ impl Intake {
 
     // Makes a message ready to be taken in.
     #[tactic(auto, unfolding(crate::specs::Messages::last_id))]
-    fn plan(&mut self, config: &Config, message: Message) -> Result<Accepting, StoreFault>
+    fn plan(
+        &mut self,
+        config: &Config,
+        maps: &Maps,
+        message: Message,
+    ) -> Result<Accepting, StoreFault>
         requires dirs { AreDirs self.old.table.terms (store self.old.table).dirs }
-        requires valid { (first : Option (List ℕ)) → IfSome first IsHeader
-            → AreValid self.old.table.terms (headed first message) self.old.moment
-            (cuts_of message) }
-        requires rows { 1 ≤ length message.rows }
+        requires valid { (first : Option (List ℕ)) (cuts : List CutSeen) → IfSome first IsHeader
+            → All IsPart cuts
+            → AreValid self.old.table.terms (headed first message) self.old.moment cuts }
+        requires rows { AreRows message.rows }
         ensures is { IfOk result
-            (IsMade config.now self.old.moment (store self.old.table).next self.new.table message) }
+            (IsMade config.now maps.now self.old.moment (store self.old.table).next self.new.table
+            message) }
         ensures id { IfOk result
             (λ accepting. accepting.parcel.parent.entry.id ≡ (store self.old.table).next) }
         ensures table { IsSame self.old.table self.new.table }
         ensures same { self.new ≡ record self.old { table = self.new.table } }
-        ensures spent { IsErrOf result NoIdLeft → last_id < (store self.old.table).next }
+        ensures spent { IsErrOf result NoIdLeft
+            → LacksIds config.now maps.now self.old.moment (store self.old.table).next message }
         ensures never { IsErrOf result SpoolBroke → ⊥ }
     {
         let next = self.table.next();
         if next > Id::MOST {
             return Err(StoreFault::IdsSpent);
         }
-        let first = received_header(self.alloc, config, self.moment, &message, Id::new(next))?;
-        let cuts = cuts_of(self.alloc, &message)?;
-        let message = headed(first, message)?;
+        let (message, cuts) = made(
+            self.alloc,
+            config,
+            maps,
+            self.moment,
+            message,
+            Id::new(next),
+        )?;
         self.table.plan_accept(message, cuts.items(), self.moment)
     }
 
@@ -169,18 +185,19 @@ impl Intake {
         floor: &mut F,
         spool: &mut D,
         config: &Config,
+        maps: &Maps,
         caller: &mut Caller,
         message: Message,
     ) -> Result<Next, CoreStop>
         requires sound { IsSoundAt (F.seen floor.old) caller.old.number }
         requires dirs { AreDirs self.old.table.terms (store self.old.table).dirs }
-        requires valid { (first : Option (List ℕ)) → IfSome first IsHeader
-            → AreValid self.old.table.terms (headed first message) self.old.moment
-            (cuts_of message) }
-        requires rows { 1 ≤ length message.rows }
+        requires valid { (first : Option (List ℕ)) (cuts : List CutSeen) → IfSome first IsHeader
+            → All IsPart cuts
+            → AreValid self.old.table.terms (headed first message) self.old.moment cuts }
+        requires rows { AreRows message.rows }
         requires tallied { Tallies self.old.table (D.seen spool.old).told }
         ensures accepts { (site : Site) (d : machine.Did) (clock : ClockSeen)
-            → site.config ≡ config.now → d.way ≡ machine.GoesOn → Serves site self.old d.table
+            → IsUnder site config.now maps.now → d.way ≡ machine.GoesOn → Serves site self.old d.table
             → caller.old.number ≡ d.guest.number → AnswersMessage site self.old.moment d message
             (seen (F.seen floor.old) (D.seen spool.old) clock)
             (seen (F.seen floor.new) (D.seen spool.new) clock)
@@ -197,7 +214,7 @@ impl Intake {
         ensures lines { caller.new.lines ≡ caller.old.lines }
         ensures sound { is_onward result ≡ true → IsSoundAt (F.seen floor.new) caller.old.number }
     {
-        let accepting = match self.plan(config, message) {
+        let accepting = match self.plan(config, maps, message) {
             Ok(accepting) => accepting,
             Err(StoreFault::IdsSpent) => return Err(CoreStop::IdsSpent),
             Err(StoreFault::SpoolFault) => return Err(CoreStop::SpoolFault),
@@ -216,20 +233,21 @@ impl Intake {
         floor: &mut F,
         spool: &mut D,
         config: &Config,
+        maps: &Maps,
         judge: &mut J,
         caller: &mut Caller,
         line: &Line,
     ) -> Result<Next, CoreStop>
         requires sound { IsSoundAt (F.seen floor.old) caller.old.number }
-        requires ready { IsReady self.old caller.old config.now }
+        requires ready { IsReady self.old caller.old config.now maps.now }
         requires tallied { Tallies self.old.table (D.seen spool.old).told }
         ensures answers { (site : Site) (d : machine.Did) (clock : ClockSeen)
-            → site.config ≡ config.now → d.way ≡ machine.GoesOn → Serves site self.old d.table → Talks site caller.old d.guest
+            → IsUnder site config.now maps.now → d.way ≡ machine.GoesOn → Serves site self.old d.table → Talks site caller.old d.guest
             → AnswersLine (judge_seen (J.seen judge.old) (J.answers judge.old)) site self.old.moment d line.now
             (seen (F.seen floor.old) (D.seen spool.old) clock)
             (seen (F.seen floor.new) (D.seen spool.new) clock)
             self.new caller.new result }
-        ensures ready { is_onward result ≡ true → IsReady self.new caller.new config.now }
+        ensures ready { is_onward result ≡ true → IsReady self.new caller.new config.now maps.now }
         ensures asked { IsAsked (judge_seen (J.seen judge.old) (J.answers judge.old))
             (judge_seen (J.seen judge.new) (J.answers judge.new)) (is_judge_fault result) }
         ensures own { (F.seen floor.new).faults ≡ (F.seen floor.old).faults }
@@ -250,7 +268,7 @@ impl Intake {
             Ok(Did::Taken) => Ok(Next::Continue),
             Ok(Did::Message(message)) => {
                 has_class(&message);
-                self.accept(floor, spool, config, caller, message)
+                self.accept(floor, spool, config, maps, caller, message)
             }
             Err(JudgeFault::FilesFault) => Err(CoreStop::FilesFault),
             Err(JudgeFault::NoMemory) => Ok(self.lack(floor, caller)),
@@ -263,22 +281,23 @@ impl Intake {
         floor: &mut F,
         spool: &mut D,
         config: &Config,
+        maps: &Maps,
         judge: &mut J,
         caller: &mut Caller,
         lines: &[Line],
     ) -> Result<Next, CoreStop>
         requires sound { IsSoundAt (F.seen floor.old) caller.old.number }
-        requires ready { IsReady self.old caller.old config.now }
+        requires ready { IsReady self.old caller.old config.now maps.now }
         requires tallied { Tallies self.old.table (D.seen spool.old).told }
         ensures answers { (site : Site) (d : machine.Did) (clock : ClockSeen)
-            → site.config ≡ config.now → d.way ≡ machine.GoesOn → Serves site self.old d.table → Talks site caller.old d.guest
+            → IsUnder site config.now maps.now → d.way ≡ machine.GoesOn → Serves site self.old d.table → Talks site caller.old d.guest
             → OnlyLastAsks lines.now
             → StandsFirst (lines_heard d.guest ++ lines.now) (lines_of d.guest)
             → AnswersLines (judge_seen (J.seen judge.old) (J.answers judge.old)) site self.old.moment d lines.now
             (seen (F.seen floor.old) (D.seen spool.old) clock)
             (seen (F.seen floor.new) (D.seen spool.new) clock)
             self.new caller.new result }
-        ensures ready { is_onward result ≡ true → IsReady self.new caller.new config.now }
+        ensures ready { is_onward result ≡ true → IsReady self.new caller.new config.now maps.now }
         ensures asked { IsAsked (judge_seen (J.seen judge.old) (J.answers judge.old))
             (judge_seen (J.seen judge.new) (J.answers judge.new)) (is_judge_fault result) }
         ensures own { (F.seen floor.new).faults ≡ (F.seen floor.old).faults }
@@ -294,7 +313,7 @@ impl Intake {
     {
         let mut last = Next::Continue;
         for line in lines {
-            last = self.answer(floor, spool, config, judge, caller, line)?;
+            last = self.answer(floor, spool, config, maps, judge, caller, line)?;
             if !last.stays_open() {
                 return Ok(last);
             }
@@ -309,15 +328,16 @@ impl Intake {
         floor: &mut F,
         spool: &mut D,
         config: &Config,
+        maps: &Maps,
         judge: &mut J,
         caller: &mut Caller,
         piece: &[u8],
     ) -> Result<Next, CoreStop>
         requires sound { IsSoundAt (F.seen floor.old) caller.old.number }
-        requires ready { IsReady self.old caller.old config.now }
+        requires ready { IsReady self.old caller.old config.now maps.now }
         requires tallied { Tallies self.old.table (D.seen spool.old).told }
         ensures feeds { (site : Site) (table : Entries) (g : Guest) (clock : ClockSeen)
-            → site.config ≡ config.now → Serves site self.old table → Keeps site caller.old g
+            → IsUnder site config.now maps.now → Serves site self.old table → Keeps site caller.old g
             → Feeds (judge_seen (J.seen judge.old) (J.answers judge.old)) site self.old.moment table g piece.now
             (seen (F.seen floor.old) (D.seen spool.old) clock)
             (seen (F.seen floor.new) (D.seen spool.new) clock)
@@ -337,7 +357,7 @@ impl Intake {
         };
         let mut lines = given;
         'answers: while last_asks(lines.items()) {
-            let next = self.answer_all(floor, spool, config, judge, caller, lines.items())?;
+            let next = self.answer_all(floor, spool, config, maps, judge, caller, lines.items())?;
             if !next.stays_open() {
                 return Ok(next);
             }
@@ -347,7 +367,7 @@ impl Intake {
             };
             lines = more;
         }
-        self.answer_all(floor, spool, config, judge, caller, lines.items())
+        self.answer_all(floor, spool, config, maps, judge, caller, lines.items())
     }
 }
 

@@ -16,7 +16,8 @@ ghost use Rattle.mail_core.specs.Guests.{newcomer};
 ghost use Rattle.mail_core.specs.declared.serving.CoreStop.TheVariants.{SpoolFault as SpoolStop};
 ghost use Rattle.mail_core.specs.Machine.{State, beginning};
 ghost use Rattle.mail_core.specs.Seen.{seen};
-ghost use Rattle.mail_core.specs.Sites.{Site};
+ghost use Rattle.mail_core.specs.Sites.{IsUnder, Site};
+ghost use Rattle.map_tables.specs.Answers.{Loaded};
 ghost use Rattle.mail_core.specs.Standing.{IsStanding, IsTallied, Keeps, Stands, Stores};
 ghost use Rattle.queue_table.specs.Calls.{Tallies};
 ghost use Rattle.spool_store.specs.Entries.{Table as Entries};
@@ -26,6 +27,7 @@ use crate::intake::{Intake, part};
 use crate::speech::say;
 use link_edge::{Floor, Turn};
 use mail_base::{Config, NoMemory, Text};
+use map_tables::Maps;
 use queue_table::Table;
 use smtp_lines::Lines;
 use smtp_receive::{Judge, Session, too_many_sessions};
@@ -116,6 +118,7 @@ impl Core {
         floor: &mut F,
         spool: &mut D,
         config: &Config,
+        maps: &Maps,
         judge: &mut J,
         reading: u64,
         turn: Turn,
@@ -123,10 +126,10 @@ impl Core {
     ) -> Result<Act, CoreStop>
         requires fits { Fits turn buf.now }
         requires sound { IsHeardAt (F.seen floor.old) turn }
-        requires standing { IsStanding self.old config.now }
+        requires standing { IsStanding self.old config.now maps.now }
         requires tallied { IsTallied self.old (D.seen spool.old).told }
         ensures turns { (site : Site) (m : State) (before : Heard) (clock read : ClockSeen)
-            → site.config ≡ config.now → Stands site self.old m
+            → IsUnder site config.now maps.now → Stands site self.old m
             → IsTaken before (F.seen floor.old) clock read (event_of turn buf.now) reading
             → Turns (judge_seen (J.seen judge.old) (J.answers judge.old)) site m (event_of turn buf.now) reading
             (seen before (D.seen spool.old) clock)
@@ -142,7 +145,7 @@ impl Core {
             → IsTallied self.new (D.seen spool.new).told }
     {
         self.intake.at(reading);
-        self.handle(floor, spool, config, judge, turn, buf)
+        self.handle(floor, spool, config, maps, judge, turn, buf)
     }
 
     // What a turn asks for.
@@ -151,15 +154,16 @@ impl Core {
         floor: &mut F,
         spool: &mut D,
         config: &Config,
+        maps: &Maps,
         judge: &mut J,
         turn: Turn,
         buf: &[u8],
     ) -> Result<Act, CoreStop>
         requires fits { Fits turn buf.now }
         requires sound { IsHeardAt (F.seen floor.old) turn }
-        requires standing { IsStanding self.old config.now }
+        requires standing { IsStanding self.old config.now maps.now }
         requires tallied { IsTallied self.old (D.seen spool.old).told }
-        ensures steps { (site : Site) (m : State) (clock : ClockSeen) → site.config ≡ config.now
+        ensures steps { (site : Site) (m : State) (clock : ClockSeen) → IsUnder site config.now maps.now
             → Stands site self.old m
             → Steps (judge_seen (J.seen judge.old) (J.answers judge.old)) site m (event_of turn buf.now)
             (seen (F.seen floor.old) (D.seen spool.old) clock)
@@ -183,6 +187,7 @@ impl Core {
                 floor,
                 spool,
                 config,
+                maps,
                 judge,
                 session,
                 &buf[..count],
@@ -259,8 +264,8 @@ impl Core {
     fn take(&mut self, session: u64) -> Option<Caller>
         ensures taken { (site : Site) (m : State) → Stands site self.old m
             → IsTakenUp site m session result self.new }
-        ensures ready { (config : Configuration) → IsStanding self.old config
-            → IfSome result (λ caller. IsReady self.new.intake caller config) }
+        ensures ready { (config : Configuration) (maps : Loaded) → IsStanding self.old config maps
+            → IfSome result (λ caller. IsReady self.new.intake caller config maps) }
         ensures number { IfSome result (λ caller. caller.number ≡ session) }
         ensures intake { self.new.intake ≡ self.old.intake }
     {
@@ -286,14 +291,15 @@ impl Core {
         floor: &mut F,
         spool: &mut D,
         config: &Config,
+        maps: &Maps,
         judge: &mut J,
         session: u64,
         piece: &[u8],
     ) -> Result<Act, CoreStop>
         requires sound { IsSoundAt (F.seen floor.old) session }
-        requires standing { IsStanding self.old config.now }
+        requires standing { IsStanding self.old config.now maps.now }
         requires tallied { IsTallied self.old (D.seen spool.old).told }
-        ensures steps { (site : Site) (m : State) (clock : ClockSeen) → site.config ≡ config.now
+        ensures steps { (site : Site) (m : State) (clock : ClockSeen) → IsUnder site config.now maps.now
             → Stands site self.old m
             → Steps (judge_seen (J.seen judge.old) (J.answers judge.old)) site m (Brings session piece.now)
             (seen (F.seen floor.old) (D.seen spool.old) clock)
@@ -313,7 +319,7 @@ impl Core {
         };
         let next = self
             .intake
-            .feed(floor, spool, config, judge, &mut caller, piece)?;
+            .feed(floor, spool, config, maps, judge, &mut caller, piece)?;
         if next.stays_open() {
             self.caller = Some(caller);
             return Ok(Act::Went);

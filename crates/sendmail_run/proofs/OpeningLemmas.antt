@@ -27,6 +27,7 @@ use Rattle.queue_table.specs.Directories.{all_dirs, terms_of}
 use Rattle.queue_table.specs.declared.table.Table.{Table as Kept}
 use Rattle.queue_table.specs.declared.terms.Terms.{Terms}
 use Rattle.queue_table.proofs.DirLemmas.{each_is_there}
+use Rattle.map_tables.specs.Answers.{Loaded}
 use Rattle.mail_core.specs.declared.serving.Core.{Core}
 use Rattle.mail_core.specs.Judges.{JudgeSeen}
 use Rattle.mail_core.specs.Sites.{Site}
@@ -133,19 +134,23 @@ pub found_of : (site : Site) (dirs : List (List ℕ)) (told : Option FileMap) (s
     → ((table : Table) (f : FileMap) → told ≡ Some f → StandsFor dirs table f → Holds store (from_id store.next table)) → IsFound site.dirs told store
 found_of site dirs told store same read table holds = subst (λ (d : List (List ℕ)). IsFound d told store) same (found_at dirs told store read table holds)
 
+-- no maps: what is said of directories alone hangs on none
+abbrev pub no_maps : Loaded
+no_maps = record { maps = []; hosts = [] }
+
 -- a core over the table of a store that was opened
 pub stands_over : (config : Config) (queue : Queue) (kept : Kept) (host : List ℕ) (r : Result Core NoMemory) → host ≡ host_of config.macros → kept ≡ record { queue = queue; terms = terms_of config } → (queue_seen queue).broken ≡ false → (queue_seen queue).dirs ≡ all_dirs (terms_of config)
     → IfOk r (λ core. (site : Site) (table : Table) → site.host ≡ host → Stores site kept table → Stands site core (beginning table))
-    → IfOk r (λ core. (table : Table) → Holds (queue_seen queue) table → Stands (session_site config) core (beginning table))
-stands_over config queue kept host (Ok core) named is whole dirs made = λ table holds.
-    let stores : Stores (session_site config) (record { queue = queue; terms = terms_of config }) table = record {
+    → IfOk r (λ core. (maps : Loaded) (table : Table) → Holds (queue_seen queue) table → Stands (session_site config maps) core (beginning table))
+stands_over config queue kept host (Ok core) named is whole dirs made = λ maps table holds.
+    let stores : Stores (session_site config maps) (record { queue = queue; terms = terms_of config }) table = record {
       holds = holds;
       whole = whole;
       dirs = dirs;
       terms = refl;
       groups = each_is_there (terms_of config) (all_dirs (terms_of config)) refl;
     } in
-    made (session_site config) table (sym named) (subst (λ (k : Kept). Stores (session_site config) k table) (sym is) stores)
+    made (session_site config maps) table (sym named) (subst (λ (k : Kept). Stores (session_site config maps) k table) (sym is) stores)
 stands_over config queue kept host (Err e) named is whole dirs made = tt
 
 -- and it has what the files say

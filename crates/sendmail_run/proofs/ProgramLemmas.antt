@@ -126,7 +126,7 @@ works_at_aliases f0 f1 i o l s k config maps fault outcome told given asks =
 
 -- session mode ends with the outcome of its end
 pub works_served : (f0 f1 : FilesSeen) (i : SourceSeen) (o : SinkSeen) (l0 l1 : Heard) (s0 s1 : Spooled) (k0 k1 : ClockSeen) (config : Config) (maps : Loaded) (names : Names) (how : SessionEnd) (outcome : Outcome) → outcome ≡ of_session how
-    → IfSome f0.map (λ map. alias_loading.Gives (Ok names) (names_by map config)) → Asks f0 f1 false → Serves (judge_by config maps) (session_site config) (core_seen l0 s0 k0) (core_seen l1 s1 k1) how → Works Session config maps (world f0 i o l0 s0 k0) (world f1 i o l1 s1 k1) outcome
+    → IfSome f0.map (λ map. alias_loading.Gives (Ok names) (names_by map config)) → Asks f0 f1 false → Serves (judge_by config maps) (session_site config maps) (core_seen l0 s0 k0) (core_seen l1 s1 k1) how → Works Session config maps (world f0 i o l0 s0 k0) (world f1 i o l1 s1 k1) outcome
 works_served f0 f1 i o l0 l1 s0 s1 k0 k1 config maps names how outcome told given asks serves =
     inr (record { names = names; loads = loads_names config f0 f1 (Ok names) given asks; how = how; told = told; serves = serves; idle = record { input = refl; output = refl } })
 
@@ -325,7 +325,7 @@ session_whole j site before after (session_ends.TurnsSpent count) sound is = inr
 work_whole : (map : FileMap) (config : Config) (maps : Loaded) (before after : World) (job : Job) (outcome : Outcome) → before.files.map ≡ Some map → Finds job map config before → IsSound job before after → Works job config maps before after outcome → IsWhole job outcome
 work_whole map config maps before after Test outcome told finds sound is = subst (λ (o : Outcome). IsWhole Test o) (sym is.told) (lines_whole (basis config maps) before after is.how finds sound.own is.tests)
 work_whole map config maps before after Session outcome told finds sound (inl is) = subst (λ (o : Outcome). IsWhole Session o) (sym is.told) (aliases_whole config before after map is.fault told finds sound.files is.loads)
-work_whole map config maps before after Session outcome told finds sound (inr is) = subst (λ (o : Outcome). IsWhole Session o) (sym is.told) (session_whole (judge_by config maps) (session_site config) before after is.how sound.own is.serves)
+work_whole map config maps before after Session outcome told finds sound (inr is) = subst (λ (o : Outcome). IsWhole Session o) (sym is.told) (session_whole (judge_by config maps) (session_site config maps) before after is.how sound.own is.serves)
 
 -- what a run's end says of a run that is ready
 complete_at_words : (words : List (List ℕ)) (before after : World) (outcome : Outcome) → EndsAtWords words before after outcome → Completes words before after outcome

@@ -28,7 +28,7 @@ use Rattle.mail_core.specs.declared.serving.CoreStop.TheVariants as stops
 use Rattle.map_tables.specs.Answers.{Loaded}
 use Rattle.mail_judge.specs.Judged.{Grounds, IsJudged, teller}
 use Rattle.mail_core.specs.Judges.{JudgeSeen, judge_seen}
-use Rattle.mail_core.specs.Sites.{Site}
+use Rattle.mail_core.specs.Sites.{IsUnder, Site}
 use Rattle.mail_core.specs.Causes.{is_well}
 use Rattle.mail_core.specs.Events.{IsTaken, IsHeardAt, Turns, event_of}
 use Rattle.mail_core.specs.Machine.{State}
@@ -115,8 +115,8 @@ one_run : (j : JudgeSeen) (site : Site) (core : Core) (n : ℕ) (a b : Seen) →
 one_run j site core n a b going = going.runs going.found.some going.found.holds
 
 -- a core under way stands for the machine's state
-pub standing : (j : JudgeSeen) (site : Site) (core : Core) (n : ℕ) (a b : Seen) → IsGoing j site core n a b → (config : Config) → site.config ≡ config → IsStanding core config
-standing j site core n a b going config under =
+pub standing : (j : JudgeSeen) (site : Site) (core : Core) (n : ℕ) (a b : Seen) → IsGoing j site core n a b → (config : Config) (maps : Loaded) → IsUnder site config maps → IsStanding core config maps
+standing j site core n a b going config maps under =
     let u = one_run j site core n a b going in
     record { site = site; under = under; state = (run_over site going.found.some u.turns).state; stands = u.stands }
 

@@ -96,7 +96,7 @@ pub record HasServed (config : Config) (maps : Loaded) (before after : World)
   pub loads : LoadsNames config before.files after.files (Ok names)
   pub how : SessionEnd
   pub told : outcome ≡ of_session how
-  pub serves : Serves (judge_by config maps) (session_site config) (core_of before) (core_of after)
+  pub serves : Serves (judge_by config maps) (session_site config maps) (core_of before) (core_of after)
       how
   pub idle : IsIdle (streams_of before) (streams_of after)
 

@@ -34,13 +34,14 @@ use Rattle.sendmail_run.specs.declared.session_mode.SessionEnd.TheVariants as en
 abbrev pub host_of : List (List ℕ × List ℕ) → List ℕ
 host_of macros = take 255 (result_unwrap_or (value (codes "$j") macros) [])
 
--- what sessions are served with under a configuration
-abbrev pub session_site : Config → Site
-session_site config =
+-- what sessions are served with under a configuration and its maps
+abbrev pub session_site : Config → Loaded → Site
+session_site config maps =
     record {
       host = host_of config.macros;
       dirs = all_dirs (terms_of config);
       config = config;
+      maps = maps;
     }
 
 -- who judges the paths of sessions: the rules of the configuration over its maps

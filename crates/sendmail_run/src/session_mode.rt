@@ -76,7 +76,7 @@ pub fn session_mode<D: Spool, L: Floor, C: Clock>(
         (L.seen floor.new).faults }
     ensures rises_spool { RisesOnlyAt SpoolFault (of_session result) (D.seen spool.old).faults
         (D.seen spool.new).faults }
-    ensures serves { Serves (judge_by config.now maps.now) (session_site config.now)
+    ensures serves { Serves (judge_by config.now maps.now) (session_site config.now maps.now)
         (seen (L.seen floor.old) (D.seen spool.old) (C.seen clock.old))
         (seen (L.seen floor.new) (D.seen spool.new) (C.seen clock.new)) result }
 {
@@ -103,7 +103,7 @@ fn serve<D: Spool, L: Floor, C: Clock>(
         (L.seen floor.new).faults }
     ensures rises_spool { RisesOnlyAt SpoolFault (of_session result) (D.seen spool.old).faults
         (D.seen spool.new).faults }
-    ensures serves { Serves (judge_by config.now maps.now) (session_site config.now)
+    ensures serves { Serves (judge_by config.now maps.now) (session_site config.now maps.now)
         (seen (L.seen floor.old) (D.seen spool.old) (C.seen clock.old))
         (seen (L.seen floor.new) (D.seen spool.new) (C.seen clock.new)) result }
 {
@@ -120,7 +120,7 @@ fn serve<D: Spool, L: Floor, C: Clock>(
             return SessionEnd::FloorFault;
         };
         let reading = clock.now();
-        match core.turn(floor, spool, config, &mut judge, reading, turn, buffer) {
+        match core.turn(floor, spool, config, maps, &mut judge, reading, turn, buffer) {
             Ok(Act::Went) => {}
             Ok(Act::Ended) => return SessionEnd::Stopped,
             Err(stop) => return SessionEnd::Over(stop),
@@ -131,16 +131,19 @@ fn serve<D: Spool, L: Floor, C: Clock>(
 
 // Opens the queue, and makes a core over it.
 fn opened<D: Spool>(alloc: Global, config: &Config, spool: &mut D) -> Result<Core, SessionEnd>
-    ensures taken { IsTakenOver (session_site config.now).dirs (D.seen spool.old)
+    ensures taken { IsTakenOver (all_dirs (terms_of config.now)) (D.seen spool.old)
         (D.seen spool.new) }
     ensures later { (D.seen spool.old).faults ≤ (D.seen spool.new).faults }
-    ensures core { IfOk result (IsOpened (session_site config.now) (D.seen spool.old).told) }
+    ensures core { IfOk result
+        (λ core. (maps : Loaded) → IsOpened (session_site config.now maps) (D.seen spool.old).told
+        core) }
     ensures tallied { IfOk result (λ core. IsTallied core (D.seen spool.new).told) }
     ensures sparing { IfOk result
-        (λ _. IsSparing (session_site config.now).dirs (D.seen spool.old) (D.seen spool.new) true) }
+        (λ _. IsSparing (all_dirs (terms_of config.now)) (D.seen spool.old) (D.seen spool.new)
+        true) }
     ensures serves { IfErr result
         (λ end. (maps : Loaded) (floor : Heard) (clock : ClockSeen)
-        → Serves (judge_by config.now maps) (session_site config.now)
+        → Serves (judge_by config.now maps) (session_site config.now maps)
         (seen floor (D.seen spool.old) clock) (seen floor (D.seen spool.new) clock) end) }
     ensures kept { OnOk result ((D.seen spool.new).faults ≡ (D.seen spool.old).faults) }
     ensures rises { IfErr result
@@ -178,8 +181,9 @@ fn not_opened(fault: StoreFault) -> SessionEnd
 fn core_over(alloc: Global, config: &Config, queue: Queue) -> Result<Core, NoMemory>
     requires whole { (queue_seen queue).broken ≡ false }
     requires dirs { (queue_seen queue).dirs ≡ all_dirs (terms_of config.now) }
-    ensures stands { IfOk result (λ core. (entries : Entries) → Holds (queue_seen queue) entries
-        → Stands (session_site config.now) core (beginning entries)) }
+    ensures stands { IfOk result (λ core. (maps : Loaded) (entries : Entries)
+        → Holds (queue_seen queue) entries
+        → Stands (session_site config.now maps) core (beginning entries)) }
     ensures tallied { IfOk result
         (λ core. (told : Option FileMap) → IfSome told (Agrees (queue_seen queue))
         → IsTallied core told) }

@@ -21,8 +21,8 @@ use Rattle.mail_core.specs.Effects.{Effect}
 use Rattle.mail_core.specs.Guests.{Guest, grants_of, has_bytes_left, with_bytes, lines_heard}
 use Rattle.mail_core.specs.Sites.{Site}
 use Rattle.mail_core.specs.Judges.{JudgeSeen}
-use Rattle.mail_core.specs.Meant.{AreMeant, IsMeant}
-use Rattle.mail_core.specs.Messages.{IsTakenIn, headed, is_spent}
+use Rattle.mail_core.specs.Meant.{AreMeant, IsMadeAt, IsMeant}
+use Rattle.mail_core.specs.Messages.{is_spent}
 use Rattle.mail_core.specs.Causes.{HasCause, ending_by, is_well}
 use Rattle.mail_core.specs.Machine.{Ending, Choice, Normal, OutOfMemory, Disconnects, SpoolFails, JudgeFails, Way, GoesOn, Leaves, Over, By, Cut, Did, is_over, says, accepts, fails, fresh_start, by_choice, heard_line, heard_where, answered, all_answered}
 use Rattle.mail_core.specs.Seen.{Seen, Ran, table_after}
@@ -100,55 +100,54 @@ pub record AnswersLine (j : JudgeSeen) (site : Site) (moment : ℕ) (d : Did) (l
 
 -- what a message comes to by a choice
 abbrev pub message_by : Site → ℕ → Did → Message → Choice → Did
-message_by site moment d message (Normal said first whole) =
-    accepts site moment d (headed first message) whole
+message_by site moment d message (Normal said made whole) =
+    accepts site moment d message made whole
 message_by site moment d message (OutOfMemory whole) = says d out_of_memory_text whole
 message_by site moment d message Disconnects = is_over d Cut
-message_by site moment d message (SpoolFails first) = fails site moment d (Gives message) first
+message_by site moment d message (SpoolFails made) = fails site moment d (Gives message) made
 message_by site moment d message JudgeFails = is_over d Cut
 
--- at a message nothing is put to the judge, and its header is that of the configuration
+-- at a message nothing is put to the judge, and what is made of it is what the configuration says
 abbrev pub IsMessageMeant : Site → ℕ → Did → Message → Choice → Type 0
-IsMessageMeant site moment d message (Normal said first whole) =
-    (said ≡ Unasked)
-    × (is_spent d.table ≡ false → IsTakenIn site.config moment message d.table.next first)
+IsMessageMeant site moment d message (Normal said made whole) =
+    (said ≡ Unasked) × IsMadeAt site moment d.table (Gives message) made
 IsMessageMeant site moment d message (OutOfMemory whole) = Unit {0}
 IsMessageMeant site moment d message Disconnects = Unit {0}
 IsMessageMeant site moment d message JudgeFails = ⊥
-IsMessageMeant site moment d message (SpoolFails first) =
-    is_spent d.table ≡ false → IsTakenIn site.config moment message d.table.next first
+IsMessageMeant site moment d message (SpoolFails made) =
+    IsMadeAt site moment d.table (Gives message) made
 
 -- what the judge said
 abbrev pub said_in : Choice → Said
-said_in (Normal said first whole) = said
+said_in (Normal said made whole) = said
 said_in (OutOfMemory whole) = Unasked
 said_in Disconnects = Unasked
-said_in (SpoolFails first) = Unasked
+said_in (SpoolFails made) = Unasked
 said_in JudgeFails = Unasked
 
 -- whether 452 4.3.1 was said
 abbrev pub is_short : Choice → Bool
-is_short (Normal said first whole) = false
+is_short (Normal said made whole) = false
 is_short (OutOfMemory whole) = true
 is_short Disconnects = false
-is_short (SpoolFails first) = false
+is_short (SpoolFails made) = false
 is_short JudgeFails = false
 
 -- the line of a message is among those that were answered, but where the run ended at it
 abbrev pub heard_chosen : Table → Choice → Did → Line → Did
-heard_chosen table (Normal said first whole) d line =
-    heard_where (not (is_spent table)) d line said false (Some table.next)
+heard_chosen table (Normal said made whole) d line =
+    heard_where (not (is_spent table made)) d line said false (Some table.next)
 heard_chosen table (OutOfMemory whole) d line = heard_line d line Unasked true None
 heard_chosen table Disconnects d line = d
-heard_chosen table (SpoolFails first) d line = d
+heard_chosen table (SpoolFails made) d line = d
 heard_chosen table JudgeFails d line = d
 
 -- the id that a message got
 abbrev pub id_chosen : Table → Choice → Option ℕ
-id_chosen table (Normal said first whole) = Some table.next
+id_chosen table (Normal said made whole) = Some table.next
 id_chosen table (OutOfMemory whole) = None
 id_chosen table Disconnects = None
-id_chosen table (SpoolFails first) = None
+id_chosen table (SpoolFails made) = None
 id_chosen table JudgeFails = None
 
 -- the session of a caller was reset after the end of data

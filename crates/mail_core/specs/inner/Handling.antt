@@ -2,7 +2,7 @@
 -- private contracts cite it.
 use Rattle.std.specs.Prelude.{◌≡◌, ℕ, [], ◌∷◌, Some, None, Result, List, Option, ◌==◌, Bool, false}
 use Rattle.mail_core.specs.declared.serving.Core.{Core}
-use Rattle.mail_core.specs.Sites.{Site}
+use Rattle.mail_core.specs.Sites.{IsUnder, Site}
 use Rattle.mail_core.specs.declared.caller.Caller.{Caller}
 use Rattle.mail_core.specs.Guests.{Guest, guest_of}
 use Rattle.mail_core.specs.Machine.{State, Choices, Ending, handled, Opening, opened}
@@ -16,6 +16,7 @@ use Rattle.mail_core.specs.Meant.{IsEventMeant}
 use Rattle.mail_core.specs.Seen.{Seen, Ran}
 use Rattle.mail_base.specs.Histories.{Gains}
 use Rattle.mail_base.specs.declared.config.Config.{Config}
+use Rattle.map_tables.specs.Answers.{Loaded}
 use Rattle.link_edge.specs.Heard.{Heard}
 use Rattle.mail_core.specs.Effects.{heard_of}
 use Rattle.spool_store.specs.Entries.{Table}
@@ -54,9 +55,11 @@ IsTakenUp site m session None core = (guest_of session m.guests ≡ None) × Sta
 IsTakenUp site m session (Some caller) core = IsTakenOut site m session caller core
 
 -- an intake that takes messages in, and a caller whose session it answers under a configuration
-pub record IsReady (intake : Intake) (caller : Caller) (config : Config) : Type 0 where
+-- and maps
+pub record IsReady (intake : Intake) (caller : Caller) (config : Config) (maps : Loaded)
+    : Type 0 where
   pub site : Site
-  pub under : site.config ≡ config
+  pub under : IsUnder site config maps
   pub table : Table
   pub guest : Guest
   pub serves : Serves site intake table

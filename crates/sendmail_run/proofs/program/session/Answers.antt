@@ -19,5 +19,5 @@ returns-clause-works g c = λ input output.
 
 pub returns-clause-stays : goal.returns-clause-stays
 returns-clause-stays g c = λ input output.
-    stays_served (judge_by c.args.config.now c.args.maps.now) (session_site c.args.config.now) (g.F.Files.seen c.args.files.now) (g.F.Files.seen c.load_names.new.files) input output (g.L.Floor.seen c.args.floor.now) (g.L.Floor.seen c.session_mode.new.floor) (g.D.Spool.seen c.args.spool.now) (g.D.Spool.seen c.session_mode.new.spool) (g.C.Clock.seen c.args.clock.now) (g.C.Clock.seen c.session_mode.new.clock)
+    stays_served (judge_by c.args.config.now c.args.maps.now) (session_site c.args.config.now c.args.maps.now) (g.F.Files.seen c.args.files.now) (g.F.Files.seen c.load_names.new.files) input output (g.L.Floor.seen c.args.floor.now) (g.L.Floor.seen c.session_mode.new.floor) (g.D.Spool.seen c.args.spool.now) (g.D.Spool.seen c.session_mode.new.spool) (g.C.Clock.seen c.args.clock.now) (g.C.Clock.seen c.session_mode.new.clock)
     c.session_mode.result c.of_session.result c.of_session.ensures c.in-Ok.ensures.asks c.session_mode.ensures.serves c.session_mode.ensures.rises_floor c.session_mode.ensures.rises_spool

@@ -2,27 +2,27 @@ use Rattle.std.proofs.Common.{Err, ap, ◌∙◌}
 use Rattle.mail_base.specs.declared.fault.StoreFault.{StoreFault}
 use Rattle.spool_store.specs.Keepers.{seen as queue_seen}
 use Rattle.sendmail_run.specs.Serving.{judge_by, session_site}
-use Rattle.sendmail_run.proofs.OpeningLemmas.{found_of, rises_by, serves_unopened, sparing_of, taken_none, taken_of, unserved, untouched}
+use Rattle.sendmail_run.proofs.OpeningLemmas.{found_of, no_maps, rises_by, serves_unopened, sparing_of, taken_none, taken_of, unserved, untouched}
 use Rattle.sendmail_run.proofs.session_mode.opened.Goals as goal
 
 -- there is no memory for the directories
 pub returns-in_default-clause-taken : goal.returns-in_default-clause-taken
-returns-in_default-clause-taken g c = taken_none (session_site c.args.config.now).dirs (g.D.Spool.seen c.args.spool.now)
+returns-in_default-clause-taken g c = taken_none (session_site c.args.config.now no_maps).dirs (g.D.Spool.seen c.args.spool.now)
 
 pub returns-in_default-clause-serves : goal.returns-in_default-clause-serves
-returns-in_default-clause-serves g c = λ maps floor clock. untouched (session_site c.args.config.now) (g.D.Spool.seen c.args.spool.now) floor clock
+returns-in_default-clause-serves g c = λ maps floor clock. untouched (session_site c.args.config.now maps) (g.D.Spool.seen c.args.spool.now) floor clock
 
 -- the queue isn't opened
 pub not_opened-requires : goal.not_opened-requires
 not_opened-requires g c = record { never = λ e. c.in-Err.ensures.never (ap (λ (f : StoreFault). Err f) e) }
 
 pub returns-in-Err-clause-taken : goal.returns-in-Err-clause-taken
-returns-in-Err-clause-taken g c = taken_of (session_site c.args.config.now) (g.D.Spool.seen c.args.spool.now) (g.D.Spool.seen c.open.new.spool) c.in-Ok.dirs c.in-Ok.ensures.is c.in-Err.ensures.stands c.in-Err.ensures.tidied
+returns-in-Err-clause-taken g c = taken_of (session_site c.args.config.now no_maps) (g.D.Spool.seen c.args.spool.now) (g.D.Spool.seen c.open.new.spool) c.in-Ok.dirs c.in-Ok.ensures.is c.in-Err.ensures.stands c.in-Err.ensures.tidied
 
 pub returns-in-Err-clause-serves : goal.returns-in-Err-clause-serves
 returns-in-Err-clause-serves g c = λ maps floor clock.
-    serves_unopened (judge_by c.args.config.now maps) (session_site c.args.config.now) (g.D.Spool.seen c.args.spool.now) (g.D.Spool.seen c.open.new.spool) floor clock c.in-Err.fault c.not_opened.result c.not_opened.ensures.broke c.not_opened.ensures.memory
-    (taken_of (session_site c.args.config.now) (g.D.Spool.seen c.args.spool.now) (g.D.Spool.seen c.open.new.spool) c.in-Ok.dirs c.in-Ok.ensures.is c.in-Err.ensures.stands c.in-Err.ensures.tidied) c.in-Err.ensures.later c.in-Err.ensures.cause
+    serves_unopened (judge_by c.args.config.now maps) (session_site c.args.config.now maps) (g.D.Spool.seen c.args.spool.now) (g.D.Spool.seen c.open.new.spool) floor clock c.in-Err.fault c.not_opened.result c.not_opened.ensures.broke c.not_opened.ensures.memory
+    (taken_of (session_site c.args.config.now maps) (g.D.Spool.seen c.args.spool.now) (g.D.Spool.seen c.open.new.spool) c.in-Ok.dirs c.in-Ok.ensures.is c.in-Err.ensures.stands c.in-Err.ensures.tidied) c.in-Err.ensures.later c.in-Err.ensures.cause
 
 pub returns-in-Err-clause-rises : goal.returns-in-Err-clause-rises
 returns-in-Err-clause-rises g c = rises_by (g.D.Spool.seen c.args.spool.now).faults (g.D.Spool.seen c.open.new.spool).faults c.in-Err.fault c.not_opened.result c.not_opened.ensures.broke c.in-Err.ensures.calm
@@ -32,13 +32,13 @@ pub core_over-requires : goal.core_over-requires
 core_over-requires g c = record { whole = c.in-Ok-open.ensures.store.1; dirs = c.in-Ok-open.ensures.store.0 ∙ c.in-Ok.ensures.is }
 
 pub returns-in-Ok-core_over-clause-taken : goal.returns-in-Ok-core_over-clause-taken
-returns-in-Ok-core_over-clause-taken g c = taken_of (session_site c.args.config.now) (g.D.Spool.seen c.args.spool.now) (g.D.Spool.seen c.open.new.spool) c.in-Ok.dirs c.in-Ok.ensures.is c.in-Ok-open.ensures.stands c.in-Ok-open.ensures.tidied
+returns-in-Ok-core_over-clause-taken g c = taken_of (session_site c.args.config.now no_maps) (g.D.Spool.seen c.args.spool.now) (g.D.Spool.seen c.open.new.spool) c.in-Ok.dirs c.in-Ok.ensures.is c.in-Ok-open.ensures.stands c.in-Ok-open.ensures.tidied
 
 pub returns-in-Ok-core_over-clause-core : goal.returns-in-Ok-core_over-clause-core
-returns-in-Ok-core_over-clause-core g c = record {
+returns-in-Ok-core_over-clause-core g c = λ maps. record {
   store = queue_seen c.in-Ok-open.queue;
-  found = found_of (session_site c.args.config.now) c.in-Ok.dirs (g.D.Spool.seen c.args.spool.now).told (queue_seen c.in-Ok-open.queue) c.in-Ok.ensures.is c.in-Ok-open.ensures.read c.in-Ok-open.ensures.table c.in-Ok-open.ensures.holds;
-  stands = c.in-Ok-core_over.ensures.stands;
+  found = found_of (session_site c.args.config.now maps) c.in-Ok.dirs (g.D.Spool.seen c.args.spool.now).told (queue_seen c.in-Ok-open.queue) c.in-Ok.ensures.is c.in-Ok-open.ensures.read c.in-Ok-open.ensures.table c.in-Ok-open.ensures.holds;
+  stands = c.in-Ok-core_over.ensures.stands maps;
 }
 
 pub returns-in-Ok-core_over-clause-tallied : goal.returns-in-Ok-core_over-clause-tallied
@@ -47,13 +47,13 @@ returns-in-Ok-core_over-clause-tallied g c = c.in-Ok-core_over.ensures.tallied (
 pub returns-in-Ok-core_over-clause-sparing : goal.returns-in-Ok-core_over-clause-sparing
 returns-in-Ok-core_over-clause-sparing g c =
     let opens = c.in-Ok-open.ensures in
-    sparing_of (session_site c.args.config.now) (g.D.Spool.seen c.args.spool.now) (g.D.Spool.seen c.open.new.spool) c.in-Ok.dirs (queue_seen c.in-Ok-open.queue) opens.store.0 c.in-Ok.ensures.is c.opening_settles.ensures.strange opens.stands opens.tidied opens.read opens.agrees
+    sparing_of (session_site c.args.config.now no_maps) (g.D.Spool.seen c.args.spool.now) (g.D.Spool.seen c.open.new.spool) c.in-Ok.dirs (queue_seen c.in-Ok-open.queue) opens.store.0 c.in-Ok.ensures.is c.opening_settles.ensures.strange opens.stands opens.tidied opens.read opens.agrees
 
 -- there is no memory for it
 pub returns-clause-taken : goal.returns-clause-taken
-returns-clause-taken g c = taken_of (session_site c.args.config.now) (g.D.Spool.seen c.args.spool.now) (g.D.Spool.seen c.open.new.spool) c.in-Ok.dirs c.in-Ok.ensures.is c.in-Ok-open.ensures.stands c.in-Ok-open.ensures.tidied
+returns-clause-taken g c = taken_of (session_site c.args.config.now no_maps) (g.D.Spool.seen c.args.spool.now) (g.D.Spool.seen c.open.new.spool) c.in-Ok.dirs c.in-Ok.ensures.is c.in-Ok-open.ensures.stands c.in-Ok-open.ensures.tidied
 
 pub returns-clause-serves : goal.returns-clause-serves
 returns-clause-serves g c = λ maps floor clock.
-    unserved (session_site c.args.config.now) (g.D.Spool.seen c.args.spool.now) (g.D.Spool.seen c.open.new.spool) floor clock
-    (taken_of (session_site c.args.config.now) (g.D.Spool.seen c.args.spool.now) (g.D.Spool.seen c.open.new.spool) c.in-Ok.dirs c.in-Ok.ensures.is c.in-Ok-open.ensures.stands c.in-Ok-open.ensures.tidied) c.in-Ok-open.ensures.later
+    unserved (session_site c.args.config.now maps) (g.D.Spool.seen c.args.spool.now) (g.D.Spool.seen c.open.new.spool) floor clock
+    (taken_of (session_site c.args.config.now maps) (g.D.Spool.seen c.args.spool.now) (g.D.Spool.seen c.open.new.spool) c.in-Ok.dirs c.in-Ok.ensures.is c.in-Ok-open.ensures.stands c.in-Ok-open.ensures.tidied) c.in-Ok-open.ensures.later

@@ -12,7 +12,7 @@ abbrev pub invariant-loop : goal.invariant-loop
 invariant-loop g l = record {
   begun : IsBegun (seen (g.L.Floor.seen l.fn.floor) (g.D.Spool.seen l.fn.spool) (g.C.Clock.seen l.fn.clock)) (seen (g.L.Floor.seen l.floor) (g.D.Spool.seen l.spool) (g.C.Clock.seen l.clock));
   judge : IsAlike (judge_by l.fn.config l.fn.maps) (judge_seen teller (IsJudged l.judge.config l.judge.maps));
-  going : IsGoing (judge_by l.fn.config l.fn.maps) (session_site l.fn.config) l.core l.counter (seen (g.L.Floor.seen l.fn.floor) (g.D.Spool.seen l.fn.spool) (g.C.Clock.seen l.fn.clock)) (seen (g.L.Floor.seen l.floor) (g.D.Spool.seen l.spool) (g.C.Clock.seen l.clock));
+  going : IsGoing (judge_by l.fn.config l.fn.maps) (session_site l.fn.config l.fn.maps) l.core l.counter (seen (g.L.Floor.seen l.fn.floor) (g.D.Spool.seen l.fn.spool) (g.C.Clock.seen l.fn.clock)) (seen (g.L.Floor.seen l.floor) (g.D.Spool.seen l.spool) (g.C.Clock.seen l.clock));
   floor : (g.L.Floor.seen l.floor).faults ≡ (g.L.Floor.seen l.fn.floor).faults;
   spool : (g.D.Spool.seen l.spool).faults ≡ (g.D.Spool.seen l.fn.spool).faults;
 }

@@ -4,4 +4,4 @@ use Rattle.sendmail_run.proofs.OpeningLemmas.{untouched}
 use Rattle.sendmail_run.proofs.session_mode.session_mode.Goals as goal
 
 pub returns-in_default-clause-serves : goal.returns-in_default-clause-serves
-returns-in_default-clause-serves g c = untouched (session_site c.args.config.now) (g.D.Spool.seen c.args.spool.now) (g.L.Floor.seen c.args.floor.now) (g.C.Clock.seen c.args.clock.now)
+returns-in_default-clause-serves g c = untouched (session_site c.args.config.now c.args.maps.now) (g.D.Spool.seen c.args.spool.now) (g.L.Floor.seen c.args.floor.now) (g.C.Clock.seen c.args.clock.now)

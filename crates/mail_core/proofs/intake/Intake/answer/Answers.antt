@@ -26,23 +26,23 @@ pub accept-requires-clause-valid : goal.accept-requires-clause-valid
 accept-requires-clause-valid g c =
     let r = c.requires.ready in
     let d = fresh_start r.table r.guest in
-    let a = answers_at (judge_seen (g.J.Judge.seen c.args.judge.now) (g.J.Judge.answers c.args.judge.now)) r.site c.args.config.now d c.args.line.now c.args.caller.now c.line.new.self _ r.under r.talks c.in-Ok-Message.ensures.answered in
-    λ first header. valid_parts c.args.self.now.table.terms c.args.self.now.moment first c.in-Ok-Message.message r.guest.peer r.serves.range r.talks.peer c.has_class.ensures header
+    let a = answers_at (judge_seen (g.J.Judge.seen c.args.judge.now) (g.J.Judge.answers c.args.judge.now)) r.site c.args.config.now c.args.maps.now d c.args.line.now c.args.caller.now c.line.new.self _ r.under r.talks c.in-Ok-Message.ensures.answered in
+    λ first cuts header parts. valid_parts c.args.self.now.table.terms c.args.self.now.moment first c.in-Ok-Message.message r.guest.peer cuts r.serves.range r.talks.peer c.has_class.ensures header
     (given_formed r.guest.config r.guest.peer r.guest.heard a.said c.args.line.now c.in-Ok-Message.message r.talks.formed
-    (message_is _ _ _ c.in-Ok-Message.message (sym c.in-Ok-Message.field-0-is ∙ a.did_is)))
+    (message_is _ _ _ c.in-Ok-Message.message (sym c.in-Ok-Message.field-0-is ∙ a.did_is))) parts
 
 pub accept-requires-clause-rows : goal.accept-requires-clause-rows
 accept-requires-clause-rows g c =
     let r = c.requires.ready in
     let d = fresh_start r.table r.guest in
-    let a = answers_at (judge_seen (g.J.Judge.seen c.args.judge.now) (g.J.Judge.answers c.args.judge.now)) r.site c.args.config.now d c.args.line.now c.args.caller.now c.line.new.self _ r.under r.talks c.in-Ok-Message.ensures.answered in
+    let a = answers_at (judge_seen (g.J.Judge.seen c.args.judge.now) (g.J.Judge.answers c.args.judge.now)) r.site c.args.config.now c.args.maps.now d c.args.line.now c.args.caller.now c.line.new.self _ r.under r.talks c.in-Ok-Message.ensures.answered in
     let form = given_formed r.guest.config r.guest.peer r.guest.heard a.said c.args.line.now c.in-Ok-Message.message r.talks.formed
-    (message_is _ _ _ c.in-Ok-Message.message (sym c.in-Ok-Message.field-0-is ∙ a.did_is)) in form.rows_form.some
+    (message_is _ _ _ c.in-Ok-Message.message (sym c.in-Ok-Message.field-0-is ∙ a.did_is)) in form.rows_form
 
 pub returns-in-Ok-Reply-clause-answers : goal.returns-in-Ok-Reply-clause-answers
 returns-in-Ok-Reply-clause-answers g c = λ site d clock under way serves talks.
     let j = judge_seen (g.J.Judge.seen c.args.judge.now) (g.J.Judge.answers c.args.judge.now) in
-    let a = answers_at j site c.args.config.now d c.args.line.now c.args.caller.now c.line.new.self _ under talks c.in-Ok-Reply.ensures.answered in
+    let a = answers_at j site c.args.config.now c.args.maps.now d c.args.line.now c.args.caller.now c.line.new.self _ under talks c.in-Ok-Reply.ensures.answered in
     line_said j site c.args.self.now.moment d c.args.line.now a.said c.args.self.now _ _ _ _ clock c.in-Ok-Reply.text false (Ok c.reply.result) a.is_said
     (reply_is site c.args.self.now.moment d (answer_by d a.said c.args.line.now) c.in-Ok-Reply.text (sym c.in-Ok-Reply.field-0-is ∙ a.did_is))
     (spoken_of c.reply.result Continue refl c.reply.ensures.next) (λ on. ungranted c.reply.result c.reply.ensures.next)
@@ -50,12 +50,12 @@ returns-in-Ok-Reply-clause-answers g c = λ site d clock under way serves talks.
     (talks_at j site d c.args.line.now c.args.caller.now _ c.line.new.self _ talks a refl refl _)
 
 pub returns-in-Ok-Reply-clause-ready : goal.returns-in-Ok-Reply-clause-ready
-returns-in-Ok-Reply-clause-ready g c = ready_by _ _ _ _ _ _ _ _ _ _ c.requires.ready (returns-in-Ok-Reply-clause-answers g c)
+returns-in-Ok-Reply-clause-ready g c = ready_by _ _ _ _ _ _ _ _ _ _ _ c.requires.ready (returns-in-Ok-Reply-clause-answers g c)
 
 pub returns-in-Ok-Granted-clause-answers : goal.returns-in-Ok-Granted-clause-answers
 returns-in-Ok-Granted-clause-answers g c = λ site d clock under way serves talks.
     let j = judge_seen (g.J.Judge.seen c.args.judge.now) (g.J.Judge.answers c.args.judge.now) in
-    let a = answers_at j site c.args.config.now d c.args.line.now c.args.caller.now c.line.new.self _ under talks c.in-Ok-Granted.ensures.answered in
+    let a = answers_at j site c.args.config.now c.args.maps.now d c.args.line.now c.args.caller.now c.line.new.self _ under talks c.in-Ok-Granted.ensures.answered in
     line_said j site c.args.self.now.moment d c.args.line.now a.said c.args.self.now _ _ _ _ clock c.in-Ok-Granted.text true (Ok c.grant.result) a.is_said
     (grant_is site c.args.self.now.moment d (answer_by d a.said c.args.line.now) c.in-Ok-Granted.text (sym c.in-Ok-Granted.field-0-is ∙ a.did_is))
     (spoken_of c.grant.result BeginData refl c.grant.ensures.next) (λ on. granted_on c.grant.result c.grant.ensures.next on)
@@ -63,12 +63,12 @@ returns-in-Ok-Granted-clause-answers g c = λ site d clock under way serves talk
     (talks_at j site d c.args.line.now c.args.caller.now _ c.line.new.self _ talks a refl refl _)
 
 pub returns-in-Ok-Granted-clause-ready : goal.returns-in-Ok-Granted-clause-ready
-returns-in-Ok-Granted-clause-ready g c = ready_by _ _ _ _ _ _ _ _ _ _ c.requires.ready (returns-in-Ok-Granted-clause-answers g c)
+returns-in-Ok-Granted-clause-ready g c = ready_by _ _ _ _ _ _ _ _ _ _ _ c.requires.ready (returns-in-Ok-Granted-clause-answers g c)
 
 pub returns-in-Ok-Bye-clause-answers : goal.returns-in-Ok-Bye-clause-answers
 returns-in-Ok-Bye-clause-answers g c = λ site d clock under way serves talks.
     let j = judge_seen (g.J.Judge.seen c.args.judge.now) (g.J.Judge.answers c.args.judge.now) in
-    let a = answers_at j site c.args.config.now d c.args.line.now c.args.caller.now c.line.new.self _ under talks c.in-Ok-Bye.ensures.answered in
+    let a = answers_at j site c.args.config.now c.args.maps.now d c.args.line.now c.args.caller.now c.line.new.self _ under talks c.in-Ok-Bye.ensures.answered in
     subst (λ n. AnswersLine j site c.args.self.now.moment d c.args.line.now (seen (g.F.Floor.seen c.args.floor.now) (g.D.Spool.seen c.args.spool.now) clock) (seen (g.F.Floor.seen c.part.new.floor) (g.D.Spool.seen c.args.spool.now) clock) c.args.self.now (record c.args.caller.now { session = c.line.new.self }) (Ok n)) (sym c.part.ensures.next)
     (line_closed j site c.args.self.now.moment d c.args.line.now a.said c.args.self.now (record c.args.caller.now { session = c.line.new.self }) _ _ _ clock c.in-Ok-Bye.text c.part.ensures.told.0 a.is_said
     (bye_is site c.args.self.now.moment d (answer_by d a.said c.args.line.now) c.in-Ok-Bye.text (sym c.in-Ok-Bye.field-0-is ∙ a.did_is))
@@ -77,18 +77,18 @@ returns-in-Ok-Bye-clause-answers g c = λ site d clock under way serves talks.
 pub returns-in-Ok-Taken-clause-answers : goal.returns-in-Ok-Taken-clause-answers
 returns-in-Ok-Taken-clause-answers g c = λ site d clock under way serves talks.
     let j = judge_seen (g.J.Judge.seen c.args.judge.now) (g.J.Judge.answers c.args.judge.now) in
-    let a = answers_at j site c.args.config.now d c.args.line.now c.args.caller.now c.line.new.self _ under talks c.in-Ok-Taken.ensures.answered in
+    let a = answers_at j site c.args.config.now c.args.maps.now d c.args.line.now c.args.caller.now c.line.new.self _ under talks c.in-Ok-Taken.ensures.answered in
     line_taken j site c.args.self.now.moment d c.args.line.now a.said c.args.self.now _ _ _ clock way a.is_said
     (taken_is site c.args.self.now.moment d (answer_by d a.said c.args.line.now) (sym c.in-Ok-Taken.field-0-is ∙ a.did_is)) serves
     (talks_at j site d c.args.line.now c.args.caller.now _ c.line.new.self _ talks a refl refl _)
 
 pub returns-in-Ok-Taken-clause-ready : goal.returns-in-Ok-Taken-clause-ready
-returns-in-Ok-Taken-clause-ready g c = ready_by _ _ _ _ _ _ _ _ _ _ c.requires.ready (returns-in-Ok-Taken-clause-answers g c)
+returns-in-Ok-Taken-clause-ready g c = ready_by _ _ _ _ _ _ _ _ _ _ _ c.requires.ready (returns-in-Ok-Taken-clause-answers g c)
 
 pub returns-in-Ok-Message-clause-answers : goal.returns-in-Ok-Message-clause-answers
 returns-in-Ok-Message-clause-answers g c = λ site d clock under way serves talks.
     let j = judge_seen (g.J.Judge.seen c.args.judge.now) (g.J.Judge.answers c.args.judge.now) in
-    let a = answers_at j site c.args.config.now d c.args.line.now c.args.caller.now c.line.new.self _ under talks c.in-Ok-Message.ensures.answered in
+    let a = answers_at j site c.args.config.now c.args.maps.now d c.args.line.now c.args.caller.now c.line.new.self _ under talks c.in-Ok-Message.ensures.answered in
     let gives = message_is _ (limit_of d) (answer_by d a.said c.args.line.now) c.in-Ok-Message.message (sym c.in-Ok-Message.field-0-is ∙ a.did_is) in
     let ends = gift_at_end d.guest.config d.guest.peer (exchanges d.guest.config d.guest.peer d.guest.heard) a.said c.args.line.now c.in-Ok-Message.message gives in
     let unasked = unasked_at d c.args.line.now ends in
@@ -98,7 +98,7 @@ returns-in-Ok-Message-clause-answers g c = λ site d clock under way serves talk
     c.accept.ensures.number (c.accept.ensures.accepts site d clock under way serves talks.number)
 
 pub returns-in-Ok-Message-clause-ready : goal.returns-in-Ok-Message-clause-ready
-returns-in-Ok-Message-clause-ready g c = ready_by _ _ _ _ _ _ _ _ _ _ c.requires.ready (returns-in-Ok-Message-clause-answers g c)
+returns-in-Ok-Message-clause-ready g c = ready_by _ _ _ _ _ _ _ _ _ _ _ c.requires.ready (returns-in-Ok-Message-clause-answers g c)
 
 -- the judge failed
 pub returns-in-Err-FilesFault-clause-answers : goal.returns-in-Err-FilesFault-clause-answers
@@ -107,7 +107,7 @@ returns-in-Err-FilesFault-clause-answers g c = λ site d clock under way serves 
 -- there was no memory
 pub returns-in-Err-NoMemory-clause-answers : goal.returns-in-Err-NoMemory-clause-answers
 returns-in-Err-NoMemory-clause-answers g c = λ site d clock under way serves talks.
-    let same : d.guest.config ≡ c.args.config.now = talks.config ∙ under in
+    let same : d.guest.config ≡ c.args.config.now = talks.config ∙ under.config_is in
     let speaks = subst (λ q. Speaks c.args.caller.now.session q site.host d.guest.peer d.guest.heard) same talks.session in
     let kept = not_passed (is_passed d.guest c.args.line.now) _ _ (λ e. c.in-Err-NoMemory.ensures.silent site.host d.guest.peer d.guest.heard speaks (subst (λ q. is_dropped (exchanges q d.guest.peer d.guest.heard) c.args.line.now ≡ true) same e)) in
     line_lacked _ site c.args.self.now.moment d c.args.line.now c.args.self.now _ _ _ _ clock (Ok c.lack.result) kept
@@ -117,7 +117,7 @@ returns-in-Err-NoMemory-clause-answers g c = λ site d clock under way serves ta
     (c.lack.ensures.line d.guest.config site.host d.guest.peer d.guest.heard c.args.line.now (subst (λ s. Speaks s d.guest.config site.host d.guest.peer d.guest.heard) (sym c.in-Err-NoMemory.ensures.err) talks.session) kept))
 
 pub returns-in-Err-NoMemory-clause-ready : goal.returns-in-Err-NoMemory-clause-ready
-returns-in-Err-NoMemory-clause-ready g c = ready_by _ _ _ _ _ _ _ _ _ _ c.requires.ready (returns-in-Err-NoMemory-clause-answers g c)
+returns-in-Err-NoMemory-clause-ready g c = ready_by _ _ _ _ _ _ _ _ _ _ _ c.requires.ready (returns-in-Err-NoMemory-clause-answers g c)
 
 -- a message isn't judged
 pub returns-in-Ok-Message-clause-asked : goal.returns-in-Ok-Message-clause-asked

@@ -27,7 +27,7 @@ answers-init g c =
           pends_start _ site c.args.self.now.moment table guest piece c.args.caller.now _ c.args.self.now (g.F.Floor.seen c.args.floor.now) (g.D.Spool.seen c.args.spool.now) clock lines refl refl serves keeps k.stands k.turns;
       turns = λ asking. k.turns ∙ asked_after-turns old.under.may_turn lines asking;
       all = k.all;
-      ready = ready_lines c.args.self.now c.args.config.now c.args.caller.now _ refl refl c.requires.ready;
+      ready = ready_lines c.args.self.now c.args.config.now c.args.maps.now c.args.caller.now _ refl refl c.requires.ready;
       moment = refl;
       asked = asked_none (judge_seen (g.J.Judge.seen c.args.judge.now) (g.J.Judge.answers c.args.judge.now));
       own = refl;
@@ -90,7 +90,7 @@ answers-preserved g c =
           (ap (λ q. q.number) c.turn.ensures) (ap (λ q. q.session) c.turn.ensures) m.stands m.turns;
       turns = λ asks. m.turns ∙ asked_after-turns turned.lines.under.may_turn lines asks;
       all = m.all;
-      ready = ready_lines c.answer_all.new.self c.args.config.now c.answer_all.new.caller _ (ap (λ q. q.number) c.turn.ensures) (ap (λ q. q.session) c.turn.ensures) (k.ready on);
+      ready = ready_lines c.answer_all.new.self c.args.config.now c.args.maps.now c.answer_all.new.caller _ (ap (λ q. q.number) c.turn.ensures) (ap (λ q. q.session) c.turn.ensures) (k.ready on);
       moment = k.moment ∙ h.moment;
       asked = asked_join _ _ _ false h.asked k.asked;
       own = k.own ∙ h.own;
