@@ -120,7 +120,9 @@ fn serve<D: Spool, L: Floor, C: Clock>(
             return SessionEnd::FloorFault;
         };
         let reading = clock.now();
-        match core.turn(floor, spool, config, maps, &mut judge, reading, turn, buffer) {
+        match core.turn(
+            floor, spool, config, maps, &mut judge, reading, turn, buffer,
+        ) {
             Ok(Act::Went) => {}
             Ok(Act::Ended) => return SessionEnd::Stopped,
             Err(stop) => return SessionEnd::Over(stop),
