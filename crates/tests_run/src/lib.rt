@@ -13,6 +13,8 @@ mod lines;
 #[cfg(test)]
 mod maps;
 #[cfg(test)]
+mod parts;
+#[cfg(test)]
 mod queues;
 #[cfg(test)]
 mod receipt;
