@@ -1,1 +1,1 @@
-mod SampleLemmas
+mod Lemmas

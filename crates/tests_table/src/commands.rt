@@ -1,25 +1,18 @@
 //! Commands of a table over a spool that is opened for each, of entries by their places.
 
-ghost use Rattle.std.specs.Prelude.{◌≡◌, All, Contains, IfOk, IfSome, IsTrue, OnOk, false, true};
+ghost use Rattle.std.specs.Prelude.{IfOk, IfSome, IsSome, OnOk, Some};
 ghost use Rattle.spool_disk.specs.Changes.{after_all};
-ghost use Rattle.spool_store.specs.Keepers.{CanFinish};
-ghost use Rattle.spool_store.specs.Queue.{IsOpen};
 ghost use Rattle.spool_store.specs.Stores.{Agrees};
-ghost use Rattle.queue_table.specs.Calls.{AreDirs, store};
-ghost use Rattle.queue_table.specs.Directories.{terms_of};
-ghost use Rattle.queue_table.specs.Order.{is_queued};
-ghost use Rattle.queue_table.specs.Reserves.{IsReserved};
-ghost use Rattle.queue_table.specs.Soundness.{IsTried};
-ghost use Rattle.tests_table.specs.Samples.{AreSound, IsOpenWith};
+ghost use Rattle.queue_table.specs.Calls.{store};
+ghost use Rattle.table_samples.specs.Samples.{IsReady};
+ghost use Rattle.tests_table.specs.Samples.{IsOpenWith};
 
 use crate::mails::{Mail, Sent, backs_of, config, cuts_of, message_for};
-use mail_base::{
-    Config, Id, NoMemory, Note, Outcomes, Result1, Row, Seq, State, Status, StoreFault, Text,
-};
-use queue_table::{Reserved, Table, Terms};
+use mail_base::{Id, NoMemory, Note, Outcomes, Result1, Seq, Status, StoreFault, Text};
+use queue_table::{Table, Terms};
 use spool_disk::{Spool, StopSpool};
-use spool_store::{Held, Queue};
 use std::alloc::Global;
+use table_samples::{accept, finish_done, opened, record};
 
 /// What is done to a table.
 #[derive(Clone, Copy, PartialEq, Eq)]
@@ -48,117 +41,29 @@ pub(crate) enum Results {
 /// The directories of the groups.
 pub(crate) fn dirs(alloc: Global) -> Result<Seq<Text>, NoMemory> {
     let config = config(alloc)?;
-    dirs_of(&config)
+    Terms::of(&config)?.dirs()
 }
 
-fn dirs_of(config: &Config) -> Result<Seq<Text>, NoMemory>
-    ensures { IfOk result (AreDirs (terms_of config.now)) }
-{
-    Terms::of(config)?.dirs()
-}
-
-fn opened_by(alloc: Global, spool: &mut StopSpool, config: &Config) -> Result<Table, StoreFault>
-    ensures dirs { IfOk result (λ t. AreDirs t.terms (store t).dirs) }
-    ensures agrees { IfOk result
-        (λ t. Agrees (store t) (after_all spool.new.spool.past spool.new.spool.start)) }
-{
-    let dirs = dirs_of(config)?;
-    let queue = Queue::open(alloc, spool, &dirs)?;
-    Ok(Table::over(queue, config)?)
-}
-
-/// The table of a spool.
-fn opened(alloc: Global, spool: &mut StopSpool) -> Result<Table, StoreFault>
-    ensures dirs { IfOk result (λ t. AreDirs t.terms (store t).dirs) }
-    ensures agrees { IfOk result
-        (λ t. Agrees (store t) (after_all spool.new.spool.past spool.new.spool.start)) }
-    ensures sound { IfOk result (λ t. AreSound (store t)) }
+// The table of a spool.
+fn table_of(alloc: Global, spool: &mut StopSpool) -> Result<Table, StoreFault>
+    ensures { IfOk result (IsReady (Some (after_all spool.new.spool.past spool.new.spool.start))) }
 {
     let config = config(alloc)?;
-    opened_by(alloc, spool, &config)
+    opened(alloc, spool, &config)
 }
 
 // Takes a message in at the first second of 2026.
-#[tactic(auto, using(crate::proofs::SampleLemmas::are_cuts))]
-fn accept<D: Spool>(
+fn accept_mail<D: Spool>(
     alloc: Global,
     spool: &mut D,
     table: &mut Table,
     mail: Mail,
 ) -> Result<(), StoreFault>
-    requires agrees { IfSome (D.seen spool.old).told (Agrees (store table.old)) }
-    requires dirs { AreDirs table.old.terms (store table.old).dirs }
+    requires { IsReady (D.seen spool.old).told table.old }
 {
     let cuts = cuts_of(alloc, mail)?;
     let message = message_for(alloc, mail)?;
-    let _id = table.accept(spool, message, cuts.items(), 1_767_225_600)?;
-    Ok(())
-}
-
-fn is_queued(state: &State) -> bool
-    ensures { result ≡ is_queued state.now }
-{
-    matches!(state, State::Queued(_))
-}
-
-#[tactic(auto, using(crate::proofs::SampleLemmas::tried_at))]
-fn is_tried(rows: &[Row], place: u32) -> bool
-    ensures { IsTrue result → IsTried rows.now place }
-{
-    match rows.get(place as usize) {
-        Some(row) => is_queued(&row.state),
-        None => false,
-    }
-}
-
-// Adds the place of a row that is still tried.
-#[tactic(auto, using(crate::proofs::SampleLemmas::place_pushed))]
-fn add_place(places: &mut Seq<u32>, rows: &[Row], place: u32) -> Result<(), NoMemory>
-    requires { All (IsTried rows.now) places.old }
-    ensures { OnOk result (All (IsTried rows.now) places.new) }
-{
-    if !is_tried(rows, place) {
-        return Ok(());
-    }
-    places.push(place)
-}
-
-// The places of the first so many rows, if they are still tried.
-fn places_of(alloc: Global, rows: &[Row], count: u32) -> Result<Seq<u32>, NoMemory>
-    ensures { IfOk result (All (IsTried rows.now)) }
-{
-    let mut places = Seq::new(alloc);
-    for place in 0..count {
-        add_place(&mut places, rows, place)?;
-    }
-    Ok(places)
-}
-
-// Memory for a record of the first so many rows of an entry that isn't done.
-#[tactic(auto, using(crate::proofs::SampleLemmas::can_reserve))]
-fn reserved_of(table: &Table, held: &Held, count: u32) -> Result<Reserved, NoMemory>
-    requires among { Contains (store table.now).entries held.now }
-    requires waits { IsOpen held.now.entry.control }
-    requires sound { AreSound (store table.now) }
-    ensures { IfOk result (IsReserved (store table.now).entries) }
-{
-    let rows = held.entry.control.rows.items();
-    let places = places_of(held.entry.dir.allocator(), rows, count)?;
-    table.reserve(&held.entry.id, &places)
-}
-
-// The same of the entry at a place, if there is one that isn't done.
-fn reserved_at(table: &Table, place: usize, count: u32) -> Result<Option<Reserved>, NoMemory>
-    requires sound { AreSound (store table.now) }
-    ensures { IfOk result (λ r. IfSome r (IsReserved (store table.now).entries)) }
-{
-    let Some(held) = table.entries().get(place) else {
-        return Ok(None);
-    };
-    if held.entry.finished() {
-        return Ok(None);
-    }
-    Ok(Some(reserved_of(table, held, count)?))
+    accept(spool, table, message, cuts.items(), 1_767_225_600)
 }
 
 fn note_of(bytes: &[u8]) -> Result<Note, StoreFault> {
@@ -193,32 +98,6 @@ fn add_results(results: &mut Seq<Result1>, what: Results) -> Result<(), StoreFau
     Ok(())
 }
 
-fn record<D: Spool>(
-    spool: &mut D,
-    table: &mut Table,
-    place: usize,
-    outcomes: &Outcomes,
-    moment: u64,
-) -> Result<(), StoreFault>
-    requires agrees { IfSome (D.seen spool.old).told (Agrees (store table.old)) }
-    requires sound { AreSound (store table.old) }
-    ensures agrees { OnOk result (IfSome (D.seen spool.new).told (Agrees (store table.new))) }
-{
-    let Ok(count) = u32::try_from(outcomes.results.len()) else {
-        return Err(StoreFault::SpoolFault);
-    };
-    let Some(reserved) = reserved_at(table, place, count)? else {
-        return Err(StoreFault::SpoolFault);
-    };
-    if reserved.rows().len() != outcomes.results.len() {
-        return Err(StoreFault::SpoolFault);
-    }
-    match table.record(spool, reserved, outcomes, moment) {
-        Ok(()) => Ok(()),
-        Err(_fault) => Err(StoreFault::SpoolFault),
-    }
-}
-
 fn record_at<D: Spool>(
     alloc: Global,
     spool: &mut D,
@@ -227,38 +106,14 @@ fn record_at<D: Spool>(
     what: Results,
     moment: u64,
 ) -> Result<(), StoreFault>
-    requires agrees { IfSome (D.seen spool.old).told (Agrees (store table.old)) }
-    requires sound { AreSound (store table.old) }
-    ensures agrees { OnOk result (IfSome (D.seen spool.new).told (Agrees (store table.new))) }
+    requires told { IsSome (D.seen spool.old).told }
+    requires ready { IsReady (D.seen spool.old).told table.old }
+    ensures { OnOk result (IsReady (D.seen spool.new).told table.new) }
 {
     let mut results = Seq::new(alloc);
     add_results(&mut results, what)?;
     let outcomes = Outcomes { results };
     record(spool, table, place, &outcomes, moment)
-}
-
-// The id of the entry at a place, if every row of it is done.
-fn done_id(table: &Table, place: usize) -> Option<Id>
-    ensures { IfSome result (CanFinish (store table.now).entries) }
-{
-    let held = table.entries().get(place)?;
-    if held.entry.finished() {
-        return Some(held.entry.id);
-    }
-    None
-}
-
-// Finishes the entry at a place where it is done.
-fn finish_done<D: Spool>(spool: &mut D, table: &mut Table, place: usize) -> Result<(), StoreFault>
-    requires agrees { IfSome (D.seen spool.old).told (Agrees (store table.old)) }
-{
-    let Some(id) = done_id(table, place) else {
-        return Ok(());
-    };
-    match table.finish(spool, &id) {
-        Ok(()) => Ok(()),
-        Err(_fault) => Err(StoreFault::SpoolFault),
-    }
 }
 
 // The id of the entry at a place, if a row of it is open and it is a double bounce or none.
@@ -275,7 +130,7 @@ fn open_id(table: &Table, place: usize, double: bool) -> Option<Id>
     Some(held.entry.id)
 }
 
-#[tactic(auto, using(crate::proofs::SampleLemmas::asked_return, crate::proofs::SampleLemmas::sound_fit))]
+#[tactic(auto, using(crate::proofs::Lemmas::asked_return))]
 fn return_at<D: Spool>(
     alloc: Global,
     spool: &mut D,
@@ -284,10 +139,9 @@ fn return_at<D: Spool>(
     sent: Sent,
     moment: u64,
 ) -> Result<(), StoreFault>
-    requires agrees { IfSome (D.seen spool.old).told (Agrees (store table.old)) }
-    requires sound { AreSound (store table.old) }
-    requires dirs { AreDirs table.old.terms (store table.old).dirs }
-    ensures agrees { OnOk result (IfSome (D.seen spool.new).told (Agrees (store table.new))) }
+    requires told { IsSome (D.seen spool.old).told }
+    requires ready { IsReady (D.seen spool.old).told table.old }
+    ensures { OnOk result (IfSome (D.seen spool.new).told (Agrees (store table.new))) }
 {
     let backs = backs_of(alloc, sent)?;
     let Some(id) = open_id(table, place, false) else {
@@ -296,7 +150,7 @@ fn return_at<D: Spool>(
     table.give_back(spool, &id, backs, moment)
 }
 
-#[tactic(auto, using(crate::proofs::SampleLemmas::asked_burial, crate::proofs::SampleLemmas::sound_fit, crate::proofs::SampleLemmas::no_backs))]
+#[tactic(auto, using(crate::proofs::Lemmas::asked_burial, crate::proofs::Lemmas::no_backs))]
 fn bury_at<D: Spool>(
     alloc: Global,
     spool: &mut D,
@@ -304,10 +158,9 @@ fn bury_at<D: Spool>(
     place: usize,
     moment: u64,
 ) -> Result<(), StoreFault>
-    requires agrees { IfSome (D.seen spool.old).told (Agrees (store table.old)) }
-    requires sound { AreSound (store table.old) }
-    requires dirs { AreDirs table.old.terms (store table.old).dirs }
-    ensures agrees { OnOk result (IfSome (D.seen spool.new).told (Agrees (store table.new))) }
+    requires told { IsSome (D.seen spool.old).told }
+    requires ready { IsReady (D.seen spool.old).told table.old }
+    ensures { OnOk result (IfSome (D.seen spool.new).told (Agrees (store table.new))) }
 {
     let Some(id) = open_id(table, place, true) else {
         return Err(StoreFault::SpoolFault);
@@ -315,7 +168,7 @@ fn bury_at<D: Spool>(
     table.give_back(spool, &id, Seq::new(alloc), moment)
 }
 
-#[tactic(auto, using(crate::proofs::SampleLemmas::asked_warning, crate::proofs::SampleLemmas::sound_fit))]
+#[tactic(auto, using(crate::proofs::Lemmas::asked_warning))]
 fn warn_at<D: Spool>(
     alloc: Global,
     spool: &mut D,
@@ -323,9 +176,8 @@ fn warn_at<D: Spool>(
     place: usize,
     moment: u64,
 ) -> Result<(), StoreFault>
-    requires agrees { IfSome (D.seen spool.old).told (Agrees (store table.old)) }
-    requires sound { AreSound (store table.old) }
-    requires dirs { AreDirs table.old.terms (store table.old).dirs }
+    requires told { IsSome (D.seen spool.old).told }
+    requires ready { IsReady (D.seen spool.old).told table.old }
 {
     let backs = backs_of(alloc, Sent::Warning)?;
     let Some(id) = open_id(table, place, false) else {
@@ -340,12 +192,11 @@ fn carry_out<D: Spool>(
     table: &mut Table,
     command: Command,
 ) -> Result<(), StoreFault>
-    requires agrees { IfSome (D.seen spool.old).told (Agrees (store table.old)) }
-    requires sound { AreSound (store table.old) }
-    requires dirs { AreDirs table.old.terms (store table.old).dirs }
+    requires told { IsSome (D.seen spool.old).told }
+    requires ready { IsReady (D.seen spool.old).told table.old }
 {
     match command {
-        Command::Accept(mail) => accept(alloc, spool, table, mail),
+        Command::Accept(mail) => accept_mail(alloc, spool, table, mail),
         Command::Record(place, what, moment) => {
             record_at(alloc, spool, table, place, what, moment)?;
             finish_done(spool, table, place)
@@ -368,6 +219,6 @@ pub(crate) fn did(
     spool: &mut StopSpool,
     command: Command,
 ) -> Result<(), StoreFault> {
-    let mut table = opened(alloc, spool)?;
+    let mut table = table_of(alloc, spool)?;
     carry_out(alloc, spool, &mut table, command)
 }

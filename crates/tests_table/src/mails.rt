@@ -1,17 +1,14 @@
-//! Messages and their cuts, of control texts, and the configuration with two groups.
+//! What is accepted and what is sent for it, of control texts, and the configuration with two
+//! groups.
 
-ghost use Rattle.std.specs.Prelude.{◌≡◌, ◌<◌, ◌≤◌, All, IfOk, IsTrue, OnOk, length};
-ghost use Rattle.mail_base.specs.Limits.{most_rows};
-ghost use Rattle.qf_format.specs.Valid.{IsRow, IsValid};
-ghost use Rattle.tests_table.specs.Samples.{AreBacks, HasAddress, IsSampleBack, IsSampleCut, IsSampleMessage};
+ghost use Rattle.std.specs.Prelude.{IfOk};
+ghost use Rattle.table_samples.specs.Samples.{AreSampleCuts, IsSampleMessage};
+ghost use Rattle.tests_table.specs.Samples.{AreBacks, IsSampleBack};
 
 use crate::samples::{BODY, BOUNCE, BULK, DOUBLE, HELLO, NULL, THREE, WARNING};
-use mail_base::{
-    Back, Catalog, Config, Control, Cut, Draw, Group, MOST_ROWS, Marks, Message, NoMemory,
-    Resolved, Row, Seq, StoreFault, Text, Triple, TryCopy,
-};
-use qf_format::parse;
+use mail_base::{Back, Catalog, Config, Cut, Group, Message, NoMemory, Seq, StoreFault, Text};
 use std::alloc::Global;
+use table_samples::{add_cut, message_of, one_cut};
 
 /// What is accepted.
 #[derive(Clone, Copy, PartialEq, Eq)]
@@ -36,128 +33,8 @@ pub(crate) enum Sent {
     Double,
 }
 
-// A text that can't be read is told as a fault of the spool.
-fn parsed(alloc: Global, text: &[u8]) -> Result<Control, StoreFault>
-    ensures { IfOk result IsValid }
-{
-    let text = Text::of(alloc, text)?;
-    match parse(&text)? {
-        Some(control) => Ok(control),
-        None => Err(StoreFault::SpoolFault),
-    }
-}
-
-fn route(alloc: Global) -> Result<Resolved, NoMemory> {
-    Ok(Resolved::Goes(Triple {
-        mailer: Text::of(alloc, b"local")?,
-        host: Text::new(alloc),
-        user: Text::of(alloc, b"ann")?,
-    }))
-}
-
-fn draw_of(row: &Row, sender: &Text) -> Result<Draw, NoMemory>
-    requires row { IsRow row.now }
-    ensures { IfOk result HasAddress }
-{
-    Ok(Draw {
-        address: row.address.copy()?,
-        sender: sender.copy()?,
-        primary: row.primary,
-        resolved: route(row.address.allocator())?,
-    })
-}
-
-fn add_draw(draws: &mut Seq<Draw>, row: &Row, sender: &Text) -> Result<(), NoMemory>
-    requires row { IsRow row.now }
-    requires draws { All HasAddress draws.old }
-    ensures { OnOk result (All HasAddress draws.new) }
-{
-    let draw = draw_of(row, sender)?;
-    draws.push(draw)
-}
-
-// Adds each of these rows once.
-fn add_draws(draws: &mut Seq<Draw>, rows: &[Row], sender: &Text) -> Result<(), NoMemory>
-    requires rows { All IsRow rows.now }
-    requires draws { All HasAddress draws.old }
-    ensures { OnOk result (All HasAddress draws.new) }
-{
-    for row in rows {
-        add_draw(draws, row, sender)?;
-    }
-    Ok(())
-}
-
-// The rows of a control, so many times.
-fn draws_of(control: &Control, copies: u32) -> Result<Seq<Draw>, NoMemory>
-    requires valid { IsValid control.now }
-    ensures { IfOk result (All HasAddress) }
-{
-    let mut draws = Seq::new(control.group.allocator());
-    for _ in 0..copies {
-        add_draws(&mut draws, control.rows.items(), &control.sender)?;
-    }
-    Ok(draws)
-}
-
-// Whether an entry may have so many rows.
-#[tactic(auto, unfolding(mail_base::specs::Limits::most_rows))]
-fn are_fit(rows: &Seq<Draw>) -> bool
-    ensures some { IsTrue result → 0 < length rows.now }
-    ensures few { IsTrue result → length rows.now ≤ most_rows }
-{
-    !rows.is_empty() && rows.len() <= MOST_ROWS
-}
-
-#[tactic(auto, using(crate::proofs::SampleLemmas::sample_cut))]
-fn cut_of(control: &Control, copies: u32) -> Result<Cut, StoreFault>
-    requires valid { IsValid control.now }
-    ensures { IfOk result IsSampleCut }
-{
-    let rows = draws_of(control, copies)?;
-    if !are_fit(&rows) {
-        return Err(StoreFault::SpoolFault);
-    }
-    Ok(Cut {
-        sender: control.sender.copy()?,
-        group: control.group.copy()?,
-        rows,
-    })
-}
-
-fn push_cut(cuts: &mut Seq<Cut>, cut: Cut) -> Result<(), NoMemory>
-    requires cut { IsSampleCut cut }
-    requires each { All IsSampleCut cuts.old }
-    ensures each { OnOk result (All IsSampleCut cuts.new) }
-    ensures some { OnOk result (0 < length cuts.new) }
-{
-    cuts.push(cut)
-}
-
-// Adds a cut of the rows of a control text, so many times.
-fn add_cut(alloc: Global, cuts: &mut Seq<Cut>, text: &[u8], copies: u32) -> Result<(), StoreFault>
-    requires each { All IsSampleCut cuts.old }
-    ensures each { OnOk result (All IsSampleCut cuts.new) }
-    ensures some { OnOk result (0 < length cuts.new) }
-{
-    let control = parsed(alloc, text)?;
-    let cut = cut_of(&control, copies)?;
-    push_cut(cuts, cut)?;
-    Ok(())
-}
-
-fn one_cut(alloc: Global, text: &[u8]) -> Result<Seq<Cut>, StoreFault>
-    ensures each { IfOk result (All IsSampleCut) }
-    ensures some { IfOk result (λ cuts. 0 < length cuts) }
-{
-    let mut cuts = Seq::new(alloc);
-    add_cut(alloc, &mut cuts, text, 1)?;
-    Ok(cuts)
-}
-
 fn three_cuts(alloc: Global) -> Result<Seq<Cut>, StoreFault>
-    ensures each { IfOk result (All IsSampleCut) }
-    ensures some { IfOk result (λ cuts. 0 < length cuts) }
+    ensures { IfOk result AreSampleCuts }
 {
     let mut cuts = Seq::new(alloc);
     add_cut(alloc, &mut cuts, HELLO, 1)?;
@@ -167,8 +44,7 @@ fn three_cuts(alloc: Global) -> Result<Seq<Cut>, StoreFault>
 }
 
 fn many_cuts(alloc: Global) -> Result<Seq<Cut>, StoreFault>
-    ensures each { IfOk result (All IsSampleCut) }
-    ensures some { IfOk result (λ cuts. 0 < length cuts) }
+    ensures { IfOk result AreSampleCuts }
 {
     let mut cuts = Seq::new(alloc);
     add_cut(alloc, &mut cuts, BULK, 100)?;
@@ -180,8 +56,7 @@ fn many_cuts(alloc: Global) -> Result<Seq<Cut>, StoreFault>
 
 /// The cuts of what is accepted.
 pub(crate) fn cuts_of(alloc: Global, mail: Mail) -> Result<Seq<Cut>, StoreFault>
-    ensures each { IfOk result (All IsSampleCut) }
-    ensures some { IfOk result (λ cuts. 0 < length cuts) }
+    ensures { IfOk result AreSampleCuts }
 {
     match mail {
         Mail::Hello => one_cut(alloc, HELLO),
@@ -190,26 +65,6 @@ pub(crate) fn cuts_of(alloc: Global, mail: Mail) -> Result<Seq<Cut>, StoreFault>
         Mail::Nine => three_cuts(alloc),
         Mail::Parts => many_cuts(alloc),
     }
-}
-
-// A message of a control's headers and what is kept with it.
-fn message_of(control: &Control, size: u64, marks: Marks) -> Result<Message, NoMemory>
-    requires valid { IsValid control.now }
-    ensures sample { IfOk result IsSampleMessage }
-    ensures marks { IfOk result (λ m. m.marks ≡ marks) }
-{
-    let alloc = control.group.allocator();
-    Ok(Message {
-        sender: control.sender.copy()?,
-        headers: control.headers.copy()?,
-        body: Text::of(alloc, BODY)?,
-        kept: control.kept.copy()?,
-        rows: Seq::new(alloc),
-        size,
-        class: control.class,
-        eight: control.eight,
-        marks,
-    })
 }
 
 // The control text that has a message's headers.
@@ -222,18 +77,11 @@ fn text_of(mail: Mail) -> &'static [u8] {
     }
 }
 
-const PLAIN: Marks = Marks {
-    bounce: false,
-    double: false,
-    warned: false,
-};
-
 /// The message of what is accepted.
 pub(crate) fn message_for(alloc: Global, mail: Mail) -> Result<Message, StoreFault>
     ensures { IfOk result IsSampleMessage }
 {
-    let control = parsed(alloc, text_of(mail))?;
-    Ok(message_of(&control, 22, PLAIN)?)
+    message_of(alloc, text_of(mail), BODY, 22)
 }
 
 fn sent_text(sent: Sent) -> &'static [u8] {
@@ -244,22 +92,17 @@ fn sent_text(sent: Sent) -> &'static [u8] {
     }
 }
 
-// What is sent for an entry.
+// What is sent for an entry. A text without the mark of a bounce is told as a fault of the spool.
 fn back_of(alloc: Global, sent: Sent) -> Result<Back, StoreFault>
     ensures { IfOk result IsSampleBack }
 {
     let text = sent_text(sent);
     let cuts = one_cut(alloc, text)?;
-    let control = parsed(alloc, text)?;
-    let marks = Marks {
-        bounce: true,
-        double: sent == Sent::Double,
-        warned: false,
-    };
-    Ok(Back {
-        message: message_of(&control, 100, marks)?,
-        cuts,
-    })
+    let message = message_of(alloc, text, BODY, 100)?;
+    if !message.marks.bounce {
+        return Err(StoreFault::SpoolFault);
+    }
+    Ok(Back { message, cuts })
 }
 
 /// The same, alone in a list.

@@ -1,7 +1,8 @@
 -- The table may be changed further.
+use Rattle.std.specs.Prelude.{Some}
 use Rattle.spool_disk.specs.Changes.{after_all}
-use Rattle.bench.specs.Samples.{IsReady}
+use Rattle.table_samples.specs.Samples.{IsReady}
 use Rattle.bench.proofs.table.record_all.Given as goal
 
 abbrev pub invariant-loop-place : goal.invariant-loop-place
-invariant-loop-place l = IsReady l.table (after_all l.spool.past l.spool.start)
+invariant-loop-place l = IsReady (Some (after_all l.spool.past l.spool.start)) l.table

@@ -1,6 +1,5 @@
--- A message with its cut whose controls have a text, and a table that may be changed, for measuring
--- (own).
-use Rattle.std.specs.Prelude.{◌<◌, ◌≤◌, length, All, FitsSigned}
+-- Messages and cuts whose controls have a text, and tables that may be changed (own).
+use Rattle.std.specs.Prelude.{◌<◌, ◌≤◌, List, Option, length, All, Contains, FitsSigned, IfSome}
 use Rattle.std.specs.Int.{w64}
 use Rattle.mail_base.specs.Limits.{most_rows}
 use Rattle.mail_base.specs.Texts.{IsAddress, IsBracketed, IsHeader, IsLine}
@@ -10,9 +9,9 @@ use Rattle.mail_base.specs.declared.message.Message.{Message}
 use Rattle.qf_format.specs.Valid.{AreKept, IsValid}
 use Rattle.spool_disk.specs.Disk.{FileMap}
 use Rattle.spool_store.specs.Stores.{Agrees, StoreSeen}
+use Rattle.spool_store.specs.declared.held.Held.{Held}
 use Rattle.queue_table.specs.Calls.{AreDirs, store}
 use Rattle.queue_table.specs.declared.table.Table.{Table}
-use Rattle.bench.specs.declared.table.Sample.{Sample}
 
 abbrev pub HasAddress : Draw → Type 0
 HasAddress draw = IsAddress draw.address
@@ -24,21 +23,25 @@ pub record IsSampleCut (cut : Cut) : Type 0 where
   pub few : length cut.rows ≤ most_rows
   pub each : All HasAddress cut.rows
 
+-- those of a message
+pub record AreSampleCuts (cuts : List Cut) : Type 0 where
+  pub some : 0 < length cuts
+  pub each : All IsSampleCut cuts
+
 pub record IsSampleMessage (m : Message) : Type 0 where
   pub class_range : FitsSigned w64 m.class
   pub kept_form : AreKept m.kept
   pub headers_form : All IsHeader m.headers
 
-pub record IsSample (s : Sample) : Type 0 where
-  pub message : IsSampleMessage s.message
-  pub some : 0 < length s.cuts
-  pub cuts : All IsSampleCut s.cuts
-
--- its store has what the files have, among whose directories is that of each group
-pub record IsReady (t : Table) (files : FileMap) : Type 0 where
-  pub agrees : Agrees (store t) files
+-- its store has what the files say that are told, and the directory of each group is one of its own
+pub record IsReady (told : Option FileMap) (t : Table) : Type 0 where
+  pub agrees : IfSome told (Agrees (store t))
   pub dirs : AreDirs t.terms (store t).dirs
 
--- each entry's control has a text
+-- an entry lies in a directory of the queue, and its control has a text
+pub record IsSoundHeld (s : StoreSeen) (h : Held) : Type 0 where
+  pub among : Contains s.dirs h.entry.dir
+  pub valid : IsValid h.entry.control
+
 abbrev pub AreSound : StoreSeen → Type 0
-AreSound s = All (λ h. IsValid h.entry.control) s.entries
+AreSound s = All (IsSoundHeld s) s.entries
