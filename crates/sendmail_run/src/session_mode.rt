@@ -21,7 +21,7 @@ ghost use Rattle.sendmail_run.specs.declared.session_mode.SessionEnd.TheVariants
 use crate::buffer::zeros;
 use crate::site::{host_of, queue_dirs};
 use link_edge::{Floor, Place};
-use mail_base::{Config, NoMemory, StoreFault};
+use mail_base::{Config, MOST_PIECE, NoMemory, StoreFault};
 use mail_core::{Act, Core, CoreStop};
 use mail_edge::Clock;
 use mail_judge::Rules;
@@ -33,10 +33,6 @@ use std::alloc::Global;
 
 /// The most turns of the floor that a run takes.
 pub const MOST_TURNS: u64 = 1 << 60;
-
-/// The bytes that a turn of the floor takes at most. A piece of a message stands in the buffer, as
-/// lines and in the body at once, so that a small one makes a session take less memory.
-const PIECE: usize = 16_384;
 
 /// How session mode ends.
 #[derive(Clone, Copy)]
@@ -80,7 +76,7 @@ pub fn session_mode<D: Spool, L: Floor, C: Clock>(
         (seen (L.seen floor.old) (D.seen spool.old) (C.seen clock.old))
         (seen (L.seen floor.new) (D.seen spool.new) (C.seen clock.new)) result }
 {
-    let Ok(mut buffer) = zeros(alloc, PIECE) else {
+    let Ok(mut buffer) = zeros(alloc, MOST_PIECE) else {
         return SessionEnd::NoMemory;
     };
     serve(alloc, config, maps, spool, floor, clock, &mut buffer)
