@@ -99,12 +99,13 @@ impl<T: Drop> Seq<T> {
 }
 
 impl<T: TryCopy> TryCopy for Seq<T> {
+    // In memory of its own size: a list that grows by itself begins with room for four.
     fn copy(&self) -> Result<Seq<T>, NoMemory> {
-        let mut copied = Seq::new(self.allocator());
+        let mut copied = Vec::with_capacity(self.allocator(), self.len())?;
         for item in self.items() {
             copied.push(item.copy()?)?;
         }
-        Ok(copied)
+        Ok(Seq::from_vec(copied))
     }
 }
 

@@ -24,7 +24,6 @@ mod raises;
 mod recovery;
 mod room;
 mod shelf;
-mod snug;
 mod swept;
 mod verdict;
 

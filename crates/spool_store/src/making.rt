@@ -4,7 +4,6 @@ ghost use Rattle.spool_store.specs.Parts.{entry_of};
 ghost use Rattle.spool_store.specs.Writes.{heir, numbered};
 
 use crate::Part;
-use crate::snug::snug;
 use mail_base::{Draft, Entry, Id, Kind, NoMemory, Parent, Seq, Text, TryCopy};
 use qf_format::print;
 use std::alloc::Global;
@@ -26,7 +25,7 @@ pub(crate) fn part_of(
         }) }
 {
     let dir = draft.dir.copy()?;
-    let mut control = snug(&draft.control)?;
+    let mut control = draft.control.copy()?;
     control.parent = parent;
     let text = print(&control)?;
     let df = Text::of(alloc, id.name(Kind::Df).bytes())?;

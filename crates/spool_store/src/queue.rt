@@ -39,7 +39,6 @@ use crate::parts::put_parcel;
 use crate::raises::{put_raise, put_raised};
 use crate::recovery::reopen;
 use crate::shelf::Shelf;
-use crate::snug::snug;
 use crate::{Held, Parcel, Room, SpoolFault};
 use mail_base::{
     Draft, Entry, Failed, Id, Kind, NoMemory, Parent, Seq, StoreFault, Stray, Text, TryCopy,
@@ -175,7 +174,7 @@ impl Queue {
             (λ r. (r.paper.bytes ≡ []) × (room_of r.control ≤ r.paper.room)) }
     {
         let place = self.shelf.place(*id);
-        let control = snug(&self.shelf.items()[place].entry.control)?;
+        let control = self.shelf.items()[place].entry.control.copy()?;
         let most = room(&control);
         if most == u64::MAX {
             return Err(NoMemory);
