@@ -25,6 +25,11 @@ pub trait Judge {
     /// The test of an answer: whether this is what it says of a question.
     ghost answers: { Self → Question → Said → Type 0 };
 
+    /// What no call changes of it, as the reference by which it reads files.
+    ghost Fixed: { Type 0 } = { Unit {0} };
+
+    ghost fixed: { Self → Self.Fixed };
+
     /// Why a sender is refused, or `None`. A refusal has a code from 400 to 599, a status and a
     /// text within one line.
     fn sender(
@@ -41,7 +46,8 @@ pub trait Judge {
             (AsksSender path.now kept.now) }
         ensures cause { HasJudgeCause (seen self.old).faults (seen self.new).faults result }
         ensures calm { is_calm result ≡ true
-            → (seen self.new).faults ≡ (seen self.old).faults };
+            → (seen self.new).faults ≡ (seen self.old).faults }
+        ensures fixed { fixed self.new ≡ fixed self.old };
 
     /// The rows of a recipient, 1 to 10,000, or why it is refused.
     fn recipient(
@@ -61,5 +67,6 @@ pub trait Judge {
             (AsksRecipient path.now sender.now kept.now) }
         ensures cause { HasJudgeCause (seen self.old).faults (seen self.new).faults result }
         ensures calm { is_calm result ≡ true
-            → (seen self.new).faults ≡ (seen self.old).faults };
+            → (seen self.new).faults ≡ (seen self.old).faults }
+        ensures fixed { fixed self.new ≡ fixed self.old };
 }

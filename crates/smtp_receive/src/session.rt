@@ -97,6 +97,7 @@ impl Session {
             → (J.seen judge.new).faults ≡ (J.seen judge.old).faults }
         ensures steady { IsSteady (J.seen judge.old) (J.seen judge.new) (J.answers judge.old)
             (J.answers judge.new) }
+        ensures fixed { J.fixed judge.new ≡ J.fixed judge.old }
     {
         self.answer(line, config, judge)
     }

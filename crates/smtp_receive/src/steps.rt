@@ -47,6 +47,7 @@ impl Session {
         ensures err { OnErr result (self.new ≡ self.old) }
         ensures uses { Uses (J.seen judge.old) (J.seen judge.new) (J.answers judge.old)
             (J.answers judge.new) result }
+        ensures fixed { J.fixed judge.new ≡ J.fixed judge.old }
     {
         match line {
             Line::Data(text) => match self.data(text.bytes(), config) {
@@ -77,6 +78,7 @@ impl Session {
         ensures err { OnErr result (self.new ≡ self.old) }
         ensures uses { Uses (J.seen judge.old) (J.seen judge.new) (J.answers judge.old)
             (J.answers judge.new) result }
+        ensures fixed { J.fixed judge.new ≡ J.fixed judge.old }
     {
         match line {
             Line::Command(text) => self.command(text.bytes(), config, judge),
@@ -99,6 +101,7 @@ impl Session {
         ensures err { OnErr result (self.new ≡ self.old) }
         ensures uses { Uses (J.seen judge.old) (J.seen judge.new) (J.answers judge.old)
             (J.answers judge.new) result }
+        ensures fixed { J.fixed judge.new ≡ J.fixed judge.old }
     {
         match order(line) {
             Ok(Command::Helo(argument)) => judged(self.helo(argument)),
@@ -217,6 +220,7 @@ impl Session {
         ensures err { OnErr result (self.new ≡ self.old) }
         ensures uses { Uses (J.seen judge.old) (J.seen judge.new) (J.answers judge.old)
             (J.answers judge.new) result }
+        ensures fixed { J.fixed judge.new ≡ J.fixed judge.old }
     {
         let limit = config.options.message_limit();
         match mail_fault(self.sender.is_some(), limit, size) {
@@ -239,6 +243,7 @@ impl Session {
         ensures err { OnErr result (self.new ≡ self.old) }
         ensures uses { Uses (J.seen judge.old) (J.seen judge.new) (J.answers judge.old)
             (J.answers judge.new) result }
+        ensures fixed { J.fixed judge.new ≡ J.fixed judge.old }
     {
         let Ok(sender) = Path::of(self.host.allocator(), path) else {
             return Err(JudgeFault::NoMemory);
@@ -319,6 +324,7 @@ impl Session {
         ensures err { OnErr result (self.new ≡ self.old) }
         ensures uses { Uses (J.seen judge.old) (J.seen judge.new) (J.answers judge.old)
             (J.answers judge.new) result }
+        ensures fixed { J.fixed judge.new ≡ J.fixed judge.old }
     {
         let limit = config.options.recipient_limit();
         match rcpt_fault(self.sender.is_some(), limit, self.count, path) {
@@ -338,6 +344,7 @@ impl Session {
         ensures err { OnErr result (self.new ≡ self.old) }
         ensures uses { Uses (J.seen judge.old) (J.seen judge.new) (J.answers judge.old)
             (J.answers judge.new) result }
+        ensures fixed { J.fixed judge.new ≡ J.fixed judge.old }
     {
         match self.verdict(path, judge) {
             Ok(verdict) => judged(self.take_verdict(verdict)),
@@ -354,6 +361,7 @@ impl Session {
         ensures form { IfOk result (λ verdict. IsFormedSaid (OfRecipient verdict)) }
         ensures uses { Uses (J.seen judge.old) (J.seen judge.new) (J.answers judge.old)
             (J.answers judge.new) result }
+        ensures fixed { J.fixed judge.new ≡ J.fixed judge.old }
     {
         let Ok(recipient) = Path::of(self.host.allocator(), path) else {
             return Err(JudgeFault::NoMemory);
