@@ -1,5 +1,2 @@
-mod DrawnLaws
-mod DrawnLemmas
-mod FormLemmas
 mod JudgeLemmas
 mod LawLemmas

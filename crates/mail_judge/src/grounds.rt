@@ -15,7 +15,7 @@ pub struct Grounds<'a> {
 }
 
 impl<'a> Model for Grounds<'a> {
-    ghost use Rattle.mail_judge.specs.Drawn.{Grounds as TheGrounds};
+    ghost use Rattle.mail_judge.specs.Judged.{Grounds as TheGrounds};
 
     ghost Value = { TheGrounds };
 

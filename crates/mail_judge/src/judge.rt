@@ -1,55 +1,44 @@
-ghost use Rattle.std.specs.Prelude.{◌≡◌, ◌∷◌, [], IfOk, None, codes};
+ghost use Rattle.std.specs.Prelude.{◌≡◌, ℕ, IfOk, Option, None, codes, not};
 ghost use Rattle.mail_base.specs.Texts.{IsBracketed};
+ghost use Rattle.mail_edge.specs.Asking.{Asks};
+ghost use Rattle.mail_edge.specs.Seen.{FileMap};
 ghost use Rattle.addr_route.specs.Checks.{Checks, IsBoundedIf};
-ghost use Rattle.smtp_receive.specs.Judging.{IsFormedSaid, OfRecipient};
+ghost use Rattle.smtp_receive.specs.Judging.{AsksRecipient, IsFormedSaid, OfRecipient, is_calm};
 ghost use Rattle.smtp_receive.specs.SessionMacros.{session_macros};
-ghost use Rattle.mail_judge.specs.Judged.{IsJudged, Judges, row_to, teller};
+ghost use Rattle.mail_judge.specs.Judged.{IsJudged, Judges, answerer_of};
 
+use crate::grounds::Grounds;
 use crate::law::one_judgement;
-use addr_route::{check, route};
-use mail_base::{
-    Config, Draw, JudgeFault, Kept, Macros, NoMemory, Resolved, RouteError, Seq, Text, Triple,
-    TryCopy,
-};
-use map_tables::Maps;
+use crate::refused::refused;
+use addr_route::check;
+use alias_expand::expand;
+use mail_base::{JudgeFault, Kept, Macros, NoMemory, RouteError, Text};
+use mail_edge::Files;
 use smtp_receive::{Judge, Verdict, session_macros};
 use std::alloc::Global;
-use std::marker::Model;
 
 /// What judges the paths of sessions by the rules of a configuration (cf/README, check_mail and
 /// check_rcpt): a sender is accepted or refused by the set check_mail. A recipient is refused by
-/// the set check_rcpt, or by its route as one for which no alias stands; else it goes to one row,
-/// which is itself.
+/// the set check_rcpt; else it goes to the rows that its aliases give it, or is refused where they
+/// give none.
 ///
-/// No call changes it, and it never fails but for want of memory. A contract sees the
-/// configuration and the maps.
+/// No call changes what it says, and it fails where files do that aliases name, or for want of
+/// memory. It tells its answers where the files are told.
 #[derive(Drop)]
-pub struct Rules<'a> {
-    config: &'a Config,
-    maps: &'a Maps,
+pub struct Rules<'a, F: Files> {
+    pub grounds: Grounds<'a>,
+    pub files: &'a mut F,
 }
 
-impl<'a> Model for Rules<'a> {
-    ghost use Rattle.mail_judge.specs.Judged.{Grounds};
+impl<F: Files> Judge for Rules<'_, F> {
+    ghost seen = { λ rules. answerer_of (F.seen rules.files.now) };
 
-    ghost Value = { Grounds };
+    ghost answers = { λ rules. IsJudged rules.grounds (F.seen rules.files.now).map };
 
-    ghost view = { λ r. record { config = r.config.now; maps = r.maps.now } };
-}
+    // The reference to its files, and what these tell.
+    ghost Fixed = { ℕ × Option FileMap };
 
-impl<'a> Rules<'a> {
-    /// The rules of a configuration over its maps. It takes no memory.
-    pub fn new(config: &'a Config, maps: &'a Maps) -> Rules<'a>
-        ensures { result ≡ record { config = config.now; maps = maps.now } }
-    {
-        Rules { config, maps }
-    }
-}
-
-impl Judge for Rules<'_> {
-    ghost seen = { λ rules. teller };
-
-    ghost answers = { λ rules. IsJudged rules.config rules.maps };
+    ghost fixed = { λ rules. (rules.files.ghost_name, (F.seen rules.files.now).map) };
 
     fn sender(
         &mut self,
@@ -59,7 +48,7 @@ impl Judge for Rules<'_> {
     ) -> Result<Option<RouteError>, JudgeFault> {
         // A law: a question has one answer.
         one_judgement();
-        Ok(refusal_of(alloc, self.config, self.maps, path, kept)?)
+        Ok(refusal_of(alloc, &self.grounds, path, kept)?)
     }
 
     fn recipient(
@@ -71,83 +60,99 @@ impl Judge for Rules<'_> {
     ) -> Result<Verdict, JudgeFault> {
         // A law: a question has one answer.
         one_judgement();
-        let macros = session_macros(alloc, self.config, kept, sender)?;
-        Ok(verdict_of(alloc, self.config, self.maps, &macros, path, sender)?)
+        verdict_of(alloc, &self.grounds, self.files, path, sender, kept)
     }
 }
 
 // What the set check_mail says of a sender.
 fn refusal_of(
     alloc: Global,
-    config: &Config,
-    maps: &Maps,
+    grounds: &Grounds,
     path: &Text,
     kept: &Kept,
 ) -> Result<Option<RouteError>, NoMemory>
     requires { IsBracketed path.now }
-    ensures check { IfOk result (Checks config.now maps.now
-        (session_macros config.now kept.now path.now) (codes "check_mail") path.now) }
+    ensures check { IfOk result (Checks grounds.now.config grounds.now.maps
+        (session_macros grounds.now.config kept.now path.now) (codes "check_mail") path.now) }
     ensures bounded { IfOk result IsBoundedIf }
 {
-    let macros = session_macros(alloc, config, kept, path)?;
+    let macros = session_macros(alloc, grounds.config, kept, path)?;
     let set = Text::of(alloc, b"check_mail")?;
-    check(alloc, config, maps, &macros, &set, path)
+    check(alloc, grounds.config, grounds.maps, &macros, &set, path)
 }
 
-// What the set check_rcpt says of a recipient, and where it goes.
-fn verdict_of(
+// What is said of a recipient.
+fn verdict_of<F: Files>(
     alloc: Global,
-    config: &Config,
-    maps: &Maps,
+    grounds: &Grounds,
+    files: &mut F,
+    path: &Text,
+    sender: &Text,
+    kept: &Kept,
+) -> Result<Verdict, JudgeFault>
+    requires path { IsBracketed path.now }
+    requires sender { IsBracketed sender.now }
+    ensures judged { IfOk result (λ verdict. IsJudged grounds.now (F.seen files.old).map
+        (AsksRecipient path.now sender.now kept.now) (OfRecipient verdict)) }
+    ensures form { IfOk result (λ verdict. IsFormedSaid (OfRecipient verdict)) }
+    ensures asks { Asks (F.seen files.old) (F.seen files.new) (not (is_calm result)) }
+{
+    let macros = session_macros(alloc, grounds.config, kept, sender)?;
+    checked(alloc, grounds, files, &macros, path, sender)
+}
+
+// What the set check_rcpt says of a recipient, and the rows that it has.
+fn checked<F: Files>(
+    alloc: Global,
+    grounds: &Grounds,
+    files: &mut F,
     macros: &Macros,
     path: &Text,
     sender: &Text,
-) -> Result<Verdict, NoMemory>
+) -> Result<Verdict, JudgeFault>
     requires path { IsBracketed path.now }
     requires sender { IsBracketed sender.now }
-    ensures judged { IfOk result (Judges config.now maps.now macros.now path.now sender.now) }
+    ensures judged { IfOk result
+        (Judges grounds.now (F.seen files.old).map macros.now path.now sender.now) }
     ensures form { IfOk result (λ verdict. IsFormedSaid (OfRecipient verdict)) }
+    ensures asks { Asks (F.seen files.old) (F.seen files.new) (not (is_calm result)) }
 {
     let set = Text::of(alloc, b"check_rcpt")?;
-    match check(alloc, config, maps, macros, &set, path)? {
+    match check(alloc, grounds.config, grounds.maps, macros, &set, path)? {
         Some(error) => Ok(Verdict::No(error)),
-        None => routed(alloc, config, maps, macros, path, sender),
+        None => drawn(alloc, grounds, files, macros, path, sender),
     }
 }
 
-// Where a recipient goes that is accepted. No alias stands for it.
-fn routed(
+// The rows of a recipient that is accepted.
+fn drawn<F: Files>(
     alloc: Global,
-    config: &Config,
-    maps: &Maps,
+    grounds: &Grounds,
+    files: &mut F,
     macros: &Macros,
     path: &Text,
     sender: &Text,
-) -> Result<Verdict, NoMemory>
+) -> Result<Verdict, JudgeFault>
     requires path { IsBracketed path.now }
     requires sender { IsBracketed sender.now }
-    ensures judged { Checks config.now maps.now macros.now (codes "check_rcpt") path.now None
-        → IfOk result (Judges config.now maps.now macros.now path.now sender.now) }
+    ensures judged { Checks grounds.now.config grounds.now.maps macros.now (codes "check_rcpt")
+        path.now None
+        → IfOk result (Judges grounds.now (F.seen files.old).map macros.now path.now sender.now) }
     ensures form { IfOk result (λ verdict. IsFormedSaid (OfRecipient verdict)) }
+    ensures asks { Asks (F.seen files.old) (F.seen files.new) (not (is_calm result)) }
 {
-    match route(alloc, config, maps, macros, path, true)? {
-        Resolved::Goes(triple) => Ok(Verdict::Rows(row_to(alloc, path, sender, triple)?)),
-        Resolved::Refuses(error) => Ok(Verdict::No(error)),
-    }
-}
-
-// The one row of a recipient that goes.
-fn row_to(alloc: Global, path: &Text, sender: &Text, triple: Triple) -> Result<Seq<Draw>, NoMemory>
-    ensures { IfOk result (λ rows. rows ≡ row_to path.now sender.now triple ∷ []) }
-{
-    let address = path.copy()?;
-    let sender = sender.copy()?;
-    let mut rows = Seq::new(alloc);
-    rows.push(Draw {
-        address,
+    match expand(
+        alloc,
+        grounds.aliases,
+        grounds.homes,
+        grounds.config,
+        grounds.maps,
+        macros,
+        files,
+        path,
         sender,
-        primary: true,
-        resolved: Resolved::Goes(triple),
-    })?;
-    Ok(rows)
+    ) {
+        Ok(rows) => Ok(Verdict::Rows(rows)),
+        Err(refusal) => refused(alloc, refusal),
+    }
 }

@@ -4,7 +4,7 @@ ghost use Rattle.mail_base.specs.declared.draw.Draw.{Draw as TheDraw};
 ghost use Rattle.alias_expand.specs.Rows.{is_files_fault};
 ghost use Rattle.smtp_receive.specs.Judging.{is_calm};
 ghost use Rattle.smtp_receive.specs.declared.judge.Verdict.TheVariants.{No};
-ghost use Rattle.mail_judge.specs.Drawn.{error_of, error_with};
+ghost use Rattle.mail_judge.specs.Judged.{error_of, error_with};
 
 use alias_expand::ExpandRefusal;
 use mail_base::{Cause, JudgeFault, RouteError, Status, Text};

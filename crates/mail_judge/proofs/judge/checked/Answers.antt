@@ -1,5 +1,5 @@
-use Rattle.mail_judge.proofs.DrawnLemmas.{by_check}
-use Rattle.mail_judge.proofs.drawing.checked.Goals as goal
+use Rattle.mail_judge.proofs.JudgeLemmas.{by_check}
+use Rattle.mail_judge.proofs.judge.checked.Goals as goal
 
 pub returns-in-Some-clause-judged : goal.returns-in-Some-clause-judged
 returns-in-Some-clause-judged g c =

@@ -1,5 +1,5 @@
-use Rattle.mail_judge.proofs.DrawnLemmas.{address_form, by_refusal, by_rows, refused_asks, refused_form}
-use Rattle.mail_judge.proofs.drawing.drawn.Goals as goal
+use Rattle.mail_judge.proofs.JudgeLemmas.{address_form, by_refusal, by_rows, refused_asks, refused_form}
+use Rattle.mail_judge.proofs.judge.drawn.Goals as goal
 
 pub returns-in-Ok-clause-judged : goal.returns-in-Ok-clause-judged
 returns-in-Ok-clause-judged g c = λ accepts.

@@ -1,5 +1,0 @@
-use Rattle.mail_judge.proofs.DrawnLaws.{one_said}
-use Rattle.mail_judge.proofs.law.one_drawing.Goals as goal
-
-pub returns : goal.returns
-returns c = λ grounds files question one another a b. one_said c.one_check.ensures c.one_expansion.ensures grounds files question one another a b
