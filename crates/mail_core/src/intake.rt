@@ -250,6 +250,7 @@ impl Intake {
         ensures ready { is_onward result ≡ true → IsReady self.new caller.new config.now maps.now }
         ensures asked { IsAsked (judge_seen (J.seen judge.old) (J.answers judge.old))
             (judge_seen (J.seen judge.new) (J.answers judge.new)) (is_judge_fault result) }
+        ensures fixed { J.fixed judge.new ≡ J.fixed judge.old }
         ensures own { (F.seen floor.new).faults ≡ (F.seen floor.old).faults }
         ensures begun { (F.seen floor.new).begun ≡ (F.seen floor.old).begun }
         ensures calm { is_well result ≡ true
@@ -300,6 +301,7 @@ impl Intake {
         ensures ready { is_onward result ≡ true → IsReady self.new caller.new config.now maps.now }
         ensures asked { IsAsked (judge_seen (J.seen judge.old) (J.answers judge.old))
             (judge_seen (J.seen judge.new) (J.answers judge.new)) (is_judge_fault result) }
+        ensures fixed { J.fixed judge.new ≡ J.fixed judge.old }
         ensures own { (F.seen floor.new).faults ≡ (F.seen floor.old).faults }
         ensures begun { (F.seen floor.new).begun ≡ (F.seen floor.old).begun }
         ensures calm { is_well result ≡ true
@@ -344,6 +346,7 @@ impl Intake {
             self.new caller.new result }
         ensures asked { IsAsked (judge_seen (J.seen judge.old) (J.answers judge.old))
             (judge_seen (J.seen judge.new) (J.answers judge.new)) (is_judge_fault result) }
+        ensures fixed { J.fixed judge.new ≡ J.fixed judge.old }
         ensures own { (F.seen floor.new).faults ≡ (F.seen floor.old).faults }
         ensures begun { (F.seen floor.new).begun ≡ (F.seen floor.old).begun }
         ensures calm { is_well result ≡ true

@@ -137,6 +137,7 @@ impl Core {
             self.new result }
         ensures asked { IsAsked (judge_seen (J.seen judge.old) (J.answers judge.old))
             (judge_seen (J.seen judge.new) (J.answers judge.new)) (is_judge_fault result) }
+        ensures fixed { J.fixed judge.new ≡ J.fixed judge.old }
         ensures own { (F.seen floor.new).faults ≡ (F.seen floor.old).faults }
         ensures begun { (F.seen floor.new).begun ≡ (F.seen floor.old).begun }
         ensures calm { is_well result ≡ true
@@ -171,6 +172,7 @@ impl Core {
             self.new result }
         ensures asked { IsAsked (judge_seen (J.seen judge.old) (J.answers judge.old))
             (judge_seen (J.seen judge.new) (J.answers judge.new)) (is_judge_fault result) }
+        ensures fixed { J.fixed judge.new ≡ J.fixed judge.old }
         ensures own { (F.seen floor.new).faults ≡ (F.seen floor.old).faults }
         ensures begun { (F.seen floor.new).begun ≡ (F.seen floor.old).begun }
         ensures calm { is_well result ≡ true
@@ -307,6 +309,7 @@ impl Core {
             self.new result }
         ensures asked { IsAsked (judge_seen (J.seen judge.old) (J.answers judge.old))
             (judge_seen (J.seen judge.new) (J.answers judge.new)) (is_judge_fault result) }
+        ensures fixed { J.fixed judge.new ≡ J.fixed judge.old }
         ensures own { (F.seen floor.new).faults ≡ (F.seen floor.old).faults }
         ensures begun { (F.seen floor.new).begun ≡ (F.seen floor.old).begun }
         ensures calm { is_well result ≡ true

@@ -25,6 +25,7 @@ invariant-loop-line g l = record {
   number : l.caller.number ≡ l.fn.caller.number;
   reader : l.caller.lines ≡ l.fn.caller.lines;
   asked : IsAsked (judge_seen (g.J.Judge.seen l.fn.judge) (g.J.Judge.answers l.fn.judge)) (judge_seen (g.J.Judge.seen l.judge) (g.J.Judge.answers l.judge)) false;
+  fixed : g.J.Judge.fixed l.judge ≡ g.J.Judge.fixed l.fn.judge;
   own : (g.F.Floor.seen l.floor).faults ≡ (g.F.Floor.seen l.fn.floor).faults;
   begun : (g.F.Floor.seen l.floor).begun ≡ (g.F.Floor.seen l.fn.floor).begun;
   calm : (g.D.Spool.seen l.spool).faults ≡ (g.D.Spool.seen l.fn.spool).faults;

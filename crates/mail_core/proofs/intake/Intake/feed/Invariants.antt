@@ -24,6 +24,7 @@ invariant-answers g l = record {
   ready : IsReady l.self l.caller l.config l.maps;
   moment : l.self.moment ≡ l.fn.self.moment;
   asked : IsAsked (judge_seen (g.J.Judge.seen l.fn.judge) (g.J.Judge.answers l.fn.judge)) (judge_seen (g.J.Judge.seen l.judge) (g.J.Judge.answers l.judge)) false;
+  fixed : g.J.Judge.fixed l.judge ≡ g.J.Judge.fixed l.fn.judge;
   own : (g.F.Floor.seen l.floor).faults ≡ (g.F.Floor.seen l.fn.floor).faults;
   begun : (g.F.Floor.seen l.floor).begun ≡ (g.F.Floor.seen l.fn.floor).begun;
   calm : (g.D.Spool.seen l.spool).faults ≡ (g.D.Spool.seen l.fn.spool).faults;
