@@ -19,6 +19,7 @@ returns g c = record {
       turns_of _ site m _ c.args.reading before _ _ clock read _ _ _ st.on taken
       (c.handle.ensures.steps site (at_moment m c.args.reading) read under (at_stands site m c.args.self.now c.at.new.self c.args.reading st c.at.ensures.moment c.at.ensures.range));
   asked = c.handle.ensures.asked;
+  fixed = c.handle.ensures.fixed;
   own = c.handle.ensures.own;
   begun = c.handle.ensures.begun;
   calm = c.handle.ensures.calm;
