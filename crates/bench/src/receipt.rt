@@ -53,6 +53,8 @@ impl Judge for Willing {
 
     ghost answers = { λ _ _ _. Unit {0} };
 
+    ghost fixed = { λ _. tt };
+
     fn sender(
         &mut self,
         _alloc: Global,

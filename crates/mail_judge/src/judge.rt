@@ -26,14 +26,14 @@ use std::alloc::Global;
 /// memory. It tells its answers where the files are told.
 #[derive(Drop)]
 pub struct Rules<'a, F: Files> {
-    pub grounds: Grounds<'a>,
+    pub grounds: &'a Grounds<'a>,
     pub files: &'a mut F,
 }
 
 impl<F: Files> Judge for Rules<'_, F> {
     ghost seen = { λ rules. answerer_of (F.seen rules.files.now) };
 
-    ghost answers = { λ rules. IsJudged rules.grounds (F.seen rules.files.now).map };
+    ghost answers = { λ rules. IsJudged rules.grounds.now (F.seen rules.files.now).map };
 
     // The reference to its files, and what these tell.
     ghost Fixed = { ℕ × Option FileMap };
@@ -48,7 +48,7 @@ impl<F: Files> Judge for Rules<'_, F> {
     ) -> Result<Option<RouteError>, JudgeFault> {
         // A law: a question has one answer.
         one_judgement();
-        Ok(refusal_of(alloc, &self.grounds, path, kept)?)
+        Ok(refusal_of(alloc, self.grounds, path, kept)?)
     }
 
     fn recipient(
@@ -60,7 +60,7 @@ impl<F: Files> Judge for Rules<'_, F> {
     ) -> Result<Verdict, JudgeFault> {
         // A law: a question has one answer.
         one_judgement();
-        verdict_of(alloc, &self.grounds, self.files, path, sender, kept)
+        verdict_of(alloc, self.grounds, self.files, path, sender, kept)
     }
 }
 

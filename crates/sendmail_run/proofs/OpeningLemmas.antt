@@ -39,7 +39,7 @@ use Rattle.mail_core.proofs.SparingLemmas.{LeavesStrange, sparing_opening}
 use Rattle.sendmail_run.specs.declared.outcome.Outcome.TheVariants as outcomes
 use Rattle.sendmail_run.specs.declared.session_mode.SessionEnd.{SessionEnd}
 use Rattle.sendmail_run.specs.declared.session_mode.SessionEnd.TheVariants as ends
-use Rattle.sendmail_run.specs.inner.Opened.{IsFound}
+use Rattle.sendmail_run.specs.inner.Opened.{IsFound, has_lost_files}
 use Rattle.sendmail_run.specs.Outcomes.{of_session}
 use Rattle.sendmail_run.specs.Rises.{RisesOnlyAt}
 use Rattle.sendmail_run.specs.Serving.{IsTakenOver, IsUnserved, Serves, from_id, host_of, session_site}
@@ -87,14 +87,20 @@ pub untouched : (site : Site) (s : Spooled) (floor : Heard) (clock : ClockSeen) 
 untouched site s floor clock = unserved site s s floor clock (taken_none site.dirs s) (le_refl s.faults)
 
 -- a fault of the opening ends session mode so
-pub serves_unopened : (j : JudgeSeen) (site : Site) (s t : Spooled) (floor : Heard) (clock : ClockSeen) (fault : StoreFault) (end : SessionEnd) → (fault ≡ faults.SpoolFault → end ≡ ends.NotOpened) → (fault ≢ faults.SpoolFault → end ≡ ends.NoMemory)
-    → IsTakenOver site.dirs s t → s.faults ≤ t.faults → (IsErrOf {T = Queue} (Err fault) faults.SpoolFault → Rose s.faults t.faults) → Serves j site (seen floor s clock) (seen floor t clock) end
-serves_unopened j site s t floor clock faults.SpoolFault end broke memory taken later rose =
-    subst (Serves j site (seen floor s clock) (seen floor t clock)) (sym (broke refl)) (unserved site s t floor clock taken later, rose refl)
-serves_unopened j site s t floor clock faults.IdsSpent end broke memory taken later rose =
-    subst (Serves j site (seen floor s clock) (seen floor t clock)) (sym (memory (λ e. cc e))) (unserved site s t floor clock taken later)
-serves_unopened j site s t floor clock faults.NoMemory end broke memory taken later rose =
-    subst (Serves j site (seen floor s clock) (seen floor t clock)) (sym (memory (λ e. cc e))) (unserved site s t floor clock taken later)
+pub serves_unopened : (j : JudgeSeen) (count : ℕ) (site : Site) (s t : Spooled) (floor : Heard) (clock : ClockSeen) (fault : StoreFault) (end : SessionEnd) → (fault ≡ faults.SpoolFault → end ≡ ends.NotOpened) → (fault ≢ faults.SpoolFault → end ≡ ends.NoMemory)
+    → IsTakenOver site.dirs s t → s.faults ≤ t.faults → (IsErrOf {T = Queue} (Err fault) faults.SpoolFault → Rose s.faults t.faults) → Serves j count site (seen floor s clock) (seen floor t clock) end
+serves_unopened j count site s t floor clock faults.SpoolFault end broke memory taken later rose =
+    subst (Serves j count site (seen floor s clock) (seen floor t clock)) (sym (broke refl)) (unserved site s t floor clock taken later, rose refl)
+serves_unopened j count site s t floor clock faults.IdsSpent end broke memory taken later rose =
+    subst (Serves j count site (seen floor s clock) (seen floor t clock)) (sym (memory (λ e. cc e))) (unserved site s t floor clock taken later)
+serves_unopened j count site s t floor clock faults.NoMemory end broke memory taken later rose =
+    subst (Serves j count site (seen floor s clock) (seen floor t clock)) (sym (memory (λ e. cc e))) (unserved site s t floor clock taken later)
+
+-- no files were asked then
+pub quiet_by : (fault : StoreFault) (end : SessionEnd) → (fault ≡ faults.SpoolFault → end ≡ ends.NotOpened) → (fault ≢ faults.SpoolFault → end ≡ ends.NoMemory) → has_lost_files end ≡ false
+quiet_by faults.SpoolFault end broke memory = ap has_lost_files (broke refl)
+quiet_by faults.IdsSpent end broke memory = ap has_lost_files (memory (λ e. cc e))
+quiet_by faults.NoMemory end broke memory = ap has_lost_files (memory (λ e. cc e))
 
 -- and only a fault of the spool raises the count of its faults
 pub rises_by : (before after : ℕ) (fault : StoreFault) (end : SessionEnd) → (fault ≡ faults.SpoolFault → end ≡ ends.NotOpened) → IsErrOf {T = Queue} (Err fault) faults.SpoolFault ⊎ (after ≡ before) → RisesOnlyAt outcomes.SpoolFault (of_session end) before after

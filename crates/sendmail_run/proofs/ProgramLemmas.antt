@@ -50,7 +50,8 @@ use Rattle.sendmail_run.specs.Outcomes.{of_aliases, of_config, of_maps, of_sessi
 use Rattle.sendmail_run.specs.Printing.{Basis, basis}
 use Rattle.sendmail_run.specs.Rises.{Counts, RisesOnlyAt}
 use Rattle.sendmail_run.specs.Runs.{Completes, Ends, EndsAtFile, EndsAtMaps, EndsAtWords, EndsAtWork, Finds, IsReady, IsShort, IsSound, IsUntouched, IsWhole, NoneFailed, Stays, Works}
-use Rattle.sendmail_run.specs.Serving.{IsServedOut, Serves, judge_by, session_site}
+use Rattle.sendmail_run.specs.Serving.{IsServedOut, Serves, grounds_of, judge_by, session_site}
+use Rattle.sendmail_run.specs.inner.Opened.{has_lost_files}
 use Rattle.sendmail_run.specs.Testing.{IsLarge, Tests}
 use Rattle.sendmail_run.proofs.CommandLemmas.{one_mode, not_both}
 use Rattle.sendmail_run.proofs.ServingLemmas.{left_alone, serves_later}
@@ -118,17 +119,31 @@ loads_names config f0 f1 (Err (alias_faults.Refused name line)) told asks = told
 loads_names config f0 f1 (Err alias_faults.FilesFault) told asks = asks.rose refl
 loads_names config f0 f1 (Err alias_faults.NoMemory) told asks = tt
 
+loaded_names : (config : Config) (f0 f1 : FilesSeen) (names : Names) → IfSome f0.map (λ map. alias_loading.Gives (Ok names) (names_by map config)) → LoadsNames config f0 f1 (Ok names)
+loaded_names config f0 f1 names told = told
+
 -- session mode whose aliases aren't loaded ends with the outcome of this fault
 pub works_at_aliases : (f0 f1 : FilesSeen) (i : SourceSeen) (o : SinkSeen) (l : Heard) (s : Spooled) (k : ClockSeen) (config : Config) (maps : Loaded) (fault : AliasesFault) (outcome : Outcome) → outcome ≡ of_aliases fault
     → IfSome f0.map (λ map. alias_loading.Gives {V = Names} (Err fault) (names_by map config)) → Asks f0 f1 (alias_loading.is_files_fault {V = Names} (Err fault)) → Works Session config maps (world f0 i o l s k) (world f1 i o l s k) outcome
 works_at_aliases f0 f1 i o l s k config maps fault outcome told given asks =
     inl (record { fault = fault; told = told; loads = loads_names config f0 f1 (Err fault) given asks; untouched = untouched f0 f1 i o l s k })
 
+-- files that were asked for aliases and homes, and didn't fail, are as they were
+names_same : (f0 f1 : FilesSeen) → Asks f0 f1 false → f1 ≡ f0
+names_same f0 f1 asks = λ i. record { map = asks.fixed i; faults = asks.calm refl i }
+
 -- session mode ends with the outcome of its end
-pub works_served : (f0 f1 : FilesSeen) (i : SourceSeen) (o : SinkSeen) (l0 l1 : Heard) (s0 s1 : Spooled) (k0 k1 : ClockSeen) (config : Config) (maps : Loaded) (names : Names) (how : SessionEnd) (outcome : Outcome) → outcome ≡ of_session how
-    → IfSome f0.map (λ map. alias_loading.Gives (Ok names) (names_by map config)) → Asks f0 f1 false → Serves (judge_by config maps) (session_site config maps) (core_seen l0 s0 k0) (core_seen l1 s1 k1) how → Works Session config maps (world f0 i o l0 s0 k0) (world f1 i o l1 s1 k1) outcome
-works_served f0 f1 i o l0 l1 s0 s1 k0 k1 config maps names how outcome told given asks serves =
-    inr (record { names = names; loads = loads_names config f0 f1 (Ok names) given asks; how = how; told = told; serves = serves; idle = record { input = refl; output = refl } })
+pub works_served : (f0 f1 f2 : FilesSeen) (i : SourceSeen) (o : SinkSeen) (l0 l1 : Heard) (s0 s1 : Spooled) (k0 k1 : ClockSeen) (config : Config) (maps : Loaded) (names : Names) (how : SessionEnd) (outcome : Outcome) → outcome ≡ of_session how
+    → IfSome f0.map (λ map. alias_loading.Gives (Ok names) (names_by map config)) → Asks f0 f1 false → Serves (judge_by (grounds_of config maps names) f1) f2.faults (session_site config maps) (core_seen l0 s0 k0) (core_seen l1 s1 k1) how → Works Session config maps (world f0 i o l0 s0 k0) (world f2 i o l1 s1 k1) outcome
+works_served f0 f1 f2 i o l0 l1 s0 s1 k0 k1 config maps names how outcome told given asks serves =
+    inr (record {
+      names = names;
+      loads = loaded_names config f0 f2 names given;
+      how = how;
+      told = told;
+      serves = subst (λ (f : FilesSeen). Serves (judge_by (grounds_of config maps names) f) f2.faults (session_site config maps) (core_seen l0 s0 k0) (core_seen l1 s1 k1) how) (names_same f0 f1 asks) serves;
+      idle = record { input = refl; output = refl };
+    })
 
 -- files that are as they were at the start of the run
 same_files : (f0 f1 f2 : FilesSeen) → f1.map ≡ f0.map → f1.faults ≡ f0.faults → Asks f1 f2 false → f2 ≡ f0
@@ -213,14 +228,27 @@ pub stays_at_aliases : (f0 f1 : FilesSeen) (i : SourceSeen) (o : SinkSeen) (l : 
 stays_at_aliases f0 f1 i o l s k fault outcome told asks =
     stays_at_file f0 f1 i o l s k outcome asks.fixed (counts outcomes.FilesFault outcome (of_aliases fault) f0.faults f1.faults told asks.later (aliases_rise f0 f1 fault asks))
 
--- session mode leaves the files, and counts a fault of floor or spool only where it ended by it
-pub stays_served : (j : JudgeSeen) (site : Site) (f0 f1 : FilesSeen) (i : SourceSeen) (o : SinkSeen) (l0 l1 : Heard) (s0 s1 : Spooled) (k0 k1 : ClockSeen) (how : SessionEnd) (outcome : Outcome) → outcome ≡ of_session how
-    → Asks f0 f1 false → Serves j site (core_seen l0 s0 k0) (core_seen l1 s1 k1) how → RisesOnlyAt outcomes.FloorFault (of_session how) l0.faults l1.faults → RisesOnlyAt outcomes.SpoolFault (of_session how) s0.faults s1.faults
-    → Stays (world f0 i o l0 s0 k0) (world f1 i o l1 s1 k1) outcome
-stays_served j site f0 f1 i o l0 l1 s0 s1 k0 k1 how outcome told asks serves floor spool =
-    let no_less = serves_later j site (core_seen l0 s0 k0) (core_seen l1 s1 k1) how serves in record {
-      map = asks.fixed;
-      files = record { later = asks.later; rises = inr (asks.calm refl) };
+-- a count that rises in the files that the judge reads
+session_rises : (f0 f1 : FilesSeen) (how : SessionEnd) → Asks f0 f1 (has_lost_files how) → RisesOnlyAt outcomes.FilesFault (of_session how) f0.faults f1.faults
+session_rises f0 f1 session_ends.NotOpened asks = inr (asks.calm refl)
+session_rises f0 f1 session_ends.NoMemory asks = inr (asks.calm refl)
+session_rises f0 f1 session_ends.FloorFault asks = inr (asks.calm refl)
+session_rises f0 f1 session_ends.Stopped asks = inr (asks.calm refl)
+session_rises f0 f1 (session_ends.Over stops.SpoolFault) asks = inr (asks.calm refl)
+session_rises f0 f1 (session_ends.Over stops.IdsSpent) asks = inr (asks.calm refl)
+session_rises f0 f1 (session_ends.Over stops.FilesFault) asks = inl refl
+session_rises f0 f1 (session_ends.TurnsSpent count) asks = inr (asks.calm refl)
+
+-- session mode leaves the files, and counts a fault of files, floor or spool only where it ended by
+-- it
+pub stays_served : (j : JudgeSeen) (site : Site) (f0 f1 f2 : FilesSeen) (i : SourceSeen) (o : SinkSeen) (l0 l1 : Heard) (s0 s1 : Spooled) (k0 k1 : ClockSeen) (how : SessionEnd) (outcome : Outcome) → outcome ≡ of_session how
+    → Asks f0 f1 false → Asks f1 f2 (has_lost_files how) → Serves j f2.faults site (core_seen l0 s0 k0) (core_seen l1 s1 k1) how → RisesOnlyAt outcomes.FloorFault (of_session how) l0.faults l1.faults → RisesOnlyAt outcomes.SpoolFault (of_session how) s0.faults s1.faults
+    → Stays (world f0 i o l0 s0 k0) (world f2 i o l1 s1 k1) outcome
+stays_served j site f0 f1 f2 i o l0 l1 s0 s1 k0 k1 how outcome told asks lost serves floor spool =
+    let no_less = serves_later j f2.faults site (core_seen l0 s0 k0) (core_seen l1 s1 k1) how serves in
+    let since : Asks f0 f2 (has_lost_files how) = subst (λ (f : FilesSeen). Asks f f2 (has_lost_files how)) (names_same f0 f1 asks) lost in record {
+      map = since.fixed;
+      files = counts outcomes.FilesFault outcome (of_session how) f0.faults f2.faults told since.later (session_rises f0 f2 how since);
       input = same_count outcomes.ReadFault outcome i.faults;
       output = same_count outcomes.WriteFault outcome o.faults;
       floor = counts outcomes.FloorFault outcome (of_session how) l0.faults l1.faults told no_less.floor floor;
@@ -309,23 +337,24 @@ aliases_whole config before after map (alias_faults.Refused name line) told none
 aliases_whole config before after map alias_faults.FilesFault told none sound is = absurd (sound is)
 aliases_whole config before after map alias_faults.NoMemory told none sound is = inr (inl refl)
 
-over_whole : (j : JudgeSeen) (site : Site) (before after : World) (stop : CoreStop) → NoneFailed Session before after → (is_judge_fault {T = Act} (Err stop) ≡ false) × IsServedOut j site (core_of before) (core_of after) (Err stop) → IsWhole Session (of_session (session_ends.Over stop))
-over_whole j site before after stops.SpoolFault sound is = absurd (sound.1 (is.1.over.run.ended SpoolFault refl).cause)
-over_whole j site before after stops.IdsSpent sound is = inr (inr (inl refl))
-over_whole j site before after stops.FilesFault sound is = absurd (cc (is.0))
+over_whole : (j : JudgeSeen) (site : Site) (before after : World) (stop : CoreStop) → j.answerer.faults ≡ before.files.faults → IsSound Session before after
+    → (is_judge_fault {T = Act} (Err stop) ≡ true → Rose j.answerer.faults after.files.faults) × IsServedOut j site (core_of before) (core_of after) (Err stop) → IsWhole Session (of_session (session_ends.Over stop))
+over_whole j site before after stops.SpoolFault same sound is = absurd (sound.own.1 (is.1.over.run.ended SpoolFault refl).cause)
+over_whole j site before after stops.IdsSpent same sound is = inr (inr (inl refl))
+over_whole j site before after stops.FilesFault same sound is = absurd (sound.files (subst (λ (n : ℕ). Rose n after.files.faults) same (is.0 refl)))
 
-session_whole : (j : JudgeSeen) (site : Site) (before after : World) (how : SessionEnd) → NoneFailed Session before after → Serves j site (core_of before) (core_of after) how → IsWhole Session (of_session how)
-session_whole j site before after session_ends.NotOpened sound is = absurd (sound.1 is.1)
-session_whole j site before after session_ends.NoMemory sound is = inr (inl refl)
-session_whole j site before after session_ends.FloorFault sound is = absurd (sound.0 is.rose)
-session_whole j site before after session_ends.Stopped sound is = inl refl
-session_whole j site before after (session_ends.Over stop) sound is = over_whole j site before after stop sound is
-session_whole j site before after (session_ends.TurnsSpent count) sound is = inr (inr (inr (ap (λ (n : ℕ). outcomes.TurnsSpent n) is.0)))
+session_whole : (j : JudgeSeen) (site : Site) (before after : World) (how : SessionEnd) → j.answerer.faults ≡ before.files.faults → IsSound Session before after → Serves j after.files.faults site (core_of before) (core_of after) how → IsWhole Session (of_session how)
+session_whole j site before after session_ends.NotOpened same sound is = absurd (sound.own.1 is.1)
+session_whole j site before after session_ends.NoMemory same sound is = inr (inl refl)
+session_whole j site before after session_ends.FloorFault same sound is = absurd (sound.own.0 is.rose)
+session_whole j site before after session_ends.Stopped same sound is = inl refl
+session_whole j site before after (session_ends.Over stop) same sound is = over_whole j site before after stop same sound is
+session_whole j site before after (session_ends.TurnsSpent count) same sound is = inr (inr (inr (ap (λ (n : ℕ). outcomes.TurnsSpent n) is.0)))
 
 work_whole : (map : FileMap) (config : Config) (maps : Loaded) (before after : World) (job : Job) (outcome : Outcome) → before.files.map ≡ Some map → Finds job map config before → IsSound job before after → Works job config maps before after outcome → IsWhole job outcome
 work_whole map config maps before after Test outcome told finds sound is = subst (λ (o : Outcome). IsWhole Test o) (sym is.told) (lines_whole (basis config maps) before after is.how finds sound.own is.tests)
 work_whole map config maps before after Session outcome told finds sound (inl is) = subst (λ (o : Outcome). IsWhole Session o) (sym is.told) (aliases_whole config before after map is.fault told finds sound.files is.loads)
-work_whole map config maps before after Session outcome told finds sound (inr is) = subst (λ (o : Outcome). IsWhole Session o) (sym is.told) (session_whole (judge_by config maps) (session_site config maps) before after is.how sound.own is.serves)
+work_whole map config maps before after Session outcome told finds sound (inr is) = subst (λ (o : Outcome). IsWhole Session o) (sym is.told) (session_whole (judge_by (grounds_of config maps is.names) before.files) (session_site config maps) before after is.how refl sound is.serves)
 
 -- what a run's end says of a run that is ready
 complete_at_words : (words : List (List ℕ)) (before after : World) (outcome : Outcome) → EndsAtWords words before after outcome → Completes words before after outcome

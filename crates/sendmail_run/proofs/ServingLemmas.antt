@@ -1,9 +1,11 @@
 -- How session mode goes on and ends.
 use Rattle.std.proofs.Common.{◌≡◌, ℕ, ◌+◌, ◌<◌, ◌≤◌, ◌^◌, List, [], ◌∷◌, Option, Some, None, Result, Ok, Err, Bool, true, false, refl, sym, ◌∙◌, ap, subst, arith, inl, inr}
 use Rattle.std.specs.Prelude.{IfSome}
+use Rattle.std.proofs.Math.Nat.{le_refl}
 use Rattle.mail_base.specs.Histories.{Gains, Rose}
 use Rattle.mail_base.specs.declared.config.Config.{Config}
-use Rattle.mail_edge.specs.Seen.{ClockSeen}
+use Rattle.mail_edge.specs.Asking.{Asks}
+use Rattle.mail_edge.specs.Seen.{ClockSeen, FilesSeen}
 use Rattle.link_edge.specs.Heard.{Heard}
 use Rattle.link_edge.specs.Sessions.{Follows, is_sound, is_among}
 use Rattle.link_edge.specs.Turns.{told_of}
@@ -26,8 +28,8 @@ use Rattle.mail_core.specs.declared.serving.Act.TheVariants.{Ended, Went}
 use Rattle.mail_core.specs.declared.serving.CoreStop.{CoreStop}
 use Rattle.mail_core.specs.declared.serving.CoreStop.TheVariants as stops
 use Rattle.map_tables.specs.Answers.{Loaded}
-use Rattle.mail_judge.specs.Judged.{Grounds, IsJudged, teller}
-use Rattle.mail_core.specs.Judges.{JudgeSeen, judge_seen}
+use Rattle.mail_judge.specs.Judged.{Grounds}
+use Rattle.mail_core.specs.Judges.{JudgeSeen}
 use Rattle.mail_core.specs.Sites.{IsUnder, Site}
 use Rattle.mail_core.specs.Causes.{is_well}
 use Rattle.mail_core.specs.Events.{IsTaken, IsHeardAt, Turns, event_of}
@@ -160,12 +162,12 @@ served j site core n a b begun only going = record {
 }
 
 -- the floor failed
-pub serves_lost : (j : JudgeSeen) (site : Site) (core : Core) (n : ℕ) (a b : Seen) → IsBegun a b → OnlyNow a → n ≤ 2 ^ 60 → IsGoing j site core n a b → Rose a.floor.faults b.floor.faults → Serves j site a b ends.FloorFault
-serves_lost j site core n a b begun only few going rose = record { count = n; few = few; served = served j site core n a b begun only going; rose = rose }
+pub serves_lost : (j : JudgeSeen) (faults : ℕ) (site : Site) (core : Core) (n : ℕ) (a b : Seen) → IsBegun a b → OnlyNow a → n ≤ 2 ^ 60 → IsGoing j site core n a b → Rose a.floor.faults b.floor.faults → Serves j faults site a b ends.FloorFault
+serves_lost j faults site core n a b begun only few going rose = record { count = n; few = few; served = served j site core n a b begun only going; rose = rose }
 
 -- all turns were taken
-pub serves_spent : (j : JudgeSeen) (site : Site) (core : Core) (n most : ℕ) (a b : Seen) → IsBegun a b → OnlyNow a → n ≡ most → most ≡ 2 ^ 60 → IsGoing j site core n a b → Serves j site a b (ends.TurnsSpent most)
-serves_spent j site core n most a b begun only all is going = (is, served j site core most a b begun only (subst (λ (q : ℕ). IsGoing j site core q a b) all going))
+pub serves_spent : (j : JudgeSeen) (faults : ℕ) (site : Site) (core : Core) (n most : ℕ) (a b : Seen) → IsBegun a b → OnlyNow a → n ≡ most → most ≡ 2 ^ 60 → IsGoing j site core n a b → Serves j faults site a b (ends.TurnsSpent most)
+serves_spent j faults site core n most a b begun only all is going = (is, served j site core most a b begun only (subst (λ (q : ℕ). IsGoing j site core q a b) all going))
 
 -- a turn ended the run
 pub served_out : (j i : JudgeSeen) (site : Site) (core new : Core) (n : ℕ) (a b c : Seen) (event : Event) (reading : ℕ) (went : Result Act CoreStop) → IsBegun a c → OnlyNow a → n < 2 ^ 60 → IsGoing j site core n a b
@@ -195,13 +197,13 @@ served_later : (j : JudgeSeen) (site : Site) (n : ℕ) (a b : Seen) → IsServed
 served_later j site n a b is = record { floor = is.over.run.headline.floor_faults; spool = is.over.run.headline.spool_faults }
 
 -- what session mode leaves behind is no less than what was there
-pub serves_later : (j : JudgeSeen) (site : Site) (a b : Seen) (how : SessionEnd) → Serves j site a b how → IsNoLess a b
-serves_later j site a b ends.NotOpened is = unserved_later site a b is.0
-serves_later j site a b ends.NoMemory is = unserved_later site a b is
-serves_later j site a b ends.FloorFault is = served_later j site is.count a b is.served
-serves_later j site a b ends.Stopped is = out_later j site a b (Ok Ended) is
-serves_later j site a b (ends.Over stop) is = out_later j site a b (Err stop) is.1
-serves_later j site a b (ends.TurnsSpent count) is = served_later j site count a b is.1
+pub serves_later : (j : JudgeSeen) (faults : ℕ) (site : Site) (a b : Seen) (how : SessionEnd) → Serves j faults site a b how → IsNoLess a b
+serves_later j faults site a b ends.NotOpened is = unserved_later site a b is.0
+serves_later j faults site a b ends.NoMemory is = unserved_later site a b is
+serves_later j faults site a b ends.FloorFault is = served_later j site is.count a b is.served
+serves_later j faults site a b ends.Stopped is = out_later j site a b (Ok Ended) is
+serves_later j faults site a b (ends.Over stop) is = out_later j site a b (Err stop) is.1
+serves_later j faults site a b (ends.TurnsSpent count) is = served_later j site count a b is.1
 
 -- the count of the spool rises in a turn only where the spool's fault ends the run
 pub spool_ended : (stop : CoreStop) (first before now : ℕ) → before ≡ first → (is_well {T = Act} (Err stop) ≡ true → now ≡ before) → RisesOnlyAt outcomes.SpoolFault (of_session (ends.Over stop)) first now
@@ -209,11 +211,25 @@ spool_ended stops.SpoolFault first before now same calm = inl refl
 spool_ended stops.IdsSpent first before now same calm = inr (calm refl ∙ same)
 spool_ended stops.FilesFault first before now same calm = inr (calm refl ∙ same)
 
--- a judge that counts no fault never fails
-pub never_failed : (failed : Bool) → (failed ≡ true → Rose 0 0) → failed ≡ false
-never_failed true rose = let no : 1 ≤ 0 = rose refl in absurd (omega (arith, no))
-never_failed false rose = refl
+-- ---- the files that the judge reads
 
--- the rules of a configuration judge by it
-pub judge_new : (config : Config) (maps : Loaded) (rules : Grounds) → rules ≡ record { config = config; maps = maps } → IsAlike (judge_by config maps) (judge_seen teller (IsJudged rules.config rules.maps))
-judge_new config maps rules is = subst (λ (r : Grounds). IsAlike (judge_by config maps) (judge_seen teller (IsJudged r.config r.maps))) (sym is) (alike_itself (judge_by config maps))
+-- files that are as they were make the same judge
+pub alike_files : (grounds : Grounds) (f g : FilesSeen) → g ≡ f → IsAlike (judge_by grounds f) (judge_by grounds g)
+alike_files grounds f g same = subst (λ (h : FilesSeen). IsAlike (judge_by grounds f) (judge_by grounds h)) (sym same) (alike_itself (judge_by grounds f))
+
+-- files that didn't fail are as they were
+pub files_same : (f g h : FilesSeen) → g ≡ f → Asks g h false → h ≡ f
+files_same f g h same asks = (λ i. record { map = asks.fixed i; faults = asks.calm refl i }) ∙ same
+
+-- files that were as at the start were asked since
+pub files_since : (f g h : FilesSeen) (failed : Bool) → g ≡ f → Asks g h failed → Asks f h failed
+files_since f g h failed same asks = subst (λ (x : FilesSeen). Asks x h failed) same asks
+
+-- files that are as they were didn't fail
+pub files_kept : (f g : FilesSeen) (failed : Bool) → failed ≡ false → g ≡ f → Asks f g failed
+files_kept f g failed none same = subst (λ (b : Bool). Asks f g b) (sym none) (subst (λ (x : FilesSeen). Asks f x false) (sym same)
+    (record { fixed = refl; later = le_refl f.faults; rose = λ e. absurd (cc e); calm = λ e. refl }))
+
+-- what a judge's faults are is what its files' are
+pub files_asked : (f g : FilesSeen) (failed : Bool) → g.map ≡ f.map → f.faults ≤ g.faults → (failed ≡ true → Rose f.faults g.faults) → (failed ≡ false → g.faults ≡ f.faults) → Asks f g failed
+files_asked f g failed fixed later rose calm = record { fixed = fixed; later = later; rose = rose; calm = calm }

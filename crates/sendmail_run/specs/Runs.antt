@@ -25,7 +25,7 @@ use Rattle.sendmail_run.specs.MapFiles.{Loads, first_missing}
 use Rattle.sendmail_run.specs.Outcomes.{of_aliases, of_config, of_maps, of_session, of_test, of_words}
 use Rattle.sendmail_run.specs.Printing.{basis}
 use Rattle.sendmail_run.specs.Rises.{Counts}
-use Rattle.sendmail_run.specs.Serving.{IsLeftAlone, Serves, judge_by, session_site}
+use Rattle.sendmail_run.specs.Serving.{IsLeftAlone, Serves, grounds_of, judge_by, session_site}
 use Rattle.sendmail_run.specs.Testing.{Tests}
 
 -- ---- how a run ends
@@ -96,8 +96,8 @@ pub record HasServed (config : Config) (maps : Loaded) (before after : World)
   pub loads : LoadsNames config before.files after.files (Ok names)
   pub how : SessionEnd
   pub told : outcome ≡ of_session how
-  pub serves : Serves (judge_by config maps) (session_site config maps) (core_of before) (core_of after)
-      how
+  pub serves : Serves (judge_by (grounds_of config maps names) before.files) after.files.faults
+      (session_site config maps) (core_of before) (core_of after) how
   pub idle : IsIdle (streams_of before) (streams_of after)
 
 -- how the work of a mode ends

@@ -15,10 +15,11 @@ use Rattle.spool_store.specs.Openings.{IsNext}
 use Rattle.spool_store.specs.Settled.{StandsFor}
 use Rattle.spool_store.specs.Tidying.{IsTidied}
 use Rattle.map_tables.specs.Answers.{Loaded}
+use Rattle.mail_edge.specs.Seen.{FilesSeen}
 use Rattle.mail_core.specs.Causes.{is_judge_fault}
 use Rattle.mail_core.specs.Judges.{JudgeSeen, judge_seen}
 use Rattle.mail_core.specs.Sites.{Site}
-use Rattle.mail_judge.specs.Judged.{IsJudged, teller}
+use Rattle.mail_judge.specs.Judged.{Grounds, IsJudged, answerer_of}
 use Rattle.mail_core.specs.declared.serving.Act.{Act}
 use Rattle.mail_core.specs.declared.serving.Act.TheVariants.{Ended}
 use Rattle.mail_core.specs.declared.serving.CoreStop.{CoreStop}
@@ -26,6 +27,7 @@ use Rattle.mail_core.specs.Machine.{Turn}
 use Rattle.mail_core.specs.Runs.{Headline, IsEnded, run_over}
 use Rattle.mail_core.specs.Seen.{Seen}
 use Rattle.queue_table.specs.Directories.{all_dirs, terms_of}
+use Rattle.sendmail_run.specs.declared.aliases.Names.{Names}
 use Rattle.sendmail_run.specs.declared.session_mode.SessionEnd.{SessionEnd}
 use Rattle.sendmail_run.specs.declared.session_mode.SessionEnd.TheVariants as ends
 
@@ -44,9 +46,14 @@ session_site config maps =
       maps = maps;
     }
 
--- who judges the paths of sessions: the rules of the configuration over its maps
-abbrev pub judge_by : Config → Loaded → JudgeSeen
-judge_by config maps = judge_seen teller (IsJudged config maps)
+-- what the paths of sessions are judged by: the configuration, its maps, aliases and homes
+abbrev pub grounds_of : Config → Loaded → Names → Grounds
+grounds_of config maps names =
+    record { config = config; maps = maps; aliases = names.aliases; homes = names.homes }
+
+-- who judges them, by files that aliases and homes name: what it says is told where they are
+abbrev pub judge_by : Grounds → FilesSeen → JudgeSeen
+judge_by grounds files = judge_seen (answerer_of files) (IsJudged grounds files.map)
 
 -- the floor, the spool and the clock are as before
 pub record IsLeftAlone (a b : Seen) : Type 0 where
@@ -123,12 +130,16 @@ pub record HasLostFloor (j : JudgeSeen) (site : Site) (a b : Seen) : Type 0 wher
   pub served : IsServed j site count a b
   pub rose : Rose a.floor.faults b.floor.faults
 
--- how session mode ends; the judge never fails
-abbrev pub Serves : JudgeSeen → Site → Seen → Seen → SessionEnd → Type 0
-Serves j site a b ends.NotOpened = IsUnserved site a b × Rose a.spool.faults b.spool.faults
-Serves j site a b ends.NoMemory = IsUnserved site a b
-Serves j site a b ends.FloorFault = HasLostFloor j site a b
-Serves j site a b ends.Stopped = IsServedOut j site a b (Ok Ended)
-Serves j site a b (ends.Over stop) =
-    (is_judge_fault {T = Act} (Err stop) ≡ false) × IsServedOut j site a b (Err stop)
-Serves j site a b (ends.TurnsSpent count) = (count ≡ 2 ^ 60) × IsServed j site count a b
+-- how session mode ends, where the judge has counted so many faults then: by a fault of the judge
+-- only where its count rose
+abbrev pub Serves : JudgeSeen → ℕ → Site → Seen → Seen → SessionEnd → Type 0
+Serves j faults site a b ends.NotOpened =
+    IsUnserved site a b × Rose a.spool.faults b.spool.faults
+Serves j faults site a b ends.NoMemory = IsUnserved site a b
+Serves j faults site a b ends.FloorFault = HasLostFloor j site a b
+Serves j faults site a b ends.Stopped = IsServedOut j site a b (Ok Ended)
+Serves j faults site a b (ends.Over stop) =
+    (is_judge_fault {T = Act} (Err stop) ≡ true → Rose j.answerer.faults faults)
+    × IsServedOut j site a b (Err stop)
+Serves j faults site a b (ends.TurnsSpent count) =
+    (count ≡ 2 ^ 60) × IsServed j site count a b

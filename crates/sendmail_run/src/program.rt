@@ -133,11 +133,11 @@ fn session<F: Files, D: Spool, L: Floor, C: Clock>(
         (C.seen clock.new))
         result }
 {
-    let _names = match load_names(alloc, config, files) {
+    let names = match load_names(alloc, config, files) {
         Ok(names) => names,
         Err(fault) => return Outcome::of_aliases(fault),
     };
-    Outcome::of_session(session_mode(alloc, config, maps, spool, floor, clock))
+    Outcome::of_session(session_mode(alloc, config, maps, &names, files, spool, floor, clock))
 }
 
 // The configuration that the file of that name gives.

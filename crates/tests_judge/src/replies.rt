@@ -2,7 +2,7 @@
 use crate::worlds::{World, files_of, world_of};
 use mail_base::{JudgeFault, NoMemory, Text};
 use mail_edge::MemFiles;
-use mail_judge::{Rules, Grounds};
+use mail_judge::{Grounds, Rules};
 use smtp_lines::Line;
 use smtp_receive::{Did, Session};
 use std::alloc::Global;
@@ -43,7 +43,10 @@ fn said_at(
     command: &[u8],
 ) -> Result<Heard, NoMemory> {
     let grounds = Grounds::new(&world.config, &world.maps, &world.aliases, &world.homes);
-    let mut judge = Rules { grounds, files };
+    let mut judge = Rules {
+        grounds: &grounds,
+        files,
+    };
     let line = Line::Command(Text::of(alloc, command)?);
     match session.line(&line, &world.config, &mut judge) {
         Ok(Did::Reply(text)) => Ok(Heard::Replied(text)),

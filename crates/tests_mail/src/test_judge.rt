@@ -40,6 +40,8 @@ impl Judge for TestJudge {
 
     ghost answers = { λ _ _ _. Unit {0} };
 
+    ghost fixed = { λ _. tt };
+
     fn sender(
         &mut self,
         alloc: Global,

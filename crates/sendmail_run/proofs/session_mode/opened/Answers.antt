@@ -2,7 +2,7 @@ use Rattle.std.proofs.Common.{Err, ap, ◌∙◌}
 use Rattle.mail_base.specs.declared.fault.StoreFault.{StoreFault}
 use Rattle.spool_store.specs.Keepers.{seen as queue_seen}
 use Rattle.sendmail_run.specs.Serving.{judge_by, session_site}
-use Rattle.sendmail_run.proofs.OpeningLemmas.{found_of, no_maps, rises_by, serves_unopened, sparing_of, taken_none, taken_of, unserved, untouched}
+use Rattle.sendmail_run.proofs.OpeningLemmas.{found_of, no_maps, quiet_by, rises_by, serves_unopened, sparing_of, taken_none, taken_of, unserved, untouched}
 use Rattle.sendmail_run.proofs.session_mode.opened.Goals as goal
 
 -- there is no memory for the directories
@@ -10,7 +10,7 @@ pub returns-in_default-clause-taken : goal.returns-in_default-clause-taken
 returns-in_default-clause-taken g c = taken_none (session_site c.args.config.now no_maps).dirs (g.D.Spool.seen c.args.spool.now)
 
 pub returns-in_default-clause-serves : goal.returns-in_default-clause-serves
-returns-in_default-clause-serves g c = λ maps floor clock. untouched (session_site c.args.config.now maps) (g.D.Spool.seen c.args.spool.now) floor clock
+returns-in_default-clause-serves g c = λ maps grounds files faults floor clock. untouched (session_site c.args.config.now maps) (g.D.Spool.seen c.args.spool.now) floor clock
 
 -- the queue isn't opened
 pub not_opened-requires : goal.not_opened-requires
@@ -20,9 +20,12 @@ pub returns-in-Err-clause-taken : goal.returns-in-Err-clause-taken
 returns-in-Err-clause-taken g c = taken_of (session_site c.args.config.now no_maps) (g.D.Spool.seen c.args.spool.now) (g.D.Spool.seen c.open.new.spool) c.in-Ok.dirs c.in-Ok.ensures.is c.in-Err.ensures.stands c.in-Err.ensures.tidied
 
 pub returns-in-Err-clause-serves : goal.returns-in-Err-clause-serves
-returns-in-Err-clause-serves g c = λ maps floor clock.
-    serves_unopened (judge_by c.args.config.now maps) (session_site c.args.config.now maps) (g.D.Spool.seen c.args.spool.now) (g.D.Spool.seen c.open.new.spool) floor clock c.in-Err.fault c.not_opened.result c.not_opened.ensures.broke c.not_opened.ensures.memory
+returns-in-Err-clause-serves g c = λ maps grounds files faults floor clock.
+    serves_unopened (judge_by grounds files) faults (session_site c.args.config.now maps) (g.D.Spool.seen c.args.spool.now) (g.D.Spool.seen c.open.new.spool) floor clock c.in-Err.fault c.not_opened.result c.not_opened.ensures.broke c.not_opened.ensures.memory
     (taken_of (session_site c.args.config.now maps) (g.D.Spool.seen c.args.spool.now) (g.D.Spool.seen c.open.new.spool) c.in-Ok.dirs c.in-Ok.ensures.is c.in-Err.ensures.stands c.in-Err.ensures.tidied) c.in-Err.ensures.later c.in-Err.ensures.cause
+
+pub returns-in-Err-clause-quiet : goal.returns-in-Err-clause-quiet
+returns-in-Err-clause-quiet g c = quiet_by c.in-Err.fault c.not_opened.result c.not_opened.ensures.broke c.not_opened.ensures.memory
 
 pub returns-in-Err-clause-rises : goal.returns-in-Err-clause-rises
 returns-in-Err-clause-rises g c = rises_by (g.D.Spool.seen c.args.spool.now).faults (g.D.Spool.seen c.open.new.spool).faults c.in-Err.fault c.not_opened.result c.not_opened.ensures.broke c.in-Err.ensures.calm
@@ -54,6 +57,6 @@ pub returns-clause-taken : goal.returns-clause-taken
 returns-clause-taken g c = taken_of (session_site c.args.config.now no_maps) (g.D.Spool.seen c.args.spool.now) (g.D.Spool.seen c.open.new.spool) c.in-Ok.dirs c.in-Ok.ensures.is c.in-Ok-open.ensures.stands c.in-Ok-open.ensures.tidied
 
 pub returns-clause-serves : goal.returns-clause-serves
-returns-clause-serves g c = λ maps floor clock.
+returns-clause-serves g c = λ maps grounds files faults floor clock.
     unserved (session_site c.args.config.now maps) (g.D.Spool.seen c.args.spool.now) (g.D.Spool.seen c.open.new.spool) floor clock
     (taken_of (session_site c.args.config.now maps) (g.D.Spool.seen c.args.spool.now) (g.D.Spool.seen c.open.new.spool) c.in-Ok.dirs c.in-Ok.ensures.is c.in-Ok-open.ensures.stands c.in-Ok-open.ensures.tidied) c.in-Ok-open.ensures.later
