@@ -34,7 +34,7 @@ use Rattle.mail_core.specs.Judges.{JudgeSeen, Says}
 use Rattle.mail_core.specs.Meant.{IsMadeAt, IsMeant, IsSaidAt}
 use Rattle.mail_core.specs.inner.Going.{IsMessageMeant, said_in, heard_chosen, id_chosen, way_after, Does, Hears, AnswersLine, AnswersMessage, IsAnswered, message_by, is_onward, is_granted, is_short}
 use Rattle.mail_core.specs.Guests.{grants_of, has_bytes_left, is_passed, with_line, lines_heard}
-use Rattle.mail_core.specs.Machine.{Choice, Normal, OutOfMemory, Disconnects, SpoolFails, JudgeFails, FilesFault, GoesOn, Cut, Did, answer_by, limit_of, question_here, is_over, says, closes, fails, replies, by_choice, heard_line, heard_where, id_by, is_answered, accepts, commits, By, IdsSpent, SpoolFault, fresh_start}
+use Rattle.mail_core.specs.Machine.{Choice, Normal, OutOfMemory, Disconnects, SpoolFails, JudgeFails, GoesOn, Cut, Did, answer_by, limit_of, question_here, is_over, says, closes, fails, replies, by_choice, heard_line, heard_where, id_by, is_answered, accepts, commits, By, IdsSpent, SpoolFault, fresh_start}
 use Rattle.mail_core.specs.Messages.{is_spent}
 use Rattle.mail_core.specs.Seen.{Seen, seen}
 use Rattle.mail_core.specs.Standing.{Serves, Talks}

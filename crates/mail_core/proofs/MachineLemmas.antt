@@ -1,10 +1,11 @@
 -- Each step of the machine does effects that lead from its table to the next, and says the final
--- 250 of entries alone.
+-- 250 of messages that it put in alone.
 use Rattle.std.proofs.Common.{◌≡◌, ℕ, List, [], ◌∷◌, ◌++◌, Bool, true, false, Option, Some, None, ◌+◌, ◌<◌, ◌≤◌, map, arith, refl, sym, ◌∙◌, ap, subst, append_assoc}
-use Rattle.std.specs.Prelude.{◌||◌, Contains, if◌then◌else◌, nat_le, length, max, fold, is_some}
+use Rattle.std.specs.Prelude.{All, ◌||◌, Contains, if◌then◌else◌, nat_le, length, max, fold, is_some}
 use Rattle.std.specs.List.{list_any}
 use Rattle.std.proofs.lemmas.List.{append-nil}
-use Rattle.std.proofs.lemmas.List.Elements.{All-head, Contains-push, Contains-append_left, Contains-append_right}
+use Rattle.std.proofs.Math.Seq.{drop-append_seam}
+use Rattle.std.proofs.lemmas.List.Elements.{All-cons, All-contains, All-head, All-nil, All-tail, Contains-append_left, Contains-append_right}
 use Rattle.std.proofs.lemmas.Bool.{ltb-false}
 use Rattle.mail_base.specs.Limits.{IsId}
 use Rattle.link_edge.specs.declared.event.Event.{Event}
@@ -19,8 +20,10 @@ use Rattle.smtp_receive.specs.Replies.{text_of, refusal_text, grant_text, hello_
 use Rattle.smtp_receive.proofs.JudgeLemmas.{said_formed}
 use Rattle.smtp_receive.proofs.FinalLemmas.{told_final, greeting_final, memory_final, sessions_final, same_id}
 use Rattle.spool_store.specs.Entries.{Stored, Table}
-use Rattle.spool_store.specs.Writes.{children_of, stored}
-use Rattle.mail_base.specs.States.{is_dead, is_open}
+use Rattle.spool_store.specs.Writes.{children_of, head_of, heir, numbered, stored}
+use Rattle.mail_base.specs.States.{NeedsBody, is_dead, is_open}
+use Rattle.mail_base.specs.declared.control.Draft.{Draft}
+use Rattle.mail_base.specs.declared.control.Parent.{Parent}
 use Rattle.mail_base.specs.declared.draw.Draw.{Draw}
 use Rattle.queue_table.specs.Commands.{Command, after, draft_of, drafts_of, new_row}
 use Rattle.queue_table.specs.Commands.Command.{Accept, Record, Return, Warn}
@@ -33,7 +36,7 @@ use Rattle.mail_core.proofs.WayLemmas.{goes_keeps}
 use Rattle.mail_core.specs.Judges.{JudgeSeen}
 use Rattle.mail_core.specs.Meant.{AreMeant, ArePieceMeant, IsEventMeant, IsMadeAt, IsMeant, IsRunMeant}
 use Rattle.mail_core.specs.Messages.{Made, accept_of, headed, is_spent, last_id}
-use Rattle.mail_core.specs.Runs.{HasEntry, IsAcked, AreAcked}
+use Rattle.mail_core.specs.Runs.{AreAcked, HasEntry, HasMessage, IsAcked, latest_by, put_by}
 use Rattle.mail_core.specs.Seen.{table_after}
 use Rattle.mail_core.proofs.PartLemmas.{cuts_taken}
 use Rattle.mail_core.proofs.RanLemmas.{table_more}
@@ -60,10 +63,11 @@ abbrev pub AreTaking : List Effect → Type 0
 AreTaking [] = Unit {0}
 AreTaking (effect ∷ effects) = IsTaking effect × AreTaking effects
 
--- effects that lead from a table to another; each final 250 is of an entry where F is so
+-- effects that lead from a table to another; each final 250 is of the message that was put
+-- in last where F is so
 pub record Leads (F : Type 0) (old new : Table) (effects : List Effect) : Type 0 where
   pub table : new ≡ table_after old effects
-  pub acked : F → AreAcked old effects
+  pub acked : F → (latest : List Stored) → AreAcked latest old effects
   pub taking : AreTaking effects
 
 -- what was done has grown
@@ -75,14 +79,17 @@ pub record Grows (F : Type 0) (d e : Did) : Type 0 where
 
 -- ---- effects join
 
-pub acked_join : (table : Table) (xs ys : List Effect) → AreAcked table xs → AreAcked (table_after table xs) ys → AreAcked table (xs ++ ys)
-acked_join table [] ys h k = k
-acked_join table (x ∷ xs) ys h k = (h.0, acked_join (table_after table (x ∷ [])) xs ys h.1 (subst (λ t. AreAcked t ys) (table_more table (x ∷ []) xs) k))
+pub acked_join : (latest : List Stored) (table : Table) (xs ys : List Effect) → AreAcked latest table xs → ((other : List Stored) → AreAcked other (table_after table xs) ys) → AreAcked latest table (xs ++ ys)
+acked_join latest table [] ys h k = k latest
+acked_join latest table (x ∷ xs) ys h k = (
+  h.0,
+  acked_join (latest_by latest table x) (table_after table (x ∷ [])) xs ys h.1 (λ other. subst (λ t. AreAcked other t ys) (table_more table (x ∷ []) xs) (k other)),
+)
 
--- where each final 250 is of an entry, so it is at the front of the effects
-pub acked_front : (table : Table) (xs ys : List Effect) → AreAcked table (xs ++ ys) → AreAcked table xs
-acked_front table [] ys h = tt
-acked_front table (x ∷ xs) ys h = (h.0, acked_front (table_after table (x ∷ [])) xs ys h.1)
+-- where each final 250 is of a message, so it is at the front of the effects
+pub acked_front : (latest : List Stored) (table : Table) (xs ys : List Effect) → AreAcked latest table (xs ++ ys) → AreAcked latest table xs
+acked_front latest table [] ys h = tt
+acked_front latest table (x ∷ xs) ys h = (h.0, acked_front (latest_by latest table x) (table_after table (x ∷ [])) xs ys h.1)
 
 pub taking_join : (xs ys : List Effect) → AreTaking xs → AreTaking ys → AreTaking (xs ++ ys)
 taking_join [] ys h k = k
@@ -94,12 +101,12 @@ taking_front [] ys h = tt
 taking_front (x ∷ xs) ys h = (h.0, taking_front xs ys h.1)
 
 pub leads_none : (F : Type 0) (table : Table) → Leads F table table []
-leads_none F table = record { table = refl; acked = λ f. tt; taking = tt }
+leads_none F table = record { table = refl; acked = λ f latest. tt; taking = tt }
 
 pub leads_join : (F G H : Type 0) → (H → F) → (H → G) → (one two three : Table) (xs ys : List Effect) → Leads F one two xs → Leads G two three ys → Leads H one three (xs ++ ys)
 leads_join F G H to_f to_g one two three xs ys h k = record {
   table = k.table ∙ ap (λ t. table_after t ys) h.table ∙ sym (table_more one xs ys);
-  acked = λ f. acked_join one xs ys (h.acked (to_f f)) (subst (λ t. AreAcked t ys) h.table (k.acked (to_g f)));
+  acked = λ f latest. acked_join latest one xs ys (h.acked (to_f f) latest) (λ other. subst (λ t. AreAcked other t ys) h.table (k.acked (to_g f) other));
   taking = taking_join xs ys h.taking k.taking;
 }
 
@@ -130,9 +137,9 @@ entry_stays id table (HangsUp session ∷ effects) are h = entry_stays id table 
 
 -- ---- texts
 
--- a text that isn't final asks for no entry
-unlike_final : (table : Table) (session : ℕ) (text : List ℕ) (whole : Bool) → (IsFinal text → ⊥) → IsAcked table (Sends session text whole)
-unlike_final table session text whole not_final = λ id within is. absurd (not_final (id, is))
+-- a text that isn't final asks for no message
+unlike_final : (latest : List Stored) (table : Table) (session : ℕ) (text : List ℕ) (whole : Bool) → (IsFinal text → ⊥) → IsAcked latest table (Sends session text whole)
+unlike_final latest table session text whole not_final = λ id within is. absurd (not_final (id, is))
 
 -- where no id is wanting, there is one for the first part
 unspent : (table : Table) (made : Made) → is_spent table made ≡ false → table.next ≤ last_id
@@ -147,31 +154,53 @@ rows_open : (rows : List Draw) → 0 < length rows → list_any (λ row. is_open
 rows_open [] h = absurd (omega (arith, h))
 rows_open (row ∷ rows) h = refl
 
--- the final 250 of the next id, where it is taken, is of the first part
-entry_of : (site : Site) (moment : ℕ) (table : Table) (message : Message) (made : Made) (cuts : List Part) (session : ℕ) (whole : Bool) → is_spent table made ≡ false → made.cuts ≡ cuts → AreCuts cuts → IsAcked (after table (accept_of site moment message made)) (Sends session (stored_text table.next) whole)
-entry_of site moment table message made [] session whole left are some = absurd (let none = some.some in omega (arith, none))
-entry_of site moment table message made (cut ∷ cuts) session whole left are some = λ id within is.
+-- the body of each part is wanted
+parts_need : (site : Site) (message : Message) (moment id : ℕ) (head : Parent) (cuts : List Part) → All (λ (c : Part). 0 < length c.rows) cuts → All (λ (s : Stored). NeedsBody s.control) (numbered id message.body (map (heir head) (drafts_of (terms_at site) message moment cuts)))
+parts_need site message moment id head [] h = All-nil (λ (s : Stored). NeedsBody s.control)
+parts_need site message moment id head (cut ∷ cuts) h =
+    All-cons (λ (s : Stored). NeedsBody s.control) (stored id message.body (heir head (draft_of (terms_at site) message moment cut))) (numbered (id + 1) message.body (map (heir head) (drafts_of (terms_at site) message moment cuts)))
+    (rows_open cut.rows (All-head (λ (c : Part). 0 < length c.rows) cut cuts h)) (parts_need site message moment (id + 1) head cuts (All-tail (λ (c : Part). 0 < length c.rows) cut cuts h))
+
+-- the final 250 of the next id, where it is taken, is of the message that is put in
+message_of : (site : Site) (moment : ℕ) (table : Table) (message : Message) (made : Made) (cuts : List Part) (session : ℕ) (whole : Bool) → is_spent table made ≡ false → made.cuts ≡ cuts → AreCuts cuts
+    → IsAcked (put_by table (accept_of site moment message made)) (after table (accept_of site moment message made)) (Sends session (stored_text table.next) whole)
+message_of site moment table message made [] session whole left are some = absurd (let none = some.some in omega (arith, none))
+message_of site moment table message made (cut ∷ cuts) session whole left are some = λ id within is.
     let now : Message = headed made.first message in
-    let s : Stored = stored table.next message.body (draft_of (terms_at site) now moment cut) in
-    let later : List Stored = children_of table.next (drafts_of (terms_at site) now moment cuts) (draft_of (terms_at site) now moment cut) message.body None in
-    subst (λ (q : List Part). HasEntry (after table (Accept (terms_at site) now q moment)) id) (sym are) (record {
-      stored = s;
-      among = Contains-append_right table.entries (s ∷ later) s (Contains-append_left (s ∷ []) later s (Contains-push [] s));
-      id_is = same_id table.next id (next_is_id table made left) within is;
-      wanted = rows_open cut.rows (All-head (λ (c : Part). 0 < length c.rows) cut cuts some.each);
-    })
+    let head : Draft = draft_of (terms_at site) now moment cut in
+    let s : Stored = stored table.next message.body head in
+    let later : List Stored = children_of table.next (drafts_of (terms_at site) now moment cuts) head message.body None in
+    let needs : All (λ (e : Stored). NeedsBody e.control) (s ∷ later) =
+    All-cons (λ (e : Stored). NeedsBody e.control) s later (rows_open cut.rows (All-head (λ (c : Part). 0 < length c.rows) cut cuts some.each))
+    (parts_need site now moment (table.next + 1) (head_of table.next head None) cuts (All-tail (λ (c : Part). 0 < length c.rows) cut cuts some.each)) in
+    subst (λ (q : List Part). HasMessage (after table (Accept (terms_at site) now q moment)) (put_by table (Accept (terms_at site) now q moment)) id) (sym are)
+    (subst (λ (q : List Stored). HasMessage (after table (Accept (terms_at site) now (cut ∷ cuts) moment)) q id) (sym (drop-append_seam table.entries (s ∷ later))) (record {
+      first = same_id table.next id (next_is_id table made left) within is;
+      each = λ e among. record {
+        stored = e;
+        among = Contains-append_right table.entries (s ∷ later) e among;
+        id_is = refl;
+        wanted = All-contains (λ (q : Stored). NeedsBody q.control) (s ∷ later) e needs among;
+      };
+    }))
 
 -- ---- single effects
 
-speech_leads : (F : Type 0) (table : Table) (session : ℕ) (text : List ℕ) (whole : Bool) → (F → (w : Bool) → IsAcked table (Sends session text w)) → Leads F table table (speech session text whole)
-speech_leads F table session text true acked = record { table = refl; acked = λ f. (acked f true, tt); taking = (tt, tt) }
-speech_leads F table session text false acked = record { table = refl; acked = λ f. (acked f false, (tt, tt)); taking = (tt, (tt, tt)) }
+speech_leads : (F : Type 0) (table : Table) (session : ℕ) (text : List ℕ) (whole : Bool) → (F → (latest : List Stored) (w : Bool) → IsAcked latest table (Sends session text w)) → Leads F table table (speech session text whole)
+speech_leads F table session text true acked = record { table = refl; acked = λ f latest. (acked f latest true, tt); taking = (tt, tt) }
+speech_leads F table session text false acked = record { table = refl; acked = λ f latest. (acked f latest false, (tt, tt)); taking = (tt, (tt, tt)) }
 
-last_leads : (F : Type 0) (table : Table) (session : ℕ) (text : List ℕ) (whole : Bool) → (F → IsAcked table (Sends session text whole)) → Leads F table table (Sends session text whole ∷ HangsUp session ∷ [])
-last_leads F table session text whole acked = record { table = refl; acked = λ f. (acked f, (tt, tt)); taking = (tt, (tt, tt)) }
+last_leads : (F : Type 0) (table : Table) (session : ℕ) (text : List ℕ) (whole : Bool) → (F → (latest : List Stored) → IsAcked latest table (Sends session text whole)) → Leads F table table (Sends session text whole ∷ HangsUp session ∷ [])
+last_leads F table session text whole acked = record { table = refl; acked = λ f latest. (acked f latest, (tt, tt)); taking = (tt, (tt, tt)) }
 
 hang_leads : (F : Type 0) (table : Table) (session : ℕ) → Leads F table table (HangsUp session ∷ [])
-hang_leads F table session = record { table = refl; acked = λ f. (tt, tt); taking = (tt, tt) }
+hang_leads F table session = record { table = refl; acked = λ f latest. (tt, tt); taking = (tt, tt) }
+
+-- a message is put in, and then its 250 said
+accept_leads : (F : Type 0) (table : Table) (command : Command) (session : ℕ) (text : List ℕ) (whole : Bool) → IsAccept command → (F → (w : Bool) → IsAcked (put_by table command) (after table command) (Sends session text w))
+    → Leads F table (after table command) (Commits command ∷ speech session text whole)
+accept_leads F table command session text true is acked = record { table = refl; acked = λ f latest. (tt, (acked f true, tt)); taking = (is, (tt, tt)) }
+accept_leads F table command session text false is acked = record { table = refl; acked = λ f latest. (tt, (acked f false, (tt, tt))); taking = (is, (tt, (tt, tt))) }
 
 -- ---- what is done for a session
 
@@ -189,16 +218,16 @@ grows_join F G H to_f to_g d e x h k = record {
 does_grows : (F : Type 0) (d : Did) (effects : List Effect) (way : Way) → Leads F d.table d.table effects → Grows F d (does d effects way)
 does_grows F d effects way leads = record { more = effects; effects = refl; leads = leads; number = refl }
 
-says_grows : (F : Type 0) (d : Did) (text : List ℕ) (whole : Bool) → (F → (w : Bool) → IsAcked d.table (Sends d.guest.number text w)) → Grows F d (says d text whole)
+says_grows : (F : Type 0) (d : Did) (text : List ℕ) (whole : Bool) → (F → (latest : List Stored) (w : Bool) → IsAcked latest d.table (Sends d.guest.number text w)) → Grows F d (says d text whole)
 says_grows F d text whole acked = does_grows F d (speech d.guest.number text whole) (way_of whole) (speech_leads F d.table d.guest.number text whole acked)
 
 -- the same of a text that isn't final
 tells_grows : (F : Type 0) (d : Did) (text : List ℕ) (whole : Bool) → (F → IsFinal text → ⊥) → Grows F d (says d text whole)
-tells_grows F d text whole not_final = says_grows F d text whole (λ f w. unlike_final d.table d.guest.number text w (not_final f))
+tells_grows F d text whole not_final = says_grows F d text whole (λ f latest w. unlike_final latest d.table d.guest.number text w (not_final f))
 
 closes_grows : (F : Type 0) (d : Did) (text : List ℕ) (whole : Bool) → (F → IsFinal text → ⊥) → Grows F d (closes d text whole)
 closes_grows F d text whole not_final = does_grows F d (Sends d.guest.number text whole ∷ HangsUp d.guest.number ∷ []) Leaves
-    (last_leads F d.table d.guest.number text whole (λ f. unlike_final d.table d.guest.number text whole (not_final f)))
+    (last_leads F d.table d.guest.number text whole (λ f latest. unlike_final latest d.table d.guest.number text whole (not_final f)))
 
 over_grows : (F : Type 0) (d : Did) (finish : Finish) → Grows F d (is_over d finish)
 over_grows F d finish = does_grows F d [] (Over finish) (leads_none F d.table)
@@ -210,7 +239,7 @@ commits_grows : (F : Type 0) (site : Site) (moment : ℕ) (d : Did) (message : M
 commits_grows F site moment d message made = record {
   more = Commits (accept_of site moment message made) ∷ [];
   effects = refl;
-  leads = record { table = refl; acked = λ f. (tt, tt); taking = (tt, tt) };
+  leads = record { table = refl; acked = λ f latest. (tt, tt); taking = (tt, tt) };
   number = refl;
 }
 
@@ -218,9 +247,12 @@ accepts_by : (F : Type 0) (site : Site) (moment : ℕ) (d : Did) (message : Mess
     → Grows F d (if spent then is_over d (By IdsSpent) else says (commits site moment d message made) (stored_text d.table.next) whole)
 accepts_by F site moment d message made whole true e some = over_grows F d (By IdsSpent)
 accepts_by F site moment d message made whole false e some =
-    let c = commits site moment d message made in
-    grows_join F F F (λ f. f) (λ f. f) d c (says c (stored_text d.table.next) whole) (commits_grows F site moment d message made)
-    (says_grows F c (stored_text d.table.next) whole (λ f w. entry_of site moment d.table message made made.cuts d.guest.number w e refl (some f e)))
+    let command : Command = accept_of site moment message made in record {
+      more = Commits command ∷ speech d.guest.number (stored_text d.table.next) whole;
+      effects = append_assoc d.effects (Commits command ∷ []) (speech d.guest.number (stored_text d.table.next) whole);
+      leads = accept_leads F d.table command d.guest.number (stored_text d.table.next) whole tt (λ f w. message_of site moment d.table message made made.cuts d.guest.number w e refl (some f e));
+      number = refl;
+    }
 
 -- a message is accepted, and its id told
 stores_grows : (F : Type 0) (site : Site) (moment : ℕ) (d : Did) (message : Message) (made : Made) (whole : Bool) → (F → is_spent d.table made ≡ false → AreCuts made.cuts) → Grows F d (accepts site moment d message made whole)
@@ -337,15 +369,15 @@ still_steps : (F : Type 0) (m : State) → Steps F m.table (still m)
 still_steps F m = leads_none F m.table
 
 away_steps : (F : Type 0) (m : State) (session : ℕ) (choice : Opening) → Steps F m.table (turned_away m session choice)
-away_steps F m session (Replied whole) = last_leads F m.table session too_many_sessions_text whole (λ f. unlike_final m.table session too_many_sessions_text whole sessions_final)
+away_steps F m session (Replied whole) = last_leads F m.table session too_many_sessions_text whole (λ f latest. unlike_final latest m.table session too_many_sessions_text whole sessions_final)
 away_steps F m session Dropped = leads_none F m.table
 
-greeted : (site : Site) (table : Table) (session : ℕ) (whole : Bool) → IsAcked table (Sends session (greeting_text (shown_host site.host)) whole)
-greeted site table session whole = unlike_final table session (greeting_text (shown_host site.host)) whole (greeting_final (shown_host site.host))
+greeted : (site : Site) (latest : List Stored) (table : Table) (session : ℕ) (whole : Bool) → IsAcked latest table (Sends session (greeting_text (shown_host site.host)) whole)
+greeted site latest table session whole = unlike_final latest table session (greeting_text (shown_host site.host)) whole (greeting_final (shown_host site.host))
 
 welcome_steps : (F : Type 0) (site : Site) (m : State) (session : ℕ) (peer : List ℕ) (choice : Opening) → Steps F m.table (welcomed site m session peer choice)
-welcome_steps F site m session peer (Replied true) = speech_leads F m.table session (greeting_text (shown_host site.host)) true (λ f. greeted site m.table session)
-welcome_steps F site m session peer (Replied false) = speech_leads F m.table session (greeting_text (shown_host site.host)) false (λ f. greeted site m.table session)
+welcome_steps F site m session peer (Replied true) = speech_leads F m.table session (greeting_text (shown_host site.host)) true (λ f latest. greeted site latest m.table session)
+welcome_steps F site m session peer (Replied false) = speech_leads F m.table session (greeting_text (shown_host site.host)) false (λ f latest. greeted site latest m.table session)
 welcome_steps F site m session peer Dropped = hang_leads F m.table session
 
 opened_steps : (F : Type 0) (site : Site) (m : State) (session : ℕ) (peer : List ℕ) (choice : Opening) → Steps F m.table (opened site m session peer choice)
@@ -373,7 +405,7 @@ handled_steps j site m Rests none = leads_none (Unit {0}) m.table
 handled_steps j site m Stops none = leads_none (Unit {0}) m.table
 
 taken_steps : (F : Type 0) (table : Table) (turn : Turn) (step : Step) → Steps F table step → Steps F table (taken turn step)
-taken_steps F table turn step h = record { table = h.table; acked = λ f. (tt, (tt, h.acked f)); taking = (tt, (tt, h.taking)) }
+taken_steps F table turn step h = record { table = h.table; acked = λ f latest. (tt, (tt, h.acked f latest)); taking = (tt, (tt, h.taking)) }
 
 -- the effects of a step lead to its table
 stepped_leads : (j : JudgeSeen) (site : Site) (m : State) (turn : Turn) → Leads (IsEventMeant j site (at_moment m turn.reading) turn.event turn.choices) m.table (stepped site m turn).state.table (stepped site m turn).effects

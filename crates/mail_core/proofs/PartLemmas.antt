@@ -1,6 +1,6 @@
 -- What is made of a message that is taken in, and groups of one line.
-use Rattle.std.proofs.Common.{◌≡◌, ◌⊎◌, ℕ, ◌+◌, ◌<◌, ◌≤◌, List, [], ◌∷◌, ◌++◌, length, take, get_or, Option, None, Result, Ok, Err, sym, ◌∙◌, ap, subst, arith}
-use Rattle.std.specs.Prelude.{◌≢◌, All, IfOk}
+use Rattle.std.proofs.Common.{◌≡◌, ℕ, ◌+◌, ◌<◌, ◌≤◌, List, [], ◌∷◌, ◌++◌, length, take, get_or, Option, None, Result, Ok, Err, sym, ◌∙◌, ap, subst, arith}
+use Rattle.std.specs.Prelude.{All, IfOk}
 use Rattle.std.proofs.lemmas.List.{take_more}
 use Rattle.std.proofs.lemmas.List.Elements.{All-append, All-cons, All-nil}
 use Rattle.std.proofs.lemmas.Slice.Zip.{AllZip-long, all_zipped_more}

@@ -1,6 +1,6 @@
 -- Runs begin, go on and end.
-use Rattle.std.proofs.Common.{◌≡◌, ◌≢◌, ⊎_elim, ℕ, ◌+◌, ◌≤◌, List, [], ◌∷◌, ◌++◌, Bool, true, false, Option, Some, Result, Ok, refl, sym, ◌∙◌, ap, subst, arith}
-use Rattle.std.specs.Prelude.{Contains}
+use Rattle.std.proofs.Common.{◌≡◌, ◌≢◌, ⊎_elim, inl, inr, append_assoc, ℕ, ◌+◌, ◌≤◌, List, [], ◌∷◌, ◌++◌, Bool, true, false, Option, Some, Result, Ok, refl, sym, ◌∙◌, ap, subst, arith}
+use Rattle.std.specs.Prelude.{◌⊎◌, Contains}
 use Rattle.std.proofs.Math.Nat.{le_refl}
 use Rattle.std.proofs.lemmas.List.{append-nil, length_push}
 use Rattle.std.proofs.lemmas.List.Elements.{All-contains, Contains-push, Contains-push_cases, Contains-append_left, Contains-append_right, Contains-append_cases}
@@ -21,7 +21,6 @@ use Rattle.spool_store.specs.Entries.{Stored, Table}
 use Rattle.spool_store.specs.Moves.{Moves}
 use Rattle.spool_store.specs.Settled.{HasFiles, StandsFor}
 use Rattle.spool_store.specs.Stores.{KeepsOthers}
-use Rattle.spool_store.specs.Writes.{stored}
 use Rattle.spool_store.proofs.MovesLemmas.{moves_weaker, told_after}
 use Rattle.mail_core.specs.declared.serving.Core.{Core}
 use Rattle.mail_core.specs.Sites.{Site}
@@ -35,7 +34,7 @@ use Rattle.mail_core.specs.Events.{Turns}
 use Rattle.mail_core.specs.Judges.{JudgeSeen, untold}
 use Rattle.mail_core.specs.Meant.{IsRunMeant}
 use Rattle.mail_core.specs.Machine.{Step, Turn, at_moment, beginning, stepped}
-use Rattle.mail_core.specs.Runs.{AreAcked, HasEntry, Headline, IsAcked, IsEnded, IsKept, IsLeft, run_over}
+use Rattle.mail_core.specs.Runs.{AreAcked, AreKept, BeginsWith, HasEntry, HasMessage, Headline, IsAcked, IsEnded, IsKept, IsLeft, latest_by, put_by, run_over}
 use Rattle.mail_core.specs.inner.UnderWay.{IsUnderWay}
 use Rattle.mail_core.specs.Seen.{IsPart, IsSparing, LacksLast, Leaves as Left, Ran, Seen, SparesBy, seen, table_after}
 use Rattle.mail_core.specs.Standing.{IsTallied, Stands}
@@ -132,15 +131,78 @@ sent_done (effect ∷ effects) session text h = ⊎_elim
     (λ rest. Contains-append_right (effect ∷ []) effects (Sends session text true) (sent_done effects session text rest))
     (Contains-append_cases (heard effect) (heard_of effects) (Sent session text) h)
 
--- the entry of a final 250 is in the table after the effects
-acked_entry : (id session : ℕ) (table : Table) (effects : List Effect) → IsId id → AreTaking effects → AreAcked table effects → Contains effects (Sends session (stored_text id) true) → HasEntry (table_after table effects) id
-acked_entry id session table [] within taking acked h = absurd (nothing_there (Sends session (stored_text id) true) h)
-acked_entry id session table (effect ∷ effects) within taking acked h = ⊎_elim
+-- these entries are what a command among the effects put in
+record IsPut (table : Table) (effects : List Effect) (entries : List Stored) : Type 0 where
+  done : List Effect
+  command : Command
+  rest : List Effect
+  whole : effects ≡ done ++ Commits command ∷ rest
+  is : entries ≡ put_by (table_after table done) command
+
+-- there was no command, or they are what the last one put in
+abbrev IsLatest : Table → List Effect → List Stored → Type 0
+IsLatest table effects entries = (entries ≡ []) ⊎ IsPut table effects entries
+
+put_more : (table : Table) (effects more : List Effect) (entries : List Stored) → IsPut table effects entries → IsPut table (effects ++ more) entries
+put_more table effects more entries h = record {
+  done = h.done;
+  command = h.command;
+  rest = h.rest ++ more;
+  whole = ap (λ q. q ++ more) h.whole ∙ append_assoc h.done (Commits h.command ∷ h.rest) more;
+  is = h.is;
+}
+
+latest_same : (table : Table) (effects more : List Effect) (entries : List Stored) → IsLatest table effects entries → IsLatest table (effects ++ more) entries
+latest_same table effects more entries (inl none) = inl none
+latest_same table effects more entries (inr h) = inr (put_more table effects more entries h)
+
+latest_more : (table : Table) (effects : List Effect) (entries : List Stored) (effect : Effect) → IsLatest table effects entries → IsLatest table (effects ++ effect ∷ []) (latest_by entries (table_after table effects) effect)
+latest_more table effects entries (Takes event) h = latest_same table effects (Takes event ∷ []) entries h
+latest_more table effects entries (Ticks reading) h = latest_same table effects (Ticks reading ∷ []) entries h
+latest_more table effects entries (Commits command) h = inr (record { done = effects; command = command; rest = []; whole = refl; is = refl })
+latest_more table effects entries (Sends session text whole) h = latest_same table effects (Sends session text whole ∷ []) entries h
+latest_more table effects entries (HangsUp session) h = latest_same table effects (HangsUp session ∷ []) entries h
+
+-- a message whose first entry has that id was put in, and each of its entries is in the table after
+-- the effects
+record IsPutIn (table : Table) (effects : List Effect) (id : ℕ) : Type 0 where
+  done : List Effect
+  command : Command
+  rest : List Effect
+  whole : effects ≡ done ++ Commits command ∷ rest
+  first : BeginsWith id (put_by (table_after table done) command)
+  each : (s : Stored) → Contains (put_by (table_after table done) command) s → HasEntry (table_after table effects) s.id
+
+put_in : (id : ℕ) (table : Table) (before effects : List Effect) (entries : List Stored) → AreTaking effects → IsLatest table before entries → HasMessage (table_after table before) entries id → IsPutIn table (before ++ effects) id
+unfolding put_more
+put_in id table before effects entries taking (inl none) there = absurd (subst (BeginsWith id) none there.first)
+put_in id table before effects entries taking (inr h) there =
+    let more = put_more table before effects entries h in record {
+      done = more.done;
+      command = more.command;
+      rest = more.rest;
+      whole = more.whole;
+      first = subst (BeginsWith id) h.is there.first;
+      each = λ s among.
+          subst (λ t. HasEntry t s.id) (sym (table_more table before effects))
+          (entry_stays s.id (table_after table before) effects taking (there.each s (subst (λ q. Contains q s) (sym h.is) among)));
+    }
+
+-- the message of a final 250 is in the table after the effects
+acked_message : (id session : ℕ) (table : Table) (before effects : List Effect) (entries : List Stored) → IsId id → AreTaking effects → IsLatest table before entries → AreAcked entries (table_after table before) effects → Contains effects (Sends session (stored_text id) true)
+    → IsPutIn table (before ++ effects) id
+acked_message id session table before [] entries within taking latest acked h = absurd (nothing_there (Sends session (stored_text id) true) h)
+acked_message id session table before (effect ∷ effects) entries within taking latest acked h = ⊎_elim
     (λ first.
     let is : effect ≡ Sends session (stored_text id) true = one_only effect (Sends session (stored_text id) true) first in
-    let there : (i : ℕ) → IsId i → stored_text id ≡ stored_text i → HasEntry table i = subst (IsAcked table) is acked.0 in
-    entry_stays id table (effect ∷ effects) taking (there id within refl))
-    (λ rest. subst (λ t. HasEntry t id) (sym (table_more table (effect ∷ []) effects)) (acked_entry id session (table_after table (effect ∷ [])) effects within taking.1 acked.1 rest))
+    let there : (i : ℕ) → IsId i → stored_text id ≡ stored_text i → HasMessage (table_after table before) entries i = subst (IsAcked entries (table_after table before)) is acked.0 in
+    put_in id table before (effect ∷ effects) entries taking latest (there id within refl))
+    (λ rest.
+    let more : List Effect = before ++ effect ∷ [] in
+    let later : List Stored = latest_by entries (table_after table before) effect in
+    let acks : AreAcked later (table_after table more) effects = subst (λ t. AreAcked later t effects) (sym (table_more table before (effect ∷ []))) acked.1 in
+    subst (λ q. IsPutIn table q id) (append_assoc before (effect ∷ []) effects)
+    (acked_message id session table more effects later within taking.1 (latest_more table before entries effect latest) acks rest))
     (Contains-append_cases (effect ∷ []) effects (Sends session (stored_text id) true) h)
 
 -- ---- the files of an entry
@@ -184,27 +246,43 @@ taking_last [] command h = h.0
 taking_last (effect ∷ done) command h = taking_last done command h.1
 
 -- where the spool failed at the last effect, before which the final 250 was said
-kept_failed : (dirs : List (List ℕ)) (table : Table) (effects : List Effect) (files : FileMap) (session id : ℕ) → AreTaking effects → AreAcked table effects → LacksLast dirs table effects files
-    → IsId id → Contains effects (Sends session (stored_text id) true) → IsKept dirs (table_after table effects) files id
+kept_failed : (dirs : List (List ℕ)) (table : Table) (effects : List Effect) (files : FileMap) (session id : ℕ) → AreTaking effects → AreAcked [] table effects → LacksLast dirs table effects files
+    → IsId id → Contains effects (Sends session (stored_text id) true) → AreKept dirs table effects files id
 kept_failed dirs table effects files session id taking acked lacks within said =
     let done = lacks.done in
     let last : List Effect = Commits lacks.command ∷ [] in
     let now = table_after table done in
-    let all_acked : AreAcked table (done ++ last) = subst (AreAcked table) lacks.whole acked in
+    let all_acked : AreAcked [] table (done ++ last) = subst (AreAcked [] table) lacks.whole acked in
     let all_taking : AreTaking (done ++ last) = subst AreTaking lacks.whole taking in
     let accept : IsAccept lacks.command = taking_last done lacks.command all_taking in
     let all_said : Contains (done ++ last) (Sends session (stored_text id) true) = subst (λ q. Contains q (Sends session (stored_text id) true)) lacks.whole said in
     let before : Contains done (Sends session (stored_text id) true) = ⊎_elim (λ k. k) (λ e. absurd (not_last lacks.command session (stored_text id) e)) (Contains-push_cases done (Commits lacks.command) (Sends session (stored_text id) true) all_said) in
-    let entry : HasEntry now id = acked_entry id session table done within (taking_front done last all_taking) (acked_front table done last all_acked) before in
-    let all : table_after table effects ≡ after now lacks.command = ap (table_after table) lacks.whole ∙ table_more table done last in
-    subst (λ t. IsKept dirs t files id) (sym all) (⊎_elim
-    (λ stands. kept_more dirs now lacks.command files id accept (kept_by dirs now files id stands entry))
-    (λ stands. kept_by dirs (after now lacks.command) files id stands (entry_after id now lacks.command accept entry))
-    lacks.stands)
+    let put : IsPutIn table done id = acked_message id session table [] done [] within (taking_front done last all_taking) (inl refl) (acked_front [] table done last all_acked) before in
+    let all : table_after table effects ≡ after now lacks.command = ap (table_after table) lacks.whole ∙ table_more table done last in record {
+      done = put.done;
+      command = put.command;
+      rest = put.rest ++ last;
+      whole = lacks.whole ∙ ap (λ q. q ++ last) put.whole ∙ append_assoc put.done (Commits put.command ∷ put.rest) last;
+      first = put.first;
+      each = λ s among.
+          let entry : HasEntry now s.id = put.each s among in
+          subst (λ t. IsKept dirs t files s.id) (sym all) (⊎_elim
+          (λ stands. kept_more dirs now lacks.command files s.id accept (kept_by dirs now files s.id stands entry))
+          (λ stands. kept_by dirs (after now lacks.command) files s.id stands (entry_after s.id now lacks.command accept entry))
+          lacks.stands);
+    }
 
-kept_left : (dirs : List (List ℕ)) (table : Table) (effects : List Effect) (well : Bool) (files : FileMap) (session id : ℕ) → AreTaking effects → AreAcked table effects → Left dirs table effects well files
-    → IsId id → Contains effects (Sends session (stored_text id) true) → IsKept dirs (table_after table effects) files id
-kept_left dirs table effects true files session id taking acked stands within said = kept_by dirs (table_after table effects) files id stands (acked_entry id session table effects within taking acked said)
+kept_left : (dirs : List (List ℕ)) (table : Table) (effects : List Effect) (well : Bool) (files : FileMap) (session id : ℕ) → AreTaking effects → AreAcked [] table effects → Left dirs table effects well files
+    → IsId id → Contains effects (Sends session (stored_text id) true) → AreKept dirs table effects files id
+kept_left dirs table effects true files session id taking acked stands within said =
+    let put : IsPutIn table effects id = acked_message id session table [] effects [] within taking (inl refl) acked said in record {
+      done = put.done;
+      command = put.command;
+      rest = put.rest;
+      whole = put.whole;
+      first = put.first;
+      each = λ s among. kept_by dirs (table_after table effects) files s.id stands (put.each s among);
+    }
 kept_left dirs table effects false files session id taking acked left within said = kept_failed dirs table effects files session id taking acked left within said
 
 -- a stop since a moment leaves what is told then
@@ -219,7 +297,7 @@ exit_of j site table turns meant well told files is left =
       files = files;
       told_is = is;
       leaves = left;
-      acked = λ session id within sent. kept_left site.dirs table effects well files session id leads.taking (leads.acked meant) left within (sent_done effects session (stored_text id) sent);
+      acked = λ session id within sent. kept_left site.dirs table effects well files session id leads.taking (leads.acked meant []) left within (sent_done effects session (stored_text id) sent);
     }
 
 spared_others : (dirs : List (List ℕ)) (well : Bool) (f g : FileMap) → SparesBy dirs well f g → KeepsOthers dirs f g

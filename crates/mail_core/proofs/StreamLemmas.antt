@@ -1,6 +1,6 @@
 -- A front of a stream's lines stays one when bytes come, and grows by the next line.
 use Rattle.std.proofs.Common.{◌≡◌, ℕ, zero, suc, List, [], ◌∷◌, ◌++◌, Bool, true, false, Some, None, refl, sym, ◌∙◌, ap, subst, append_assoc, ⊎_elim}
-use Rattle.std.specs.Prelude.{length, drop, slice_get, ◌==◌, ◌≤◌, if◌then◌else◌}
+use Rattle.std.specs.Prelude.{length, drop, slice_get, ◌==◌}
 use Rattle.std.proofs.lemmas.Bool.{cases_Bool, eqb-true, and_parts, or_from, cond-true, cond-false, false≢true}
 use Rattle.smtp_lines.specs.declared.line.Line.{Line}
 use Rattle.smtp_lines.specs.declared.line.Mode.{Mode}

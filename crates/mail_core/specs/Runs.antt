@@ -1,6 +1,6 @@
 -- A whole run: the machine's turns are all that happened, and what was acknowledged is in the queue
 -- (own).
-use Rattle.std.specs.Prelude.{◌≡◌, ℕ, ◌+◌, ◌≤◌, List, [], ◌∷◌, ◌++◌, length, Option, Some, Result, Bool, Contains}
+use Rattle.std.specs.Prelude.{◌≡◌, ℕ, ◌+◌, ◌≤◌, List, [], ◌∷◌, ◌++◌, drop, length, Option, Some, Result, Bool, Contains}
 use Rattle.mail_base.specs.Histories.{Gains}
 use Rattle.mail_base.specs.Limits.{IsId}
 use Rattle.mail_base.specs.Names.{name_of}
@@ -14,6 +14,7 @@ use Rattle.spool_store.specs.Entries.{Stored, Table}
 use Rattle.spool_store.specs.Queue.{IsLive}
 use Rattle.spool_store.specs.Settled.{StandsFor, spot_of}
 use Rattle.spool_store.specs.Stores.{KeepsOthers}
+use Rattle.queue_table.specs.Commands.{Command, after}
 use Rattle.mail_core.specs.Effects.{Effect, Takes, Ticks, Commits, Sends, HangsUp, heard_of, readings_of}
 use Rattle.mail_core.specs.Sites.{Site}
 use Rattle.mail_core.specs.declared.serving.Act.{Act}
@@ -35,20 +36,45 @@ pub record HasEntry (table : Table) (id : ℕ) : Type 0 where
   pub id_is : stored.id ≡ id
   pub wanted : NeedsBody stored.control
 
--- where an effect is the final 250 of an id, the entry is in the table
-abbrev pub IsAcked : Table → Effect → Type 0
-IsAcked table (Takes event) = Unit {0}
-IsAcked table (Ticks reading) = Unit {0}
-IsAcked table (Commits command) = Unit {0}
-IsAcked table (Sends session text whole) =
-    (id : ℕ) → IsId id → text ≡ stored_text id → HasEntry table id
-IsAcked table (HangsUp session) = Unit {0}
+-- the entries that a command puts into a table, behind those that are there
+abbrev pub put_by : Table → Command → List Stored
+put_by table command = drop (length table.entries) (after table command).entries
 
--- each final 250 names an entry of the table as it is then
-abbrev pub AreAcked : Table → List Effect → Type 0
-AreAcked table [] = Unit {0}
-AreAcked table (effect ∷ effects) =
-    IsAcked table effect × AreAcked (table_after table (effect ∷ [])) effects
+-- the first of these entries has that id
+abbrev pub BeginsWith : ℕ → List Stored → Type 0
+BeginsWith id [] = ⊥
+BeginsWith id (s ∷ entries) = s.id ≡ id
+
+-- a message that was put in as these entries, of which the first has that id, is in the table: each
+-- of them is, and its body is wanted
+pub record HasMessage (table : Table) (entries : List Stored) (id : ℕ) : Type 0 where
+  pub first : BeginsWith id entries
+  pub each : (s : Stored) → Contains entries s → HasEntry table s.id
+
+-- where an effect is the final 250 of an id, it is of the message that was put in last, which is in
+-- the table with all its entries
+abbrev pub IsAcked : List Stored → Table → Effect → Type 0
+IsAcked latest table (Takes event) = Unit {0}
+IsAcked latest table (Ticks reading) = Unit {0}
+IsAcked latest table (Commits command) = Unit {0}
+IsAcked latest table (Sends session text whole) =
+    (id : ℕ) → IsId id → text ≡ stored_text id → HasMessage table latest id
+IsAcked latest table (HangsUp session) = Unit {0}
+
+-- what was put in last, behind an effect
+abbrev pub latest_by : List Stored → Table → Effect → List Stored
+latest_by latest table (Takes event) = latest
+latest_by latest table (Ticks reading) = latest
+latest_by latest table (Commits command) = put_by table command
+latest_by latest table (Sends session text whole) = latest
+latest_by latest table (HangsUp session) = latest
+
+-- each final 250 is of the message that was put in last, in the table as it is then
+abbrev pub AreAcked : List Stored → Table → List Effect → Type 0
+AreAcked latest table [] = Unit {0}
+AreAcked latest table (effect ∷ effects) =
+    IsAcked latest table effect
+    × AreAcked (latest_by latest table effect) (table_after table (effect ∷ [])) effects
 
 -- the table has an entry of that id, a control file that is live says its control, and its body
 -- file is there and holds its body
@@ -60,8 +86,20 @@ pub record IsKept (dirs : List (List ℕ)) (table : Table) (files : FileMap) (id
   pub control : IsLive dirs files (spot_of kind stored) stored.control
   pub body : bytes_at files (stored.dir, name_of Df id) ≡ Some stored.body
 
+-- a command among these effects put in a message whose first entry has that id, and the files have
+-- all its entries
+pub record AreKept (dirs : List (List ℕ)) (table : Table) (effects : List Effect)
+    (files : FileMap) (id : ℕ) : Type 0 where
+  pub done : List Effect
+  pub command : Command
+  pub rest : List Effect
+  pub whole : effects ≡ done ++ Commits command ∷ rest
+  pub first : BeginsWith id (put_by (table_after table done) command)
+  pub each : (s : Stored) → Contains (put_by (table_after table done) command) s
+      → IsKept dirs (table_after table effects) files s.id
+
 -- what the files are at the exit of a run: they stand for the table after its commands, but where
--- the spool failed, and they have the entry of each final 250 that was sent
+-- the spool failed, and they have all entries of the message of each final 250 that was sent
 pub record IsLeft (site : Site) (table : Table) (effects : List Effect) (well : Bool)
     (told : Option FileMap) : Type 0 where
   pub files : FileMap
@@ -69,7 +107,7 @@ pub record IsLeft (site : Site) (table : Table) (effects : List Effect) (well : 
   pub leaves : Leaves site.dirs table effects well files
   pub acked : (session id : ℕ) → IsId id
       → Contains (heard_of effects) (Sent session (stored_text id))
-      → IsKept site.dirs (table_after table effects) files id
+      → AreKept site.dirs table effects files id
 
 -- the files are told, and what no call touches is in them as it was
 pub record IsSpared (dirs : List (List ℕ)) (old : FileMap) (told : Option FileMap) : Type 0 where

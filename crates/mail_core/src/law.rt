@@ -11,10 +11,11 @@ ghost use Rattle.mail_core.specs.Told.{Converses, IsInTurn, NeverOpens, Welcomes
 
 /// A final 250 is said only where its message is in the table: whatever the turns and the choices
 /// of a run are, where these say what a judge may say and what the configuration does, each one
-/// names an entry of the table as it is then.
+/// names the first entry of the message that was put in last, all of whose entries are in the table
+/// as it is then.
 pub fn acknowledged_messages_are_in_the_table()
     ensures { (site : Site) (m : State) (turns : List Turn)
-        → IsRunMeant untold site m turns → AreAcked m.table (run site m turns).effects }
+        → IsRunMeant untold site m turns → AreAcked [] m.table (run site m turns).effects }
 {}
 
 /// The table that a run comes to is the one that its commands make of the first.

@@ -1,5 +1,5 @@
 -- The rows that stay have their groups, and are parted by them.
-use Rattle.std.proofs.Common.{List, subst, ◌∙◌}
+use Rattle.std.proofs.Common.{List, subst}
 use Rattle.mail_base.specs.declared.draw.Draw.{Draw}
 use Rattle.mail_core.specs.Messages.{AreGrouped}
 use Rattle.mail_core.proofs.PartLemmas.{forms_by, groups_long, parted_by}

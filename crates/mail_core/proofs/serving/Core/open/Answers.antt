@@ -1,4 +1,4 @@
-use Rattle.std.proofs.Common.{◌∙◌, ap, [], ◌∷◌, ◌++◌}
+use Rattle.std.proofs.Common.{ap, [], ◌∷◌, ◌++◌}
 use Rattle.mail_core.specs.Guests.{newcomer}
 use Rattle.mail_core.proofs.SpeechLemmas.{open_of}
 use Rattle.mail_core.proofs.CoreLemmas.{full_at, empty_at, opens_full, opens_new, opens_unsent, opens_lacking}
