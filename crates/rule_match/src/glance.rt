@@ -4,6 +4,7 @@ ghost use Rattle.mail_base.specs.Candidates.{is_late};
 ghost use Rattle.mail_base.specs.Tokens.{same_token};
 ghost use Rattle.mail_base.specs.declared.classes.Classes.{Classes};
 ghost use Rattle.mail_base.specs.declared.token.Token.{Token};
+ghost use Rattle.mail_base.specs.declared.token.Token.TheVariants.{Op};
 ghost use Rattle.rule_match.specs.Choices.{Fits};
 ghost use Rattle.rule_match.specs.Wants.{wants};
 ghost use Rattle.rule_match.specs.inner.Glances as spec;
@@ -47,6 +48,9 @@ fn behind<'a>(token: &Token, tokens: &'a [Token]) -> Option<&'a [Token]>
     ensures some { IfSome result (λ rest. (list_any (same_token token.now) tokens.now ≡ true) × (rest.now ≡ spec.behind token.now tokens.now)) }
     ensures none { IfNone result (list_any (same_token token.now) tokens.now ≡ false) }
 {
+    if let Token::Op(byte) = token {
+        return behind_operator(*byte, tokens);
+    }
     let mut left = tokens;
     'tokens: while let Some((first, rest)) = left.split_first() {
         if is_same(token, first) {
@@ -57,8 +61,33 @@ fn behind<'a>(token: &Token, tokens: &'a [Token]) -> Option<&'a [Token]>
     None
 }
 
+/// The same of an operator.
+fn behind_operator(byte: u8, tokens: &[Token]) -> Option<&[Token]>
+    ensures some { IfSome result (λ rest. (list_any (same_token (Op byte)) tokens.now ≡ true) × (rest.now ≡ spec.behind (Op byte) tokens.now)) }
+    ensures none { IfNone result (list_any (same_token (Op byte)) tokens.now ≡ false) }
+{
+    let mut left = tokens;
+    'tokens: while let Some((first, rest)) = left.split_first() {
+        if is_operator(byte, first) {
+            return Some(rest);
+        }
+        left = rest;
+    }
+    None
+}
+
+/// Whether the token is this operator.
+fn is_operator(byte: u8, token: &Token) -> bool
+    ensures { result ≡ same_token (Op byte) token.now }
+{
+    match token {
+        Token::Op(another) => byte.eq_ignore_ascii_case(another),
+        _ => false,
+    }
+}
+
 /// Whether two tokens are the same. Operators are compared in place.
-fn is_same(one: &Token, other: &Token) -> bool
+pub(crate) fn is_same(one: &Token, other: &Token) -> bool
     ensures { result ≡ same_token one.now other.now }
 {
     match (one, other) {

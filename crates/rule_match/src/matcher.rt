@@ -10,6 +10,7 @@ ghost use Rattle.rule_match.specs.inner.Steps.{front_stands, front_width, is_cla
 ghost use Rattle.rule_match.specs.Wants.{want, wants, lists_after};
 
 use crate::cuts::Cuts;
+use crate::glance::is_same;
 use crate::meeting::{any_class, is_free, is_met, lists_after, parted, width};
 use crate::rows::{ByRows, fixed_length, rows_of};
 use crate::trial::least;
@@ -92,7 +93,7 @@ fn ends_otherwise(items: &[Item], tokens: &[Token]) -> bool
     let Some((last, _front)) = tokens.split_last() else {
         return true;
     };
-    token != last
+    !is_same(token, last)
 }
 
 /// By the items up to the next of several possible lengths, where none is a phrase of a class.
@@ -300,7 +301,7 @@ fn begins_otherwise(items: &[Item], tokens: &[Token]) -> bool
     let Some((first, _rest)) = tokens.split_first() else {
         return false;
     };
-    token != first
+    !is_same(token, first)
 }
 
 /// The same as whether the front stands, item by item.

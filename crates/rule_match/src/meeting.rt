@@ -4,6 +4,7 @@ ghost use Rattle.rule_match.specs.Kept.{is_binding};
 ghost use Rattle.rule_match.specs.inner.Steps.{is_free, is_class, width_of};
 ghost use Rattle.rule_match.specs.Wants.{want, meets, first_list, lists_after};
 
+use crate::glance::is_same;
 use mail_base::{Classes, Item, Seq, Token};
 
 /// Whether these tokens are a match of the item; a `$&x` has the first of the lists.
@@ -18,7 +19,7 @@ pub fn is_met(classes: &Classes, late: &[Seq<Token>], item: &Item, piece: &[Toke
         Item::InClass(name) => !piece.is_empty() && classes.has_phrase(name, piece),
         Item::NotInClass(name) => piece.len() == 1 && !classes.has_phrase(name, piece),
         Item::Exact(token) => match piece {
-            [only] => token == only,
+            [only] => is_same(token, only),
             _ => false,
         },
         Item::Late(_) => first_list(late) == piece,

@@ -25,11 +25,24 @@ pub fn is_cut(values: &mut Values, steps: &[Step]) -> Result<bool, NoMemory>
     ensures same { values.new ≡ values.old }
 {
     for step in steps {
+        if is_early(step) {
+            continue;
+        }
         if !is_cut_step(values, step)? {
             return Ok(false);
         }
     }
     Ok(true)
+}
+
+/// Whether the step has no `$&x`, as is seen without a look at the macros.
+fn is_early(step: &Step) -> bool
+    ensures { result ≡ true → (late : Lates) → is_cut_step late step.now ≡ true }
+{
+    matches!(
+        step,
+        Step::Plain(Piece::Give(_) | Piece::Cut(_)) | Step::Call
+    )
 }
 
 fn is_cut_step(values: &mut Values, step: &Step) -> Result<bool, NoMemory>

@@ -1,6 +1,7 @@
 ghost use Rattle.std.specs.Prelude.{◌≡◌, ◌≤◌, ◌<◌, ◌++◌, ℕ, None, Some, IfErr, IfOk, OnOk, false, reverse, true};
 ghost use Rattle.std.specs.List.{find};
 ghost use Rattle.mail_base.specs.Rulesets.{is_named};
+ghost use Rattle.mail_base.specs.declared.rule.Item.TheVariants.{Late};
 ghost use Rattle.rule_match.specs.Kept.{IsChoice};
 ghost use Rattle.ruleset_run.specs.Cutting.{is_cut_item, is_cut_left, item_lists, left_lists};
 ghost use Rattle.ruleset_run.specs.Runs.{Ends, Gives, Outcome, Replaced, Runs, RunsAt, RunsSet, SetRuns, Takes, name_of, rest_of};
@@ -200,25 +201,24 @@ fn lists_of(values: &mut Values, items: &[Item]) -> Result<Seq<Seq<Token>>, RunF
 {
     let mut lists = Seq::new(values.allocator());
     for item in items {
-        push_list(values, item, &mut lists)?;
+        if let Item::Late(name) = item {
+            push_list(values, name, &mut lists)?;
+        }
     }
     Ok(lists)
 }
 
-/// Adds the tokens of an item that is a `$&x`.
-fn push_list(values: &mut Values, item: &Item, lists: &mut Seq<Seq<Token>>) -> Result<(), RunFault>
+/// Adds the tokens of a `$&x`.
+fn push_list(values: &mut Values, name: &Text, lists: &mut Seq<Seq<Token>>) -> Result<(), RunFault>
     ensures lists { OnOk result
-        ((is_cut_item (lates values.old) item.now ≡ true)
-        × (lists.new ≡ lists.old ++ item_lists (lates values.old) item.now)) }
-    ensures refused { IfErr result (LeftFault (is_cut_item (lates values.old) item.now)) }
+        ((is_cut_item (lates values.old) (Late name.now) ≡ true)
+        × (lists.new ≡ lists.old ++ item_lists (lates values.old) (Late name.now))) }
+    ensures refused { IfErr result (LeftFault (is_cut_item (lates values.old) (Late name.now))) }
     ensures same { values.new ≡ values.old }
 {
-    match item {
-        Item::Late(name) => match values.late(name)? {
-            Some(tokens) => Ok(lists.push(tokens)?),
-            None => Err(RunFault::BadScan),
-        },
-        _ => Ok(()),
+    match values.late(name)? {
+        Some(tokens) => Ok(lists.push(tokens)?),
+        None => Err(RunFault::BadScan),
     }
 }
 
