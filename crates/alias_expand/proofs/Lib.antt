@@ -3,6 +3,7 @@ mod CostLemmas
 mod FormLemmas
 mod JoinLemmas
 mod MemberLemmas
+mod NullLemmas
 mod OneLemmas
 mod PieceLemmas
 mod SomeLemmas

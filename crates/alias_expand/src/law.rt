@@ -1,4 +1,5 @@
-ghost use Rattle.std.specs.Prelude.{◌≡◌, ℕ, List, Result, Some};
+ghost use Rattle.std.specs.Prelude.{◌≡◌, ℕ, All, List, Ok, Option, Result, Some};
+ghost use Rattle.mail_base.specs.Drawing.{null_sender};
 ghost use Rattle.mail_base.specs.declared.draw.Draw.{Draw};
 ghost use Rattle.mail_edge.specs.Seen.{FileMap};
 ghost use Rattle.alias_expand.specs.declared.refusal.ExpandRefusal.{ExpandRefusal};
@@ -27,3 +28,10 @@ pub fn some_expansion()
     // A law: an address has a route.
     some_route();
 }
+
+/// The rows of a null sender have it, whatever the owners of aliases are and whether files are told.
+pub fn null_sender_stays()
+    ensures { (site : Site) (files : Option FileMap) (address : List ℕ) (rows : List Draw)
+        → Expands site files address null_sender (Ok rows)
+        → All (λ row. row.sender ≡ null_sender) rows }
+{}

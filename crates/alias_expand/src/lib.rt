@@ -29,6 +29,6 @@ pub use aliases::{Alias, Aliases};
 pub use expansion::expand;
 pub use fault::AliasFault;
 pub use homes::Homes;
-pub use law::{one_expansion, some_expansion};
+pub use law::{null_sender_stays, one_expansion, some_expansion};
 pub use members::{Member, members_of};
 pub use refusal::ExpandRefusal;
