@@ -16,18 +16,20 @@ pub(crate) struct World {
     pub homes: Homes,
 }
 
-// Levels go to 2. Addresses in `far` go by smtp, other hosts have no route, and what has no host is
-// local. The sets refuse the sender `bad` and the recipient `no`.
-const RULES: &[u8] = b"DjHOST\nO MaxAliasRecursion=2\nO OperatorChars=.:%@!^/[]+\n\
+// Levels go to 2. Addresses in `far` and `by` go by smtp, of which `by` has the host `f` and the
+// value of f behind it; other hosts have no route, and what has no host is local. The sets refuse
+// the sender `bad` and the recipient `no`.
+const RULES: &[u8] = b"DjHOST\nDfset\nO MaxAliasRecursion=2\nO OperatorChars=.:%@!^/[]+\n\
     Mlocal, P=/bin/mail, F=lsDFMAw5, A=mail -d $u\nMprog, P=/bin/sh, F=lsDFM, A=sh -c $u\n\
     Msmtp, P=[IPC], F=mDFMuX, A=TCP $h\n\
     S3\nR$* < $+ > $*\t$2\n\
-    S0\nR$+ @ far\t$#smtp $@ far $: $1\nR$+ @ $+\t$#error $@ nohost $: no\nR$+\t$#local $: $1\n\
+    S0\nR$+ @ far\t$#smtp $@ far $: $1\nR$+ @ by\t$#smtp $@ f$&f $: $1\n\
+    R$+ @ $+\t$#error $@ nohost $: no\nR$+\t$#local $: $1\n\
     Scheck_mail\nR< bad >\t$#error $@ 5.7.1 $: not from you\n\
     Scheck_rcpt\nR< no >\t$#error $@ 5.7.1 $: not here\n";
 
-const ALIASES: &[u8] = b"two: ann, bob@far\nloop: pool\npool: loop\na1: a2\na2: a3\na3: ann\n\
-    inc: :include:/list\nlost: :include:/none\ncrowd: :include:/crowd\n";
+const ALIASES: &[u8] = b"two: ann, bob@far\nowner-two: olga\nloop: pool\npool: loop\n\
+    a1: a2\na2: a3\na3: ann\ninc: :include:/list\nlost: :include:/none\ncrowd: :include:/crowd\n";
 
 // A file of 10,001 members.
 fn crowd(alloc: Global) -> Result<Text, Fail> {

@@ -1,0 +1,131 @@
+// The rows of receivers of returned mail.
+ghost use Rattle.std.specs.Prelude.{IfOk};
+ghost use Rattle.mail_base.specs.Texts.{IsAddress};
+
+use crate::worlds::{World, files_of, world_of};
+use mail_base::{Draw, Draws, JudgeFault, NoMemory, Resolved, Seq, Text, Triple};
+use mail_edge::MemFiles;
+use mail_judge::{Grounds, Returns};
+use std::alloc::Global;
+use std::test::Fail;
+
+// A receiver, and its rows: each as its address, `=` where it stands for the receiver itself, its
+// sender, and where it goes or why it goes nowhere.
+type Row = (&'static [u8], &'static [u8]);
+
+static ROWS: [Row; 11] = [
+    // A leaf, an alias of two members whose owner isn't their sender, and a file that is included.
+    (b"<ann>", b"<ann>=<>local//ann;"),
+    (b"ann", b"ann=<>local//ann;"),
+    (b"<two>", b"ann<>local//ann;bob@far<>smtp/far/bob;"),
+    (b"<inc>", b"ann<>local//ann;bob@far<>smtp/far/bob;"),
+    // The macro f is empty, though the configuration has another value.
+    (b"<x@by>", b"<x@by>=<>smtp/f/x;"),
+    // No check set is asked.
+    (b"<no>", b"<no>=<>local//no;"),
+    // No rows by aliases: a route that is an error, levels, a file that isn't there, a loop, and a
+    // crowd.
+    (b"<ann@off>", b"<ann@off>=<>no;"),
+    (b"<a1>", b"<a1>=<>local//a1;"),
+    (b"<lost>", b"<lost>=<>local//lost;"),
+    (b"<loop>", b"<loop>=<>local//loop;"),
+    (b"<crowd>", b"<crowd>=<>local//crowd;"),
+];
+
+// A receiver on one line.
+fn receiver_of(alloc: Global, address: &[u8]) -> Result<Text, Fail>
+    ensures { IfOk result (λ receiver. IsAddress receiver) }
+{
+    if address.is_empty() || address.contains(&b'\n') {
+        return Err(Fail::from("no receiver"));
+    }
+    Ok(Text::of(alloc, address)?)
+}
+
+fn drawn(
+    alloc: Global,
+    world: &World,
+    files: &mut MemFiles,
+    address: &[u8],
+) -> Result<Result<Seq<Draw>, JudgeFault>, Fail> {
+    let receiver = receiver_of(alloc, address)?;
+    let grounds = Grounds::new(&world.config, &world.maps, &world.aliases, &world.homes);
+    let mut returns = Returns { grounds, files };
+    Ok(returns.draw(alloc, &receiver))
+}
+
+fn put_triple(out: &mut Text, triple: &Triple) -> Result<(), NoMemory> {
+    out.extend(triple.mailer.bytes())?;
+    out.push(b'/')?;
+    out.extend(triple.host.bytes())?;
+    out.push(b'/')?;
+    out.extend(triple.user.bytes())
+}
+
+fn put_row(out: &mut Text, row: &Draw) -> Result<(), NoMemory> {
+    out.extend(row.address.bytes())?;
+    if row.primary {
+        out.push(b'=')?;
+    }
+    out.extend(row.sender.bytes())?;
+    match &row.resolved {
+        Resolved::Goes(triple) => put_triple(out, triple)?,
+        Resolved::Refuses(error) => out.extend(error.text.bytes())?,
+    }
+    out.push(b';')
+}
+
+fn put_rows(out: &mut Text, rows: &Seq<Draw>) -> Result<(), NoMemory> {
+    for row in rows.items() {
+        put_row(out, row)?;
+    }
+    Ok(())
+}
+
+fn put_outcome(out: &mut Text, outcome: &Result<Seq<Draw>, JudgeFault>) -> Result<(), NoMemory> {
+    match outcome {
+        Ok(rows) => put_rows(out, rows),
+        Err(JudgeFault::FilesFault) => out.extend(b"a fault of files"),
+        Err(JudgeFault::NoMemory) => Err(NoMemory),
+    }
+}
+
+fn is_right(alloc: Global, world: &World, failing: &[u64], row: &Row) -> Result<bool, Fail> {
+    let mut files = files_of(alloc, failing)?;
+    let outcome = drawn(alloc, world, &mut files, row.0)?;
+    let mut out = Text::new(alloc);
+    put_outcome(&mut out, &outcome)?;
+    Ok(out.bytes() == row.1)
+}
+
+fn wrong_row(alloc: Global, world: &World) -> Result<Option<usize>, Fail> {
+    for (at, row) in ROWS.iter().enumerate() {
+        if !is_right(alloc, world, &[], row)? {
+            return Ok(Some(at));
+        }
+    }
+    Ok(None)
+}
+
+fn wrong(alloc: Global) -> Result<Option<usize>, Fail> {
+    let world = world_of(alloc)?;
+    wrong_row(alloc, &world)
+}
+
+#[test]
+fn receivers_have_their_rows(rt: HostRuntime) -> Result<(), Fail> {
+    assert_eq!(rt; wrong(rt.alloc())?, None);
+    Ok(())
+}
+
+// The first call of the files fails, which a receiver makes whose alias names one.
+fn does_fault(alloc: Global) -> Result<bool, Fail> {
+    let world = world_of(alloc)?;
+    is_right(alloc, &world, &[0], &(b"<inc>", b"a fault of files"))
+}
+
+#[test]
+fn a_file_that_fails_draws_no_rows(rt: HostRuntime) -> Result<(), Fail> {
+    assert!(rt; does_fault(rt.alloc())?);
+    Ok(())
+}
