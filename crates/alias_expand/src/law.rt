@@ -29,7 +29,7 @@ pub fn some_expansion()
     some_route();
 }
 
-/// The rows of a null sender have it, whatever the owners of aliases are and whether files are told.
+/// The rows of a null sender have it, whatever owners aliases have and whether files are told.
 pub fn null_sender_stays()
     ensures { (site : Site) (files : Option FileMap) (address : List ℕ) (rows : List Draw)
         → Expands site files address null_sender (Ok rows)

@@ -1,6 +1,6 @@
 -- A question has one answer, and one alone.
 use Rattle.std.proofs.Common.{◌≡◌, ℕ, List, [], ◌∷◌, Option, None, Some, Result, Ok, Err, refl, ap, sym, ◌∙◌}
-use Rattle.std.specs.Prelude.{codes, true}
+use Rattle.std.specs.Prelude.{codes}
 use Rattle.std.specs.List.{find}
 use Rattle.mail_base.specs.Rulesets.{is_named}
 use Rattle.mail_base.specs.declared.config.Config.{Config}
