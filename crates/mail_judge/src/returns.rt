@@ -23,19 +23,19 @@ use std::alloc::Global;
 /// memory. It tells its answers where the files are told.
 #[derive(Drop)]
 pub struct Returns<'a, F: Files> {
-    pub grounds: Grounds<'a>,
+    pub grounds: &'a Grounds<'a>,
     pub files: &'a mut F,
 }
 
 impl<F: Files> Draws for Returns<'_, F> {
     ghost seen = { λ returns. answerer_of (F.seen returns.files.now) };
 
-    ghost answers = { λ returns. ReturnsTo returns.grounds (F.seen returns.files.now).map };
+    ghost answers = { λ returns. ReturnsTo returns.grounds.now (F.seen returns.files.now).map };
 
     fn draw(&mut self, alloc: Global, address: &Text) -> Result<Seq<Draw>, JudgeFault> {
         // A law: a receiver has one list of rows.
         one_return();
-        rows_of(alloc, &self.grounds, self.files, address)
+        rows_of(alloc, self.grounds, self.files, address)
     }
 }
 

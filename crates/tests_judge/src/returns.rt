@@ -50,7 +50,10 @@ fn drawn(
 ) -> Result<Result<Seq<Draw>, JudgeFault>, Fail> {
     let receiver = receiver_of(alloc, address)?;
     let grounds = Grounds::new(&world.config, &world.maps, &world.aliases, &world.homes);
-    let mut returns = Returns { grounds, files };
+    let mut returns = Returns {
+        grounds: &grounds,
+        files,
+    };
     Ok(returns.draw(alloc, &receiver))
 }
 
