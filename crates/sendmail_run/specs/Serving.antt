@@ -99,8 +99,8 @@ abbrev pub IsBegun : Seen → Seen → Type 0
 IsBegun a b = b.floor.begun ≡ begun_after a.floor.begun Standard 1
 
 -- so many turns over a table, after which the run goes on: what floor and clock tell since is the
--- machine's run of these turns, the files stand for its table, and each final 250 names an entry
--- whose two files are there (`Headline`)
+-- machine's run of these turns, the files stand for its table, and each final 250 names a message
+-- each of whose entries has its two files there (`Headline`)
 pub record IsRun (j : JudgeSeen) (site : Site) (table : Table) (count : ℕ) (a b : Seen)
     : Type 0 where
   pub turns : List Turn
