@@ -37,12 +37,28 @@ pub(crate) fn calls(alloc: Global, numbers: &[u64]) -> Result<Seq<u64>, NoMemory
     Ok(Seq::from_vec(Vec::from_slice(alloc, numbers).map_err(NoMemory::from)?))
 }
 
+fn add_file(files: &mut Seq<(Text, Text)>, name: &[u8], text: &[u8]) -> Result<(), NoMemory> {
+    let alloc = files.allocator();
+    let name = Text::of(alloc, name)?;
+    files.push((name, Text::of(alloc, text)?))
+}
+
 /// Files that hold a configuration and those beside it, and which of their calls are to fail.
 pub(crate) fn files_of(alloc: Global, config: &[u8], failing: &[u64]) -> Result<MemFiles, Fail> {
+    files_with(alloc, config, &FILES, failing)
+}
+
+/// The same with these files beside it.
+pub(crate) fn files_with(
+    alloc: Global,
+    config: &[u8],
+    beside: &[(&str, &[u8])],
+    failing: &[u64],
+) -> Result<MemFiles, Fail> {
     let mut files = Seq::new(alloc);
-    files.push((Text::of(alloc, b"row1.cf")?, Text::of(alloc, config)?))?;
-    for (name, text) in &FILES {
-        files.push((Text::of(alloc, name.as_bytes())?, Text::of(alloc, text)?))?;
+    add_file(&mut files, b"row1.cf", config)?;
+    for (name, text) in beside {
+        add_file(&mut files, name.as_bytes(), text)?;
     }
     let sure = SureFiles::new(files).ok_or("a large text")?;
     Ok(MemFiles::new(sure, calls(alloc, failing)?))

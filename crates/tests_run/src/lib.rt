@@ -5,6 +5,8 @@
 #[cfg(test)]
 mod devices;
 #[cfg(test)]
+mod expansions;
+#[cfg(test)]
 mod faults;
 #[cfg(test)]
 mod groups;

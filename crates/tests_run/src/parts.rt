@@ -104,8 +104,8 @@ fn add_number(shown: &mut Text, number: usize) -> Result<(), NoMemory> {
     shown.push(b'0' + (number % 10) as u8)
 }
 
-// The entries of files, where each has its body and nothing else is there.
-fn entries(alloc: Global, files: &Seq<File>) -> Result<Text, NoMemory> {
+/// The entries of files, where each has its body and nothing else is there.
+pub(crate) fn entries(alloc: Global, files: &Seq<File>) -> Result<Text, NoMemory> {
     let mut shown = Text::new(alloc);
     let mut bodies = 0usize;
     let mut controls = 0usize;
@@ -132,8 +132,8 @@ fn has_line(shown: &Text, line: &[u8]) -> bool {
         .any(|other| other == line)
 }
 
-// Whether these are the lines that are wanted, in whatever order.
-fn are_lines(shown: &Text, wanted: &[u8]) -> bool {
+/// Whether these are the lines that are wanted, in whatever order.
+pub(crate) fn are_lines(shown: &Text, wanted: &[u8]) -> bool {
     shown.len() == wanted.len()
         && wanted
             .split(|byte| *byte == b'\n')
