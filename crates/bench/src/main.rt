@@ -1,10 +1,11 @@
 //! Does one thing over much input, so that its time can be measured. The first word says what:
 //! `lines`, `headers`, `body`, `receipt`, `tokens`, `control`, `conf`, `maps`, `matches`, `rules`,
-//! `classes`, `table`, `idle`, `woken`, `spool`, `commits` or `opening`. The second says over what,
-//! as each module tells, and the third how many times it is done, once where it is left out. The
-//! scripts in `bench/` measure it.
+//! `classes`, `aliases`, `parts`, `table`, `idle`, `woken`, `spool`, `commits` or `opening`. The
+//! second says over what, as each module tells, and the third how many times it is done, once where
+//! it is left out. The scripts in `bench/` measure it.
 #![tactic(auto)]
 
+mod aliases;
 mod classes;
 mod conf;
 mod control;
@@ -13,6 +14,7 @@ mod lines;
 mod maps;
 mod matches;
 mod number;
+mod parts;
 mod queue;
 mod receipt;
 mod rules;
@@ -58,9 +60,11 @@ fn measured<R: rt::Files + Alloc<A = Global>>(
         "tokens" => tokens::answer(alloc, over, rounds),
         "conf" => conf::answer(rt, over, rounds),
         "control" => control::answer(alloc, over, rounds),
+        "aliases" => aliases::answer(alloc, over, rounds),
         "classes" => classes::answer(alloc, over, rounds),
         "maps" => maps::answer(alloc, over, rounds),
         "matches" => matches::answer(alloc, over, rounds),
+        "parts" => parts::answer(alloc, over, rounds),
         "rules" => rules::answer(alloc, over, rounds),
         "table" => table::changes(alloc, over, rounds),
         "idle" => table::idle(alloc, over, rounds),

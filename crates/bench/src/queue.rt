@@ -31,7 +31,8 @@ const MESSAGE: &[u8] = b"MAIL FROM:<bob@c.example>\r\nRCPT TO:<ann@mx.example>\r
 
 pub(crate) fn commits(alloc: Global, entries: Option<&str>, rounds: u32) -> Result<String> {
     let mut spool = spool_of(alloc, number_or(entries, 1_000)?)?;
-    serve(alloc, &mut spool, rounds)?;
+    let mut floor = floor(alloc, rounds)?;
+    serve(alloc, CONFIG, &mut spool, &mut floor)?;
     let calls = spool.calls();
     Ok(format!(in alloc; "{rounds} messages by {calls} calls")?)
 }
@@ -75,10 +76,9 @@ fn words(alloc: Global) -> Result<Seq<Text>, NoMemory>
     Ok(words)
 }
 
-/// The configuration: nothing but its defaults.
-fn files(alloc: Global) -> Result<MemFiles> {
+fn files(alloc: Global, config: &[u8]) -> Result<MemFiles> {
     let mut files = Seq::new(alloc);
-    files.push((Text::of(alloc, b"queue.cf")?, Text::of(alloc, CONFIG)?))?;
+    files.push((Text::of(alloc, b"queue.cf")?, Text::of(alloc, config)?))?;
     let Some(sure) = SureFiles::new(files) else {
         bail!("a large text");
     };
@@ -96,10 +96,15 @@ fn floor(alloc: Global, messages: u32) -> Result<ScriptFloor, NoMemory> {
     Ok(ScriptFloor::new(alloc, steps, Seq::new(alloc), Seq::new(alloc)))
 }
 
-fn serve(alloc: Global, spool: &mut MemSpool, messages: u32) -> Result<()> {
+/// Serves the sessions of a floor by this configuration.
+pub(crate) fn serve(
+    alloc: Global,
+    config: &[u8],
+    spool: &mut MemSpool,
+    floor: &mut ScriptFloor,
+) -> Result<()> {
     let words = words(alloc)?;
-    let mut files = files(alloc)?;
-    let mut floor = floor(alloc, messages)?;
+    let mut files = files(alloc, config)?;
     let mut clock = MemClock::new(1_767_225_600, 0);
     let mut input = MemSource::new(Text::new(alloc), Seq::new(alloc));
     let mut output = MemSink::new(alloc, Seq::new(alloc));
@@ -108,7 +113,7 @@ fn serve(alloc: Global, spool: &mut MemSpool, messages: u32) -> Result<()> {
         &words,
         &mut files,
         spool,
-        &mut floor,
+        floor,
         &mut clock,
         &mut input,
         &mut output,
