@@ -5,6 +5,7 @@
 //! of its names as the third word says. It tells how many rows came, how many times the file was
 //! read, or how many names were found.
 
+use crate::number::FIRST;
 use alias_expand::{Aliases, Homes, expand};
 use anyhow::{Result, bail, ensure};
 use cf_reader::read;
@@ -18,9 +19,6 @@ const CONFIG: &[u8] = b"Mlocal, P=/bin/mail, F=lsDFMAw, A=mail -d $u\nS0\nR$*\t$
 
 /// As many aliases deep as MaxAliasRecursion allows where it isn't set.
 const LINKS: u32 = 10;
-
-/// The number of the first name: all have seven digits, so that twice the names are twice the bytes.
-const FIRST: u32 = 1_000_000;
 
 pub(crate) fn answer(alloc: Global, over: Option<&str>, rounds: u32) -> Result<String> {
     let (what, count) = words(over.unwrap_or("members/10000"))?;

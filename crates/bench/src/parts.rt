@@ -2,7 +2,7 @@
 //! 10,000 where that is left out, and becomes entries of a hundred of them. It tells how many calls
 //! of the spool that took, those to open the queue too.
 
-use crate::number::number_or;
+use crate::number::{FIRST, number_or};
 use crate::queue::serve;
 use anyhow::Result;
 use link_edge::{ScriptFloor, Step};
@@ -13,9 +13,6 @@ use std::alloc::Global;
 // Each address goes to a mailer, whose group has entries of a hundred rows.
 const CONFIG: &[u8] = b"Qhundreds, Path=/var/spool/mqueue, recipients=100\n\
         Mlocal, P=/bin/mail, Q=hundreds, A=mail -d $u\nS0\nR$*\t$#local $: $1\n";
-
-/// The number of the first name: all have seven digits, so that twice the names are twice the bytes.
-const FIRST: u32 = 1_000_000;
 
 pub(crate) fn answer(alloc: Global, recipients: Option<&str>, rounds: u32) -> Result<String> {
     let recipients = number_or(recipients, 10_000)?;
