@@ -1,51 +1,58 @@
 #!/bin/bash
-# Microseconds, the best of five runs, to expand an alias of 1,250 to 10,000 members, and a chain of ten aliases of 125 to
-# 1,000 members each; to read an alias file of 25,000, 50,000 and 100,000 lines; and for a message of 1,250 to 10,000
-# recipients in entries of a hundred, from MAIL to its reply over a spool in memory, with the calls of the spool that it
-# takes. Nanoseconds a look-up of an alias, of 1,000,000. Behind each stands how many times as much it is as the one before.
-# The program is crates/bench, or another one that PROGRAM names. This is no part of the gate.
+# Nanoseconds, the best of five runs, and, where valgrind is installed, instructions: to expand an alias of 1,250 to 10,000
+# members, and a chain of ten aliases of 125 to 1,000 members each; to read an alias file of 25,000 to 100,000 lines; for a
+# look-up of one of its names; and for a message of 1,250 to 10,000 recipients in entries of a hundred, from MAIL to its
+# reply over a spool in memory. Behind each stands how many times as much it is as the one before. Last come the calls of
+# the spool for such a message. The program is crates/bench, or another one that PROGRAM names. This is no part of the gate.
 . "$(dirname "$0")/bench.sh"
 
 best() {
     for _ in 1 2 3 4 5; do taken "$bench" "$@"; done | sort -n | head -1
 }
 
-# Nanoseconds that one time takes, of so many, and what the program told of these.
+# Instructions that the program takes.
+counted() {
+    valgrind --tool=callgrind --callgrind-out-file=/dev/null "$bench" "$@" 2>&1 > /dev/null | sed -n 's/.*Collected : //p'
+}
+
+# What one time takes by a measure, of so many.
 each() {
     local once often
-    once=$(best "$1" "$2" 1)
-    often=$(best "$1" "$2" $(($3 + 1)))
-    echo $(((often - once) / $3))
+    once=$("$1" "$3" "$4" 0000001)
+    often=$("$1" "$3" "$4" "$(printf %07d $(($2 + 1)))")
+    echo $(((often - once) / $2))
 }
 
-# How many times as much a number is as the one before, if there is one, in hundredths.
-times() {
-    if [ "$2" -gt 0 ]; then
-        printf ', %d.%02d times' $(($1 / $2)) $(($1 * 100 / $2 % 100))
-    fi
-}
-
-# What each of some numbers of things takes, which the program does so many times.
+# The same of some numbers of things, and how it grows.
 grown() {
-    local before=0 now
-    for count in "${@:4}"; do
-        now=$(each aliases "$1/$count" "$3")
-        echo "$count $2: $((now / 1000)) microseconds$(times "$now" "$before"): $(cat "$work/answer")"
+    local before=0 now count
+    for count in "${@:7}"; do
+        now=$(each "$1" "$3" "$4" "$5$count")
+        printf '%s %s: %s %s' "$count" "$6" "$now" "$2"
+        [ "$before" = 0 ] || printf ', %d.%02d times' $((now / before)) $((now * 100 / before % 100))
+        echo
         before=$now
     done
 }
 
-grown members 'members of an alias' 10 1250 2500 5000 10000
-grown chain 'members of each of ten aliases' 10 125 250 500 1000
-grown file 'lines of an alias file' 10 25000 50000 100000
-for lines in 25000 50000 100000; do
-    echo "$lines lines: $(each aliases "names/$lines" 1000000) nanoseconds a look-up: $(cat "$work/answer")"
-done
-before=0
+# All by a measure, its unit, and of how many times; look-ups of how many.
+measured() {
+    grown "$1" "$2" "$3" aliases members/ 'members of an alias' 1250 2500 5000 10000
+    grown "$1" "$2" "$3" aliases chain/ 'members of each of ten aliases' 125 250 500 1000
+    grown "$1" "$2" "$3" aliases file/ 'lines of an alias file' 25000 50000 100000
+    grown "$1" "$2" "$4" aliases names/ 'names of which one is looked up' 25000 50000 100000
+    grown "$1" "$2" "$3" parts '' 'recipients of a message' 1250 2500 5000 10000
+}
+
+# Calls of the spool for so many messages to so many recipients, and to open the queue.
+calls() {
+    "$bench" parts "$1" "$2" | sed 's/.* by \(.*\) calls/\1/'
+}
+
+measured best nanoseconds 5 1000000
+if command -v valgrind > /dev/null; then
+    measured counted instructions 1 10000
+fi
 for recipients in 1250 2500 5000 10000; do
-    "$bench" parts "$recipients" 1 > "$work/one"
-    now=$(each parts "$recipients" 5)
-    calls=$((($(grep -o '[0-9]* calls' "$work/answer" | cut -d ' ' -f 1) - $(grep -o '[0-9]* calls' "$work/one" | cut -d ' ' -f 1)) / 5))
-    echo "$recipients recipients: $((now / 1000)) microseconds$(times "$now" "$before"), $calls calls"
-    before=$now
+    echo "$recipients recipients: $(($(calls "$recipients" 2) - $(calls "$recipients" 1))) calls"
 done

@@ -105,7 +105,7 @@ fn found(alloc: Global, aliases: &Aliases, lines: u32, rounds: u32) -> Result<u3
     let mut found = 0u32;
     for round in 0..rounds {
         let mut name = Text::new(alloc);
-        add_name(&mut name, "N", FIRST + round % lines.max(1))?;
+        add_name(&mut name, "N", FIRST.saturating_add(round % lines.max(1)))?;
         if aliases.members(&name).is_some() {
             found = found.saturating_add(1);
         }
