@@ -64,14 +64,21 @@ fn measured<R: rt::Files + Alloc<A = Global>>(
         "classes" => classes::answer(alloc, over, rounds),
         "maps" => maps::answer(alloc, over, rounds),
         "matches" => matches::answer(alloc, over, rounds),
-        "parts" => parts::answer(alloc, over, rounds),
         "rules" => rules::answer(alloc, over, rounds),
+        _ => measured_of_queue(alloc, what, over, rounds),
+    }
+}
+
+// Does it to a queue.
+fn measured_of_queue(alloc: Global, what: &str, over: Option<&str>, rounds: u32) -> Result<String> {
+    match what {
         "table" => table::changes(alloc, over, rounds),
         "idle" => table::idle(alloc, over, rounds),
         "woken" => table::woken(alloc, over, rounds),
         "spool" => spool::answer(alloc, over, rounds),
         "commits" => queue::commits(alloc, over, rounds),
         "opening" => queue::opening(alloc, over, rounds),
+        "parts" => parts::answer(alloc, over, rounds),
         _ => bail!("nothing to measure"),
     }
 }
