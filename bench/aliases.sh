@@ -1,9 +1,11 @@
 #!/bin/bash
-# Nanoseconds, the best of five runs, and, where valgrind is installed, instructions: to expand an alias of 1,250 to 10,000
-# members, and a chain of ten aliases of 125 to 1,000 members each; to read an alias file of 25,000 to 100,000 lines; for a
-# look-up of one of its names; and for a message of 1,250 to 10,000 recipients in entries of a hundred, from MAIL to its
-# reply over a spool in memory. Behind each stands how many times as much it is as the one before. Last come the calls of
-# the spool for such a message. The program is crates/bench, or another one that PROGRAM names. This is no part of the gate.
+# Nanoseconds, the best of five runs, and, where valgrind is installed, instructions: to expand an
+# alias of 1,250 to 10,000 members, and a chain of ten aliases of 125 to 1,000 members each; to read
+# an alias file of 25,000 to 100,000 lines; for a look-up of one of its names; and for a message of
+# 1,250 to 10,000 recipients in entries of a hundred, from MAIL to its reply over a spool in memory.
+# Behind each stands how many times as much it is as the one before. Last come the calls of the
+# spool for such a message. The program is crates/bench, or another one that PROGRAM names. This is
+# no part of the gate.
 . "$(dirname "$0")/bench.sh"
 
 best() {
