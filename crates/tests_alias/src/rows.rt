@@ -149,9 +149,12 @@ struct Names {
     homes: Homes,
 }
 
-fn names_of(alloc: Global) -> Result<Names, Fail> {
+fn names_of(alloc: Global, text: &Text) -> Result<Names, Fail> {
+    if text.len() >= 1 << 32 {
+        return Err(Fail::from("a large text"));
+    }
     let mut aliases = Aliases::new(alloc);
-    if aliases.read(&Text::of(alloc, ALIASES)?).is_err() {
+    if aliases.read(text).is_err() {
         return Err(Fail::from("refused aliases"));
     }
     let homes = Homes::read(alloc, &Text::of(alloc, HOMES)?)?;
@@ -189,12 +192,50 @@ fn wrong_row(alloc: Global, world: &World, names: &Names) -> Result<Option<usize
 
 fn wrong(alloc: Global) -> Result<Option<usize>, Fail> {
     let world = world_of(alloc)?;
-    let names = names_of(alloc)?;
+    let names = names_of(alloc, &Text::of(alloc, ALIASES)?)?;
     wrong_row(alloc, &world, &names)
 }
 
 #[test]
 fn addresses_have_their_rows(rt: HostRuntime) -> Result<(), Fail> {
     assert_eq!(rt; wrong(rt.alloc())?, None);
+    Ok(())
+}
+
+// An alias of so many members, for each of which a file is read.
+fn reading_so_often(alloc: Global, count: u32) -> Result<Text, NoMemory> {
+    let mut text = Text::of(alloc, b"all: ann")?;
+    for number in 0..count {
+        add_words(&mut text, &format!(in alloc; ", r{number}")?)?;
+    }
+    for number in 0..count {
+        add_words(
+            &mut text,
+            &format!(in alloc; "\nr{number}: :include:/empty")?,
+        )?;
+    }
+    Ok(text)
+}
+
+fn add_words(text: &mut Text, words: &str) -> Result<(), NoMemory> {
+    text.extend(words.as_bytes())
+}
+
+fn is_read_so_often(alloc: Global, count: u32, row: &Row) -> Result<bool, Fail> {
+    let world = world_of(alloc)?;
+    let names = names_of(alloc, &reading_so_often(alloc, count)?)?;
+    is_right(alloc, &world, &names, row)
+}
+
+#[test]
+fn files_are_read_so_often_and_no_more(rt: HostRuntime) -> Result<(), Fail> {
+    let row = (
+        b"all".as_slice(),
+        b"<s>".as_slice(),
+        b"ann<s>local//ann;".as_slice(),
+    );
+    assert!(rt; is_read_so_often(rt.alloc(), 20_000, &row)?);
+    let row = (b"all".as_slice(), b"<s>".as_slice(), b"too many".as_slice());
+    assert!(rt; is_read_so_often(rt.alloc(), 20_001, &row)?);
     Ok(())
 }
