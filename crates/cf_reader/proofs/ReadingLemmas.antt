@@ -1,7 +1,6 @@
 -- Reading line by line.
-use Rattle.std.proofs.Common.{◌≡◌, ◌∙◌, ℕ, ◌+◌, ◌<◌, false, List, ◌∷◌, length, drop, get_or, Some, None, Ok, Err, sym, ap, subst}
+use Rattle.std.proofs.Common.{◌≡◌, ◌∙◌, ℕ, false, List, ◌∷◌, Some, None, Ok, Err, sym, ap, subst}
 use Rattle.std.specs.Prelude.{Option, Result, IfSome}
-use Rattle.std.proofs.lemmas.List.{drop_more}
 use Rattle.mail_base.specs.declared.config.Config.{Config}
 use Rattle.mail_edge.specs.Seen.{FileMap, FilesSeen}
 use Rattle.cf_reader.specs.declared.fault.CfFault.{CfFault}
@@ -26,10 +25,11 @@ if_both : {P Q R : FileMap → Type 0} (files : Option FileMap) → ((map : File
 if_both None f h k = tt
 if_both (Some map) f h k = f map h k
 
--- ---- one line
+-- what holds of what may be there holds of what is there
+pub found_in : {X : Type 0} (P : X → Type 0) (o : Option X) (x : X) → o ≡ Some x → IfSome o P → P x
+found_in P o x e h = subst (λ o. IfSome o P) e h
 
-next_line : (lines : List Logical) (k : ℕ) (line : Logical) → k < length lines → line ≡ get_or lines k line → drop k lines ≡ line ∷ drop (k + 1) lines
-next_line lines k line lt here = drop_more lines k line lt ∙ ap (λ (l : Logical). l ∷ drop (k + 1) lines) (sym here)
+-- ---- one line
 
 line_stops : (map : FileMap) (state new : State) (line : Logical) (lines : List Logical) (e : CfFault) (meant : Result Config CfFault) → Goes (Err e) line.number (fault map state line.text) (after_line map line state) new
     → read_lines map state (line ∷ lines) ≡ meant → Gives (Err e) meant
@@ -48,21 +48,21 @@ line_goes_on map state new line lines meant goes rest =
 -- ---- the lines that are left
 
 -- where a line is refused, the reading of the whole ends with that fault
-pub read_stops : (first now : FilesSeen) (state new : State) (lines : List Logical) (k : ℕ) (line : Logical) (e : CfFault) (meant : FileMap → Result Config CfFault) → k < length lines → line ≡ get_or lines k line → Asks first now false
-    → IfSome first.map (λ map. read_lines map state (drop k lines) ≡ meant map) → IfSome now.map (λ map. Goes (Err e) line.number (fault map state line.text) (after_line map line state) new)
+pub read_stops : (first now : FilesSeen) (state new : State) (left later : List Logical) (line : Logical) (e : CfFault) (meant : FileMap → Result Config CfFault) → left ≡ line ∷ later → Asks first now false
+    → IfSome first.map (λ map. read_lines map state left ≡ meant map) → IfSome now.map (λ map. Goes (Err e) line.number (fault map state line.text) (after_line map line state) new)
     → IfSome first.map (λ map. Gives (Err e) (meant map))
-read_stops first now state new lines k line e meant lt here asks rest goes =
+read_stops first now state new left later line e meant is asks rest goes =
     if_both first.map
-    (λ map r g. line_stops map state new line (drop (k + 1) lines) e (meant map) g (ap (read_lines map state) (sym (next_line lines k line lt here)) ∙ r))
+    (λ map r g. line_stops map state new line later e (meant map) g (ap (read_lines map state) (sym is) ∙ r))
     rest
     (subst (λ (m : Option FileMap). IfSome m (λ map. Goes (Err e) line.number (fault map state line.text) (after_line map line state) new)) asks.fixed goes)
 
 -- where a line is taken, the reading of the whole goes on behind it
-pub read_on : (first now : FilesSeen) (state new : State) (lines : List Logical) (k : ℕ) (line : Logical) (meant : FileMap → Result Config CfFault) → k < length lines → line ≡ get_or lines k line → Asks first now false
-    → IfSome first.map (λ map. read_lines map state (drop k lines) ≡ meant map) → IfSome now.map (λ map. Goes (Ok tt) line.number (fault map state line.text) (after_line map line state) new)
-    → IfSome first.map (λ map. read_lines map new (drop (k + 1) lines) ≡ meant map)
-read_on first now state new lines k line meant lt here asks rest goes =
+pub read_on : (first now : FilesSeen) (state new : State) (left later : List Logical) (line : Logical) (meant : FileMap → Result Config CfFault) → left ≡ line ∷ later → Asks first now false
+    → IfSome first.map (λ map. read_lines map state left ≡ meant map) → IfSome now.map (λ map. Goes (Ok tt) line.number (fault map state line.text) (after_line map line state) new)
+    → IfSome first.map (λ map. read_lines map new later ≡ meant map)
+read_on first now state new left later line meant is asks rest goes =
     if_both first.map
-    (λ map r g. line_goes_on map state new line (drop (k + 1) lines) (meant map) g (ap (read_lines map state) (sym (next_line lines k line lt here)) ∙ r))
+    (λ map r g. line_goes_on map state new line later (meant map) g (ap (read_lines map state) (sym is) ∙ r))
     rest
     (subst (λ (m : Option FileMap). IfSome m (λ map. Goes (Ok tt) line.number (fault map state line.text) (after_line map line state) new)) asks.fixed goes)

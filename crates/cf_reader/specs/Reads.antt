@@ -1,5 +1,5 @@
 -- What reading gives, what it asks of the files, and the first fault of a table (our own).
-use Rattle.std.specs.Prelude.{◌≡◌, ◌≤◌, Bool, true, false, List, [], ◌∷◌, Option, Some, None, Result, Ok, Err, if◌then◌else◌}
+use Rattle.std.specs.Prelude.{◌≡◌, Bool, true, false, List, [], ◌∷◌, Option, Some, None, Result, Ok, Err, if◌then◌else◌}
 use Rattle.mail_base.specs.declared.config.Config.{Config}
 use Rattle.cf_reader.specs.declared.fault.CfFault.{CfFault}
 use Rattle.cf_reader.specs.declared.fault.CfFault.TheVariants as whole

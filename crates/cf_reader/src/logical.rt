@@ -1,10 +1,10 @@
-ghost use Rattle.std.specs.Prelude.{◌≡◌, ◌<◌, ◌^◌, ◌∷◌, length, IfOk};
+ghost use Rattle.std.specs.Prelude.{◌≡◌, ◌+◌, ◌<◌, ◌≤◌, ◌^◌, [], ◌∷◌, length, IfNone, IfOk, IfSome, false};
 ghost use Rattle.std.specs.List.{take_while};
 ghost use Rattle.cf_reader.specs.LogicalLines.{physical_lines};
 ghost use Rattle.cf_reader.specs.LogicalLines as spec;
-ghost use Rattle.cf_reader.specs.inner.Scans.{numbered_from, read_on};
+ghost use Rattle.cf_reader.specs.inner.Scans.{left, read_on};
 
-use mail_base::{NoMemory, Seq, Text, split_line};
+use mail_base::{NoMemory, Text, split_line};
 use std::alloc::Global;
 
 /// A logical line of a configuration file, and the number of its first physical line, from 1.
@@ -14,32 +14,32 @@ pub struct Logical {
     pub text: Text,
 }
 
-/// The logical lines of a text, without those that say nothing and without comments.
-#[tactic(auto, using(crate::proofs::ScanLemmas::lines_read))]
-pub fn logical_lines(alloc: Global, text: &[u8]) -> Result<Seq<Logical>, NoMemory>
-    requires { length text.now < 2 ^ 32 }
-    ensures { IfOk result (λ lines. lines ≡ spec.logical_lines text.now) }
+/// The next logical line of a text behind so many physical lines, with what follows its first
+/// physical line, or `None` where there is none.
+pub fn next_line<'a>(
+    alloc: Global,
+    number: u32,
+    text: &'a [u8],
+) -> Result<Option<(Logical, &'a [u8])>, NoMemory>
+    requires { number + length text.now < 2 ^ 32 }
+    ensures some { IfOk result (λ next. IfSome next (λ found.
+        (left number text.now ≡ found.0 ∷ left found.0.number found.1.now)
+        × (found.0.number + length found.1.now ≤ number + length text.now)
+        × (length found.1.now < length text.now))) }
+    ensures none { IfOk result (λ next. IfNone next (left number text.now ≡ [])) }
 {
-    numbered_lines(alloc, text)
-}
-
-fn numbered_lines(alloc: Global, text: &[u8]) -> Result<Seq<Logical>, NoMemory>
-    requires { length text.now < 2 ^ 32 }
-    ensures { IfOk result (λ lines. lines ≡ numbered_from 1 (physical_lines text.now)) }
-{
-    let mut lines = Seq::new(alloc);
     let mut rest = text;
-    let mut number: u32 = 0;
+    let mut number = number;
     while !rest.is_empty() {
         let (line, after) = split_line(rest);
         number += 1;
         if !is_indented(line) && !is_silent(line) {
             let text = whole_line(alloc, line, after)?;
-            lines.push(Logical { number, text })?;
+            return Ok(Some((Logical { number, text }, after)));
         }
         rest = after;
     }
-    Ok(lines)
+    Ok(None)
 }
 
 fn is_indented(line: &[u8]) -> bool
@@ -75,8 +75,21 @@ fn whole_line(alloc: Global, line: &[u8], after: &[u8]) -> Result<Text, NoMemory
         (λ whole. whole ≡ spec.uncommented
         (spec.joined line.now (take_while spec.is_indented (physical_lines after.now)))) }
 {
+    if !goes_on(after) {
+        return uncommented(alloc, line);
+    }
     let joined = joined(alloc, line, after)?;
     uncommented(alloc, joined.bytes())
+}
+
+// Whether a text begins with lines that belong to the one before.
+fn goes_on(text: &[u8]) -> bool
+    ensures { result ≡ false → take_while spec.is_indented (physical_lines text.now) ≡ [] }
+{
+    if text.is_empty() {
+        return false;
+    }
+    is_indented(split_line(text).0)
 }
 
 fn joined(alloc: Global, line: &[u8], after: &[u8]) -> Result<Text, NoMemory>
@@ -155,7 +168,7 @@ fn trimmed(text: &[u8]) -> &[u8]
 fn unshielded(alloc: Global, text: &[u8]) -> Result<Text, NoMemory>
     ensures { IfOk result (λ plain. plain ≡ spec.unshielded text.now) }
 {
-    let mut plain = Text::new(alloc);
+    let mut plain = Text::from_vec(Vec::with_capacity(alloc, text.len())?);
     for index in 0..text.len() {
         let is_shield = text[index] == b'\\' && text.get(index + 1) == Some(&b'#');
         if !is_shield {

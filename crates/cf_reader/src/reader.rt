@@ -9,7 +9,7 @@ ghost use Rattle.cf_reader.specs.inner.Steps as spec;
 ghost use Rattle.cf_reader.specs.inner.Steps.{Goes, Seeks, Steps, fault_at, fault_of_other};
 
 use crate::fault::{CfFault, Fault, LineStop};
-use crate::logical::{Logical, logical_lines};
+use crate::logical::{Logical, next_line};
 use crate::state::State;
 use mail_base::{Config, Text};
 use mail_edge::Files;
@@ -25,10 +25,13 @@ pub fn read<F: Files>(alloc: Global, text: &Text, files: &mut F) -> Result<Confi
         (λ map. Gives result (configuration map text.now)) }
     ensures asks { Asks (F.seen files.old) (F.seen files.new) (is_failed result) }
 {
-    let lines = logical_lines(alloc, text.bytes())?;
     let mut state = State::new(alloc)?;
-    for line in lines.items() {
-        step(alloc, files, line, &mut state)?;
+    let mut number = 0;
+    let mut rest = text.bytes();
+    while let Some((line, after)) = next_line(alloc, number, rest)? {
+        step(alloc, files, &line, &mut state)?;
+        number = line.number;
+        rest = after;
     }
     Ok(state.finish(alloc)?)
 }

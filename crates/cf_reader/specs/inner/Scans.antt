@@ -3,7 +3,7 @@
 use Rattle.std.specs.Prelude.{ℕ, ◌+◌, List, [], ◌∷◌, ◌&&◌, ◌||◌, ◌==◌, not, if◌then◌else◌}
 use Rattle.std.specs.List.{take_while}
 use Rattle.cf_reader.specs.declared.logical.Logical.{Logical}
-use Rattle.cf_reader.specs.LogicalLines.{is_indented, is_silent, is_shield, joined, uncommented}
+use Rattle.cf_reader.specs.LogicalLines.{is_indented, is_silent, is_shield, joined, physical_lines, uncommented}
 
 -- what stands before the comment, read on after this byte
 abbrev pub read_on : ℕ → List ℕ → List ℕ
@@ -17,3 +17,7 @@ numbered_from number (line ∷ lines) =
     if is_indented line || is_silent line then numbered_from (number + 1) lines
     else record { number = number; text = uncommented (joined line (take_while is_indented lines)) }
     ∷ numbered_from (number + 1) lines
+
+-- the lines of a text that follows so many physical lines
+abbrev pub left : ℕ → List ℕ → List Logical
+left number text = numbered_from (number + 1) (physical_lines text)
