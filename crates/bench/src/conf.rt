@@ -8,18 +8,28 @@ use cf_reader::{CfFault, read};
 use mail_base::{Config, NoMemory, Seq, Text};
 use mail_edge::SureFiles;
 use std::alloc::Global;
-use std::{fs, rt};
+use std::{fs, mem, rt};
+
+/// What becomes of a configuration that was read.
+#[derive(Clone, Copy)]
+pub(crate) enum Then {
+    /// Its memory is given back.
+    Drops,
+    /// It stays to the end of the program, as that of a real run does.
+    Keeps,
+}
 
 pub(crate) fn answer<R: rt::Files + Alloc<A = Global>>(
     rt: &R,
     over: Option<&str>,
     rounds: u32,
+    then: Then,
 ) -> Result<String> {
     let alloc = rt.alloc();
     let text = text_of(rt, over)?;
     let mut answer = String::new(alloc);
     for _ in 0..rounds {
-        answer = read_once(alloc, &text)?;
+        answer = read_once(alloc, &text, then)?;
     }
     Ok(answer)
 }
@@ -69,16 +79,25 @@ fn files(alloc: Global) -> Result<SureFiles> {
     SureFiles::new(files).context("a large file")
 }
 
-fn read_once(alloc: Global, text: &Text) -> Result<String> {
+fn read_once(alloc: Global, text: &Text, then: Then) -> Result<String> {
     if text.len() >= 1 << 32 {
         bail!("a large configuration");
     }
     match read(alloc, text, &mut files(alloc)?) {
-        Ok(config) => Ok(counts(alloc, &config)?),
+        Ok(config) => told(alloc, config, then),
         Err(CfFault::Refused { line, fault }) => Ok(format!(in alloc; "line {line}: {fault}")?),
         Err(CfFault::FilesFault) => bail!("files fault"),
         Err(CfFault::NoMemory) => bail!("no memory"),
     }
+}
+
+fn told(alloc: Global, config: Config, then: Then) -> Result<String> {
+    let counts = counts(alloc, &config)?;
+    match then {
+        Then::Drops => {}
+        Then::Keeps => mem::forget(config),
+    }
+    Ok(counts)
 }
 
 fn counts(alloc: Global, config: &Config) -> Result<String, NoMemory> {

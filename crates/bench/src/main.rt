@@ -1,8 +1,8 @@
 //! Does one thing over much input, so that its time can be measured. The first word says what:
-//! `lines`, `headers`, `body`, `receipt`, `tokens`, `control`, `conf`, `maps`, `matches`, `rules`,
-//! `classes`, `aliases`, `parts`, `table`, `idle`, `woken`, `spool`, `commits` or `opening`. The
-//! second says over what, as each module tells, and the third how many times it is done, once where
-//! it is left out. The scripts in `bench/` measure it.
+//! `lines`, `headers`, `body`, `receipt`, `tokens`, `control`, `conf`, `kept`, `maps`, `matches`,
+//! `rules`, `classes`, `aliases`, `parts`, `table`, `idle`, `woken`, `spool`, `commits` or
+//! `opening`. The second says over what, as each module tells, and the third how many times it is
+//! done, once where it is left out. The scripts in `bench/` measure it.
 #![tactic(auto)]
 
 mod aliases;
@@ -22,6 +22,7 @@ mod spool;
 mod table;
 mod tokens;
 
+use crate::conf::Then;
 use crate::gather::Part;
 use anyhow::{Result, bail};
 use std::alloc::Global;
@@ -58,7 +59,8 @@ fn measured<R: rt::Files + Alloc<A = Global>>(
         "body" => gather::answer(alloc, Part::Body, over, rounds),
         "receipt" => receipt::answer(alloc, over, rounds),
         "tokens" => tokens::answer(alloc, over, rounds),
-        "conf" => conf::answer(rt, over, rounds),
+        "conf" => conf::answer(rt, over, rounds, Then::Drops),
+        "kept" => conf::answer(rt, over, rounds, Then::Keeps),
         "control" => control::answer(alloc, over, rounds),
         "aliases" => aliases::answer(alloc, over, rounds),
         "classes" => classes::answer(alloc, over, rounds),
