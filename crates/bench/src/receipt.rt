@@ -3,19 +3,14 @@
 //! these are left out. Each time a message comes: one of 65,520 bytes of headers, or one of
 //! 16,777,200 bytes of body. It tells how many bytes were received.
 
-ghost use Rattle.std.specs.Prelude.{◌<◌, IfOk};
-ghost use Rattle.mail_base.specs.Answering.{Answerer};
-ghost use Rattle.mail_base.specs.Texts.{IsAddress, IsBracketed};
-ghost use Rattle.mail_base.specs.Drawing.{AreRows, IsDrawn};
-ghost use Rattle.smtp_receive.specs.Judging.{Question, Said};
+ghost use Rattle.std.specs.Prelude.{◌<◌};
 
 use crate::gather::{Part, message};
 use anyhow::{Result, bail, ensure};
-use mail_base::{
-    Config, Draw, JudgeFault, Kept, NoMemory, Resolved, RouteError, Seq, Text, Triple, TryCopy,
-};
+use judge_samples::TestJudge;
+use mail_base::{Config, NoMemory, Seq, Text};
 use smtp_lines::{Line, Lines};
-use smtp_receive::{Did, Judge, Session, Verdict};
+use smtp_receive::{Did, Session};
 use std::alloc::Global;
 
 /// What the peer says before each message.
@@ -39,75 +34,6 @@ fn words(over: &str) -> Result<(&str, usize)> {
     match over.split_once('/') {
         Some((name, size)) => Ok((name, size.parse()?)),
         None => Ok((over, 65_536)),
-    }
-}
-
-/// A judge that accepts all, with one row a recipient.
-#[derive(Drop)]
-struct Willing;
-
-impl Judge for Willing {
-    ghost use Rattle.std.specs.Prelude.{false};
-
-    ghost seen = { λ _. record { faults = 0; tells = false } };
-
-    ghost answers = { λ _ _ _. Unit {0} };
-
-    ghost fixed = { λ _. tt };
-
-    fn sender(
-        &mut self,
-        _alloc: Global,
-        _path: &Text,
-        _kept: &Kept,
-    ) -> Result<Option<RouteError>, JudgeFault> {
-        Ok(None)
-    }
-
-    fn recipient(
-        &mut self,
-        alloc: Global,
-        path: &Text,
-        sender: &Text,
-        _kept: &Kept,
-    ) -> Result<Verdict, JudgeFault> {
-        // A path with its angles has some bytes.
-        if path.is_empty() {
-            return Err(JudgeFault::NoMemory);
-        }
-        Ok(Verdict::Rows(one_row(alloc, path, sender)?))
-    }
-}
-
-#[tactic(auto, unfolding(mail_base::specs::Limits::most_rows))]
-fn one_row(alloc: Global, path: &Text, sender: &Text) -> Result<Seq<Draw>, NoMemory>
-    requires path { IsAddress path.now }
-    requires sender { IsBracketed sender.now }
-    ensures { IfOk result AreRows }
-{
-    let mut rows = Seq::new(alloc);
-    rows.push(row_of(alloc, path, sender)?)?;
-    Ok(rows)
-}
-
-fn row_of(alloc: Global, path: &Text, sender: &Text) -> Result<Draw, NoMemory>
-    requires path { IsAddress path.now }
-    requires sender { IsBracketed sender.now }
-    ensures { IfOk result IsDrawn }
-{
-    Ok(Draw {
-        address: path.copy()?,
-        sender: sender.copy()?,
-        primary: true,
-        resolved: Resolved::Goes(triple(alloc)),
-    })
-}
-
-fn triple(alloc: Global) -> Triple {
-    Triple {
-        mailer: Text::new(alloc),
-        host: Text::new(alloc),
-        user: Text::new(alloc),
     }
 }
 
@@ -161,8 +87,7 @@ fn hear(session: &mut Session, config: &Config, lines: &Seq<Line>) -> Result<u64
 }
 
 fn hear_line(session: &mut Session, config: &Config, line: &Line) -> Result<u64, NoMemory> {
-    let mut judge = Willing;
-    match session.line(line, config, &mut judge) {
+    match session.line(line, config, &mut TestJudge::new()) {
         Ok(did) => Ok(size_of(&did)),
         Err(_fault) => Err(NoMemory),
     }

@@ -4,8 +4,8 @@ use crate::shown::{
     put_paths, put_places, put_precedence, put_rule, put_set, put_times,
 };
 use cf_reader::{CfFault, read};
-use mail_base::{Config, NoMemory, Seq, Text};
-use mail_edge::{MemFiles, SureFiles};
+use mail_base::{Config, NoMemory, Text};
+use mail_edge::MemFiles;
 use std::alloc::Global;
 use std::test::Fail;
 
@@ -28,13 +28,7 @@ static FILES: [(&str, &[u8]); 4] = [
 
 /// Files that hold these texts, of whose calls these fail.
 pub(crate) fn files_of(alloc: Global, failing: &[u64]) -> Result<MemFiles, Fail> {
-    let mut files = Seq::new(alloc);
-    for (name, text) in &FILES {
-        files.push((Text::of(alloc, name.as_bytes())?, Text::of(alloc, text)?))?;
-    }
-    let sure = SureFiles::new(files).ok_or("a large text")?;
-    let calls = Vec::from_slice(alloc, failing).map_err(NoMemory::from)?;
-    Ok(MemFiles::new(sure, Seq::from_vec(calls)))
+    config_samples::files_of(alloc, &FILES, failing)
 }
 
 fn put_fault(out: &mut Text, fault: CfFault) -> Result<(), Fail> {

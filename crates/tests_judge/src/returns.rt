@@ -2,8 +2,9 @@
 ghost use Rattle.std.specs.Prelude.{IfOk};
 ghost use Rattle.mail_base.specs.Texts.{IsAddress};
 
+use crate::shown::put_rows;
 use crate::worlds::{World, files_of, world_of};
-use mail_base::{Draw, Draws, JudgeFault, NoMemory, Resolved, Seq, Text, Triple};
+use mail_base::{Draw, Draws, JudgeFault, NoMemory, Seq, Text};
 use mail_edge::MemFiles;
 use mail_judge::{Grounds, Returns};
 use std::alloc::Global;
@@ -18,14 +19,17 @@ static ROWS: [Row; 11] = [
     (b"<ann>", b"<ann>=<>local//ann;"),
     (b"ann", b"ann=<>local//ann;"),
     (b"<two>", b"ann<>local//ann;bob@far<>smtp/far/bob;"),
-    (b"<inc>", b"ann<>local//ann;bob@far<>smtp/far/bob;"),
+    (
+        b"<inc>",
+        b"ann<>local//ann;joe<>local//joe;bob@far<>smtp/far/bob;",
+    ),
     // The macro f is empty, though the configuration has another value.
     (b"<x@by>", b"<x@by>=<>smtp/f/x;"),
     // No check set is asked.
     (b"<no>", b"<no>=<>local//no;"),
     // No rows by aliases: a route that is an error, levels, a file that isn't there, a loop, and a
     // crowd.
-    (b"<ann@off>", b"<ann@off>=<>no;"),
+    (b"<ann@off>", b"<ann@off>=<>550 no;"),
     (b"<a1>", b"<a1>=<>local//a1;"),
     (b"<lost>", b"<lost>=<>local//lost;"),
     (b"<loop>", b"<loop>=<>local//loop;"),
@@ -55,34 +59,6 @@ fn drawn(
         files,
     };
     Ok(returns.draw(alloc, &receiver))
-}
-
-fn put_triple(out: &mut Text, triple: &Triple) -> Result<(), NoMemory> {
-    out.extend(triple.mailer.bytes())?;
-    out.push(b'/')?;
-    out.extend(triple.host.bytes())?;
-    out.push(b'/')?;
-    out.extend(triple.user.bytes())
-}
-
-fn put_row(out: &mut Text, row: &Draw) -> Result<(), NoMemory> {
-    out.extend(row.address.bytes())?;
-    if row.primary {
-        out.push(b'=')?;
-    }
-    out.extend(row.sender.bytes())?;
-    match &row.resolved {
-        Resolved::Goes(triple) => put_triple(out, triple)?,
-        Resolved::Refuses(error) => out.extend(error.text.bytes())?,
-    }
-    out.push(b';')
-}
-
-fn put_rows(out: &mut Text, rows: &Seq<Draw>) -> Result<(), NoMemory> {
-    for row in rows.items() {
-        put_row(out, row)?;
-    }
-    Ok(())
 }
 
 fn put_outcome(out: &mut Text, outcome: &Result<Seq<Draw>, JudgeFault>) -> Result<(), NoMemory> {

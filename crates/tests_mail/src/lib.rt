@@ -20,5 +20,3 @@ mod received;
 mod replies;
 #[cfg(test)]
 mod talk;
-#[cfg(test)]
-mod test_judge;

@@ -1,4 +1,4 @@
-use crate::test_judge::TestJudge;
+use judge_samples::TestJudge;
 use mail_base::{Config, Draw, Id, JudgeFault, Kept, Message, NoMemory, Precedence, Seq, Text};
 use smtp_lines::{Line, read_stream};
 use smtp_receive::{Did, Session, out_of_memory, too_many_sessions};

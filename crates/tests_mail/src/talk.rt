@@ -1,5 +1,5 @@
 use crate::receive::{session_of, tell};
-use crate::test_judge::TestJudge;
+use judge_samples::TestJudge;
 use mail_base::{Config, NoMemory, Precedence, Seq, Text};
 use smtp_lines::{Line, Lines};
 use smtp_receive::{Did, Session};

@@ -1,6 +1,6 @@
 // The queue group of a row, by its address and its mailer.
-use crate::settings::{config_of, maps_of};
-use mail_base::{Config, NoMemory, Text};
+use config_samples::config_of;
+use mail_base::{Config, NoMemory, Seq, Text};
 use map_tables::Maps;
 use queue_plan::group_of;
 use std::alloc::Global;
@@ -62,7 +62,7 @@ fn group(
 
 fn is_wrong(alloc: Global, row: &Row) -> Result<bool, Fail> {
     let config = config_of(alloc, row.0)?;
-    let maps = maps_of(alloc, &config)?;
+    let maps = Maps::load(alloc, &config, &Seq::new(alloc), &Text::new(alloc))?;
     let given = group(alloc, &config, &maps, row.1, row.2)?;
     Ok(given.bytes() != row.3)
 }

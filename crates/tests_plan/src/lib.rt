@@ -12,5 +12,3 @@ mod many;
 mod once;
 #[cfg(test)]
 mod parted;
-#[cfg(test)]
-mod settings;

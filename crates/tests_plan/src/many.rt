@@ -1,5 +1,5 @@
 // Messages of many rows.
-use crate::settings::config_of;
+use config_samples::config_of;
 use mail_base::{Config, Cut, Draw, NoMemory, Resolved, Seq, Text, Triple};
 use queue_plan::{distinct, parts};
 use std::alloc::Global;

@@ -1,6 +1,6 @@
 // The parts of rows, by sender and group.
 use crate::drawn::{put_addresses, rows_of, word};
-use crate::settings::config_of;
+use config_samples::config_of;
 use mail_base::{Config, Cut, NoMemory, Seq, Text};
 use queue_plan::parts;
 use std::alloc::Global;

@@ -3,12 +3,8 @@
 
 use crate::devices::files_with;
 use crate::parts::{are_lines, entries};
-use crate::serving::{outcome_over, said_to, script_floor};
-use link_edge::ScriptFloor;
-use mail_base::{NoMemory, Seq, Text};
-use mail_edge::MemFiles;
-use sendmail_run::Outcome;
-use spool_disk::{File, MemSpool};
+use crate::serving::{Served, serve};
+use mail_base::{NoMemory, Text};
 use std::alloc::Global;
 use std::test::Fail;
 
@@ -156,38 +152,10 @@ fn add_message(asked: &mut Text, sender: &[u8], recipients: &[u8]) -> Result<(),
     asked.extend(b">\r\nDATA\r\nSubject: hi\r\n\r\nhello\r\n.\r\n")
 }
 
-// How a session ended, and what it left.
-#[derive(Drop)]
-struct Served {
-    status: u8,
-    said: Text,
-    files: Seq<File>,
-}
-
-fn serve(alloc: Global, files: &mut MemFiles, asked: &[u8]) -> Result<Served, Fail> {
-    let mut spool = MemSpool::new(alloc, Seq::new(alloc));
-    let mut floor = script_floor(alloc, asked, 65_536, &[], &[])?;
-    let outcome = outcome_over(alloc, files, &mut spool, &mut floor)?;
-    served_as(alloc, &outcome, &floor, &spool)
-}
-
 // A session over the files, of which these calls fail.
 fn serve_failing(alloc: Global, failing: &[u64], asked: &[u8]) -> Result<Served, Fail> {
     let mut files = files_with(alloc, CONFIG, &FILES, failing)?;
-    serve(alloc, &mut files, asked)
-}
-
-fn served_as(
-    alloc: Global,
-    outcome: &Outcome,
-    floor: &ScriptFloor,
-    spool: &MemSpool,
-) -> Result<Served, Fail> {
-    Ok(Served {
-        status: outcome.status(),
-        said: said_to(alloc, floor, 1)?,
-        files: spool.files()?,
-    })
+    serve(alloc, &mut files, &[], asked)
 }
 
 // Whether a line of replies refuses a recipient, or one of a control text has a sender or a row.
@@ -350,7 +318,7 @@ fn serve_many(alloc: Global, members: &[u8]) -> Result<Served, Fail> {
     let aliases = b"many: :include:/many\n".as_slice();
     let beside = [("/etc/aliases", aliases), ("/many", members)];
     let mut files = files_with(alloc, CONFIG, &beside, &[])?;
-    serve(alloc, &mut files, TO_MANY)
+    serve(alloc, &mut files, &[], TO_MANY)
 }
 
 fn many_entries(alloc: Global) -> Result<Text, Fail> {

@@ -2,11 +2,10 @@
 ghost use Rattle.std.specs.Prelude.{◌<◌};
 
 use crate::devices::files_of;
-use crate::serving::{holds_in, outcome_over, said_to, steps};
+use crate::serving::{Served, holds_in, outcome_over, served_as, steps};
 use link_edge::ScriptFloor;
 use mail_base::{NoMemory, Seq, Text};
-use sendmail_run::Outcome;
-use spool_disk::{File, MemSpool};
+use spool_disk::MemSpool;
 use std::alloc::Global;
 use std::test::Fail;
 
@@ -28,31 +27,22 @@ static RECEIVED: &[u8] = b"220 mx.example ESMTP ready\r\n250-mx.example Hello\r\
     250 2.0.0 w000000000001 Message accepted for delivery\r\n\
     221 2.0.0 mx.example closing connection\r\n";
 
+// A message, and its control text.
+const HELLO: &[u8] = b"EHLO c.example\r\nMAIL FROM:<bob@c.example>\r\nRCPT TO:<ann@mx.example>\r\n\
+    DATA\r\nSubject: hi\r\n\r\nhello\r\n.\r\nQUIT\r\n";
+
+const HELLO_CONTROL: &[u8] = b"V1\nv1\ngmqueue\nT1767225600\nK0\nN0\nP30022\nc0\n\
+    S<bob@c.example>\n$rESMTP\n$sc.example\n${client_addr}\nRPFD:<ann@mx.example>\neQ\n\
+    HReceived: from c.example by mx.example with ESMTP id w000000000001; \
+    Thu, 1 Jan 2026 00:00:00 +0000\nHSubject: hi\n.\n";
+
 /// What a client says, of how many bytes each piece of it is, and the body and the control text of
 /// its message.
 type Row = (&'static [u8], u32, &'static [u8], &'static [u8]);
 
 static ROWS: [Row; 4] = [
-    (
-        b"EHLO c.example\r\nMAIL FROM:<bob@c.example>\r\nRCPT TO:<ann@mx.example>\r\nDATA\r\n\
-            Subject: hi\r\n\r\nhello\r\n.\r\nQUIT\r\n",
-        65_536,
-        b"hello\r\n",
-        b"V1\nv1\ngmqueue\nT1767225600\nK0\nN0\nP30022\nc0\nS<bob@c.example>\n$rESMTP\n\
-            $sc.example\n${client_addr}\nRPFD:<ann@mx.example>\neQ\n\
-            HReceived: from c.example by mx.example with ESMTP id w000000000001; \
-            Thu, 1 Jan 2026 00:00:00 +0000\nHSubject: hi\n.\n",
-    ),
-    (
-        b"EHLO c.example\r\nMAIL FROM:<bob@c.example>\r\nRCPT TO:<ann@mx.example>\r\nDATA\r\n\
-            Subject: hi\r\n\r\nhello\r\n.\r\nQUIT\r\n",
-        1,
-        b"hello\r\n",
-        b"V1\nv1\ngmqueue\nT1767225600\nK0\nN0\nP30022\nc0\nS<bob@c.example>\n$rESMTP\n\
-            $sc.example\n${client_addr}\nRPFD:<ann@mx.example>\neQ\n\
-            HReceived: from c.example by mx.example with ESMTP id w000000000001; \
-            Thu, 1 Jan 2026 00:00:00 +0000\nHSubject: hi\n.\n",
-    ),
+    (HELLO, 65_536, b"hello\r\n", HELLO_CONTROL),
+    (HELLO, 1, b"hello\r\n", HELLO_CONTROL),
     // Dots that were doubled, and lines that a bare LF doesn't end.
     (
         b"EHLO c.example\r\nMAIL FROM:<bob@c.example>\r\nRCPT TO:<ann@mx.example>\r\nDATA\r\n\
@@ -101,17 +91,9 @@ static ROUTED_SAID: &[u8] = b"220 mx.example ESMTP ready\r\n250-mx.example Hello
 static ROUTED_CONTROL: &[u8] = b"V1\nv1\ngmqueue\nT1767225600\nK0\nN0\nP30000\nc0\n\
     S<bob@c.example>\n$rESMTP\n$sc.example\n${client_addr}\nRPFD:<ann@mx.example>\neQ\n.\n";
 
-// How a session went, and what it left.
-#[derive(Drop)]
-struct Received {
-    status: u8,
-    said: Text,
-    files: Seq<File>,
-}
-
 // A session under a configuration with a peer whose address isn't known, who says this in pieces of
 // so many bytes.
-fn receive(alloc: Global, config: &[u8], asked: &[u8], size: usize) -> Result<Received, Fail>
+fn receive(alloc: Global, config: &[u8], asked: &[u8], size: usize) -> Result<Served, Fail>
     requires { 0 < size }
 {
     let mut files = files_of(alloc, config, &[])?;
@@ -119,25 +101,12 @@ fn receive(alloc: Global, config: &[u8], asked: &[u8], size: usize) -> Result<Re
     let steps = steps(alloc, b"", asked, size)?;
     let mut floor = ScriptFloor::new(alloc, steps, Seq::new(alloc), Seq::new(alloc));
     let outcome = outcome_over(alloc, &mut files, &mut spool, &mut floor)?;
-    received_as(alloc, &outcome, &floor, &spool)
+    served_as(alloc, &outcome, &floor, &spool)
 }
 
-fn received_as(
-    alloc: Global,
-    outcome: &Outcome,
-    floor: &ScriptFloor,
-    spool: &MemSpool,
-) -> Result<Received, Fail> {
-    Ok(Received {
-        status: outcome.status(),
-        said: said_to(alloc, floor, 1)?,
-        files: spool.files()?,
-    })
-}
-
-impl Received {
+impl Served {
     // Whether all went well, with these replies and the two files of the message.
-    fn is_as(&self, row: &Row) -> bool {
+    fn is_received(&self, row: &Row) -> bool {
         self.status == 0
             && self.said.bytes() == RECEIVED
             && self.files.len() == 2
@@ -150,7 +119,7 @@ impl Received {
 fn wrong_row(alloc: Global) -> Result<Option<usize>, Fail> {
     for (at, row) in ROWS.iter().enumerate() {
         let received = receive(alloc, CONFIG, row.0, row.1.max(1) as usize)?;
-        if !received.is_as(row) {
+        if !received.is_received(row) {
             return Ok(Some(at));
         }
     }

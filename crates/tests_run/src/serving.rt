@@ -3,11 +3,12 @@
 ghost use Rattle.std.specs.Prelude.{◌≡◌, ◌<◌, IfOk, length};
 
 use crate::devices::{calls, files_of};
+use crate::lines::place_of;
 use link_edge::{Floor, FloorEvent, ScriptFloor, Step};
 use mail_base::{NoMemory, Seq, Text};
 use mail_edge::{MemClock, MemFiles, MemSink, MemSource};
 use sendmail_run::{Outcome, sendmail};
-use spool_disk::{File, Spool};
+use spool_disk::{File, MemSpool, Spool};
 use std::alloc::Global;
 use std::test::Fail;
 
@@ -117,6 +118,43 @@ pub(crate) fn outcome_over<D: Spool, L: Floor>(
         &mut input,
         &mut output,
     ))
+}
+
+/// How a session ended, which file was told as missing or refused, and what it left.
+#[derive(Drop)]
+pub(crate) struct Served {
+    pub status: u8,
+    pub missing: Text,
+    pub said: Text,
+    pub files: Seq<File>,
+}
+
+/// A session that says this over these files, and over a spool of which these calls fail.
+pub(crate) fn serve(
+    alloc: Global,
+    files: &mut MemFiles,
+    failing: &[u64],
+    asked: &[u8],
+) -> Result<Served, Fail> {
+    let mut spool = MemSpool::new(alloc, calls(alloc, failing)?);
+    let mut floor = script_floor(alloc, asked, 65_536, &[], &[])?;
+    let outcome = outcome_over(alloc, files, &mut spool, &mut floor)?;
+    served_as(alloc, &outcome, &floor, &spool)
+}
+
+/// The same of a run that is over.
+pub(crate) fn served_as(
+    alloc: Global,
+    outcome: &Outcome,
+    floor: &ScriptFloor,
+    spool: &MemSpool,
+) -> Result<Served, Fail> {
+    Ok(Served {
+        status: outcome.status(),
+        missing: place_of(alloc, outcome)?,
+        said: said_to(alloc, floor, 1)?,
+        files: spool.files()?,
+    })
 }
 
 /// Its status where these calls of the files fail.

@@ -1,14 +1,6 @@
 // The files that session mode reads before it opens the queue.
-use crate::devices::calls;
-use crate::lines::place_of;
-use crate::serving::{
-    ALL_REPLIES, ASKED, CONTROL, is_stored, joined, outcome_over, routed_files, said_to,
-    script_floor,
-};
-use link_edge::ScriptFloor;
-use mail_base::{Seq, Text};
-use sendmail_run::Outcome;
-use spool_disk::{File, MemSpool};
+use crate::serving::{ALL_REPLIES, ASKED, CONTROL, Served, is_stored, joined, routed_files, serve};
+use mail_base::Text;
 use std::alloc::Global;
 use std::test::Fail;
 
@@ -119,35 +111,9 @@ static ROWS: [Row; 32] = [
     (b"Qbulk, Path=/bulk\n", &[], &[1], 75, b""),
 ];
 
-// How a session ended, and what it left.
-#[derive(Drop)]
-struct Served {
-    status: u8,
-    missing: Text,
-    said: Text,
-    files: Seq<File>,
-}
-
-fn serve(alloc: Global, row: &Row) -> Result<Served, Fail> {
+fn served_by(alloc: Global, row: &Row) -> Result<Served, Fail> {
     let mut files = routed_files(alloc, row.0, row.1)?;
-    let mut spool = MemSpool::new(alloc, calls(alloc, row.2)?);
-    let mut floor = script_floor(alloc, ASKED, 65_536, &[], &[])?;
-    let outcome = outcome_over(alloc, &mut files, &mut spool, &mut floor)?;
-    served_as(alloc, &outcome, &floor, &spool)
-}
-
-fn served_as(
-    alloc: Global,
-    outcome: &Outcome,
-    floor: &ScriptFloor,
-    spool: &MemSpool,
-) -> Result<Served, Fail> {
-    Ok(Served {
-        status: outcome.status(),
-        missing: place_of(alloc, outcome)?,
-        said: said_to(alloc, floor, 1)?,
-        files: spool.files()?,
-    })
+    serve(alloc, &mut files, row.2, ASKED)
 }
 
 impl Served {
@@ -166,7 +132,7 @@ impl Served {
 fn wrong_row(alloc: Global) -> Result<Option<usize>, Fail> {
     let replies = joined(alloc, ALL_REPLIES)?;
     for (at, row) in ROWS.iter().enumerate() {
-        let served = serve(alloc, row)?;
+        let served = served_by(alloc, row)?;
         if !served.is_as(row, &replies) {
             return Ok(Some(at));
         }

@@ -1,28 +1,13 @@
 // What is printed for lines.
 use addr_test::{Reply, answer};
-use cf_reader::read;
+use config_samples::config_of;
 use mail_base::{Config, NoMemory, Seq, Text};
-use mail_edge::{MemFiles, SureFiles};
 use map_tables::{Maps, Named};
 use std::alloc::Global;
 use std::test::Fail;
 
 /// A configuration, lines of input, and what is printed for them.
 pub(crate) type Row = (&'static [u8], &'static [u8], &'static [u8]);
-
-// The configuration of a text, which asks for no file.
-fn config_of(alloc: Global, text: &[u8]) -> Result<Config, Fail> {
-    let sure = SureFiles::new(Seq::new(alloc)).ok_or("a large text")?;
-    let mut files = MemFiles::new(sure, Seq::new(alloc));
-    let text = Text::of(alloc, text)?;
-    if text.len() > 65_536 {
-        return Err(Fail::from("a large configuration"));
-    }
-    match read(alloc, &text, &mut files) {
-        Ok(config) => Ok(config),
-        Err(_) => Err(Fail::from("a refused configuration")),
-    }
-}
 
 // The maps of a configuration, whose file `/t` and host table have a line each.
 fn maps_of(alloc: Global, config: &Config) -> Result<Maps, NoMemory> {

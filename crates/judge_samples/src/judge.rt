@@ -17,11 +17,15 @@ use std::alloc::Global;
 /// gives two rows to `twin`, and one to any other. It tells nothing.
 #[derive(Drop)]
 pub struct TestJudge {
-    faults: u64,
+    /// How many calls have failed.
+    pub faults: u64,
 }
 
 impl TestJudge {
-    pub fn new() -> TestJudge {
+    /// A judge of which no call has failed.
+    pub fn new() -> TestJudge
+        ensures { result.faults ≡ 0 }
+    {
         TestJudge { faults: 0 }
     }
 

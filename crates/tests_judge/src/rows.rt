@@ -1,30 +1,14 @@
 // What an address comes to: its rows, or why it has none.
-use crate::worlds::{World, files_of, world_of};
-use alias_expand::{Aliases, ExpandRefusal, Homes, expand};
-use mail_base::{Draw, NoMemory, Resolved, RouteError, Seq, Text, Triple};
+use crate::shown::{put_error, put_rows};
+use crate::worlds::{World, files_of, world_of, world_with};
+use alias_expand::{ExpandRefusal, expand};
+use mail_base::{Draw, NoMemory, Seq, Text};
 use std::alloc::Global;
 use std::test::Fail;
 
 // An address, its sender, and the rows that it comes to, each as its text, `=` where it stands for
 // the address itself, its sender, and where it goes; or the refusal.
 type Row = (&'static [u8], &'static [u8], &'static [u8]);
-
-const ALIASES: &[u8] = b"one: ann\ntwo: one, bob@far\nowner-two: olga\nself: self, ann\n\
-    loop: pool\npool: loop\nround: around, ann\naround: round\n\
-    a1: a2\na2: a3\na3: ann\nprog: \"|/bin/x y\"\nesc: \\one\n\
-    inc: :include:/list\nlost: :include:/none\ntwice: :include:/list, :include:/list\n\
-    nohost: ann@off, bob@far\nboth: bob@far, bob@far\nowned: ann\nowner-owned: x, y\n";
-
-const HOMES: &[u8] = b"kim /k\nlee /l\nmoved /m\nsue /s\n";
-
-static FILES: [(&[u8], &[u8]); 6] = [
-    (b"/list", b"ann, :include:/more\n# none\nbob@far\n"),
-    (b"/more", b"joe\n:include:/list\n"),
-    (b"/k/.forward", b"kim, ann\n"),
-    (b"/l/.forward", b"\\lee, bob@far\n"),
-    (b"/m/.forward", b"ann\n"),
-    (b"/empty", b""),
-];
 
 static ROWS: [Row; 24] = [
     // A leaf; one that set 5 sends on; one by its host.
@@ -77,41 +61,6 @@ static ROWS: [Row; 24] = [
     (b"sue", b"<s>", b"sue=<s>local//sue;"),
 ];
 
-fn put_code(out: &mut Text, code: u16) -> Result<(), NoMemory> {
-    let digits = format!(in out.allocator(); "{code} ")?;
-    out.extend(digits.as_bytes())
-}
-
-fn put_error(out: &mut Text, error: &RouteError) -> Result<(), NoMemory> {
-    put_code(out, error.code)?;
-    out.extend(error.text.bytes())
-}
-
-fn put_triple(out: &mut Text, triple: &Triple) -> Result<(), NoMemory> {
-    out.extend(triple.mailer.bytes())?;
-    out.push(b'/')?;
-    out.extend(triple.host.bytes())?;
-    out.push(b'/')?;
-    out.extend(triple.user.bytes())
-}
-
-fn put_resolved(out: &mut Text, resolved: &Resolved) -> Result<(), NoMemory> {
-    match resolved {
-        Resolved::Goes(triple) => put_triple(out, triple),
-        Resolved::Refuses(error) => put_error(out, error),
-    }
-}
-
-fn put_row(out: &mut Text, row: &Draw) -> Result<(), NoMemory> {
-    out.extend(row.address.bytes())?;
-    if row.primary {
-        out.push(b'=')?;
-    }
-    out.extend(row.sender.bytes())?;
-    put_resolved(out, &row.resolved)?;
-    out.push(b';')
-}
-
 fn put_refusal(out: &mut Text, refusal: &ExpandRefusal) -> Result<(), NoMemory> {
     match refusal {
         ExpandRefusal::Refuses(error) => {
@@ -132,43 +81,19 @@ fn put_refusal(out: &mut Text, refusal: &ExpandRefusal) -> Result<(), NoMemory> 
 
 fn put_outcome(out: &mut Text, outcome: &Result<Seq<Draw>, ExpandRefusal>) -> Result<(), NoMemory> {
     match outcome {
-        Ok(rows) => {
-            for row in rows.items() {
-                put_row(out, row)?;
-            }
-            Ok(())
-        }
+        Ok(rows) => put_rows(out, rows),
         Err(refusal) => put_refusal(out, refusal),
     }
 }
 
-/// The aliases and homes of the cases.
-#[derive(Drop)]
-struct Names {
-    aliases: Aliases,
-    homes: Homes,
-}
-
-fn names_of(alloc: Global, text: &Text) -> Result<Names, Fail> {
-    if text.len() >= 1 << 32 {
-        return Err(Fail::from("a large text"));
-    }
-    let mut aliases = Aliases::new(alloc);
-    if aliases.read(text).is_err() {
-        return Err(Fail::from("refused aliases"));
-    }
-    let homes = Homes::read(alloc, &Text::of(alloc, HOMES)?)?;
-    Ok(Names { aliases, homes })
-}
-
-fn is_right(alloc: Global, world: &World, names: &Names, row: &Row) -> Result<bool, Fail> {
-    let mut files = files_of(alloc, &FILES)?;
+fn is_right(alloc: Global, world: &World, row: &Row) -> Result<bool, Fail> {
+    let mut files = files_of(alloc, &[])?;
     let address = Text::of(alloc, row.0)?;
     let sender = Text::of(alloc, row.1)?;
     let outcome = expand(
         alloc,
-        &names.aliases,
-        &names.homes,
+        &world.aliases,
+        &world.homes,
         &world.config,
         &world.maps,
         &world.config.macros,
@@ -181,9 +106,9 @@ fn is_right(alloc: Global, world: &World, names: &Names, row: &Row) -> Result<bo
     Ok(out.bytes() == row.2)
 }
 
-fn wrong_row(alloc: Global, world: &World, names: &Names) -> Result<Option<usize>, Fail> {
+fn wrong_row(alloc: Global, world: &World) -> Result<Option<usize>, Fail> {
     for (at, row) in ROWS.iter().enumerate() {
-        if !is_right(alloc, world, names, row)? {
+        if !is_right(alloc, world, row)? {
             return Ok(Some(at));
         }
     }
@@ -192,8 +117,7 @@ fn wrong_row(alloc: Global, world: &World, names: &Names) -> Result<Option<usize
 
 fn wrong(alloc: Global) -> Result<Option<usize>, Fail> {
     let world = world_of(alloc)?;
-    let names = names_of(alloc, &Text::of(alloc, ALIASES)?)?;
-    wrong_row(alloc, &world, &names)
+    wrong_row(alloc, &world)
 }
 
 #[test]
@@ -222,9 +146,8 @@ fn add_words(text: &mut Text, words: &str) -> Result<(), NoMemory> {
 }
 
 fn is_read_so_often(alloc: Global, count: u32, row: &Row) -> Result<bool, Fail> {
-    let world = world_of(alloc)?;
-    let names = names_of(alloc, &reading_so_often(alloc, count)?)?;
-    is_right(alloc, &world, &names, row)
+    let world = world_with(alloc, &reading_so_often(alloc, count)?)?;
+    is_right(alloc, &world, row)
 }
 
 #[test]
