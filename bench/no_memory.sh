@@ -1,9 +1,10 @@
 #!/bin/bash
-# Runs the built program with each allocation failing in turn, until none is left to fail. In address test mode, on its
-# example, each such run must end with status 71 and no answer, and the first that lacks nothing with the answer. In
-# session mode, on one message, each must end so with nothing in the queue, or with status 0, replies that are in place
-# and, where the message got its 250, the message whole in the queue. It fails otherwise. Build the program first, by
-# `make run`. This is no part of the gate.
+# Runs the built program with each allocation failing in turn, until none is left to fail. In address test mode, on
+# its example, each such run must end with status 71 and no answer, or with the whole answer, where a list that is
+# collected asked for room by a hint and then asks for less; and the first that lacks nothing with the answer. In
+# session mode, on one message, each must end so with nothing in the queue, or with status 0, replies that are in
+# place and, where the message got its 250, the message whole in the queue. It fails otherwise. Build the program
+# first, by `make run`. This is no part of the gate.
 set -euo pipefail
 . "$(dirname "$0")/session.sh"
 cd data
@@ -51,14 +52,20 @@ is_silent() {
     [ "$status" = 71 ] && [ ! -s "$work/answers" ] && [ "$(cat "$work/errors")" = 'sendmail: no memory' ]
 }
 
+# Whether the run ended well, with the whole answer.
+is_whole() {
+    [ "$status" = 0 ] && cmp -s "$work/answers" ../stdout
+}
+
 cp ../stdin "$work/asked"
 at=1
+whole=0
 while run "$at" -bt -Crow1.cf; do
-    is_silent || { echo "-bt, allocation $at: status $status"; exit 1; }
+    is_silent || { is_whole && whole=$((whole + 1)); } || { echo "-bt, allocation $at: status $status"; exit 1; }
     at=$((at + 1))
 done
 cmp "$work/answers" ../stdout
-echo "-bt: $((at - 1)) allocations, each failed in turn, with status 71 and no answer"
+echo "-bt: $((at - 1)) allocations, each failed in turn, with status 71 and no answer, but for $whole with the whole answer"
 
 # The replies are those of the whole run, 452 4.3.1, or those to lines out of turn behind one, and behind a 354 at most
 # one comes to the message and one to QUIT.
