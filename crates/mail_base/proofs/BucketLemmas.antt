@@ -1,14 +1,14 @@
 -- One rule more in the buckets of a ruleset.
-use Rattle.std.proofs.Common.{◌≡◌, ℕ, ◌+◌, ◌<◌, ◌^◌, List, [], ◌∷◌, ◌++◌, length, map, take, Bool, true, false, refl, sym, ap, ◌∙◌, subst, arith, Some, None, zero, suc, inl, inr}
+use Rattle.std.proofs.Common.{◌≡◌, ℕ, ◌+◌, ◌<◌, ◌^◌, List, [], ◌∷◌, ◌++◌, ◌≤◌, get_or, length, map, take, Bool, true, false, refl, sym, ap, ◌∙◌, subst, arith, Some, None, zero, suc, inl, inr}
 use Rattle.std.specs.Prelude.{Option, cond, filter, slice_get, unwrap_or, Result, Ok, Err, OnOk, OnErr}
 use Rattle.std.specs.List.{IsDistinct}
 use Rattle.std.specs.Option.{option_map}
 use Rattle.std.specs.Result.{is_err}
 use Rattle.std.specs.Map.{lookup, lookup_key, keys_of, values_of}
-use Rattle.std.proofs.lemmas.Bool.{cases_eq, cond_both, true≢false}
+use Rattle.std.proofs.lemmas.Bool.{cases_eq, cases_order, cond_both, true≢false}
 use Rattle.std.proofs.lemmas.List.Elements.{filter-append}
 use Rattle.std.proofs.lemmas.List.{append-nil}
-use Rattle.std.proofs.lemmas.Option.{slice_get_within}
+use Rattle.std.proofs.lemmas.Option.{slice_get-get_or, slice_get_within}
 use Rattle.std.proofs.lemmas.Map.Entries.{lookup_from_place}
 use Rattle.indexmap.specs.IndexMap.{set_value_at}
 use Rattle.mail_base.specs.declared.token.Token.{Token}
@@ -17,6 +17,8 @@ use Rattle.mail_base.specs.declared.rule.Numbered.{Numbered}
 use Rattle.mail_base.specs.declared.rule.Slot.{Slot}
 use Rattle.mail_base.specs.declared.fault.NoMemory.{NoMemory}
 use Rattle.mail_base.specs.Candidates.{anchor, anchored, has_anchor, holds, is_free, is_none, numbered_from}
+use Rattle.mail_base.specs.Masks.{IsNextCovered, covers, wanted_mask}
+use Rattle.mail_base.specs.inner.Covering.{AreUncovered, IsFirstCovered}
 use Rattle.mail_base.specs.Tokens.{same_token}
 use Rattle.mail_base.specs.inner.TokenLaws.{same_equiv}
 use Rattle.mail_base.specs.Buckets.{bucket_of, listed, at_place, in_bucket, stored, rule_in, in_order, IsIndex, IsSlotAt, IsSlotFor, IsBucket, Keeps, Grows, Puts}
@@ -108,6 +110,7 @@ calm rules e f l slots keeps i = record {
   each = λ token. keeps.each token ∙ i.each token;
   rest = i.rest;
   places = moved e f l l slots (numbered_from 0 rules) (λ slot one h. slot_kept e f l keeps slot.bucket slot.place one h) i.places;
+  masks = i.masks;
   few = i.few;
 }
 
@@ -122,14 +125,14 @@ module _ (rules : List Rule) (e f : List (Token × List Numbered)) (l m : List N
   one = record { number = number; rule = rule }
 
   -- what is left to show, by what stays and what comes
-  joined : IsIndex rules e l slots → number ≡ length slots → number + 1 < 2 ^ 32
+  joined : slot.wanted ≡ wanted_mask rule.left → IsIndex rules e l slots → number ≡ length slots → number + 1 < 2 ^ 32
       → ((token : Token) → bucket_of token f ≡ bucket_of token e ++ cond (has_anchor token rule) (one ∷ []) [])
       → m ≡ l ++ cond (is_free rule) (one ∷ []) []
       → ((s : Slot) (x : Numbered) → stored e l s ≡ Some x → stored f m s ≡ Some x)
       → stored f m slot ≡ Some one
       → IsIndex (rules ++ rule ∷ []) f m (slots ++ slot ∷ [])
   unfolding one
-  joined i is few each rest stays here =
+  joined wants i is few each rest stays here =
       let count : number ≡ length rules = is ∙ same_length (stored e l) Some slots (numbered_from 0 rules) i.places ∙ numbered_length 0 rules in
       record {
         each = λ token. each token ∙ ap (λ (xs : List Numbered). xs ++ cond (has_anchor token rule) (one ∷ []) []) (i.each token) ∙ sym (picked (λ x. has_anchor token x.rule) rules rule number count);
@@ -137,6 +140,7 @@ module _ (rules : List Rule) (e f : List (Token × List Numbered)) (l m : List N
         places = map_end (stored f m) slots slot ∙ ap (λ (xs : List (Option Numbered)). xs ++ stored f m slot ∷ []) (moved e f l m slots (numbered_from 0 rules) stays i.places)
             ∙ ap (λ (x : Option Numbered). map Some (numbered_from 0 rules) ++ x ∷ []) here
             ∙ sym (map_end Some (numbered_from 0 rules) one) ∙ sym (ap (map Some) (numbered_end rules rule number count));
+        masks = map_end (λ (s : Slot). s.wanted) slots slot ∙ ap (λ (xs : List ℕ). xs ++ slot.wanted ∷ []) i.masks ∙ ap (λ (w : ℕ). map (λ (r : Rule). wanted_mask r.left) rules ++ w ∷ []) wants ∙ sym (map_end (λ (r : Rule). wanted_mask r.left) rules rule);
         few = omega (arith, few, is, length_end slots slot);
       } where
         length_end : (xs : List Slot) (x : Slot) → length (xs ++ x ∷ []) ≡ length xs + 1
@@ -144,11 +148,11 @@ module _ (rules : List Rule) (e f : List (Token × List Numbered)) (l m : List N
         length_end (y ∷ xs) x = let h = length_end xs x in omega (arith, h)
 
   -- a rule without an anchor
-  grown_free : anchor rule.left ≡ None → slot.bucket ≡ None → slot.place ≡ length l → f ≡ e → m ≡ l ++ one ∷ []
+  grown_free : slot.wanted ≡ wanted_mask rule.left → anchor rule.left ≡ None → slot.bucket ≡ None → slot.place ≡ length l → f ≡ e → m ≡ l ++ one ∷ []
       → IsIndex rules e l slots → number ≡ length slots → number + 1 < 2 ^ 32 → IsIndex (rules ++ rule ∷ []) f m (slots ++ slot ∷ [])
   unfolding one
-  grown_free none bucket place same more i is few =
-      joined i is few
+  grown_free wants none bucket place same more i is few =
+      joined wants i is few
       (λ token. ap (bucket_of token) same ∙ sym (append-nil (bucket_of token e)) ∙ ap (λ (a : Option Token). bucket_of token e ++ cond (holds token a) (one ∷ []) []) (sym none))
       (more ∙ ap (λ (a : Option Token). l ++ cond (is_none a) (one ∷ []) []) (sym none))
       (λ s x h. stays s.bucket s.place x h)
@@ -159,12 +163,12 @@ module _ (rules : List Rule) (e f : List (Token × List Numbered)) (l m : List N
       stays (Some p) k x h = ap (λ (es : List (Token × List Numbered)). at_place (slice_get es p) k) same ∙ h
 
   -- a rule with an anchor
-  grown_anchored : (a : Token) → anchor rule.left ≡ Some a → (place : ℕ) (key : Token) (bucket : List Numbered) → slot.bucket ≡ Some place → slice_get e place ≡ Some (key, bucket) → same_token a key ≡ true
+  grown_anchored : slot.wanted ≡ wanted_mask rule.left → (a : Token) → anchor rule.left ≡ Some a → (place : ℕ) (key : Token) (bucket : List Numbered) → slot.bucket ≡ Some place → slice_get e place ≡ Some (key, bucket) → same_token a key ≡ true
       → slot.place ≡ length bucket → Grows place one e f → m ≡ l
       → IsIndex rules e l slots → number ≡ length slots → number + 1 < 2 ^ 32 → IsIndex (rules ++ rule ∷ []) f m (slots ++ slot ∷ [])
   unfolding one
-  grown_anchored a anchored place key bucket at here alike end g same i is few =
-      joined i is few each
+  grown_anchored wants a anchored place key bucket at here alike end g same i is few =
+      joined wants i is few each
       (same ∙ sym (append-nil l) ∙ ap (λ (b : Option Token). l ++ cond (is_none b) (one ∷ []) []) (sym anchored))
       (λ s x h. stays s.bucket s.place x h)
       (ap (λ (b : Option ℕ). in_bucket b slot.place f m) at ∙ ap (λ (x : Option (Token × List Numbered)). at_place x slot.place) g.is
@@ -202,19 +206,19 @@ module _ (rules : List Rule) (e f : List (Token × List Numbered)) (l m : List N
   pub grown : IsSlotFor rule slot e l → Puts slot.bucket (record { number = number; rule = rule }) e l f m
       → IsIndex rules e l slots → number ≡ length slots → number + 1 < 2 ^ 32 → IsIndex (rules ++ rule ∷ []) f m (slots ++ slot ∷ [])
   unfolding one
-  grown fits puts i is few = go (anchor rule.left) refl fits
+  grown fits puts i is few = go (anchor rule.left) refl fits.at
     where
       go : (a : Option Token) → anchor rule.left ≡ a → IsSlotAt a slot e l → IsIndex (rules ++ rule ∷ []) f m (slots ++ slot ∷ [])
       go None q s =
           let p : Puts None one e l f m = subst (λ (b : Option ℕ). Puts b one e l f m) s.0 puts in
-          grown_free q s.0 s.1 p.0 p.1 i is few
+          grown_free fits.wants q s.0 s.1 p.0 p.1 i is few
       go (Some a) q (place, key, bucket, at, here, alike, end) =
           let p : Puts (Some place) one e l f m = subst (λ (b : Option ℕ). Puts b one e l f m) at puts in
-          grown_anchored a q place key bucket at here alike end p.0 p.1 i is few
+          grown_anchored fits.wants a q place key bucket at here alike end p.0 p.1 i is few
 
 -- there is a bucket for the rule
 pub bucket_there : (rule : Rule) (slot : Slot) (e : List (Token × List Numbered)) (l : List Numbered) → IsSlotFor rule slot e l → IsBucket slot.bucket e
-bucket_there rule slot e l fits = go (anchor rule.left) fits
+bucket_there rule slot e l fits = go (anchor rule.left) fits.at
   where
     go : (a : Option Token) → IsSlotAt a slot e l → IsBucket slot.bucket e
     go None s = subst (λ (b : Option ℕ). IsBucket b e) (sym s.0) tt
@@ -433,3 +437,84 @@ take_next rules copied more n o so is joins =
     next [] (suc n) = refl
     next (rule ∷ rules) zero = refl
     next (rule ∷ rules) (suc n) = ap (λ (rs : List Rule). rule ∷ rs) (next rules n)
+
+-- ---- what the left sides want
+
+wanted_at : (slots : List Slot) (rules : List Rule) → map (λ (slot : Slot). slot.wanted) slots ≡ map (λ (rule : Rule). wanted_mask rule.left) rules → (k : ℕ) (slot : Slot) (rule : Rule) → slice_get slots k ≡ Some slot → slice_get rules k ≡ Some rule
+    → slot.wanted ≡ wanted_mask rule.left
+wanted_at [] rules same k slot rule is at = absurd (cc is)
+wanted_at (s ∷ slots) [] same k slot rule is at = absurd (cc at)
+wanted_at (s ∷ slots) (r ∷ rules) same zero slot rule is at =
+    let one : s ≡ slot = cc is in
+    let other : r ≡ rule = cc at in
+    let first : s.wanted ≡ wanted_mask r.left = cc same in
+    ap (λ (x : Slot). x.wanted) (sym one) ∙ first ∙ ap (λ (x : Rule). wanted_mask x.left) other
+wanted_at (s ∷ slots) (r ∷ rules) same (suc k) slot rule is at =
+    let rest : map (λ (slot : Slot). slot.wanted) slots ≡ map (λ (rule : Rule). wanted_mask rule.left) rules = cc same in
+    wanted_at slots rules rest k slot rule is at
+
+-- what the slot of a number wants is what its rule wants
+pub slot_wants : (rules all : List Rule) (e : List (Token × List Numbered)) (l : List Numbered) (slots : List Slot) → IsIndex rules e l slots → rules ≡ all → (k : ℕ) (slot : Slot) (rule : Rule) → slice_get slots k ≡ Some slot → slice_get all k ≡ Some rule
+    → slot.wanted ≡ wanted_mask rule.left
+slot_wants rules all e l slots i same k slot rule is at = wanted_at slots rules i.masks k slot rule is (ap (λ (rs : List Rule). slice_get rs k) same ∙ at)
+
+-- where there is a rule there is a slot
+pub rule_has_slot : (rules all : List Rule) (e : List (Token × List Numbered)) (l : List Numbered) (slots : List Slot) → IsIndex rules e l slots → rules ≡ all → (k : ℕ) (rule : Rule) → slice_get all k ≡ Some rule → slice_get slots k ≡ None → ⊥
+rule_has_slot rules all e l slots i same k rule at none = absurd (cc (sym (no_slot rules e l slots k i none) ∙ ap (λ (rs : List Rule). slice_get rs k) same ∙ at))
+
+module _ (mask : ℕ) (slots : List Slot) (from place : ℕ) (d : Slot) (within : place < length slots) where
+  there : slice_get slots place ≡ Some (get_or slots place d)
+  there = slice_get-get_or slots place d within
+
+  -- one slot more that isn't covered
+  pub one_more : covers mask (get_or slots place d).wanted ≡ false → AreUncovered mask slots from place → AreUncovered mask slots from (place + 1)
+  one_more not before k other le lt is = elim (cases_order k place) [
+    | inl e ↦
+        let same : Some (get_or slots place d) ≡ Some other = sym there ∙ ap (slice_get slots) (sym e) ∙ is in
+        let one : get_or slots place d ≡ other = cc same in
+        ap (λ (s : Slot). covers mask s.wanted) (sym one) ∙ not
+    | inr (inl less) ↦ before k other le less is
+    | inr (inr more) ↦ absurd (omega (arith, lt, more))
+  ]
+
+  -- the first that is
+  pub first_at : from ≤ place → covers mask (get_or slots place d).wanted ≡ true → AreUncovered mask slots from place → IsFirstCovered mask slots from place
+  first_at above covered before = record {
+    above = above;
+    slot = get_or slots place d;
+    at = there;
+    covered = covered;
+    before = before;
+  }
+
+-- none of all
+pub none_at : (mask : ℕ) (slots : List Slot) (from place : ℕ) → length slots ≤ place → AreUncovered mask slots from place → AreUncovered mask slots from (length slots)
+none_at mask slots from place end before k other le lt is = before k other le (omega (arith, lt, end)) is
+
+module _ (rules all : List Rule) (e : List (Token × List Numbered)) (l : List Numbered) (slots : List Slot) (i : IsIndex rules e l slots) (same : rules ≡ all) (mask from : ℕ) where
+  slot_there : (k : ℕ) (rule : Rule) → slice_get all k ≡ Some rule → (o : Option Slot) → slice_get slots k ≡ o → (slot : Slot) × (slice_get slots k ≡ Some slot)
+  slot_there k rule at None is = absurd (rule_has_slot rules all e l slots i same k rule at is)
+  slot_there k rule at (Some slot) is = (slot, is)
+
+  uncovered : (end k : ℕ) (rule : Rule) → AreUncovered mask slots from end → from ≤ k → k < end → slice_get all k ≡ Some rule → covers mask (wanted_mask rule.left) ≡ false
+  uncovered end k rule none le lt at =
+      let there = slot_there k rule at (slice_get slots k) refl in
+      ap (covers mask) (sym (slot_wants rules all e l slots i same k there.0 rule there.1 at)) ∙ none k there.0 le lt there.1
+
+  -- the first slot that is covered is that of the first rule
+  pub covered_rule : (place : ℕ) → IsFirstCovered mask slots from place → IsNextCovered all from mask place
+  covered_rule place first = record {
+    above = first.above;
+    within =
+        let lt = slice_get_within slots place first.slot first.at in
+        let long : length slots ≡ length all = index_length rules e l slots i ∙ ap length same in
+        omega (arith, lt, long);
+    covered = λ rule at. ap (covers mask) (sym (slot_wants rules all e l slots i same place first.slot rule first.at at)) ∙ first.covered;
+    first = λ k other le lt at. uncovered place k other first.before le lt at;
+  }
+
+  -- and where no slot is, no rule is
+  pub uncovered_rule : AreUncovered mask slots from (length slots) → (k : ℕ) (rule : Rule) → from ≤ k → slice_get all k ≡ Some rule → covers mask (wanted_mask rule.left) ≡ false
+  uncovered_rule none k rule le at =
+      let there = slot_there k rule at (slice_get slots k) refl in
+      uncovered (length slots) k rule none le (slice_get_within slots k there.0 there.1) at

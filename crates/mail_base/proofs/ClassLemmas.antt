@@ -10,6 +10,7 @@ use Rattle.std.proofs.lemmas.Map.Keys.{IsDistinct-head, IsDistinct-tail}
 use Rattle.std.proofs.lemmas.List.Folds.{list_any-append}
 use Rattle.std.proofs.Math.Bool.{or-false}
 use Rattle.indexmap.specs.IndexSet.{insert_key}
+use Rattle.mail_base.specs.Masks.{head_places, heads_from, heads_of, with_places}
 use Rattle.mail_base.specs.Classes.{longest_from, longest_phrase, phrase_length, same_member, with_members}
 use Rattle.mail_base.specs.Tokens.{same_token, same_tokens}
 use Rattle.mail_base.specs.inner.Phrases.{Keeps, is_among}
@@ -74,11 +75,18 @@ among_insert {A} phrases phrase tokens =
     any-insert_key (λ (x y : Vec Token A). pointwise same_token x.items y.items) (λ (x : Vec Token A). same_tokens tokens x.items)
     (λ x y same. e.symm tokens x.items ∙ e.congr x.items y.items tokens same ∙ e.symm y.items tokens) phrases phrase
 
+-- what is gathered of the members of a class that grew is what was, and what is new besides
+grown : (step : ℕ → Member → ℕ) (old new : List Member) (least from : ℕ) → Keeps old new → from ≡ length old → least ≡ fold step 0 old → fold step least (drop from new) ≡ fold step 0 new
+grown step old new least from keeps is was =
+    (λ i. fold step (was i) (drop (is i) new))
+    ∙ ap (λ (xs : List Member). fold step (fold step 0 xs) (drop (length old) new)) (sym keeps)
+    ∙ sym (fold-append step 0 (take (length old) new) (drop (length old) new))
+    ∙ ap (fold step 0) (take-append-drop (length old) new)
+
 -- the longest phrase of a class that grew is the longest of what it was and of what is new
 pub longest_grown : (old new : List Member) (least from : ℕ) → Keeps old new → from ≡ length old → least ≡ longest_phrase old → longest_from least (drop from new) ≡ longest_phrase new
-longest_grown old new least from keeps is was =
-    let step : ℕ → Member → ℕ = λ most member. max most (phrase_length member.tokens) in
-    (λ i. longest_from (was i) (drop (is i) new))
-    ∙ ap (λ (xs : List Member). longest_from (longest_from 0 xs) (drop (length old) new)) (sym keeps)
-    ∙ sym (fold-append step 0 (take (length old) new) (drop (length old) new))
-    ∙ ap (longest_from 0) (take-append-drop (length old) new)
+longest_grown = grown (λ most member. max most (phrase_length member.tokens))
+
+-- and so are the places of the first tokens
+pub heads_grown : (old new : List Member) (mask from : ℕ) → Keeps old new → from ≡ length old → mask ≡ heads_of old → heads_from mask (drop from new) ≡ heads_of new
+heads_grown = grown (λ m member. with_places m (head_places member.tokens))

@@ -1,17 +1,17 @@
 -- What the places of names find.
-use Rattle.std.proofs.Common.{◌≡◌, ℕ, zero, suc, ◌+◌, ◌*◌, ◌%◌, ◌^◌, ◌≤◌, ◌<◌, List, [], ◌∷◌, Bool, true, false, ◌||◌, ◌&&◌, Option, Some, None, length, map, fold, get_or, position, slice_get, nat_eq, nat_lt, cond, refl, ap, sym, subst, ◌∙◌, arith, if◌then◌else◌, true≢false, inl, inr, ◌⊎◌}
+use Rattle.std.proofs.Common.{◌≡◌, ℕ, zero, suc, ◌+◌, ◌*◌, ◌%◌, ◌^◌, ◌≤◌, ◌<◌, List, [], ◌∷◌, Bool, true, false, ◌&&◌, Option, Some, None, length, map, fold, get_or, position, slice_get, nat_eq, nat_lt, cond, refl, ap, sym, subst, ◌∙◌, arith, if◌then◌else◌, true≢false, inl, inr, ◌⊎◌}
 use Rattle.std.specs.Prelude.{IfSome}
 use Rattle.std.specs.List.{find, list_any, position_or_len}
 use Rattle.std.specs.Map.{lookup}
 use Rattle.std.specs.Char.{to_ascii_lowercase}
 use Rattle.std.specs.Str.{str_to_ascii_lowercase, str_eq_ignore_ascii_case}
 use Rattle.std.proofs.lemmas.Slice.Eq.{bytes_eq-Decides}
-use Rattle.std.proofs.lemmas.Bool.{cases_order, or_cases, or_left, or_right, eqb-true, eq-eqb, ltb-true, ltb-false}
+use Rattle.std.proofs.lemmas.Bool.{cases_order, or_cases, or_left, or_right, eqb-true, eq-eqb, leb-true, ltb-true, ltb-false}
 use Rattle.std.proofs.lemmas.List.Folds.{find_at}
 use Rattle.std.proofs.lemmas.List.Sums.{position_or_len_is}
 use Rattle.std.proofs.lemmas.Option.{slice_get-get_or, slice_get_past, slice_get_within}
-use Rattle.mail_base.specs.Places.{Held, hash_step, hash_of, is_held, is_held_for, IsFirstAt, IsIndexed, passes_at, IsFound}
-use Rattle.mail_base.specs.inner.Looking.{is_before, earlier, found_at, looked}
+use Rattle.mail_base.specs.Places.{Held, hash_step, hash_of, is_held, is_held_for, IsFirstAt, IsIndexed, IsIndexedTo, Keeps, passes_at, IsFound}
+use Rattle.mail_base.specs.inner.Looking.{is_before, is_up_to, earlier, found_at, looked}
 
 -- ---- equal names have one hash
 
@@ -240,3 +240,32 @@ module _ {X : Type 0} (p : X → Bool) (xs : List X) where
       by false e =
           let most : length xs ≤ position_or_len p xs = ltb-false (position_or_len p xs) (length xs) e in
           sym (slice_get_past xs (position_or_len p xs) most) ∙ sym (find_at p xs)
+
+-- ---- the places as they grow
+
+module _ {X : Type 0} (has_name : List ℕ → X → Bool) (items : List X) where
+  -- a name that is found up to its first place is held for that
+  pub held_there : (name : List ℕ) (held : Held) (place : ℕ) (found : Option ℕ) → is_up_to place found ≡ true → IfSome found (IsFound has_name items held name) → IsFirstAt (has_name name) items place
+      → is_held_for name place held ≡ true
+  held_there name held place None up is first = absurd (true≢false (sym up))
+  held_there name held place (Some q) up is first = subst (λ (k : ℕ). is_held_for name k held ≡ true) (same_place (has_name name) items place q first is.named (leb-true q place up)) is.there
+
+  -- held for the items up to their end is held for all
+  pub indexed_all : (end : ℕ) (was : Held) → length items ≤ end → IsIndexedTo has_name end items was → IsIndexed has_name items was
+  indexed_all end was le indexed = λ name place first. let lt = slice_get_within items place first.one first.stands in indexed name place (omega (arith, le, lt)) first
+
+  -- one item more
+  pub indexed_more : (i : ℕ) (item : X) (was now : Held) → i < length items → item ≡ get_or items i item → Keeps was now
+      → ((name : List ℕ) → has_name name item ≡ true → IsFirstAt (has_name name) items i → is_held_for name i now ≡ true) → IsIndexedTo has_name i items was → IsIndexedTo has_name (i + 1) items now
+  indexed_more i item was now within at keeps held indexed = λ name place lt first. elim (cases_order place i) [
+    | inl e ↦ here name place e first
+    | inr (inl less) ↦ keeps name place (indexed name place less first)
+    | inr (inr more) ↦ absurd (omega (arith, lt, more))
+  ]
+    where
+      here : (name : List ℕ) (place : ℕ) → place ≡ i → IsFirstAt (has_name name) items place → is_held_for name place now ≡ true
+      here name place e first =
+          let there : IsFirstAt (has_name name) items i = subst (λ (k : ℕ). IsFirstAt (has_name name) items k) e first in
+          let is : Some item ≡ Some there.one = ap (λ (x : X). Some x) at ∙ sym (slice_get-get_or items i item within) ∙ there.stands in
+          let same : item ≡ there.one = cc is in
+          subst (λ (k : ℕ). is_held_for name k now ≡ true) (sym e) (held name (ap (has_name name) same ∙ there.passes) there)

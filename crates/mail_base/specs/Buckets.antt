@@ -7,6 +7,7 @@ use Rattle.mail_base.specs.declared.rule.Rule.{Rule}
 use Rattle.mail_base.specs.declared.rule.Numbered.{Numbered}
 use Rattle.mail_base.specs.declared.rule.Slot.{Slot}
 use Rattle.mail_base.specs.Candidates.{anchor, anchored, free, numbered_from}
+use Rattle.mail_base.specs.Masks.{wanted_mask}
 use Rattle.mail_base.specs.Tokens.{same_token}
 
 -- the bucket of an anchor
@@ -44,6 +45,7 @@ pub record IsIndex (rules : List Rule) (entries : List (Token × List Numbered))
   pub each : (token : Token) → bucket_of token entries ≡ anchored token rules
   pub rest : loose ≡ free rules
   pub places : map (stored entries loose) slots ≡ map Some (numbered_from 0 rules)
+  pub masks : map (λ slot. slot.wanted) slots ≡ map (λ rule. wanted_mask rule.left) rules
   pub few : length slots < 2 ^ 32
 
 -- ---- one rule more
@@ -59,9 +61,11 @@ abbrev pub IsSlotAt : Option Token → Slot → List (Token × List Numbered) �
 IsSlotAt None slot entries loose = (slot.bucket ≡ None) × (slot.place ≡ length loose)
 IsSlotAt (Some anchor) slot entries loose = IsEndOf anchor slot entries
 
--- the slot is the end of the bucket in which the rule is to stand
-abbrev pub IsSlotFor : Rule → Slot → List (Token × List Numbered) → List Numbered → Type 0
-IsSlotFor rule slot entries loose = IsSlotAt (anchor rule.left) slot entries loose
+-- the slot is the end of the bucket in which the rule is to stand, with what its left side wants
+pub record IsSlotFor (rule : Rule) (slot : Slot) (entries : List (Token × List Numbered))
+    (loose : List Numbered) : Type 0 where
+  pub at : IsSlotAt (anchor rule.left) slot entries loose
+  pub wants : slot.wanted ≡ wanted_mask rule.left
 
 -- each bucket is as before
 pub record Keeps (old new : List (Token × List Numbered)) : Type 0 where

@@ -4,15 +4,11 @@ use Rattle.std.specs.List.{list_any}
 use Rattle.mail_base.specs.declared.token.Token.{Token}
 use Rattle.mail_base.specs.declared.token.Token.TheVariants.{Word}
 use Rattle.mail_base.specs.declared.rule.Item.{Item}
-use Rattle.mail_base.specs.declared.rule.Item.TheVariants.{Exact, Late}
+use Rattle.mail_base.specs.declared.rule.Item.TheVariants.{Exact}
 use Rattle.mail_base.specs.declared.rule.Rule.{Rule}
 use Rattle.mail_base.specs.declared.rule.Numbered.{Numbered}
+use Rattle.mail_base.specs.Metas.{is_late}
 use Rattle.mail_base.specs.Tokens.{same_token}
-
--- the item is a `$&x`
-abbrev pub is_late : Item → Bool
-is_late (Late name) = true
-is_late _ = false
 
 -- the first token that stands for itself and is a word
 abbrev pub first_word : List Item → Option Token

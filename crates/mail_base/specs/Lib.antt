@@ -10,6 +10,7 @@ pub mod Histories
 pub mod Lasts
 pub mod Lending
 pub mod Limits
+pub mod Masks
 pub mod Metas
 pub mod Names
 pub mod Notes

@@ -48,6 +48,11 @@ abbrev pub IsIndexed : {X : Type 0} → (List ℕ → X → Bool) → List X →
 IsIndexed has_name items held = (name : List ℕ) (place : ℕ)
     → IsFirstAt (has_name name) items place → is_held_for name place held ≡ true
 
+-- the same of the items before a place
+abbrev pub IsIndexedTo : {X : Type 0} → (List ℕ → X → Bool) → ℕ → List X → Held → Type 0
+IsIndexedTo has_name end items held = (name : List ℕ) (place : ℕ) → place < end
+    → IsFirstAt (has_name name) items place → is_held_for name place held ≡ true
+
 -- an item that may be there passes
 abbrev pub passes_at : {X : Type 0} → (X → Bool) → Option X → Bool
 passes_at test None = false

@@ -1,4 +1,5 @@
 pub mod Books
+pub mod Covering
 pub mod Looking
 pub mod Phrases
 pub mod TokenLaws

@@ -1,8 +1,11 @@
-ghost use Rattle.std.specs.Prelude.{◌≡◌, ◌+◌, ◌<◌, ◌^◌, ◌∷◌, ◌++◌, [], ℕ, length, IfOk, OnOk, OnErr, slice_get};
+ghost use Rattle.std.specs.Prelude.{◌≡◌, ◌+◌, ◌<◌, ◌≤◌, ◌^◌, ◌∷◌, ◌++◌, [], ℕ, length, false, Some, IfNone, IfOk, IfSome, OnOk, OnErr, slice_get};
 ghost use Rattle.mail_base.specs.Candidates.{anchored, free};
 ghost use Rattle.std.specs.Option.{option_copied, option_map};
 ghost use Rattle.mail_base.specs.Buckets.{listed};
+ghost use Rattle.mail_base.specs.Masks.{IsNextCovered, covers, wanted_mask};
+ghost use Rattle.mail_base.specs.declared.rule.Rule.{Rule as TheRule};
 ghost use Rattle.mail_base.specs.Buckets as spec;
+ghost use Rattle.mail_base.specs.inner.Covering.{AreUncovered, IsFirstCovered};
 ghost use Rattle.mail_base.specs.Buckets.{IsSlotFor, IsEndOf, IsBucket, Keeps, Puts};
 
 use crate::rule::Slot;
@@ -78,6 +81,28 @@ impl Buckets {
         }
     }
 
+    /// The number of the first rule from one on whose left side wants no bits but these.
+    pub fn next_covered(&self, from: u32, mask: u64) -> Option<u32>
+        ensures some { IfSome result (IsNextCovered self.now from mask) }
+        ensures none { IfNone result ((k : ℕ) (rule : TheRule) → from ≤ k
+            → slice_get self.now k ≡ Some rule
+            → covers mask (wanted_mask rule.left) ≡ false) }
+    {
+        let number = first_covered(self.slots.items(), from as usize, mask)?;
+        Some(number as u32)
+    }
+
+    /// Whether the left side of the rule of a number wants no bits but these.
+    pub fn is_covered(&self, number: u32, mask: u64) -> bool
+        ensures { (rule : TheRule) → slice_get self.now number ≡ Some rule
+            → result ≡ covers mask (wanted_mask rule.left) }
+    {
+        match self.slots.get(number as usize) {
+            Some(slot) => covers(mask, slot.wanted),
+            None => false,
+        }
+    }
+
     /// Adds a rule at the end. After `NoMemory` the rules are as before; it is answered after
     /// 2^32 - 1 rules too.
     pub fn push(&mut self, rule: Rule) -> Result<(), NoMemory>
@@ -100,6 +125,28 @@ impl Buckets {
     }
 }
 
+// The first place from one on of a slot that wants no bits but these.
+fn first_covered(slots: &[Slot], from: usize, mask: u64) -> Option<usize>
+    ensures some { IfSome result (IsFirstCovered mask slots.now from) }
+    ensures none { IfNone result (AreUncovered mask slots.now from (length slots.now)) }
+{
+    let mut place = from;
+    'slots: while place < slots.len() {
+        let slot = &slots[place];
+        if covers(mask, slot.wanted) {
+            return Some(place);
+        }
+        place += 1;
+    }
+    None
+}
+
+fn covers(mask: u64, wanted: u64) -> bool
+    ensures { result ≡ covers mask wanted }
+{
+    wanted & mask == wanted
+}
+
 fn next_number(slots: &Seq<Slot>) -> Result<u32, NoMemory>
     ensures { IfOk result (λ number. (number ≡ length slots.now) × (number + 1 < 2 ^ 32)) }
 {
@@ -119,24 +166,32 @@ fn slot_for(
     ensures slot { IfOk result (λ slot. IsSlotFor rule.now slot anchored.new.entries free.now) }
     ensures keeps { Keeps anchored.old.entries anchored.new.entries }
 {
+    let wanted = rule.left.wanted_mask();
     match rule.left.anchor() {
         None => Ok(Slot {
             bucket: None,
             place: free.len(),
+            wanted,
         }),
-        Some(anchor) => place_of(anchored, anchor),
+        Some(anchor) => place_of(anchored, anchor, wanted),
     }
 }
 
-// The end of the bucket of an anchor, which is made where there is none.
-fn place_of(anchored: &mut IndexMap<Token, Seq<Numbered>>, anchor: &Token) -> Result<Slot, NoMemory>
+// The end of the bucket of an anchor, which is made where there is none, with these wanted bits.
+fn place_of(
+    anchored: &mut IndexMap<Token, Seq<Numbered>>,
+    anchor: &Token,
+    wanted: u64,
+) -> Result<Slot, NoMemory>
     ensures slot { IfOk result (λ slot. IsEndOf anchor.now slot anchored.new.entries) }
+    ensures wants { IfOk result (λ slot. slot.wanted ≡ wanted) }
     ensures keeps { Keeps anchored.old.entries anchored.new.entries }
 {
     if let Some((place, _, bucket)) = anchored.get_full(anchor) {
         return Ok(Slot {
             bucket: Some(place),
             place: bucket.len(),
+            wanted,
         });
     }
     let bucket = anchored.len();
@@ -146,6 +201,7 @@ fn place_of(anchored: &mut IndexMap<Token, Seq<Numbered>>, anchor: &Token) -> Re
     Ok(Slot {
         bucket: Some(bucket),
         place: 0,
+        wanted,
     })
 }
 

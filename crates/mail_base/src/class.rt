@@ -4,8 +4,11 @@ ghost use Rattle.std.specs.Cmp.Lexicographic.{nat_list_eq_equiv};
 ghost use Rattle.std.specs.Hash as fed;
 ghost use Rattle.mail_base.specs.Classes.{is_cut_into, is_phrase, longest_phrase, with_member, with_members};
 ghost use Rattle.mail_base.specs.Classes as spec;
+ghost use Rattle.mail_base.specs.Masks as masks;
+ghost use Rattle.mail_base.specs.Masks.{head_places, heads_of, with_places};
 ghost use Rattle.mail_base.specs.inner.Phrases.{HasPhrases, Keeps, is_among};
 
+use crate::mask::with_place;
 use crate::{NoMemory, Seq, Text, Token, TryCopy};
 use indexmap::IndexSet;
 use std::alloc::Global;
@@ -26,6 +29,8 @@ pub(crate) struct Class {
     members: IndexSet<Member>,
     phrases: IndexSet<Vec<Token>>,
     longest: usize,
+    /// The bits of the first tokens of the members.
+    heads: u64,
 }
 
 // Written out, since a caller's proof goes through the parts of a derived drop at each way out.
@@ -35,6 +40,7 @@ impl Drop for Class {
             members: _,
             phrases: _,
             longest: _,
+            heads: _,
         } = self;
     }
 }
@@ -50,10 +56,12 @@ impl Model for Class {
     ghost view = { λ c. c.members.keys };
 
     ghost use Rattle.mail_base.specs.Classes.{longest_phrase};
+    ghost use Rattle.mail_base.specs.Masks.{heads_of};
 
     ghost invariant = { λ c. record {
       phrases : HasPhrases c.phrases.keys c.members.keys;
       longest : c.longest ≡ longest_phrase c.members.keys;
+      heads : c.heads ≡ heads_of c.members.keys;
     } };
 }
 
@@ -95,6 +103,7 @@ impl Class {
             members: IndexSet::new(alloc),
             phrases: IndexSet::new(alloc),
             longest: 0,
+            heads: 0,
         }
     }
 
@@ -109,6 +118,13 @@ impl Class {
         ensures { result ≡ is_phrase tokens.now self.now }
     {
         self.phrases.contains(tokens)
+    }
+
+    // The bits of the first tokens of the members.
+    pub(crate) fn heads(&self) -> u64
+        ensures { result ≡ heads_of self.now }
+    {
+        self.heads
     }
 
     // How many tokens the longest member has.
@@ -130,8 +146,32 @@ impl Class {
             self.phrases.truncate(phrases);
             return Err(error);
         }
-        self.longest = longest_from(self.longest, &self.members.as_slice()[members..]);
+        let more = &self.members.as_slice()[members..];
+        self.longest = longest_from(self.longest, more);
+        self.heads = heads_from(self.heads, more);
         Ok(())
+    }
+}
+
+// The bits of the first tokens of members besides these.
+fn heads_from(mask: u64, members: &[Member]) -> u64
+    ensures { result ≡ masks.heads_from mask members.now }
+{
+    members
+        .iter()
+        .fold(mask, |mask, member| { with_head(mask, &member.tokens) })
+}
+
+// The bit of the first token besides, if there is one.
+fn with_head(mask: u64, tokens: &Option<Seq<Token>>) -> u64
+    ensures { result ≡ with_places mask (head_places tokens.now) }
+{
+    match tokens {
+        Some(tokens) => match tokens.items().split_first() {
+            Some((first, _)) => with_place(mask, first.place()),
+            None => mask,
+        },
+        None => mask,
     }
 }
 

@@ -1,6 +1,7 @@
 ghost use Rattle.std.specs.Prelude.{◌≡◌, [], IfOk, OnOk, OnErr};
 ghost use Rattle.mail_base.specs.Catalogs.{value_at, with_value, members_of};
 ghost use Rattle.mail_base.specs.Classes.{is_phrase, longest_phrase, with_members};
+ghost use Rattle.mail_base.specs.Masks.{heads_of};
 
 use crate::class::Class;
 use crate::{Catalog, Member, NoMemory, Seq, Text, Token, TryCopy};
@@ -51,6 +52,17 @@ impl Classes {
         match self.classes.get(name) {
             Some(class) => class.has_phrase(tokens),
             None => false,
+        }
+    }
+
+    /// The bits, in a mask of tokens, of the first tokens of the members of the class; none where
+    /// it isn't there. It takes no memory, and its time is that of the name.
+    pub fn heads(&self, name: &Text) -> u64
+        ensures { result ≡ heads_of (members_of (value_at name.now self.now)) }
+    {
+        match self.classes.get(name) {
+            Some(class) => class.heads(),
+            None => 0,
         }
     }
 

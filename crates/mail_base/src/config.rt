@@ -6,7 +6,7 @@ ghost use Rattle.mail_base.specs.Configs.{initial, first_macros, first_classes, 
 use crate::options::QUEUE_DIRECTORY;
 use crate::{
     Book, Catalog, Classes, Group, HeaderLine, Macros, Mailer, MapClass, MapLine, Member, NoMemory,
-    Options, Precedence, Seq, Text, Token, TryCopy,
+    Options, Precedence, Seq, Text, Token, TryCopy, Word,
 };
 use std::alloc::Global;
 
@@ -108,7 +108,7 @@ fn local_host(alloc: Global) -> Result<Member, NoMemory>
     ensures { IfOk result (λ member. member ≡ local_host) }
 {
     let mut tokens = Seq::new(alloc);
-    tokens.push(Token::Word(Text::of(alloc, b"localhost")?))?;
+    tokens.push(Token::Word(Word::of(alloc, b"localhost")?))?;
     Ok(Member {
         text: Text::of(alloc, b"localhost")?,
         tokens: Some(tokens),

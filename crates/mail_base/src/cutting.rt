@@ -1,5 +1,6 @@
-ghost use Rattle.std.specs.Prelude.{◌≡◌, ◌<◌, ◌∷◌, ◌++◌, length, map, IfOk, OnOk};
+ghost use Rattle.std.specs.Prelude.{◌≡◌, ◌<◌, ◌∷◌, ◌++◌, length, map, min, take, IfOk, OnOk};
 ghost use Rattle.std.specs.Str.Lines.{lines, strip_carriage_return};
+ghost use Rattle.mail_base.specs.Texts.{without_quotes};
 ghost use Rattle.mail_base.specs.Words.{words_of};
 
 use crate::{NoMemory, Seq, Text, is_white};
@@ -75,4 +76,27 @@ fn push_texts(alloc: Global, slices: &[&[u8]], texts: &mut Seq<Text>) -> Result<
         texts.push(Text::of(alloc, slice)?)?;
     }
     Ok(())
+}
+
+/// The text without its double quotes.
+pub fn without_quotes(alloc: Global, text: &[u8]) -> Result<Text, NoMemory>
+    ensures { IfOk result (λ bare. bare ≡ without_quotes text.now) }
+{
+    let bytes = text
+        .iter()
+        .copied()
+        .filter(|byte| *byte != b'"')
+        .collect(alloc)?;
+    Ok(Text::from_vec(bytes))
+}
+
+/// Copies the front of one slice to the front of another, as much as both hold, and says how many
+/// bytes that are.
+pub fn copy_front(from: &[u8], to: &mut [u8]) -> usize
+    ensures count { result ≡ min (length from.now) (length to.old) }
+    ensures front { take result to.new ≡ take result from.now }
+{
+    let count = from.len().min(to.len());
+    to[..count].copy_from_slice(&from[..count]);
+    count
 }

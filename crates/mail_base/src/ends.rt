@@ -1,7 +1,7 @@
 ghost use Rattle.std.specs.Prelude.{◌≡◌, ◌≤◌, ◌<◌, ◌-◌, IsTrue, length};
 ghost use Rattle.std.specs.List.{position_or_len, prefix_len, suffix_len};
 ghost use Rattle.mail_base.specs.Texts.{ends_in, is_blank, trimmed, without_angles, without_blanks, without_ends};
-ghost use Rattle.mail_base.specs.Whites.{is_white, without_whites};
+ghost use Rattle.mail_base.specs.Whites.{is_white, stripped, without_whites};
 
 use crate::is_white;
 use bstr::ByteSlice;
@@ -37,6 +37,18 @@ pub fn without_whites(text: &[u8]) -> &[u8]
     ensures { result.now ≡ without_whites text.now }
 {
     &text[whites_length(text)..]
+}
+
+/// The text without the white space at both ends.
+pub fn stripped(text: &[u8]) -> &[u8]
+    ensures { result.now ≡ stripped text.now }
+{
+    let rest = without_whites(text);
+    let mut end = rest.len();
+    'bytes: while end > 0 && is_white(rest[end - 1]) {
+        end -= 1;
+    }
+    &rest[..end]
 }
 
 /// The text without the blanks at its front.

@@ -1,7 +1,7 @@
 ghost use Rattle.std.specs.Prelude.{◌≡◌, ℕ, List, Bool, true, fold, position, slice_get, IfSome, OnOk};
 ghost use Rattle.std.specs.List.{find};
 ghost use Rattle.std.specs.Option.{option_copied};
-ghost use Rattle.mail_base.specs.Places.{IsFound, IsIndexed, Keeps, is_held_for, none_held, passes_at};
+ghost use Rattle.mail_base.specs.Places.{IsFirstAt, IsFound, IsIndexed, Keeps, is_held_for, none_held, passes_at};
 ghost use Rattle.mail_base.specs.Places as all;
 ghost use Rattle.mail_base.specs.inner.Looking as spec;
 
@@ -66,6 +66,24 @@ impl Places {
         hold(&mut self.index, &mut self.others, name, place)
     }
 
+    /// Holds a place for a name, unless an item that has it is found there or before.
+    pub fn hold_first<T: Named>(
+        &mut self,
+        items: &[T],
+        place: usize,
+        name: &Text,
+    ) -> Result<(), NoMemory>
+        ensures keeps { Keeps self.old self.new }
+        ensures held { OnOk result
+            (IsFirstAt (T.has_name name.now) items.now place
+            → is_held_for name.now place self.new ≡ true) }
+    {
+        if is_up_to(place, self.find(items, name)) {
+            return Ok(());
+        }
+        self.hold(name, place)
+    }
+
     /// The place of the first item that has a name, if the first of each name is held. It takes no
     /// memory. It is found by the name's hash; the places whose hash was taken stand in one list,
     /// which is walked, and no clause bounds its length.
@@ -107,6 +125,16 @@ fn hold(
     }
     index.insert(hash, place)?;
     Ok(())
+}
+
+// Whether a place was found, and it is this one or stands before it.
+fn is_up_to(place: usize, found: Option<usize>) -> bool
+    ensures { result ≡ spec.is_up_to place found }
+{
+    match found {
+        Some(found) => found <= place,
+        None => false,
+    }
 }
 
 // A number that names have in common where they are equal without ASCII case.

@@ -1,11 +1,14 @@
-ghost use Rattle.std.specs.Prelude.{◌≡◌, ◌≤◌, ◌↔◌, ◌++◌, ◌∷◌, [], IfSome, IsSome, OnOk, OnErr, count_by, length, slice_get};
+ghost use Rattle.std.specs.Prelude.{◌≡◌, ◌≤◌, ◌↔◌, ◌++◌, ◌∷◌, [], ℕ, false, Some, IfNone, IfOk, IfSome, IsSome, OnOk, OnErr, count_by, length, slice_get};
 ghost use Rattle.std.specs.List.{list_any};
 ghost use Rattle.std.specs.Option.{option_copied};
-ghost use Rattle.mail_base.specs.Candidates.{anchor, anchored, first_word, first_exact, free, is_late, or_else};
-ghost use Rattle.mail_base.specs.Metas.{is_meta};
+ghost use Rattle.mail_base.specs.Candidates.{anchor, anchored, first_word, first_exact, free, or_else};
+ghost use Rattle.mail_base.specs.Masks.{IsNextCovered, covers, wanted_mask};
+ghost use Rattle.mail_base.specs.declared.rule.Rule.{Rule as TheRule};
+ghost use Rattle.mail_base.specs.Metas.{is_class, is_late, is_meta};
 ghost use Rattle.mail_base.specs.Rulesets.{is_named};
 
-use crate::{Buckets, NoMemory, Seq, Text, Token, TryCopy};
+use crate::{Buckets, NoMemory, Seq, Text, Token, TryCopy, mask};
+use std::alloc::Global;
 use std::marker::Model;
 
 /// An item of a rule's left side.
@@ -34,18 +37,25 @@ pub enum Item {
 #[derive(Drop)]
 pub struct Pattern {
     items: Seq<Item>,
+    has_late: bool,
+    has_class: bool,
 }
 
 impl Model for Pattern {
-    ghost use Rattle.std.specs.Prelude.{◌≤◌, List, count_by};
-    ghost use Rattle.mail_base.specs.Metas.{is_meta};
+    ghost use Rattle.std.specs.Prelude.{◌≡◌, ◌≤◌, List, count_by};
+    ghost use Rattle.std.specs.List.{list_any};
+    ghost use Rattle.mail_base.specs.Metas.{is_class, is_late, is_meta};
     ghost use Rattle.mail_base.specs.declared.rule.Item.{Item};
 
     ghost Value = { List Item };
 
     ghost view = { λ p. p.items };
 
-    ghost invariant = { λ p. count_by is_meta p.items ≤ 20 };
+    ghost invariant = { λ p. record {
+      few : count_by is_meta p.items ≤ 20;
+      late : p.has_late ≡ list_any is_late p.items;
+      class : p.has_class ≡ list_any is_class p.items;
+    } };
 }
 
 /// A piece of a rule's right side.
@@ -59,17 +69,53 @@ pub enum Piece {
     Late(Text),
 }
 
+/// What a look-up asks: a map by its name, with arguments, and what it gives where the map has
+/// nothing, which is its key where there is no such list.
+#[derive(Drop)]
+pub struct Query {
+    pub name: Text,
+    pub key: Seq<Piece>,
+    pub args: Seq<Seq<Piece>>,
+    pub fallback: Option<Seq<Piece>>,
+}
+
+/// A look-up of a right side, in memory of its own, since few steps are look-ups. A contract sees
+/// it as what it asks.
+#[derive(Drop)]
+pub struct Lookup {
+    query: Box<Query>,
+}
+
+impl Model for Lookup {
+    ghost use Rattle.mail_base.specs.declared.rule.Query.{Query};
+
+    ghost Value = { Query };
+
+    ghost view = { λ l. l.query.value };
+}
+
+impl Lookup {
+    pub fn of(alloc: Global, query: Query) -> Result<Lookup, NoMemory>
+        ensures { IfOk result (λ lookup. lookup ≡ query) }
+    {
+        Ok(Lookup {
+            query: Box::new(alloc, query)?,
+        })
+    }
+
+    pub fn query(&self) -> &Query
+        ensures { result.now ≡ self.now }
+    {
+        &self.query
+    }
+}
+
 /// A step of a rule's right side.
 #[derive(Drop)]
 pub enum Step {
     Plain(Piece),
     /// `$[key$]` or `$(name key $@ arg $: fallback$)`.
-    Lookup {
-        name: Text,
-        key: Seq<Piece>,
-        args: Seq<Seq<Piece>>,
-        fallback: Option<Seq<Piece>>,
-    },
+    Lookup(Lookup),
     /// `$>`, the call of the ruleset that the next token names, on all tokens that follow.
     Call,
 }
@@ -106,11 +152,13 @@ pub struct Numbered {
 }
 
 /// Where a rule stands: in the bucket of an anchor or, with `None`, among those without one, and
-/// at which place there.
+/// at which place there; and what it wants of the tokens.
 #[derive(Clone, Copy)]
 pub struct Slot {
     pub bucket: Option<usize>,
     pub place: usize,
+    /// The bits that its left side wants.
+    pub wanted: u64,
 }
 
 impl Item {
@@ -139,7 +187,13 @@ impl Pattern {
         if items.items().iter().filter(|item| item.is_meta()).count() > Pattern::MOST_METAS {
             return None;
         }
-        Some(Pattern { items })
+        let has_late = any_late(&items);
+        let has_class = any_class(&items);
+        Some(Pattern {
+            items,
+            has_late,
+            has_class,
+        })
     }
 
     pub fn items(&self) -> &[Item]
@@ -155,21 +209,55 @@ impl Pattern {
     pub fn anchor(&self) -> Option<&Token>
         ensures { option_copied result ≡ anchor self.now }
     {
-        if has_late(&self.items) {
+        if self.has_late {
             None
         } else {
             word_or_token(&self.items)
         }
     }
+
+    /// Whether one of the items is a `$&x`.
+    pub fn has_late(&self) -> bool
+        ensures { result ≡ list_any is_late self.now }
+    {
+        self.has_late
+    }
+
+    /// Whether one of the items is a `$=x`.
+    pub fn has_class(&self) -> bool
+        ensures { result ≡ list_any is_class self.now }
+    {
+        self.has_class
+    }
+
+    /// The bits that the left side wants of the tokens that it matches. With a `$&x` it wants none,
+    /// since its value may be one that can't be cut.
+    pub fn wanted_mask(&self) -> u64
+        ensures { result ≡ wanted_mask self.now }
+    {
+        if self.has_late {
+            return 0;
+        }
+        mask::wanted_mask(self.items.items())
+    }
 }
 
-fn has_late(items: &Seq<Item>) -> bool
+fn any_late(items: &Seq<Item>) -> bool
     ensures { result ≡ list_any is_late items.now }
 {
     items
         .items()
         .iter()
         .any(|item| matches!(item, Item::Late(_)))
+}
+
+fn any_class(items: &Seq<Item>) -> bool
+    ensures { result ≡ list_any is_class items.now }
+{
+    items
+        .items()
+        .iter()
+        .any(|item| matches!(item, Item::InClass(_)))
 }
 
 fn word_or_token(items: &Seq<Item>) -> Option<&Token>
@@ -222,8 +310,11 @@ impl TryCopy for Item {
 
 impl TryCopy for Pattern {
     fn copy(&self) -> Result<Pattern, NoMemory> {
-        let items = self.items.copy()?;
-        Ok(Pattern { items })
+        Ok(Pattern {
+            items: self.items.copy()?,
+            has_late: self.has_late,
+            has_class: self.has_class,
+        })
     }
 }
 
@@ -237,21 +328,29 @@ impl TryCopy for Piece {
     }
 }
 
+impl TryCopy for Query {
+    fn copy(&self) -> Result<Query, NoMemory> {
+        Ok(Query {
+            name: self.name.copy()?,
+            key: self.key.copy()?,
+            args: self.args.copy()?,
+            fallback: self.fallback.copy()?,
+        })
+    }
+}
+
+impl TryCopy for Lookup {
+    fn copy(&self) -> Result<Lookup, NoMemory> {
+        let query = self.query().copy()?;
+        Lookup::of(self.query().name.allocator(), query)
+    }
+}
+
 impl TryCopy for Step {
     fn copy(&self) -> Result<Step, NoMemory> {
         match self {
             Step::Plain(piece) => Ok(Step::Plain(piece.copy()?)),
-            Step::Lookup {
-                name,
-                key,
-                args,
-                fallback,
-            } => Ok(Step::Lookup {
-                name: name.copy()?,
-                key: key.copy()?,
-                args: args.copy()?,
-                fallback: fallback.copy()?,
-            }),
+            Step::Lookup(lookup) => Ok(Step::Lookup(lookup.copy()?)),
             Step::Call => Ok(Step::Call),
         }
     }
@@ -324,6 +423,26 @@ impl RuleSet {
         ensures { option_copied result ≡ slice_get self.now.rules number }
     {
         self.rules.rule(number)
+    }
+
+    /// The number of the first rule from one on whose left side wants no bits but these, or `None`
+    /// where there is none. Rules count from 0. It takes no memory.
+    pub fn next_covered(&self, from: u32, mask: u64) -> Option<u32>
+        ensures some { IfSome result (IsNextCovered self.now.rules from mask) }
+        ensures none { IfNone result ((k : ℕ) (rule : TheRule) → from ≤ k
+            → slice_get self.now.rules k ≡ Some rule
+            → covers mask (wanted_mask rule.left) ≡ false) }
+    {
+        self.rules.next_covered(from, mask)
+    }
+
+    /// Whether the left side of the rule of a number, counted from 0, wants no bits but these. Past
+    /// the end there is no such rule.
+    pub fn is_covered(&self, number: u32, mask: u64) -> bool
+        ensures { (rule : TheRule) → slice_get self.now.rules number ≡ Some rule
+            → result ≡ covers mask (wanted_mask rule.left) }
+    {
+        self.rules.is_covered(number, mask)
     }
 
     /// The rules with an anchor, without ASCII case, with their numbers in ascending order.

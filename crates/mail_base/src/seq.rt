@@ -90,6 +90,13 @@ impl<T: Drop> Seq<T> {
         self.items[index] = item;
     }
 
+    /// Gives back the memory behind the items, where there is room for fewer.
+    pub fn shrink(&mut self)
+        ensures { self.new ≡ self.old }
+    {
+        self.items.shrink_to_fit();
+    }
+
     /// Keeps the first items alone, at most so many.
     pub fn truncate(&mut self, most: usize)
         ensures { self.new ≡ take most self.old }

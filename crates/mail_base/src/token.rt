@@ -1,12 +1,14 @@
-ghost use Rattle.std.specs.Prelude.{◌≡◌, ◌↔◌, ◌∷◌, IsTrue, IfOk, fold};
+ghost use Rattle.std.specs.Prelude.{◌≡◌, ◌<◌, ◌↔◌, ◌∷◌, IsTrue, IfOk, fold};
 ghost use Rattle.std.specs.Cmp.{partial_equiv_from_equiv};
 ghost use Rattle.std.specs.Hash as fed;
 ghost use Rattle.std.specs.List.{flat_map};
 ghost use Rattle.std.specs.Str.{str_to_ascii_lowercase};
+ghost use Rattle.mail_base.specs.Masks.{place_of};
 ghost use Rattle.mail_base.specs.Tokens.{same_token, same_mark};
 ghost use Rattle.mail_base.specs.inner.TokenLaws.{same_equiv, fed_token, fed_alike, mark_number};
 
-use crate::{NoMemory, Text, TryCopy};
+use crate::mask::{mark_place, text_place};
+use crate::{NoMemory, TryCopy, Word};
 use std::hash::{Hash, Hasher};
 
 /// A sign that a rule's right side may give: `$|`, `$#`, `$@`, `$:` and `$.`.
@@ -29,12 +31,26 @@ pub enum Mark {
 #[derive(Debug, Drop)]
 pub enum Token {
     /// The longest run of bytes that are neither operators nor white space.
-    Word(Text),
+    Word(Word),
     /// A quoted string with its quotes.
-    Quoted(Text),
+    Quoted(Word),
     /// An operator, as `@`.
     Op(u8),
     Sign(Mark),
+}
+
+impl Token {
+    /// The token's place in a mask of tokens, without ASCII case.
+    pub(crate) fn place(&self) -> u32
+        ensures value { result ≡ place_of self.now }
+        ensures within { result < 64 }
+    {
+        match self {
+            Token::Word(word) | Token::Quoted(word) => word.place(),
+            Token::Op(byte) => text_place(&[*byte]),
+            Token::Sign(mark) => mark_place(*mark),
+        }
+    }
 }
 
 impl TryCopy for Token {

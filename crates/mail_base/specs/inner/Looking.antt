@@ -1,5 +1,5 @@
 -- How the first of some items that has a name is looked up among the places that are held.
-use Rattle.std.specs.Prelude.{ℕ, List, Bool, true, ◌&&◌, Option, None, Some, fold, nat_eq, nat_lt, slice_get, if◌then◌else◌}
+use Rattle.std.specs.Prelude.{ℕ, List, Bool, true, false, ◌&&◌, Option, None, Some, fold, nat_eq, nat_le, nat_lt, slice_get, if◌then◌else◌}
 use Rattle.std.specs.Map.{lookup}
 use Rattle.mail_base.specs.Places.{Held, hash_of, passes_at}
 
@@ -7,6 +7,11 @@ use Rattle.mail_base.specs.Places.{Held, hash_of, passes_at}
 abbrev pub is_before : ℕ → Option ℕ → Bool
 is_before place None = true
 is_before place (Some first) = nat_lt place first
+
+-- a place was found, and it is this one or stands before it
+abbrev pub is_up_to : ℕ → Option ℕ → Bool
+is_up_to place None = false
+is_up_to place (Some found) = nat_le found place
 
 -- the place, where its item passes and stands before the first so far
 abbrev pub earlier : {X : Type 0} → (X → Bool) → List X → Option ℕ → ℕ → Option ℕ

@@ -1,0 +1,110 @@
+-- What a left side wants of the tokens that it matches, as bits of a word (our own): each token has
+-- one of 64 places, and so have each two that stand side by side, and the ends of the list.
+use Rattle.std.specs.Prelude.{◌≡◌, ℕ, ◌+◌, ◌*◌, ◌%◌, ◌^◌, ◌≤◌, ◌<◌, List, [], ◌∷◌, ◌++◌, Bool, true, false, ◌==◌, Option, None, Some, bit_and, bit_or, fold, length, slice_get, codes, if◌then◌else◌, refl}
+use Rattle.std.specs.List.{list_any}
+use Rattle.mail_base.specs.Metas.{is_late}
+use Rattle.mail_base.specs.Texts.{text_place}
+use Rattle.mail_base.specs.declared.rule.Item.{Item}
+use Rattle.mail_base.specs.declared.rule.Item.TheVariants.{Any, Empty, Exact}
+use Rattle.mail_base.specs.declared.rule.Rule.{Rule}
+use Rattle.mail_base.specs.declared.class.Member.{Member}
+use Rattle.mail_base.specs.declared.token.Mark.{Mark}
+use Rattle.mail_base.specs.declared.token.Mark.TheVariants.{Alt, Mailer, Host, User, End}
+use Rattle.mail_base.specs.declared.token.Token.{Token}
+use Rattle.mail_base.specs.declared.token.Token.TheVariants.{Word, Quoted, Op, Sign}
+
+abbrev pub mark_place : Mark → ℕ
+mark_place Alt = 24
+mark_place Mailer = 25
+mark_place Host = 26
+mark_place User = 27
+mark_place End = 28
+
+-- the place of a token; the same tokens have the same
+abbrev pub place_of : Token → ℕ
+place_of (Word text) = text_place text
+place_of (Quoted text) = text_place text
+place_of (Op byte) = text_place (byte ∷ [])
+place_of (Sign mark) = mark_place mark
+
+-- the place of two neighbours, by theirs, and what stands for an end of the list as a neighbour
+abbrev pub pair_place : ℕ → ℕ → ℕ
+pair_place before place = (before * 7 + place + 41) % 64
+
+abbrev pub edge : ℕ
+edge = 40
+
+-- the places of tokens and of their neighbours, behind what has this place
+abbrev pub places_from : ℕ → List Token → List ℕ
+places_from before [] = pair_place before edge ∷ []
+places_from before (token ∷ tokens) =
+    pair_place before (place_of token) ∷ place_of token ∷ places_from (place_of token) tokens
+
+-- the places that tokens have
+abbrev pub places_of : List Token → List ℕ
+places_of tokens = places_from edge tokens
+
+-- the place with what stands before it, where that is known
+abbrev pub pair_places : Option ℕ → ℕ → List ℕ
+pair_places None place = []
+pair_places (Some before) place = pair_place before place ∷ []
+
+-- the places that any tokens have which items match, behind what may be known
+abbrev pub wanted_from : Option ℕ → List Item → List ℕ
+wanted_from before [] = pair_places before edge
+wanted_from before (Exact token ∷ items) =
+    pair_places before (place_of token)
+    ++ place_of token ∷ wanted_from (Some (place_of token)) items
+wanted_from before (Empty ∷ items) = wanted_from before items
+wanted_from before (item ∷ items) = wanted_from None items
+
+-- the places that a left side wants; none with a `$&x`, whose value may be one that can't be cut
+abbrev pub wanted : List Item → List ℕ
+wanted items = if list_any is_late items then [] else wanted_from (Some edge) items
+
+-- a mask with one place more
+abbrev pub with_place : ℕ → ℕ → ℕ
+with_place mask place = bit_or mask (2 ^ place)
+
+abbrev pub with_places : ℕ → List ℕ → ℕ
+with_places mask places = fold with_place mask places
+
+-- the mask of tokens, and that of a left side
+abbrev pub mask_of : List Token → ℕ
+mask_of tokens = with_places 0 (places_of tokens)
+
+abbrev pub wanted_mask : List Item → ℕ
+wanted_mask items = with_places 0 (wanted items)
+
+-- one mask has all places of another
+abbrev pub covers : ℕ → ℕ → Bool
+covers mask wanted = bit_and wanted mask == wanted
+
+-- the first rule from a number on whose left side wants no other places than a mask has
+pub record IsNextCovered (rules : List Rule) (from mask : ℕ) (number : ℕ) : Type 0 where
+  pub above : from ≤ number
+  pub within : number < length rules
+  pub covered : (rule : Rule) → slice_get rules number ≡ Some rule
+      → covers mask (wanted_mask rule.left) ≡ true
+  pub first : (k : ℕ) (other : Rule) → from ≤ k → k < number → slice_get rules k ≡ Some other
+      → covers mask (wanted_mask other.left) ≡ false
+
+-- the place of the first token of a member, if it has any
+abbrev pub head_places : Option (List Token) → List ℕ
+head_places None = []
+head_places (Some []) = []
+head_places (Some (token ∷ tokens)) = place_of token ∷ []
+
+-- the places of the first tokens of members
+abbrev pub heads_from : ℕ → List Member → ℕ
+heads_from mask members =
+    fold (λ m member. with_places m (head_places member.tokens)) mask members
+
+abbrev pub heads_of : List Member → ℕ
+heads_of members = heads_from 0 members
+
+example :
+    (covers (mask_of (Word (codes "ann") ∷ Op 64 ∷ Word (codes "mx") ∷ []))
+    (wanted_mask (Any ∷ Exact (Op 64) ∷ Exact (Word (codes "MX")) ∷ [])) ≡ true)
+    × (wanted_mask (Empty ∷ []) ≡ mask_of [])
+example = (refl, refl)
