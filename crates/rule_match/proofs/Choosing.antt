@@ -8,7 +8,7 @@ use Rattle.std.proofs.lemmas.List.{drop-drop, length-drop}
 use Rattle.mail_base.specs.declared.token.Token.{Token}
 use Rattle.rule_match.specs.Wants.{Want, Anything, Something, Single, Nothing, Phrase, NoPhrase, These, meets, is_none}
 use Rattle.rule_match.specs.Choices.{Fits, IsAtMost, Chosen}
-use Rattle.rule_match.specs.inner.Steps.{is_choosing, has_phrases, width, front_stands, IsFirst, IsNext}
+use Rattle.rule_match.specs.inner.Steps.{is_choosing, has_phrases, width, front_stands, IsFirst, IsFirstFront, IsNext}
 use Rattle.rule_match.proofs.Fitting.{or_none, fits_fixed, fits_stands, stands_parts, takes_width}
 
 -- two lists that are at most one another are the same
@@ -151,6 +151,19 @@ module _ (wants : List Want) (tokens : List Token) (least : ℕ) where
           let joined : drop other tokens ≡ drop (other - place) (drop place tokens) = ap (λ (k : ℕ). drop k tokens) apart ∙ sym (drop-drop (other - place) place tokens) in
           fits_earlier wants (other - place) plain free (drop place tokens) lengths stands (subst (λ k. other - place ≤ k) (sym (length-drop place tokens)) short) (subst (λ xs. Fits wants xs lengths) joined h);
     }
+
+-- the same of what a search for a front tells
+module _ (wants : List Want) (tokens : List Token) (least last : ℕ) where
+  -- the first place where the front stands is the first where all fits
+  pub found_free : last ≤ length tokens → list_any has_phrases wants ≡ false → list_any is_choosing wants ≡ true → (o : Option ℕ) → IfSome o (λ place. IsFirstFront wants tokens least last place) → IfSome o (λ place. IsFirst wants tokens least place)
+  found_free inside plain free None h = tt
+  found_free inside plain free (Some place) h = let within = h.within in place_free wants tokens least place h.first plain free h.from (omega arith) h.stands
+
+  -- where the front stands nowhere up to the last place, nothing fits
+  pub missed_free : (w : ℕ) → ((more : List Token) (lengths : List ℕ) → Fits wants more lengths → w ≤ length more) → last + w ≡ length tokens → (o : Option ℕ) → IfNone o ((place : ℕ) → least ≤ place → place ≤ last → front_stands wants (drop place tokens) ≡ false)
+      → IfNone o ((other : ℕ) (lengths : List ℕ) → least ≤ other → other ≤ length tokens → Fits wants (drop other tokens) lengths → ⊥)
+  missed_free w front is None none = no_place wants tokens least w front last is (λ k from below. none k from (omega arith))
+  missed_free w front is (Some place) none = tt
 
 -- what the first item takes
 module _ (wants : List Want) (tokens : List Token) where

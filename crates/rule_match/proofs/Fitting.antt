@@ -1,18 +1,19 @@
 -- What fits, item by item.
-use Rattle.std.proofs.Common.{◌≡◌, ℕ, ◌+◌, ◌≤◌, List, [], ◌∷◌, ◌++◌, length, take, drop, Bool, true, false, refl, sym, ◌∙◌, ap, subst, arith}
-use Rattle.std.specs.Prelude.{◌&&◌, ◌||◌, nat_le, not}
+use Rattle.std.proofs.Common.{◌≡◌, ℕ, ◌+◌, ◌≤◌, List, [], ◌∷◌, length, take, drop, Bool, true, false, refl, sym, ◌∙◌, ap, subst, arith}
+use Rattle.std.specs.Prelude.{◌&&◌, ◌||◌, nat_le}
 use Rattle.std.specs.List.{list_any}
 use Rattle.std.specs.Cmp.Lexicographic.{as_long}
-use Rattle.std.proofs.lemmas.Bool.{and_parts, and_from, and_left, and_right, both_ways, le-leb, leb-true}
-use Rattle.std.proofs.lemmas.List.{append-nil, append_assoc, length-take-le, length-drop, length_push, same_from_push, take-append-drop}
+use Rattle.std.proofs.lemmas.Bool.{and_parts, and_from, false_from_ne_true, le-leb, leb-true}
+use Rattle.std.proofs.lemmas.List.{length-take-le, length-drop}
 use Rattle.mail_base.specs.declared.token.Token.{Token}
 use Rattle.mail_base.specs.declared.classes.Classes.{Classes}
 use Rattle.mail_base.specs.declared.rule.Item.{Item}
 use Rattle.mail_base.specs.declared.rule.Item.TheVariants.{Any, More, One, Empty, InClass, NotInClass, Exact, Late}
-use Rattle.mail_base.specs.Tokens.{same_token, same_tokens}
+use Rattle.mail_base.specs.Tokens.{same_token}
 use Rattle.rule_match.specs.Wants.{Want, Anything, Something, Single, Nothing, Phrase, NoPhrase, These, want, wants, lists_after, meets, is_none, is_single}
 use Rattle.rule_match.specs.Choices.{Fits}
-use Rattle.rule_match.specs.inner.Steps.{is_choosing, has_phrases, width, front_stands, is_free, is_class, width_of, front_width}
+use Rattle.mail_base.specs.Metas.{is_class}
+use Rattle.rule_match.specs.inner.Steps.{is_choosing, has_phrases, width, front_stands, is_free, width_of, front_width}
 
 -- an `or` of two is false where both are
 pub or_none : (x y : Bool) → (x || y) ≡ false → (x ≡ false) × (y ≡ false)
@@ -65,6 +66,18 @@ stands_parts want wants tokens f h =
 stands_whole : (want : Want) (wants : List Want) (tokens : List Token) → is_choosing want ≡ false → StandsFixed want wants tokens → front_stands (want ∷ wants) tokens ≡ true
 stands_whole want wants tokens f s =
     stands_fixed want wants tokens f ∙ and_from _ (front_stands wants (drop (width want) tokens)) (and_from (nat_le (width want) (length tokens)) (meets want (take (width want) tokens)) (le-leb (width want) (length tokens) s.within) s.met) s.rest
+
+-- behind a want of one width that takes so many tokens, the rest of the front decides
+pub stands_behind : (want : Want) (wants : List Want) (tokens : List Token) (n : ℕ) → is_choosing want ≡ false → n ≤ length tokens → meets want (take n tokens) ≡ true → front_stands (want ∷ wants) tokens ≡ front_stands wants (drop n tokens)
+stands_behind want wants tokens n f within met =
+    let e = takes_width want tokens n f within met in
+    let both : (nat_le (width want) (length tokens) && meets want (take (width want) tokens)) ≡ true =
+    and_from (nat_le (width want) (length tokens)) (meets want (take (width want) tokens)) (le-leb (width want) (length tokens) (subst (λ k. k ≤ length tokens) e within)) (subst (λ k. meets want (take k tokens) ≡ true) e met) in
+    stands_fixed want wants tokens f ∙ ap (λ b. b && front_stands wants (drop (width want) tokens)) both ∙ ap (λ k. front_stands wants (drop k tokens)) (sym e)
+
+-- where a want of one width takes no tokens, no front that it begins stands
+pub stands_stuck : (want : Want) (wants : List Want) (tokens : List Token) → is_choosing want ≡ false → ((n : ℕ) → n ≤ length tokens → meets want (take n tokens) ≡ true → ⊥) → front_stands (want ∷ wants) tokens ≡ false
+stands_stuck want wants tokens f none = false_from_ne_true (front_stands (want ∷ wants) tokens) (λ h. let s = stands_parts want wants tokens f h in none (width want) s.within s.met)
 
 -- what fits an item whose matches have one length, and those after it
 pub record FitsFirst (want : Want) (wants : List Want) (tokens : List Token) (n : ℕ) (later : List ℕ) : Type 0 where
@@ -195,71 +208,3 @@ other_fixed (InClass name) a b c = absurd (c name refl)
 other_fixed (NotInClass name) a b c = refl
 other_fixed (Exact token) a b c = refl
 other_fixed (Late name) a b c = refl
-
--- ---- the last token
-
--- the tokens end with this one, which is the same as the one that is wanted
-pub record EndsWith (token : Token) (tokens : List Token) : Type 0 where
-  pub front : List Token
-  pub last : Token
-  pub ends : tokens ≡ front ++ last ∷ []
-  pub same : same_token token last ≡ true
-
-whole_piece : (n : ℕ) (tokens : List Token) (later : List ℕ) → Fits [] (drop n tokens) later → take n tokens ≡ tokens
-whole_piece n tokens later h = sym (append-nil (take n tokens)) ∙ ap (λ xs. take n tokens ++ xs) (sym (none (drop n tokens) later h)) ∙ take-append-drop n tokens
-  where
-    none : (xs : List Token) (ns : List ℕ) → Fits [] xs ns → xs ≡ []
-    none [] ns h = refl
-    none (x ∷ xs) [] h = absurd h
-    none (x ∷ xs) (n ∷ ns) h = absurd h
-
-only_token : (token : Token) (tokens : List Token) → same_tokens (token ∷ []) tokens ≡ true → EndsWith token tokens
-only_token token [] h = absurd cc
-only_token token (last ∷ []) h = record { front = []; last = last; ends = refl; same = (and_parts (same_token token last) true h).0 }
-only_token token (first ∷ next ∷ tokens) h = let e = (and_parts (same_token token first) false h).1 in absurd (cc e)
-
-later_end : (token : Token) (n : ℕ) (tokens : List Token) → EndsWith token (drop n tokens) → EndsWith token tokens
-later_end token n tokens e = record {
-  front = take n tokens ++ e.front;
-  last = e.last;
-  ends = sym (take-append-drop n tokens) ∙ ap (λ xs. take n tokens ++ xs) e.ends ∙ sym (append_assoc (take n tokens) e.front (e.last ∷ []));
-  same = e.same;
-}
-
--- where items fit of which the last is a token, the tokens end with it
-fits_end : (classes : Classes) (late : List (List Token)) (before : List Item) (token : Token) (tokens : List Token) (lengths : List ℕ) → Fits (wants classes late (before ++ Exact token ∷ [])) tokens lengths → EndsWith token tokens
-fits_end classes late [] token tokens [] h = absurd h
-fits_end classes late [] token tokens (n ∷ later) h = subst (EndsWith token) (whole_piece n tokens later h.2) (only_token token (take n tokens) h.1)
-fits_end classes late (item ∷ before) token tokens [] h = absurd h
-fits_end classes late (item ∷ before) token tokens (n ∷ later) h = later_end token n tokens (fits_end classes (lists_after item late) before token (drop n tokens) later h.2)
-
-module _ (items before : List Item) (token : Token) (are : items ≡ before ++ Exact token ∷ []) (tokens : List Token) (classes : Classes) (late : List (List Token)) (lengths : List ℕ) (h : Fits (wants classes late items) tokens lengths) where
-  ending : EndsWith token tokens
-  ending = fits_end classes late before token tokens lengths (subst (λ is. Fits (wants classes late is) tokens lengths) are h)
-
-  -- where items fit of which the last is a token, there are tokens
-  pub ends_none : length tokens ≡ 0 → ⊥
-  ends_none empty = let e = ending in omega (arith, ap length e.ends, length_push e.front e.last)
-
-  -- where such items fit, the tokens don't end with another token
-  pub ends_other : (front : List Token) (last : Token) → tokens ≡ front ++ last ∷ [] → same_token token last ≡ false → ⊥
-  ends_other front last is differs =
-      let e = ending in
-      let same = same_from_push e.front front e.last last (sym e.ends ∙ is) in
-      both_ways (same_token token last) differs (ap (same_token token) (sym same.1) ∙ e.same)
-
--- what differs isn't the same
-pub not_same : (same differs : Bool) → differs ≡ not same → differs ≡ true → same ≡ false
-not_same true differs is t = absurd (cc (is, t))
-not_same false differs is t = refl
-
--- ---- the first token
-
-first_differs : (token first : Token) (rest : List Want) (more : List Token) → same_token token first ≡ false → front_stands (These (token ∷ []) ∷ rest) (first ∷ more) ≡ false
-first_differs token first rest more h = and_left _ _ (and_right (nat_le 1 (length (first ∷ more))) _ (and_left (same_token token first) true h))
-
--- items that begin with another token than the first don't stand at the front
-pub begins_other : (items after : List Item) (token : Token) → items ≡ Exact token ∷ after → (tokens : List Token) (first : Token) (more : List Token) → tokens ≡ first ∷ more → same_token token first ≡ false
-    → (classes : Classes) (late : List (List Token)) → front_stands (wants classes late items) tokens ≡ false
-begins_other items after token are tokens first more is h classes late =
-    ap (λ its. front_stands (wants classes late its) tokens) are ∙ ap (λ ts. front_stands (wants classes late (Exact token ∷ after)) ts) is ∙ first_differs token first (wants classes late after) more h

@@ -112,6 +112,12 @@ goes_stuck classes late items tokens lists all item after left kept start g is o
     stuck [] h = h
     stuck (n ∷ later) h = none n later h
 
+-- no items take no tokens, with no cuts
+pub tried_none : (classes : Classes) (late : List (List Token)) (items : List Item) (left : List Token) (start : ℕ) (kept : List Cut) → items ≡ [] → left ≡ [] → kept ≡ [] → (lengths : List ℕ) × Chosen (wants classes late items) left lengths × (kept ≡ kept_cuts items start lengths)
+tried_none classes late items left start kept none over empty =
+    let chosen : Chosen (wants classes late []) [] [] = record { fits = tt; least = λ others fits. tt } in
+    ([], subst (λ is. Chosen (wants classes late is) left []) (sym none) (subst (λ xs. Chosen (wants classes late []) xs []) (sym over) chosen), empty ∙ ap (λ is. kept_cuts is start []) (sym none))
+
 -- the first length that leaves a match to the others, when the lengths of the first item are tried
 -- in order
 module _ (classes : Classes) (late : List (List Token)) (items : List Item) (item : Item) (after : List Item) (is : items ≡ item ∷ after) (others : List (List Token)) (others_are : others ≡ lists_after item late) (left piece later : List Token) (start n : ℕ) (piece_is : piece ≡ take n left) (later_is : later ≡ drop n left)

@@ -16,9 +16,8 @@ use Rattle.mail_base.specs.declared.token.Token.{Token}
 use Rattle.mail_base.specs.declared.class.Member.{Member}
 use Rattle.mail_base.specs.declared.rule.Item.{Item}
 use Rattle.mail_base.specs.declared.rule.Item.TheVariants.{Any, More, One, Empty, InClass, NotInClass, Exact, Late}
-use Rattle.mail_base.specs.Candidates.{is_late}
 use Rattle.mail_base.specs.Classes.{is_phrase, is_cut_into, phrase_length, longest_from, longest_phrase}
-use Rattle.mail_base.specs.Metas.{is_meta}
+use Rattle.mail_base.specs.Metas.{is_late, is_meta}
 use Rattle.mail_base.specs.Tokens.{same_token}
 use Rattle.rule_match.specs.Wants.{want, wants, lists_after, Want, Anything, Something, Phrase, meets, is_none}
 use Rattle.rule_match.specs.Choices.{Fits}

@@ -1,3 +1,3 @@
-pub mod Glances
+pub mod Heads
 pub mod Rows
 pub mod Steps

@@ -1,4 +1,7 @@
-ghost use Rattle.std.specs.Prelude.{◌≡◌, ◌⊎◌, List, ℕ};
+ghost use Rattle.std.specs.Prelude.{◌≡◌, ◌⊎◌, List, ℕ, false};
+ghost use Rattle.std.specs.List.{list_any};
+ghost use Rattle.mail_base.specs.Masks.{covers, mask_of, wanted_mask};
+ghost use Rattle.mail_base.specs.Metas.{is_late};
 ghost use Rattle.mail_base.specs.declared.classes.Classes.{Classes};
 ghost use Rattle.mail_base.specs.declared.token.Token.{Token};
 ghost use Rattle.mail_base.specs.declared.rule.Item.{Item};
@@ -25,4 +28,14 @@ pub fn put_in()
         (tokens : List Token) (lengths : List ℕ)
         → Fits (wants classes late items) tokens lengths
         → lengths_of items (kept_cuts items 0 lengths) ≡ lengths }
+{}
+
+/// A left side that wants a bit which the mask of tokens lacks has no `$&x`, and no match with
+/// them, whatever the classes are.
+pub fn no_fit_uncovered()
+    ensures { (items : List Item) (tokens : List Token)
+        → covers (mask_of tokens) (wanted_mask items) ≡ false
+        → (list_any is_late items ≡ false)
+        × ((classes : Classes) (late : List (List Token)) (lengths : List ℕ)
+        → Fits (wants classes late items) tokens lengths → ⊥) }
 {}

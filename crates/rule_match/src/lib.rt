@@ -2,7 +2,6 @@
 #![tactic(auto)]
 
 mod cuts;
-mod glance;
 mod law;
 mod matcher;
 mod meeting;
@@ -12,7 +11,6 @@ mod trial;
 mod walk;
 
 pub use cuts::{Cut, Cuts};
-pub use glance::may_fit;
-pub use law::{each_choice, one_choice, put_in};
+pub use law::{each_choice, no_fit_uncovered, one_choice, put_in};
 pub use matcher::{find, find_into, lists_wanted};
 pub use trial::find_by_trial;

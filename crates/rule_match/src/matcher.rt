@@ -1,21 +1,21 @@
 ghost use Rattle.std.specs.Prelude.{◌≡◌, ◌+◌, ◌≤◌, ◌<◌, List, ℕ, ◌∷◌, ◌*◌, IfSome, IfNone, length, drop, count_by, true, false};
-ghost use Rattle.std.specs.List.{list_any};
-ghost use Rattle.mail_base.specs.Candidates.{is_late};
-ghost use Rattle.mail_base.specs.Metas.{is_meta};
+ghost use Rattle.std.specs.List.{list_all, list_any};
+ghost use Rattle.mail_base.specs.Masks.{mask_of};
+ghost use Rattle.mail_base.specs.Metas.{is_class, is_late, is_meta};
 ghost use Rattle.mail_base.specs.declared.classes.Classes.{Classes};
 ghost use Rattle.mail_base.specs.declared.token.Token.{Token};
 ghost use Rattle.rule_match.specs.Choices.{Fits};
 ghost use Rattle.rule_match.specs.Kept.{IsChoice};
-ghost use Rattle.rule_match.specs.inner.Steps.{front_stands, front_width, is_class, is_free, IsFirst, IsNext};
+ghost use Rattle.rule_match.specs.inner.Heads.{has_head};
+ghost use Rattle.rule_match.specs.inner.Steps.{front_stands, front_width, is_free, IsFirst, IsFirstFront, IsNext};
 ghost use Rattle.rule_match.specs.Wants.{want, wants, lists_after};
 
 use crate::cuts::Cuts;
-use crate::glance::is_same;
-use crate::meeting::{any_class, is_free, is_met, lists_after, parted, width};
+use crate::meeting::{is_free, is_same, lists_after, parted, width};
 use crate::rows::{ByRows, fixed_length, rows_of};
 use crate::trial::least;
 use crate::walk::{Lengths, found_by};
-use mail_base::{Classes, Item, Pattern, Seq, Token};
+use mail_base::{Classes, Item, Pattern, Seq, Token, mask_of};
 
 /// The match that a rule takes, or `None` exactly where nothing matches. It takes no memory.
 ///
@@ -35,37 +35,37 @@ pub fn find(
         → Fits (wants classes.now late.now pattern.now) tokens.now lengths → ⊥) }
 {
     let mut cuts = Cuts::new();
-    if find_into(pattern, tokens, classes, late, &mut cuts) {
+    let mask = mask_of(tokens.items());
+    if find_into(pattern, tokens, mask, classes, late, &mut cuts) {
         Some(cuts)
     } else {
         None
     }
 }
 
-/// The same into cuts that are there: whether there is a match. Where there is none they tell
-/// nothing.
+/// The same into cuts that are there, with the mask of the tokens: whether there is a match. Where
+/// there is none they tell nothing.
 pub fn find_into(
     pattern: &Pattern,
     tokens: &Seq<Token>,
+    mask: u64,
     classes: &Classes,
     late: &Seq<Seq<Token>>,
     cuts: &mut Cuts,
 ) -> bool
-    requires { length late.now ≡ count_by is_late pattern.now }
+    requires lists { length late.now ≡ count_by is_late pattern.now }
+    requires mask { mask ≡ mask_of tokens.now }
     ensures some { result ≡ true
         → IsChoice classes.now late.now pattern.now tokens.now cuts.new }
     ensures none { result ≡ false → (lengths : List ℕ)
         → Fits (wants classes.now late.now pattern.now) tokens.now lengths → ⊥ }
 {
     let items = pattern.items();
-    if ends_otherwise(items, tokens.items()) {
-        return false;
+    if !pattern.has_class() {
+        return find_plain(classes, late.items(), items, tokens.items(), cuts);
     }
-    if any_class(items) {
-        find_phrases(classes, late.items(), items, tokens.items(), cuts)
-    } else {
-        find_plain(classes, late.items(), items, tokens.items(), cuts)
-    }
+    have_heads(classes, items, mask)
+        && find_phrases(classes, late.items(), items, tokens.items(), cuts)
 }
 
 /// How many lists [`find`] wants with the pattern: one for each `$&x`.
@@ -79,21 +79,21 @@ pub fn lists_wanted(pattern: &Pattern) -> usize
         .count()
 }
 
-/// Whether the last item is a token, and the tokens end with none or with another.
-fn ends_otherwise(items: &[Item], tokens: &[Token]) -> bool
-    ensures { result ≡ true → (classes : Classes) (late : List (List Token)) (lengths : List ℕ)
-        → Fits (wants classes late items.now) tokens.now lengths → ⊥ }
+/// Whether each `$=x` has a member whose first token may be among the tokens, by their mask.
+fn have_heads(classes: &Classes, items: &[Item], mask: u64) -> bool
+    ensures { result ≡ list_all (has_head mask classes.now) items.now }
 {
-    let Some((item, _before)) = items.split_last() else {
-        return false;
-    };
-    let Item::Exact(token) = item else {
-        return false;
-    };
-    let Some((last, _front)) = tokens.split_last() else {
-        return true;
-    };
-    !is_same(token, last)
+    items.iter().all(|item| has_head(classes, item, mask))
+}
+
+/// The same of one item.
+fn has_head(classes: &Classes, item: &Item, mask: u64) -> bool
+    ensures { result ≡ has_head mask classes.now item.now }
+{
+    match item {
+        Item::InClass(name) => classes.heads(name) & mask != 0,
+        _ => true,
+    }
 }
 
 /// By the items up to the next of several possible lengths, where none is a phrase of a class.
@@ -244,8 +244,28 @@ fn place_of(
     if !chooses {
         return Some(last);
     }
+    first_front(classes, late, after, left, least, last)
+}
+
+/// The first of these places from which the items before the first of several possible lengths meet
+/// the tokens.
+fn first_front(
+    classes: &Classes,
+    late: &[Seq<Token>],
+    items: &[Item],
+    tokens: &[Token],
+    least: usize,
+    last: usize,
+) -> Option<usize>
+    requires { last ≤ length tokens.now }
+    ensures some { IfSome result
+        (λ place. IsFirstFront (wants classes.now late.now items.now) tokens.now least last place) }
+    ensures none { IfNone result ((place : ℕ) → least ≤ place → place ≤ last
+        → front_stands (wants classes.now late.now items.now) (drop place tokens.now) ≡ false) }
+{
     for place in least..last + 1 {
-        if front_stands(classes, late, after, &left[place..]) {
+        let left = &tokens[place..];
+        if !begins_otherwise(items, left) && front_stands(classes, late, items, left) {
             return Some(place);
         }
     }
@@ -276,36 +296,21 @@ fn front_width(late: &[Seq<Token>], items: &[Item], most: usize) -> Option<(usiz
     Some((most - room, false))
 }
 
-/// Whether the items before the first of several possible lengths meet the first tokens.
-fn front_stands(classes: &Classes, late: &[Seq<Token>], items: &[Item], tokens: &[Token]) -> bool
-    ensures { result ≡ front_stands (wants classes.now late.now items.now) tokens.now }
-{
-    if begins_otherwise(items, tokens) {
-        return false;
-    }
-    front_meets(classes, late, items, tokens)
-}
-
 /// Whether the first item is a token, and the tokens begin with another. Most fronts that don't
 /// stand are seen by this alone.
+#[inline(always)]
 fn begins_otherwise(items: &[Item], tokens: &[Token]) -> bool
     ensures { result ≡ true → (classes : Classes) (late : List (List Token))
         → front_stands (wants classes late items.now) tokens.now ≡ false }
 {
-    let Some((item, _after)) = items.split_first() else {
-        return false;
-    };
-    let Item::Exact(token) = item else {
-        return false;
-    };
-    let Some((first, _rest)) = tokens.split_first() else {
-        return false;
-    };
-    !is_same(token, first)
+    match (items, tokens) {
+        ([Item::Exact(token), ..], [first, ..]) => !is_same(token, first),
+        _ => false,
+    }
 }
 
-/// The same as whether the front stands, item by item.
-fn front_meets(classes: &Classes, late: &[Seq<Token>], items: &[Item], tokens: &[Token]) -> bool
+/// Whether the items before the first of several possible lengths meet the first tokens.
+fn front_stands(classes: &Classes, late: &[Seq<Token>], items: &[Item], tokens: &[Token]) -> bool
     ensures { result ≡ front_stands (wants classes.now late.now items.now) tokens.now }
 {
     let mut lists = late;
@@ -314,15 +319,10 @@ fn front_meets(classes: &Classes, late: &[Seq<Token>], items: &[Item], tokens: &
         if is_free(item) {
             return true;
         }
-        let width = width(lists, item);
-        if width > left.len() {
+        let Some(length) = fixed_length(classes, lists, item, left) else {
             return false;
-        }
-        let (piece, rest) = parted(left, width);
-        if !is_met(classes, lists, item, piece) {
-            return false;
-        }
-        left = rest;
+        };
+        left = parted(left, length).1;
         lists = lists_after(item, lists);
     }
     true

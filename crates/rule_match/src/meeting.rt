@@ -1,10 +1,9 @@
 ghost use Rattle.std.specs.Prelude.{◌≡◌, ◌≤◌, length, take, drop};
-ghost use Rattle.std.specs.List.{list_any};
 ghost use Rattle.rule_match.specs.Kept.{is_binding};
-ghost use Rattle.rule_match.specs.inner.Steps.{is_free, is_class, width_of};
+ghost use Rattle.mail_base.specs.Tokens.{same_token};
+ghost use Rattle.rule_match.specs.inner.Steps.{is_free, width_of};
 ghost use Rattle.rule_match.specs.Wants.{want, meets, first_list, lists_after};
 
-use crate::glance::is_same;
 use mail_base::{Classes, Item, Seq, Token};
 
 /// Whether these tokens are a match of the item; a `$&x` has the first of the lists.
@@ -23,6 +22,18 @@ pub fn is_met(classes: &Classes, late: &[Seq<Token>], item: &Item, piece: &[Toke
             _ => false,
         },
         Item::Late(_) => first_list(late) == piece,
+    }
+}
+
+/// Whether two tokens are the same. Operators are compared in place.
+pub(crate) fn is_same(one: &Token, other: &Token) -> bool
+    ensures { result ≡ same_token one.now other.now }
+{
+    match (one, other) {
+        (Token::Op(mine), Token::Op(another)) => mine.eq_ignore_ascii_case(another),
+        (Token::Op(_), _) => false,
+        (_, Token::Op(_)) => false,
+        _ => one == other,
     }
 }
 
@@ -54,13 +65,6 @@ pub fn is_free(item: &Item) -> bool
     ensures { result ≡ is_free item.now }
 {
     matches!(item, Item::Any | Item::More | Item::InClass(_))
-}
-
-/// Whether one of the items is a phrase of a class.
-pub fn any_class(items: &[Item]) -> bool
-    ensures { result ≡ list_any is_class items.now }
-{
-    items.iter().any(|item| matches!(item, Item::InClass(_)))
 }
 
 /// Whether `$1` to `$9` count the item.

@@ -1,14 +1,13 @@
 ghost use Rattle.std.specs.Prelude.{◌≡◌, ◌+◌, ◌-◌, ◌≤◌, ◌<◌, ◌∷◌, [], ◌*◌, List, ℕ, length, take, drop, count_by, true, false, IfSome, IfNone};
-ghost use Rattle.mail_base.specs.Candidates.{is_late};
 ghost use Rattle.mail_base.specs.Catalogs.{value_at, members_of};
-ghost use Rattle.mail_base.specs.Metas.{is_meta};
+ghost use Rattle.mail_base.specs.Metas.{is_late, is_meta};
 ghost use Rattle.rule_match.specs.Choices.{Fits};
 ghost use Rattle.rule_match.specs.inner.Rows.{IsRow, IsLater, IsStart, IsLeast, AreRows, StandRows, starts_fixed};
 ghost use Rattle.rule_match.specs.inner.Steps.{is_free, IsNext};
-ghost use Rattle.rule_match.specs.Wants.{Want, Phrase, want, wants, meets};
+ghost use Rattle.rule_match.specs.Wants.{Want, Phrase, These, want, wants, meets};
 ghost use Rattle.mail_base.specs.declared.token.Token.{Token};
 
-use crate::meeting::{is_free, is_met, parted, width};
+use crate::meeting::{is_free, is_met, is_same, parted, width};
 use crate::row::Row;
 use crate::walk::Lengths;
 use arrayvec::ArrayVec;
@@ -214,7 +213,43 @@ fn next_length<const W: usize>(
 }
 
 /// What an item whose matches have one length takes of the tokens that are left.
+#[inline(always)]
 pub fn fixed_length(
+    classes: &Classes,
+    late: &[Seq<Token>],
+    item: &Item,
+    left: &[Token],
+) -> Option<usize>
+    requires { is_free item.now ≡ false }
+    ensures some { IfSome result
+        (λ n. (after : List Want) → IsNext (want classes.now late.now item.now) after left.now n) }
+    ensures none { IfNone result
+        ((n : ℕ) → n ≤ length left.now
+        → meets (want classes.now late.now item.now) (take n left.now) ≡ true → ⊥) }
+{
+    match item {
+        Item::Exact(token) => exact_length(token, left),
+        _ => other_length(classes, late, item, left),
+    }
+}
+
+/// The same of a token.
+#[inline(always)]
+fn exact_length(token: &Token, left: &[Token]) -> Option<usize>
+    ensures some { IfSome result
+        (λ n. (after : List Want) → IsNext (These (token.now ∷ [])) after left.now n) }
+    ensures none { IfNone result
+        ((n : ℕ) → n ≤ length left.now
+        → meets (These (token.now ∷ [])) (take n left.now) ≡ true → ⊥) }
+{
+    match left {
+        [first, ..] if is_same(token, first) => Some(1),
+        _ => None,
+    }
+}
+
+/// The same of any item.
+fn other_length(
     classes: &Classes,
     late: &[Seq<Token>],
     item: &Item,

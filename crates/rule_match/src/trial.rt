@@ -1,6 +1,5 @@
 ghost use Rattle.std.specs.Prelude.{◌≡◌, ◌+◌, ◌≤◌, ◌<◌, ◌^◌, List, ℕ, IfSome, IfNone, length, count_by};
-ghost use Rattle.mail_base.specs.Candidates.{is_late};
-ghost use Rattle.mail_base.specs.Metas.{is_meta};
+ghost use Rattle.mail_base.specs.Metas.{is_late, is_meta};
 ghost use Rattle.rule_match.specs.Choices.{Fits, Chosen};
 ghost use Rattle.rule_match.specs.Kept.{IsChoice, kept_cuts};
 ghost use Rattle.rule_match.specs.Wants.{wants};

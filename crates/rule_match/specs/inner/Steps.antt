@@ -1,5 +1,5 @@
 -- One step of the search for the match that a rule takes; only private contracts cite it.
-use Rattle.std.specs.Prelude.{ℕ, ◌+◌, ◌-◌, ◌≤◌, ◌==◌, List, [], ◌∷◌, length, take, drop, Bool, true, false, IsTrue, ◌&&◌, nat_le, slice_range, if◌then◌else◌}
+use Rattle.std.specs.Prelude.{ℕ, ◌+◌, ◌-◌, ◌≤◌, ◌<◌, ◌≡◌, ◌==◌, List, [], ◌∷◌, length, take, drop, Bool, true, false, IsTrue, ◌&&◌, nat_le, slice_range, if◌then◌else◌}
 use Rattle.mail_base.specs.declared.token.Token.{Token}
 use Rattle.mail_base.specs.declared.rule.Item.{Item}
 use Rattle.mail_base.specs.declared.rule.Item.TheVariants.{Any, More, One, InClass, NotInClass, Exact, Late}
@@ -33,6 +33,14 @@ front_stands (want ∷ wants) tokens = if is_choosing want then true
     else (nat_le (width want) (length tokens) && meets want (take (width want) tokens)
     && front_stands wants (drop (width want) tokens))
 
+-- of two places and those between, the place is the first from which the front of the items stands
+pub record IsFirstFront (wants : List Want) (tokens : List Token) (least last place : ℕ)
+    : Type 0 where
+  pub from : least ≤ place
+  pub within : place ≤ last
+  pub stands : front_stands wants (drop place tokens) ≡ true
+  pub first : (k : ℕ) → least ≤ k → k < place → front_stands wants (drop k tokens) ≡ false
+
 -- the place is the first from the least on from which the items fit, if they fit from any
 pub record IsFirst (wants : List Want) (tokens : List Token) (least place : ℕ) : Type 0 where
   pub from : least ≤ place
@@ -51,17 +59,12 @@ pub record IsNext (want : Want) (wants : List Want) (tokens : List Token) (n : �
   pub enough : (m : ℕ) (lengths : List ℕ) → Fits (want ∷ wants) tokens (m ∷ lengths)
       → (rest : List ℕ) × Fits wants (drop n tokens) rest
 
--- what of this is known of items, whatever the classes are: an item of several possible lengths, a
--- phrase of a class
+-- whether an item has matches of several lengths, whatever the classes are
 abbrev pub is_free : Item → Bool
 is_free Any = true
 is_free More = true
 is_free (InClass _) = true
 is_free _ = false
-
-abbrev pub is_class : Item → Bool
-is_class (InClass _) = true
-is_class _ = false
 
 abbrev pub width_of : List (List Token) → Item → ℕ
 width_of late One = 1

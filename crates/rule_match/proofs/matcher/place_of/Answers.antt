@@ -1,9 +1,8 @@
 use Rattle.std.proofs.Common.{◌-◌, length, arith, ◌∙◌, sym, subst}
-use Rattle.std.proofs.lemmas.Grind.{common_steps}
 use Rattle.rule_match.specs.Wants.{wants}
 use Rattle.rule_match.specs.inner.Steps.{front_width, IsFirst}
 use Rattle.rule_match.proofs.Fitting.{choosing_any, class_any, fits_front, fits_whole}
-use Rattle.rule_match.proofs.Choosing.{place_fixed, no_place_wide, no_place, place_free}
+use Rattle.rule_match.proofs.Choosing.{place_fixed, no_place_wide, found_free, missed_free}
 use Rattle.rule_match.proofs.matcher.place_of.Goals as goal
 
 pub returns-in_err-width-clause-none : goal.returns-in_err-width-clause-none
@@ -18,16 +17,15 @@ returns-then-not-chooses-clause-some c =
     subst (λ w. IsFirst ws c.args.left.now c.args.least (length c.args.left.now - w)) (sym f.0)
     (place_fixed ws c.args.left.now c.args.least (front_width c.args.late.now c.args.after.now) (λ more lengths. fits_whole c.args.classes.now c.args.late.now c.args.after.now more lengths (sym f.1 ∙ c.if-not-chooses.true)) (omega (arith, f.0, f.2)))
 
-pub returns-then-front_stands-clause-some : goal.returns-then-front_stands-clause-some
-returns-then-front_stands-clause-some c =
+pub returns-clause-some : goal.returns-clause-some
+returns-clause-some c =
     let f = c.in_ok-width.ensures.some in
-    let ws = wants c.args.classes.now c.args.late.now c.args.after.now in
     let free = choosing_any c.args.classes.now c.args.late.now c.args.after.now ∙ sym f.1 ∙ c.if-not-chooses.false in
     let plain = class_any c.args.classes.now c.args.late.now c.args.after.now ∙ c.requires in
-    place_free ws c.args.left.now c.args.least c.loop-place.place c.loop-place.invariant plain free (omega arith) (omega arith) (grind (arith, common_steps))
+    found_free (wants c.args.classes.now c.args.late.now c.args.after.now) c.args.left.now c.args.least (length c.args.left.now - c.in_ok-width.width) (omega arith) plain free c.first_front.result c.first_front.ensures.some
 
 pub returns-clause-none : goal.returns-clause-none
 returns-clause-none c =
     let f = c.in_ok-width.ensures.some in
-    no_place (wants c.args.classes.now c.args.late.now c.args.after.now) c.args.left.now c.args.least (front_width c.args.late.now c.args.after.now) (fits_front c.args.classes.now c.args.late.now c.args.after.now)
-    (length c.args.left.now - c.in_ok-width.width) (omega (arith, f.0, f.2)) (λ k from below. c.loop-place.invariant k from (omega (arith, f.2, below)))
+    missed_free (wants c.args.classes.now c.args.late.now c.args.after.now) c.args.left.now c.args.least (length c.args.left.now - c.in_ok-width.width) (front_width c.args.late.now c.args.after.now)
+    (fits_front c.args.classes.now c.args.late.now c.args.after.now) (omega (arith, f.0, f.2)) c.first_front.result c.first_front.ensures.none

@@ -1,8 +1,7 @@
 use Rattle.std.proofs.Common.{◌≡◌, ◌+◌, ◌≤◌, List, ◌++◌, length, drop}
 use Rattle.std.specs.Prelude.{count_by}
 use Rattle.mail_base.specs.declared.rule.Item.{Item}
-use Rattle.mail_base.specs.Candidates.{is_late}
-use Rattle.mail_base.specs.Metas.{is_meta}
+use Rattle.mail_base.specs.Metas.{is_late, is_meta}
 use Rattle.rule_match.specs.Wants.{wants}
 use Rattle.rule_match.specs.inner.Rows.{IsRow, AreRows}
 use Rattle.rule_match.proofs.rows.rows_of.Given as goal

@@ -1,5 +1,5 @@
 use Rattle.std.specs.List.{list_any}
-use Rattle.rule_match.specs.inner.Steps.{is_class}
+use Rattle.mail_base.specs.Metas.{is_class}
 use Rattle.rule_match.proofs.Fitting.{or_none}
 use Rattle.rule_match.proofs.Going.{some_with}
 use Rattle.rule_match.proofs.matcher.ByFrontsLengths.next.Goals as goal

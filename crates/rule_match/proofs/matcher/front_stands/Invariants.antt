@@ -1,7 +1,7 @@
 use Rattle.std.proofs.Common.{◌≡◌, drop}
 use Rattle.rule_match.specs.Wants.{wants}
 use Rattle.rule_match.specs.inner.Steps.{front_stands}
-use Rattle.rule_match.proofs.matcher.front_meets.Given as goal
+use Rattle.rule_match.proofs.matcher.front_stands.Given as goal
 
 -- what is left of the items and of the tokens decides
 abbrev pub invariant-loop-item : goal.invariant-loop-item

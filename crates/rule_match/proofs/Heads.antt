@@ -1,0 +1,183 @@
+-- What fits a `$=x` begins with the first token of a member, so that both masks have its place.
+use Rattle.std.proofs.Common.{◌≡◌, ℕ, zero, suc, ◌+◌, ◌^◌, ◌%◌, ◌==◌, List, [], ◌∷◌, length, take, drop, Bool, true, false, not, Option, None, Some, bit_and, refl, sym, ap, ◌∙◌, subst, arith}
+use Rattle.std.specs.Prelude.{◌||◌}
+use Rattle.std.specs.Char.{to_ascii_lowercase}
+use Rattle.std.specs.Int.{bit_at}
+use Rattle.std.specs.List.{list_all}
+use Rattle.std.specs.Str.{str_eq_ignore_ascii_case, str_to_ascii_lowercase}
+use Rattle.std.specs.Cmp.Lexicographic.{bytes_decides}
+use Rattle.std.proofs.lemmas.Bool.{and_parts, and_from, true≢false, both_ways, eqb-true}
+use Rattle.std.proofs.lemmas.List.{drop-drop, length-map}
+use Rattle.std.proofs.lemmas.Nat.Bits.{bit_at-zero, bit_at_and, bit_at_or, bit_at-pow_same, bit_at-lt}
+use Rattle.mail_base.specs.Catalogs.{value_at, members_of}
+use Rattle.mail_base.specs.Classes.{is_cut_into, is_phrase}
+use Rattle.mail_base.specs.Masks.{place_of, pair_place, places_from, mask_of, with_place, with_places, head_places, heads_from, heads_of, edge}
+use Rattle.mail_base.specs.Texts.{text_place}
+use Rattle.mail_base.specs.Tokens.{same_mark, same_token, same_tokens}
+use Rattle.mail_base.specs.declared.class.Member.{Member}
+use Rattle.mail_base.specs.declared.classes.Classes.{Classes}
+use Rattle.mail_base.specs.declared.rule.Item.{Item}
+use Rattle.mail_base.specs.declared.rule.Item.TheVariants.{Any, More, One, Empty, InClass, NotInClass, Exact, Late}
+use Rattle.mail_base.specs.declared.token.Mark.{Mark}
+use Rattle.mail_base.specs.declared.token.Mark.TheVariants.{Alt, Mailer, Host, User, End}
+use Rattle.mail_base.specs.declared.token.Token.{Token}
+use Rattle.mail_base.specs.declared.token.Token.TheVariants.{Word, Quoted, Op, Sign}
+use Rattle.rule_match.specs.Choices.{Fits}
+use Rattle.rule_match.specs.Wants.{Phrase, want, wants, lists_after, meets}
+use Rattle.rule_match.specs.inner.Heads.{has_head}
+
+-- ---- the same tokens have one place
+
+lowered_place : (x y : ℕ) (xs ys : List ℕ) → str_to_ascii_lowercase (x ∷ xs) ≡ str_to_ascii_lowercase (y ∷ ys) → text_place (x ∷ xs) ≡ text_place (y ∷ ys)
+lowered_place x y xs ys e =
+    let heads : to_ascii_lowercase x ≡ to_ascii_lowercase y = cc in
+    let rests : str_to_ascii_lowercase xs ≡ str_to_ascii_lowercase ys = cc in
+    let sizes : length xs ≡ length ys = sym (length-map xs to_ascii_lowercase) ∙ ap length rests ∙ length-map ys to_ascii_lowercase in
+    ap (λ first. (first + length xs) % 64) heads ∙ ap (λ size. (to_ascii_lowercase y + size) % 64) sizes
+
+text_same : (x y : List ℕ) → str_eq_ignore_ascii_case x y ≡ true → text_place x ≡ text_place y
+text_same [] [] h = refl
+text_same [] (y ∷ ys) h = absurd (true≢false (sym h))
+text_same (x ∷ xs) [] h = absurd (true≢false (sym h))
+text_same (x ∷ xs) (y ∷ ys) h = lowered_place x y xs ys ((bytes_decides (str_to_ascii_lowercase (x ∷ xs)) (str_to_ascii_lowercase (y ∷ ys))).0 h)
+
+mark_same : (x y : Mark) → same_mark x y ≡ true → place_of (Sign x) ≡ place_of (Sign y)
+mark_same Alt Alt h = refl
+mark_same Mailer Mailer h = refl
+mark_same Host Host h = refl
+mark_same User User h = refl
+mark_same End End h = refl
+mark_same Alt Mailer h = absurd (true≢false (sym h))
+mark_same Alt Host h = absurd (true≢false (sym h))
+mark_same Alt User h = absurd (true≢false (sym h))
+mark_same Alt End h = absurd (true≢false (sym h))
+mark_same Mailer Alt h = absurd (true≢false (sym h))
+mark_same Mailer Host h = absurd (true≢false (sym h))
+mark_same Mailer User h = absurd (true≢false (sym h))
+mark_same Mailer End h = absurd (true≢false (sym h))
+mark_same Host Alt h = absurd (true≢false (sym h))
+mark_same Host Mailer h = absurd (true≢false (sym h))
+mark_same Host User h = absurd (true≢false (sym h))
+mark_same Host End h = absurd (true≢false (sym h))
+mark_same User Alt h = absurd (true≢false (sym h))
+mark_same User Mailer h = absurd (true≢false (sym h))
+mark_same User Host h = absurd (true≢false (sym h))
+mark_same User End h = absurd (true≢false (sym h))
+mark_same End Alt h = absurd (true≢false (sym h))
+mark_same End Mailer h = absurd (true≢false (sym h))
+mark_same End Host h = absurd (true≢false (sym h))
+mark_same End User h = absurd (true≢false (sym h))
+
+-- two tokens that are the same have one place
+pub same_place : (x y : Token) → same_token x y ≡ true → place_of x ≡ place_of y
+same_place (Word x) (Word y) h = text_same x y h
+same_place (Quoted x) (Quoted y) h = text_same x y h
+same_place (Op x) (Op y) h = text_same (x ∷ []) (y ∷ []) h
+same_place (Sign x) (Sign y) h = mark_same x y h
+same_place (Word x) (Quoted y) h = absurd (true≢false (sym h))
+same_place (Word x) (Op y) h = absurd (true≢false (sym h))
+same_place (Word x) (Sign y) h = absurd (true≢false (sym h))
+same_place (Quoted x) (Word y) h = absurd (true≢false (sym h))
+same_place (Quoted x) (Op y) h = absurd (true≢false (sym h))
+same_place (Quoted x) (Sign y) h = absurd (true≢false (sym h))
+same_place (Op x) (Word y) h = absurd (true≢false (sym h))
+same_place (Op x) (Quoted y) h = absurd (true≢false (sym h))
+same_place (Op x) (Sign y) h = absurd (true≢false (sym h))
+same_place (Sign x) (Word y) h = absurd (true≢false (sym h))
+same_place (Sign x) (Quoted y) h = absurd (true≢false (sym h))
+same_place (Sign x) (Op y) h = absurd (true≢false (sym h))
+
+-- ---- the places of a mask
+
+abbrev IsIn : ℕ → ℕ → Type 0
+IsIn place mask = bit_at mask place ≡ 1
+
+-- a mask has the place that is put in, and keeps those that it has
+put_place : (mask place : ℕ) → IsIn place (with_place mask place)
+put_place mask place = omega (arith, bit_at_or mask (2 ^ place) place, bit_at-pow_same place, bit_at-lt mask place)
+
+keep_place : (mask more place : ℕ) → IsIn place mask → IsIn place (with_place mask more)
+keep_place mask more place h = omega (arith, h, bit_at_or mask (2 ^ more) place, bit_at-lt (2 ^ more) place)
+
+pub keep_places : (places : List ℕ) (mask place : ℕ) → IsIn place mask → IsIn place (with_places mask places)
+keep_places [] mask place h = h
+keep_places (more ∷ places) mask place h = keep_places places (with_place mask more) place (keep_place mask more place h)
+
+-- two masks that both have a place have bits in common
+common_place : (one another place : ℕ) → IsIn place one → IsIn place another → not (bit_and one another == 0) ≡ true
+common_place one another place h k = by (bit_and one another == 0) refl
+  where
+    by : (b : Bool) → (bit_and one another == 0) ≡ b → not b ≡ true
+    by false e = refl
+    by true e =
+        let none : bit_and one another ≡ 0 = eqb-true (bit_and one another) 0 e in
+        let zero_bit : bit_at (bit_and one another) place ≡ 0 = ap (λ m. bit_at m place) none ∙ bit_at-zero place in
+        absurd (omega (arith, h, k, zero_bit, bit_at_and one another place))
+
+-- ---- each token's place is in the mask of the tokens
+
+token_in : (tokens : List Token) (n mask before : ℕ) (first : Token) (rest : List Token) → drop n tokens ≡ first ∷ rest → IsIn (place_of first) (with_places mask (places_from before tokens))
+token_in [] zero mask before first rest e = absurd cc
+token_in [] (suc n) mask before first rest e = absurd cc
+token_in (token ∷ tokens) zero mask before first rest e =
+    let same : token ≡ first = cc in
+    subst (λ (t : Token). IsIn (place_of t) (with_places mask (places_from before (token ∷ tokens)))) same
+    (keep_places (places_from (place_of token) tokens) (with_place (with_place mask (pair_place before (place_of token))) (place_of token)) (place_of token)
+    (put_place (with_place mask (pair_place before (place_of token))) (place_of token)))
+token_in (token ∷ tokens) (suc n) mask before first rest e = token_in tokens n (with_place (with_place mask (pair_place before (place_of token))) (place_of token)) (place_of token) first rest e
+
+-- ---- and the first token of a phrase has the place of a member's
+
+keep_heads : (members : List Member) (mask place : ℕ) → IsIn place mask → IsIn place (heads_from mask members)
+keep_heads [] mask place h = h
+keep_heads (member ∷ members) mask place h = keep_heads members (with_places mask (head_places member.tokens)) place (keep_places (head_places member.tokens) mask place h)
+
+put_head : (tokens : Option (List Token)) (mask : ℕ) (first : Token) (rest : List Token) → is_cut_into (first ∷ rest) tokens ≡ true → IsIn (place_of first) (with_places mask (head_places tokens))
+put_head None mask first rest h = absurd (true≢false (sym h))
+put_head (Some []) mask first rest h = absurd (true≢false (sym h))
+put_head (Some (token ∷ tokens)) mask first rest h =
+    let same = same_place first token (and_parts (same_token first token) (same_tokens rest tokens) h).0 in
+    subst (λ (place : ℕ). IsIn place (with_place mask (place_of token))) (sym same) (put_place mask (place_of token))
+
+head_in : (members : List Member) (mask : ℕ) (first : Token) (rest : List Token) → is_phrase (first ∷ rest) members ≡ true → IsIn (place_of first) (heads_from mask members)
+head_in [] mask first rest h = absurd (true≢false (sym h))
+head_in (member ∷ members) mask first rest h = by (is_cut_into (first ∷ rest) member.tokens) refl h (λ k. head_in members (with_places mask (head_places member.tokens)) first rest k)
+  where
+    by : (b : Bool) → is_cut_into (first ∷ rest) member.tokens ≡ b → (b || is_phrase (first ∷ rest) members) ≡ true
+        → (is_phrase (first ∷ rest) members ≡ true → IsIn (place_of first) (heads_from mask (member ∷ members))) → IsIn (place_of first) (heads_from mask (member ∷ members))
+    by true e k go = keep_heads members (with_places mask (head_places member.tokens)) (place_of first) (put_head member.tokens mask first rest e)
+    by false e k go = go k
+
+-- ---- so where a class has no such head, nothing fits
+
+phrase_head : (members : List Member) (tokens : List Token) (n k : ℕ) (left : List Token) → drop n tokens ≡ left → meets (Phrase members) (take k left) ≡ true → not (bit_and (heads_of members) (mask_of tokens) == 0) ≡ true
+phrase_head members tokens n zero left e met = absurd (true≢false (sym met))
+phrase_head members tokens n (suc k) [] e met = absurd (true≢false (sym met))
+phrase_head members tokens n (suc k) (first ∷ rest) e met =
+    common_place (heads_of members) (mask_of tokens) (place_of first) (head_in members 0 first (take k rest) met) (token_in tokens n 0 edge first rest e)
+
+module _ (classes : Classes) (tokens : List Token) where
+  item_head : (late : List (List Token)) (item : Item) (n k : ℕ) → meets (want classes late item) (take k (drop n tokens)) ≡ true → has_head (mask_of tokens) classes item ≡ true
+  item_head late Any n k met = refl
+  item_head late More n k met = refl
+  item_head late One n k met = refl
+  item_head late Empty n k met = refl
+  item_head late (InClass name) n k met = phrase_head (members_of (value_at name classes)) tokens n k (drop n tokens) refl met
+  item_head late (NotInClass name) n k met = refl
+  item_head late (Exact token) n k met = refl
+  item_head late (Late name) n k met = refl
+
+  -- where items fit tokens from a place on, each class among them has a member that begins as one
+  -- of the tokens does
+  fits_heads : (late : List (List Token)) (items : List Item) (n : ℕ) (lengths : List ℕ) → Fits (wants classes late items) (drop n tokens) lengths → list_all (has_head (mask_of tokens) classes) items ≡ true
+  fits_heads late [] n lengths fits = refl
+  fits_heads late (item ∷ items) n [] fits = absurd fits
+  fits_heads late (item ∷ items) n (k ∷ lengths) fits =
+      and_from (has_head (mask_of tokens) classes item) (list_all (has_head (mask_of tokens) classes) items) (item_head late item n k fits.1)
+      (fits_heads (lists_after item late) items (n + k) lengths (subst (λ xs. Fits (wants classes (lists_after item late) items) xs lengths) (drop-drop k n tokens) fits.2))
+
+-- where a class has no member that begins as one of the tokens does, nothing fits
+pub no_heads : (classes : Classes) (mask : ℕ) (tokens : List Token) (items : List Item) → mask ≡ mask_of tokens → list_all (has_head mask classes) items ≡ false
+    → (late : List (List Token)) (lengths : List ℕ) → Fits (wants classes late items) tokens lengths → ⊥
+no_heads classes mask tokens items is none late lengths fits =
+    both_ways (list_all (has_head (mask_of tokens) classes) items) (ap (λ m. list_all (has_head m classes) items) (sym is) ∙ none) (fits_heads classes tokens late items 0 lengths fits)
