@@ -10,7 +10,8 @@ use Rattle.mail_base.specs.declared.rule.Item.{Item}
 use Rattle.mail_base.specs.declared.rule.Item.TheVariants.{Any, More, One, Empty, InClass, NotInClass, Exact, Late}
 use Rattle.mail_base.specs.Tokens.{same_token}
 use Rattle.mail_base.specs.inner.TokenLaws.{same_equiv}
-use Rattle.mail_base.specs.Candidates.{anchor, first_word, first_exact, or_else, holds, has_anchor, is_none, is_free, is_late, is_candidate}
+use Rattle.mail_base.specs.Metas.{is_late}
+use Rattle.mail_base.specs.Candidates.{anchor, first_word, first_exact, or_else, holds, has_anchor, is_none, is_free, is_candidate}
 use Rattle.mail_base.specs.declared.classes.Classes.{Classes}
 use Rattle.mail_base.specs.Tokens.{same_tokens}
 use Rattle.rule_match.specs.Wants.{Want, These, want, wants}

@@ -3,6 +3,7 @@ use Rattle.std.proofs.Common.{◌≡◌, ℕ, List, [], ◌∷◌, Option, Some,
 use Rattle.mail_base.specs.declared.token.Token.{Token}
 use Rattle.mail_base.specs.declared.rule.Piece.{Piece}
 use Rattle.mail_base.specs.declared.rule.Step.{Step}
+use Rattle.mail_base.specs.declared.rule.Query.{Query}
 use Rattle.mail_base.specs.declared.rule.Step.TheVariants.{Plain, Lookup, Call}
 use Rattle.map_tables.specs.declared.found.Found.{Found}
 use Rattle.map_tables.specs.declared.found.Found.TheVariants.{Value, Absent}
@@ -84,9 +85,9 @@ module _ (loaded : Loaded) (operators : List ℕ) (late : Lates) (found : Matche
   pub step_call : step ≡ Call → after ≡ before → (more : List Step) → filled loaded operators late found (step ∷ more) before ≡ put (OneCall ∷ []) (filled loaded operators late found more after)
   step_call is same more = ap (λ s. filled loaded operators late found (s ∷ more) before) is ∙ ap (λ m. put (OneCall ∷ []) (filled loaded operators late found more m)) (sym same)
 
-  module _ (name : List ℕ) (key : List Piece) (args : List (List Piece)) (fallback : Option (List Piece)) (is : step ≡ Lookup name key args fallback) where
+  module _ (query : Query) (is : step ≡ Lookup query) where
     abbrev Asks : Result Told RunFault
-    Asks = looked_up loaded operators name (pieces_tokens late found key) (map (pieces_tokens late found) args) (fallback_tokens late found fallback) before
+    Asks = looked_up loaded operators query.name (pieces_tokens late found query.key) (map (pieces_tokens late found) query.args) (fallback_tokens late found query.fallback) before
 
     asks_as : (t : Result Told RunFault) → Asks ≡ t → (more : List Step) → filled loaded operators late found (step ∷ more) before ≡ put_told t (λ now. filled loaded operators late found more now)
     asks_as t e more = ap (λ s. filled loaded operators late found (s ∷ more) before) is ∙ ap (λ x. put_told x (λ now. filled loaded operators late found more now)) e

@@ -1,15 +1,18 @@
 -- Rules that can't match, which a run passes by.
 use Rattle.std.proofs.Common.{◌≡◌, ◌⊎◌, inl, inr, ℕ, ◌+◌, ◌-◌, ◌<◌, ◌≤◌, List, [], ◌∷◌, ◌++◌, length, drop, cond, true, false, Some, None, Ok, refl, sym, ap, subst, ◌∙◌, zero, suc, arith}
-use Rattle.std.specs.Prelude.{IfNone, IfSome, Option, slice_get, count_by, ◌==◌}
+use Rattle.std.specs.Prelude.{Bool, IfNone, Option, slice_get, count_by, ◌==◌}
 use Rattle.std.specs.List.{list_any}
 use Rattle.std.proofs.lemmas.List.Concat.{flat_map-cons}
 use Rattle.std.proofs.lemmas.List.Recursion.{is_count_by}
-use Rattle.std.proofs.lemmas.Bool.{cases_order, eq-eqb, ne_eqb, cond-true, cond-false}
+use Rattle.std.proofs.lemmas.Bool.{cases_lt, cases_order, eq-eqb, ne_eqb, cond-true, cond-false}
 use Rattle.mail_base.specs.declared.token.Token.{Token}
 use Rattle.mail_base.specs.declared.rule.Rule.{Rule}
 use Rattle.mail_base.specs.declared.rule.Item.{Item}
 use Rattle.mail_base.specs.declared.rule.Item.TheVariants.{Any, More, One, Empty, InClass, NotInClass, Exact, Late}
-use Rattle.mail_base.specs.Candidates.{is_late, IsNext}
+use Rattle.mail_base.specs.Metas.{is_late}
+use Rattle.mail_base.specs.Candidates.{IsNext, is_candidate}
+use Rattle.mail_base.specs.Masks.{IsNextCovered, covers, mask_of, wanted_mask}
+use Rattle.rule_match.proofs.Masking.{uncovered}
 use Rattle.ruleset_run.specs.inner.Looks.{CannotMatch, IsAhead, times_at}
 use Rattle.ruleset_run.specs.Sites.{Site, Macros}
 use Rattle.ruleset_run.specs.Cutting.{Lates, is_cut_left, item_lists, left_lists}
@@ -55,6 +58,21 @@ no_late_cut late (Empty ∷ items) h = no_late_cut late items h
 no_late_cut late (InClass name ∷ items) h = no_late_cut late items h
 no_late_cut late (NotInClass name ∷ items) h = no_late_cut late items h
 no_late_cut late (Exact token ∷ items) h = no_late_cut late items h
+
+no_late_lists : (late : Lates) (items : List Item) → list_any is_late items ≡ false → left_lists late items ≡ []
+no_late_lists late [] h = refl
+no_late_lists late (Late name ∷ items) h = absurd (cc h)
+no_late_lists late (Any ∷ items) h = flat_map-cons (item_lists late) Any items ∙ no_late_lists late items h
+no_late_lists late (More ∷ items) h = flat_map-cons (item_lists late) More items ∙ no_late_lists late items h
+no_late_lists late (One ∷ items) h = flat_map-cons (item_lists late) One items ∙ no_late_lists late items h
+no_late_lists late (Empty ∷ items) h = flat_map-cons (item_lists late) Empty items ∙ no_late_lists late items h
+no_late_lists late (InClass name ∷ items) h = flat_map-cons (item_lists late) (InClass name) items ∙ no_late_lists late items h
+no_late_lists late (NotInClass name ∷ items) h = flat_map-cons (item_lists late) (NotInClass name) items ∙ no_late_lists late items h
+no_late_lists late (Exact token ∷ items) h = flat_map-cons (item_lists late) (Exact token) items ∙ no_late_lists late items h
+
+-- it has no lists then
+pub no_lists : (late : Lates) (items : List Item) (lists : List (List Token)) → list_any is_late items ≡ false → lists ≡ [] → (is_cut_left late items ≡ true) × (lists ≡ left_lists late items)
+no_lists late items lists h none = (no_late_cut late items h, none ∙ sym (no_late_lists late items h))
 
 -- ---- rules that are passed by
 
@@ -113,15 +131,44 @@ ahead_by_anchor rules from tokens number rule next = record {
   first = λ k other le lt is. no_candidate other tokens (next.first k other le lt is);
 }
 
-none_beyond : (rules : List Rule) (from k : ℕ) (rule : Rule) → from ≤ k → slice_get rules k ≡ Some rule → slice_get rules from ≡ None → ⊥
-none_beyond [] from k rule le is none = absurd (cc is)
-none_beyond (r ∷ rules) zero k rule le is none = absurd (cc none)
-none_beyond (r ∷ rules) (suc from) zero rule le is none = absurd (omega (arith, le))
-none_beyond (r ∷ rules) (suc from) (suc k) rule le is none = none_beyond rules from k rule (omega (arith, le)) is none
+-- a rule that wants a bit which the mask of the tokens lacks can't match
+cannot_by : (mask : ℕ) (tokens : List Token) (rule : Rule) → mask ≡ mask_of tokens → covers mask (wanted_mask rule.left) ≡ false → CannotMatch tokens rule
+cannot_by mask tokens rule is none = uncovered rule.left tokens (subst (λ (m : ℕ). covers m (wanted_mask rule.left) ≡ false) is none)
 
--- no rule stands there, nor behind it
-pub none_here : (rules : List Rule) (from : ℕ) (tokens : List Token) → slice_get rules from ≡ None → (k : ℕ) (rule : Rule) → from ≤ k → slice_get rules k ≡ Some rule → CannotMatch tokens rule
-none_here rules from tokens none k rule le is = absurd (none_beyond rules from k rule le is none)
+-- the first rule that is covered is before rules that can't match
+pub ahead_covered : (rules : List Rule) (from mask : ℕ) (tokens : List Token) (number : ℕ) (rule : Rule) → mask ≡ mask_of tokens → IsNextCovered rules from mask number → slice_get rules number ≡ Some rule → IsAhead rules from tokens number rule
+ahead_covered rules from mask tokens number rule mask_is next is = record {
+  above = next.above;
+  is = is;
+  first = λ k other le lt there. cannot_by mask tokens other mask_is (next.first k other le lt there);
+}
+
+-- where no rule is covered, none can match
+pub none_covered : (rules : List Rule) (from mask : ℕ) (tokens : List Token) → mask ≡ mask_of tokens → ((k : ℕ) (rule : Rule) → from ≤ k → slice_get rules k ≡ Some rule → covers mask (wanted_mask rule.left) ≡ false)
+    → (k : ℕ) (rule : Rule) → from ≤ k → slice_get rules k ≡ Some rule → CannotMatch tokens rule
+none_covered rules from mask tokens mask_is none k rule le is = cannot_by mask tokens rule mask_is (none k rule le is)
+
+-- where a number is below that of the rules, a rule stands
+pub rule_stands : (rules : List Rule) (n : ℕ) → n < length rules → slice_get rules n ≡ None → ⊥
+rule_stands rules n lt none = let found = get_below rules n lt in absurd (cc (found.1, none))
+
+-- what is so anyway is so where there is none
+pub if_none : {T : Type 0} (found : Option T) (P : Type 0) → P → IfNone found P
+if_none (Some x) P h = tt
+if_none None P h = h
+
+-- a candidate that isn't covered can't match
+pub uncovered_here : (rules : List Rule) (mask : ℕ) (tokens : List Token) (number : ℕ) (rule : Rule) (b : Bool) → mask ≡ mask_of tokens → slice_get rules number ≡ Some rule
+    → ((other : Rule) → slice_get rules number ≡ Some other → b ≡ covers mask (wanted_mask other.left)) → b ≡ false → CannotMatch tokens rule
+uncovered_here rules mask tokens number rule b mask_is is covers_is none = cannot_by mask tokens rule mask_is (sym (covers_is rule is) ∙ none)
+
+-- rules that can't match, and no candidate behind them
+pub none_later : (rules : List Rule) (from at : ℕ) (tokens : List Token) → ((k : ℕ) (other : Rule) → from ≤ k → k < at → slice_get rules k ≡ Some other → CannotMatch tokens other)
+    → ((k : ℕ) (other : Rule) → at ≤ k → slice_get rules k ≡ Some other → is_candidate tokens other ≡ false) → (k : ℕ) (rule : Rule) → from ≤ k → slice_get rules k ≡ Some rule → CannotMatch tokens rule
+none_later rules from at tokens before behind k rule le is = elim (cases_lt k at) [
+  | inl less ↦ before k rule le less is
+  | inr more ↦ no_candidate rule tokens (behind k rule more is)
+]
 
 -- rules that can't match, and what is ahead behind them
 pub ahead_later : (rules : List Rule) (from at : ℕ) (tokens : List Token) (number : ℕ) (rule : Rule) → from ≤ at → ((k : ℕ) (other : Rule) → from ≤ k → k < at → slice_get rules k ≡ Some other → CannotMatch tokens other)
@@ -147,16 +194,6 @@ passed_more rules from tokens number rule ahead cannot k other le lt is = at (ca
     at (inl e) = let same : rule ≡ other = cc (sym ahead.is ∙ ap (slice_get rules) (sym e) ∙ is) in subst (λ (r : Rule). CannotMatch tokens r) same cannot
     at (inr (inl less)) = ahead.first k other le less is
     at (inr (inr more)) = absurd (omega (arith, lt, more))
-
--- what holds of an answer, if there is one, from what is known of it
-pub some_weaker : {T : Type 0} (found : Option T) (P Q : T → Type 0) → ((x : T) → P x → Q x) → IfSome found P → IfSome found Q
-some_weaker (Some x) P Q f h = f x h
-some_weaker None P Q f h = tt
-
--- what a search that found none says may be said more weakly
-pub none_weaker : {T : Type 0} (found : Option T) (P Q : Type 0) → (P → Q) → IfNone found P → IfNone found Q
-none_weaker (Some x) P Q f h = tt
-none_weaker None P Q f h = f h
 
 one_list : (late : Lates) (item : Item) (lists : List (List Token)) → length (item_lists late item ++ lists) ≡ cond (is_late item) (1 + length lists) (length lists)
 one_list late (Late name) lists = omega arith

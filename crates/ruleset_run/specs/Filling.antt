@@ -43,9 +43,9 @@ is_cut_fallback late (Some pieces) = list_all (is_cut_piece late) pieces
 
 abbrev pub is_cut_step : Lates → Step → Bool
 is_cut_step late (Plain piece) = is_cut_piece late piece
-is_cut_step late (Lookup name key args fallback) =
-    list_all (is_cut_piece late) key && list_all (list_all (is_cut_piece late)) args
-    && is_cut_fallback late fallback
+is_cut_step late (Lookup query) =
+    list_all (is_cut_piece late) query.key && list_all (list_all (is_cut_piece late)) query.args
+    && is_cut_fallback late query.fallback
 is_cut_step late Call = true
 
 -- each `$&x` of a right side can be cut
@@ -123,9 +123,9 @@ filled maps operators late found [] macros = Ok (record { parts = []; macros = m
 filled maps operators late found (Plain piece ∷ steps) macros =
     put (map OneToken (piece_tokens late found piece))
     (filled maps operators late found steps macros)
-filled maps operators late found (Lookup name key args fallback ∷ steps) macros =
-    put_told (looked_up maps operators name (pieces_tokens late found key)
-    (map (pieces_tokens late found) args) (fallback_tokens late found fallback) macros)
+filled maps operators late found (Lookup query ∷ steps) macros =
+    put_told (looked_up maps operators query.name (pieces_tokens late found query.key)
+    (map (pieces_tokens late found) query.args) (fallback_tokens late found query.fallback) macros)
     (λ now. filled maps operators late found steps now)
 filled maps operators late found (Call ∷ steps) macros =
     put (OneCall ∷ []) (filled maps operators late found steps macros)

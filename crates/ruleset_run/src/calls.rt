@@ -3,18 +3,18 @@ ghost use Rattle.addr_tokens.specs.Joins.{sign_bytes};
 ghost use Rattle.ruleset_run.specs.Filling as spec;
 
 use addr_tokens::join;
-use mail_base::{Mark, NoMemory, Seq, Text, Token};
+use mail_base::{Mark, NoMemory, Seq, Text, Token, TryCopy};
 use std::alloc::Global;
 
 /// The name that a token gives to a call.
-pub fn call_name(alloc: Global, token: Token) -> Result<Text, NoMemory>
-    ensures { IfOk result (λ name. name ≡ spec.call_name token) }
+pub fn call_name(alloc: Global, token: &Token) -> Result<Text, NoMemory>
+    ensures { IfOk result (λ name. name ≡ spec.call_name token.now) }
 {
     match token {
-        Token::Word(text) => Ok(text),
+        Token::Word(text) => text.text().copy(),
         Token::Quoted(text) => Text::of(alloc, unquoted(text.bytes())),
-        Token::Op(byte) => Text::of(alloc, &[byte]),
-        Token::Sign(mark) => sign_name(alloc, mark),
+        Token::Op(byte) => Text::of(alloc, &[*byte]),
+        Token::Sign(mark) => sign_name(alloc, *mark),
     }
 }
 

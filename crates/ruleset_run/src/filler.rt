@@ -1,4 +1,4 @@
-ghost use Rattle.std.specs.Prelude.{◌≡◌, ◌++◌, List, ℕ, IfOk, IfSome, OnOk, map, true};
+ghost use Rattle.std.specs.Prelude.{◌≡◌, ◌&&◌, ◌++◌, List, ℕ, IfOk, IfSome, OnOk, map, true};
 ghost use Rattle.std.specs.List.{list_all};
 ghost use Rattle.map_tables.specs.Answers.{Loaded};
 ghost use Rattle.ruleset_run.specs.declared.part.Part.TheVariants.{Token as OneToken};
@@ -14,7 +14,7 @@ use crate::calls::with_room;
 use crate::parts::Parts;
 use crate::values::Values;
 use addr_tokens::join;
-use mail_base::{Mark, NoMemory, Pattern, Piece, Seq, Step, Text, Token, TryCopy};
+use mail_base::{Mark, NoMemory, Pattern, Piece, Query, Seq, Step, Text, Token, TryCopy};
 use map_tables::{Found, MapFault, Maps};
 use rule_match::Cuts;
 use std::slice;
@@ -51,18 +51,23 @@ fn is_cut_step(values: &mut Values, step: &Step) -> Result<bool, NoMemory>
 {
     match step {
         Step::Plain(piece) => is_cut_piece(values, piece),
-        Step::Lookup {
-            name: _,
-            key,
-            args,
-            fallback,
-        } => Ok(
-            are_cut(values, key.items())?
-                && all_cut(values, args.items())?
-                && is_cut_fallback(values, fallback)?,
-        ),
+        Step::Lookup(lookup) => is_cut_query(values, lookup.query()),
         Step::Call => Ok(true),
     }
+}
+
+fn is_cut_query(values: &mut Values, query: &Query) -> Result<bool, NoMemory>
+    ensures value { IfOk result
+        (λ is. is ≡ (list_all (is_cut_piece (lates values.old)) query.now.key
+        && list_all (list_all (is_cut_piece (lates values.old))) query.now.args
+        && is_cut_fallback (lates values.old) query.now.fallback)) }
+    ensures same { values.new ≡ values.old }
+{
+    Ok(
+        are_cut(values, query.key.items())?
+            && all_cut(values, query.args.items())?
+            && is_cut_fallback(values, &query.fallback)?,
+    )
 }
 
 fn is_cut_fallback(values: &mut Values, fallback: &Option<Seq<Piece>>) -> Result<bool, NoMemory>
@@ -202,13 +207,8 @@ fn fill_step(
             add_piece(values, source, piece, parts)?;
             Ok(())
         }
-        Step::Lookup {
-            name,
-            key,
-            args,
-            fallback,
-        } => {
-            let given = look_up(maps, values, source, name, key, args, fallback)?;
+        Step::Lookup(lookup) => {
+            let given = look_up(maps, values, source, lookup.query())?;
             parts.push_tokens(given.items())?;
             Ok(())
         }
@@ -263,37 +263,34 @@ fn look_up(
     maps: &Maps,
     values: &mut Values,
     source: &Match,
-    name: &Text,
-    key: &Seq<Piece>,
-    args: &Seq<Seq<Piece>>,
-    fallback: &Option<Seq<Piece>>,
+    query: &Query,
 ) -> Result<Seq<Token>, RunFault>
     requires { (found : Matched)
         × IsCutAs source.now.left.now source.now.tokens.now source.now.cuts.now found }
     ensures looks { (found : Matched)
         → IsCutAs source.now.left.now source.now.tokens.now source.now.cuts.now found
         → Looks result values.new.after
-        (looked_up maps.now values.old.operators name.now
-        (pieces_tokens (lates values.old) found key.now)
-        (map (pieces_tokens (lates values.old) found) args.now)
-        (fallback_tokens (lates values.old) found fallback.now) values.old.after) }
+        (looked_up maps.now values.old.operators query.now.name
+        (pieces_tokens (lates values.old) found query.now.key)
+        (map (pieces_tokens (lates values.old) found) query.now.args)
+        (fallback_tokens (lates values.old) found query.now.fallback) values.old.after) }
     ensures operators { values.new.operators ≡ values.old.operators }
     ensures macros { values.new.macros ≡ values.old.macros }
 {
-    let key = tokens_of(values, source, key.items())?;
-    let args = texts_of(values, source, args.items())?;
+    let key = tokens_of(values, source, query.key.items())?;
+    let args = texts_of(values, source, query.args.items())?;
     let text = join(values.allocator(), &key, Some(b' '))?;
-    match values.lookup(maps, name, &text, &args) {
+    match values.lookup(maps, &query.name, &text, &args) {
         Ok(Found::Value(answer)) => match values.cut(&answer)? {
             Some(tokens) => Ok(tokens),
             None => Err(RunFault::BadScan),
         },
-        Ok(Found::Absent) => match fallback {
+        Ok(Found::Absent) => match &query.fallback {
             Some(pieces) => Ok(tokens_of(values, source, pieces.items())?),
             None => Ok(key),
         },
-        Err(MapFault::MapClass) => Err(RunFault::MapClass(name.copy()?)),
-        Err(MapFault::NoSuchMap) => Err(RunFault::NoSuchMap(name.copy()?)),
+        Err(MapFault::MapClass) => Err(RunFault::MapClass(query.name.copy()?)),
+        Err(MapFault::NoSuchMap) => Err(RunFault::NoSuchMap(query.name.copy()?)),
         Err(MapFault::NoMemory) => Err(RunFault::NoMemory),
     }
 }

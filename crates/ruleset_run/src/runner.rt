@@ -1,5 +1,6 @@
 ghost use Rattle.std.specs.Prelude.{◌≡◌, ◌≤◌, ◌<◌, ◌++◌, ℕ, None, Some, IfErr, IfOk, OnOk, false, reverse, true};
 ghost use Rattle.std.specs.List.{find};
+ghost use Rattle.mail_base.specs.Masks.{mask_of};
 ghost use Rattle.mail_base.specs.Rulesets.{is_named};
 ghost use Rattle.mail_base.specs.declared.rule.Item.TheVariants.{Late};
 ghost use Rattle.rule_match.specs.Kept.{IsChoice};
@@ -18,7 +19,9 @@ use crate::looking::next_rule;
 use crate::part::Part;
 use crate::parts::{MOST_TOKENS, Parts};
 use crate::values::Values;
-use mail_base::{Classes, Config, Go, Item, Macros, Rule, RuleSet, Seq, Text, Token, TryCopy};
+use mail_base::{
+    Classes, Config, Go, Item, Macros, Pattern, Rule, RuleSet, Seq, Text, Token, TryCopy, mask_of,
+};
 use map_tables::Maps;
 use rule_match::{Cuts, find_into};
 use std::alloc::Global;
@@ -42,10 +45,10 @@ pub struct Ran {
 
 /// Runs the ruleset of a name over tokens (Sendmail Operation Guide, R and S: rewriting rules).
 ///
-/// A rule whose own tokens don't stand in order among the others is passed by without a search; of
-/// more than 64 rules one whose anchor isn't among them costs nothing. An application makes one new
-/// list, which its calls take over. What a `$&x` stands for is cut once, until a look-up changes a
-/// macro. Macros are copied when that happens for the first time.
+/// A rule whose left side wants a bit that the mask of the tokens lacks is passed by without a
+/// search; of more than 64 rules one whose anchor isn't among them costs nothing. An application
+/// makes one new list, which its calls take over. What a `$&x` stands for is cut once, until a
+/// look-up changes a macro. Macros are copied when that happens for the first time.
 ///
 /// The faults of one application come in this order: `Loop`, `Work`, a `$&x` of the right side that
 /// can't be cut, its look-ups from the left to the right, `Long`, its calls from the right to the
@@ -137,9 +140,10 @@ fn run_rules(
     let mut times: u32 = 0;
     let mut now = start;
     let mut cuts = Cuts::new();
-    while let Some((number, rule)) = next_rule(set, from, &now.tokens) {
+    let mut mask = mask_of(now.tokens.items());
+    while let Some((number, rule)) = next_rule(set, from, &now.tokens, mask) {
         times = times_at(number, from, times);
-        let is_match = match_of(values, rule, &now.tokens, &config.classes, &mut cuts)?;
+        let is_match = match_of(values, rule, &now.tokens, mask, &config.classes, &mut cuts)?;
         if !is_match {
             from = number + 1;
             times = 0;
@@ -150,6 +154,7 @@ fn run_rules(
         if is_resolved(&now.tokens) {
             return Ok(now);
         }
+        mask = mask_of(now.tokens.items());
         match rule.right.go {
             Go::Again => {
                 from = number;
@@ -178,21 +183,37 @@ fn match_of(
     values: &mut Values,
     rule: &Rule,
     tokens: &Seq<Token>,
+    mask: u64,
     classes: &Classes,
     cuts: &mut Cuts,
 ) -> Result<bool, RunFault>
+    requires { mask ≡ mask_of tokens.now }
     ensures found { IfOk result
         (MatchFound (is_cut_left (lates values.old) rule.now.left) classes.now
         (left_lists (lates values.old) rule.now.left) rule.now.left tokens.now cuts.new) }
     ensures refused { IfErr result (LeftFault (is_cut_left (lates values.old) rule.now.left)) }
     ensures same { values.new ≡ values.old }
 {
-    let late = lists_of(values, rule.left.items())?;
-    Ok(find_into(&rule.left, tokens, classes, &late, cuts))
+    let late = lists_of(values, &rule.left)?;
+    Ok(find_into(&rule.left, tokens, mask, classes, &late, cuts))
 }
 
 /// The tokens of each `$&x` of a left side, in order, or `BadScan` where one can't be cut.
-fn lists_of(values: &mut Values, items: &[Item]) -> Result<Seq<Seq<Token>>, RunFault>
+fn lists_of(values: &mut Values, left: &Pattern) -> Result<Seq<Seq<Token>>, RunFault>
+    ensures lists { IfOk result
+        (λ lists. (is_cut_left (lates values.old) left.now ≡ true)
+        × (lists ≡ left_lists (lates values.old) left.now)) }
+    ensures refused { IfErr result (LeftFault (is_cut_left (lates values.old) left.now)) }
+    ensures same { values.new ≡ values.old }
+{
+    if !left.has_late() {
+        return Ok(Seq::new(values.allocator()));
+    }
+    all_lists(values, left.items())
+}
+
+/// The same of items.
+fn all_lists(values: &mut Values, items: &[Item]) -> Result<Seq<Seq<Token>>, RunFault>
     ensures lists { IfOk result
         (λ lists. (is_cut_left (lates values.old) items.now ≡ true)
         × (lists ≡ left_lists (lates values.old) items.now)) }
@@ -360,10 +381,13 @@ fn call(
     let Some(token) = back.pop() else {
         return Err(RunFault::NoRuleset(Text::new(values.allocator())));
     };
-    let name = call_name(values.allocator(), token)?;
     let start = Ran {
         tokens: Seq::from_vec(turned(back)),
         work,
     };
+    if let Token::Word(word) = &token {
+        return run_set(config, maps, values, word.text(), start, left - 1);
+    }
+    let name = call_name(values.allocator(), &token)?;
     run_set(config, maps, values, &name, start, left - 1)
 }

@@ -1,7 +1,7 @@
 -- The walk over the rules that may match.
 use Rattle.std.specs.Prelude.{◌≡◌, ℕ, ◌==◌, ◌<◌, ◌≤◌, List, Some, Bool, true, false, slice_get, if◌then◌else◌}
 use Rattle.std.specs.List.{list_any}
-use Rattle.mail_base.specs.Candidates.{is_late}
+use Rattle.mail_base.specs.Metas.{is_late}
 use Rattle.mail_base.specs.declared.classes.Classes.{Classes}
 use Rattle.mail_base.specs.declared.rule.Item.{Item}
 use Rattle.mail_base.specs.declared.rule.Rule.{Rule}

@@ -1,5 +1,7 @@
-use Rattle.std.proofs.Common.{map, [], ◌∷◌, refl, ap}
+use Rattle.std.proofs.Common.{map, [], ◌∷◌, ◌∙◌, refl, ap, sym}
 use Rattle.std.proofs.lemmas.Result.{err_from_is_err_and}
+use Rattle.mail_base.specs.declared.rule.Query.{Query}
+use Rattle.mail_base.specs.declared.rule.Step.TheVariants.{Lookup}
 use Rattle.ruleset_run.specs.declared.part.Part.TheVariants.{Token as OneToken, Call as OneCall}
 use Rattle.ruleset_run.specs.Filling.{piece_tokens}
 use Rattle.ruleset_run.specs.inner.Values.{Known, lates}
@@ -25,7 +27,7 @@ returns-in_ok-push_tokens-in-Lookup-clause-fills c = λ found is.
     let l = c.in-Lookup in (
       map OneToken c.in_ok-given-in-Lookup.given,
       rw c.items.ensures at c.in_ok-push_tokens-in-Lookup.ensures,
-      step_looked c.args.maps.now v.operators (lates v) found c.args.step.now v.after _ l.name l.key l.args l.fallback l.is c.in_ok-given-in-Lookup.given (c.in_ok-given-in-Lookup.ensures.looks found is),
+      step_looked c.args.maps.now v.operators (lates v) found c.args.step.now v.after _ c.query.result.now (l.is ∙ ap (λ (query : Query). Lookup query) (sym c.query.ensures)) c.in_ok-given-in-Lookup.given (c.in_ok-given-in-Lookup.ensures.looks found is),
     )
 
 pub returns-in_err-given-in-Lookup-clause-fills : goal.returns-in_err-given-in-Lookup-clause-fills
@@ -33,4 +35,4 @@ returns-in_err-given-in-Lookup-clause-fills c = λ found is.
     let v = c.args.values.now in
     let l = c.in-Lookup in
     let p = err_from_is_err_and c.from_residual-in_err-given-in-Lookup.result c.from_residual-in_err-given-in-Lookup.ensures.1 in
-    rw (p.1, p.2) (step_look_fails c.args.maps.now v.operators (lates v) found c.args.step.now v.after v.after l.name l.key l.args l.fallback l.is _ (c.in_err-given-in-Lookup.ensures.looks found is))
+    rw (p.1, p.2) (step_look_fails c.args.maps.now v.operators (lates v) found c.args.step.now v.after v.after c.query.result.now (l.is ∙ ap (λ (query : Query). Lookup query) (sym c.query.ensures)) _ (c.in_err-given-in-Lookup.ensures.looks found is))

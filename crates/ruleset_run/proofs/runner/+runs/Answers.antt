@@ -2,9 +2,10 @@ use Rattle.std.proofs.Common.{◌≡◌, ◌+◌, reverse, [], ◌∷◌, Ok, So
 use Rattle.std.specs.Option.{option_copied}
 use Rattle.std.proofs.lemmas.List.{append-nil}
 use Rattle.std.proofs.lemmas.Result.{err_from_is_err_and}
+use Rattle.mail_base.specs.Masks.{mask_of}
 use Rattle.rule_match.specs.Kept.{IsChoice}
 use Rattle.ruleset_run.specs.Cutting.{is_cut_left, left_lists}
-use Rattle.ruleset_run.specs.Filling.{is_cut_right, tokens_in}
+use Rattle.ruleset_run.specs.Filling.{call_name, is_cut_right, tokens_in}
 use Rattle.ruleset_run.specs.Sites.{site_of}
 use Rattle.ruleset_run.specs.Runs.{Done, Runs, RunsAt, Replaced, SetRuns, Takes, known, matched, no_part}
 use Rattle.ruleset_run.specs.inner.Filler.{StandBy}
@@ -105,10 +106,15 @@ call-returns-then-left-eq0-clause-run t c = deep_at (site_of c.args.config.now c
 pub call-returns-in_default-clause-run : goal.call-returns-in_default-clause-run
 call-returns-in_default-clause-run t c = call_unnamed (site_of c.args.config.now c.args.maps.now) c.args.left c.args.back.items c.args.work c.args.values.now.macros c.new.result (omega arith) (omega (arith, c.in_default.ensures.cases)) c.new.ensures
 
+pub call-returns-in-Word-clause-run : goal.call-returns-in-Word-clause-run
+call-returns-in-Word-clause-run t c =
+    call_named (site_of c.args.config.now c.args.maps.now) c.args.left c.args.back.items c.pop.new.self.items c.in-Some.token c.in-Some.ensures.items c.text.result.now (c.text.ensures ∙ sym (ap call_name c.in-Word.is)) c.from_vec.result (c.from_vec.ensures ∙ c.turned.ensures) (omega arith)
+    c.args.work c.args.values.now.macros c.run_set.new.values.macros c.run_set.result c.run_set.ensures.run
+
 pub call-returns-clause-run : goal.call-returns-clause-run
 call-returns-clause-run t c =
     call_named (site_of c.args.config.now c.args.maps.now) c.args.left c.args.back.items c.pop.new.self.items c.in-Some.token c.in-Some.ensures.items c.in_ok-name.name c.in_ok-name.ensures c.from_vec.result (c.from_vec.ensures ∙ c.turned.ensures) (omega arith)
-    c.args.work c.args.values.now.macros c.run_set.new.values.macros c.run_set.result c.run_set.ensures.run
+    c.args.work c.args.values.now.macros c.run_set-2.new.values.macros c.run_set-2.result c.run_set-2.ensures.run
 
 pub replace-parts-init : goal.replace-parts-init
 replace-parts-init t c =
@@ -231,6 +237,7 @@ run_rules-loop-number-preserved-then-not-is_match t c =
       work = i.work;
       operators = ap (λ (k : Known). k.operators) same ∙ i.operators;
       settled = ap (λ (k : Known). k.after) same ∙ i.settled ∙ ap (λ (k : Known). k.macros) (sym same);
+      mask = i.mask;
     }
 
 pub run_rules-returns-in_err-check_limits-clause-run : goal.run_rules-returns-in_err-check_limits-clause-run
@@ -324,6 +331,7 @@ run_rules-loop-number-preserved-in-Again t c =
       work = omega (arith, c.in_ok-now.ensures.work);
       operators = c.in_ok-now.ensures.operators ∙ ap (λ (k : Known). k.operators) c.in_ok-is_match.ensures.same ∙ i.operators;
       settled = c.in_ok-now.ensures.settled;
+      mask = c.mask_of-mask-in-Some.ensures ∙ ap mask_of c.items-in-Some.ensures;
     }
 
 pub run_rules-loop-number-preserved : goal.run_rules-loop-number-preserved
@@ -343,6 +351,7 @@ run_rules-loop-number-preserved t c =
       work = omega (arith, c.in_ok-now.ensures.work);
       operators = c.in_ok-now.ensures.operators ∙ ap (λ (k : Known). k.operators) c.in_ok-is_match.ensures.same ∙ i.operators;
       settled = c.in_ok-now.ensures.settled;
+      mask = c.mask_of-mask-in-Some.ensures ∙ ap mask_of c.items-in-Some.ensures;
     }
 
 pub run_rules-returns-clause-run : goal.run_rules-returns-clause-run

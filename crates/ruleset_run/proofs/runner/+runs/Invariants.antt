@@ -1,4 +1,5 @@
 use Rattle.std.proofs.Common.{◌≡◌, ◌≤◌, ◌+◌, ◌-◌, ◌*◌, List, ◌++◌, length, drop, reverse, Ok}
+use Rattle.mail_base.specs.Masks.{mask_of}
 use Rattle.ruleset_run.specs.declared.part.Part.{Part}
 use Rattle.ruleset_run.specs.Filling.{tokens_in}
 use Rattle.ruleset_run.specs.Runs.{Outcome, Runs, Replaced, RunsAt}
@@ -31,6 +32,7 @@ invariant-run_rules-loop-number l = record {
   work : l.now.work ≤ 10000;
   operators : l.values.operators ≡ l.fn.values.operators;
   settled : l.values.after ≡ l.values.macros;
+  mask : l.mask ≡ mask_of l.now.tokens;
 }
 
 abbrev pub decreases-run_rules-loop-number : goal.decreases-run_rules-loop-number

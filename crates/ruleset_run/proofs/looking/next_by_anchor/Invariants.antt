@@ -2,7 +2,7 @@ use Rattle.std.proofs.Common.{◌≡◌, ℕ, ◌-◌, ◌<◌, ◌≤◌, lengt
 use Rattle.std.specs.Prelude.{slice_get}
 use Rattle.mail_base.specs.declared.rule.Rule.{Rule}
 use Rattle.ruleset_run.specs.inner.Looks.{CannotMatch}
-use Rattle.ruleset_run.proofs.looking.next_rule.Given as goal
+use Rattle.ruleset_run.proofs.looking.next_by_anchor.Given as goal
 
 -- the rules before a number can't match
 abbrev pub invariant-rules : goal.invariant-rules
