@@ -74,7 +74,7 @@ module _ (name : List ℕ) (fields front : List Lexeme) (end size : ℕ) (ends :
 
   -- where key, arguments and fallback are made of their places, the look-up is made of them
   pub lookup_made : (key : List Piece) (args : List (List Piece)) (fallback : Option (List Piece)) → pieces_of (take size front) ≡ Some key → each pieces_of (parts_behind (drop size front)) ≡ Some args → fallback_from (drop end fields) ≡ Some fallback
-      → lookup_of name fields ≡ Some (Lookup name key args fallback)
+      → lookup_of name fields ≡ Some (Lookup (record { name = name; key = key; args = args; fallback = fallback }))
   lookup_made key args fallback k a f =
       lookup_is ∙ ap (λ (o : Option (List Piece)). lookup name (put o (each pieces_of (parts_behind (drop size front)))) (fallback_from (drop end fields))) k
       ∙ ap (λ (o : Option (List (List Piece))). lookup name (put (Some key) o) (fallback_from (drop end fields))) a ∙ ap (lookup name (Some (key ∷ args))) f

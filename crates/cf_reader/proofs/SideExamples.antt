@@ -47,10 +47,10 @@ unfolding value_in followed reading most_tokens
 no_left_sides = (refl, refl, refl, refl, refl, refl)
 
 pub templates_of_lookups :
-    (right (codes "$(host $1 $: $2 $)") ≡ body (Lookup (codes "host") (piece.Cut 1 ∷ []) [] (Some (piece.Cut 2 ∷ [])) ∷ []))
-    × (right (codes "$[ $1 $]") ≡ body (Lookup (codes "host") (piece.Cut 1 ∷ []) [] None ∷ []))
-    × (right (codes "$(m k$@$@$&z$)$1") ≡ body (Lookup (codes "m") (piece.Give (Word (codes "k")) ∷ []) ([] ∷ (piece.Late (codes "z") ∷ []) ∷ []) None ∷ cut 1 ∷ []))
-    × (right (codes "$(m$:$@$:$)") ≡ body (Lookup (codes "m") [] [] (Some (piece.Give (Sign Host) ∷ piece.Give (Sign User) ∷ [])) ∷ []))
+    (right (codes "$(host $1 $: $2 $)") ≡ body (Lookup (record { name = codes "host"; key = piece.Cut 1 ∷ []; args = []; fallback = Some (piece.Cut 2 ∷ []) }) ∷ []))
+    × (right (codes "$[ $1 $]") ≡ body (Lookup (record { name = codes "host"; key = piece.Cut 1 ∷ []; args = []; fallback = None }) ∷ []))
+    × (right (codes "$(m k$@$@$&z$)$1") ≡ body (Lookup (record { name = codes "m"; key = piece.Give (Word (codes "k")) ∷ []; args = [] ∷ (piece.Late (codes "z") ∷ []) ∷ []; fallback = None }) ∷ cut 1 ∷ []))
+    × (right (codes "$(m$:$@$:$)") ≡ body (Lookup (record { name = codes "m"; key = []; args = []; fallback = Some (piece.Give (Sign Host) ∷ piece.Give (Sign User) ∷ []) }) ∷ []))
 unfolding value_in followed reading most_tokens
 templates_of_lookups = (refl, refl, refl, refl)
 

@@ -3,7 +3,7 @@
 -- backslashes do is the public program's).
 use Rattle.std.specs.Prelude.{◌≡◌, ℕ, Bool, true, false, not, ◌&&◌, ◌||◌, ◌==◌, if◌then◌else◌, List, [], ◌∷◌, ◌++◌, length, filter, map, unwrap_or, codes, refl}
 use Rattle.cf_reader.specs.Cuts.{cut_at}
-use Rattle.cf_reader.specs.Words.{stripped}
+use Rattle.mail_base.specs.Whites.{stripped}
 use Rattle.cf_reader.specs.declared.fields.Field.{Field}
 use Rattle.cf_reader.specs.declared.fields.Stand.{Stand}
 

@@ -7,7 +7,7 @@ use Rattle.mail_base.specs.declared.lines.HeaderLine.{HeaderLine}
 use Rattle.cf_values.specs.Flags.{flags_of}
 use Rattle.cf_reader.specs.Cuts.{cut_at}
 use Rattle.cf_reader.specs.Reads.{first_fault}
-use Rattle.cf_reader.specs.Words.{stripped}
+use Rattle.mail_base.specs.Whites.{stripped}
 use Rattle.cf_reader.specs.declared.fault.Fault.{Fault}
 use Rattle.cf_reader.specs.declared.fault.Fault.TheVariants.{BadHeader}
 

@@ -1,5 +1,4 @@
 pub mod Reads
-pub mod Words
 pub mod Cuts
 pub mod LogicalLines
 pub mod DefineLines

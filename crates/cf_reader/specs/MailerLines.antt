@@ -11,7 +11,7 @@ use Rattle.cf_reader.specs.declared.mailer_field.MailerField.{MailerField}
 use Rattle.cf_reader.specs.declared.mailer_field.MailerField.TheVariants.{Path, Flags, Sender, Recipient, Args, LineEnd, Most, Group, Batch, Ignored}
 use Rattle.cf_reader.specs.Reads.{first_fault}
 use Rattle.cf_reader.specs.Cuts.{cut_at}
-use Rattle.cf_reader.specs.Words.{stripped}
+use Rattle.mail_base.specs.Whites.{stripped}
 use Rattle.mail_base.specs.Words.{words_of}
 use Rattle.cf_reader.specs.Fields.{letter_of, line_name, line_fields}
 use Rattle.cf_reader.specs.Values.{number_in, most_number, number_of, if_some}

@@ -18,7 +18,7 @@ use Rattle.cf_reader.specs.declared.setting.WordOption.{WordOption}
 use Rattle.cf_reader.specs.declared.setting.WordOption.TheVariants.{QueueDirectory, HostsFile, HomesFile, OperatorChars, DoubleBounceAddress}
 use Rattle.cf_reader.specs.Reads.{first_fault}
 use Rattle.cf_reader.specs.Cuts.{cut_at}
-use Rattle.cf_reader.specs.Words.{stripped}
+use Rattle.mail_base.specs.Whites.{stripped}
 use Rattle.cf_reader.specs.Fields.{split_at, pieces_of, plain, fields_of, letter_of}
 use Rattle.cf_reader.specs.Values.{number_in, time_in, most_option, if_some}
 use Rattle.cf_reader.specs.Settings.{setting_named, unit_of}

@@ -1,16 +1,17 @@
 -- S lines, which begin a ruleset or go on with it, and where rules go (Sendmail Installation and
 -- Operation Guide, "R and S: Rewriting Rules"; what a line means whose two names stood for two
 -- rulesets is our own).
-use Rattle.std.specs.Prelude.{◌≡◌, ℕ, Bool, not, ◌==◌, List, [], ◌∷◌, ◌++◌, fold, filter, Option, Some, None, if◌then◌else◌, codes, refl}
+use Rattle.std.specs.Prelude.{◌≡◌, ℕ, Bool, List, [], ◌∷◌, ◌++◌, fold, Option, Some, None, if◌then◌else◌, codes, refl}
 use Rattle.std.specs.List.{list_any}
 use Rattle.mail_base.specs.declared.rule.Rule.{Rule}
 use Rattle.mail_base.specs.Rulesets.{Ruled, is_named, with_name, with_rule}
 use Rattle.cf_reader.specs.Cuts.{cut_at}
-use Rattle.cf_reader.specs.Words.{stripped}
+use Rattle.mail_base.specs.Texts.{without_quotes}
+use Rattle.mail_base.specs.Whites.{stripped}
 
 -- a name on an S line: without white space at its ends, and without double quotes (34)
 abbrev pub set_name : List ℕ → List ℕ
-set_name text = filter (λ b. not (b == 34)) (stripped text)
+set_name text = without_quotes (stripped text)
 
 -- the names of an S line: its name, and its number behind an equals sign
 abbrev pub names_in : List ℕ → Option (List ℕ × List ℕ) → List (List ℕ)

@@ -137,7 +137,8 @@ fallback_of fields = if list_any (is_dollar 58) fields
 
 -- a look-up by its parts, if each is well made
 abbrev pub lookup : List ℕ → Option (List (List Piece)) → Option (Option (List Piece)) → Option Step
-lookup name (Some (key ∷ args)) (Some fallback) = Some (step.Lookup name key args fallback)
+lookup name (Some (key ∷ args)) (Some fallback) =
+    Some (step.Lookup (record { name = name; key = key; args = args; fallback = fallback }))
 lookup name key_and_args fallback = None
 
 -- a look-up in a map by what stands behind the map's name

@@ -4,8 +4,7 @@ ghost use Rattle.cf_reader.specs.inner.Additions.{HasFront};
 
 use crate::cuts::cut_at;
 use crate::fields::{pieces, plain};
-use crate::words::stripped;
-use mail_base::{NoMemory, Seq, Text};
+use mail_base::{NoMemory, Seq, Text, stripped};
 use std::alloc::Global;
 
 /// Adds the paths of a value of AliasFile. After `NoMemory` the files are as before.

@@ -3,8 +3,7 @@ ghost use Rattle.cf_reader.specs.Fields as spec;
 ghost use Rattle.cf_reader.specs.inner.Cuttings.{all_pieces};
 
 use crate::cuts::cut_at;
-use crate::words::stripped;
-use mail_base::{NoMemory, Seq, Text};
+use mail_base::{NoMemory, Seq, Text, stripped};
 use std::alloc::Global;
 
 /// A field of an M or a Q line, or of an option: a name, and a value without quotes and escapes.

@@ -6,9 +6,8 @@ ghost use Rattle.cf_reader.specs.HeaderLines as spec;
 
 use crate::cuts::cut_at;
 use crate::fault::{Fault, LineStop};
-use crate::words::stripped;
 use cf_values::flags;
-use mail_base::{HeaderLine, NoMemory, Text, without_blanks};
+use mail_base::{HeaderLine, NoMemory, Text, stripped, without_blanks};
 use std::alloc::Global;
 
 /// The header that an H line declares, by what follows the letter: `?flags?Name: template` or

@@ -17,6 +17,7 @@ pub(crate) fn items_of(alloc: Global, lexemes: &[Lexeme]) -> Result<Seq<Item>, L
     for lexeme in lexemes {
         items.push(item_of(lexeme)?)?;
     }
+    items.shrink();
     Ok(items)
 }
 

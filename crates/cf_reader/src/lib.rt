@@ -33,7 +33,6 @@ mod setting;
 mod signs;
 mod state;
 mod values;
-mod words;
 
 pub use fault::{CfFault, Fault};
 pub use reader::read;

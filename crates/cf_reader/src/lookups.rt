@@ -5,7 +5,7 @@ use crate::fault::{Fault, LineStop};
 use crate::pieces::pieces_of;
 use crate::signs::{is_dollar, length_before};
 use addr_tokens::Lexeme;
-use mail_base::{Piece, Seq, Step, Text, Token};
+use mail_base::{Lookup, Piece, Query, Seq, Step, Text, Token};
 use std::alloc::Global;
 
 /// The lookup of what stands between two brackets.
@@ -49,12 +49,13 @@ fn lookup_of(alloc: Global, name: &[u8], fields: &[Lexeme]) -> Result<Step, Line
     let args = args_of(alloc, &front[size..])?;
     let fallback = fallback_of(alloc, &fields[end..])?;
     let key = pieces_of(alloc, &front[..size])?;
-    Ok(Step::Lookup {
+    let query = Query {
         name: Text::of(alloc, name)?,
         key,
         args,
         fallback,
-    })
+    };
+    Ok(Step::Lookup(Lookup::of(alloc, query)?))
 }
 
 // The arguments, each of them behind a `$@`.

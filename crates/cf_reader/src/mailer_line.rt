@@ -1,6 +1,6 @@
 ghost use Rattle.std.specs.Prelude.{◌≡◌, IfOk, OnOk, Some, fold};
 ghost use Rattle.cf_reader.specs.inner.Readings.{Reads};
-ghost use Rattle.cf_reader.specs.Words.{stripped};
+ghost use Rattle.mail_base.specs.Whites.{stripped};
 ghost use Rattle.cf_reader.specs.Values.{if_some};
 ghost use Rattle.cf_reader.specs.MailerLines as spec;
 ghost use Rattle.cf_reader.specs.declared.mailer_field.MailerField.TheVariants.{Sender, Recipient};
@@ -10,9 +10,8 @@ use crate::fault::{Fault, LineStop};
 use crate::fields::{Field, line_fields, line_name};
 use crate::mailer_field::{MailerField, has_bad_field, has_unknown};
 use crate::values::{if_some, number_of};
-use crate::words::stripped;
 use cf_values::flags;
-use mail_base::{Mailer, NoMemory, Seq, Text, TryCopy, words_of};
+use mail_base::{Mailer, NoMemory, Seq, Text, TryCopy, stripped, words_of};
 use std::alloc::Global;
 
 /// The mailer of an M line, by what follows the letter.

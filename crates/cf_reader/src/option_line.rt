@@ -10,8 +10,7 @@ use crate::fault::{Fault, LineStop};
 use crate::fields::split_at;
 use crate::option_value::set;
 use crate::setting::{Setting, WordOption};
-use crate::words::stripped;
-use mail_base::{Options, Text};
+use mail_base::{Options, Text, stripped};
 use std::alloc::Global;
 
 /// Sets the option of an O line, by what follows the letter, and tells which it is, or `None` where

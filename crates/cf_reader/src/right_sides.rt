@@ -16,10 +16,11 @@ pub(crate) fn template_of(alloc: Global, lexemes: &[Lexeme]) -> Result<Template,
     ensures { Makes result (spec.template_of lexemes.now) }
 {
     let (go, body) = split_prefix(lexemes);
-    let steps = steps_of(alloc, body)?;
+    let mut steps = steps_of(alloc, body)?;
     if ends_in_call(steps.items()) {
         return Err(LineStop::Refused(Fault::BadPattern));
     }
+    steps.shrink();
     Ok(Template { go, steps })
 }
 

@@ -5,8 +5,9 @@ ghost use Rattle.cf_reader.specs.SetLines.{has_one, named, with_names, begun, wi
 ghost use Rattle.cf_reader.specs.inner.Places.{earlier};
 
 use crate::cuts::cut_at;
-use crate::words::stripped;
-use mail_base::{Book, Buckets, NoMemory, Rule, RuleSet, Seq, Text, TryCopy};
+use mail_base::{
+    Book, Buckets, NoMemory, Rule, RuleSet, Seq, Text, TryCopy, stripped, without_quotes,
+};
 use std::alloc::Global;
 
 /// The names on an S line, by what follows the letter.
@@ -39,12 +40,7 @@ fn two_names(alloc: Global, name: &[u8], number: &[u8]) -> Result<Seq<Text>, NoM
 fn set_name(alloc: Global, text: &[u8]) -> Result<Text, NoMemory>
     ensures { IfOk result (λ name. name ≡ spec.set_name text.now) }
 {
-    let bytes = stripped(text)
-        .iter()
-        .copied()
-        .filter(|byte| *byte != b'"')
-        .collect(alloc)?;
-    Ok(Text::from_vec(bytes))
+    without_quotes(alloc, stripped(text))
 }
 
 /// Begins the ruleset of these names, or goes on with it.

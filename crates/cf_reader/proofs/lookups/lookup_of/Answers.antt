@@ -1,6 +1,7 @@
 use Rattle.std.proofs.Common.{List, Some, take, refl, sym, ◌∙◌, ap}
 use Rattle.std.proofs.lemmas.List.{take_rest}
 use Rattle.std.proofs.lemmas.Result.{err_from_is_err_and}
+use Rattle.mail_base.specs.declared.rule.Query.{Query}
 use Rattle.mail_base.specs.declared.rule.Step.TheVariants.{Lookup}
 use Rattle.addr_tokens.specs.declared.lexeme.Lexeme.{Lexeme}
 use Rattle.cf_reader.specs.Sides.{each, pieces_of}
@@ -44,4 +45,5 @@ returns c =
     lookup_made c.args.name.now fields front _ _ c.length_before-end.ensures.length refl c.length_before-size.ensures.length c.in_ok-key.key c.in_ok-args.args c.in_ok-fallback.fallback c.in_ok-key.ensures
     (ap (λ (zs : List Lexeme). each pieces_of (parts_behind zs)) (sym (take_rest front c.length_before-size.result)) ∙ c.in_ok-args.ensures)
     (ap fallback_from (sym (take_rest fields c.length_before-end.result)) ∙ c.in_ok-fallback.ensures)
-    ∙ ap (λ (name : _). Some (Lookup name c.in_ok-key.key c.in_ok-args.args c.in_ok-fallback.fallback)) (sym c.in_ok-of.ensures)
+    ∙ ap (λ (name : _). Some (Lookup (record { name = name; key = c.in_ok-key.key; args = c.in_ok-args.args; fallback = c.in_ok-fallback.fallback }))) (sym c.in_ok-of.ensures)
+    ∙ ap (λ (query : Query). Some (Lookup query)) (sym c.in_ok-of-2.ensures)
