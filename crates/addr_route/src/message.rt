@@ -7,7 +7,7 @@ use crate::error::{push_blanked, status_of};
 use crate::exit::{class_code, host_status};
 use addr_tokens::join;
 use bstr::ByteSlice;
-use mail_base::{Cause, NoMemory, RouteError, Seq, Status, Text, Token, TryCopy};
+use mail_base::{Cause, NoMemory, RouteError, Seq, Status, Text, Token, TryCopy, Word};
 use std::alloc::Global;
 
 /// What the mailer `error` says by its host and the tokens of its user.
@@ -41,7 +41,7 @@ fn bare(alloc: Global, token: &Token) -> Result<Token, NoMemory>
     ensures { IfOk result (λ given. given ≡ spec.bare token.now) }
 {
     match token {
-        Token::Quoted(text) => Ok(Token::Word(Text::of(alloc, unquoted(text.bytes()))?)),
+        Token::Quoted(text) => Ok(Token::Word(Word::of(alloc, unquoted(text.bytes()))?)),
         Token::Word(text) => Ok(Token::Word(text.copy()?)),
         Token::Op(byte) => Ok(Token::Op(*byte)),
         Token::Sign(mark) => Ok(Token::Sign(*mark)),

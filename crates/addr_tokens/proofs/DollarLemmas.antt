@@ -5,7 +5,6 @@ use Rattle.std.proofs.lemmas.Bool.{cond-true, cond-false, or_parts, and_left}
 use Rattle.std.proofs.lemmas.List.{drop-drop, drop_more}
 use Rattle.mail_base.specs.Whites.{is_white}
 use Rattle.addr_tokens.specs.declared.construct.Construct as form
-use Rattle.addr_tokens.specs.declared.construct.Construct.TheVariants as construct
 use Rattle.addr_tokens.specs.declared.front.Front.TheVariants as front
 use Rattle.addr_tokens.specs.Pieces.{Alphabet, Dollar, Operator, is_listed, is_special, is_doubled, means, undoubled}
 use Rattle.addr_tokens.proofs.WordLemmas.{special_parts}

@@ -12,7 +12,7 @@ ghost use Rattle.addr_tokens.specs.inner.Views.{piece_of, size_of, size_behind, 
 use crate::construct::Construct;
 use crate::front::Front;
 use crate::lexeme::Lexeme;
-use mail_base::{Mark, NoMemory, Text, Token};
+use mail_base::{Mark, NoMemory, Text, Token, Word};
 use std::alloc::Global;
 
 /// What is gathered of a text: its tokens, or the lexemes of a rule's side.
@@ -57,10 +57,10 @@ fn token_of(alloc: Global, front: Front, text: &[u8]) -> Result<Option<Token>, N
 {
     match front {
         Front::White | Front::Comment(_) => Ok(None),
-        Front::Quotation(size) => Ok(Some(Token::Quoted(Text::of(alloc, &text[..size])?))),
+        Front::Quotation(size) => Ok(Some(Token::Quoted(Word::of(alloc, &text[..size])?))),
         Front::Operator(byte) => Ok(Some(Token::Op(byte))),
         Front::Dollar(construct) => Ok(sign_of(construct)),
-        Front::Run(size) => Ok(Some(Token::Word(Text::of(alloc, &text[..size])?))),
+        Front::Run(size) => Ok(Some(Token::Word(Word::of(alloc, &text[..size])?))),
     }
 }
 
@@ -126,11 +126,11 @@ fn construct_lexeme(alloc: Global, construct: Construct, text: &[u8]) -> Result<
 }
 
 /// The bytes with one dollar sign for two, but for what is behind a backslash.
-fn undoubled(alloc: Global, bytes: &[u8]) -> Result<Text, NoMemory>
-    ensures { IfOk result (λ text. text ≡ spec.undoubled bytes.now) }
+fn undoubled(alloc: Global, bytes: &[u8]) -> Result<Word, NoMemory>
+    ensures { IfOk result (λ word. word ≡ spec.undoubled bytes.now) }
 {
     if !holds_dollar(bytes) {
-        return Text::of(alloc, bytes);
+        return Word::of(alloc, bytes);
     }
     let mut text = Text::new(alloc);
     let mut place = 0usize;
@@ -140,7 +140,7 @@ fn undoubled(alloc: Global, bytes: &[u8]) -> Result<Text, NoMemory>
         text.extend(&rest[..kept])?;
         place += size;
     }
-    Ok(text)
+    Word::shared(alloc, text)
 }
 
 fn holds_dollar(bytes: &[u8]) -> bool

@@ -1,17 +1,15 @@
 -- What aliases hold.
-use Rattle.std.proofs.Common.{◌≡◌, ℕ, suc, zero, ◌+◌, ◌≤◌, ◌<◌, List, [], ◌∷◌, ◌++◌, Bool, true, false, cond, Option, Some, None, Result, Ok, Err, OnOk, length, get_or, ap, sym, subst, ◌∙◌, refl, arith, true≢false, inl, inr}
-use Rattle.std.specs.Prelude.{IfSome, OnErr, bytes_eq, slice_get}
+use Rattle.std.proofs.Common.{◌≡◌, ℕ, suc, zero, ◌+◌, ◌<◌, List, [], ◌∷◌, ◌++◌, Bool, true, false, cond, Some, None, Result, Ok, Err, OnOk, length, get_or, sym, subst, ◌∙◌, refl, arith}
+use Rattle.std.specs.Prelude.{OnErr, bytes_eq, slice_get}
 use Rattle.std.specs.List.{All, find}
 use Rattle.std.specs.Str.{str_to_ascii_lowercase, str_eq_ignore_ascii_case}
 use Rattle.std.proofs.lemmas.Slice.Eq.{bytes_eq-Decides}
-use Rattle.std.proofs.lemmas.Bool.{cases_order, leb-true}
 use Rattle.std.proofs.lemmas.List.Elements.{All-append, All-head, All-same, All-tail}
-use Rattle.std.proofs.lemmas.Option.{slice_get-get_or, slice_get_within}
-use Rattle.mail_base.specs.Places.{Held, is_held_for, IsFirstAt, IsFound, IsIndexed, Keeps}
-use Rattle.mail_base.proofs.PlaceLemmas.{held_alike as held_same, same_place}
+use Rattle.mail_base.specs.Places.{Held, is_held_for, IsFirstAt, IsIndexed, IsIndexedTo, Keeps}
+use Rattle.mail_base.proofs.PlaceLemmas.{held_alike as held_same, indexed_more as one_more}
 use Rattle.alias_expand.specs.declared.aliases.Alias.{Alias}
 use Rattle.alias_expand.specs.Aliases.{has_name}
-use Rattle.alias_expand.specs.inner.AliasPlaces.{HasMembers, IsIndexedTo, is_up_to}
+use Rattle.alias_expand.specs.inner.AliasPlaces.{HasMembers}
 
 -- ---- equal names are those of the same aliases
 
@@ -30,33 +28,13 @@ held_alike one other lines place held same is first =
     held_same other one place held (same_back one other same)
     (is (subst (λ (small : List ℕ). IsFirstAt (has_folded small) lines place) (folded one other same) first))
 
--- a name that is found up to its first place is held for that
-pub held_there : (name : List ℕ) (lines : List Alias) (held : Held) (place : ℕ) (found : Option ℕ) → is_up_to place found ≡ true → IfSome found (IsFound has_name lines held name) → IsFirstAt (has_name name) lines place
-    → is_held_for name place held ≡ true
-held_there name lines held place None up is first = absurd (true≢false (sym up))
-held_there name lines held place (Some q) up is first = subst (λ (k : ℕ). is_held_for name k held ≡ true) (same_place (has_name name) lines place q first is.named (leb-true q place up)) is.there
-
 -- ---- the places as they grow
 
 -- one line more
 pub indexed_more : (lines : List Alias) (i : ℕ) (alias : Alias) (was now : Held) → i < length lines → alias ≡ get_or lines i alias → Keeps was now
-    → (IsFirstAt (has_name alias.name) lines i → is_held_for alias.name i now ≡ true) → IsIndexedTo i lines was → IsIndexedTo (i + 1) lines now
-indexed_more lines i alias was now within at keeps held indexed = λ name place lt first. elim (cases_order place i) [
-  | inl e ↦ here name place e first
-  | inr (inl less) ↦ keeps name place (indexed name place less first)
-  | inr (inr more) ↦ absurd (omega (arith, lt, more))
-]
-  where
-    here : (name : List ℕ) (place : ℕ) → place ≡ i → IsFirstAt (has_name name) lines place → is_held_for name place now ≡ true
-    here name place e first =
-        let there : IsFirstAt (has_name name) lines i = subst (λ (k : ℕ). IsFirstAt (has_name name) lines k) e first in
-        let is : Some alias ≡ Some there.one = ap (λ (a : Alias). Some a) at ∙ sym (slice_get-get_or lines i alias within) ∙ there.stands in
-        let same : alias ≡ there.one = cc is in
-        subst (λ (k : ℕ). is_held_for name k now ≡ true) (sym e) (held_alike name alias.name lines i now (ap (has_name name) same ∙ there.passes) held there)
-
--- all lines
-pub indexed_all : (lines : List Alias) (end : ℕ) (was : Held) → length lines ≤ end → IsIndexedTo end lines was → IsIndexed has_name lines was
-indexed_all lines end was le indexed = λ name place first. let lt = slice_get_within lines place first.one first.stands in indexed name place (omega (arith, le, lt)) first
+    → (IsFirstAt (has_name alias.name) lines i → is_held_for alias.name i now ≡ true) → IsIndexedTo has_name i lines was → IsIndexedTo has_name (i + 1) lines now
+indexed_more lines i alias was now within at keeps held =
+    one_more has_name lines i alias was now within at keeps (λ name same. held_alike name alias.name lines i now same held)
 
 front_same : (lines more : List Alias) (k : ℕ) → k < length lines → slice_get (lines ++ more) k ≡ slice_get lines k
 front_same [] more k lt = absurd (omega (arith, lt))
@@ -64,7 +42,7 @@ front_same (l ∷ lines) more zero lt = refl
 front_same (l ∷ lines) more (suc k) lt = front_same lines more k (omega (arith, lt))
 
 -- more lines behind those that are held
-pub indexed_front : (lines more : List Alias) (was : Held) → IsIndexed has_name lines was → IsIndexedTo (length lines) (lines ++ more) was
+pub indexed_front : (lines more : List Alias) (was : Held) → IsIndexed has_name lines was → IsIndexedTo has_name (length lines) (lines ++ more) was
 indexed_front lines more was indexed = λ name place lt first. indexed name place (record {
   one = first.one;
   stands = sym (front_same lines more place lt) ∙ first.stands;

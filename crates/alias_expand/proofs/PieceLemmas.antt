@@ -10,7 +10,8 @@ use Rattle.mail_base.proofs.SearchLemmas.{byte_found, front_some}
 use Rattle.mail_base.specs.Texts.{is_lf}
 use Rattle.alias_expand.specs.declared.place.Place.{Place}
 use Rattle.alias_expand.specs.declared.place.Separator.TheVariants.{Comma}
-use Rattle.alias_expand.specs.Members.{after, length_to, outside, pieces_from, separates, stripped, written}
+use Rattle.alias_expand.specs.Members.{after, length_to, outside, pieces_from, separates, written}
+use Rattle.mail_base.specs.Whites.{stripped}
 use Rattle.alias_expand.specs.inner.Pieces.{kept}
 
 -- ---- physical lines

@@ -1,8 +1,10 @@
 -- Alias files (Sendmail Installation and Operation Guide, "The Alias Database"; aliases(5); which
 -- lines are refused is our own).
-use Rattle.std.specs.Prelude.{◌≡◌, ℕ, ◌+◌, Bool, not, ◌&&◌, ◌||◌, ◌==◌, List, [], ◌∷◌, length, take, drop, map, filter, Option, None, Some, option_map, is_none, nat_lt, if◌then◌else◌, codes, refl}
+use Rattle.std.specs.Prelude.{◌≡◌, ℕ, ◌+◌, Bool, not, ◌&&◌, ◌||◌, ◌==◌, List, [], ◌∷◌, length, take, drop, map, Option, None, Some, option_map, is_none, nat_lt, if◌then◌else◌, codes, refl}
 use Rattle.std.specs.List.{filter_map, find, list_any}
 use Rattle.std.specs.Str.{str_eq_ignore_ascii_case}
+use Rattle.mail_base.specs.Texts.{without_quotes}
+use Rattle.mail_base.specs.Whites.{stripped}
 use Rattle.addr_tokens.specs.Members.{cannot_be_cut}
 use Rattle.addr_tokens.specs.Scans.{most_tokens}
 use Rattle.alias_expand.specs.declared.aliases.Alias.{Alias}
@@ -13,11 +15,11 @@ use Rattle.alias_expand.specs.declared.members.Member.{Member}
 use Rattle.alias_expand.specs.declared.members.Member.TheVariants.{Address}
 use Rattle.alias_expand.specs.declared.place.Separator.TheVariants.{Colon}
 use Rattle.alias_expand.specs.Lines.{is_indented, logical_lines}
-use Rattle.alias_expand.specs.Members.{length_to, member_of, outside, stripped, written}
+use Rattle.alias_expand.specs.Members.{length_to, member_of, outside, written}
 
 -- a name goes without white space around it and without its double quotes (34)
 abbrev pub name_of : List ℕ → List ℕ
-name_of text = filter (λ b. not (b == 34)) (stripped text)
+name_of text = without_quotes (stripped text)
 
 -- a name and its members as they are written: there are both, and each member can be cut
 abbrev pub alias_by : List ℕ → List (List ℕ) → Option Alias

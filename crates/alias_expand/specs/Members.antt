@@ -2,9 +2,9 @@
 -- Database" and ":include:"; aliases(5); what a backslash does, and where quotes of a program or a
 -- file go, is our own).
 use Rattle.std.specs.Prelude.{◌≡◌, ℕ, suc, ◌+◌, ◌-◌, nat_lt, Bool, true, false, not, ◌&&◌, ◌||◌, ◌==◌, List, [], ◌∷◌, length, take, drop, map, filter, bytes_eq, if◌then◌else◌, codes, refl}
-use Rattle.std.specs.List.{flat_map, onto_first, slice_split, suffix_len}
+use Rattle.std.specs.List.{flat_map, onto_first, slice_split}
 use Rattle.mail_base.specs.Texts.{IsAddress, IsLine, is_lf}
-use Rattle.mail_base.specs.Whites.{is_white, without_whites}
+use Rattle.mail_base.specs.Whites.{stripped}
 use Rattle.map_tables.specs.Marks.{begins_with}
 use Rattle.alias_expand.specs.declared.place.Place.{Place}
 use Rattle.alias_expand.specs.declared.place.Separator.{Separator}
@@ -57,11 +57,6 @@ pieces_from place [] = [] ∷ []
 pieces_from place (b ∷ bs) =
     if separates Comma place b then [] ∷ pieces_from outside bs
     else onto_first b (pieces_from (after place b) bs)
-
--- a text without the white space at both ends
-abbrev pub stripped : List ℕ → List ℕ
-stripped text =
-    let rest = without_whites text in take (length rest - suffix_len is_white rest) rest
 
 -- the members of a text as they are written: white space around one is dropped, and a piece of
 -- nothing else is none

@@ -3,11 +3,11 @@ ghost use Rattle.alias_expand.specs.Aliases as spec;
 ghost use Rattle.alias_expand.specs.Aliases.{ExplainsRefusal, file_aliases, first_refused};
 
 use crate::lines::{is_indented, logical_lines};
-use crate::members::{push_members, stripped, written};
+use crate::members::{push_members, written};
 use crate::place::Separator;
 use crate::{Alias, AliasFault};
 use addr_tokens::any_refused;
-use mail_base::{NoMemory, Seq, Text};
+use mail_base::{NoMemory, Seq, Text, stripped, without_quotes};
 use std::alloc::Global;
 
 /// What the lines of an alias file say, or the first that is refused.
@@ -45,12 +45,7 @@ fn alias_of(alloc: Global, line: &[u8]) -> Result<Option<Alias>, NoMemory>
 fn name_of(alloc: Global, text: &[u8]) -> Result<Text, NoMemory>
     ensures { IfOk result (λ name. name ≡ spec.name_of text.now) }
 {
-    let bytes = stripped(text)
-        .iter()
-        .copied()
-        .filter(|byte| *byte != b'"')
-        .collect(alloc)?;
-    Ok(Text::from_vec(bytes))
+    without_quotes(alloc, stripped(text))
 }
 
 // The alias of a name and of members as they are written, unless these are refused.

@@ -2,9 +2,9 @@ ghost use Rattle.std.specs.Prelude.{◌≡◌, ◌++◌, ◌<◌, ◌≤◌, ◌
 ghost use Rattle.std.specs.Option.{option_copied};
 ghost use Rattle.alias_expand.specs.Aliases.{ExplainsRefusal, file_aliases, first_refused, members_named};
 ghost use Rattle.alias_expand.specs.Aliases as spec;
-ghost use Rattle.mail_base.specs.Places.{IsFirstAt, IsIndexed, Keeps, is_held_for};
+ghost use Rattle.mail_base.specs.Places.{IsIndexed, IsIndexedTo, Keeps};
 ghost use Rattle.alias_expand.specs.Members.{IsMember};
-ghost use Rattle.alias_expand.specs.inner.AliasPlaces.{HasMembers, IsIndexedTo, is_up_to};
+ghost use Rattle.alias_expand.specs.inner.AliasPlaces.{HasMembers};
 
 use crate::alias_line::file_aliases;
 use crate::{AliasFault, Member};
@@ -142,36 +142,14 @@ fn hold_from(places: &mut Places, lines: &[Alias], start: usize) -> Result<(), N
     requires within { start ≤ length lines.now }
     ensures keeps { Keeps places.old places.new }
     ensures held { OnOk result
-        (IsIndexedTo start lines.now places.old → IsIndexed spec.has_name lines.now places.new) }
+        (IsIndexedTo spec.has_name start lines.now places.old
+        → IsIndexed spec.has_name lines.now places.new) }
 {
     let mut place = start;
     'lines: while place < lines.len() {
         let line = &lines[place];
-        hold(places, lines, place, &line.name)?;
+        places.hold_first(lines, place, &line.name)?;
         place += 1;
     }
     Ok(())
-}
-
-// Holds a place for a name that no line before that place has.
-fn hold(places: &mut Places, lines: &[Alias], place: usize, name: &Text) -> Result<(), NoMemory>
-    ensures keeps { Keeps places.old places.new }
-    ensures held { OnOk result
-        (IsFirstAt (spec.has_name name.now) lines.now place
-        → is_held_for name.now place places.new ≡ true) }
-{
-    if is_up_to(place, places.find(lines, name)) {
-        return Ok(());
-    }
-    places.hold(name, place)
-}
-
-// Whether a place was found, and it is this one or stands before it.
-fn is_up_to(place: usize, found: Option<usize>) -> bool
-    ensures { result ≡ is_up_to place found }
-{
-    match found {
-        Some(found) => found <= place,
-        None => false,
-    }
 }

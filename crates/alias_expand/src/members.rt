@@ -1,13 +1,12 @@
 ghost use Rattle.std.specs.Prelude.{◌≡◌, ◌++◌, ◌<◌, ◌≤◌, ◌-◌, IfOk, OnOk, All, false, length, map};
-ghost use Rattle.std.specs.List.{suffix_len};
-ghost use Rattle.mail_base.specs.Whites.{is_white};
+ghost use Rattle.mail_base.specs.Whites.{stripped};
 ghost use Rattle.alias_expand.specs.Members as spec;
-ghost use Rattle.alias_expand.specs.Members.{IsMember, closes_last, escapes, file_members, is_local, is_paired, line_members, member_of, stripped, unpaired, written};
+ghost use Rattle.alias_expand.specs.Members.{IsMember, closes_last, escapes, file_members, is_local, is_paired, line_members, member_of, unpaired, written};
 ghost use Rattle.alias_expand.specs.inner.Pieces.{kept};
 
 use crate::lines::split_lf;
 use crate::place::Separator;
-use mail_base::{NoMemory, Seq, Text, is_white, without_whites};
+use mail_base::{NoMemory, Seq, Text, stripped};
 use std::alloc::Global;
 
 /// A member of an alias, or of an include or forward file (aliases(5)).
@@ -165,24 +164,4 @@ fn put(alloc: Global, texts: &mut Seq<Text>, piece: &[u8]) -> Result<(), NoMemor
         return Ok(());
     }
     texts.push(Text::of(alloc, piece)?)
-}
-
-/// A text without the white space at both ends.
-pub(crate) fn stripped(text: &[u8]) -> &[u8]
-    ensures { result.now ≡ stripped text.now }
-{
-    let rest = without_whites(text);
-    &rest[..last_end(rest)]
-}
-
-// Where the last byte that isn't white space ends, or 0 where none is.
-fn last_end(text: &[u8]) -> usize
-    ensures end { result ≡ length text.now - suffix_len is_white text.now }
-    ensures within { result ≤ length text.now }
-{
-    let mut end = text.len();
-    'bytes: while end > 0 && is_white(text[end - 1]) {
-        end -= 1;
-    }
-    end
 }

@@ -7,7 +7,7 @@ ghost use Rattle.link_edge.specs.declared.step.Step.TheVariants.{Open, Say, Clos
 
 use crate::telling::Telling;
 use crate::{Event, FloorEvent, Step, Turn};
-use mail_base::{NoMemory, Text};
+use mail_base::{NoMemory, Text, copy_front};
 
 // The turn of a step of which the first bytes came before, and how many came by now where the step
 // isn't done. Where there is no memory to tell it, nothing changes but the buffer.
@@ -124,14 +124,4 @@ fn behind(bytes: &[u8], count: usize) -> &[u8]
     } else {
         &[]
     }
-}
-
-// Copies the front of one slice to the front of another, as much as both hold.
-fn copy_front(from: &[u8], to: &mut [u8]) -> usize
-    ensures count { result ≡ min (length from.now) (length to.old) }
-    ensures front { take result to.new ≡ take result from.now }
-{
-    let count = from.len().min(to.len());
-    to[..count].copy_from_slice(&from[..count]);
-    count
 }

@@ -3,7 +3,7 @@ ghost use Rattle.mail_base.specs.Histories.{HasCause};
 ghost use Rattle.mail_base.specs.Scripts.{is_listed, after_call};
 
 use crate::source::Source;
-use mail_base::{Failed, Script, Seq, Text};
+use mail_base::{Failed, Script, Seq, Text, copy_front};
 use std::marker::Model;
 
 /// Bytes in memory, given as they stand, as many in a call as the buffer holds. It never fails, and
@@ -88,14 +88,4 @@ impl Source for MemSource {
         self.script.call()?;
         self.source.take(buf)
     }
-}
-
-// Copies the front of one slice to the front of another, as much as both hold.
-fn copy_front(from: &[u8], to: &mut [u8]) -> usize
-    ensures count { result ≡ min (length from.now) (length to.old) }
-    ensures front { take result to.new ≡ take result from.now }
-{
-    let count = from.len().min(to.len());
-    to[..count].copy_from_slice(&from[..count]);
-    count
 }

@@ -1,17 +1,15 @@
 -- What the host table holds.
-use Rattle.std.proofs.Common.{◌≡◌, ℕ, ◌+◌, ◌≤◌, ◌<◌, List, Bool, true, false, ◌||◌, Option, Some, None, length, get_or, take, ap, sym, subst, ◌∙◌, arith, true≢false, inl, inr, ◌⊎◌}
-use Rattle.std.specs.Prelude.{IfSome, bytes_eq}
+use Rattle.std.proofs.Common.{◌≡◌, ℕ, ◌+◌, ◌<◌, List, Bool, true, false, ◌||◌, length, get_or, take, ap, sym, subst, ◌∙◌, true≢false, inl, inr, ◌⊎◌}
+use Rattle.std.specs.Prelude.{bytes_eq}
 use Rattle.std.specs.List.{list_any}
 use Rattle.std.specs.Str.{str_to_ascii_lowercase, str_eq_ignore_ascii_case}
 use Rattle.std.proofs.lemmas.Slice.Eq.{bytes_eq-Decides}
-use Rattle.std.proofs.lemmas.Bool.{cases_order, leb-true, or_cases, or_left, or_right}
+use Rattle.std.proofs.lemmas.Bool.{or_cases, or_left, or_right}
 use Rattle.std.proofs.lemmas.List.Folds.{list_any_more}
-use Rattle.std.proofs.lemmas.Option.{slice_get-get_or, slice_get_within}
-use Rattle.mail_base.specs.Places.{Held, is_held_for, IsFirstAt, IsFound, IsIndexed, Keeps}
-use Rattle.mail_base.proofs.PlaceLemmas.{held_alike as held_same, same_place}
+use Rattle.mail_base.specs.Places.{Held, is_held_for, IsFirstAt, Keeps}
+use Rattle.mail_base.proofs.PlaceLemmas.{held_alike as held_same}
 use Rattle.map_tables.specs.Hosts.{has_name}
 use Rattle.map_tables.specs.declared.hosts.HostLine.{HostLine}
-use Rattle.map_tables.specs.inner.HostPlaces.{IsIndexedTo, is_up_to}
 
 -- ---- equal names stand in the same lines
 
@@ -30,12 +28,6 @@ held_alike : (one other : List ℕ) (lines : List HostLine) (place : ℕ) (held 
 held_alike one other lines place held same is first =
     held_same other one place held (same_back one other same)
     (is (subst (λ (small : List ℕ). IsFirstAt (has_folded small) lines place) (folded one other same) first))
-
--- a name that is found up to its first place is held for that
-pub held_there : (name : List ℕ) (lines : List HostLine) (held : Held) (place : ℕ) (found : Option ℕ) → is_up_to place found ≡ true → IfSome found (IsFound has_name lines held name) → IsFirstAt (has_name name) lines place
-    → is_held_for name place held ≡ true
-held_there name lines held place None up is first = absurd (true≢false (sym up))
-held_there name lines held place (Some q) up is first = subst (λ (k : ℕ). is_held_for name k held ≡ true) (same_place (has_name name) lines place q first is.named (leb-true q place up)) is.there
 
 -- ---- the places as they grow
 
@@ -67,23 +59,3 @@ held_alias lines place own aliases i alias was now lt at keeps held so name amon
     by : (str_eq_ignore_ascii_case name own ≡ true) ⊎ ((list_any (str_eq_ignore_ascii_case name) (take i aliases) || str_eq_ignore_ascii_case name (get_or aliases i alias)) ≡ true) → is_held_for name place now ≡ true
     by (inl same) = old (or_left (str_eq_ignore_ascii_case name own) _ same)
     by (inr rest) = more (or_cases (list_any (str_eq_ignore_ascii_case name) (take i aliases)) _ rest)
-
--- one line more
-pub indexed_more : (lines : List HostLine) (i : ℕ) (line : HostLine) (was now : Held) → i < length lines → line ≡ get_or lines i line → Keeps was now
-    → ((name : List ℕ) → has_name name line ≡ true → IsFirstAt (has_name name) lines i → is_held_for name i now ≡ true) → IsIndexedTo i lines was → IsIndexedTo (i + 1) lines now
-indexed_more lines i line was now within at keeps held indexed = λ name place lt first. elim (cases_order place i) [
-  | inl e ↦ here name place e first
-  | inr (inl less) ↦ keeps name place (indexed name place less first)
-  | inr (inr more) ↦ absurd (omega (arith, lt, more))
-]
-  where
-    here : (name : List ℕ) (place : ℕ) → place ≡ i → IsFirstAt (has_name name) lines place → is_held_for name place now ≡ true
-    here name place e first =
-        let there : IsFirstAt (has_name name) lines i = subst (λ (k : ℕ). IsFirstAt (has_name name) lines k) e first in
-        let is : Some line ≡ Some there.one = ap (λ (l : HostLine). Some l) at ∙ sym (slice_get-get_or lines i line within) ∙ there.stands in
-        let same : line ≡ there.one = cc is in
-        subst (λ (k : ℕ). is_held_for name k now ≡ true) (sym e) (held name (ap (has_name name) same ∙ there.passes) there)
-
--- all lines
-pub indexed_all : (lines : List HostLine) (end : ℕ) (was : Held) → length lines ≤ end → IsIndexedTo end lines was → IsIndexed has_name lines was
-indexed_all lines end was le indexed = λ name place first. let lt = slice_get_within lines place first.one first.stands in indexed name place (omega (arith, le, lt)) first

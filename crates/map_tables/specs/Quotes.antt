@@ -2,6 +2,7 @@
 -- texts can't be scanned is our own).
 use Rattle.std.specs.Prelude.{◌≡◌, ◌==◌, ◌&&◌, ℕ, Bool, not, List, [], ◌∷◌, Option, None, Some, filter, length, map, nat_le, if◌then◌else◌, codes, refl}
 use Rattle.std.specs.List.{list_all, list_any}
+use Rattle.mail_base.specs.Texts.{without_quotes}
 use Rattle.mail_base.specs.Whites.{is_white}
 
 -- the bytes that no backslash (92) quotes, without the backslashes that quote; a last one quotes
@@ -35,10 +36,6 @@ is_closed text =
 -- a text that can be scanned as one word
 abbrev pub is_scannable : List ℕ → Bool
 is_scannable text = not (list_any is_white text) && is_closed (unquoted text)
-
--- the key without its double quotes (34)
-abbrev pub without_quotes : List ℕ → List ℕ
-without_quotes key = filter (λ byte. not (byte == 34)) key
 
 -- a key without its double quotes (34), where it has one and what is left can be scanned
 abbrev pub dequoted : List ℕ → Option (List ℕ)

@@ -2,7 +2,6 @@ ghost use Rattle.std.specs.Prelude.{◌≡◌, ℕ, List, true, IfOk, OnOk};
 ghost use Rattle.std.specs.Option.{option_copied};
 ghost use Rattle.mail_base.specs.Places.{IsFirstAt, IsIndexed, Keeps, is_held_for};
 ghost use Rattle.map_tables.specs.Hosts.{has_name, host_lines, line_of};
-ghost use Rattle.map_tables.specs.inner.HostPlaces.{is_up_to};
 
 use crate::hosts::{HostLine, host_lines};
 use mail_base::{NoMemory, Places, Seq, Text};
@@ -82,32 +81,9 @@ fn hold_line(
         ((name : List ℕ) → has_name name line.now ≡ true → IsFirstAt (has_name name) lines.now place
         → is_held_for name place places.new ≡ true) }
 {
-    hold(places, lines, place, &line.name)?;
+    places.hold_first(lines, place, &line.name)?;
     for alias in line.aliases.items() {
-        hold(places, lines, place, alias)?;
+        places.hold_first(lines, place, alias)?;
     }
     Ok(())
-}
-
-// Holds a place for a name that no line before that place has.
-fn hold(places: &mut Places, lines: &[HostLine], place: usize, name: &Text) -> Result<(), NoMemory>
-    ensures keeps { Keeps places.old places.new }
-    ensures held { OnOk result
-        (IsFirstAt (has_name name.now) lines.now place
-        → is_held_for name.now place places.new ≡ true) }
-{
-    if is_up_to(place, places.find(lines, name)) {
-        return Ok(());
-    }
-    places.hold(name, place)
-}
-
-// Whether a place was found, and it is this one or stands before it.
-fn is_up_to(place: usize, found: Option<usize>) -> bool
-    ensures { result ≡ is_up_to place found }
-{
-    match found {
-        Some(found) => found <= place,
-        None => false,
-    }
 }

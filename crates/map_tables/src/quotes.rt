@@ -1,9 +1,9 @@
 ghost use Rattle.std.specs.Prelude.{◌≡◌, ◌≢◌, ◌==◌, IfOk};
 ghost use Rattle.std.specs.List.{list_any};
 ghost use Rattle.mail_base.specs.Whites.{is_white};
-ghost use Rattle.map_tables.specs.Quotes.{dequoted, is_balanced, is_closed, is_scannable, unquoted, without_quotes};
+ghost use Rattle.map_tables.specs.Quotes.{dequoted, is_balanced, is_closed, is_scannable, unquoted};
 
-use mail_base::{NoMemory, Text, is_white};
+use mail_base::{NoMemory, Text, is_white, without_quotes};
 use std::alloc::Global;
 
 /// A key without its double quotes, where it has one and what is left can be scanned.
@@ -24,17 +24,6 @@ fn has_quote(key: &[u8]) -> bool
     ensures { result ≡ list_any (λ byte. byte == 34) key.now }
 {
     key.iter().any(|byte| *byte == b'"')
-}
-
-fn without_quotes(alloc: Global, key: &[u8]) -> Result<Text, NoMemory>
-    ensures { IfOk result (λ text. text ≡ without_quotes key.now) }
-{
-    let bytes = key
-        .iter()
-        .copied()
-        .filter(|byte| *byte != b'"')
-        .collect(alloc)?;
-    Ok(Text::from_vec(bytes))
 }
 
 fn is_scannable(text: &Text) -> Result<bool, NoMemory>
