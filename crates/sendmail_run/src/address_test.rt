@@ -14,7 +14,7 @@ use crate::buffer::zeros;
 use crate::input::Partial;
 use crate::warning::warnings_of;
 use addr_test::Reply;
-use mail_base::{Config, Failed, MOST_PIECE, NoMemory, Seq, Text};
+use mail_base::{Config, Failed, NoMemory, Seq, Text};
 use mail_edge::{Sink, Source};
 use map_tables::Maps;
 use memchr::memchr;
@@ -22,6 +22,10 @@ use std::alloc::Global;
 
 /// The most bytes that are taken of the input.
 pub const MOST_INPUT: u64 = 1 << 32;
+
+/// The most bytes that are taken at once. What they are answered with is gathered, and written by
+/// one call.
+const INPUT_PIECE: usize = 8_192;
 
 /// How address test mode ends.
 #[derive(Clone, Copy)]
@@ -57,7 +61,7 @@ pub fn address_test<I: Source, O: Sink>(
     ensures written { RisesOnlyAt WriteFault (of_test result) (O.seen output.old).faults
         (O.seen output.new).faults }
 {
-    let Ok(mut buffer) = zeros(alloc, MOST_PIECE) else {
+    let Ok(mut buffer) = zeros(alloc, INPUT_PIECE) else {
         return TestEnd::NoMemory;
     };
     answer_all(alloc, config, maps, input, output, &mut buffer)
