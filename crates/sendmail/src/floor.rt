@@ -3,6 +3,7 @@
 ghost use Rattle.std.specs.Prelude.{◌≡◌, ◌≤◌, IfOk, None, length};
 ghost use Rattle.link_edge.specs.Turns.{Fits};
 
+use crate::counting::counted;
 use crate::limits::Limits;
 use crate::port::Port;
 use crate::standard::{Standard, Wires};
@@ -151,33 +152,15 @@ impl<R: Read, W: Write> Floor for SystemFloor<R, W> {
 
     fn begin(&mut self, place: &Place, most: u64) -> Result<(), Failed> {
         self.begun.note(place, most);
-        match self.site.begin(place, most) {
-            Ok(()) => Ok(()),
-            Err(_) => {
-                self.faults = self.faults.saturating_add(1);
-                Err(Failed)
-            }
-        }
+        counted(&mut self.faults, self.site.begin(place, most))
     }
 
     fn turn(&mut self, buf: &mut [u8]) -> Result<Turn, Failed> {
-        match self.site.turn(buf) {
-            Ok(turn) => Ok(turn),
-            Err(Failed) => {
-                self.faults = self.faults.saturating_add(1);
-                Err(Failed)
-            }
-        }
+        counted(&mut self.faults, self.site.turn(buf))
     }
 
     fn send(&mut self, session: u64, bytes: &Text) -> Result<(), Failed> {
-        match self.site.send(session, bytes) {
-            Ok(()) => Ok(()),
-            Err(Failed) => {
-                self.send_faults = self.send_faults.saturating_add(1);
-                Err(Failed)
-            }
-        }
+        counted(&mut self.send_faults, self.site.send(session, bytes))
     }
 
     fn hang_up(&mut self, session: u64) {

@@ -4,6 +4,7 @@
 // The tests of the devices stand here, since no other crate can import a program.
 
 mod clock;
+mod counting;
 mod descriptor;
 mod directory;
 mod disk;

@@ -1,9 +1,9 @@
 // Queue directories on a disk. They tell nothing but how often they failed.
-ghost use Rattle.std.specs.Prelude.{◌≡◌, IfOk, None, OnOk, false};
+ghost use Rattle.std.specs.Prelude.{◌≡◌, IfOk, None, false};
 ghost use Rattle.mail_base.specs.Causes.{HasEdgeCause, has_failed};
-ghost use Rattle.mail_base.specs.Histories.{HasCause};
 ghost use Rattle.spool_disk.specs.Listings.{IsAscending};
 
+use crate::counting::counted;
 use crate::descriptor::Descriptor;
 use crate::directory::names_in;
 use crate::path::{Path, dir_path, path_of};
@@ -66,20 +66,6 @@ impl<'a> QueueDirs<'a> {
             Err(EdgeFault::Failed) => {
                 self.faults = self.faults.saturating_add(1);
                 Err(EdgeFault::Failed)
-            }
-        }
-    }
-
-    // Counts a fault where a change failed.
-    fn changed(&mut self, went: Result<(), EdgeFault>) -> Result<(), Failed>
-        ensures cause { HasCause self.old.faults self.new.faults result }
-        ensures calm { OnOk result (self.new.faults ≡ self.old.faults) }
-    {
-        match went {
-            Ok(()) => Ok(()),
-            Err(_) => {
-                self.faults = self.faults.saturating_add(1);
-                Err(Failed)
             }
         }
     }
@@ -179,17 +165,17 @@ impl Spool for QueueDirs<'_> {
 
     fn write_new(&mut self, dir: &Text, name: &Text, bytes: &Text) -> Result<(), Failed> {
         let went = self.write(dir, name, bytes.bytes());
-        self.changed(went)
+        counted(&mut self.faults, went)
     }
 
     fn rename(&mut self, dir: &Text, from: &Text, to: &Text) -> Result<(), Failed> {
         let went = self.move_file(dir, from, to);
-        self.changed(went)
+        counted(&mut self.faults, went)
     }
 
     fn remove(&mut self, dir: &Text, name: &Text) -> Result<(), Failed> {
         let went = self.unlink(dir, name);
-        self.changed(went)
+        counted(&mut self.faults, went)
     }
 
     ghost only_now = { λ s c h. absurd h };

@@ -2,6 +2,7 @@
 ghost use Rattle.std.specs.Prelude.{◌<◌, None, length};
 ghost use Rattle.std.specs.Io.{ReadsAtMost};
 
+use crate::counting::counted;
 use mail_base::Failed;
 use mail_edge::{Sink, Source};
 use std::io;
@@ -24,13 +25,8 @@ impl<R: Read> Source for InputStream<R> {
     ghost seen = { λ s. record { left = None; faults = s.faults } };
 
     fn take(&mut self, buf: &mut [u8]) -> Result<usize, Failed> {
-        match read_some(&mut self.reader, buf) {
-            Ok(count) => Ok(count),
-            Err(_) => {
-                self.faults = self.faults.saturating_add(1);
-                Err(Failed)
-            }
-        }
+        let went = read_some(&mut self.reader, buf);
+        counted(&mut self.faults, went)
     }
 }
 
@@ -65,12 +61,7 @@ impl<W: Write> Sink for OutputStream<W> {
     ghost seen = { λ s. record { written = None; faults = s.faults } };
 
     fn give(&mut self, bytes: &[u8]) -> Result<(), Failed> {
-        match self.writer.write_all(bytes) {
-            Ok(()) => Ok(()),
-            Err(_) => {
-                self.faults = self.faults.saturating_add(1);
-                Err(Failed)
-            }
-        }
+        let went = self.writer.write_all(bytes);
+        counted(&mut self.faults, went)
     }
 }
