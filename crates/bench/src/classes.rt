@@ -3,7 +3,7 @@
 
 use crate::number::number_or;
 use anyhow::Result;
-use mail_base::{Classes, Member, NoMemory, Seq, Text, Token};
+use mail_base::{Classes, Member, NoMemory, Seq, Text, Token, Word};
 use std::alloc::Global;
 
 pub(crate) fn answer(alloc: Global, lines: Option<&str>, rounds: u32) -> Result<String> {
@@ -19,7 +19,7 @@ pub(crate) fn answer(alloc: Global, lines: Option<&str>, rounds: u32) -> Result<
 fn line(alloc: Global, number: u32) -> Result<Seq<Member>, NoMemory> {
     let name = format!(in alloc; "host{number}")?;
     let mut tokens = Seq::new(alloc);
-    tokens.push(Token::Word(Text::of(alloc, name.as_bytes())?))?;
+    tokens.push(Token::Word(Word::of(alloc, name.as_bytes())?))?;
     let mut members = Seq::new(alloc);
     members.push(Member {
         text: Text::of(alloc, name.as_bytes())?,

@@ -75,8 +75,8 @@ fn measured<R: rt::Files + Alloc<A = Global>>(
 fn measured_of_queue(alloc: Global, what: &str, over: Option<&str>, rounds: u32) -> Result<String> {
     match what {
         "table" => table::changes(alloc, over, rounds),
-        "idle" => table::idle(alloc, over, rounds),
-        "woken" => table::woken(alloc, over, rounds),
+        "idle" => table::turns(alloc, over, rounds, false),
+        "woken" => table::turns(alloc, over, rounds, true),
         "spool" => spool::answer(alloc, over, rounds),
         "commits" => queue::commits(alloc, over, rounds),
         "opening" => queue::opening(alloc, over, rounds),

@@ -3,7 +3,7 @@
 //! twenty classes over so many tokens, of which they take 60 at most, and tells how many match.
 
 use anyhow::{Result, bail};
-use mail_base::{Classes, Item, Member, NoMemory, Pattern, Seq, Text, Token};
+use mail_base::{Classes, Item, Member, NoMemory, Pattern, Seq, Text, Token, Word};
 use rule_match::{find, lists_wanted};
 use std::alloc::Global;
 
@@ -19,7 +19,7 @@ pub(crate) fn answer(alloc: Global, kind: Option<&str>, rounds: u32) -> Result<S
 }
 
 fn word(alloc: Global, letter: u8) -> Result<Token, NoMemory> {
-    Ok(Token::Word(Text::of(alloc, &[letter, b'o', b'r', b'd'])?))
+    Ok(Token::Word(Word::of(alloc, &[letter, b'o', b'r', b'd'])?))
 }
 
 /// Six tokens, as of an address.

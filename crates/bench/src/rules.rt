@@ -4,7 +4,7 @@
 use crate::number::number_or;
 use anyhow::{Result, bail};
 use mail_base::{
-    Go, Item, NoMemory, Pattern, Piece, Rule, RuleSet, Seq, Step, Template, Text, Token,
+    Go, Item, NoMemory, Pattern, Piece, Rule, RuleSet, Seq, Step, Template, Text, Token, Word,
 };
 use rule_index::build;
 use std::alloc::Global;
@@ -20,7 +20,7 @@ pub(crate) fn answer(alloc: Global, rules: Option<&str>, rounds: u32) -> Result<
 
 fn word(alloc: Global, number: u32) -> Result<Token, NoMemory> {
     let name = format!(in alloc; "w{number}")?;
-    Ok(Token::Word(Text::of(alloc, name.as_bytes())?))
+    Ok(Token::Word(Word::of(alloc, name.as_bytes())?))
 }
 
 /// The left side of a rule: its word, and then anything.

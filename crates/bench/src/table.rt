@@ -39,23 +39,20 @@ pub(crate) fn changes(alloc: Global, entries: Option<&str>, stages: u32) -> Resu
     Ok(format!(in alloc; "{held} entries by {calls} calls")?)
 }
 
-pub(crate) fn idle(alloc: Global, entries: Option<&str>, turns: u32) -> Result<String> {
+/// Turns in which nothing is due: how many find an entry all the same. Where they wake, each asks
+/// the entries anew.
+pub(crate) fn turns(
+    alloc: Global,
+    entries: Option<&str>,
+    turns: u32,
+    wakes: bool,
+) -> Result<String> {
     let count = number_or(entries, 1_000)?;
     let mut spool = MemSpool::new(alloc, Seq::new(alloc));
     let config = Config::new(alloc)?;
     let table = tried(alloc, &mut spool, &config, count)?;
     let mut waiting = waiting_of(alloc)?;
-    let due = asked(&mut waiting, table.entries(), turns);
-    Ok(format!(in alloc; "{due} of {count} entries")?)
-}
-
-pub(crate) fn woken(alloc: Global, entries: Option<&str>, turns: u32) -> Result<String> {
-    let count = number_or(entries, 1_000)?;
-    let mut spool = MemSpool::new(alloc, Seq::new(alloc));
-    let config = Config::new(alloc)?;
-    let table = tried(alloc, &mut spool, &config, count)?;
-    let mut waiting = waiting_of(alloc)?;
-    let due = woken_and_asked(&mut waiting, table.entries(), turns);
+    let due = asked(&mut waiting, table.entries(), turns, wakes);
     Ok(format!(in alloc; "{due} of {count} entries")?)
 }
 
@@ -71,25 +68,14 @@ fn waiting_of(alloc: Global) -> Result<Waiting, NoMemory>
 }
 
 // How many of so many turns of one second each find an entry that is due.
-fn asked(waiting: &mut Waiting, entries: &[Held], turns: u32) -> u32
+fn asked(waiting: &mut Waiting, entries: &[Held], turns: u32, wakes: bool) -> u32
     requires { IsQuiet waiting.old entries.now }
 {
     let mut due = 0u32;
     for turn in 0..turns {
-        if waiting
-            .least_due(entries, MOMENT + u64::from(turn % 1_000))
-            .is_some()
-        {
-            due = due.saturating_add(1);
+        if wakes {
+            waiting.wake();
         }
-    }
-    due
-}
-
-fn woken_and_asked(waiting: &mut Waiting, entries: &[Held], turns: u32) -> u32 {
-    let mut due = 0u32;
-    for turn in 0..turns {
-        waiting.wake();
         if waiting
             .least_due(entries, MOMENT + u64::from(turn % 1_000))
             .is_some()

@@ -1,6 +1,6 @@
 use mail_base::{
     Cause, Classes, Id, LineFault, Member, NoMemory, Note, Options, Seq, State, Status, Text,
-    Token, TryCopy, Verb, is_blank, is_white,
+    Token, TryCopy, Verb, Word, is_blank, is_white,
 };
 use std::alloc::Global;
 use std::test::Fail;
@@ -26,7 +26,7 @@ fn member(alloc: Global, word: &[u8]) -> Result<Member, NoMemory> {
         if !tokens.is_empty() {
             tokens.push(Token::Op(b'.'))?;
         }
-        tokens.push(Token::Word(Text::of(alloc, part)?))?;
+        tokens.push(Token::Word(Word::of(alloc, part)?))?;
     }
     Ok(Member {
         text,

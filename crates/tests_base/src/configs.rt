@@ -1,7 +1,7 @@
 use mail_base::{
-    Book, Buckets, Catalog, Classes, Config, DaemonPort, Go, Group, HeaderLine, Item, Mailer,
-    MapClass, MapLine, Member, NoMemory, Options, Pattern, Piece, Precedence, Rule, RuleSet, Seq,
-    Step, Template, Text, Token, TryCopy, texts_of,
+    Book, Buckets, Catalog, Classes, Config, DaemonPort, Go, Group, HeaderLine, Item, Lookup,
+    Mailer, MapClass, MapLine, Member, NoMemory, Options, Pattern, Piece, Precedence, Query, Rule,
+    RuleSet, Seq, Step, Template, Text, Token, TryCopy, Word, texts_of,
 };
 use std::alloc::Global;
 use std::test::Fail;
@@ -90,7 +90,7 @@ fn bulk(alloc: Global) -> Result<Group, NoMemory> {
 
 fn member(alloc: Global) -> Result<Member, NoMemory> {
     let mut tokens = Seq::new(alloc);
-    tokens.push(Token::Quoted(Text::of(alloc, b"\"a b\"")?))?;
+    tokens.push(Token::Quoted(Word::of(alloc, b"\"a b\"")?))?;
     Ok(Member {
         text: Text::of(alloc, b"\"a b\"")?,
         tokens: Some(tokens),
@@ -198,12 +198,13 @@ fn args(alloc: Global) -> Result<Seq<Seq<Piece>>, NoMemory> {
 }
 
 fn lookup(alloc: Global) -> Result<Step, NoMemory> {
-    Ok(Step::Lookup {
+    let query = Query {
         name: Text::of(alloc, b"host")?,
         key: cut(alloc, 1)?,
         args: args(alloc)?,
         fallback: Some(cut(alloc, 3)?),
-    })
+    };
+    Ok(Step::Lookup(Lookup::of(alloc, query)?))
 }
 
 fn steps(alloc: Global) -> Result<Seq<Step>, NoMemory> {
@@ -378,19 +379,16 @@ fn is_bulk(group: Option<&Group>) -> bool {
 
 fn is_lookup(step: &Step) -> bool {
     match step {
-        Step::Lookup {
-            name,
-            key,
-            args,
-            fallback,
-        } => {
-            name.bytes() == b"host".as_slice()
-                && key.len() == 1
-                && args.len() == 1
-                && fallback.is_some()
-        }
+        Step::Lookup(lookup) => is_query(lookup.query()),
         _ => false,
     }
+}
+
+fn is_query(query: &Query) -> bool {
+    query.name.bytes() == b"host".as_slice()
+        && query.key.len() == 1
+        && query.args.len() == 1
+        && query.fallback.is_some()
 }
 
 fn are_steps(steps: &[Step]) -> bool {

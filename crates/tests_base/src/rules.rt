@@ -1,4 +1,4 @@
-use mail_base::{Item, Mark, NoMemory, Pattern, Seq, Text, Token, TryCopy};
+use mail_base::{Item, Mark, NoMemory, Pattern, Seq, Text, Token, TryCopy, Word};
 use std::alloc::Global;
 use std::test::Fail;
 
@@ -27,7 +27,7 @@ fn item(alloc: Global, letter: u8) -> Result<Item, NoMemory> {
         b'~' => Ok(Item::NotInClass(Text::of(alloc, b"w")?)),
         b'&' => Ok(Item::Late(Text::of(alloc, b"w")?)),
         b'#' => Ok(Item::Exact(Token::Sign(Mark::Mailer))),
-        b'w' => Ok(Item::Exact(Token::Word(Text::of(alloc, b"ann")?))),
+        b'w' => Ok(Item::Exact(Token::Word(Word::of(alloc, b"ann")?))),
         _ => Ok(Item::Exact(Token::Op(letter))),
     }
 }

@@ -1,4 +1,6 @@
-use mail_base::{Catalog, Classes, Macros, Mark, Member, NoMemory, Seq, Text, Token, TryCopy};
+use mail_base::{
+    Catalog, Classes, Macros, Mark, Member, NoMemory, Seq, Text, Token, TryCopy, Word,
+};
 use std::alloc::Global;
 use std::test::Fail;
 
@@ -301,9 +303,9 @@ fn classes_gain_members(rt: HostRuntime) -> Result<(), Fail> {
 /// A token, by the byte that writes it here: a word, a quoted string, an operator or a sign.
 fn token(alloc: Global, letter: u8) -> Result<Token, NoMemory> {
     match letter {
-        b'w' => Ok(Token::Word(Text::of(alloc, b"ann")?)),
-        b'W' => Ok(Token::Word(Text::of(alloc, b"ANN")?)),
-        b'q' => Ok(Token::Quoted(Text::of(alloc, b"ann")?)),
+        b'w' => Ok(Token::Word(Word::of(alloc, b"ann")?)),
+        b'W' => Ok(Token::Word(Word::of(alloc, b"ANN")?)),
+        b'q' => Ok(Token::Quoted(Word::of(alloc, b"ann")?)),
         b'u' => Ok(Token::Sign(Mark::User)),
         b'h' => Ok(Token::Sign(Mark::Host)),
         _ => Ok(Token::Op(letter)),

@@ -1,7 +1,7 @@
 // What stands in a configuration, as texts.
 use mail_base::{
     Classes, Go, Group, HeaderLine, Item, Mailer, MapClass, MapLine, Mark, Member, NoMemory,
-    Options, Piece, Precedence, Rule, RuleSet, Seq, Step, Text, Token,
+    Options, Piece, Precedence, Query, Rule, RuleSet, Seq, Step, Text, Token,
 };
 
 /// Puts a number.
@@ -292,21 +292,18 @@ fn put_step(out: &mut Text, step: &Step) -> Result<(), NoMemory> {
     match step {
         Step::Plain(piece) => put_piece(out, piece),
         Step::Call => put_word(out, b"$>"),
-        Step::Lookup {
-            name,
-            key,
-            args,
-            fallback,
-        } => {
-            put_word(out, b"(")?;
-            out.extend(name.bytes())?;
-            out.push(b'|')?;
-            put_pieces(out, key.items())?;
-            put_args(out, args.items())?;
-            put_fallback(out, fallback)?;
-            out.push(b')')
-        }
+        Step::Lookup(lookup) => put_query(out, lookup.query()),
     }
+}
+
+fn put_query(out: &mut Text, query: &Query) -> Result<(), NoMemory> {
+    put_word(out, b"(")?;
+    out.extend(query.name.bytes())?;
+    out.push(b'|')?;
+    put_pieces(out, query.key.items())?;
+    put_args(out, query.args.items())?;
+    put_fallback(out, &query.fallback)?;
+    out.push(b')')
 }
 
 fn put_go(out: &mut Text, go: Go) -> Result<(), NoMemory> {

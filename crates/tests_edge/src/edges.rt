@@ -177,16 +177,22 @@ fn drain<S: Source>(
     told: &mut Text,
 ) -> Result<(), NoMemory> {
     for _ in 0..times {
-        match drained(alloc, source) {
-            Ok(text) => {
-                told.extend(text.bytes())?;
-                told.push(b'|')?;
-            }
-            Err(EdgeFault::Failed) => told.push(b'!')?,
-            Err(EdgeFault::NoMemory) => return Err(NoMemory),
-        }
+        tell(told, drained(alloc, source).map(Some))?;
     }
     Ok(())
+}
+
+// A text with `|` behind it, `-` for none, and `!` for a call that failed.
+fn tell(told: &mut Text, answer: Result<Option<Text>, EdgeFault>) -> Result<(), NoMemory> {
+    match answer {
+        Ok(Some(text)) => {
+            told.extend(text.bytes())?;
+            told.push(b'|')
+        }
+        Ok(None) => told.push(b'-'),
+        Err(EdgeFault::Failed) => told.push(b'!'),
+        Err(EdgeFault::NoMemory) => Err(NoMemory),
+    }
 }
 
 #[test]
@@ -320,15 +326,7 @@ fn read_all<F: Files>(
     told: &mut Text,
 ) -> Result<(), NoMemory> {
     for name in names {
-        match text_in(alloc, files, name) {
-            Ok(Some(text)) => {
-                told.extend(text.bytes())?;
-                told.push(b'|')?;
-            }
-            Ok(None) => told.push(b'-')?,
-            Err(EdgeFault::Failed) => told.push(b'!')?,
-            Err(EdgeFault::NoMemory) => return Err(NoMemory),
-        }
+        tell(told, text_in(alloc, files, name))?;
     }
     Ok(())
 }

@@ -1,3 +1,4 @@
+use crate::receive::fill;
 use mail_base::{Command, LineFault, NoMemory, Text, Verb};
 use smtp_lines::command;
 use std::alloc::Global;
@@ -198,19 +199,12 @@ fn paths_are_read(rt: HostRuntime) -> Result<(), NoMemory> {
 }
 
 /// A line with a path of so many bytes before its `@` and behind it.
-fn fill(line: &mut Text, local: usize, domain: usize) -> Result<(), NoMemory> {
+fn add_path(line: &mut Text, local: usize, domain: usize) -> Result<(), NoMemory> {
     line.extend(b"RCPT TO:<")?;
-    fill_part(line, local)?;
+    fill(line, b'x', local)?;
     line.push(b'@')?;
-    fill_part(line, domain)?;
+    fill(line, b'x', domain)?;
     line.push(b'>')
-}
-
-fn fill_part(line: &mut Text, count: usize) -> Result<(), NoMemory> {
-    for _ in 0..count {
-        line.push(b'x')?;
-    }
-    Ok(())
 }
 
 /// The bytes of a local part and of a domain, and whether such a path is read.
@@ -225,7 +219,7 @@ static LENGTHS: [(usize, usize, bool); 6] = [
 
 fn is_long(alloc: Global, local: usize, domain: usize) -> Result<bool, NoMemory> {
     let mut line = Text::new(alloc);
-    fill(&mut line, local, domain)?;
+    add_path(&mut line, local, domain)?;
     Ok(matches!(
         &command(line.bytes()),
         Err(LineFault::PathTooLong(Verb::Rcpt))

@@ -1,5 +1,6 @@
 ghost use Rattle.qf_format.specs.Valid.{IsValid};
 
+use crate::receive::fill;
 use mail_base::{Control, NoMemory, Text};
 use qf_format::{Paper, parse, print, print_into, room};
 use std::alloc::Global;
@@ -154,9 +155,7 @@ fn on_paper(control: &Control) -> Result<usize, NoMemory>
 
 fn takes_note(alloc: Global, length: usize) -> Result<bool, NoMemory> {
     let mut line = Text::of(alloc, b"eQ ")?;
-    for _ in 0..length {
-        line.push(b'x')?;
-    }
+    fill(&mut line, b'x', length)?;
     takes(alloc, 13, line.bytes())
 }
 

@@ -1,3 +1,4 @@
+use crate::receive::fill;
 use mail_base::{NoMemory, Seq, Text};
 use smtp_lines::{Line, Lines, last_asks, read_stream};
 use std::alloc::Global;
@@ -158,9 +159,7 @@ fn lines_of_a_stream_however_it_is_cut(rt: HostRuntime) -> Result<(), NoMemory> 
 /// So many bytes, an end, and another command.
 fn long_command(alloc: Global, length: usize, end: &[u8]) -> Result<Text, NoMemory> {
     let mut text = Text::new(alloc);
-    for _ in 0..length {
-        text.push(b'x')?;
-    }
+    fill(&mut text, b'x', length)?;
     text.extend(end)?;
     text.extend(b"NOOP\n")?;
     Ok(text)

@@ -458,7 +458,8 @@ fn lines_get_their_replies_and_messages_are_split(rt: HostRuntime) -> Result<(),
     Ok(())
 }
 
-fn fill(line: &mut Text, byte: u8, count: usize) -> Result<(), NoMemory> {
+/// Adds a byte so many times.
+pub(crate) fn fill(line: &mut Text, byte: u8, count: usize) -> Result<(), NoMemory> {
     for _ in 0..count {
         line.push(byte)?;
     }

@@ -1,3 +1,4 @@
+use crate::receive::fill;
 use mail_base::{NoMemory, Text};
 use smtp_lines::{Seen, reply};
 use std::alloc::Global;
@@ -135,9 +136,7 @@ fn lines(alloc: Global, count: usize) -> Result<Text, NoMemory> {
 /// A line of so many bytes with its end.
 fn line(alloc: Global, size: usize) -> Result<Text, NoMemory> {
     let mut text = Text::of(alloc, b"250 ")?;
-    for _ in 6..size {
-        text.push(b'x')?;
-    }
+    fill(&mut text, b'x', size.saturating_sub(6))?;
     text.extend(b"\r\n")?;
     Ok(text)
 }

@@ -24,6 +24,15 @@ pub(crate) type Row = (
     &'static str,
 );
 
+/// Whether a text that may be there is the one that is wanted, or none where none is.
+pub(crate) fn is_text(given: Option<&Text>, wanted: Option<&str>) -> bool {
+    match (given, wanted) {
+        (Some(given), Some(wanted)) => given.bytes() == wanted.as_bytes(),
+        (None, None) => true,
+        _ => false,
+    }
+}
+
 fn class_of(alloc: Global, line: &Line) -> Result<MapClass, NoMemory> {
     match line.1 {
         "text" => Ok(MapClass::Text),

@@ -1,5 +1,5 @@
 // The host table, through the map `host` and by the address of a name.
-use crate::asking::{Line, Row, maps_of, wrong};
+use crate::asking::{Line, Row, is_text, maps_of, wrong};
 use mail_base::{NoMemory, Text};
 use map_tables::Maps;
 use std::alloc::Global;
@@ -43,11 +43,7 @@ static ADDRESSES: [Address; 6] = [
 
 fn has_address(alloc: Global, maps: &Maps, row: &Address) -> Result<bool, NoMemory> {
     let name = Text::of(alloc, row.0.as_bytes())?;
-    match (maps.host(&name), row.1) {
-        (Some(address), Some(wanted)) => Ok(address.bytes() == wanted.as_bytes()),
-        (None, None) => Ok(true),
-        _ => Ok(false),
-    }
+    Ok(is_text(maps.host(&name), row.1))
 }
 
 fn wrong_address(alloc: Global, maps: &Maps) -> Result<Option<usize>, NoMemory> {

@@ -1,5 +1,5 @@
 // The class macro: what a look-up answers, and the macro's value behind it.
-use crate::asking::{Line, Row, maps_of, told};
+use crate::asking::{Line, Row, is_text, maps_of, told};
 use mail_base::{Macros, NoMemory, Text};
 use map_tables::Maps;
 use std::alloc::Global;
@@ -36,11 +36,7 @@ static ROWS: [MacroRow; 10] = [
 
 fn has_value(alloc: Global, macros: &Macros, row: &MacroRow) -> Result<bool, NoMemory> {
     let name = Text::of(alloc, row.1.as_bytes())?;
-    match (macros.get(&name), row.2) {
-        (Some(value), Some(wanted)) => Ok(value.bytes() == wanted.as_bytes()),
-        (None, None) => Ok(true),
-        _ => Ok(false),
-    }
+    Ok(is_text(macros.get(&name), row.2))
 }
 
 // The macro `a` with the value `old`.

@@ -1,7 +1,7 @@
 // Which match a left side takes, and what its items take in it.
 use crate::signs::{Broken, are_signs, pattern_of, repeated, tokens_of};
-use mail_base::{Classes, Pattern, Seq, Token};
-use rule_match::{Cuts, find, find_by_trial, lists_wanted, may_fit};
+use mail_base::{Classes, Pattern, Seq, Token, mask_of};
+use rule_match::{Cuts, find, find_by_trial, lists_wanted};
 use std::alloc::Global;
 
 /// Where the part of each item begins, and how long it is.
@@ -24,8 +24,14 @@ fn is_wanted(found: &Option<Cuts>, wanted: Option<Pairs>) -> bool {
     }
 }
 
-/// Whether the search and the trial of all lengths both take these cuts, or both none. What is taken
-/// may fit.
+// Whether the tokens have all that the left side wants of them.
+fn is_covered(pattern: &Pattern, tokens: &Seq<Token>) -> bool {
+    let wanted = pattern.wanted_mask();
+    wanted & mask_of(tokens.items()) == wanted
+}
+
+/// Whether the search and the trial of all lengths both take these cuts, or both none. What matches
+/// has all that is wanted of it.
 pub fn is_taken(
     pattern: &Pattern,
     tokens: &Seq<Token>,
@@ -34,7 +40,7 @@ pub fn is_taken(
     wanted: Option<Pairs>,
 ) -> bool {
     lists_wanted(pattern) == late.len()
-        && (wanted.is_none() || may_fit(pattern, tokens))
+        && (wanted.is_none() || is_covered(pattern, tokens))
         && is_wanted(&find(pattern, tokens, classes, late), wanted)
         && is_wanted(&find_by_trial(pattern, tokens, classes, late), wanted)
 }
@@ -90,30 +96,32 @@ fn takes_the_least_match(rt: HostRuntime) -> Result<(), Broken> {
     Ok(())
 }
 
-// A left side, tokens, and whether it may fit these: its own tokens stand in order among them, or it
-// has a `$&x`.
-const GLANCES: &[(&str, &str, bool)] = &[
+// A left side, tokens, and whether these have all that it wants: its own tokens, each two of them
+// that stand side by side, and its ends, or nothing where it has a `$&x`.
+const COVERED: &[(&str, &str, bool)] = &[
     ("*a*b", "ab", true),
     ("*a*b", "Acb", true),
     ("*a*b", "ba", false),
-    ("*a*a", "a", false),
+    ("*a*a", "a", true),
     ("*.a*.", "a..", false),
     ("a", "\"", false),
     ("*@<", "<@", false),
+    ("*<@*", "a<@b", true),
+    ("<@*", "a<@b", false),
     ("-", "", true),
     ("b&a", "", true),
     ("*b*", "", false),
 ];
 
-fn is_glance(alloc: Global, row: &(&str, &str, bool)) -> Result<bool, Broken> {
+fn is_covered_so(alloc: Global, row: &(&str, &str, bool)) -> Result<bool, Broken> {
     let pattern = pattern_of(alloc, row.0)?;
-    Ok(may_fit(&pattern, &tokens_of(alloc, row.1)?) == row.2)
+    Ok(is_covered(&pattern, &tokens_of(alloc, row.1)?) == row.2)
 }
 
 #[test]
-fn may_fit_by_the_order_of_tokens(rt: HostRuntime) -> Result<(), Broken> {
-    for row in GLANCES {
-        assert!(rt; is_glance(rt.alloc(), row)?, "{} on {}", row.0, row.1);
+fn wants_tokens_neighbours_and_ends(rt: HostRuntime) -> Result<(), Broken> {
+    for row in COVERED {
+        assert!(rt; is_covered_so(rt.alloc(), row)?, "{} on {}", row.0, row.1);
     }
     Ok(())
 }

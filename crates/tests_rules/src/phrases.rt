@@ -1,8 +1,8 @@
 // Matches of left sides with classes, `$@` and `$&x`. Items and tokens are written with a blank
 // between two of them, and items as in a configuration.
 use crate::matches::{Pairs, is_taken};
-use crate::signs::Broken;
-use mail_base::{Classes, Item, Member, NoMemory, Pattern, Seq, Text, Token};
+use crate::signs::{Broken, repeated};
+use mail_base::{Classes, Item, Member, NoMemory, Pattern, Seq, Text, Token, Word};
 use rule_match::{find, lists_wanted};
 use std::alloc::Global;
 
@@ -12,7 +12,7 @@ fn token_of(alloc: Global, word: &str) -> Result<Token, NoMemory> {
         "@" => Ok(Token::Op(b'@')),
         "<" => Ok(Token::Op(b'<')),
         ">" => Ok(Token::Op(b'>')),
-        _ => Ok(Token::Word(Text::of(alloc, word.as_bytes())?)),
+        _ => Ok(Token::Word(Word::of(alloc, word.as_bytes())?)),
     }
 }
 
@@ -191,15 +191,6 @@ fn takes_phrases_and_lists(rt: HostRuntime) -> Result<(), Broken> {
     Ok(())
 }
 
-// So many words.
-fn words(alloc: Global, count: usize) -> Result<Seq<Token>, NoMemory> {
-    let mut tokens = Seq::new(alloc);
-    for _ in 0..count {
-        tokens.push(token_of(alloc, "a")?)?;
-    }
-    Ok(tokens)
-}
-
 // Twenty classes, the first perhaps behind a `$*` in the place of one.
 fn twenty(alloc: Global, first: &str) -> Result<Pattern, Broken> {
     let mut items = items_of(alloc, first)?;
@@ -231,7 +222,7 @@ const LONG: &[(&str, usize, Option<usize>)] = &[
 fn wrong_long(alloc: Global, classes: &Classes) -> Result<Option<usize>, Broken> {
     for (first, count, wanted) in LONG {
         let pattern = twenty(alloc, first)?;
-        if first_end(&pattern, &words(alloc, *count)?, classes) != *wanted {
+        if first_end(&pattern, &repeated(alloc, b'a', *count)?, classes) != *wanted {
             return Ok(Some(*count));
         }
     }
@@ -251,7 +242,7 @@ fn answers_at_once(rt: HostRuntime) -> Result<(), Broken> {
 
 fn taken_of_many(alloc: Global) -> Result<Option<usize>, Broken> {
     let pattern = pattern_of(alloc, "$=w $*")?;
-    Ok(first_end(&pattern, &words(alloc, 2100)?, &classes_of(alloc)?))
+    Ok(first_end(&pattern, &repeated(alloc, b'a', 2100)?, &classes_of(alloc)?))
 }
 
 // More tokens than a row of bits has places.

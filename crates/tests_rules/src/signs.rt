@@ -1,5 +1,7 @@
 // Tokens, left sides and right sides, written one byte each.
-use mail_base::{Item, Mark, NoMemory, Pattern, Piece, Seq, Step, Text, Token};
+use mail_base::{
+    Item, Lookup, Mark, NoMemory, Pattern, Piece, Query, Seq, Step, Text, Token, Word,
+};
 use std::alloc::Global;
 
 /// Why a case isn't tried.
@@ -23,9 +25,9 @@ fn token_of(alloc: Global, sign: u8) -> Result<Token, NoMemory> {
     match sign {
         b'.' | b':' | b'@' => Ok(Token::Op(sign)),
         b'#' => Ok(Token::Sign(Mark::Mailer)),
-        b'"' => Ok(Token::Quoted(Text::of(alloc, b"q")?)),
-        b'\'' => Ok(Token::Quoted(Text::of(alloc, b"\"q\"")?)),
-        _ => Ok(Token::Word(Text::of(alloc, &[sign])?)),
+        b'"' => Ok(Token::Quoted(Word::of(alloc, b"q")?)),
+        b'\'' => Ok(Token::Quoted(Word::of(alloc, b"\"q\"")?)),
+        _ => Ok(Token::Word(Word::of(alloc, &[sign])?)),
     }
 }
 
@@ -133,53 +135,39 @@ fn step_of(alloc: Global, sign: u8) -> Result<Step, NoMemory> {
     }
 }
 
-/// What a look-up is made of.
-#[derive(Drop)]
-struct Parts {
-    name: Text,
-    key: Seq<Piece>,
-    args: Seq<Seq<Piece>>,
-    fallback: Option<Seq<Piece>>,
-}
-
 // A part of a look-up has a mark in front: `-` an argument, `|` the default, and any other the key,
 // of whose map it is the name.
-fn add_part(parts: &mut Parts, signs: &[u8]) -> Result<(), NoMemory> {
-    let alloc = parts.args.allocator();
+fn add_part(query: &mut Query, signs: &[u8]) -> Result<(), NoMemory> {
+    let alloc = query.args.allocator();
     let Some((mark, rest)) = signs.split_first() else {
         return Ok(());
     };
     let pieces = pieces_of(alloc, rest)?;
     match *mark {
-        b'-' => parts.args.push(pieces),
+        b'-' => query.args.push(pieces),
         b'|' => {
-            parts.fallback = Some(pieces);
+            query.fallback = Some(pieces);
             Ok(())
         }
         name => {
-            parts.name = Text::of(alloc, &[name])?;
-            parts.key = pieces;
+            query.name = Text::of(alloc, &[name])?;
+            query.key = pieces;
             Ok(())
         }
     }
 }
 
 fn lookup_of(alloc: Global, signs: &[u8]) -> Result<Step, NoMemory> {
-    let mut parts = Parts {
+    let mut query = Query {
         name: Text::new(alloc),
         key: Seq::new(alloc),
         args: Seq::new(alloc),
         fallback: None,
     };
     for part in signs.split(|sign| *sign == b';') {
-        add_part(&mut parts, part)?;
+        add_part(&mut query, part)?;
     }
-    Ok(Step::Lookup {
-        name: parts.name,
-        key: parts.key,
-        args: parts.args,
-        fallback: parts.fallback,
-    })
+    Ok(Step::Lookup(Lookup::of(alloc, query)?))
 }
 
 /// The steps that are written so: a look-up stands in braces, and its parts are divided by `;`.

@@ -1,5 +1,5 @@
 use addr_tokens::{Lexeme, ScanFault, join, lexemes, tokens, typed_tokens};
-use mail_base::{Mark, NoMemory, Seq, Text, Token};
+use mail_base::{Mark, NoMemory, Seq, Text, Token, Word};
 use std::alloc::Global;
 
 /// A text, and its answer as `shown` writes it.
@@ -397,14 +397,14 @@ fn at_most_2000_tokens_and_any_depth(rt: HostRuntime) -> Result<(), NoMemory> {
 const MARKS: &[Mark] = &[Mark::Alt, Mark::Mailer, Mark::Host, Mark::User, Mark::End];
 
 fn add_word(tokens: &mut Seq<Token>, word: &[u8]) -> Result<(), NoMemory> {
-    let word = Text::of(tokens.allocator(), word)?;
+    let word = Word::of(tokens.allocator(), word)?;
     tokens.push(Token::Word(word))
 }
 
 fn add_sample(tokens: &mut Seq<Token>) -> Result<(), NoMemory> {
     add_word(tokens, b"ann")?;
     add_word(tokens, b"b")?;
-    let quoted = Text::of(tokens.allocator(), b"\"c d\"")?;
+    let quoted = Word::of(tokens.allocator(), b"\"c d\"")?;
     tokens.push(Token::Quoted(quoted))?;
     tokens.push(Token::Op(b'@'))?;
     for mark in MARKS {
