@@ -1,7 +1,7 @@
 #!/bin/bash
 # Runs the built program with each allocation failing in turn, until none is left to fail. In address test mode, on
 # its example, each such run must end with status 71 and no answer, or with the whole answer, where a list that is
-# collected asked for room by a hint and then asks for less; and the first that lacks nothing with the answer. In
+# collected asked for room by a hint and then asks for less, or one stays that could be smaller; and the first that lacks nothing with the answer. In
 # session mode, on one message, each must end so with nothing in the queue, or with status 0, replies that are in
 # place and, where the message got its 250, the message whole in the queue. It fails otherwise. Build the program
 # first, by `make run`. This is no part of the gate.
