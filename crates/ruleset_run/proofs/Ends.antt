@@ -10,11 +10,9 @@ use Rattle.mail_base.specs.declared.rule.Go.TheVariants.{Again, Return, Next}
 use Rattle.rule_match.specs.Choices.{Fits, Chosen}
 use Rattle.rule_match.specs.Wants.{Want}
 use Rattle.ruleset_run.specs.declared.fault.RunFault.TheVariants as faults
-use Rattle.ruleset_run.specs.declared.part.Part.{Part}
-use Rattle.ruleset_run.specs.declared.part.Part.TheVariants.{Token as OneToken, Call as OneCall}
 use Rattle.ruleset_run.specs.Sites.{Site, Macros}
 use Rattle.ruleset_run.specs.Cutting.{is_cut_left}
-use Rattle.ruleset_run.specs.Filling.{Matched, Full, Filling, is_cut_right, tokens_in, is_resolved}
+use Rattle.ruleset_run.specs.Filling.{Part, OneToken, OneCall, Matched, Full, Filling, is_cut_right, tokens_in, is_resolved}
 use Rattle.ruleset_run.specs.Runs.{Done, Outcome, Called, name_of, rest_of, with_token, bounded, Replaced, no_part, token, call_after, call, late_of, full_of, Applies, loops, works, unscanned, unfilled, long, replaced, left_wants, matched, Takes, Runs, no_rule, unread, unmatched, refused, resolves, returns, goes_next, goes_again, rules_called, written, SetRuns, known, unknown, RunsAt}
 
 -- the applications never become fewer, nor more than 10,000

@@ -10,13 +10,11 @@ use Rattle.mail_base.specs.declared.rule.Step.TheVariants.{Plain}
 use Rattle.map_tables.specs.Answers.{Loaded}
 use Rattle.ruleset_run.specs.declared.fault.RunFault.{RunFault}
 use Rattle.ruleset_run.specs.declared.fault.RunFault.TheVariants as faults
-use Rattle.ruleset_run.specs.declared.part.Part.{Part}
-use Rattle.ruleset_run.specs.declared.part.Part.TheVariants.{Token as OneToken, Call as OneCall}
 use Rattle.ruleset_run.specs.declared.parts.Parts.{Parts}
 use Rattle.ruleset_run.specs.Sites.{Macros}
 use Rattle.ruleset_run.specs.Cutting.{Lates, late_tokens}
-use Rattle.ruleset_run.specs.Filling.{Matched, Filling, piece_tokens, put, filled, tokens_in}
-use Rattle.ruleset_run.specs.inner.Filler.{StandBy, Stand, Gain, FillsFault, StepFault, StepFills}
+use Rattle.ruleset_run.specs.Filling.{Part, OneToken, OneCall, Matched, Filling, piece_tokens, put, filled, tokens_in}
+use Rattle.ruleset_run.specs.inner.Filler.{fronts_parts, parts_of, StandBy, Stand, Gain, FillsFault, StepFault, StepFills}
 use Rattle.ruleset_run.proofs.LookLemmas.{step_plain}
 use Rattle.ruleset_run.proofs.Moves.{tokens_append}
 
@@ -42,27 +40,43 @@ module _ (fill : List Step → Macros → Filling) (steps : List Step) (i : ℕ)
   fill_fails faults.NoMemory h = tt
   fill_fails e h = fails_as e h
 
--- ---- tokens alone
+-- ---- tokens before calls, and behind the last
 
 map_append : (a b : List Token) → map OneToken (a ++ b) ≡ map OneToken a ++ map OneToken b
 map_append [] b = refl
 map_append (t ∷ a) b = ap (λ (ps : List Part). OneToken t ∷ ps) (map_append a b)
 
-put_none : (f : Filling) → f ≡ put [] f
-put_none (Ok full) = refl
-put_none (Err fault) = refl
+-- tokens that are parts hold as many tokens as they are
+pub tokens_mapped : (tokens : List Token) → tokens_in (map OneToken tokens) ≡ length tokens
+tokens_mapped [] = refl
+tokens_mapped (t ∷ tokens) = let e = tokens_mapped tokens in omega arith
 
--- before the first step nothing stands in front
-pub fill_start : (loaded : Loaded) (o : List ℕ) (late : Lates) (found : Matched) (steps : List Step) (macros : Macros) (given : List Token) → given ≡ [] → filled loaded o late found steps macros ≡ put (map OneToken given) (filled loaded o late found (drop 0 steps) macros)
-fill_start loaded o late found steps macros given is = put_none (filled loaded o late found steps macros) ∙ ap (λ (ts : List Token). put (map OneToken ts) (filled loaded o late found steps macros)) (sym is)
+parts_size : (fronts : List (List Token)) (last : List Token) → tokens_in (parts_of fronts last) ≡ tokens_in (fronts_parts fronts) + length last
+parts_size fronts last = tokens_append (fronts_parts fronts) (map OneToken last) ∙ ap (λ n. tokens_in (fronts_parts fronts) + n) (tokens_mapped last)
 
--- a step that is a piece adds its tokens
-pub plain_more : (loaded : Loaded) (o : List ℕ) (late : Lates) (found : Matched) (steps : List Step) (i : ℕ) (step : Step) → drop i steps ≡ step ∷ drop (i + 1) steps → (macros : Macros) (piece : Piece) → step ≡ Plain piece → (old new : List Token)
-    → filled loaded o late found steps macros ≡ put (map OneToken old) (filled loaded o late found (drop i steps) macros) → new ≡ old ++ piece_tokens late found piece → filled loaded o late found steps macros ≡ put (map OneToken new) (filled loaded o late found (drop (i + 1) steps) macros)
-plain_more loaded o late found steps i step ahead macros piece is old new whole new_is =
-    fill_more (filled loaded o late found) steps i step ahead macros macros (map OneToken old) whole macros (map OneToken (piece_tokens late found piece)) (step_plain loaded o late found step macros macros piece is refl)
-    ∙ ap (λ (ps : List Part). put ps (filled loaded o late found (drop (i + 1) steps) macros)) (sym (map_append old (piece_tokens late found piece)))
-    ∙ ap (λ (ts : List Token). put (map OneToken ts) (filled loaded o late found (drop (i + 1) steps) macros)) (sym new_is)
+parts_more : (fronts : List (List Token)) (last more : List Token) → parts_of fronts (last ++ more) ≡ parts_of fronts last ++ map OneToken more
+parts_more fronts last more = ap (λ ps. fronts_parts fronts ++ ps) (map_append last more) ∙ sym (append_assoc (fronts_parts fronts) (map OneToken last) (map OneToken more))
+
+fronts_append : (a b : List (List Token)) → fronts_parts (a ++ b) ≡ fronts_parts a ++ fronts_parts b
+fronts_append [] b = refl
+fronts_append (front ∷ a) b = ap (λ ps. map OneToken front ++ OneCall ∷ ps) (fronts_append a b) ∙ sym (append_assoc (map OneToken front) (OneCall ∷ fronts_parts a) (fronts_parts b))
+
+parts_call : (fronts : List (List Token)) (last : List Token) → parts_of (fronts ++ last ∷ []) [] ≡ parts_of fronts last ++ OneCall ∷ []
+parts_call fronts last = append-nil (fronts_parts (fronts ++ last ∷ [])) ∙ fronts_append fronts (last ∷ []) ∙ sym (append_assoc (fronts_parts fronts) (map OneToken last) (OneCall ∷ []))
+
+-- the last call with the tokens before it
+pub fronts_popped : (old new : List (List Token)) (front : List Token) → old ≡ new ++ front ∷ [] → fronts_parts old ≡ (fronts_parts new ++ map OneToken front) ++ OneCall ∷ []
+fronts_popped old new front is = ap fronts_parts is ∙ fronts_append new (front ∷ []) ∙ sym (append_assoc (fronts_parts new) (map OneToken front) (OneCall ∷ []))
+
+pub front_size : (new : List (List Token)) (front : List Token) → tokens_in (fronts_parts new ++ map OneToken front) ≡ tokens_in (fronts_parts new) + length front
+front_size new front = parts_size new front
+
+pub popped_size : (old new : List (List Token)) (front : List Token) → old ≡ new ++ front ∷ [] → tokens_in (fronts_parts old) ≡ tokens_in (fronts_parts new) + length front
+popped_size old new front is = let e = ap tokens_in (fronts_popped old new front is) ∙ tokens_append (fronts_parts new ++ map OneToken front) (OneCall ∷ []) in omega (arith, e, front_size new front)
+
+-- few tokens in all are few before the last call
+pub fronts_few : (fronts : List (List Token)) (last : List Token) (count : ℕ) → count ≡ tokens_in (fronts_parts fronts) → tokens_in (parts_of fronts last) ≤ 2000 → count ≤ 2000
+fronts_few fronts last count is few = omega (arith, is, few, parts_size fronts last)
 
 -- ---- parts that are kept, or are too many
 
@@ -72,40 +86,66 @@ stand_longer given added h = let e = tokens_append given added in omega arith
 -- a list that was too long before is so with more
 pub gain_long : (old new : Parts) (added : List Part) → old.is_long ≡ true → new ≡ old → Gain old new added
 gain_long old new added is same given h =
-    let long : StandBy true old.kept old.count given = subst (λ b. StandBy b old.kept old.count given) is h in
-    subst (λ (p : Parts). Stand p (given ++ added)) (sym same) (subst (λ b. StandBy b old.kept old.count (given ++ added)) (sym is) (stand_longer given added long))
+    let long : StandBy true old.fronts old.last old.count given = subst (λ b. StandBy b old.fronts old.last old.count given) is h in
+    subst (λ (p : Parts). Stand p (given ++ added)) (sym same) (subst (λ b. StandBy b old.fronts old.last old.count (given ++ added)) (sym is) (stand_longer given added long))
 
--- tokens that are parts hold as many tokens as they are
-pub tokens_mapped : (tokens : List Token) → tokens_in (map OneToken tokens) ≡ length tokens
-tokens_mapped [] = refl
-tokens_mapped (t ∷ tokens) = let e = tokens_mapped tokens in omega arith
+module _ (old new : Parts) (is : old.is_long ≡ false) where
+  kept_so : (given : List Part) → Stand old given → StandBy false old.fronts old.last old.count given
+  kept_so given h = subst (λ b. StandBy b old.fronts old.last old.count given) is h
 
--- a list that becomes too long is no longer kept
-pub gain_over : (old new : Parts) (more : List Token) → old.is_long ≡ false → new.is_long ≡ true → 2000 - old.count < length more → Gain old new (map OneToken more)
-gain_over old new more is now over given h =
-    let kept : StandBy false old.kept old.count given = subst (λ b. StandBy b old.kept old.count given) is h in
-    let e = tokens_append given (map OneToken more) in
-    let n = tokens_mapped more in
-    let c = kept.1 in
-    let few = kept.2 in
-    subst (λ b. StandBy b new.kept new.count (given ++ map OneToken more)) (sym now) (omega arith)
+  -- so many tokens are kept
+  kept_size : (given : List Part) → Stand old given → tokens_in given ≡ old.count + length old.last
+  kept_size given h =
+      let k = kept_so given h in
+      ap tokens_in (sym k.0) ∙ parts_size old.fronts old.last ∙ ap (λ n. n + length old.last) (sym k.1)
 
--- parts are added at the end
-pub gain_kept : (old new : Parts) (added : List Part) → old.is_long ≡ false → new.is_long ≡ false → new.kept ≡ old.kept ++ added → new.count ≡ old.count + tokens_in added → tokens_in added ≤ 2000 - old.count → Gain old new added
-gain_kept old new added is now kept_is count_is fits given h =
-    let kept : StandBy false old.kept old.count given = subst (λ b. StandBy b old.kept old.count given) is h in
-    let e = tokens_append given added in
-    let c = kept.1 in
-    let few = kept.2 in
-    subst (λ b. StandBy b new.kept new.count (given ++ added)) (sym now) (kept_is ∙ ap (λ ps. ps ++ added) kept.0, omega arith, omega arith)
+  -- a list that becomes too long is no longer kept
+  pub gain_over : (more : List Token) → new.is_long ≡ true → 2000 - old.count - length old.last < length more → Gain old new (map OneToken more)
+  gain_over more now over given h =
+      let k = kept_so given h in
+      let few = k.2 in
+      let size = kept_size given h in
+      let e = tokens_append given (map OneToken more) in
+      let n = tokens_mapped more in
+      subst (λ b. StandBy b new.fronts new.last new.count (given ++ map OneToken more)) (sym now) (omega arith)
 
--- a call at the end
-pub gain_call : (old : Parts) (r : Result (Unit {0}) NoMemory) (kept : List Part) → old.is_long ≡ false → OnOk r (kept ≡ old.kept ++ OneCall ∷ []) → OnOk r (Gain old (record old { kept = kept }) (OneCall ∷ []))
-gain_call old (Ok done) kept is ok =
-    let z : 0 ≤ 2000 - old.count = omega arith in
-    let c : old.count ≡ old.count + 0 = omega arith in
-    gain_kept old (record old { kept = kept }) (OneCall ∷ []) is is ok c z
-gain_call old (Err e) kept is ok = tt
+  -- tokens are added at the end
+  pub gain_tokens : (more : List Token) → new.is_long ≡ false → new.fronts ≡ old.fronts → new.last ≡ old.last ++ more → new.count ≡ old.count → length more ≤ 2000 - old.count - length old.last → Gain old new (map OneToken more)
+  gain_tokens more now fronts_are last_is count_is fits given h =
+      let k = kept_so given h in
+      let few = k.2 in
+      let size = kept_size given h in
+      let e = tokens_append given (map OneToken more) in
+      let n = tokens_mapped more in
+      subst (λ b. StandBy b new.fronts new.last new.count (given ++ map OneToken more)) (sym now) (
+        ap (λ fs. parts_of fs new.last) fronts_are ∙ ap (parts_of old.fronts) last_is ∙ parts_more old.fronts old.last more ∙ ap (λ ps. ps ++ map OneToken more) k.0,
+        count_is ∙ k.1 ∙ ap (λ fs. tokens_in (fronts_parts fs)) (sym fronts_are),
+        omega arith,
+      )
+
+  -- a call is added at the end
+  pub gain_call : new.is_long ≡ false → new.fronts ≡ old.fronts ++ old.last ∷ [] → new.last ≡ [] → (old.count + length old.last ≤ 2000 → new.count ≡ old.count + length old.last) → Gain old new (OneCall ∷ [])
+  gain_call now fronts_are last_is count_is given h =
+      let k = kept_so given h in
+      let few = k.2 in
+      let size = kept_size given h in
+      let e = tokens_append given (OneCall ∷ []) in
+      let counted = count_is (omega arith) in
+      let before = ap (λ fs. tokens_in (fronts_parts fs)) fronts_are ∙ ap tokens_in (sym (append-nil (fronts_parts (old.fronts ++ old.last ∷ [])))) ∙ ap tokens_in (parts_call old.fronts old.last) ∙ ap (λ ps. tokens_in (ps ++ OneCall ∷ [])) k.0 in
+      subst (λ b. StandBy b new.fronts new.last new.count (given ++ OneCall ∷ [])) (sym now) (
+        ap (λ fs. parts_of fs new.last) fronts_are ∙ ap (parts_of (old.fronts ++ old.last ∷ [])) last_is ∙ parts_call old.fronts old.last ∙ ap (λ ps. ps ++ OneCall ∷ []) k.0,
+        omega arith,
+        omega arith,
+      )
+
+pub gain_tokens_on : (old : Parts) → old.is_long ≡ false → (r : Result (Unit {0}) NoMemory) (more last : List Token) → length more ≤ 2000 - old.count - length old.last → OnOk r (last ≡ old.last ++ more) → OnOk r (Gain old (record old { last = last }) (map OneToken more))
+gain_tokens_on old is (Ok done) more last fits ok = gain_tokens old (record old { last = last }) is more is refl ok refl fits
+gain_tokens_on old is (Err e) more last fits ok = tt
+
+pub gain_call_on : (old : Parts) → old.is_long ≡ false → (r : Result (Unit {0}) NoMemory) (fronts : List (List Token)) (front last : List Token) (count : ℕ) → front ≡ old.last → last ≡ [] → (old.count + length old.last ≤ 2000 → count ≡ old.count + length old.last) → OnOk r (fronts ≡ old.fronts ++ front ∷ [])
+    → OnOk r (Gain old (record { fronts = fronts; last = last; count = count; is_long = old.is_long }) (OneCall ∷ []))
+gain_call_on old is (Ok done) fronts front last count front_is empty count_is ok = gain_call old (record { fronts = fronts; last = last; count = count; is_long = old.is_long }) is is (ok ∙ ap (λ one. old.fronts ++ one ∷ []) front_is) empty count_is
+gain_call_on old is (Err e) fronts front last count front_is empty count_is ok = tt
 
 -- no step is left
 pub fill_last : (loaded : Loaded) (o : List ℕ) (late : Lates) (found : Matched) (steps : List Step) (i : ℕ) (start now end : Macros) (given : List Part) → length steps ≤ i → filled loaded o late found steps start ≡ put given (filled loaded o late found (drop i steps) now) → end ≡ now

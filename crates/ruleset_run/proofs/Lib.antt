@@ -3,9 +3,9 @@ mod Ends
 mod FillLemmas
 mod LookLemmas
 mod Moves
+mod Naming
 mod SetLemmas
 mod Skipping
-mod Turning
 mod Unique
 mod ValueLemmas
 mod Walking

@@ -12,10 +12,9 @@ use Rattle.map_tables.specs.declared.found.MapFault.TheVariants as maps
 use Rattle.map_tables.specs.Answers.{Loaded, map_answer, macros_after, told}
 use Rattle.ruleset_run.specs.declared.fault.RunFault.{RunFault}
 use Rattle.ruleset_run.specs.declared.fault.RunFault.TheVariants as faults
-use Rattle.ruleset_run.specs.declared.part.Part.TheVariants.{Token as OneToken, Call as OneCall}
 use Rattle.ruleset_run.specs.Sites.{Macros}
 use Rattle.ruleset_run.specs.Cutting.{Lates, cut}
-use Rattle.ruleset_run.specs.Filling.{Matched, Told, scanned, told_by, asked, looked_up, piece_tokens, pieces_tokens, fallback_tokens, put, put_told, filled}
+use Rattle.ruleset_run.specs.Filling.{OneToken, OneCall, Matched, Told, scanned, told_by, asked, looked_up, piece_tokens, pieces_tokens, fallback_tokens, put, put_told, filled}
 use Rattle.ruleset_run.specs.inner.Filler.{LooksFault, StepFault}
 use Rattle.ruleset_run.specs.inner.Values.{Known, lates}
 

@@ -8,12 +8,10 @@ use Rattle.mail_base.specs.declared.rule.Go.TheVariants.{Again, Return, Next}
 use Rattle.rule_match.specs.Choices.{Fits, Chosen}
 use Rattle.ruleset_run.specs.declared.fault.RunFault.{RunFault}
 use Rattle.ruleset_run.specs.declared.fault.RunFault.TheVariants as faults
-use Rattle.ruleset_run.specs.declared.part.Part.{Part}
-use Rattle.ruleset_run.specs.declared.part.Part.TheVariants.{Token as OneToken, Call as OneCall}
 use Rattle.ruleset_run.specs.declared.runner.Ran.{Ran}
 use Rattle.ruleset_run.specs.Sites.{Site, Macros}
 use Rattle.ruleset_run.specs.Cutting.{is_cut_left}
-use Rattle.ruleset_run.specs.Filling.{Full, is_cut_right, tokens_in, is_resolved}
+use Rattle.ruleset_run.specs.Filling.{Part, OneToken, OneCall, Full, is_cut_right, tokens_in, is_resolved}
 use Rattle.ruleset_run.specs.Runs.{Done, Outcome, Called, name_of, rest_of, bounded, Replaced, no_part, token, call_after, call, late_of, full_of, Applies, loops, works, unscanned, unfilled, long, replaced, left_wants, matched, Takes, Runs, unread, unmatched, refused, resolves, returns, goes_next, goes_again, SetRuns, RunsAt, GivesFault, Ends, Gives}
 use Rattle.ruleset_run.specs.inner.Filler.{FillsFault}
 use Rattle.ruleset_run.specs.inner.Looks.{LeftFault, LimitFault}
@@ -96,41 +94,36 @@ module _ (called : Called) (work : ℕ) (macros : Macros) (fault : RunFault) whe
   fault_whole (OneToken t ∷ front) behind before all e h = token t before (front ++ behind) work macros (Err fault) (fault_whole front behind (before + 1) all (omega arith) h)
   fault_whole (OneCall ∷ front) behind before all e h = call_after before (front ++ behind) work macros fault (fault_whole front behind before all e h)
 
-module _ (called : Called) (parts before front done : List Part) (part : Part) (whole : parts ≡ before ++ done) (last : before ≡ front ++ part ∷ []) (work : ℕ) (macros : Macros) (now : Done) (run : Replaced called (tokens_in before) done work macros (Ok now)) where
-  pub parts_are : parts ≡ front ++ (part ∷ done)
-  parts_are = whole ∙ ap (λ ps. ps ++ done) last ∙ append_assoc front (part ∷ []) done
+-- tokens before parts that are done stand before what these give
+pub tokens_done : (called : Called) (parts : List Part) (work : ℕ) (macros : Macros) (now : Done) (tokens : List Token) (before all : ℕ) → all ≡ before + length tokens → Replaced called all parts work macros (Ok now) → Replaced called before (map OneToken tokens ++ parts) work macros (Ok (record now { tokens = tokens ++ now.tokens }))
+tokens_done called parts work macros now [] before all e h = let same : all ≡ before = omega arith in subst (λ n. Replaced called n parts work macros (Ok now)) same h
+tokens_done called parts work macros now (t ∷ tokens) before all e h = token t before (map OneToken tokens ++ parts) work macros (Ok (record now { tokens = tokens ++ now.tokens })) (tokens_done called parts work macros now tokens (before + 1) all (omega arith) h)
 
-  pub token_size : (t : Token) → part ≡ OneToken t → tokens_in before ≡ tokens_in front + 1
-  token_size t is = ap tokens_in last ∙ tokens_append front (part ∷ []) ∙ ap (λ p. tokens_in front + tokens_in (p ∷ [])) is
+module _ (called : Called) (parts before front done : List Part) (whole : parts ≡ before ++ done) (last : before ≡ front ++ OneCall ∷ []) (work : ℕ) (macros : Macros) (now : Done) (run : Replaced called (tokens_in before) done work macros (Ok now)) where
+  pub parts_are : parts ≡ front ++ (OneCall ∷ done)
+  parts_are = whole ∙ ap (λ ps. ps ++ done) last ∙ append_assoc front (OneCall ∷ []) done
 
-  pub token_done : (t : Token) → part ≡ OneToken t → Replaced called (tokens_in front) (part ∷ done) work macros (Ok (record now { tokens = t ∷ now.tokens }))
-  token_done t is =
-      subst (λ p. Replaced called (tokens_in front) (p ∷ done) work macros (Ok (record now { tokens = t ∷ now.tokens }))) (sym is)
-      (token t (tokens_in front) done work macros (Ok now) (subst (λ n. Replaced called n done work macros (Ok now)) (token_size t is) run))
+  pub call_size : tokens_in before ≡ tokens_in front
+  call_size = ap tokens_in last ∙ tokens_append front (OneCall ∷ []) ∙ zero_more (tokens_in front)
+    where
+      zero_more : (n : ℕ) → n + 0 ≡ n
+      zero_more n = omega arith
 
-  module _ (is : part ≡ OneCall) where
-    pub call_size : tokens_in before ≡ tokens_in front
-    call_size = ap tokens_in last ∙ tokens_append front (part ∷ []) ∙ ap (λ p. tokens_in front + tokens_in (p ∷ [])) is ∙ zero_more (tokens_in front)
-      where
-        zero_more : (n : ℕ) → n + 0 ≡ n
-        zero_more n = omega arith
+  call_done : (o : Outcome) → called (name_of now.tokens) (rest_of now.tokens) now.work now.macros o → Replaced called (tokens_in front) (OneCall ∷ done) work macros (bounded (tokens_in front) o)
+  call_done o h = call (tokens_in front) done work macros now o (subst (λ n. Replaced called n done work macros (Ok now)) call_size run) h
 
-    call_done : (o : Outcome) → called (name_of now.tokens) (rest_of now.tokens) now.work now.macros o → Replaced called (tokens_in front) (part ∷ done) work macros (bounded (tokens_in front) o)
-    call_done o h = subst (λ p. Replaced called (tokens_in front) (p ∷ done) work macros (bounded (tokens_in front) o)) (sym is)
-        (call (tokens_in front) done work macros now o (subst (λ n. Replaced called n done work macros (Ok now)) call_size run) h)
+  fault_at : (fault : RunFault) → Replaced called (tokens_in front) (OneCall ∷ done) work macros (Err fault) → Replaced called 0 parts work macros (Err fault)
+  fault_at fault h = subst (λ ps. Replaced called 0 ps work macros (Err fault)) (sym parts_are) (fault_whole called work macros fault front (OneCall ∷ done) 0 (tokens_in front) (omega arith) h)
 
-    fault_at : (fault : RunFault) → Replaced called (tokens_in front) (part ∷ done) work macros (Err fault) → Replaced called 0 parts work macros (Err fault)
-    fault_at fault h = subst (λ ps. Replaced called 0 ps work macros (Err fault)) (sym parts_are) (fault_whole called work macros fault front (part ∷ done) 0 (tokens_in front) (omega arith) h)
+  pub call_fails : (e : RunFault) → GivesFault e (called (name_of now.tokens) (rest_of now.tokens) now.work now.macros) → GivesFault e (Replaced called 0 parts work macros)
+  call_fails e h = fault_weaker e (called (name_of now.tokens) (rest_of now.tokens) now.work now.macros) (Replaced called 0 parts work macros) (λ f c. fault_at f (call_done (Err f) c)) h
 
-    pub call_fails : (e : RunFault) → GivesFault e (called (name_of now.tokens) (rest_of now.tokens) now.work now.macros) → GivesFault e (Replaced called 0 parts work macros)
-    call_fails e h = fault_weaker e (called (name_of now.tokens) (rest_of now.tokens) now.work now.macros) (Replaced called 0 parts work macros) (λ f c. fault_at f (call_done (Err f) c)) h
+  module _ (got : Done) (c : called (name_of now.tokens) (rest_of now.tokens) now.work now.macros (Ok got)) where
+    pub call_long : 2000 < tokens_in front + length got.tokens → Replaced called 0 parts work macros (Err faults.Long)
+    call_long over = fault_at faults.Long (subst (λ b. Replaced called (tokens_in front) (OneCall ∷ done) work macros (cond b (Err faults.Long) (Ok got))) (lt-ltb 2000 (tokens_in front + length got.tokens) over) (call_done (Ok got) c))
 
-    module _ (got : Done) (c : called (name_of now.tokens) (rest_of now.tokens) now.work now.macros (Ok got)) where
-      pub call_long : 2000 < tokens_in front + length got.tokens → Replaced called 0 parts work macros (Err faults.Long)
-      call_long over = fault_at faults.Long (subst (λ b. Replaced called (tokens_in front) (part ∷ done) work macros (cond b (Err faults.Long) (Ok got))) (lt-ltb 2000 (tokens_in front + length got.tokens) over) (call_done (Ok got) c))
-
-      pub call_gave : tokens_in front + length got.tokens ≤ 2000 → Replaced called (tokens_in front) (part ∷ done) work macros (Ok got)
-      call_gave fits = subst (λ b. Replaced called (tokens_in front) (part ∷ done) work macros (cond b (Err faults.Long) (Ok got))) (le-ltb 2000 (tokens_in front + length got.tokens) fits) (call_done (Ok got) c)
+    pub call_gave : tokens_in front + length got.tokens ≤ 2000 → Replaced called (tokens_in front) (OneCall ∷ done) work macros (Ok got)
+    call_gave fits = subst (λ b. Replaced called (tokens_in front) (OneCall ∷ done) work macros (cond b (Err faults.Long) (Ok got))) (le-ltb 2000 (tokens_in front + length got.tokens) fits) (call_done (Ok got) c)
 
 -- ---- a loop over the rules: whatever completes the rest completes the whole
 

@@ -10,10 +10,9 @@ use Rattle.mail_base.specs.declared.rule.Go.TheVariants.{Again, Return, Next}
 use Rattle.rule_match.specs.Choices.{Fits}
 use Rattle.rule_match.proofs.Choosing.{choice_once}
 use Rattle.ruleset_run.specs.declared.fault.RunFault.TheVariants as faults
-use Rattle.ruleset_run.specs.declared.part.Part.{Part}
 use Rattle.ruleset_run.specs.Sites.{Site, Macros}
 use Rattle.ruleset_run.specs.Cutting.{is_cut_left}
-use Rattle.ruleset_run.specs.Filling.{Matched, Full, Filling, is_cut_right, tokens_in, is_resolved}
+use Rattle.ruleset_run.specs.Filling.{Part, Matched, Full, Filling, is_cut_right, tokens_in, is_resolved}
 use Rattle.ruleset_run.specs.Runs.{Done, Outcome, Called, name_of, rest_of, with_token, bounded, Replaced, no_part, token, call_after, call, late_of, full_of, Applies, loops, works, unscanned, unfilled, long, replaced, left_wants, matched, Takes, Runs, no_rule, unread, unmatched, refused, resolves, returns, goes_next, goes_again, SetRuns, known, unknown, RunsAt}
 
 -- a call has one outcome

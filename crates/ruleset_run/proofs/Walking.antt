@@ -11,18 +11,16 @@ use Rattle.rule_match.specs.Kept.{IsChoice}
 use Rattle.rule_match.specs.Wants.{wants}
 use Rattle.ruleset_run.specs.declared.fault.RunFault.{RunFault}
 use Rattle.ruleset_run.specs.declared.fault.RunFault.TheVariants as faults
-use Rattle.ruleset_run.specs.declared.part.Part.TheVariants.{Token as OneToken}
 use Rattle.ruleset_run.specs.declared.parts.Parts.{Parts}
 use Rattle.ruleset_run.specs.declared.runner.Ran.{Ran}
 use Rattle.ruleset_run.specs.Sites.{Site, Macros}
 use Rattle.ruleset_run.specs.Cutting.{Lates, late_tokens, is_cut_left, left_lists}
-use Rattle.ruleset_run.specs.Filling.{Matched, filled, is_cut_right, tokens_in, is_resolved}
+use Rattle.ruleset_run.specs.Filling.{OneToken, Matched, filled, is_cut_right, tokens_in, is_resolved}
 use Rattle.ruleset_run.specs.Runs.{Done, Outcome, Called, Replaced, late_of, full_of, left_wants, matched, Takes, Runs, GivesFault, Ends}
-use Rattle.ruleset_run.specs.inner.Filler.{IsCutAs, IsPlainFilling, StandBy, Fills, FillsFault}
+use Rattle.ruleset_run.specs.inner.Filler.{IsCutAs, parts_of, StandBy, Fills, FillsFault}
 use Rattle.ruleset_run.specs.inner.Looks.{IsAhead, LeftFault, LimitFault, MatchFound, times_at}
 use Rattle.ruleset_run.specs.inner.Values.{Known, lates}
-use Rattle.ruleset_run.proofs.FillLemmas.{tokens_mapped}
-use Rattle.ruleset_run.proofs.Moves.{replaced_plain, limit_reached, takes_unscanned, takes_unfilled, takes_long, takes_replaced, step_unread, step_unmatched, step_refused, step_resolved, step_returned, step_next, step_again}
+use Rattle.ruleset_run.proofs.Moves.{limit_reached, takes_unscanned, takes_unfilled, takes_long, takes_replaced, step_unread, step_unmatched, step_refused, step_resolved, step_returned, step_next, step_again}
 use Rattle.ruleset_run.proofs.Skipping.{drop_at, skipped}
 
 module _ (site : Site) (v : Known) (ops : v.operators ≡ site.operators) where
@@ -62,34 +60,23 @@ module _ (site : Site) (called : Called) (rule : Rule) (tokens : List Token) (wo
       pub apply_unfilled : (e : RunFault) → FillsFault e (filled site.maps v.operators (lates v) (matched rule tokens choice.0) rule.right.steps v.macros) → GivesFault e (Takes site called rule times tokens work v.macros)
       apply_unfilled e h = takes_unfilled site called rule tokens work v.macros cut_now choice.0 chosen_now times lt few scan e (subst (λ f. FillsFault e f) filling_is h)
 
-      module _ (given : List Token) (is : IsPlainFilling v.macros (filled site.maps v.operators (lates v) (matched rule tokens choice.0) rule.right.steps v.macros) given) where
-        pub apply_plain_long : 2000 < length given → Takes site called rule times tokens work v.macros (Err faults.Long)
-        apply_plain_long over = takes_long site called rule tokens work v.macros cut_now choice.0 chosen_now times lt few scan (record { parts = map OneToken given; macros = v.macros }) (sym filling_is ∙ is) (omega (arith, tokens_mapped given))
-
-        pub apply_plain : length given ≤ 2000 → Takes site called rule times tokens work v.macros (Ok (record { tokens = given; work = work + 1; macros = v.macros }))
-        apply_plain short =
-            takes_replaced site called rule tokens work v.macros cut_now choice.0 chosen_now times lt few scan (record { parts = map OneToken given; macros = v.macros }) (sym filling_is ∙ is) (omega (arith, tokens_mapped given)) v.macros (Ok (record { tokens = given; work = work + 1 }))
-            (replaced_plain called v.macros (work + 1) given 0)
-
       module _ (parts : Parts) (macros : Macros) (fills : Fills (Ok parts) macros (filled site.maps v.operators (lates v) (matched rule tokens choice.0) rule.right.steps v.macros)) where
         pub apply_long : parts.is_long ≡ true → Takes site called rule times tokens work v.macros (Err faults.Long)
         apply_long is =
-            let long : StandBy true parts.kept parts.count fills.0 = subst (λ b. StandBy b parts.kept parts.count fills.0) is fills.1 in
+            let long : StandBy true parts.fronts parts.last parts.count fills.0 = subst (λ b. StandBy b parts.fronts parts.last parts.count fills.0) is fills.1 in
             takes_long site called rule tokens work v.macros cut_now choice.0 chosen_now times lt few scan (record { parts = fills.0; macros = macros }) (sym filling_is ∙ fills.2) long
 
-        pub apply_replaced : parts.is_long ≡ false → (now : Macros) (r : Result Ran RunFault) → Ends now r (Replaced called 0 parts.kept (work + 1) macros) → Ends now r (Takes site called rule times tokens work v.macros)
+        pub apply_replaced : parts.is_long ≡ false → (now : Macros) (r : Result Ran RunFault) → Ends now r (Replaced called 0 (parts_of parts.fronts parts.last) (work + 1) macros) → Ends now r (Takes site called rule times tokens work v.macros)
         apply_replaced is now r h =
-            let kept : StandBy false parts.kept parts.count fills.0 = subst (λ b. StandBy b parts.kept parts.count fills.0) is fills.1 in
-            let count = kept.1 in
-            let small = kept.2 in
-            takes_replaced site called rule tokens work v.macros cut_now choice.0 chosen_now times lt few scan (record { parts = fills.0; macros = macros }) (sym filling_is ∙ fills.2) (omega arith) now r
+            let kept : StandBy false parts.fronts parts.last parts.count fills.0 = subst (λ b. StandBy b parts.fronts parts.last parts.count fills.0) is fills.1 in
+            takes_replaced site called rule tokens work v.macros cut_now choice.0 chosen_now times lt few scan (record { parts = fills.0; macros = macros }) (sym filling_is ∙ fills.2) kept.2 now r
             (subst (λ ps. Ends now r (Replaced called 0 ps (work + 1) macros)) kept.0 h)
 
         -- the parts that are kept are few
-        pub kept_stand : parts.is_long ≡ false → StandBy parts.is_long parts.kept parts.count parts.kept
+        pub kept_stand : parts.is_long ≡ false → StandBy parts.is_long parts.fronts parts.last parts.count (parts_of parts.fronts parts.last)
         kept_stand is =
-            let kept : StandBy false parts.kept parts.count fills.0 = subst (λ b. StandBy b parts.kept parts.count fills.0) is fills.1 in
-            subst (λ b. StandBy b parts.kept parts.count parts.kept) (sym is) (refl, kept.1 ∙ ap tokens_in (sym kept.0), kept.2)
+            let kept : StandBy false parts.fronts parts.last parts.count fills.0 = subst (λ b. StandBy b parts.fronts parts.last parts.count fills.0) is fills.1 in
+            subst (λ b. StandBy b parts.fronts parts.last parts.count (parts_of parts.fronts parts.last)) (sym is) (refl, kept.1, subst (λ ps. tokens_in ps ≤ 2000) (sym kept.0) kept.2)
 
 -- ---- the rules
 

@@ -19,8 +19,6 @@ use Rattle.map_tables.specs.Answers.{Loaded, map_answer, macros_after, told}
 use Rattle.rule_match.specs.Kept.{bound_piece}
 use Rattle.ruleset_run.specs.declared.fault.RunFault.{RunFault}
 use Rattle.ruleset_run.specs.declared.fault.RunFault.TheVariants.{BadScan, MapClass, NoSuchMap, NoMemory}
-use Rattle.ruleset_run.specs.declared.part.Part.{Part}
-use Rattle.ruleset_run.specs.declared.part.Part.TheVariants.{Token as OneToken, Call as OneCall}
 use Rattle.ruleset_run.specs.Sites.{Macros}
 use Rattle.ruleset_run.specs.Cutting.{cut, Lates}
 
@@ -98,6 +96,12 @@ looked_up maps operators name key args fallback macros =
 abbrev pub fallback_tokens : Lates → Matched → Option (List Piece) → Option (List Token)
 fallback_tokens late found None = None
 fallback_tokens late found (Some pieces) = Some (pieces_tokens late found pieces)
+
+-- a part of a right side that is filled: a token, or `$>`, the call of the ruleset that the next
+-- token names
+pub data Part : Type 0 where
+  OneToken : Token → Part
+  OneCall : Part
 
 -- the tokens and calls of a right side, and the macros after its look-ups
 pub record Full : Type 0 where

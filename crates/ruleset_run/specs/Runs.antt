@@ -9,13 +9,11 @@ use Rattle.rule_match.specs.Choices.{Fits, Chosen}
 use Rattle.rule_match.specs.Wants.{Want, wants}
 use Rattle.ruleset_run.specs.declared.fault.RunFault.{RunFault}
 use Rattle.ruleset_run.specs.declared.fault.RunFault.TheVariants as faults
-use Rattle.ruleset_run.specs.declared.part.Part.{Part}
-use Rattle.ruleset_run.specs.declared.part.Part.TheVariants.{Token as OneToken, Call as OneCall}
 use Rattle.ruleset_run.specs.declared.runner.Ran.{Ran}
 use Rattle.ruleset_run.specs.Books.{rules_named}
 use Rattle.ruleset_run.specs.Sites.{Site, Macros}
 use Rattle.ruleset_run.specs.Cutting.{Lates, late_tokens, is_cut_left, left_lists}
-use Rattle.ruleset_run.specs.Filling.{Matched, Full, is_cut_right, filled, tokens_in, call_name, is_resolved}
+use Rattle.ruleset_run.specs.Filling.{Part, OneToken, OneCall, Matched, Full, is_cut_right, filled, tokens_in, call_name, is_resolved}
 
 -- what a run ends with: the tokens, the number of applications so far, and the macros
 pub record Done : Type 0 where

@@ -1,4 +1,4 @@
-ghost use Rattle.std.specs.Prelude.{◌≡◌, ◌++◌, ◌∷◌, [], IfOk, OnOk, reverse};
+ghost use Rattle.std.specs.Prelude.{◌≡◌, ◌++◌, ◌∷◌, [], IfNone, IfOk, IfSome, OnOk};
 ghost use Rattle.addr_tokens.specs.Joins.{sign_bytes};
 ghost use Rattle.ruleset_run.specs.Filling as spec;
 
@@ -43,17 +43,38 @@ pub fn with_room(alloc: Global, room: usize) -> Result<Vec<Token>, NoMemory>
     Ok(Vec::with_capacity(alloc, room)?)
 }
 
-/// Tokens in the other order.
-pub fn turned(mut tokens: Vec<Token>) -> Vec<Token>
-    ensures { result.items ≡ reverse tokens.items }
+/// The first of the tokens, which names a ruleset, and those behind it, or `None` where there is
+/// none.
+pub fn first_and_rest(tokens: Seq<Token>) -> Option<(Token, Seq<Token>)>
+    ensures some { IfSome result (λ parted. tokens ≡ parted.0 ∷ parted.1) }
+    ensures none { IfNone result (tokens ≡ []) }
 {
-    tokens.reverse();
-    tokens
+    if tokens.is_empty() {
+        return None;
+    }
+    let mut rest = tokens.into_vec();
+    let first = rest.remove(0);
+    Some((first, Seq::from_vec(rest)))
 }
 
-/// Adds a token at the end.
-pub fn push(tokens: &mut Vec<Token>, token: Token) -> Result<(), NoMemory>
-    ensures { OnOk result (tokens.new.items ≡ tokens.old.items ++ token ∷ []) }
+/// Tokens, and others behind them.
+pub fn joined(front: Seq<Token>, behind: Seq<Token>) -> Result<Seq<Token>, NoMemory>
+    ensures { IfOk result (λ tokens. tokens ≡ front ++ behind) }
 {
-    Ok(tokens.push(token)?)
+    if front.is_empty() {
+        return Ok(behind);
+    }
+    let mut tokens = front.into_vec();
+    tokens.append(&mut behind.into_vec())?;
+    Ok(Seq::from_vec(tokens))
+}
+
+/// Adds copies of tokens at the end.
+pub fn push_all(tokens: &mut Seq<Token>, more: &[Token]) -> Result<(), NoMemory>
+    ensures { OnOk result (tokens.new ≡ tokens.old ++ more.now) }
+{
+    for token in more {
+        tokens.push(token.copy()?)?;
+    }
+    Ok(())
 }

@@ -1,16 +1,13 @@
 ghost use Rattle.std.specs.Prelude.{◌≡◌, ◌&&◌, ◌++◌, List, ℕ, IfOk, IfSome, OnOk, map, true};
 ghost use Rattle.std.specs.List.{list_all};
-ghost use Rattle.map_tables.specs.Answers.{Loaded};
-ghost use Rattle.ruleset_run.specs.declared.part.Part.TheVariants.{Token as OneToken};
 ghost use Rattle.ruleset_run.specs.Cutting.{Lates};
-ghost use Rattle.ruleset_run.specs.Filling.{Matched, asked, fallback_tokens, filled, is_cut_fallback, is_cut_piece, is_cut_right, is_cut_step, looked_up, piece_tokens, pieces_tokens};
+ghost use Rattle.ruleset_run.specs.Filling.{Matched, OneToken, asked, fallback_tokens, filled, is_cut_fallback, is_cut_piece, is_cut_right, is_cut_step, looked_up, piece_tokens, pieces_tokens};
 ghost use Rattle.ruleset_run.specs.Filling as spec;
-ghost use Rattle.ruleset_run.specs.Sites.{Macros};
-ghost use Rattle.ruleset_run.specs.inner.Filler.{Fills, Gain, IsCutAs, IsPlainFilling, Looks, StepFills, is_plain, is_plain_step};
+ghost use Rattle.ruleset_run.specs.inner.Filler.{Fills, Gain, IsCutAs, Looks, StepFills, is_plain};
 ghost use Rattle.ruleset_run.specs.inner.Values.{lates};
 
 use crate::RunFault;
-use crate::calls::with_room;
+use crate::calls::push_all;
 use crate::parts::Parts;
 use crate::values::Values;
 use addr_tokens::join;
@@ -149,41 +146,6 @@ pub fn fill(
     }
     values.settle()?;
     Ok(parts)
-}
-
-/// The tokens of a right side that has neither look-ups nor calls, where each `$&x` can be cut, or
-/// `None` where it has one of these.
-pub fn fill_plain(
-    values: &mut Values,
-    source: &Match,
-    steps: &[Step],
-) -> Result<Option<Seq<Token>>, NoMemory>
-    requires { (found : Matched)
-        × IsCutAs source.now.left.now source.now.tokens.now source.now.cuts.now found }
-    ensures fills { (loaded : Loaded) (operators : List ℕ) (found : Matched) (macros : Macros)
-        → IsCutAs source.now.left.now source.now.tokens.now source.now.cuts.now found
-        → IfOk result (λ tokens. IfSome tokens (IsPlainFilling macros
-        (filled loaded operators (lates values.old) found steps.now macros))) }
-    ensures same { values.new ≡ values.old }
-{
-    if !are_plain(steps) {
-        return Ok(None);
-    }
-    let room = source.tokens.len().saturating_add(steps.len());
-    let mut given = Seq::from_vec(with_room(values.allocator(), room)?);
-    for step in steps {
-        let Step::Plain(piece) = step else {
-            return Ok(None);
-        };
-        push_piece(values, source, piece, &mut given)?;
-    }
-    Ok(Some(given))
-}
-
-fn are_plain(steps: &[Step]) -> bool
-    ensures { result ≡ list_all is_plain_step steps.now }
-{
-    steps.iter().all(|step| matches!(step, Step::Plain(_)))
 }
 
 fn fill_step(
@@ -331,15 +293,6 @@ fn push_piece(
         },
         _ => push_all(given, plain_tokens(source, piece)),
     }
-}
-
-fn push_all(given: &mut Seq<Token>, more: &[Token]) -> Result<(), NoMemory>
-    ensures { OnOk result (given.new ≡ given.old ++ more.now) }
-{
-    for token in more {
-        given.push(token.copy()?)?;
-    }
-    Ok(())
 }
 
 // The arguments of a look-up as texts.

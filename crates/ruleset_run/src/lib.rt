@@ -7,7 +7,6 @@ mod fault;
 mod filler;
 mod law;
 mod looking;
-mod part;
 mod parts;
 mod runner;
 mod values;

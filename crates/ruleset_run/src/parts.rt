@@ -1,31 +1,37 @@
-ghost use Rattle.std.specs.Prelude.{◌≡◌, ◌≤◌, ◌+◌, ◌++◌, ◌∷◌, [], List, IfOk, OnOk, OnErr, map};
-ghost use Rattle.ruleset_run.specs.declared.part.Part.TheVariants.{Token as OneToken, Call as OneCall};
+ghost use Rattle.std.specs.Prelude.{◌≡◌, ◌++◌, ◌∷◌, [], IfOk, OnOk, map};
+ghost use Rattle.ruleset_run.specs.Filling.{OneCall, OneToken};
 ghost use Rattle.ruleset_run.specs.inner.Filler.{Gain, Stand};
 
-use crate::part::Part;
-use mail_base::{NoMemory, Seq, Token, TryCopy};
+use crate::calls::{push_all, with_room};
+use mail_base::{NoMemory, Seq, Token};
 use std::alloc::Global;
+use std::mem;
 
 /// The most tokens of a filled list.
 pub const MOST_TOKENS: usize = 2000;
 
-/// The parts of a right side. Where they have more than 2,000 tokens they are no longer kept.
+/// The tokens and calls of a right side. Where there are more than 2,000 tokens they are no longer
+/// kept.
 #[derive(Drop)]
 pub struct Parts {
-    pub kept: Seq<Part>,
-    /// The number of tokens among those that are kept.
+    /// For each call the tokens that stand before it, behind the call before it.
+    pub fronts: Seq<Seq<Token>>,
+    /// The tokens behind the last call; all of them where there is no call.
+    pub last: Seq<Token>,
+    /// The number of tokens before the last call.
     pub count: usize,
     pub is_long: bool,
 }
 
 impl Parts {
-    /// No parts, with room for so many.
+    /// No parts, with room for so many tokens.
     pub fn with_room(alloc: Global, room: usize) -> Result<Parts, NoMemory>
         ensures { IfOk result (λ parts. Stand parts []) }
     {
-        let kept = Vec::with_capacity(alloc, room)?;
+        let last = with_room(alloc, room)?;
         Ok(Parts {
-            kept: Seq::from_vec(kept),
+            fronts: Seq::new(alloc),
+            last: Seq::from_vec(last),
             count: 0,
             is_long: false,
         })
@@ -38,13 +44,12 @@ impl Parts {
         if self.is_long {
             return Ok(());
         }
-        if more.len() > MOST_TOKENS.saturating_sub(self.count) {
+        let room = MOST_TOKENS.saturating_sub(self.count);
+        if more.len() > room.saturating_sub(self.last.len()) {
             self.is_long = true;
             return Ok(());
         }
-        push_all(&mut self.kept, more)?;
-        self.count += more.len();
-        Ok(())
+        push_all(&mut self.last, more)
     }
 
     /// Adds a call at the end.
@@ -54,15 +59,13 @@ impl Parts {
         if self.is_long {
             return Ok(());
         }
-        self.kept.push(Part::Call)
+        let alloc = self.last.allocator();
+        // A list without tokens keeps its room for those behind the call.
+        if self.last.is_empty() {
+            return self.fronts.push(Seq::new(alloc));
+        }
+        let front = mem::replace(&mut self.last, Seq::new(alloc));
+        self.count = self.count.saturating_add(front.len());
+        self.fronts.push(front)
     }
-}
-
-fn push_all(kept: &mut Seq<Part>, more: &[Token]) -> Result<(), NoMemory>
-    ensures { OnOk result (kept.new ≡ kept.old ++ map OneToken more.now) }
-{
-    for token in more {
-        kept.push(Part::Token(token.copy()?))?;
-    }
-    Ok(())
 }

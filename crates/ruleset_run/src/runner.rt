@@ -1,4 +1,4 @@
-ghost use Rattle.std.specs.Prelude.{◌≡◌, ◌≤◌, ◌<◌, ◌++◌, ℕ, None, Some, IfErr, IfOk, OnOk, false, reverse, true};
+ghost use Rattle.std.specs.Prelude.{◌≡◌, ◌≤◌, ◌<◌, ◌++◌, ℕ, None, Some, IfErr, IfOk, OnOk, false, true};
 ghost use Rattle.std.specs.List.{find};
 ghost use Rattle.mail_base.specs.Masks.{mask_of};
 ghost use Rattle.mail_base.specs.Rulesets.{is_named};
@@ -7,16 +7,15 @@ ghost use Rattle.rule_match.specs.Kept.{IsChoice};
 ghost use Rattle.ruleset_run.specs.Cutting.{is_cut_item, is_cut_left, item_lists, left_lists};
 ghost use Rattle.ruleset_run.specs.Runs.{Ends, Gives, Outcome, Replaced, Runs, RunsAt, RunsSet, SetRuns, Takes, name_of, rest_of};
 ghost use Rattle.ruleset_run.specs.Sites.{Macros as TheMacros, Site, site_of};
-ghost use Rattle.ruleset_run.specs.inner.Filler.{Stand};
+ghost use Rattle.ruleset_run.specs.inner.Filler.{Stand, parts_of};
 ghost use Rattle.ruleset_run.specs.inner.Looks.{LeftFault, LimitFault, MatchFound, times_at};
 ghost use Rattle.ruleset_run.specs.inner.Values.{lates};
 
 use crate::RunFault;
 use crate::book::is_standard;
-use crate::calls::{call_name, push, turned, with_room};
-use crate::filler::{Match, fill, fill_plain, is_cut, is_resolved};
+use crate::calls::{call_name, first_and_rest, joined};
+use crate::filler::{Match, fill, is_cut, is_resolved};
 use crate::looking::next_rule;
-use crate::part::Part;
 use crate::parts::{MOST_TOKENS, Parts};
 use crate::values::Values;
 use mail_base::{
@@ -154,8 +153,8 @@ fn run_rules(
         if is_resolved(&now.tokens) {
             return Ok(now);
         }
-        mask = mask_of(now.tokens.items());
         match rule.right.go {
+            Go::Return => return Ok(now),
             Go::Again => {
                 from = number;
                 times += 1;
@@ -164,8 +163,8 @@ fn run_rules(
                 from = number + 1;
                 times = 0;
             }
-            Go::Return => return Ok(now),
         }
+        mask = mask_of(now.tokens.items());
     }
     Ok(now)
 }
@@ -291,15 +290,6 @@ fn apply(
         cuts,
         tokens: &now.tokens,
     };
-    if let Some(tokens) = fill_plain(values, &source, steps)? {
-        if tokens.len() > MOST_TOKENS {
-            return Err(RunFault::Long);
-        }
-        return Ok(Ran {
-            tokens,
-            work: now.work + 1,
-        });
-    }
     let parts = fill(maps, values, &source, steps)?;
     if parts.is_long {
         return Err(RunFault::Long);
@@ -319,71 +309,64 @@ fn replace(
 ) -> Result<Ran, RunFault>
     requires operators { values.old.operators ≡ config.now.options.operator_chars }
     requires settled { values.old.after ≡ values.old.macros }
-    requires parts { Stand parts parts.kept }
+    requires parts { Stand parts (parts_of parts.fronts parts.last) }
     requires short { parts.is_long ≡ false }
     requires work { work ≤ 10000 }
     ensures run { Ends values.new.macros result
-        (Replaced (RunsAt (site_of config.now maps.now) left) 0 parts.kept work values.old.macros) }
+        (Replaced (RunsAt (site_of config.now maps.now) left) 0
+        (parts_of parts.fronts parts.last) work values.old.macros) }
     ensures operators { values.new.operators ≡ values.old.operators }
     ensures settled { OnOk result (values.new.after ≡ values.new.macros) }
     ensures work { IfOk result (λ ran. (work ≤ ran.work) × (ran.work ≤ 10000)) }
 {
     let mut before = parts.count;
-    let mut front = parts.kept.into_vec();
-    // the tokens behind the parts that are left, the last one first
-    let mut back = with_room(values.allocator(), front.len())?;
-    let mut now_work = work;
-    'parts: while let Some(part) = front.pop() {
-        match part {
-            Part::Token(token) => {
-                push(&mut back, token)?;
-                before -= 1;
-            }
-            Part::Call => {
-                let ran = call(config, maps, values, back, now_work, left)?;
-                if ran.tokens.len() > MOST_TOKENS - before {
-                    return Err(RunFault::Long);
-                }
-                now_work = ran.work;
-                back = turned(ran.tokens.into_vec());
-            }
+    let mut fronts = parts.fronts.into_vec();
+    let mut now = Ran {
+        tokens: parts.last,
+        work,
+    };
+    'calls: while let Some(front) = fronts.pop() {
+        let ran = call(config, maps, values, now, left)?;
+        if ran.tokens.len() > MOST_TOKENS - before {
+            return Err(RunFault::Long);
         }
+        before -= front.len();
+        now = Ran {
+            tokens: joined(front, ran.tokens)?,
+            work: ran.work,
+        };
     }
-    Ok(Ran {
-        tokens: Seq::from_vec(turned(back)),
-        work: now_work,
-    })
+    Ok(now)
 }
 
-/// Makes a call on tokens that stand with the last one first; the first names the ruleset.
+/// Makes a call on tokens, of which the first names the ruleset.
 #[cycle(runs)]
 fn call(
     config: &Config,
     maps: &Maps,
     values: &mut Values,
-    mut back: Vec<Token>,
-    work: u32,
+    start: Ran,
     left: u32,
 ) -> Result<Ran, RunFault>
     requires operators { values.old.operators ≡ config.now.options.operator_chars }
     requires settled { values.old.after ≡ values.old.macros }
-    requires work { work ≤ 10000 }
+    requires work { start.work ≤ 10000 }
     ensures run { Ends values.new.macros result
-        (RunsAt (site_of config.now maps.now) left (name_of (reverse back.items))
-        (rest_of (reverse back.items)) work values.old.macros) }
+        (RunsAt (site_of config.now maps.now) left (name_of start.tokens)
+        (rest_of start.tokens) start.work values.old.macros) }
     ensures operators { values.new.operators ≡ values.old.operators }
     ensures settled { OnOk result (values.new.after ≡ values.new.macros) }
-    ensures work { IfOk result (λ ran. (work ≤ ran.work) × (ran.work ≤ 10000)) }
+    ensures work { IfOk result (λ ran. (start.work ≤ ran.work) × (ran.work ≤ 10000)) }
 {
     if left == 0 {
         return Err(RunFault::Deep);
     }
-    let Some(token) = back.pop() else {
+    let Some((token, tokens)) = first_and_rest(start.tokens) else {
         return Err(RunFault::NoRuleset(Text::new(values.allocator())));
     };
     let start = Ran {
-        tokens: Seq::from_vec(turned(back)),
-        work,
+        tokens,
+        work: start.work,
     };
     if let Token::Word(word) = &token {
         return run_set(config, maps, values, word.text(), start, left - 1);

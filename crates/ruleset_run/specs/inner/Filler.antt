@@ -1,9 +1,8 @@
 -- What the steps of a filling answer.
-use Rattle.std.specs.Prelude.{◌≡◌, ℕ, ◌<◌, ◌≤◌, List, ◌∷◌, ◌++◌, Bool, true, false, Result, Ok, Err, map}
+use Rattle.std.specs.Prelude.{◌≡◌, ℕ, ◌<◌, ◌≤◌, List, [], ◌∷◌, ◌++◌, Bool, true, false, Result, Ok, Err, map}
 use Rattle.mail_base.specs.declared.classes.Classes.{Classes}
 use Rattle.mail_base.specs.declared.rule.Item.{Item}
 use Rattle.mail_base.specs.declared.rule.Step.{Step}
-use Rattle.mail_base.specs.declared.rule.Step.TheVariants.{Plain}
 use Rattle.mail_base.specs.declared.rule.Piece.{Piece}
 use Rattle.mail_base.specs.declared.rule.Piece.TheVariants.{Late}
 use Rattle.mail_base.specs.declared.token.Token.{Token}
@@ -13,11 +12,9 @@ use Rattle.rule_match.specs.Kept.{kept_cuts}
 use Rattle.rule_match.specs.Wants.{wants}
 use Rattle.ruleset_run.specs.declared.fault.RunFault.{RunFault}
 use Rattle.ruleset_run.specs.declared.fault.RunFault.TheVariants as faults
-use Rattle.ruleset_run.specs.declared.part.Part.{Part}
-use Rattle.ruleset_run.specs.declared.part.Part.TheVariants.{Token as OneToken}
 use Rattle.ruleset_run.specs.declared.parts.Parts.{Parts}
 use Rattle.ruleset_run.specs.Sites.{Macros}
-use Rattle.ruleset_run.specs.Filling.{Matched, Told, Filling, put, tokens_in}
+use Rattle.ruleset_run.specs.Filling.{Part, OneToken, OneCall, Matched, Told, Filling, put, tokens_in}
 
 -- the cuts are those of a match of a left side, whatever its classes are
 pub record IsCutAs (left : List Item) (tokens : List Token) (cuts : List Cut)
@@ -34,23 +31,22 @@ abbrev pub is_plain : Piece → Bool
 is_plain (Late name) = false
 is_plain piece = true
 
--- a step that is neither a look-up nor a call
-abbrev pub is_plain_step : Step → Bool
-is_plain_step (Plain piece) = true
-is_plain_step step = false
+-- the parts that stand up to each call and with it, and those behind the last
+abbrev pub fronts_parts : List (List Token) → List Part
+fronts_parts [] = []
+fronts_parts (front ∷ fronts) = map OneToken front ++ OneCall ∷ fronts_parts fronts
 
--- a filling that has these tokens alone, and leaves the macros as they were
-abbrev pub IsPlainFilling : Macros → Filling → List Token → Type 0
-IsPlainFilling macros filling tokens =
-    filling ≡ Ok (record { parts = map OneToken tokens; macros = macros })
+abbrev pub parts_of : List (List Token) → List Token → List Part
+parts_of fronts last = fronts_parts fronts ++ map OneToken last
 
-abbrev pub StandBy : Bool → List Part → ℕ → List Part → Type 0
-StandBy true kept count given = 2000 < tokens_in given
-StandBy false kept count given = (kept ≡ given) × (count ≡ tokens_in given) × (count ≤ 2000)
+abbrev pub StandBy : Bool → List (List Token) → List Token → ℕ → List Part → Type 0
+StandBy true fronts last count given = 2000 < tokens_in given
+StandBy false fronts last count given = (parts_of fronts last ≡ given)
+    × (count ≡ tokens_in (fronts_parts fronts)) × (tokens_in given ≤ 2000)
 
 -- the parts are kept, or they have too many tokens
 abbrev pub Stand : Parts → List Part → Type 0
-Stand parts given = StandBy parts.is_long parts.kept parts.count given
+Stand parts given = StandBy parts.is_long parts.fronts parts.last parts.count given
 
 -- parts were added at the end
 abbrev pub Gain : Parts → Parts → List Part → Type 0

@@ -1,6 +1,5 @@
 use Rattle.std.proofs.Common.{◌≡◌, List, drop}
-use Rattle.ruleset_run.specs.declared.part.Part.{Part}
-use Rattle.ruleset_run.specs.Filling.{Matched, filled, put}
+use Rattle.ruleset_run.specs.Filling.{Part, Matched, filled, put}
 use Rattle.ruleset_run.specs.inner.Filler.{IsCutAs, Stand}
 use Rattle.ruleset_run.specs.inner.Values.{lates}
 use Rattle.ruleset_run.proofs.filler.fill.Given as goal

@@ -2,8 +2,7 @@ use Rattle.std.proofs.Common.{map, [], ◌∷◌, ◌∙◌, refl, ap, sym}
 use Rattle.std.proofs.lemmas.Result.{err_from_is_err_and}
 use Rattle.mail_base.specs.declared.rule.Query.{Query}
 use Rattle.mail_base.specs.declared.rule.Step.TheVariants.{Lookup}
-use Rattle.ruleset_run.specs.declared.part.Part.TheVariants.{Token as OneToken, Call as OneCall}
-use Rattle.ruleset_run.specs.Filling.{piece_tokens}
+use Rattle.ruleset_run.specs.Filling.{OneToken, OneCall, piece_tokens}
 use Rattle.ruleset_run.specs.inner.Values.{Known, lates}
 use Rattle.ruleset_run.proofs.LookLemmas.{step_plain, step_call, step_looked, step_look_fails}
 use Rattle.ruleset_run.proofs.filler.fill_step.Goals as goal

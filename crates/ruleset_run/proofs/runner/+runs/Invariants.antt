@@ -1,9 +1,9 @@
-use Rattle.std.proofs.Common.{◌≡◌, ◌≤◌, ◌+◌, ◌-◌, ◌*◌, List, ◌++◌, length, drop, reverse, Ok}
+use Rattle.std.proofs.Common.{◌≡◌, ◌≤◌, ◌+◌, ◌-◌, ◌*◌, List, ◌++◌, length, drop, Ok}
 use Rattle.mail_base.specs.Masks.{mask_of}
-use Rattle.ruleset_run.specs.declared.part.Part.{Part}
-use Rattle.ruleset_run.specs.Filling.{tokens_in}
+use Rattle.ruleset_run.specs.Filling.{Part, tokens_in}
 use Rattle.ruleset_run.specs.Runs.{Outcome, Runs, Replaced, RunsAt}
 use Rattle.ruleset_run.specs.Sites.{site_of}
+use Rattle.ruleset_run.specs.inner.Filler.{fronts_parts, parts_of}
 use Rattle.ruleset_run.proofs.runner.+runs.Given as goal
 
 abbrev pub decreases-run_set : goal.decreases-run_set
@@ -38,19 +38,19 @@ invariant-run_rules-loop-number l = record {
 abbrev pub decreases-run_rules-loop-number : goal.decreases-run_rules-loop-number
 decreases-run_rules-loop-number l = (10000 - l.now.work) + (length l.set.rules - l.from)
 
--- the parts behind those that are left are done
-abbrev pub invariant-replace-parts : goal.invariant-replace-parts
-invariant-replace-parts l = record {
+-- the parts behind the calls that are left are done
+abbrev pub invariant-replace-calls : goal.invariant-replace-calls
+invariant-replace-calls l = record {
   done : List Part;
-  parts : l.fn.parts.kept ≡ l.front.items ++ done;
-  before : l.before ≡ tokens_in l.front.items;
+  parts : parts_of l.fn.parts.fronts l.fn.parts.last ≡ fronts_parts l.fronts.items ++ done;
+  before : l.before ≡ tokens_in (fronts_parts l.fronts.items);
   few : l.before ≤ 2000;
-  run : Replaced (RunsAt (site_of l.config l.maps) l.left) (tokens_in l.front.items) done l.work l.fn.values.macros (Ok (record { tokens = reverse l.back.items; work = l.now_work; macros = l.values.macros }));
-  grew : l.work ≤ l.now_work;
-  work : l.now_work ≤ 10000;
+  run : Replaced (RunsAt (site_of l.config l.maps) l.left) (tokens_in (fronts_parts l.fronts.items)) done l.work l.fn.values.macros (Ok (record { tokens = l.now.tokens; work = l.now.work; macros = l.values.macros }));
+  grew : l.work ≤ l.now.work;
+  work : l.now.work ≤ 10000;
   operators : l.values.operators ≡ l.fn.values.operators;
   settled : l.values.after ≡ l.values.macros;
 }
 
-abbrev pub decreases-replace-parts : goal.decreases-replace-parts
-decreases-replace-parts l = length l.front.items
+abbrev pub decreases-replace-calls : goal.decreases-replace-calls
+decreases-replace-calls l = length l.fronts.items
