@@ -14,6 +14,7 @@ use Rattle.map_tables.specs.declared.found.Found.{Found}
 use Rattle.map_tables.specs.declared.found.Found.TheVariants.{Value, Absent}
 use Rattle.map_tables.specs.declared.found.MapFault.{MapFault}
 use Rattle.map_tables.specs.declared.found.MapFault.TheVariants.{MapClass as ClassFault, NoSuchMap, NoMemory}
+use Rattle.map_tables.specs.declared.found.MapReply.{MapReply}
 use Rattle.map_tables.specs.declared.hosts.HostLine.{HostLine}
 use Rattle.map_tables.specs.declared.named.Named.{Named}
 use Rattle.map_tables.specs.declared.table.Table.{Table}
@@ -119,6 +120,11 @@ told (Some (Sets value)) = Ok (Value value)
 told (Some Lacks) = Ok Absent
 told (Some Refuses) = Err ClassFault
 
+-- a map's reply, or a fault, as it is told
+abbrev pub found_of : Result MapReply MapFault → Result Found MapFault
+found_of (Ok reply) = Ok reply.found
+found_of (Err fault) = Err fault
+
 -- a look-up tells this, or that there was no memory
 abbrev pub TellsOr : Result Found MapFault → Result Found MapFault → Type 0
 TellsOr wanted (Err NoMemory) = Unit {0}
@@ -133,8 +139,13 @@ abbrev pub with_macro : List ℕ → List (List ℕ) → List (List ℕ × List 
 with_macro name [] macros = without_name name macros
 with_macro name (value ∷ args) macros = with_value name value macros
 
--- the macros after an answer: only a map of the class macro changes one
+-- an answer sets the macro that the key names: only one of a map of the class macro does
+abbrev pub sets_macro : Option Answer → Bool
+sets_macro (Some (Sets value)) = true
+sets_macro _ = false
+
+-- the macros after an answer
 abbrev pub macros_after : Option Answer → List ℕ → List (List ℕ) → List (List ℕ × List ℕ)
     → List (List ℕ × List ℕ)
-macros_after (Some (Sets value)) key args macros = with_macro (macro_name key) args macros
-macros_after _ key args macros = macros
+macros_after answer key args macros =
+    if sets_macro answer then with_macro (macro_name key) args macros else macros

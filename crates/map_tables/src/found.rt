@@ -11,6 +11,13 @@ pub enum Found {
     Absent,
 }
 
+/// What a map says of a key, and whether that sets the macro that the key names.
+#[derive(Drop)]
+pub struct MapReply {
+    pub found: Found,
+    pub sets: bool,
+}
+
 /// Why a look-up has no answer.
 #[derive(Clone, Copy, Debug, PartialEq, Eq, Error)]
 pub enum MapFault {

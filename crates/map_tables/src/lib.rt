@@ -20,7 +20,7 @@ mod table;
 mod texts;
 
 pub use files::{MapFile, wanted};
-pub use found::{Found, MapFault};
+pub use found::{Found, MapFault, MapReply};
 pub use hosts::{HostLine, before_comment};
 pub use law::{each_lookup_is_told, sequence_hands_on};
 pub use maps::{Maps, macro_name};

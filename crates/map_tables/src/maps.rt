@@ -1,6 +1,6 @@
 ghost use Rattle.std.specs.Prelude.{◌≡◌, IfOk, OnOk, OnErr, map};
 ghost use Rattle.std.specs.Option.{option_copied};
-ghost use Rattle.map_tables.specs.Answers.{TellsOr, loaded, macro_name, macros_after, map_answer, told, with_macro};
+ghost use Rattle.map_tables.specs.Answers.{TellsOr, found_of, loaded, macro_name, macros_after, map_answer, sets_macro, told, with_macro};
 ghost use Rattle.map_tables.specs.Hosts.{host_address};
 ghost use Rattle.map_tables.specs.Tables.{table};
 ghost use Rattle.map_tables.specs.inner.MapPlaces.{IsPlaced};
@@ -9,7 +9,7 @@ use crate::answer::Answer;
 use crate::answering::place_answer;
 use crate::host_table::HostTable;
 use crate::texts::first_places;
-use crate::{Found, MapFault, Named, Table};
+use crate::{Found, MapFault, MapReply, Named, Table};
 use mail_base::{Catalog, Config, Macros, MapLine, NoMemory, Seq, Text, TryCopy, without_ends};
 use std::alloc::Global;
 use std::marker::Model;
@@ -80,16 +80,25 @@ impl Maps {
             args.now macros.old) }
         ensures err { OnErr result (macros.new ≡ macros.old) }
     {
-        match self.answer(name, key, args)? {
-            Some(Answer::Finds(value)) => Ok(Found::Value(value)),
-            Some(Answer::Sets(value)) => {
-                set_macro(key, args, macros)?;
-                Ok(Found::Value(value))
-            }
-            Some(Answer::Lacks) => Ok(Found::Absent),
-            Some(Answer::Refuses) => Err(MapFault::MapClass),
-            None => Err(MapFault::NoSuchMap),
+        let reply = self.ask(name, key, args)?;
+        if reply.sets {
+            set_macro(key, args, macros)?;
         }
+        Ok(reply.found)
+    }
+
+    /// The same, with whether it sets the macro that the key names ([`macro_name`]), which is left
+    /// to the caller.
+    pub fn ask(&self, name: &Text, key: &Text, args: &Seq<Text>) -> Result<MapReply, MapFault>
+        ensures answer { TellsOr (told (map_answer self.now name.now key.now args.now))
+            (found_of result) }
+        ensures sets { IfOk result
+            (λ reply. reply.sets ≡ sets_macro (map_answer self.now name.now key.now args.now)) }
+    {
+        let answer = self.answer(name, key, args)?;
+        let sets = sets_macro(&answer);
+        let found = told(answer)?;
+        Ok(MapReply { found, sets })
     }
 
     // What the map of a name answers, if there is one.
@@ -135,6 +144,25 @@ fn places(alloc: Global, maps: &[Table]) -> Result<Catalog<usize>, NoMemory>
         places.set(map.line.name.copy()?, place)?;
     }
     Ok(places)
+}
+
+// How an answer is told.
+fn told(answer: Option<Answer>) -> Result<Found, MapFault>
+    ensures { result ≡ told answer }
+{
+    match answer {
+        Some(Answer::Finds(value)) => Ok(Found::Value(value)),
+        Some(Answer::Sets(value)) => Ok(Found::Value(value)),
+        Some(Answer::Lacks) => Ok(Found::Absent),
+        Some(Answer::Refuses) => Err(MapFault::MapClass),
+        None => Err(MapFault::NoSuchMap),
+    }
+}
+
+fn sets_macro(answer: &Option<Answer>) -> bool
+    ensures { result ≡ sets_macro answer.now }
+{
+    matches!(answer, Some(Answer::Sets(_)))
 }
 
 // Sets the macro that a key names to the first argument, or unsets it where there is none.
