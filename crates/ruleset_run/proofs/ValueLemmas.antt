@@ -1,10 +1,8 @@
 -- The macros of a run, and what their `$&x` stand for.
-use Rattle.std.proofs.Common.{◌≡◌, ◌≢◌, ℕ, List, [], Bool, true, false, Option, Some, None, Ok, Err, bytes_eq, refl, sym, arith, ◌∙◌, ap}
-use Rattle.std.specs.Prelude.{slice_get}
-use Rattle.std.specs.Cmp.Lexicographic.{nat_list_eq_equiv}
+use Rattle.std.proofs.Common.{◌≡◌, ◌≢◌, ℕ, List, [], Bool, true, false, Option, Some, None, Ok, Err, bytes_eq, refl, sym, ◌∙◌, ap}
 use Rattle.std.proofs.lemmas.Slice.Eq.{bytes_eq-Decides}
 use Rattle.mail_base.specs.declared.token.Token.{Token}
-use Rattle.mail_base.specs.Catalogs.{value_at, with_value, without_name, SetsValue}
+use Rattle.mail_base.specs.Catalogs.{value_at, SetsValue}
 use Rattle.addr_tokens.specs.declared.fault.ScanFault.{ScanFault}
 use Rattle.addr_tokens.specs.declared.fault.ScanFault.TheVariants as scans
 use Rattle.addr_tokens.specs.Pieces.{plain}
@@ -13,10 +11,9 @@ use Rattle.addr_tokens.specs.Reader.{outcome_of, tokens_among, tokens_or_fault}
 use Rattle.cf_macros.specs.declared.fault.ExpandFault.{ExpandFault}
 use Rattle.cf_macros.specs.declared.fault.ExpandFault.TheVariants as expands
 use Rattle.cf_macros.specs.Expansion.{value, IsRefused}
-use Rattle.map_tables.specs.Answers.{Loaded, map_answer, macro_name, macros_after}
 use Rattle.ruleset_run.specs.Sites.{Macros}
 use Rattle.ruleset_run.specs.Cutting.{tokens_of, cut, text_of, text_in, late_text, late_tokens}
-use Rattle.ruleset_run.specs.inner.Values.{AreCuts, with_new, probe_of, is_changed}
+use Rattle.ruleset_run.specs.inner.Values.{AreCuts}
 
 -- ---- texts that are cut
 
@@ -75,15 +72,3 @@ cuts_more operators macros name tokens old new are sets is other given at = by (
         let g : given ≡ tokens = cc there in
         g ∙ is ∙ ap (late_tokens operators macros) (sym same)
     by false e = are other given (sym (sets.others other (λ same. absurd (cc (e, (bytes_eq-Decides other name).1 same)))) ∙ at)
-
--- ---- whether a look-up changes a macro
-
-probe_unset : (name : List ℕ) → without_name name (with_value name name []) ≡ []
-probe_unset name = let r = nat_list_eq_equiv.refl name in grind (arith, r)
-
-module _ (loaded : Loaded) (name key : List ℕ) (args : List (List ℕ)) (macros : Macros) where
-  pub not_changed : is_changed (macros_after (map_answer loaded name key args) key args (probe_of (macro_name key) args)) args ≡ false → macros_after (map_answer loaded name key args) key args macros ≡ macros
-  not_changed e = let u = probe_unset (macro_name key) in grind (arith, u, e)
-
-  pub changed : is_changed (macros_after (map_answer loaded name key args) key args (probe_of (macro_name key) args)) args ≡ true → macros_after (map_answer loaded name key args) key args macros ≡ with_new (macro_name key) (slice_get args 0) macros
-  changed e = let u = probe_unset (macro_name key) in grind (arith, u, e)

@@ -1,7 +1,7 @@
-ghost use Rattle.std.specs.Prelude.{◌≡◌, ◌<◌, IfOk, OnOk, OnErr, fold, is_some, slice_get};
-ghost use Rattle.map_tables.specs.Answers.{TellsOr, macro_name, macros_after, map_answer, told};
+ghost use Rattle.std.specs.Prelude.{◌≡◌, ◌<◌, IfOk, OnOk, OnErr, fold, is_some};
+ghost use Rattle.map_tables.specs.Answers.{TellsOr, macro_name, macros_after, map_answer, told, with_macro};
 ghost use Rattle.ruleset_run.specs.Cutting as spec;
-ghost use Rattle.ruleset_run.specs.inner.Values.{current, is_changed, lates, probe_of, with_change, with_new};
+ghost use Rattle.ruleset_run.specs.inner.Values.{current, lates, with_change, with_new};
 
 use addr_tokens::{ScanFault, computed, tokens};
 use cf_macros::{ExpandFault, expand};
@@ -128,25 +128,23 @@ impl<'a> Values<'a> {
             }) }
         ensures same { OnErr result (self.new ≡ self.old) }
     {
-        let name = Text::of(self.allocator(), macro_name(key.bytes()))?;
-        let mut probe = probe_of(&name, args)?;
-        let found = maps.lookup(map, key, args, &mut probe)?;
-        if !is_changed(&probe, args) {
-            return Ok(found);
+        let reply = maps.ask(map, key, args)?;
+        if reply.sets {
+            self.change(key, args)?;
         }
-        self.change(name, args)?;
-        Ok(found)
+        Ok(reply.found)
     }
 
-    // The first argument is the macro's value, which isn't set where there is none; it waits.
-    fn change(&mut self, name: Text, args: &Seq<Text>) -> Result<(), NoMemory>
+    // The macro that a key names has the first argument as its value, and isn't set where there is
+    // none; it waits.
+    fn change(&mut self, key: &Text, args: &Seq<Text>) -> Result<(), NoMemory>
         ensures ok { OnOk result
             (self.new ≡ record self.old {
-              after = with_new name (slice_get args.now 0)
-                  self.old.after;
+              after = with_macro (macro_name key.now) args.now self.old.after;
             }) }
         ensures err { OnErr result (self.new ≡ self.old) }
     {
+        let name = Text::of(self.allocator(), macro_name(key.bytes()))?;
         let value = match args.get(0) {
             Some(value) => Some(value.copy()?),
             None => None,
@@ -239,27 +237,5 @@ fn cut(alloc: Global, text: &Text, operators: &Text) -> Result<Option<Seq<Token>
             ScanFault::NoMemory => Err(NoMemory),
             _ => Ok(None),
         },
-    }
-}
-
-// Macros that show whether a look-up changes the one of this name.
-fn probe_of(name: &Text, args: &Seq<Text>) -> Result<Macros, NoMemory>
-    ensures { IfOk result (λ macros. macros ≡ probe_of name.now args.now) }
-{
-    let mut probe = Macros::new(name.allocator());
-    if args.is_empty() {
-        probe.set(name, name)?;
-    }
-    Ok(probe)
-}
-
-// Whether a look-up with these arguments has changed them.
-fn is_changed(probe: &Macros, args: &Seq<Text>) -> bool
-    ensures { result ≡ is_changed probe.now args.now }
-{
-    if args.is_empty() {
-        probe.values().is_empty()
-    } else {
-        !probe.values().is_empty()
     }
 }

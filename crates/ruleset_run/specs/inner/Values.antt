@@ -1,5 +1,5 @@
 -- The macros of a run, as it keeps them.
-use Rattle.std.specs.Prelude.{◌≡◌, ℕ, List, [], ◌∷◌, Bool, true, false, not, Option, Some, None}
+use Rattle.std.specs.Prelude.{◌≡◌, ℕ, List, Option, Some, None}
 use Rattle.mail_base.specs.declared.token.Token.{Token}
 use Rattle.mail_base.specs.Catalogs.{value_at, with_value, without_name}
 use Rattle.ruleset_run.specs.declared.values.Change.{Change}
@@ -34,18 +34,3 @@ with_change macros change = with_new change.name change.value macros
 abbrev pub AreCuts : List ℕ → Macros → List (List ℕ × Option (List Token)) → Type 0
 AreCuts operators macros cuts = (name : List ℕ) (tokens : Option (List Token))
     → value_at name cuts ≡ Some tokens → tokens ≡ late_tokens operators macros name
-
--- macros that show whether a look-up changes one: that of the name is set where a change would
--- unset it
-abbrev pub probe_of : List ℕ → List (List ℕ) → Macros
-probe_of name [] = with_value name name []
-probe_of name (value ∷ args) = []
-
-abbrev pub is_none : Macros → Bool
-is_none [] = true
-is_none (pair ∷ macros) = false
-
--- whether a look-up with these arguments has changed them
-abbrev pub is_changed : Macros → List (List ℕ) → Bool
-is_changed probe [] = is_none probe
-is_changed probe (value ∷ args) = not (is_none probe)
