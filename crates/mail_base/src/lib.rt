@@ -38,105 +38,49 @@ mod token;
 mod try_copy;
 mod word;
 
-pub use book::Book;
-pub use buckets::Buckets;
-pub use byte::blanked;
-pub use byte::is_blank;
-pub use byte::is_white;
-pub use catalog::Catalog;
-pub use class::Member;
-pub use classes::Classes;
-pub use command::Command;
-pub use command::LineFault;
-pub use command::Verb;
-pub use config::Config;
-pub use control::Control;
-pub use control::Draft;
-pub use control::Entry;
-pub use control::Parent;
-pub use control::Row;
-pub use control::State;
-pub use control::Stray;
-pub use cutting::copy_front;
-pub use cutting::push_words;
-pub use cutting::split_line;
-pub use cutting::texts_of;
-pub use cutting::without_quotes;
-pub use cutting::without_return;
-pub use cutting::words;
-pub use cutting::words_of;
-pub use draw::Draw;
-pub use draw::Draws;
-pub use ends::stripped;
-pub use ends::trimmed;
-pub use ends::whites_length;
-pub use ends::without_angles;
-pub use ends::without_blanks;
-pub use ends::without_ends;
-pub use ends::without_whites;
-pub use ends::word_length;
-pub use fault::EdgeFault;
-pub use fault::Failed;
-pub use fault::JudgeFault;
-pub use fault::NoMemory;
-pub use fault::StoreFault;
-pub use id::Id;
-pub use id::Kind;
-pub use id::Name;
-pub use limits::MOST_COMMAND;
-pub use limits::MOST_DOMAIN;
-pub use limits::MOST_HEADERS;
-pub use limits::MOST_LINE;
-pub use limits::MOST_LOCAL_PART;
-pub use limits::MOST_MESSAGE;
-pub use limits::MOST_PATH;
-pub use limits::MOST_PIECE;
-pub use limits::MOST_RECIPIENTS;
-pub use limits::MOST_REPLY_LINE;
-pub use limits::MOST_REPLY_LINES;
-pub use limits::MOST_ROWS;
-pub use limits::MOST_SESSIONS;
-pub use lines::HeaderLine;
-pub use lines::MapClass;
-pub use lines::MapLine;
-pub use lines::Precedence;
-pub use macros::Macros;
-pub use mailer::Group;
-pub use mailer::Mailer;
-pub use mask::mask_of;
-pub use message::Back;
-pub use message::Cut;
-pub use message::Kept;
-pub use message::Marks;
-pub use message::Message;
-pub use message::Split;
+// Bytes, texts and lists.
+pub use byte::{blanked, is_blank, is_white};
+pub use cutting::{
+    copy_front, push_words, split_line, texts_of, without_quotes, without_return, words, words_of,
+};
+pub use ends::{
+    stripped, trimmed, whites_length, without_angles, without_blanks, without_ends, without_whites,
+    word_length,
+};
+pub use id::{Id, Kind, Name};
 pub use note::Note;
-pub use options::DaemonPort;
-pub use options::Options;
-pub use outcome::Outcomes;
-pub use outcome::Result1;
-pub use places::Named;
-pub use places::Places;
-pub use route::Cause;
-pub use route::Resolved;
-pub use route::RouteError;
-pub use route::Triple;
-pub use rule::Go;
-pub use rule::Item;
-pub use rule::Lookup;
-pub use rule::Numbered;
-pub use rule::Pattern;
-pub use rule::Piece;
-pub use rule::Query;
-pub use rule::Rule;
-pub use rule::RuleSet;
-pub use rule::Step;
-pub use rule::Template;
-pub use script::Script;
 pub use seq::Seq;
 pub use status::Status;
 pub use text::Text;
-pub use token::Mark;
-pub use token::Token;
 pub use try_copy::TryCopy;
 pub use word::Word;
+
+// The configuration: rules, classes, maps and options.
+pub use book::Book;
+pub use buckets::Buckets;
+pub use catalog::Catalog;
+pub use class::Member;
+pub use classes::Classes;
+pub use config::Config;
+pub use lines::{HeaderLine, MapClass, MapLine, Precedence};
+pub use macros::Macros;
+pub use mailer::{Group, Mailer};
+pub use mask::mask_of;
+pub use options::{DaemonPort, Options};
+pub use places::{Named, Places};
+pub use rule::{Go, Item, Lookup, Numbered, Pattern, Piece, Query, Rule, RuleSet, Step, Template};
+pub use token::{Mark, Token};
+
+// Mail, the queue, and what may fail.
+pub use command::{Command, LineFault, Verb};
+pub use control::{Control, Draft, Entry, Parent, Row, State, Stray};
+pub use draw::{Draw, Draws};
+pub use fault::{EdgeFault, Failed, JudgeFault, NoMemory, StoreFault};
+pub use limits::{
+    MOST_COMMAND, MOST_DOMAIN, MOST_HEADERS, MOST_LINE, MOST_LOCAL_PART, MOST_MESSAGE, MOST_PATH,
+    MOST_PIECE, MOST_RECIPIENTS, MOST_REPLY_LINE, MOST_REPLY_LINES, MOST_ROWS, MOST_SESSIONS,
+};
+pub use message::{Back, Cut, Kept, Marks, Message, Split};
+pub use outcome::{Outcomes, Result1};
+pub use route::{Cause, Resolved, RouteError, Triple};
+pub use script::Script;
