@@ -1,4 +1,4 @@
-ghost use Rattle.std.specs.Prelude.{◌≡◌, ◌<◌, ◌∷◌, ◌++◌, length, map, min, take, IfOk, OnOk};
+ghost use Rattle.std.specs.Prelude.{◌≡◌, ◌≤◌, ◌<◌, ◌∷◌, ◌++◌, length, map, min, take, IfOk, OnOk};
 ghost use Rattle.std.specs.Str.Lines.{lines, strip_carriage_return};
 ghost use Rattle.mail_base.specs.Texts.{without_quotes};
 ghost use Rattle.mail_base.specs.Words.{words_of};
@@ -28,6 +28,19 @@ pub fn without_return(line: &[u8]) -> &[u8]
         &line[..line.len() - 1]
     } else {
         line
+    }
+}
+
+/// The first bytes of a text, at most so many.
+#[tactic(auto, using(std::proofs::lemmas::List::take_all))]
+pub fn first_bytes(bytes: &[u8], most: usize) -> &[u8]
+    ensures bytes { result.now ≡ take most bytes.now }
+    ensures short { length result.now ≤ most }
+{
+    if bytes.len() > most {
+        &bytes[..most]
+    } else {
+        bytes
     }
 }
 

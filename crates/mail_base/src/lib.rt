@@ -41,7 +41,8 @@ mod word;
 // Bytes, texts and lists.
 pub use byte::{blanked, is_blank, is_white};
 pub use cutting::{
-    copy_front, push_words, split_line, texts_of, without_quotes, without_return, words, words_of,
+    copy_front, first_bytes, push_words, split_line, texts_of, without_quotes, without_return,
+    words, words_of,
 };
 pub use ends::{
     stripped, trimmed, whites_length, without_angles, without_blanks, without_ends, without_whites,

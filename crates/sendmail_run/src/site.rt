@@ -1,10 +1,10 @@
-ghost use Rattle.std.specs.Prelude.{◌≡◌, take, IfOk};
+ghost use Rattle.std.specs.Prelude.{◌≡◌, IfOk};
 ghost use Rattle.queue_table.specs.Calls.{AreDirs};
 ghost use Rattle.queue_table.specs.Directories.{all_dirs, terms_of};
 ghost use Rattle.sendmail_run.specs.Serving as spec;
 
 use cf_macros::{ExpandFault, expand};
-use mail_base::{Config, Macros, NoMemory, Seq, Text};
+use mail_base::{Config, Macros, NoMemory, Seq, Text, first_bytes};
 use queue_table::Terms;
 use std::alloc::Global;
 
@@ -17,19 +17,9 @@ pub fn host_of(alloc: Global, macros: &Macros) -> Result<Text, NoMemory>
 {
     let name = Text::of(alloc, b"$j")?;
     match expand(alloc, &name, macros) {
-        Ok(host) => Text::of(alloc, shortened(host.bytes())),
+        Ok(host) => Text::of(alloc, first_bytes(host.bytes(), MOST_HOST)),
         Err(ExpandFault::NoMemory) => Err(NoMemory),
         Err(_) => Ok(Text::new(alloc)),
-    }
-}
-
-fn shortened(host: &[u8]) -> &[u8]
-    ensures { result.now ≡ take 255 host.now }
-{
-    if host.len() <= MOST_HOST {
-        host
-    } else {
-        &host[..MOST_HOST]
     }
 }
 

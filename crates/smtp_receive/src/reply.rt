@@ -1,4 +1,4 @@
-ghost use Rattle.std.specs.Prelude.{◌≡◌, ◌≤◌, ◌++◌, take, IfOk, OnOk, codes};
+ghost use Rattle.std.specs.Prelude.{◌≡◌, ◌≤◌, ◌++◌, IfOk, OnOk, codes};
 ghost use Rattle.std.specs.Fmt.{decimal};
 ghost use Rattle.mail_base.specs.Texts.{crlf};
 ghost use Rattle.smtp_receive.specs.Replies.{code_text, extended_text, grant_text, out_of_memory_text, refusal_text, text_of, too_many_sessions_text, words_of};
@@ -164,16 +164,4 @@ fn push_number(text: &mut Text, number: u64) -> Result<(), NoMemory>
 {
     let digits = format!(in text.allocator(); "{number}")?;
     text.extend(digits.as_bytes())
-}
-
-/// The first bytes of a text, or all where it has fewer.
-#[tactic(auto, using(crate::proofs::ReplyLemmas::take_short))]
-pub(crate) fn first(bytes: &[u8], most: usize) -> &[u8]
-    ensures { result.now ≡ take most bytes.now }
-{
-    if bytes.len() > most {
-        &bytes[..most]
-    } else {
-        bytes
-    }
 }

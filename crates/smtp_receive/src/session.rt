@@ -10,9 +10,10 @@ ghost use Rattle.mail_base.specs.declared.config.Config.{Config as Configuration
 use crate::did::Did;
 use crate::judge::Judge;
 use crate::path::Path;
-use crate::reply::{first, host_text};
+use crate::reply::host_text;
 use mail_base::{
     Config, Draw, Id, JudgeFault, Kept, Kind, MOST_DOMAIN, NoMemory, Seq, Text, TryCopy,
+    first_bytes,
 };
 use mail_header::Gathering;
 use smtp_lines::Line;
@@ -164,5 +165,5 @@ fn first_kept(alloc: Global, peer: &Text) -> Result<Kept, NoMemory>
 fn shown(host: &[u8]) -> &[u8]
     ensures { result.now ≡ shown_host host.now }
 {
-    first(host, MOST_DOMAIN)
+    first_bytes(host, MOST_DOMAIN)
 }
