@@ -2,6 +2,7 @@
 -- Group": the first byte of a field's name counts).
 use Rattle.std.specs.Prelude.{◌≡◌, ℕ, max, Bool, true, false, ◌==◌, if◌then◌else◌, is_none, fold, List, [], ◌∷◌, Option, None, Some, codes, refl}
 use Rattle.std.specs.List.{list_any}
+use Rattle.mail_base.specs.Configs.{new_group}
 use Rattle.mail_base.specs.declared.mailer.Group.{Group}
 use Rattle.cf_values.specs.Times.{rest_value}
 use Rattle.cf_reader.specs.declared.fault.Fault.{Fault}
@@ -38,8 +39,7 @@ is_bad_field field = is_bad_value (group_field (letter_of field)) field.value
 
 -- the group before any field; an empty path stands for the queue directory
 abbrev pub first_group : List ℕ → Group
-first_group name =
-    record { name = name; path = []; recipients = 0; runners = 1; interval = None; jobs = 0 }
+first_group name = new_group name []
 
 -- a group whose field is set; 0 runners are one
 abbrev pub with_group_value : Option GroupField → List ℕ → Group → Group

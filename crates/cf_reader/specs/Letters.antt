@@ -4,7 +4,7 @@
 use Rattle.std.specs.Prelude.{ℕ, Bool, true, false, ◌||◌, ◌&&◌, ◌==◌, not, List, [], ◌∷◌, ◌++◌, bytes_eq, codes, Option, Some, None, is_some, if◌then◌else◌}
 use Rattle.std.specs.Str.{str_to_ascii_lowercase}
 use Rattle.mail_base.specs.Catalogs.{value_at, with_value}
-use Rattle.mail_base.specs.Configs.{initial, main_group, host_map}
+use Rattle.mail_base.specs.Configs.{initial, host_map, new_group}
 use Rattle.mail_base.specs.declared.config.Config.{Config}
 use Rattle.mail_base.specs.declared.lines.HeaderLine.{HeaderLine}
 use Rattle.mail_base.specs.declared.mailer.Group.{Group}
@@ -31,7 +31,7 @@ use Rattle.cf_reader.specs.SetLines.{set_names, begun, with_rule_of}
 
 -- the group mqueue, whose path is settled at the end
 abbrev pub unplaced_group : Group
-unplaced_group = record main_group { path = [] }
+unplaced_group = new_group (codes "mqueue") []
 
 -- the configuration before the first line: the default options, and the group mqueue
 abbrev pub first_config : Config

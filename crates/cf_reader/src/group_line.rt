@@ -82,14 +82,8 @@ fn group_of(alloc: Global, name: &[u8], fields: &[Field]) -> Result<Group, NoMem
 fn first_group(alloc: Global, name: &[u8]) -> Result<Group, NoMemory>
     ensures { IfOk result (λ group. group ≡ spec.first_group name.now) }
 {
-    Ok(Group {
-        name: Text::of(alloc, name)?,
-        path: Text::new(alloc),
-        recipients: 0,
-        runners: 1,
-        interval: None,
-        jobs: 0,
-    })
+    let name = Text::of(alloc, name)?;
+    Ok(Group::new(name, Text::new(alloc)))
 }
 
 fn set_field(group: &mut Group, field: &Field) -> Result<(), NoMemory>

@@ -101,14 +101,7 @@ fn unplaced_group(alloc: Global) -> Result<Group, NoMemory>
     ensures { IfOk result (λ group. group ≡ spec.unplaced_group) }
 {
     let name = Text::of(alloc, b"mqueue")?;
-    Ok(Group {
-        name,
-        path: Text::new(alloc),
-        recipients: 0,
-        runners: 1,
-        interval: None,
-        jobs: 0,
-    })
+    Ok(Group::new(name, Text::new(alloc)))
 }
 
 fn first_lines(alloc: Global) -> Result<Seq<ClassLine>, NoMemory>

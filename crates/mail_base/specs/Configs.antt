@@ -48,16 +48,14 @@ default_options = record {
   double_bounce_address = codes "postmaster";
 }
 
+-- a queue group of which no more is said than its name and its directory
+abbrev pub new_group : List ℕ → List ℕ → Group
+new_group name path =
+    record { name = name; path = path; recipients = 0; runners = 1; interval = None; jobs = 0 }
+
 -- the group that is there from the start, in the queue directory
 abbrev pub main_group : Group
-main_group = record {
-  name = codes "mqueue";
-  path = default_options.queue_directory;
-  recipients = 0;
-  runners = 1;
-  interval = None;
-  jobs = 0;
-}
+main_group = new_group (codes "mqueue") default_options.queue_directory
 
 -- the map that is there from the start: a name that is found gets a dot
 abbrev pub host_map : MapLine

@@ -126,14 +126,9 @@ fn first_groups(alloc: Global) -> Result<Catalog<Group>, NoMemory>
 fn main_group(alloc: Global) -> Result<Group, NoMemory>
     ensures { IfOk result (λ group. group ≡ main_group) }
 {
-    Ok(Group {
-        name: Text::of(alloc, b"mqueue")?,
-        path: Text::of(alloc, QUEUE_DIRECTORY)?,
-        recipients: 0,
-        runners: 1,
-        interval: None,
-        jobs: 0,
-    })
+    let name = Text::of(alloc, b"mqueue")?;
+    let path = Text::of(alloc, QUEUE_DIRECTORY)?;
+    Ok(Group::new(name, path))
 }
 
 fn first_maps(alloc: Global) -> Result<Seq<MapLine>, NoMemory>

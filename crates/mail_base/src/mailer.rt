@@ -1,3 +1,6 @@
+ghost use Rattle.std.specs.Prelude.{◌≡◌};
+ghost use Rattle.mail_base.specs.Configs.{new_group};
+
 use crate::{NoMemory, Seq, Text, TryCopy};
 
 /// A mailer, as an M line declares it.
@@ -61,6 +64,22 @@ pub struct Group {
     pub interval: Option<u64>,
     /// The most entries of one queue run; 0 is no limit.
     pub jobs: u64,
+}
+
+impl Group {
+    /// The group of a name and a directory, of which no more is said.
+    pub fn new(name: Text, path: Text) -> Group
+        ensures { result ≡ new_group name path }
+    {
+        Group {
+            name,
+            path,
+            recipients: 0,
+            runners: 1,
+            interval: None,
+            jobs: 0,
+        }
+    }
 }
 
 impl TryCopy for Mailer {
