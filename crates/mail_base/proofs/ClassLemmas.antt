@@ -10,10 +10,10 @@ use Rattle.std.proofs.lemmas.Map.Keys.{IsDistinct-head, IsDistinct-tail}
 use Rattle.std.proofs.lemmas.List.Folds.{list_any-append}
 use Rattle.std.proofs.Math.Bool.{or-false}
 use Rattle.indexmap.specs.IndexSet.{insert_key}
-use Rattle.mail_base.specs.Masks.{head_places, heads_from, heads_of, with_places}
+use Rattle.mail_base.specs.Masks.{head_places, heads, heads_of, with_place, with_places}
 use Rattle.mail_base.specs.Classes.{longest_from, longest_phrase, phrase_length, same_member, with_members}
 use Rattle.mail_base.specs.Tokens.{same_token, same_tokens}
-use Rattle.mail_base.specs.inner.Phrases.{Keeps, is_among}
+use Rattle.mail_base.specs.inner.Phrases.{Keeps, heads_from, is_among}
 use Rattle.mail_base.specs.inner.TokenLaws.{same_equiv}
 use Rattle.mail_base.specs.declared.class.Member.{Member}
 use Rattle.mail_base.specs.declared.token.Token.{Token}
@@ -87,6 +87,13 @@ grown step old new least from keeps is was =
 pub longest_grown : (old new : List Member) (least from : ℕ) → Keeps old new → from ≡ length old → least ≡ longest_phrase old → longest_from least (drop from new) ≡ longest_phrase new
 longest_grown = grown (λ most member. max most (phrase_length member.tokens))
 
+-- the places of the first tokens, put in member by member, are all of them
+heads_by : (members : List Member) (mask : ℕ) → heads_from mask members ≡ with_places mask (heads members)
+heads_by [] mask = refl
+heads_by (member ∷ members) mask =
+    heads_by members (with_places mask (head_places member.tokens)) ∙ sym (fold-append with_place mask (head_places member.tokens) (heads members))
+
 -- and so are the places of the first tokens
 pub heads_grown : (old new : List Member) (mask from : ℕ) → Keeps old new → from ≡ length old → mask ≡ heads_of old → heads_from mask (drop from new) ≡ heads_of new
-heads_grown = grown (λ m member. with_places m (head_places member.tokens))
+heads_grown old new mask from keeps is was =
+    grown (λ m member. with_places m (head_places member.tokens)) old new mask from keeps is (was ∙ sym (heads_by old 0)) ∙ heads_by new 0

@@ -1,31 +1,23 @@
 -- What a left side wants of the tokens that it matches, as bits of a word (our own): each token has
 -- one of 64 places, and so have each two that stand side by side, and the ends of the list.
 use Rattle.std.specs.Prelude.{◌≡◌, ℕ, ◌+◌, ◌*◌, ◌%◌, ◌^◌, ◌≤◌, ◌<◌, List, [], ◌∷◌, ◌++◌, Bool, true, false, ◌==◌, Option, None, Some, bit_and, bit_or, fold, length, slice_get, codes, if◌then◌else◌, refl}
-use Rattle.std.specs.List.{list_any}
+use Rattle.std.specs.List.{flat_map, list_any}
 use Rattle.mail_base.specs.Metas.{is_late}
 use Rattle.mail_base.specs.Texts.{text_place}
+use Rattle.mail_base.specs.Tokens.{mark_number}
 use Rattle.mail_base.specs.declared.rule.Item.{Item}
 use Rattle.mail_base.specs.declared.rule.Item.TheVariants.{Any, Empty, Exact}
 use Rattle.mail_base.specs.declared.rule.Rule.{Rule}
 use Rattle.mail_base.specs.declared.class.Member.{Member}
-use Rattle.mail_base.specs.declared.token.Mark.{Mark}
-use Rattle.mail_base.specs.declared.token.Mark.TheVariants.{Alt, Mailer, Host, User, End}
 use Rattle.mail_base.specs.declared.token.Token.{Token}
 use Rattle.mail_base.specs.declared.token.Token.TheVariants.{Word, Quoted, Op, Sign}
-
-abbrev pub mark_place : Mark → ℕ
-mark_place Alt = 24
-mark_place Mailer = 25
-mark_place Host = 26
-mark_place User = 27
-mark_place End = 28
 
 -- the place of a token; the same tokens have the same
 abbrev pub place_of : Token → ℕ
 place_of (Word text) = text_place text
 place_of (Quoted text) = text_place text
 place_of (Op byte) = text_place (byte ∷ [])
-place_of (Sign mark) = mark_place mark
+place_of (Sign mark) = 24 + mark_number mark
 
 -- the place of two neighbours, by theirs, and what stands for an end of the list as a neighbour
 abbrev pub pair_place : ℕ → ℕ → ℕ
@@ -95,16 +87,17 @@ head_places None = []
 head_places (Some []) = []
 head_places (Some (token ∷ tokens)) = place_of token ∷ []
 
--- the places of the first tokens of members
-abbrev pub heads_from : ℕ → List Member → ℕ
-heads_from mask members =
-    fold (λ m member. with_places m (head_places member.tokens)) mask members
+-- the places of the first tokens of members, and the mask of those
+abbrev pub heads : List Member → List ℕ
+heads members = flat_map (λ member. head_places member.tokens) members
 
 abbrev pub heads_of : List Member → ℕ
-heads_of members = heads_from 0 members
+heads_of members = with_places 0 (heads members)
 
 example :
     (covers (mask_of (Word (codes "ann") ∷ Op 64 ∷ Word (codes "mx") ∷ []))
     (wanted_mask (Any ∷ Exact (Op 64) ∷ Exact (Word (codes "MX")) ∷ [])) ≡ true)
+    × (covers (mask_of (Word (codes "ann") ∷ Op 64 ∷ Word (codes "mx") ∷ []))
+    (wanted_mask (Any ∷ Exact (Op 33) ∷ Any ∷ [])) ≡ false)
     × (wanted_mask (Empty ∷ []) ≡ mask_of [])
-example = (refl, refl)
+example = (refl, refl, refl)

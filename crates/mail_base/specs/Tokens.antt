@@ -1,12 +1,20 @@
 -- When two tokens are the same (Sendmail Installation and Operation Guide, R and S: rewriting
 -- rules).
-use Rattle.std.specs.Prelude.{List, [], ◌∷◌, Bool, true, false}
+use Rattle.std.specs.Prelude.{ℕ, List, [], ◌∷◌, Bool, true, false}
 use Rattle.std.specs.Cmp.Lexicographic.{pointwise}
 use Rattle.std.specs.Str.{str_eq_ignore_ascii_case}
 use Rattle.mail_base.specs.declared.token.Mark.{Mark}
 use Rattle.mail_base.specs.declared.token.Mark.TheVariants.{Alt, Mailer, Host, User, End}
 use Rattle.mail_base.specs.declared.token.Token.{Token}
 use Rattle.mail_base.specs.declared.token.Token.TheVariants.{Word, Quoted, Op, Sign}
+
+-- the number of a sign
+abbrev pub mark_number : Mark → ℕ
+mark_number Alt = 0
+mark_number Mailer = 1
+mark_number Host = 2
+mark_number User = 3
+mark_number End = 4
 
 abbrev pub same_mark : Mark → Mark → Bool
 same_mark Alt Alt = true

@@ -4,9 +4,9 @@ ghost use Rattle.std.specs.Cmp.Lexicographic.{nat_list_eq_equiv};
 ghost use Rattle.std.specs.Hash as fed;
 ghost use Rattle.mail_base.specs.Classes.{is_cut_into, is_phrase, longest_phrase, with_member, with_members};
 ghost use Rattle.mail_base.specs.Classes as spec;
-ghost use Rattle.mail_base.specs.Masks as masks;
 ghost use Rattle.mail_base.specs.Masks.{head_places, heads_of, with_places};
 ghost use Rattle.mail_base.specs.inner.Phrases.{HasPhrases, Keeps, is_among};
+ghost use Rattle.mail_base.specs.inner.Phrases as inside;
 
 use crate::mask::with_place;
 use crate::{NoMemory, Seq, Text, Token, TryCopy};
@@ -155,7 +155,7 @@ impl Class {
 
 // The bits of the first tokens of members besides these.
 fn heads_from(mask: u64, members: &[Member]) -> u64
-    ensures { result ≡ masks.heads_from mask members.now }
+    ensures { result ≡ inside.heads_from mask members.now }
 {
     members
         .iter()

@@ -4,7 +4,7 @@ ghost use Rattle.mail_base.specs.Texts.{text_place};
 ghost use Rattle.mail_base.specs.Masks as spec;
 ghost use Rattle.mail_base.specs.Masks.{edge, pair_places, wanted_from, with_places};
 
-use crate::{Item, Mark, Token};
+use crate::{Item, Token};
 
 /// What stands for an end of a list as a neighbour.
 const EDGE: u32 = 40;
@@ -95,19 +95,5 @@ pub(crate) fn text_place(text: &[u8]) -> u32
             ((usize::from(first.to_ascii_lowercase()) + rest.len()) % 64) as u32
         }
         None => 0,
-    }
-}
-
-/// The place of a sign.
-pub(crate) fn mark_place(mark: Mark) -> u32
-    ensures value { result ≡ spec.mark_place mark }
-    ensures within { result < 64 }
-{
-    match mark {
-        Mark::Alt => 24,
-        Mark::Mailer => 25,
-        Mark::Host => 26,
-        Mark::User => 27,
-        Mark::End => 28,
     }
 }

@@ -4,10 +4,10 @@ ghost use Rattle.std.specs.Hash as fed;
 ghost use Rattle.std.specs.List.{flat_map};
 ghost use Rattle.std.specs.Str.{str_to_ascii_lowercase};
 ghost use Rattle.mail_base.specs.Masks.{place_of};
-ghost use Rattle.mail_base.specs.Tokens.{same_token, same_mark};
-ghost use Rattle.mail_base.specs.inner.TokenLaws.{same_equiv, fed_token, fed_alike, mark_number};
+ghost use Rattle.mail_base.specs.Tokens.{mark_number, same_token, same_mark};
+ghost use Rattle.mail_base.specs.inner.TokenLaws.{same_equiv, fed_token, fed_alike};
 
-use crate::mask::{mark_place, text_place};
+use crate::mask::text_place;
 use crate::{NoMemory, TryCopy, Word};
 use std::hash::{Hash, Hasher};
 
@@ -48,7 +48,7 @@ impl Token {
         match self {
             Token::Word(word) | Token::Quoted(word) => word.place(),
             Token::Op(byte) => text_place(&[*byte]),
-            Token::Sign(mark) => mark_place(*mark),
+            Token::Sign(mark) => 24 + u32::from(number_of(*mark)),
         }
     }
 }
@@ -111,7 +111,8 @@ fn hash_folded<H: Hasher>(kind: u8, bytes: &[u8], state: &mut H)
 }
 
 fn number_of(mark: Mark) -> u8
-    ensures { result ≡ mark_number mark }
+    ensures value { result ≡ mark_number mark }
+    ensures few { result < 5 }
 {
     match mark {
         Mark::Alt => 0,

@@ -1,91 +1,25 @@
 -- What fits a `$=x` begins with the first token of a member, so that both masks have its place.
-use Rattle.std.proofs.Common.{◌≡◌, ℕ, zero, suc, ◌+◌, ◌^◌, ◌%◌, ◌==◌, List, [], ◌∷◌, length, take, drop, Bool, true, false, not, Option, None, Some, bit_and, refl, sym, ap, ◌∙◌, subst, arith}
+use Rattle.std.proofs.Common.{◌≡◌, ℕ, zero, suc, ◌+◌, ◌^◌, ◌==◌, List, [], ◌∷◌, take, drop, Bool, true, false, not, Option, None, Some, bit_and, refl, sym, ap, ◌∙◌, subst, arith}
 use Rattle.std.specs.Prelude.{◌||◌}
-use Rattle.std.specs.Char.{to_ascii_lowercase}
 use Rattle.std.specs.Int.{bit_at}
 use Rattle.std.specs.List.{list_all}
-use Rattle.std.specs.Str.{str_eq_ignore_ascii_case, str_to_ascii_lowercase}
-use Rattle.std.specs.Cmp.Lexicographic.{bytes_decides}
 use Rattle.std.proofs.lemmas.Bool.{and_parts, and_from, true≢false, both_ways, eqb-true}
-use Rattle.std.proofs.lemmas.List.{drop-drop, length-map}
+use Rattle.std.proofs.lemmas.List.{drop-drop}
+use Rattle.std.proofs.lemmas.List.Sums.{fold-append}
 use Rattle.std.proofs.lemmas.Nat.Bits.{bit_at-zero, bit_at_and, bit_at_or, bit_at-pow_same, bit_at-lt}
+use Rattle.mail_base.proofs.TokenPlaces.{same_place}
 use Rattle.mail_base.specs.Catalogs.{value_at, members_of}
 use Rattle.mail_base.specs.Classes.{is_cut_into, is_phrase}
-use Rattle.mail_base.specs.Masks.{place_of, pair_place, places_from, mask_of, with_place, with_places, head_places, heads_from, heads_of, edge}
-use Rattle.mail_base.specs.Texts.{text_place}
-use Rattle.mail_base.specs.Tokens.{same_mark, same_token, same_tokens}
+use Rattle.mail_base.specs.Masks.{place_of, pair_place, places_from, mask_of, with_place, with_places, head_places, heads, heads_of, edge}
+use Rattle.mail_base.specs.Tokens.{same_token, same_tokens}
 use Rattle.mail_base.specs.declared.class.Member.{Member}
 use Rattle.mail_base.specs.declared.classes.Classes.{Classes}
 use Rattle.mail_base.specs.declared.rule.Item.{Item}
 use Rattle.mail_base.specs.declared.rule.Item.TheVariants.{Any, More, One, Empty, InClass, NotInClass, Exact, Late}
-use Rattle.mail_base.specs.declared.token.Mark.{Mark}
-use Rattle.mail_base.specs.declared.token.Mark.TheVariants.{Alt, Mailer, Host, User, End}
 use Rattle.mail_base.specs.declared.token.Token.{Token}
-use Rattle.mail_base.specs.declared.token.Token.TheVariants.{Word, Quoted, Op, Sign}
 use Rattle.rule_match.specs.Choices.{Fits}
 use Rattle.rule_match.specs.Wants.{Phrase, want, wants, lists_after, meets}
 use Rattle.rule_match.specs.inner.Heads.{has_head}
-
--- ---- the same tokens have one place
-
-lowered_place : (x y : ℕ) (xs ys : List ℕ) → str_to_ascii_lowercase (x ∷ xs) ≡ str_to_ascii_lowercase (y ∷ ys) → text_place (x ∷ xs) ≡ text_place (y ∷ ys)
-lowered_place x y xs ys e =
-    let heads : to_ascii_lowercase x ≡ to_ascii_lowercase y = cc in
-    let rests : str_to_ascii_lowercase xs ≡ str_to_ascii_lowercase ys = cc in
-    let sizes : length xs ≡ length ys = sym (length-map xs to_ascii_lowercase) ∙ ap length rests ∙ length-map ys to_ascii_lowercase in
-    ap (λ first. (first + length xs) % 64) heads ∙ ap (λ size. (to_ascii_lowercase y + size) % 64) sizes
-
-text_same : (x y : List ℕ) → str_eq_ignore_ascii_case x y ≡ true → text_place x ≡ text_place y
-text_same [] [] h = refl
-text_same [] (y ∷ ys) h = absurd (true≢false (sym h))
-text_same (x ∷ xs) [] h = absurd (true≢false (sym h))
-text_same (x ∷ xs) (y ∷ ys) h = lowered_place x y xs ys ((bytes_decides (str_to_ascii_lowercase (x ∷ xs)) (str_to_ascii_lowercase (y ∷ ys))).0 h)
-
-mark_same : (x y : Mark) → same_mark x y ≡ true → place_of (Sign x) ≡ place_of (Sign y)
-mark_same Alt Alt h = refl
-mark_same Mailer Mailer h = refl
-mark_same Host Host h = refl
-mark_same User User h = refl
-mark_same End End h = refl
-mark_same Alt Mailer h = absurd (true≢false (sym h))
-mark_same Alt Host h = absurd (true≢false (sym h))
-mark_same Alt User h = absurd (true≢false (sym h))
-mark_same Alt End h = absurd (true≢false (sym h))
-mark_same Mailer Alt h = absurd (true≢false (sym h))
-mark_same Mailer Host h = absurd (true≢false (sym h))
-mark_same Mailer User h = absurd (true≢false (sym h))
-mark_same Mailer End h = absurd (true≢false (sym h))
-mark_same Host Alt h = absurd (true≢false (sym h))
-mark_same Host Mailer h = absurd (true≢false (sym h))
-mark_same Host User h = absurd (true≢false (sym h))
-mark_same Host End h = absurd (true≢false (sym h))
-mark_same User Alt h = absurd (true≢false (sym h))
-mark_same User Mailer h = absurd (true≢false (sym h))
-mark_same User Host h = absurd (true≢false (sym h))
-mark_same User End h = absurd (true≢false (sym h))
-mark_same End Alt h = absurd (true≢false (sym h))
-mark_same End Mailer h = absurd (true≢false (sym h))
-mark_same End Host h = absurd (true≢false (sym h))
-mark_same End User h = absurd (true≢false (sym h))
-
--- two tokens that are the same have one place
-pub same_place : (x y : Token) → same_token x y ≡ true → place_of x ≡ place_of y
-same_place (Word x) (Word y) h = text_same x y h
-same_place (Quoted x) (Quoted y) h = text_same x y h
-same_place (Op x) (Op y) h = text_same (x ∷ []) (y ∷ []) h
-same_place (Sign x) (Sign y) h = mark_same x y h
-same_place (Word x) (Quoted y) h = absurd (true≢false (sym h))
-same_place (Word x) (Op y) h = absurd (true≢false (sym h))
-same_place (Word x) (Sign y) h = absurd (true≢false (sym h))
-same_place (Quoted x) (Word y) h = absurd (true≢false (sym h))
-same_place (Quoted x) (Op y) h = absurd (true≢false (sym h))
-same_place (Quoted x) (Sign y) h = absurd (true≢false (sym h))
-same_place (Op x) (Word y) h = absurd (true≢false (sym h))
-same_place (Op x) (Quoted y) h = absurd (true≢false (sym h))
-same_place (Op x) (Sign y) h = absurd (true≢false (sym h))
-same_place (Sign x) (Word y) h = absurd (true≢false (sym h))
-same_place (Sign x) (Quoted y) h = absurd (true≢false (sym h))
-same_place (Sign x) (Op y) h = absurd (true≢false (sym h))
 
 -- ---- the places of a mask
 
@@ -128,10 +62,6 @@ token_in (token ∷ tokens) (suc n) mask before first rest e = token_in tokens n
 
 -- ---- and the first token of a phrase has the place of a member's
 
-keep_heads : (members : List Member) (mask place : ℕ) → IsIn place mask → IsIn place (heads_from mask members)
-keep_heads [] mask place h = h
-keep_heads (member ∷ members) mask place h = keep_heads members (with_places mask (head_places member.tokens)) place (keep_places (head_places member.tokens) mask place h)
-
 put_head : (tokens : Option (List Token)) (mask : ℕ) (first : Token) (rest : List Token) → is_cut_into (first ∷ rest) tokens ≡ true → IsIn (place_of first) (with_places mask (head_places tokens))
 put_head None mask first rest h = absurd (true≢false (sym h))
 put_head (Some []) mask first rest h = absurd (true≢false (sym h))
@@ -139,13 +69,15 @@ put_head (Some (token ∷ tokens)) mask first rest h =
     let same = same_place first token (and_parts (same_token first token) (same_tokens rest tokens) h).0 in
     subst (λ (place : ℕ). IsIn place (with_place mask (place_of token))) (sym same) (put_place mask (place_of token))
 
-head_in : (members : List Member) (mask : ℕ) (first : Token) (rest : List Token) → is_phrase (first ∷ rest) members ≡ true → IsIn (place_of first) (heads_from mask members)
+head_in : (members : List Member) (mask : ℕ) (first : Token) (rest : List Token) → is_phrase (first ∷ rest) members ≡ true → IsIn (place_of first) (with_places mask (heads members))
 head_in [] mask first rest h = absurd (true≢false (sym h))
-head_in (member ∷ members) mask first rest h = by (is_cut_into (first ∷ rest) member.tokens) refl h (λ k. head_in members (with_places mask (head_places member.tokens)) first rest k)
+head_in (member ∷ members) mask first rest h =
+    subst (IsIn (place_of first)) (sym (fold-append with_place mask (head_places member.tokens) (heads members)))
+    (by (is_cut_into (first ∷ rest) member.tokens) refl h (λ k. head_in members (with_places mask (head_places member.tokens)) first rest k))
   where
-    by : (b : Bool) → is_cut_into (first ∷ rest) member.tokens ≡ b → (b || is_phrase (first ∷ rest) members) ≡ true
-        → (is_phrase (first ∷ rest) members ≡ true → IsIn (place_of first) (heads_from mask (member ∷ members))) → IsIn (place_of first) (heads_from mask (member ∷ members))
-    by true e k go = keep_heads members (with_places mask (head_places member.tokens)) (place_of first) (put_head member.tokens mask first rest e)
+    by : (b : Bool) → is_cut_into (first ∷ rest) member.tokens ≡ b → (b || is_phrase (first ∷ rest) members) ≡ true → (is_phrase (first ∷ rest) members ≡ true → IsIn (place_of first) (with_places (with_places mask (head_places member.tokens)) (heads members)))
+        → IsIn (place_of first) (with_places (with_places mask (head_places member.tokens)) (heads members))
+    by true e k go = keep_places (heads members) (with_places mask (head_places member.tokens)) (place_of first) (put_head member.tokens mask first rest e)
     by false e k go = go k
 
 -- ---- so where a class has no such head, nothing fits

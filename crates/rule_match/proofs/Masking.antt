@@ -1,67 +1,20 @@
 -- A left side that wants a place which tokens lack has no match with them.
-use Rattle.std.proofs.Common.{◌≡◌, ℕ, zero, suc, ◌+◌, ◌%◌, ◌^◌, List, [], ◌∷◌, ◌++◌, take, drop, length, Bool, true, false, Option, Some, None, cond, max, min, refl, sym, ap, subst, ◌∙◌, arith, inl, inr, eq-eqb, ne_eqb}
+use Rattle.std.proofs.Common.{◌≡◌, ℕ, zero, suc, ◌+◌, ◌^◌, List, [], ◌∷◌, ◌++◌, take, drop, Bool, true, false, Option, Some, None, cond, max, min, refl, sym, ap, subst, ◌∙◌, arith, inl, inr, eq-eqb, ne_eqb}
 use Rattle.std.specs.Prelude.{◌==◌, ◌||◌, bit_and}
-use Rattle.std.specs.Char.{to_ascii_lowercase}
-use Rattle.std.specs.Cmp.Lexicographic.{bytes_decides}
 use Rattle.std.specs.Int.{bit_at}
 use Rattle.std.specs.List.{list_any}
-use Rattle.std.specs.Str.{str_to_ascii_lowercase}
 use Rattle.std.proofs.lemmas.Bool.{and_parts, cases_eq, or_right, true≢false}
-use Rattle.std.proofs.lemmas.List.{length-map}
 use Rattle.std.proofs.lemmas.Nat.Bits.{bit_at_and, bit_at_or, bit_at-pow_other, bit_at-pow_same, bit_at-zero, same_from_bits}
-use Rattle.mail_base.specs.Masks.{covers, edge, mask_of, mark_place, pair_place, pair_places, place_of, places_from, places_of, wanted, wanted_from, wanted_mask, with_place, with_places}
+use Rattle.mail_base.proofs.TokenPlaces.{same_place}
+use Rattle.mail_base.specs.Masks.{covers, edge, mask_of, pair_place, pair_places, place_of, places_from, places_of, wanted, wanted_from, wanted_mask, with_place, with_places}
 use Rattle.mail_base.specs.Metas.{is_late}
-use Rattle.mail_base.specs.Texts.{text_place}
 use Rattle.mail_base.specs.Tokens.{same_token, same_tokens}
 use Rattle.mail_base.specs.declared.classes.Classes.{Classes}
 use Rattle.mail_base.specs.declared.rule.Item.{Item}
 use Rattle.mail_base.specs.declared.rule.Item.TheVariants.{Any, More, One, Empty, InClass, NotInClass, Exact, Late}
-use Rattle.mail_base.specs.declared.token.Mark.{Mark}
-use Rattle.mail_base.specs.declared.token.Mark.TheVariants.{Alt, Mailer, Host, User, End}
 use Rattle.mail_base.specs.declared.token.Token.{Token}
-use Rattle.mail_base.specs.declared.token.Token.TheVariants.{Word, Quoted, Op, Sign}
-use Rattle.mail_base.specs.inner.TokenLaws.{caseless, mark_number, same_is}
 use Rattle.rule_match.specs.Choices.{Fits}
 use Rattle.rule_match.specs.Wants.{Want, is_none, want, wants}
-
--- ---- the same tokens have the same place
-
--- the place of bytes in small letters
-abbrev small_place : List ℕ → ℕ
-small_place [] = 0
-small_place (first ∷ rest) = (first + length rest) % 64
-
--- the place of a mark by the number that it is hashed by
-abbrev sign_place : List ℕ → ℕ
-sign_place [] = 0
-sign_place (number ∷ rest) = 24 + number
-
--- the place of a token by its kind and its bytes in small letters
-abbrev caseless_place : List ℕ → ℕ
-caseless_place [] = 0
-caseless_place (kind ∷ text) = cond (kind == 3) (sign_place text) (small_place text)
-
-text_by_small : (text : List ℕ) → text_place text ≡ small_place (str_to_ascii_lowercase text)
-text_by_small [] = refl
-text_by_small (first ∷ rest) = ap (λ (n : ℕ). (to_ascii_lowercase first + n) % 64) (sym (length-map rest to_ascii_lowercase))
-
-mark_by_small : (mark : Mark) → mark_place mark ≡ sign_place (str_to_ascii_lowercase (mark_number mark ∷ []))
-mark_by_small Alt = refl
-mark_by_small Mailer = refl
-mark_by_small Host = refl
-mark_by_small User = refl
-mark_by_small End = refl
-
-place_by : (token : Token) → place_of token ≡ caseless_place (caseless token)
-place_by (Word text) = text_by_small text
-place_by (Quoted text) = text_by_small text
-place_by (Op byte) = text_by_small (byte ∷ [])
-place_by (Sign mark) = mark_by_small mark
-
-same_place : (one another : Token) → same_token one another ≡ true → place_of one ≡ place_of another
-same_place one another same =
-    let bytes : caseless one ≡ caseless another = (bytes_decides (caseless one) (caseless another)).0 (sym (same_is one another) ∙ same) in
-    place_by one ∙ ap caseless_place bytes ∙ sym (place_by another)
 
 -- ---- places among places
 

@@ -1,7 +1,8 @@
 -- What stands behind a class: its members by their texts, and its phrases by their tokens.
-use Rattle.std.specs.Prelude.{◌≡◌, List, Bool, Vec, length, take}
+use Rattle.std.specs.Prelude.{◌≡◌, ℕ, List, Bool, Vec, fold, length, take}
 use Rattle.std.specs.List.{list_any}
 use Rattle.mail_base.specs.Classes.{is_phrase}
+use Rattle.mail_base.specs.Masks.{head_places, with_places}
 use Rattle.mail_base.specs.Tokens.{same_tokens}
 use Rattle.mail_base.specs.declared.class.Member.{Member}
 use Rattle.mail_base.specs.declared.token.Token.{Token}
@@ -14,6 +15,11 @@ is_among phrases tokens = list_any (λ phrase. same_tokens tokens phrase.items) 
 abbrev pub HasPhrases : {A : Type 0} → List (Vec Token A) → List Member → Type 0
 HasPhrases phrases members =
     (tokens : List Token) → is_among phrases tokens ≡ is_phrase tokens members
+
+-- a mask with the places of first tokens besides, member by member
+abbrev pub heads_from : ℕ → List Member → ℕ
+heads_from mask members =
+    fold (λ m member. with_places m (head_places member.tokens)) mask members
 
 -- a list has grown at its end, or stayed
 abbrev pub Keeps : {K : Type 0} → List K → List K → Type 0

@@ -6,18 +6,11 @@ use Rattle.std.specs.Cmp.Lexicographic.{nat_list_eq_equiv, bytes_decides}
 use Rattle.std.specs.Hash.{HashWrites, u8}
 use Rattle.std.specs.List.{flat_map}
 use Rattle.std.specs.Str.{str_to_ascii_lowercase}
-use Rattle.mail_base.specs.Tokens.{same_mark, same_token}
+use Rattle.mail_base.specs.Tokens.{mark_number, same_mark, same_token}
 use Rattle.mail_base.specs.declared.token.Mark.{Mark}
 use Rattle.mail_base.specs.declared.token.Mark.TheVariants.{Alt, Mailer, Host, User, End}
 use Rattle.mail_base.specs.declared.token.Token.{Token}
 use Rattle.mail_base.specs.declared.token.Token.TheVariants.{Word, Quoted, Op, Sign}
-
-abbrev pub mark_number : Mark → ℕ
-mark_number Alt = 0
-mark_number Mailer = 1
-mark_number Host = 2
-mark_number User = 3
-mark_number End = 4
 
 -- a token's kind and its bytes in small letters
 abbrev pub caseless : Token → List ℕ

@@ -1,9 +1,9 @@
-use Rattle.std.proofs.Common.{◌≡◌, ◌∙◌, List, ap}
+use Rattle.std.proofs.Common.{◌∙◌, List, ap}
 use Rattle.std.specs.Prelude.{drop}
 use Rattle.std.proofs.lemmas.List.{take_rest}
 use Rattle.mail_base.specs.Classes.{longest_from}
-use Rattle.mail_base.specs.Masks.{heads_from}
 use Rattle.mail_base.specs.declared.class.Member.{Member}
+use Rattle.mail_base.specs.inner.Phrases.{heads_from}
 use Rattle.mail_base.proofs.ClassLemmas.{heads_grown, longest_grown}
 use Rattle.mail_base.proofs.class.Class.extend.Goals as goal
 
