@@ -46,18 +46,11 @@ fn has_address(alloc: Global, maps: &Maps, row: &Address) -> Result<bool, NoMemo
     Ok(is_text(maps.host(&name), row.1))
 }
 
-fn wrong_address(alloc: Global, maps: &Maps) -> Result<Option<usize>, NoMemory> {
-    for (place, row) in ADDRESSES.iter().enumerate() {
-        if !has_address(alloc, maps, row)? {
-            return Ok(Some(place));
-        }
-    }
-    Ok(None)
-}
-
 #[test]
 fn addresses_are_found(rt: HostRuntime) -> Result<(), Fail> {
     let maps = maps_of(rt.alloc(), &[], &[], HOSTS)?;
-    assert_eq!(rt; wrong_address(rt.alloc(), &maps)?, None);
+    for row in &ADDRESSES {
+        assert!(rt; has_address(rt.alloc(), &maps, row)?, "{}", row.0);
+    }
     Ok(())
 }
