@@ -29,19 +29,12 @@ fn long_line(alloc: Global, front: &[u8], byte: u8) -> Result<Text, NoMemory> {
     Ok(line)
 }
 
-fn wrong_line(alloc: Global) -> Result<Option<usize>, Fail> {
-    for (place, row) in LONG.iter().enumerate() {
-        let line = long_line(alloc, row.0, row.1)?;
-        let text = answer(alloc, line.bytes(), &[], row.2)?;
-        if text.bytes() != row.3 {
-            return Ok(Some(place));
-        }
-    }
-    Ok(None)
-}
-
 #[test]
 fn a_line_may_have_a_megabyte(rt: HostRuntime) -> Result<(), Fail> {
-    assert_eq!(rt; wrong_line(rt.alloc())?, None);
+    for (at, row) in LONG.iter().enumerate() {
+        let line = long_line(rt.alloc(), row.0, row.1)?;
+        let text = answer(rt.alloc(), line.bytes(), &[], row.2)?;
+        assert_eq!(rt; text.bytes(), row.3, "row {at}");
+    }
     Ok(())
 }
