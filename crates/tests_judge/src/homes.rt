@@ -33,17 +33,10 @@ fn holds(alloc: Global, row: &Row) -> Result<bool, NoMemory> {
     }
 }
 
-fn wrong(alloc: Global, rows: &[Row]) -> Result<Option<usize>, NoMemory> {
-    for (place, row) in rows.iter().enumerate() {
-        if !holds(alloc, row)? {
-            return Ok(Some(place));
-        }
-    }
-    Ok(None)
-}
-
 #[test]
 fn users_have_their_first_home(rt: HostRuntime) -> Result<(), Fail> {
-    assert_eq!(rt; wrong(rt.alloc(), &ROWS)?, None);
+    for (at, row) in ROWS.iter().enumerate() {
+        assert!(rt; holds(rt.alloc(), row)?, "row {at}");
+    }
     Ok(())
 }

@@ -42,17 +42,10 @@ fn holds(alloc: Global, row: &Row) -> Result<bool, NoMemory> {
     Ok(out.bytes() == row.1)
 }
 
-fn wrong(alloc: Global, rows: &[Row]) -> Result<Option<usize>, NoMemory> {
-    for (place, row) in rows.iter().enumerate() {
-        if !holds(alloc, row)? {
-            return Ok(Some(place));
-        }
-    }
-    Ok(None)
-}
-
 #[test]
 fn files_have_their_members(rt: HostRuntime) -> Result<(), Fail> {
-    assert_eq!(rt; wrong(rt.alloc(), &ROWS)?, None);
+    for (at, row) in ROWS.iter().enumerate() {
+        assert!(rt; holds(rt.alloc(), row)?, "row {at}");
+    }
     Ok(())
 }

@@ -79,21 +79,14 @@ fn is_reply(heard: &Heard, reply: &[u8]) -> bool {
     }
 }
 
-fn wrong(alloc: Global) -> Result<Option<usize>, Fail> {
-    let world = world_of(alloc)?;
-    let mut files = files_of(alloc, &[])?;
-    for (at, row) in ROWS.iter().enumerate() {
-        let heard = said_behind(alloc, &world, &mut files, b"MAIL FROM:<s>", row.0)?;
-        if !is_reply(&heard, row.1) {
-            return Ok(Some(at));
-        }
-    }
-    Ok(None)
-}
-
 #[test]
 fn recipients_have_their_replies(rt: HostRuntime) -> Result<(), Fail> {
-    assert_eq!(rt; wrong(rt.alloc())?, None);
+    let world = world_of(rt.alloc())?;
+    let mut files = files_of(rt.alloc(), &[])?;
+    for (at, row) in ROWS.iter().enumerate() {
+        let heard = said_behind(rt.alloc(), &world, &mut files, b"MAIL FROM:<s>", row.0)?;
+        assert!(rt; is_reply(&heard, row.1), "row {at}");
+    }
     Ok(())
 }
 

@@ -77,23 +77,12 @@ fn is_right(alloc: Global, world: &World, failing: &[u64], row: &Row) -> Result<
     Ok(out.bytes() == row.1)
 }
 
-fn wrong_row(alloc: Global, world: &World) -> Result<Option<usize>, Fail> {
-    for (at, row) in ROWS.iter().enumerate() {
-        if !is_right(alloc, world, &[], row)? {
-            return Ok(Some(at));
-        }
-    }
-    Ok(None)
-}
-
-fn wrong(alloc: Global) -> Result<Option<usize>, Fail> {
-    let world = world_of(alloc)?;
-    wrong_row(alloc, &world)
-}
-
 #[test]
 fn receivers_have_their_rows(rt: HostRuntime) -> Result<(), Fail> {
-    assert_eq!(rt; wrong(rt.alloc())?, None);
+    let world = world_of(rt.alloc())?;
+    for (at, row) in ROWS.iter().enumerate() {
+        assert!(rt; is_right(rt.alloc(), &world, &[], row)?, "row {at}");
+    }
     Ok(())
 }
 
