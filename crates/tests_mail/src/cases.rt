@@ -418,21 +418,14 @@ fn is_replied(alloc: Global, limits: Limits, row: &Row) -> Result<bool, NoMemory
     Ok(talk.said.bytes() == row.2)
 }
 
-// The first place of a row of which the line gets another reply.
-fn wrong(alloc: Global, number: usize) -> Result<Option<usize>, NoMemory> {
-    let (limits, rows) = table(number);
-    for (at, row) in rows.iter().enumerate() {
-        if !is_replied(alloc, limits, row)? {
-            return Ok(Some(at));
-        }
-    }
-    Ok(None)
-}
-
 #[test]
 fn each_case_gets_its_reply_in_its_order(rt: HostRuntime) -> Result<(), NoMemory> {
     for number in 0..3 {
-        assert_eq!(rt; wrong(rt.alloc(), number)?, None, "table {number}");
+        let (limits, rows) = table(number);
+        for (at, row) in rows.iter().enumerate() {
+            let is_replied = is_replied(rt.alloc(), limits, row)?;
+            assert!(rt; is_replied, "table {number}, row {at}");
+        }
     }
     Ok(())
 }
@@ -608,22 +601,14 @@ fn is_text(said: &Text, wanted: &[u8]) -> bool {
     said.bytes() == wanted
 }
 
-// The first place of a step to which something else is said.
-fn stopped(alloc: Global, number: usize) -> Result<Option<usize>, NoMemory> {
-    let (limits, steps) = dialogue(number);
-    let mut talk = Talk::new(alloc, limits)?;
-    for (at, step) in steps.iter().enumerate() {
-        if !goes(&mut talk, step)? {
-            return Ok(Some(at));
-        }
-    }
-    Ok(None)
-}
-
 #[test]
 fn sessions_go_on_at_and_above_their_limits(rt: HostRuntime) -> Result<(), NoMemory> {
     for number in 0..6 {
-        assert_eq!(rt; stopped(rt.alloc(), number)?, None, "dialogue {number}");
+        let (limits, steps) = dialogue(number);
+        let mut talk = Talk::new(rt.alloc(), limits)?;
+        for (at, step) in steps.iter().enumerate() {
+            assert!(rt; goes(&mut talk, step)?, "dialogue {number}, step {at}");
+        }
     }
     Ok(())
 }

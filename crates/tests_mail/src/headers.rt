@@ -66,18 +66,11 @@ fn splits_so(alloc: Global, row: &Row) -> Result<bool, NoMemory> {
     Ok(text.bytes() == row.1)
 }
 
-fn wrong(alloc: Global, rows: &[Row]) -> Result<Option<usize>, NoMemory> {
-    for (place, row) in rows.iter().enumerate() {
-        if !splits_so(alloc, row)? {
-            return Ok(Some(place));
-        }
-    }
-    Ok(None)
-}
-
 #[test]
 fn texts_are_split(rt: HostRuntime) -> Result<(), NoMemory> {
-    assert_eq!(rt; wrong(rt.alloc(), &ROWS)?, None);
+    for (at, row) in ROWS.iter().enumerate() {
+        assert!(rt; splits_so(rt.alloc(), row)?, "row {at}");
+    }
     Ok(())
 }
 
@@ -105,18 +98,11 @@ fn gathers_so(alloc: Global, row: &Row) -> Result<bool, NoMemory> {
 }
 
 // The texts of which each line has an end.
-fn wrong_gathered(alloc: Global) -> Result<Option<usize>, NoMemory> {
-    for place in 0..21 {
-        if !gathers_so(alloc, &ROWS[place])? {
-            return Ok(Some(place));
-        }
-    }
-    Ok(None)
-}
-
 #[test]
 fn lines_are_gathered(rt: HostRuntime) -> Result<(), NoMemory> {
-    assert_eq!(rt; wrong_gathered(rt.alloc())?, None);
+    for (at, row) in ROWS.iter().enumerate().take(21) {
+        assert!(rt; gathers_so(rt.alloc(), row)?, "row {at}");
+    }
     Ok(())
 }
 
@@ -147,19 +133,12 @@ static HOPS: [(&[u8], u32); 5] = [
     (b"Received: a\r\n\tb\r\n\r\nReceived: c\r\n", 1),
 ];
 
-fn wrong_hops(alloc: Global) -> Result<Option<usize>, NoMemory> {
-    for (place, row) in HOPS.iter().enumerate() {
-        let headers = headers_of(alloc, row.0)?;
-        if headers.len() > 100 || hops(&headers) != row.1 {
-            return Ok(Some(place));
-        }
-    }
-    Ok(None)
-}
-
 #[test]
 fn hops_are_counted(rt: HostRuntime) -> Result<(), NoMemory> {
-    assert_eq!(rt; wrong_hops(rt.alloc())?, None);
+    for (at, row) in HOPS.iter().enumerate() {
+        let headers = headers_of(rt.alloc(), row.0)?;
+        assert!(rt; headers.len() <= 100 && hops(&headers) == row.1, "row {at}");
+    }
     Ok(())
 }
 
@@ -188,19 +167,13 @@ static CLASSES: [(&[u8], i64); 7] = [
     (b"X-Precedence: junk\r\n", 0),
 ];
 
-fn wrong_class(alloc: Global, config: &Config) -> Result<Option<usize>, NoMemory> {
-    for (place, row) in CLASSES.iter().enumerate() {
-        if class_of(config, &headers_of(alloc, row.0)?) != row.1 {
-            return Ok(Some(place));
-        }
-    }
-    Ok(None)
-}
-
 #[test]
 fn classes_are_told(rt: HostRuntime) -> Result<(), NoMemory> {
     let config = classes(rt.alloc())?;
-    assert_eq!(rt; wrong_class(rt.alloc(), &config)?, None);
+    for (at, row) in CLASSES.iter().enumerate() {
+        let headers = headers_of(rt.alloc(), row.0)?;
+        assert_eq!(rt; class_of(&config, &headers), row.1, "row {at}");
+    }
     Ok(())
 }
 
@@ -217,18 +190,11 @@ static DATES: [Row; 6] = [
     (b"X-Date: a\r\n", b"Thu, 1 Jan 2026 00:00:00 +0000"),
 ];
 
-fn wrong_date(alloc: Global) -> Result<Option<usize>, NoMemory> {
-    for (place, row) in DATES.iter().enumerate() {
-        let date = date_of(&headers_of(alloc, row.0)?, 1_767_225_600)?;
-        if date.bytes() != row.1 {
-            return Ok(Some(place));
-        }
-    }
-    Ok(None)
-}
-
 #[test]
 fn dates_are_told(rt: HostRuntime) -> Result<(), NoMemory> {
-    assert_eq!(rt; wrong_date(rt.alloc())?, None);
+    for (at, row) in DATES.iter().enumerate() {
+        let date = date_of(&headers_of(rt.alloc(), row.0)?, 1_767_225_600)?;
+        assert_eq!(rt; date.bytes(), row.1, "row {at}");
+    }
     Ok(())
 }

@@ -319,23 +319,12 @@ fn told(alloc: Global, lines: &Seq<Line>, may_turn: bool) -> Result<Text, NoMemo
     Ok(text)
 }
 
-// The first place of a step that gives other lines.
-fn wrong_step(alloc: Global, reader: &mut Lines) -> Result<Option<usize>, NoMemory> {
-    for (at, (step, wanted)) in STEPS.iter().enumerate() {
-        if stepped(alloc, reader, step)?.bytes() != *wanted {
-            return Ok(Some(at));
-        }
-    }
-    Ok(None)
-}
-
-fn wrong(alloc: Global) -> Result<Option<usize>, NoMemory> {
-    let mut reader = Lines::new(alloc);
-    wrong_step(alloc, &mut reader)
-}
-
 #[test]
 fn bytes_after_data_wait_for_its_answer(rt: HostRuntime) -> Result<(), NoMemory> {
-    assert_eq!(rt; wrong(rt.alloc())?, None);
+    let mut reader = Lines::new(rt.alloc());
+    for (at, (step, wanted)) in STEPS.iter().enumerate() {
+        let told = stepped(rt.alloc(), &mut reader, step)?;
+        assert_eq!(rt; told.bytes(), *wanted, "step {at}");
+    }
     Ok(())
 }

@@ -418,28 +418,13 @@ const SENDER: Frame = Frame {
     end: 77,
 };
 
-// The first place of a row to which something else is said.
-fn wrong(
-    alloc: Global,
-    config: &Config,
-    frame: &Frame,
-    rows: &[Row],
-) -> Result<Option<usize>, NoMemory> {
-    for (at, row) in rows.iter().enumerate() {
-        if !is_said(alloc, config, frame, row)? {
-            return Ok(Some(at));
-        }
-    }
-    Ok(None)
-}
-
-fn wrong_of(alloc: Global, number: usize) -> Result<Option<usize>, NoMemory> {
-    let (frame, rows) = table(number);
+// The configuration of a table.
+fn config_of(alloc: Global, number: usize) -> Result<Config, NoMemory> {
     let mut config = Config::new(alloc)?;
     if number == 2 {
         limit(&mut config)?;
     }
-    wrong(alloc, &config, &frame, rows)
+    Ok(config)
 }
 
 fn limit(config: &mut Config) -> Result<(), NoMemory> {
@@ -453,7 +438,12 @@ fn limit(config: &mut Config) -> Result<(), NoMemory> {
 #[test]
 fn lines_get_their_replies_and_messages_are_split(rt: HostRuntime) -> Result<(), NoMemory> {
     for number in 0..4 {
-        assert_eq!(rt; wrong_of(rt.alloc(), number)?, None, "table {number}");
+        let (frame, rows) = table(number);
+        let config = config_of(rt.alloc(), number)?;
+        for (at, row) in rows.iter().enumerate() {
+            let is_said = is_said(rt.alloc(), &config, &frame, row)?;
+            assert!(rt; is_said, "table {number}, row {at}");
+        }
     }
     Ok(())
 }

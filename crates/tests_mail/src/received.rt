@@ -1,6 +1,5 @@
 use mail_base::{Config, HeaderLine, NoMemory, Text};
 use mail_header::received;
-use std::alloc::Global;
 
 /// The template of an H line, the value of the macro x, and the header that is made.
 type Row = (&'static [u8], &'static [u8], &'static [u8]);
@@ -50,20 +49,13 @@ fn is_made(config: &mut Config, row: &Row) -> Result<bool, NoMemory> {
     }
 }
 
-fn wrong(alloc: Global) -> Result<Option<usize>, NoMemory> {
-    for (place, row) in ROWS.iter().enumerate() {
-        let mut config = Config::new(alloc)?;
-        if !is_made(&mut config, row)? {
-            return Ok(Some(place));
-        }
-    }
-    Ok(None)
-}
-
 #[test]
 fn received_is_made(rt: HostRuntime) -> Result<(), NoMemory> {
     let config = Config::new(rt.alloc())?;
     assert!(rt; received(&config, &config.macros)?.is_none());
-    assert_eq!(rt; wrong(rt.alloc())?, None);
+    for (at, row) in ROWS.iter().enumerate() {
+        let mut config = Config::new(rt.alloc())?;
+        assert!(rt; is_made(&mut config, row)?, "row {at}");
+    }
     Ok(())
 }

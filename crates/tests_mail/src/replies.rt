@@ -89,18 +89,11 @@ fn seen_so(alloc: Global, row: &Row) -> Result<bool, NoMemory> {
     Ok(text.bytes() == row.1)
 }
 
-fn wrong(alloc: Global, rows: &[Row]) -> Result<Option<usize>, NoMemory> {
-    for (place, row) in rows.iter().enumerate() {
-        if !seen_so(alloc, row)? {
-            return Ok(Some(place));
-        }
-    }
-    Ok(None)
-}
-
 #[test]
 fn replies_are_seen(rt: HostRuntime) -> Result<(), NoMemory> {
-    assert_eq!(rt; wrong(rt.alloc(), &ROWS)?, None);
+    for (at, row) in ROWS.iter().enumerate() {
+        assert!(rt; seen_so(rt.alloc(), row)?, "row {at}");
+    }
     Ok(())
 }
 
