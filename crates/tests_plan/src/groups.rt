@@ -60,24 +60,17 @@ fn group(
     group_of(alloc, config, maps, &config.macros, &address, &mailer)
 }
 
-fn is_wrong(alloc: Global, row: &Row) -> Result<bool, Fail> {
+fn is_right(alloc: Global, row: &Row) -> Result<bool, Fail> {
     let config = config_of(alloc, row.0)?;
     let maps = Maps::load(alloc, &config, &Seq::new(alloc), &Text::new(alloc))?;
     let given = group(alloc, &config, &maps, row.1, row.2)?;
-    Ok(given.bytes() != row.3)
-}
-
-fn wrong(alloc: Global, rows: &[Row]) -> Result<Option<usize>, Fail> {
-    for (place, row) in rows.iter().enumerate() {
-        if is_wrong(alloc, row)? {
-            return Ok(Some(place));
-        }
-    }
-    Ok(None)
+    Ok(given.bytes() == row.3)
 }
 
 #[test]
 fn rows_have_their_groups(rt: HostRuntime) -> Result<(), Fail> {
-    assert_eq!(rt; wrong(rt.alloc(), &ROWS)?, None);
+    for (at, row) in ROWS.iter().enumerate() {
+        assert!(rt; is_right(rt.alloc(), row)?, "row {at}");
+    }
     Ok(())
 }
