@@ -102,18 +102,11 @@ fn is_said(text: &Text, wanted: &str) -> bool {
     said == wanted.as_bytes()
 }
 
-fn wrong(alloc: Global) -> Result<Option<usize>, Fail> {
-    for (at, row) in ROWS.iter().enumerate() {
-        let text = said(alloc, row.0)?;
-        if !is_said(&text, row.1) {
-            return Ok(Some(at));
-        }
-    }
-    Ok(None)
-}
-
 #[test]
 fn mailer_error_says_its_code_status_and_text(rt: HostRuntime) -> Result<(), Fail> {
-    assert_eq!(rt; wrong(rt.alloc())?, None);
+    for (at, row) in ROWS.iter().enumerate() {
+        let text = said(rt.alloc(), row.0)?;
+        assert!(rt; is_said(&text, row.1), "row {at}");
+    }
     Ok(())
 }

@@ -113,22 +113,11 @@ fn is_so(alloc: Global, world: &World, row: &Row) -> Result<bool, NoMemory> {
     )
 }
 
-fn wrong_row(alloc: Global, world: &World) -> Result<Option<usize>, NoMemory> {
-    for (at, row) in ROWS.iter().enumerate() {
-        if !is_so(alloc, world, row)? {
-            return Ok(Some(at));
-        }
-    }
-    Ok(None)
-}
-
-fn wrong(alloc: Global) -> Result<Option<usize>, Fail> {
-    let world = world_of(alloc, &LINES, 0)?;
-    Ok(wrong_row(alloc, &world)?)
-}
-
 #[test]
 fn senders_and_recipients_go_through_their_sets(rt: HostRuntime) -> Result<(), Fail> {
-    assert_eq!(rt; wrong(rt.alloc())?, None);
+    let world = world_of(rt.alloc(), &LINES, 0)?;
+    for (at, row) in ROWS.iter().enumerate() {
+        assert!(rt; is_so(rt.alloc(), &world, row)?, "row {at}");
+    }
     Ok(())
 }
