@@ -172,22 +172,13 @@ fn is_row(alloc: Global, classes: &Classes, row: &Row) -> Result<bool, Broken> {
     Ok(is_taken(&pattern, &tokens, classes, &lists_of(alloc, row.2)?, row.3))
 }
 
-fn wrong_row(alloc: Global, classes: &Classes) -> Result<Option<&'static str>, Broken> {
-    for row in ROWS {
-        if !is_row(alloc, classes, row)? {
-            return Ok(Some(row.0));
-        }
-    }
-    Ok(None)
-}
-
-fn wrong(alloc: Global) -> Result<Option<&'static str>, Broken> {
-    wrong_row(alloc, &classes_of(alloc)?)
-}
-
 #[test]
 fn takes_phrases_and_lists(rt: HostRuntime) -> Result<(), Broken> {
-    assert_eq!(rt; wrong(rt.alloc())?, None);
+    let classes = classes_of(rt.alloc())?;
+    for row in ROWS {
+        let is_row = is_row(rt.alloc(), &classes, row)?;
+        assert!(rt; is_row, "{} on {}", row.0, row.1);
+    }
     Ok(())
 }
 
@@ -219,24 +210,24 @@ const LONG: &[(&str, usize, Option<usize>)] = &[
     ("$*", 2000, Some(1962)),
 ];
 
-fn wrong_long(alloc: Global, classes: &Classes) -> Result<Option<usize>, Broken> {
-    for (first, count, wanted) in LONG {
-        let pattern = twenty(alloc, first)?;
-        if first_end(&pattern, &repeated(alloc, b'a', *count)?, classes) != *wanted {
-            return Ok(Some(*count));
-        }
-    }
-    Ok(None)
-}
-
-fn wrong_count(alloc: Global) -> Result<Option<usize>, Broken> {
-    wrong_long(alloc, &classes_of(alloc)?)
+fn long_end(
+    alloc: Global,
+    classes: &Classes,
+    first: &str,
+    count: usize,
+) -> Result<Option<usize>, Broken> {
+    let pattern = twenty(alloc, first)?;
+    Ok(first_end(&pattern, &repeated(alloc, b'a', count)?, classes))
 }
 
 // The trial of all lengths would not be done in years.
 #[test]
 fn answers_at_once(rt: HostRuntime) -> Result<(), Broken> {
-    assert_eq!(rt; wrong_count(rt.alloc())?, None);
+    let classes = classes_of(rt.alloc())?;
+    for (first, count, wanted) in LONG {
+        let end = long_end(rt.alloc(), &classes, first, *count)?;
+        assert_eq!(rt; end, *wanted, "{first} on {count}");
+    }
     Ok(())
 }
 
