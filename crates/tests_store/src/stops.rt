@@ -214,19 +214,13 @@ fn stopped(alloc: Global, passes: u64) -> Result<Option<bool>, StoreFault> {
     Ok(None)
 }
 
-// The first number of changing calls after which it isn't so: nine are needed, and no more.
-fn wrong_stop(alloc: Global) -> Result<Option<u64>, StoreFault> {
-    for passes in 0..11u64 {
-        if stopped(alloc, passes)? != Some(passes >= 9) {
-            return Ok(Some(passes));
-        }
-    }
-    Ok(None)
-}
-
+// Nine changing calls are needed, and no more.
 #[test]
 fn a_stopped_commit_leaves_the_table_before_or_after(rt: HostRuntime) {
-    assert_eq!(rt; wrong_stop(rt.alloc()), Ok(None));
+    for passes in 0..11u64 {
+        let told = stopped(rt.alloc(), passes);
+        assert_eq!(rt; told, Ok(Some(passes >= 9)), "after {passes}");
+    }
 }
 
 // A spool whose call of that number fails.
@@ -246,19 +240,12 @@ fn is_told(alloc: Global, call: u64) -> Result<bool, StoreFault> {
     Ok(is_last && !matches!(did, Ok(true)) && (count == Some(0) || count == Some(3)))
 }
 
-// The first call that isn't told so: the listing, and the nine of the commit.
-fn untold_call(alloc: Global) -> Result<Option<u64>, StoreFault> {
-    for call in 0..10u64 {
-        if !is_told(alloc, call)? {
-            return Ok(Some(call));
-        }
-    }
-    Ok(None)
-}
-
+// The listing, and the nine of the commit.
 #[test]
 fn each_call_that_fails_is_told_and_the_last(rt: HostRuntime) {
-    assert_eq!(rt; untold_call(rt.alloc()), Ok(None));
+    for call in 0..10u64 {
+        assert_eq!(rt; is_told(rt.alloc(), call), Ok(true), "call {call}");
+    }
 }
 
 // How many calls opening and committing take: a listing of the one directory, and three for each
