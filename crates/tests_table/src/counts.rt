@@ -48,19 +48,12 @@ fn files_of(alloc: Global, number: usize, commands: usize) -> Result<usize, Stor
     }
 }
 
-// The first row that isn't so.
-fn wrong_row(alloc: Global) -> Result<Option<usize>, StoreFault> {
-    for (place, (number, commands, calls, files)) in ROWS.iter().enumerate() {
-        if calls_of(alloc, *number, *commands) != *calls
-            || files_of(alloc, *number, *commands)? != *files
-        {
-            return Ok(Some(place));
-        }
-    }
-    Ok(None)
-}
-
 #[test]
 fn a_command_takes_its_calls_and_no_others(rt: HostRuntime) {
-    assert_eq!(rt; wrong_row(rt.alloc()), Ok(None));
+    for (at, (number, commands, calls, files)) in ROWS.iter().enumerate() {
+        let taken = calls_of(rt.alloc(), *number, *commands);
+        assert_eq!(rt; taken, *calls, "row {at}");
+        let left = files_of(rt.alloc(), *number, *commands);
+        assert_eq!(rt; left, Ok(*files), "row {at}");
+    }
 }

@@ -89,17 +89,10 @@ fn wrong_passes(alloc: Global, commands: &[Command]) -> Result<Option<u64>, Stor
     Ok(Some(100))
 }
 
-// The first scene and number of calls of which it isn't so.
-fn wrong_stop(alloc: Global) -> Result<Option<(usize, u64)>, StoreFault> {
-    for number in 0..SCENES {
-        if let Some(passes) = wrong_passes(alloc, scene(number))? {
-            return Ok(Some((number, passes)));
-        }
-    }
-    Ok(None)
-}
-
 #[test]
 fn a_stopped_command_leaves_the_table_before_or_after(rt: HostRuntime) {
-    assert_eq!(rt; wrong_stop(rt.alloc()), Ok(None));
+    for number in 0..SCENES {
+        let wrong = wrong_passes(rt.alloc(), scene(number));
+        assert_eq!(rt; wrong, Ok(None), "scene {number}");
+    }
 }
