@@ -5,7 +5,7 @@ ghost use Rattle.std.specs.Hash as fed;
 ghost use Rattle.mail_base.specs.Classes.{is_cut_into, is_phrase, longest_phrase, with_member, with_members};
 ghost use Rattle.mail_base.specs.Classes as spec;
 ghost use Rattle.mail_base.specs.Masks.{head_places, heads_of, with_places};
-ghost use Rattle.mail_base.specs.inner.Phrases.{HasPhrases, Keeps, is_among};
+ghost use Rattle.mail_base.specs.inner.Phrases.{HasPhrases, Keeps, is_among, may_begin};
 ghost use Rattle.mail_base.specs.inner.Phrases as inside;
 
 use crate::mask::with_place;
@@ -25,7 +25,7 @@ pub struct Member {
 
 /// A class: its members, each once, and an index of their tokens. A contract sees it as the list
 /// of its members.
-pub(crate) struct Class {
+pub struct Class {
     members: IndexSet<Member>,
     phrases: IndexSet<Vec<Token>>,
     longest: usize,
@@ -107,28 +107,32 @@ impl Class {
         }
     }
 
-    pub(crate) fn members(&self) -> &[Member]
+    /// The members, in the order in which they were added. It takes no memory.
+    pub fn members(&self) -> &[Member]
         ensures { result.now ≡ self.now }
     {
         self.members.as_slice()
     }
 
-    // Whether the tokens are those of a member, without ASCII case. It takes no memory.
-    pub(crate) fn has_phrase(&self, tokens: &[Token]) -> bool
+    /// Whether the tokens are those of a member, without ASCII case. It takes no memory, and its
+    /// time is that of the tokens, however many members there are, or that of the first token
+    /// where its bit is none of [`heads`](Class::heads).
+    pub fn has_phrase(&self, tokens: &[Token]) -> bool
         ensures { result ≡ is_phrase tokens.now self.now }
     {
-        self.phrases.contains(tokens)
+        may_begin(self.heads, tokens) && self.phrases.contains(tokens)
     }
 
-    // The bits of the first tokens of the members.
-    pub(crate) fn heads(&self) -> u64
+    /// The bits, in a mask of tokens, of the first tokens of the members. It takes no memory.
+    pub fn heads(&self) -> u64
         ensures { result ≡ heads_of self.now }
     {
         self.heads
     }
 
-    // How many tokens the longest member has.
-    pub(crate) fn longest_phrase(&self) -> usize
+    /// How many tokens the longest member has. No longer list of tokens is a phrase of it. It
+    /// takes no memory.
+    pub fn longest_phrase(&self) -> usize
         ensures { result ≡ longest_phrase self.now }
     {
         self.longest
@@ -150,6 +154,16 @@ impl Class {
         self.longest = longest_from(self.longest, more);
         self.heads = heads_from(self.heads, more);
         Ok(())
+    }
+}
+
+// Whether the bit of the first token is set, if there is one.
+fn may_begin(mask: u64, tokens: &[Token]) -> bool
+    ensures { result ≡ may_begin mask tokens.now }
+{
+    match tokens.split_first() {
+        Some((first, _)) => (mask >> first.place()) & 1 == 1,
+        None => true,
     }
 }
 

@@ -1,4 +1,5 @@
 ghost use Rattle.std.specs.Prelude.{◌≡◌, [], IfOk, OnOk, OnErr};
+ghost use Rattle.std.specs.Option.{option_copied};
 ghost use Rattle.mail_base.specs.Catalogs.{value_at, with_value, members_of};
 ghost use Rattle.mail_base.specs.Classes.{is_phrase, longest_phrase, with_members};
 ghost use Rattle.mail_base.specs.Masks.{heads_of};
@@ -34,22 +35,29 @@ impl Classes {
         }
     }
 
+    /// The class of a name. It takes no memory, and its time is that of the name.
+    pub fn get(&self, name: &Text) -> Option<&Class>
+        ensures { option_copied result ≡ value_at name.now self.now }
+    {
+        self.classes.get(name)
+    }
+
     /// The members of a class, none where it isn't there. It takes no memory.
     pub fn members(&self, name: &Text) -> &[Member]
         ensures { result.now ≡ members_of (value_at name.now self.now) }
     {
-        match self.classes.get(name) {
+        match self.get(name) {
             Some(class) => class.members(),
             None => &[],
         }
     }
 
     /// Whether the tokens are those of a member of the class, without ASCII case. It takes no
-    /// memory, and its time is that of the tokens, however many members there are.
+    /// memory, and its time is that of the name and of the tokens, however many members there are.
     pub fn has_phrase(&self, name: &Text, tokens: &[Token]) -> bool
         ensures { result ≡ is_phrase tokens.now (members_of (value_at name.now self.now)) }
     {
-        match self.classes.get(name) {
+        match self.get(name) {
             Some(class) => class.has_phrase(tokens),
             None => false,
         }
@@ -60,7 +68,7 @@ impl Classes {
     pub fn heads(&self, name: &Text) -> u64
         ensures { result ≡ heads_of (members_of (value_at name.now self.now)) }
     {
-        match self.classes.get(name) {
+        match self.get(name) {
             Some(class) => class.heads(),
             None => 0,
         }
@@ -72,7 +80,7 @@ impl Classes {
     pub fn longest_phrase(&self, name: &Text) -> usize
         ensures { result ≡ longest_phrase (members_of (value_at name.now self.now)) }
     {
-        match self.classes.get(name) {
+        match self.get(name) {
             Some(class) => class.longest_phrase(),
             None => 0,
         }

@@ -61,7 +61,7 @@ pub use word::Word;
 pub use book::Book;
 pub use buckets::Buckets;
 pub use catalog::Catalog;
-pub use class::Member;
+pub use class::{Class, Member};
 pub use classes::Classes;
 pub use config::Config;
 pub use law::one_place;
