@@ -1,17 +1,13 @@
 -- What fits a `$=x` begins with the first token of a member, so that both masks have its place.
-use Rattle.std.proofs.Common.{◌≡◌, ℕ, zero, suc, ◌+◌, ◌^◌, ◌==◌, List, [], ◌∷◌, take, drop, Bool, true, false, not, Option, None, Some, bit_and, refl, sym, ap, ◌∙◌, subst, arith}
-use Rattle.std.specs.Prelude.{◌||◌}
+use Rattle.std.proofs.Common.{◌≡◌, ℕ, zero, suc, ◌+◌, ◌==◌, List, [], ◌∷◌, take, drop, Bool, true, false, not, bit_and, refl, sym, ap, ◌∙◌, subst, arith}
 use Rattle.std.specs.Int.{bit_at}
 use Rattle.std.specs.List.{list_all}
-use Rattle.std.proofs.lemmas.Bool.{and_parts, and_from, true≢false, both_ways, eqb-true}
+use Rattle.std.proofs.lemmas.Bool.{and_from, true≢false, both_ways, eqb-true}
 use Rattle.std.proofs.lemmas.List.{drop-drop}
-use Rattle.std.proofs.lemmas.List.Sums.{fold-append}
-use Rattle.std.proofs.lemmas.Nat.Bits.{bit_at-zero, bit_at_and, bit_at_or, bit_at-pow_same, bit_at-lt}
-use Rattle.mail_base.proofs.TokenPlaces.{same_place}
+use Rattle.std.proofs.lemmas.Nat.Bits.{bit_at-zero, bit_at_and}
+use Rattle.mail_base.proofs.HeadLemmas.{IsIn, put_place, keep_places, head_in}
 use Rattle.mail_base.specs.Catalogs.{value_at, members_of}
-use Rattle.mail_base.specs.Classes.{is_cut_into, is_phrase}
-use Rattle.mail_base.specs.Masks.{place_of, pair_place, places_from, mask_of, with_place, with_places, head_places, heads, heads_of, edge}
-use Rattle.mail_base.specs.Tokens.{same_token, same_tokens}
+use Rattle.mail_base.specs.Masks.{place_of, pair_place, places_from, mask_of, with_place, with_places, heads_of, edge}
 use Rattle.mail_base.specs.declared.class.Member.{Member}
 use Rattle.mail_base.specs.declared.classes.Classes.{Classes}
 use Rattle.mail_base.specs.declared.rule.Item.{Item}
@@ -20,22 +16,6 @@ use Rattle.mail_base.specs.declared.token.Token.{Token}
 use Rattle.rule_match.specs.Choices.{Fits}
 use Rattle.rule_match.specs.Wants.{Phrase, want, wants, lists_after, meets}
 use Rattle.rule_match.specs.inner.Heads.{has_head}
-
--- ---- the places of a mask
-
-abbrev IsIn : ℕ → ℕ → Type 0
-IsIn place mask = bit_at mask place ≡ 1
-
--- a mask has the place that is put in, and keeps those that it has
-put_place : (mask place : ℕ) → IsIn place (with_place mask place)
-put_place mask place = omega (arith, bit_at_or mask (2 ^ place) place, bit_at-pow_same place, bit_at-lt mask place)
-
-keep_place : (mask more place : ℕ) → IsIn place mask → IsIn place (with_place mask more)
-keep_place mask more place h = omega (arith, h, bit_at_or mask (2 ^ more) place, bit_at-lt (2 ^ more) place)
-
-pub keep_places : (places : List ℕ) (mask place : ℕ) → IsIn place mask → IsIn place (with_places mask places)
-keep_places [] mask place h = h
-keep_places (more ∷ places) mask place h = keep_places places (with_place mask more) place (keep_place mask more place h)
 
 -- two masks that both have a place have bits in common
 common_place : (one another place : ℕ) → IsIn place one → IsIn place another → not (bit_and one another == 0) ≡ true
@@ -60,33 +40,13 @@ token_in (token ∷ tokens) zero mask before first rest e =
     (put_place (with_place mask (pair_place before (place_of token))) (place_of token)))
 token_in (token ∷ tokens) (suc n) mask before first rest e = token_in tokens n (with_place (with_place mask (pair_place before (place_of token))) (place_of token)) (place_of token) first rest e
 
--- ---- and the first token of a phrase has the place of a member's
-
-put_head : (tokens : Option (List Token)) (mask : ℕ) (first : Token) (rest : List Token) → is_cut_into (first ∷ rest) tokens ≡ true → IsIn (place_of first) (with_places mask (head_places tokens))
-put_head None mask first rest h = absurd (true≢false (sym h))
-put_head (Some []) mask first rest h = absurd (true≢false (sym h))
-put_head (Some (token ∷ tokens)) mask first rest h =
-    let same = same_place first token (and_parts (same_token first token) (same_tokens rest tokens) h).0 in
-    subst (λ (place : ℕ). IsIn place (with_place mask (place_of token))) (sym same) (put_place mask (place_of token))
-
-head_in : (members : List Member) (mask : ℕ) (first : Token) (rest : List Token) → is_phrase (first ∷ rest) members ≡ true → IsIn (place_of first) (with_places mask (heads members))
-head_in [] mask first rest h = absurd (true≢false (sym h))
-head_in (member ∷ members) mask first rest h =
-    subst (IsIn (place_of first)) (sym (fold-append with_place mask (head_places member.tokens) (heads members)))
-    (by (is_cut_into (first ∷ rest) member.tokens) refl h (λ k. head_in members (with_places mask (head_places member.tokens)) first rest k))
-  where
-    by : (b : Bool) → is_cut_into (first ∷ rest) member.tokens ≡ b → (b || is_phrase (first ∷ rest) members) ≡ true → (is_phrase (first ∷ rest) members ≡ true → IsIn (place_of first) (with_places (with_places mask (head_places member.tokens)) (heads members)))
-        → IsIn (place_of first) (with_places (with_places mask (head_places member.tokens)) (heads members))
-    by true e k go = keep_places (heads members) (with_places mask (head_places member.tokens)) (place_of first) (put_head member.tokens mask first rest e)
-    by false e k go = go k
-
--- ---- so where a class has no such head, nothing fits
+-- ---- where a class has no such head, nothing fits
 
 phrase_head : (members : List Member) (tokens : List Token) (n k : ℕ) (left : List Token) → drop n tokens ≡ left → meets (Phrase members) (take k left) ≡ true → not (bit_and (heads_of members) (mask_of tokens) == 0) ≡ true
 phrase_head members tokens n zero left e met = absurd (true≢false (sym met))
 phrase_head members tokens n (suc k) [] e met = absurd (true≢false (sym met))
 phrase_head members tokens n (suc k) (first ∷ rest) e met =
-    common_place (heads_of members) (mask_of tokens) (place_of first) (head_in members 0 first (take k rest) met) (token_in tokens n 0 edge first rest e)
+    common_place (heads_of members) (mask_of tokens) (place_of first) (head_in members first (take k rest) met) (token_in tokens n 0 edge first rest e)
 
 module _ (classes : Classes) (tokens : List Token) where
   item_head : (late : List (List Token)) (item : Item) (n k : ℕ) → meets (want classes late item) (take k (drop n tokens)) ≡ true → has_head (mask_of tokens) classes item ≡ true

@@ -1,9 +1,10 @@
 ghost use Rattle.std.specs.Prelude.{◌≡◌, ◌+◌, ◌-◌, ◌≤◌, ◌<◌, ◌∷◌, [], ◌*◌, List, ℕ, length, take, drop, count_by, true, false, IfSome, IfNone};
-ghost use Rattle.mail_base.specs.Catalogs.{value_at, members_of};
+ghost use Rattle.std.specs.Option.{option_copied};
+ghost use Rattle.mail_base.specs.Catalogs.{members_of};
 ghost use Rattle.mail_base.specs.Metas.{is_late, is_meta};
 ghost use Rattle.rule_match.specs.Choices.{Fits};
 ghost use Rattle.rule_match.specs.inner.Rows.{IsRow, IsLater, IsStart, IsLeast, AreRows, StandRows, starts_fixed};
-ghost use Rattle.rule_match.specs.inner.Steps.{is_free, IsNext};
+ghost use Rattle.rule_match.specs.inner.Steps.{class_of, is_free, IsNext};
 ghost use Rattle.rule_match.specs.Wants.{Want, Phrase, These, want, wants, meets};
 ghost use Rattle.mail_base.specs.declared.token.Token.{Token};
 
@@ -11,7 +12,7 @@ use crate::meeting::{is_free, is_met, is_same, parted, width};
 use crate::row::Row;
 use crate::walk::Lengths;
 use arrayvec::ArrayVec;
-use mail_base::{Classes, Item, Seq, Text, Token};
+use mail_base::{Class, Classes, Item, Seq, Token};
 
 /// The rows behind the items of several possible lengths, the last item's first.
 pub fn rows_of<const W: usize>(
@@ -71,12 +72,13 @@ fn row_before<const W: usize>(
     if after.is_empty() {
         return row;
     }
+    let class = class_of(classes, item);
     let mut later = false;
     let mut end = tokens.len() + 1;
     while end > 0 {
         let place = end - 1;
         let (_before, left) = parted(tokens, place);
-        if is_start(classes, late, item, left, place, after, later) {
+        if is_start(classes, late, item, class, left, place, after, later) {
             row.set(place);
         }
         later = later || after.has(place);
@@ -85,17 +87,30 @@ fn row_before<const W: usize>(
     row
 }
 
+/// The class whose phrases the item matches, where it is there. It is looked up once, and not at
+/// each place of the tokens.
+fn class_of<'a>(classes: &'a Classes, item: &Item) -> Option<&'a Class>
+    ensures { option_copied result ≡ class_of classes.now item.now }
+{
+    match item {
+        Item::InClass(name) => classes.get(name),
+        _ => None,
+    }
+}
+
 /// Whether the item is met by tokens from a place on up to one whose bit is set. It is known
 /// whether a bit behind the place is.
 fn is_start<const W: usize>(
     classes: &Classes,
     late: &[Seq<Token>],
     item: &Item,
+    class: Option<&Class>,
     left: &[Token],
     place: usize,
     after: &Row<W>,
     later: bool,
 ) -> bool
+    requires class { option_copied class ≡ class_of classes.now item.now }
     requires small { W ≤ 32 }
     requires short { place + length left.now < 64 * W }
     ensures { IsLater after.now (place + 1) (place + length left.now) later
@@ -104,7 +119,7 @@ fn is_start<const W: usize>(
     match item {
         Item::Any => later || after.has(place),
         Item::More => later,
-        Item::InClass(name) => later && phrase_length(classes, name, left, place, after).is_some(),
+        Item::InClass(_) => later && phrase_length(class, left, place, after).is_some(),
         _ => is_fixed_start(classes, late, item, left, place, after),
     }
 }
@@ -129,8 +144,7 @@ fn is_fixed_start<const W: usize>(
 
 /// The least number of tokens that are a phrase of the class, up to a place whose bit is set.
 fn phrase_length<const W: usize>(
-    classes: &Classes,
-    name: &Text,
+    class: Option<&Class>,
     left: &[Token],
     place: usize,
     after: &Row<W>,
@@ -138,17 +152,18 @@ fn phrase_length<const W: usize>(
     requires small { W ≤ 32 }
     requires short { place + length left.now < 64 * W }
     ensures some { IfSome result
-        (λ n. IsLeast (Phrase (members_of (value_at name.now classes.now)))
+        (λ n. IsLeast (Phrase (members_of (option_copied class.entry)))
         left.now place after.now n) }
     ensures none { IfNone result
-        (IsStart (Phrase (members_of (value_at name.now classes.now)))
+        (IsStart (Phrase (members_of (option_copied class.entry)))
         left.now place after.now false) }
 {
-    let most = classes.longest_phrase(name).min(left.len());
+    let class = class?;
+    let most = class.longest_phrase().min(left.len());
     for length in 1..most + 1 {
         if after.has(place + length) {
             let (piece, _rest) = parted(left, length);
-            if classes.has_phrase(name, piece) {
+            if class.has_phrase(piece) {
                 return Some(length);
             }
         }
@@ -290,8 +305,8 @@ fn least_length<const W: usize>(
     ensures none { IfNone result
         (IsStart (want classes.now late.now item.now) left.now place after.now false) }
 {
-    if let Item::InClass(name) = item {
-        return phrase_length(classes, name, left, place, after);
+    if matches!(item, Item::InClass(_)) {
+        return phrase_length(class_of(classes, item), left, place, after);
     }
     for length in 0..left.len() + 1 {
         if after.has(place + length) {

@@ -1,5 +1,8 @@
 -- One step of the search for the match that a rule takes; only private contracts cite it.
-use Rattle.std.specs.Prelude.{ℕ, ◌+◌, ◌-◌, ◌≤◌, ◌<◌, ◌≡◌, ◌==◌, List, [], ◌∷◌, length, take, drop, Bool, true, false, IsTrue, ◌&&◌, nat_le, slice_range, if◌then◌else◌}
+use Rattle.std.specs.Prelude.{ℕ, ◌+◌, ◌-◌, ◌≤◌, ◌<◌, ◌≡◌, ◌==◌, List, [], ◌∷◌, length, take, drop, Bool, true, false, Option, None, IsTrue, ◌&&◌, nat_le, slice_range, if◌then◌else◌}
+use Rattle.mail_base.specs.Catalogs.{value_at}
+use Rattle.mail_base.specs.declared.class.Member.{Member}
+use Rattle.mail_base.specs.declared.classes.Classes.{Classes}
 use Rattle.mail_base.specs.declared.token.Token.{Token}
 use Rattle.mail_base.specs.declared.rule.Item.{Item}
 use Rattle.mail_base.specs.declared.rule.Item.TheVariants.{Any, More, One, InClass, NotInClass, Exact, Late}
@@ -65,6 +68,11 @@ is_free Any = true
 is_free More = true
 is_free (InClass _) = true
 is_free _ = false
+
+-- the class whose phrases an item matches, where it is there
+abbrev pub class_of : Classes → Item → Option (List Member)
+class_of classes (InClass name) = value_at name classes
+class_of classes _ = None
 
 abbrev pub width_of : List (List Token) → Item → ℕ
 width_of late One = 1
