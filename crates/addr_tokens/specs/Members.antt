@@ -8,7 +8,7 @@ use Rattle.mail_base.specs.declared.token.Token.{Token}
 use Rattle.addr_tokens.specs.declared.fault.ScanFault.{ScanFault}
 use Rattle.addr_tokens.specs.declared.fault.ScanFault.TheVariants.{Long}
 use Rattle.addr_tokens.specs.Pieces.{plain}
-use Rattle.addr_tokens.specs.Reader.{tokens_or_fault}
+use Rattle.addr_tokens.specs.Reader.{cut, tokens_or_fault}
 
 -- a fault of a text whatever the operators are: only how many tokens it has depends on these
 abbrev pub is_fault_anyway : Result (List Token) ScanFault → Bool
@@ -29,12 +29,7 @@ abbrev pub words_in : {E : Type 0} → Result (List ℕ) E → Option (List (Lis
 words_in (Ok text) = words_or_none (words_of text)
 words_in (Err fault) = None
 
--- the tokens of a text, or none where it can't be cut
-abbrev pub tokens_in : Result (List Token) ScanFault → Option (List Token)
-tokens_in (Ok tokens) = Some tokens
-tokens_in (Err fault) = None
-
 -- a word as a member of its class, under these operators
 abbrev pub member_of : List ℕ → List ℕ → Member
 member_of operators word =
-    record { text = word; tokens = tokens_in (tokens_or_fault (plain operators) false word) }
+    record { text = word; tokens = cut operators false word }

@@ -6,10 +6,11 @@ use Rattle.addr_tokens.specs.declared.lexeme.Dollars.{Dollars}
 use Rattle.addr_tokens.specs.declared.lexeme.Lexeme.{Lexeme}
 use Rattle.addr_tokens.specs.declared.lexeme.Lexeme.TheVariants.{Token as Plain, Dollar as Metasign, Named}
 use Rattle.std.specs.List.{flat_map}
+use Rattle.std.specs.Result.{result_ok}
 use Rattle.addr_tokens.specs.declared.fault.ScanFault.{ScanFault}
 use Rattle.addr_tokens.specs.declared.fault.ScanFault.TheVariants.{Unbalanced, BadQuote, BadDollar, Long}
 use Rattle.mail_base.specs.Whites.{is_white}
-use Rattle.addr_tokens.specs.Pieces.{Alphabet, Single, Letter, Braced, Piece, White, Comment, Quotation, Operator, Dollar, Run, bytes_of, given_by, is_control, is_listed, is_word_byte, is_dollar, is_doubled, is_construct, is_naming, is_letter}
+use Rattle.addr_tokens.specs.Pieces.{Alphabet, Single, Letter, Braced, Piece, White, Comment, Quotation, Operator, Dollar, Run, bytes_of, given_by, plain, is_control, is_listed, is_word_byte, is_dollar, is_doubled, is_construct, is_naming, is_letter}
 use Rattle.addr_tokens.specs.Scans.{most_tokens}
 
 -- where a quote or a comment ends: what is behind it, nowhere, or at a bad byte that is followed by
@@ -228,3 +229,7 @@ tokens_among (Err fault) = Err fault
 -- where each lexeme is a token
 abbrev pub tokens_or_fault : Alphabet → Bool → List ℕ → Result (List Token) ScanFault
 tokens_or_fault alphabet angles text = tokens_among (outcome_of alphabet angles text)
+
+-- the tokens of a text under these operators, or none where it can't be cut
+unfoldable pub cut : List ℕ → Bool → List ℕ → Option (List Token)
+cut operators angles text = result_ok (tokens_or_fault (plain operators) angles text)

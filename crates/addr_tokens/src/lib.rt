@@ -23,4 +23,4 @@ pub use joining::{join, push_token};
 pub use law::{computed, cut_again, lexemes_are_tokens, one_answer, one_cutting};
 pub use lexeme::{Dollars, Lexeme};
 pub use member::{any_refused, members};
-pub use scan::{lexemes, tokens, typed_tokens};
+pub use scan::{cut, lexemes, tokens, typed_tokens};

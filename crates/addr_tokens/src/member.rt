@@ -1,13 +1,11 @@
-ghost use Rattle.std.specs.Prelude.{◌≡◌, false, map, IfOk};
+ghost use Rattle.std.specs.Prelude.{◌≡◌, map, IfOk};
 ghost use Rattle.std.specs.List.{list_any};
 ghost use Rattle.addr_tokens.specs.Members as spec;
-ghost use Rattle.addr_tokens.specs.Pieces.{plain};
-ghost use Rattle.addr_tokens.specs.Reader.{tokens_or_fault};
 
 use crate::ScanFault;
 use crate::law::computed;
-use crate::scan::tokens;
-use mail_base::{Member, NoMemory, Seq, Text, Token};
+use crate::scan::{cut, tokens};
+use mail_base::{Member, NoMemory, Seq, Text};
 use std::alloc::Global;
 
 /// Whether one of the words can't be cut into tokens, under any operators: then no line gives these
@@ -50,20 +48,7 @@ pub fn members(alloc: Global, operators: &Text, words: &[Text]) -> Result<Seq<Me
 fn member(alloc: Global, operators: &Text, word: &Text) -> Result<Member, NoMemory>
     ensures { IfOk result (λ member. member ≡ spec.member_of operators.now word.now) }
 {
-    let tokens = cut(alloc, operators, word)?;
+    let tokens = cut(alloc, word, operators, false)?;
     let text = Text::of(alloc, word.bytes())?;
     Ok(Member { text, tokens })
-}
-
-// The tokens of a word, or none where it can't be cut.
-fn cut(alloc: Global, operators: &Text, word: &Text) -> Result<Option<Seq<Token>>, NoMemory>
-    ensures { IfOk result (λ given. given
-        ≡ spec.tokens_in (tokens_or_fault (plain operators.now) false word.now)) }
-{
-    computed();
-    match tokens(alloc, word, operators, false) {
-        Ok(tokens) => Ok(Some(tokens)),
-        Err(ScanFault::NoMemory) => Err(NoMemory),
-        Err(_) => Ok(None),
-    }
 }

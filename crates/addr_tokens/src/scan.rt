@@ -1,15 +1,17 @@
-ghost use Rattle.std.specs.Prelude.{map, IfOk, IfErr};
+ghost use Rattle.std.specs.Prelude.{◌≡◌, map, IfOk, IfErr};
 ghost use Rattle.addr_tokens.specs.declared.lexeme.Dollars.TheVariants.{Typed, Side};
 ghost use Rattle.addr_tokens.specs.Pieces.{alphabet_of, plain};
+ghost use Rattle.addr_tokens.specs.Reader.{cut};
 ghost use Rattle.addr_tokens.specs.Scans.{AreLexemes, AreTokens, ExplainsFault};
 
 use crate::ScanFault;
 use crate::gathering::{Angles, Gathering, answer_of};
 use crate::given::Given;
+use crate::law::computed;
 use crate::lexeme::{Dollars, Lexeme};
 use crate::table::Table;
 use crate::taking::take_first;
-use mail_base::{Seq, Text, Token};
+use mail_base::{NoMemory, Seq, Text, Token};
 use std::alloc::Global;
 
 /// The tokens of a text, each a Word, a Quoted token or an operator. The operators are the bytes of
@@ -33,6 +35,25 @@ pub fn tokens(
         angles,
         Dollars::Bytes,
     )
+}
+
+/// The tokens of a text as by [`tokens`], or `None` where it can't be cut.
+#[tactic(auto, unfolding(crate::specs::Reader::cut))]
+pub fn cut(
+    alloc: Global,
+    text: &Text,
+    operators: &Text,
+    angles: bool,
+) -> Result<Option<Seq<Token>>, NoMemory>
+    ensures { IfOk result (λ given. given ≡ cut operators.now angles text.now) }
+{
+    // A law: the tokens that are cut are those that the definition computes.
+    computed();
+    match tokens(alloc, text, operators, angles) {
+        Ok(tokens) => Ok(Some(tokens)),
+        Err(ScanFault::NoMemory) => Err(NoMemory),
+        Err(_) => Ok(None),
+    }
 }
 
 /// The tokens of an address that is typed, in which `$|`, `$#`, `$@`, `$:` and `$.` are those
