@@ -120,9 +120,9 @@ test_opens : (scope : Scope) (name : Named) → IsNamed name → Opens scope (36
 test_opens scope (Bare x) is = record { found = λ more. ap (test_of (36 ∷ 63 ∷ x ∷ more)) (named_at (Bare x) is more); some = omega arith }
 test_opens scope (Braced word) is = record {
   found = λ more.
-      let width : length word + 4 ≡ length (36 ∷ 63 ∷ 123 ∷ (word ++ 125 ∷ [])) = omega (arith, length-append word (125 ∷ [])) in
+      let width : 2 + length word + 2 ≡ length (36 ∷ 63 ∷ 123 ∷ (word ++ 125 ∷ [])) = omega (arith, length-append word (125 ∷ [])) in
       ap (test_of (36 ∷ 63 ∷ 123 ∷ ((word ++ 125 ∷ []) ++ more))) (named_at (Braced word) is more)
-      ∙ ap (λ t. piece Test t (length word + 4)) (word_taken word more) ∙ ap (piece Test word) width;
+      ∙ ap (λ t. piece Test t (2 + length word + 2)) (word_taken word more) ∙ ap (piece Test word) width;
   some = omega arith;
 }
 

@@ -41,20 +41,24 @@ pub record Piece : Type 0 where
 abbrev pub piece : Kind → List ℕ → ℕ → Piece
 piece kind text width = record { kind = kind; text = text; width = width }
 
--- `$x` and `${x}`, and with an offset of 2 `$&x` and `$&{x}` outside rules
+-- a construct of a kind with its name at an offset, and its width where that name's brace is
+-- unclosed
+abbrev pub with_name : Kind → ℕ → ℕ → List ℕ → Naming → Piece
+with_name kind offset unclosed text Letter =
+    piece kind (take 1 (drop offset text)) (offset + 1)
+with_name kind offset unclosed text (Word length) =
+    piece kind (take length (drop (offset + 1) text)) (offset + length + 2)
+with_name kind offset unclosed text Open = piece Unclosed [] unclosed
+with_name kind offset unclosed text Nameless = piece Plain (take 2 text) 2
+
+-- `$x` and `${x}`, and with an offset of 2 `$&x` and `$&{x}` outside rules; where its brace is
+-- unclosed, that is the sign
 abbrev pub reference_at : ℕ → List ℕ → Naming → Piece
-reference_at offset text Letter = piece Reference (take 1 (drop offset text)) (offset + 1)
-reference_at offset text (Word length) =
-    piece Reference (take length (drop (offset + 1) text)) (offset + length + 2)
-reference_at offset text Open = piece Unclosed [] (offset + 1)
-reference_at offset text Nameless = piece Plain (take 2 text) 2
+reference_at offset text naming = with_name Reference offset (offset + 1) text naming
 
 -- `$?x` and `$?{x}`; one whose brace is unclosed is unclosed itself
 abbrev pub test_of : List ℕ → Naming → Piece
-test_of text Letter = piece Test (take 1 (drop 2 text)) 3
-test_of text (Word length) = piece Test (take length (drop 3 text)) (length + 4)
-test_of text Open = piece Unclosed [] 1
-test_of text Nameless = piece Plain (take 2 text) 2
+test_of text naming = with_name Test 2 1 text naming
 
 -- `$$`, which stands for a dollar sign outside rules, and in a rule stays as it is written
 abbrev pub doubled : Scope → List ℕ → Piece

@@ -1,6 +1,7 @@
 -- The expansion of a text (Sendmail Installation and Operation Guide, macros and conditionals; the
 -- limits and the order of refusals are our own).
 use Rattle.std.specs.Prelude.{ℕ, zero, suc, List, [], ◌∷◌, ◌++◌, map, Bool, true, false, if◌then◌else◌, Result, Ok, Err, codes, unwrap_or, ◌≡◌}
+use Rattle.std.specs.Result.{result_unwrap_or}
 use Rattle.mail_base.specs.Catalogs.{value_at}
 use Rattle.cf_macros.specs.declared.fault.ExpandFault.{ExpandFault}
 use Rattle.cf_macros.specs.declared.fault.ExpandFault.TheVariants.{Unclosed, Deep, Large, NoMemory}
@@ -77,6 +78,14 @@ value_in scope text macros =
 -- outside rules
 abbrev pub value : List ℕ → List (List ℕ × List ℕ) → Result (List ℕ) ExpandFault
 value text macros = value_in Outside text macros
+
+-- the same of a text that counts as empty where its expansion is refused
+abbrev pub expanded : List ℕ → List (List ℕ × List ℕ) → List ℕ
+expanded text macros = result_unwrap_or (value text macros) []
+
+-- the name of this host: the value of `$j`
+abbrev pub host_name : List (List ℕ × List ℕ) → List ℕ
+host_name macros = expanded (codes "$j") macros
 
 -- as a side of a rule, in which `$$`, `$&x` and `$&{x}` stay as they are written at every level
 abbrev pub rule_value : List ℕ → List (List ℕ × List ℕ) → Result (List ℕ) ExpandFault

@@ -1,7 +1,7 @@
 ghost use Rattle.std.specs.Prelude.{◌≡◌, ◌==◌, ◌+◌, ◌<◌, ◌≤◌, [], take, drop, length};
 ghost use Rattle.std.specs.List.{position};
 ghost use Rattle.cf_macros.specs.declared.construct.Kind.TheVariants.{Plain};
-ghost use Rattle.cf_macros.specs.Constructs.{is_name, name_at, piece, reference_at, test_of, doubled, kept, late, dollar_piece, first_piece};
+ghost use Rattle.cf_macros.specs.Constructs.{is_name, name_at, with_name, piece, reference_at, test_of, doubled, kept, late, dollar_piece, first_piece};
 ghost use Rattle.cf_macros.specs.inner.Found.{IsWithin, Shows};
 
 use crate::scope::Scope;
@@ -86,6 +86,37 @@ fn part(text: &[u8], from: usize, count: usize) -> &[u8]
     &text[from..][..count]
 }
 
+// A construct with a name at this offset; its width where the name's brace is unclosed.
+fn with_name(kind: Kind, text: &[u8], offset: usize, unclosed: usize) -> Construct<'_>
+    requires behind { 1 ≤ offset }
+    requires within { offset ≤ length text.now }
+    requires two { 2 ≤ length text.now }
+    requires some { 1 ≤ unclosed }
+    requires few { unclosed ≤ offset + 1 }
+    ensures { Shows result
+        (with_name kind offset unclosed text.now (name_at (drop offset text.now)))
+        (length text.now) }
+{
+    match name_at(&text[offset..]) {
+        Naming::Letter => Construct {
+            kind,
+            text: part(text, offset, 1),
+            width: offset + 1,
+        },
+        Naming::Word(count) => Construct {
+            kind,
+            text: part(text, offset + 1, count),
+            width: offset + count + 2,
+        },
+        Naming::Open => Construct {
+            kind: Kind::Unclosed,
+            text: &[],
+            width: unclosed,
+        },
+        Naming::Nameless => plain(text, 2, 2),
+    }
+}
+
 fn reference_at(text: &[u8], offset: usize) -> Construct<'_>
     requires behind { 1 ≤ offset }
     requires within { offset ≤ length text.now }
@@ -93,48 +124,14 @@ fn reference_at(text: &[u8], offset: usize) -> Construct<'_>
     ensures { Shows result (reference_at offset text.now (name_at (drop offset text.now)))
         (length text.now) }
 {
-    match name_at(&text[offset..]) {
-        Naming::Letter => Construct {
-            kind: Kind::Reference,
-            text: part(text, offset, 1),
-            width: offset + 1,
-        },
-        Naming::Word(count) => Construct {
-            kind: Kind::Reference,
-            text: part(text, offset + 1, count),
-            width: offset + count + 2,
-        },
-        Naming::Open => Construct {
-            kind: Kind::Unclosed,
-            text: &[],
-            width: offset + 1,
-        },
-        Naming::Nameless => plain(text, 2, 2),
-    }
+    with_name(Kind::Reference, text, offset, offset + 1)
 }
 
 fn test_of(text: &[u8]) -> Construct<'_>
     requires { 2 ≤ length text.now }
     ensures { Shows result (test_of text.now (name_at (drop 2 text.now))) (length text.now) }
 {
-    match name_at(&text[2..]) {
-        Naming::Letter => Construct {
-            kind: Kind::Test,
-            text: part(text, 2, 1),
-            width: 3,
-        },
-        Naming::Word(count) => Construct {
-            kind: Kind::Test,
-            text: part(text, 3, count),
-            width: count + 4,
-        },
-        Naming::Open => Construct {
-            kind: Kind::Unclosed,
-            text: &[],
-            width: 1,
-        },
-        Naming::Nameless => plain(text, 2, 2),
-    }
+    with_name(Kind::Test, text, 2, 1)
 }
 
 fn plain(text: &[u8], count: usize, width: usize) -> Construct<'_>

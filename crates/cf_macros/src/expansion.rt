@@ -1,6 +1,7 @@
 ghost use Rattle.std.specs.Prelude.{◌≡◌, ◌≤◌, ◌+◌, [], false, None, Some, Ok, unwrap_or, OnOk, IfOk, IfErr, option_copied};
 ghost use Rattle.std.specs.List.{list_any};
 ghost use Rattle.mail_base.specs.Catalogs.{value_at};
+ghost use Rattle.cf_macros.specs.Expansion as spec;
 ghost use Rattle.cf_macros.specs.Expansion.{value, rule_value, value_in, IsRefused};
 ghost use Rattle.cf_macros.specs.inner.Levels.{is_silent};
 ghost use Rattle.cf_macros.specs.inner.Runs.{Reads, Fails, comes_to};
@@ -9,7 +10,7 @@ use crate::ExpandFault;
 use crate::level::{Given, Level};
 use crate::run::Run;
 use crate::scope::Scope;
-use mail_base::{Macros, Text};
+use mail_base::{Macros, NoMemory, Text};
 use std::alloc::Global;
 
 /// The most levels of references.
@@ -112,6 +113,27 @@ pub fn expand(alloc: Global, text: &Text, macros: &Macros) -> Result<Text, Expan
     ensures refused { IfErr result (λ fault. IsRefused fault (value text.now macros.now)) }
 {
     expand_in(alloc, Scope::Outside, text, macros)
+}
+
+/// The same of a text that counts as empty where its expansion is refused.
+pub fn expanded(alloc: Global, text: &Text, macros: &Macros) -> Result<Text, NoMemory>
+    ensures { IfOk result (λ given. given ≡ spec.expanded text.now macros.now) }
+{
+    match expand(alloc, text, macros) {
+        Ok(given) => Ok(given),
+        Err(ExpandFault::NoMemory) => Err(NoMemory),
+        Err(ExpandFault::Unclosed(_)) => Ok(Text::new(alloc)),
+        Err(ExpandFault::Deep) => Ok(Text::new(alloc)),
+        Err(ExpandFault::Large) => Ok(Text::new(alloc)),
+    }
+}
+
+/// The name of this host: the value of `$j`, which is empty where its expansion is refused.
+pub fn host_name(alloc: Global, macros: &Macros) -> Result<Text, NoMemory>
+    ensures { IfOk result (λ name. name ≡ spec.host_name macros.now) }
+{
+    let written = Text::of(alloc, b"$j")?;
+    expanded(alloc, &written, macros)
 }
 
 /// A side of a rule, expanded as by [`expand`], but that `$$`, `$&x` and `$&{x}` stay as they are

@@ -17,7 +17,7 @@ mod scope;
 mod steps;
 
 pub use dates::date;
-pub use expansion::{expand, expand_rule};
+pub use expansion::{expand, expand_rule, expanded, host_name};
 pub use fault::ExpandFault;
 pub use form::Form;
 pub use law::{rule_values_by_first_construct, values_by_first_construct};
