@@ -2,12 +2,11 @@
 -- what becomes of line ends in a value is our own).
 use Rattle.std.specs.Prelude.{◌≡◌, ℕ, slice_index, ◌==◌, Bool, true, not, ◌||◌, ◌&&◌, List, [], ◌∷◌, ◌++◌, take, map, filter, find, Option, option_map, if◌then◌else◌, codes, refl}
 use Rattle.std.specs.List.{list_any}
-use Rattle.std.specs.Result.{result_unwrap_or}
 use Rattle.std.specs.Str.{str_eq_ignore_ascii_case}
 use Rattle.mail_base.specs.Texts.{is_blank}
 use Rattle.mail_base.specs.declared.lines.HeaderLine.{HeaderLine}
 use Rattle.mail_base.specs.declared.mailer.Mailer.{Mailer}
-use Rattle.cf_macros.specs.Expansion.{value}
+use Rattle.cf_macros.specs.Expansion.{expanded}
 use Rattle.mail_header.specs.Headers.{is_plain}
 use Rattle.mail_header.specs.Fields.{name_of, is_named}
 
@@ -25,10 +24,6 @@ tidied (b ∷ rest) = (if is_plain b || folds b rest then b else 32) ∷ tidied 
 abbrev pub spaced : List ℕ → List ℕ
 spaced [] = []
 spaced (b ∷ value) = 32 ∷ b ∷ value
-
--- the value of a template: nothing where its expansion is refused
-abbrev pub expanded : List ℕ → List (List ℕ × List ℕ) → List ℕ
-expanded template macros = result_unwrap_or (value template macros) []
 
 -- the header that an H line makes
 abbrev pub made_of : List (List ℕ × List ℕ) → HeaderLine → List ℕ

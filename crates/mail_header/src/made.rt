@@ -4,7 +4,7 @@ ghost use Rattle.mail_base.specs.Texts.{IsHeader};
 ghost use Rattle.mail_header.specs.Made as spec;
 ghost use Rattle.mail_header.specs.inner.Tidy.{tidy_first};
 
-use cf_macros::{ExpandFault, expand};
+use cf_macros::expanded;
 use mail_base::{Config, HeaderLine, Macros, NoMemory, Text, is_blank};
 use std::alloc::Global;
 
@@ -41,7 +41,7 @@ fn is_received(line: &HeaderLine) -> bool
 fn made(line: &HeaderLine, macros: &Macros) -> Result<Text, NoMemory>
     ensures { IfOk result (λ made. made ≡ spec.made_of macros.now line.now) }
 {
-    let value = expanded(&line.template, macros)?;
+    let value = expanded(line.template.allocator(), &line.template, macros)?;
     let text = joined(&line.name, &value)?;
     tidied(text.allocator(), text.bytes())
 }
@@ -56,19 +56,6 @@ fn joined(name: &Text, value: &Text) -> Result<Text, NoMemory>
         text.extend(value.bytes())?;
     }
     Ok(text)
-}
-
-/// The value of a template: nothing where its expansion is refused.
-fn expanded(template: &Text, macros: &Macros) -> Result<Text, NoMemory>
-    ensures { IfOk result (λ value. value ≡ spec.expanded template.now macros.now) }
-{
-    match expand(template.allocator(), template, macros) {
-        Ok(value) => Ok(value),
-        Err(ExpandFault::NoMemory) => Err(NoMemory),
-        Err(ExpandFault::Unclosed(_)) => Ok(Text::new(template.allocator())),
-        Err(ExpandFault::Deep) => Ok(Text::new(template.allocator())),
-        Err(ExpandFault::Large) => Ok(Text::new(template.allocator())),
-    }
 }
 
 fn tidied(alloc: Global, text: &[u8]) -> Result<Text, NoMemory>
