@@ -1,10 +1,11 @@
 -- What a look-up of a right side gives.
-use Rattle.std.proofs.Common.{◌≡◌, ℕ, List, [], ◌∷◌, Option, Some, None, Result, Ok, Err, map, sym, ◌∙◌, ap, subst}
+use Rattle.std.proofs.Common.{◌≡◌, ℕ, List, [], ◌∷◌, false, Option, Some, None, Result, Ok, Err, map, sym, ◌∙◌, ap, subst}
 use Rattle.mail_base.specs.declared.token.Token.{Token}
 use Rattle.mail_base.specs.declared.rule.Piece.{Piece}
 use Rattle.mail_base.specs.declared.rule.Step.{Step}
 use Rattle.mail_base.specs.declared.rule.Query.{Query}
 use Rattle.mail_base.specs.declared.rule.Step.TheVariants.{Plain, Lookup, Call}
+use Rattle.addr_tokens.specs.Reader.{cut}
 use Rattle.map_tables.specs.declared.found.Found.{Found}
 use Rattle.map_tables.specs.declared.found.Found.TheVariants.{Value, Absent}
 use Rattle.map_tables.specs.declared.found.MapFault.{MapFault}
@@ -13,7 +14,7 @@ use Rattle.map_tables.specs.Answers.{Loaded, map_answer, macros_after, told}
 use Rattle.ruleset_run.specs.declared.fault.RunFault.{RunFault}
 use Rattle.ruleset_run.specs.declared.fault.RunFault.TheVariants as faults
 use Rattle.ruleset_run.specs.Sites.{Macros}
-use Rattle.ruleset_run.specs.Cutting.{Lates, cut}
+use Rattle.ruleset_run.specs.Cutting.{Lates}
 use Rattle.ruleset_run.specs.Filling.{OneToken, OneCall, Matched, Told, scanned, told_by, asked, looked_up, piece_tokens, pieces_tokens, fallback_tokens, put, put_told, filled}
 use Rattle.ruleset_run.specs.inner.Filler.{LooksFault, StepFault}
 use Rattle.ruleset_run.specs.inner.Values.{Known, lates}
@@ -55,11 +56,11 @@ module _ (loaded : Loaded) (start second third : Known) (name : List ℕ) (found
         let m : macros_after (map_answer loaded name text texts) text texts start.after ≡ last.after = ap (macros_after (map_answer loaded name text texts) text texts) (ap (λ (v : Known). v.after) (sym (later ∙ same))) ∙ sym (ap (λ (v : Known). v.after) after_is) in
         by_told r e ∙ ap (λ x. told_by start.operators name key (fallback_tokens (lates start) found fallback) x r) m
 
-    pub look_value : (answer : List ℕ) → Ok (Value answer) ≡ told (map_answer loaded name text texts) → (tokens : List Token) → Some tokens ≡ cut last.operators answer → All ≡ Ok (record { tokens = tokens; macros = last.after })
-    look_value answer e tokens is = by_last (Ok (Value answer)) e ∙ ap (scanned last.after) (ap (λ o. cut o answer) (sym operators_are) ∙ sym is)
+    pub look_value : (answer : List ℕ) → Ok (Value answer) ≡ told (map_answer loaded name text texts) → (tokens : List Token) → Some tokens ≡ cut last.operators false answer → All ≡ Ok (record { tokens = tokens; macros = last.after })
+    look_value answer e tokens is = by_last (Ok (Value answer)) e ∙ ap (scanned last.after) (ap (λ o. cut o false answer) (sym operators_are) ∙ sym is)
 
-    pub look_unscanned : (answer : List ℕ) → Ok (Value answer) ≡ told (map_answer loaded name text texts) → None ≡ cut last.operators answer → All ≡ Err faults.BadScan
-    look_unscanned answer e is = by_last (Ok (Value answer)) e ∙ ap (scanned last.after) (ap (λ o. cut o answer) (sym operators_are) ∙ sym is)
+    pub look_unscanned : (answer : List ℕ) → Ok (Value answer) ≡ told (map_answer loaded name text texts) → None ≡ cut last.operators false answer → All ≡ Err faults.BadScan
+    look_unscanned answer e is = by_last (Ok (Value answer)) e ∙ ap (scanned last.after) (ap (λ o. cut o false answer) (sym operators_are) ∙ sym is)
 
     pub look_key : Ok Absent ≡ told (map_answer loaded name text texts) → fallback ≡ None → All ≡ Ok (record { tokens = key; macros = last.after })
     look_key e none = by_last (Ok Absent) e ∙ ap (λ f. told_by start.operators name key (fallback_tokens (lates start) found f) last.after (Ok Absent)) none

@@ -1,41 +1,26 @@
 -- The tokens that a `$&x` stands for as the rule runs (Sendmail Operation Guide, macros; R and S:
 -- rewriting rules).
-use Rattle.std.specs.Prelude.{ℕ, List, [], ◌∷◌, Bool, true, false, Option, None, Some, is_some, Result, Ok, Err, unwrap_or}
+use Rattle.std.specs.Prelude.{ℕ, List, [], ◌∷◌, Bool, true, false, Option, None, Some, is_some, unwrap_or}
 use Rattle.std.specs.List.{list_all, flat_map}
 use Rattle.mail_base.specs.declared.token.Token.{Token}
 use Rattle.mail_base.specs.declared.rule.Item.{Item}
 use Rattle.mail_base.specs.declared.rule.Item.TheVariants.{Late}
 use Rattle.mail_base.specs.Catalogs.{value_at}
-use Rattle.addr_tokens.specs.declared.fault.ScanFault.{ScanFault}
-use Rattle.addr_tokens.specs.Pieces.{plain}
-use Rattle.addr_tokens.specs.Reader.{tokens_or_fault}
-use Rattle.cf_macros.specs.declared.fault.ExpandFault.{ExpandFault}
-use Rattle.cf_macros.specs.Expansion.{value}
+use Rattle.addr_tokens.specs.Reader.{cut}
+use Rattle.cf_macros.specs.Expansion.{expanded}
 use Rattle.ruleset_run.specs.Sites.{Macros}
-
-abbrev pub tokens_of : Result (List Token) ScanFault → Option (List Token)
-tokens_of (Ok tokens) = Some tokens
-tokens_of (Err fault) = None
-
--- the tokens of a text, or none where it can't be cut; angles aren't checked
-unfoldable pub cut : List ℕ → List ℕ → Option (List Token)
-cut operators text = tokens_of (tokens_or_fault (plain operators) false text)
-
-abbrev pub text_of : Result (List ℕ) ExpandFault → List ℕ
-text_of (Ok text) = text
-text_of (Err fault) = []
 
 abbrev pub text_in : Macros → Option (List ℕ) → List ℕ
 text_in macros None = []
-text_in macros (Some text) = text_of (value text macros)
+text_in macros (Some text) = expanded text macros
 
 -- the macro's value, expanded: empty where it isn't set, and where it can't be expanded
 unfoldable pub late_text : Macros → List ℕ → List ℕ
 late_text macros name = text_in macros (value_at name macros)
 
--- what a `$&x` stands for, if that can be cut
+-- what a `$&x` stands for, if that can be cut; angles aren't checked
 abbrev pub late_tokens : List ℕ → Macros → List ℕ → Option (List Token)
-late_tokens operators macros name = cut operators (late_text macros name)
+late_tokens operators macros name = cut operators false (late_text macros name)
 
 -- what each macro's `$&x` stands for, if that can be cut
 abbrev pub Lates : Type 0

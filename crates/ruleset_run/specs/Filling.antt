@@ -11,6 +11,7 @@ use Rattle.mail_base.specs.declared.rule.Piece.TheVariants.{Give, Cut, Late}
 use Rattle.mail_base.specs.declared.rule.Step.{Step}
 use Rattle.mail_base.specs.declared.rule.Step.TheVariants.{Plain, Lookup, Call}
 use Rattle.addr_tokens.specs.Joins.{joined, token_bytes}
+use Rattle.addr_tokens.specs.Reader.{cut}
 use Rattle.map_tables.specs.declared.found.Found.{Found}
 use Rattle.map_tables.specs.declared.found.Found.TheVariants.{Value, Absent}
 use Rattle.map_tables.specs.declared.found.MapFault.{MapFault}
@@ -20,7 +21,7 @@ use Rattle.rule_match.specs.Kept.{bound_piece}
 use Rattle.ruleset_run.specs.declared.fault.RunFault.{RunFault}
 use Rattle.ruleset_run.specs.declared.fault.RunFault.TheVariants.{BadScan, MapClass, NoSuchMap, NoMemory}
 use Rattle.ruleset_run.specs.Sites.{Macros}
-use Rattle.ruleset_run.specs.Cutting.{cut, Lates}
+use Rattle.ruleset_run.specs.Cutting.{Lates}
 
 -- the match of a left side with tokens, in which its items take these lengths
 pub record Matched : Type 0 where
@@ -75,7 +76,8 @@ scanned macros None = Err BadScan
 -- default, or of the key where there is none. No map tells want of memory
 abbrev pub told_by : List ℕ → List ℕ → List Token → Option (List Token) → Macros
     → Result Found MapFault → Result Told RunFault
-told_by operators name key fallback macros (Ok (Value text)) = scanned macros (cut operators text)
+told_by operators name key fallback macros (Ok (Value text)) =
+    scanned macros (cut operators false text)
 told_by operators name key fallback macros (Ok Absent) =
     Ok (record { tokens = unwrap_or fallback key; macros = macros })
 told_by operators name key fallback macros (Err maps.MapClass) = Err (MapClass name)

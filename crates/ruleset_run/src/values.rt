@@ -1,10 +1,11 @@
-ghost use Rattle.std.specs.Prelude.{◌≡◌, ◌<◌, IfOk, OnOk, OnErr, fold, is_some};
+ghost use Rattle.std.specs.Prelude.{◌≡◌, ◌<◌, IfOk, OnOk, OnErr, false, fold, is_some};
+ghost use Rattle.addr_tokens.specs.Reader.{cut};
 ghost use Rattle.map_tables.specs.Answers.{TellsOr, macro_name, macros_after, map_answer, told, with_macro};
 ghost use Rattle.ruleset_run.specs.Cutting as spec;
 ghost use Rattle.ruleset_run.specs.inner.Values.{current, lates, with_change, with_new};
 
-use addr_tokens::{ScanFault, computed, tokens};
-use cf_macros::{ExpandFault, expand};
+use addr_tokens::cut;
+use cf_macros::expanded;
 use mail_base::{Catalog, Macros, NoMemory, Seq, Text, Token, TryCopy};
 use map_tables::{Found, MapFault, Maps, macro_name};
 use std::alloc::Global;
@@ -72,9 +73,9 @@ impl<'a> Values<'a> {
 
     /// The tokens of a text, or `None` where it can't be cut.
     pub fn cut(&self, text: &Text) -> Result<Option<Seq<Token>>, NoMemory>
-        ensures { IfOk result (λ tokens. tokens ≡ spec.cut self.now.operators text.now) }
+        ensures { IfOk result (λ tokens. tokens ≡ cut self.now.operators false text.now) }
     {
-        cut(self.allocator(), text, self.operators)
+        cut(self.allocator(), text, self.operators, false)
     }
 
     /// Whether what a `$&x` stands for can be cut.
@@ -106,7 +107,7 @@ impl<'a> Values<'a> {
     {
         let macros = current(self.given, &self.changed);
         let text = late_text(self.allocator(), macros, name)?;
-        let tokens = cut(self.allocator(), &text, self.operators)?;
+        let tokens = cut(self.allocator(), &text, self.operators, false)?;
         let copied = tokens.copy()?;
         self.cuts.set(name.copy()?, copied)?;
         Ok(tokens)
@@ -211,31 +212,12 @@ fn change_one(macros: &mut Macros, change: &Change) -> Result<(), NoMemory>
 }
 
 // The macro's value, expanded, or no text where that is refused.
+#[tactic(auto, unfolding(crate::specs::Cutting::late_text))]
 fn late_text(alloc: Global, macros: &Macros, name: &Text) -> Result<Text, NoMemory>
     ensures { IfOk result (λ text. text ≡ spec.late_text macros.now name.now) }
 {
     let Some(value) = macros.get(name) else {
         return Ok(Text::new(alloc));
     };
-    match expand(alloc, value, macros) {
-        Ok(text) => Ok(text),
-        Err(fault) => match fault {
-            ExpandFault::NoMemory => Err(NoMemory),
-            _ => Ok(Text::new(alloc)),
-        },
-    }
-}
-
-fn cut(alloc: Global, text: &Text, operators: &Text) -> Result<Option<Seq<Token>>, NoMemory>
-    ensures { IfOk result (λ tokens. tokens ≡ spec.cut operators.now text.now) }
-{
-    // A law: the tokens that are cut are those that the definition computes.
-    computed();
-    match tokens(alloc, text, operators, false) {
-        Ok(tokens) => Ok(Some(tokens)),
-        Err(fault) => match fault {
-            ScanFault::NoMemory => Err(NoMemory),
-            _ => Ok(None),
-        },
-    }
+    expanded(alloc, value, macros)
 }
