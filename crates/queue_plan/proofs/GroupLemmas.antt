@@ -10,18 +10,14 @@ use Rattle.mail_base.specs.Rulesets.{is_named}
 use Rattle.mail_base.specs.declared.config.Config.{Config}
 use Rattle.mail_base.specs.declared.rule.RuleSet.{RuleSet}
 use Rattle.mail_base.specs.declared.token.Token.{Token}
-use Rattle.addr_tokens.specs.declared.fault.ScanFault.{ScanFault}
-use Rattle.addr_tokens.specs.declared.fault.ScanFault.TheVariants as scans
-use Rattle.addr_tokens.specs.Pieces.{plain}
-use Rattle.addr_tokens.specs.Reader.{outcome_of, tokens_among, tokens_or_fault}
-use Rattle.addr_tokens.specs.Scans.{ExplainsFault, HasFault}
+use Rattle.addr_tokens.specs.Reader.{cut}
 use Rattle.map_tables.specs.Answers.{Loaded}
 use Rattle.ruleset_run.specs.declared.fault.RunFault.{RunFault}
 use Rattle.ruleset_run.specs.declared.fault.RunFault.TheVariants as faults
 use Rattle.ruleset_run.specs.declared.runner.Ran.{Ran}
 use Rattle.ruleset_run.specs.Runs.{Done, Gives, GivesFault, Outcome, RunsSet}
 use Rattle.ruleset_run.specs.Sites.{Macros, Site, site_of}
-use Rattle.queue_plan.specs.Groups.{Answers, no_tokens, run_fails, answers, Says, unasked, asked, Groups, grouped, IsGroupName, cut, group_by, is_group, is_one_line, main_group_name, name_said, own_group, set_name}
+use Rattle.queue_plan.specs.Groups.{Answers, no_tokens, run_fails, answers, Says, unasked, asked, Groups, grouped, IsGroupName, group_by, is_group, is_one_line, main_group_name, name_said, own_group, set_name}
 use Rattle.queue_plan.specs.inner.Answering.{Runs, fails, ends}
 
 -- what is said of a result's value may be said more weakly
@@ -61,20 +57,6 @@ named_line config name (inr is) = on_line name (and_parts (is_one_line name) _ i
 
 -- ---- what the set answers
 
--- an address that can't be cut says nothing
-pub cut_fault : (operators text : List ℕ) → ((fault : ScanFault) → HasFault (plain operators) true text fault → outcome_of (plain operators) true text ≡ Err fault)
-    → (fault : ScanFault) → (fault ≡ scans.NoMemory → ⊥) → ExplainsFault (plain operators) true text fault → cut operators text ≡ Err fault
-unfolding cut
-cut_fault operators text law (scans.Unbalanced place) some h = ap tokens_among (law _ h)
-cut_fault operators text law (scans.BadQuote place) some h = ap tokens_among (law _ h)
-cut_fault operators text law (scans.BadDollar place) some h = ap tokens_among (law _ h)
-cut_fault operators text law scans.Long some h = ap tokens_among (law _ h)
-cut_fault operators text law scans.NoMemory some h = absurd (some refl)
-
-pub cut_tokens : (operators text : List ℕ) (tokens : List Token) → tokens_or_fault (plain operators) true text ≡ Ok tokens → cut operators text ≡ Ok tokens
-unfolding cut
-cut_tokens operators text tokens e = e
-
 -- a run that fails says nothing
 pub no_run : (site : Site) (macros : Macros) (set : List ℕ) (tokens : List Token) (fault : RunFault) → (fault ≡ faults.NoMemory → ⊥) → GivesFault fault (RunsSet site macros set tokens) → Runs site macros set tokens None
 no_run site macros set tokens faults.NoMemory some g = absurd (some refl)
@@ -92,7 +74,7 @@ pub run_says : (site : Site) (macros : Macros) (set : List ℕ) (tokens : List T
 run_says site macros set tokens ran g said is = subst (Runs site macros set tokens) (sym is) (ends _ g.1)
 
 -- a run over an address's tokens answers to it
-pub answers_by : (site : Site) (macros : Macros) (address set : List ℕ) (tokens : List Token) (said : Option (List ℕ)) → set ≡ set_name → cut site.operators address ≡ Ok tokens → Runs site macros set tokens said → Answers site macros address said
+pub answers_by : (site : Site) (macros : Macros) (address set : List ℕ) (tokens : List Token) (said : Option (List ℕ)) → set ≡ set_name → cut site.operators true address ≡ Some tokens → Runs site macros set tokens said → Answers site macros address said
 answers_by site macros address set tokens said is e r = by (subst (λ s. Runs site macros s tokens said) is r)
   where
     by : {o : Option (List ℕ)} → Runs site macros set_name tokens o → Answers site macros address o
@@ -111,16 +93,16 @@ SomeOutcome = (site : Site) (macros : Macros) (name : List ℕ) (tokens : List T
 
 module _ (law : OneOutcome) (site : Site) (macros : Macros) (address : List ℕ) where
   one_answers : {a b : Option (List ℕ)} → Answers site macros address a → Answers site macros address b → a ≡ b
-  one_answers (no_tokens f e) (no_tokens g d) = refl
-  one_answers (no_tokens f e) (run_fails ts g d r) = refl
-  one_answers (no_tokens f e) (answers ts done d r) = absurd (cc (e, d))
-  one_answers (run_fails ts f e r) (no_tokens g d) = refl
+  one_answers (no_tokens e) (no_tokens d) = refl
+  one_answers (no_tokens e) (run_fails ts f d r) = refl
+  one_answers (no_tokens e) (answers ts done d r) = absurd (cc (e, d))
+  one_answers (run_fails ts f e r) (no_tokens d) = refl
   one_answers (run_fails ts f e r) (run_fails us g d q) = refl
   one_answers (run_fails ts f e r) (answers us done d q) =
       let same : us ≡ ts = cc (e, d) in
       let both = law site macros set_name ts (Err f) (Ok done) r (subst (λ (l : List Token). RunsSet site macros set_name l (Ok done)) same q) in
       absurd (cc both)
-  one_answers (answers ts done e r) (no_tokens g d) = absurd (cc (e, d))
+  one_answers (answers ts done e r) (no_tokens d) = absurd (cc (e, d))
   one_answers (answers ts done e r) (run_fails us f d q) =
       let same : us ≡ ts = cc (e, d) in
       let both = law site macros set_name ts (Ok done) (Err f) r (subst (λ (l : List Token). RunsSet site macros set_name l (Err f)) same q) in
@@ -145,17 +127,17 @@ module _ (law : SomeOutcome) (site : Site) (macros : Macros) (address : List ℕ
   abbrev Answered : Type 0
   Answered = (said : Option (List ℕ)) × Answers site macros address said
 
-  some_run : (tokens : List Token) → cut site.operators address ≡ Ok tokens → (outcome : Outcome) → RunsSet site macros set_name tokens outcome → Answered
+  some_run : (tokens : List Token) → cut site.operators true address ≡ Some tokens → (outcome : Outcome) → RunsSet site macros set_name tokens outcome → Answered
   some_run tokens e (Ok done) r = (name_said done.tokens, answers tokens done e r)
   some_run tokens e (Err fault) r = (None, run_fails tokens fault e r)
 
-  some_cut : (o : Result (List Token) ScanFault) → cut site.operators address ≡ o → Answered
-  some_cut (Err fault) e = (None, no_tokens fault e)
-  some_cut (Ok tokens) e = let w = law site macros set_name tokens in some_run tokens e w.0 w.1
+  some_cut : (o : Option (List Token)) → cut site.operators true address ≡ o → Answered
+  some_cut None e = (None, no_tokens e)
+  some_cut (Some tokens) e = let w = law site macros set_name tokens in some_run tokens e w.0 w.1
 
   some_set : (o : Option RuleSet) → find (is_named set_name) site.book ≡ o → (said : Option (List ℕ)) × Says site macros address said
   some_set None e = (None, unasked e)
-  some_set (Some rules) e = let w = some_cut (cut site.operators address) refl in (w.0, asked rules w.0 e w.1)
+  some_set (Some rules) e = let w = some_cut (cut site.operators true address) refl in (w.0, asked rules w.0 e w.1)
 
   pub some_says : (said : Option (List ℕ)) × Says site macros address said
   some_says = some_set (find (is_named set_name) site.book) refl

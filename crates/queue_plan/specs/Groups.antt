@@ -1,6 +1,6 @@
 -- The queue group of a row (Sendmail Installation and Operation Guide, "Queue Groups" and M: Define
 -- Mailer, its field Q; cf/README, the ruleset queuegroup).
-use Rattle.std.specs.Prelude.{◌≡◌, ◌⊎◌, ℕ, List, [], ◌∷◌, ◌++◌, Bool, true, not, ◌&&◌, ◌==◌, Option, None, Some, Result, Ok, Err, codes, is_some, option_to_list, refl, unwrap_or}
+use Rattle.std.specs.Prelude.{◌≡◌, ◌⊎◌, ℕ, List, [], ◌∷◌, ◌++◌, Bool, true, not, ◌&&◌, ◌==◌, Option, None, Some, Ok, Err, codes, is_some, option_to_list, refl, unwrap_or}
 use Rattle.std.specs.List.{find, flat_map, list_any}
 use Rattle.mail_base.specs.Catalogs.{value_at, value_like}
 use Rattle.mail_base.specs.Configs.{initial}
@@ -13,10 +13,8 @@ use Rattle.mail_base.specs.declared.rule.RuleSet.{RuleSet}
 use Rattle.mail_base.specs.declared.token.Mark.TheVariants as mark
 use Rattle.mail_base.specs.declared.token.Token.{Token}
 use Rattle.mail_base.specs.declared.token.Token.TheVariants.{Op, Sign, Word}
-use Rattle.addr_tokens.specs.declared.fault.ScanFault.{ScanFault}
 use Rattle.addr_tokens.specs.Joins.{token_bytes}
-use Rattle.addr_tokens.specs.Pieces.{plain}
-use Rattle.addr_tokens.specs.Reader.{tokens_or_fault}
+use Rattle.addr_tokens.specs.Reader.{cut}
 use Rattle.map_tables.specs.Answers.{Loaded}
 use Rattle.ruleset_run.specs.declared.fault.RunFault.{RunFault}
 use Rattle.ruleset_run.specs.Runs.{Done, RunsSet}
@@ -27,22 +25,19 @@ use Rattle.ruleset_run.specs.Sites.{Macros, Site, site_of}
 abbrev pub set_name : List ℕ
 set_name = codes "queuegroup"
 
--- the tokens of an address, in which angles are checked, or why it has none
-unfoldable pub cut : List ℕ → List ℕ → Result (List Token) ScanFault
-cut operators address = tokens_or_fault (plain operators) true address
-
 -- the name that a list says: the bytes of the tokens behind `$#`, which begins it
 abbrev pub name_said : List Token → Option (List ℕ)
 name_said (Sign mark.Mailer ∷ tokens) = Some (flat_map token_bytes tokens)
 name_said tokens = None
 
--- what the set answers to an address: an address that can't be cut and a run that fails say nothing
+-- what the set answers to an address, in which angles are checked: an address that can't be cut and
+-- a run that fails say nothing
 pub data Answers (site : Site) (macros : Macros) (address : List ℕ) : Option (List ℕ) → Type 0 where
-  no_tokens : (fault : ScanFault) → cut site.operators address ≡ Err fault
-      → Answers site macros address None
-  run_fails : (tokens : List Token) (fault : RunFault) → cut site.operators address ≡ Ok tokens
+  no_tokens : cut site.operators true address ≡ None → Answers site macros address None
+  run_fails : (tokens : List Token) (fault : RunFault)
+      → cut site.operators true address ≡ Some tokens
       → RunsSet site macros set_name tokens (Err fault) → Answers site macros address None
-  answers : (tokens : List Token) (done : Done) → cut site.operators address ≡ Ok tokens
+  answers : (tokens : List Token) (done : Done) → cut site.operators true address ≡ Some tokens
       → RunsSet site macros set_name tokens (Ok done)
       → Answers site macros address (name_said done.tokens)
 

@@ -7,7 +7,7 @@ ghost use Rattle.queue_plan.specs.Groups.{Answers, Says};
 ghost use Rattle.queue_plan.specs.Groups as spec;
 ghost use Rattle.queue_plan.specs.inner.Answering.{Runs};
 
-use addr_tokens::{ScanFault, computed, push_token, tokens};
+use addr_tokens::{cut, push_token};
 use mail_base::{Config, Macros, Mark, NoMemory, Seq, Text, Token, TryCopy};
 use map_tables::Maps;
 use ruleset_run::{RunFault, run};
@@ -42,14 +42,10 @@ fn answered(
     requires { set.now ≡ spec.set_name }
     ensures { IfOk result (Answers (site_of config.now maps.now) macros.now address.now) }
 {
-    // A law: the tokens that are cut are those that the definition computes.
-    computed();
-    match tokens(alloc, address, &config.options.operator_chars, true) {
-        Ok(tokens) => run_over(alloc, config, maps, macros, set, &tokens),
-        Err(fault) => match fault {
-            ScanFault::NoMemory => Err(NoMemory),
-            _ => Ok(None),
-        },
+    let known = cut(alloc, address, &config.options.operator_chars, true)?;
+    match known {
+        Some(tokens) => run_over(alloc, config, maps, macros, set, &tokens),
+        None => Ok(None),
     }
 }
 
