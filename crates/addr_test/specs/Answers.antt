@@ -13,8 +13,7 @@ use Rattle.addr_tokens.specs.declared.fault.ScanFault.{ScanFault}
 use Rattle.addr_tokens.specs.declared.lexeme.Dollars.TheVariants.{Typed}
 use Rattle.addr_tokens.specs.Pieces.{alphabet_of}
 use Rattle.addr_tokens.specs.Reader.{tokens_or_fault}
-use Rattle.cf_macros.specs.declared.fault.ExpandFault.{ExpandFault}
-use Rattle.cf_macros.specs.Expansion.{value}
+use Rattle.cf_macros.specs.Expansion.{expanded}
 use Rattle.map_tables.specs.Answers.{Loaded, map_answer, told}
 use Rattle.ruleset_run.specs.declared.fault.RunFault.{RunFault}
 use Rattle.ruleset_run.specs.Runs.{Done, Outcome, RunsSet}
@@ -85,15 +84,10 @@ TellsTry maps config name address (Some mailer) text = TellsBoth maps config add
 
 -- ---- macros and classes
 
--- an expansion, or nothing where it is refused
-abbrev pub text_or_nothing : Result (List ℕ) ExpandFault → List ℕ
-text_or_nothing (Ok text) = text
-text_or_nothing (Err fault) = []
-
 -- the value of a macro, expanded
 abbrev pub value_text : List (List ℕ × List ℕ) → Option (List ℕ) → List ℕ
 value_text macros None = line_of (codes "undefined")
-value_text macros (Some written) = line_of (text_or_nothing (value written macros))
+value_text macros (Some written) = line_of (expanded written macros)
 
 -- members in order; a class that isn't there has none
 abbrev pub ListsMembers : Config → List ℕ → List ℕ → Type 0

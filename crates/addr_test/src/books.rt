@@ -8,7 +8,7 @@ ghost use Rattle.addr_test.specs.Texts as spec;
 ghost use Rattle.addr_test.specs.inner.Telling.{mailer_text_at};
 
 use crate::printing::{line_of, push_number};
-use cf_macros::{ExpandFault, expand};
+use cf_macros::expanded;
 use mail_base::{Book, Catalog, Macros, Mailer, NoMemory, RuleSet, Seq, Text};
 use map_tables::{Found, MapFault, Maps};
 use std::alloc::Global;
@@ -106,17 +106,7 @@ pub(crate) fn value(alloc: Global, name: &[u8], macros: &Macros) -> Result<Text,
 {
     let name = Text::of(alloc, name)?;
     match macros.get(&name) {
-        Some(written) => expanded(alloc, written, macros),
+        Some(written) => line_of(alloc, expanded(alloc, written, macros)?.bytes()),
         None => line_of(alloc, b"undefined"),
-    }
-}
-
-fn expanded(alloc: Global, written: &Text, macros: &Macros) -> Result<Text, NoMemory>
-    ensures { IfOk result (λ text. text ≡ answers.value_text macros.now (Some written.now)) }
-{
-    match expand(alloc, written, macros) {
-        Ok(given) => line_of(alloc, given.bytes()),
-        Err(ExpandFault::NoMemory) => Err(NoMemory),
-        Err(_) => line_of(alloc, b""),
     }
 }
