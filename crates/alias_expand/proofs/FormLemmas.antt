@@ -12,6 +12,7 @@ use Rattle.mail_base.specs.declared.route.Resolved.{Resolved}
 use Rattle.mail_base.specs.declared.route.Resolved.TheVariants.{Goes, Refuses}
 use Rattle.mail_base.specs.declared.route.Triple.{Triple}
 use Rattle.mail_edge.specs.Seen.{FileMap}
+use Rattle.cf_macros.specs.Expansion.{host_name}
 use Rattle.alias_expand.specs.declared.aliases.Alias.{Alias}
 use Rattle.alias_expand.specs.declared.members.Member.{Member}
 use Rattle.alias_expand.specs.declared.reading.Reading.{Reading}
@@ -20,7 +21,7 @@ use Rattle.alias_expand.specs.declared.refusal.ExpandRefusal.TheVariants as refu
 use Rattle.alias_expand.specs.declared.stand.Stand.{Stand}
 use Rattle.alias_expand.specs.Aliases.{has_name, members_named}
 use Rattle.alias_expand.specs.Members.{IsMember}
-use Rattle.alias_expand.specs.Owners.{bracketed, host_in, owned, owner_name, sender_under}
+use Rattle.alias_expand.specs.Owners.{bracketed, owned, owner_name, sender_under}
 use Rattle.mail_base.specs.Drawing.{AreRows, IsDrawn}
 use Rattle.alias_expand.specs.Rows.{Act, Stops, Stays, Opens, Site, Forwards, no_file, spent, absent, there, Leads, alias, no_alias, Includes, read_before, reads_spent, not_there, included, Meets, unrouted, itself, met_before, meets, Comes, too_deep, of_file, of_address, Reads, reads_none, stops, stays, opens, opens_to_refusal, Ends, Starts, refused, starts, Expands, expands, rows_of, added, row_at, leaf_by, alias_members, forward_file, has_mailer_flag, is_escaped, escaped, with_row, with_file, with_met, with_self, nothing_read}
 use Rattle.alias_expand.specs.inner.AliasPlaces.{HasMembers}
@@ -62,9 +63,9 @@ owned_form sender owner host (Some members) form = bracketed_form _
 sender_form : (aliases : List Alias) (site : Site) (sender name : List ℕ) → IsBracketed sender → IsBracketed (sender_under aliases site.macros sender name)
 sender_form aliases site sender name form = by (bytes_eq sender null_sender)
   where
-    by : (b : Bool) → IsBracketed (cond b sender (owned sender (owner_name name) (host_in site.macros) (members_named (owner_name name) aliases)))
+    by : (b : Bool) → IsBracketed (cond b sender (owned sender (owner_name name) (host_name site.macros) (members_named (owner_name name) aliases)))
     by true = form
-    by false = owned_form sender (owner_name name) (host_in site.macros) (members_named (owner_name name) aliases) form
+    by false = owned_form sender (owner_name name) (host_name site.macros) (members_named (owner_name name) aliases) form
 
 named_each : (name : List ℕ) (aliases : List Alias) (members : List Member) → All HasMembers aliases → members_named name aliases ≡ Some members → All IsMember members
 named_each name aliases members kept is = by (find (has_name name) aliases) refl is

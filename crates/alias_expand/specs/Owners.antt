@@ -2,11 +2,10 @@
 -- Database", owners; that a list which isn't one address counts as one user is our own).
 use Rattle.std.specs.Prelude.{◌≡◌, ℕ, Bool, not, ◌&&◌, ◌||◌, ◌==◌, List, [], ◌∷◌, ◌++◌, map, Option, None, Some, unwrap_or, bytes_eq, if◌then◌else◌, codes, refl}
 use Rattle.std.specs.List.{list_all}
-use Rattle.std.specs.Result.{result_unwrap_or}
 use Rattle.mail_base.specs.Notes.{blanked}
 use Rattle.mail_base.specs.Drawing.{null_sender}
 use Rattle.mail_base.specs.Whites.{is_white}
-use Rattle.cf_macros.specs.Expansion.{value}
+use Rattle.cf_macros.specs.Expansion.{host_name}
 use Rattle.ruleset_run.specs.Sites.{Macros}
 use Rattle.alias_expand.specs.declared.aliases.Alias.{Alias}
 use Rattle.alias_expand.specs.declared.members.Member.{Member}
@@ -17,10 +16,6 @@ use Rattle.alias_expand.specs.Members.{is_local}
 -- the owner of an alias
 abbrev pub owner_name : List ℕ → List ℕ
 owner_name name = codes "owner-" ++ name
-
--- the value of `$j`, which is empty where it can't be expanded
-abbrev pub host_in : Macros → List ℕ
-host_in macros = result_unwrap_or (value (codes "$j") macros) []
 
 -- a path in its angles, on one line
 abbrev pub bracketed : List ℕ → List ℕ
@@ -55,7 +50,7 @@ owned sender owner host (Some members) = owner_sender owner host members
 abbrev pub sender_under : List Alias → Macros → List ℕ → List ℕ → List ℕ
 sender_under aliases macros sender name =
     if bytes_eq sender null_sender then sender
-    else owned sender (owner_name name) (host_in macros)
+    else owned sender (owner_name name) (host_name macros)
     (members_named (owner_name name) aliases)
 
 abbrev address : List ℕ → Member

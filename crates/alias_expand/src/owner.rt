@@ -1,11 +1,12 @@
 ghost use Rattle.std.specs.Prelude.{◌≡◌, ◌∷◌, ◌++◌, IfOk};
 ghost use Rattle.std.specs.Option.{option_copied};
 ghost use Rattle.std.specs.List.{list_all};
-ghost use Rattle.alias_expand.specs.Owners.{bracketed, host_in, is_bare, is_bare_byte, owner_name, owner_sender, sender_under, sole_bare};
+ghost use Rattle.cf_macros.specs.Expansion.{host_name};
+ghost use Rattle.alias_expand.specs.Owners.{bracketed, is_bare, is_bare_byte, owner_name, owner_sender, sender_under, sole_bare};
 ghost use Rattle.alias_expand.specs.Members.{is_local};
 
 use crate::{Aliases, Member};
-use cf_macros::{ExpandFault, expand};
+use cf_macros::host_name;
 use mail_base::{Macros, NoMemory, Text, TryCopy, blanked, is_white};
 use std::alloc::Global;
 
@@ -46,7 +47,7 @@ fn owner_sender(
     members: &[Member],
 ) -> Result<Text, NoMemory>
     ensures { IfOk result
-        (λ given. given ≡ owner_sender owner.now (host_in macros.now) members.now) }
+        (λ given. given ≡ owner_sender owner.now (host_name macros.now) members.now) }
 {
     match sole_bare(members) {
         Some(text) => bracketed(alloc, text.bytes()),
@@ -55,11 +56,11 @@ fn owner_sender(
 }
 
 fn owner_at_host(alloc: Global, macros: &Macros, owner: &[u8]) -> Result<Text, NoMemory>
-    ensures { IfOk result (λ given. given ≡ bracketed (owner.now ++ 64 ∷ host_in macros.now)) }
+    ensures { IfOk result (λ given. given ≡ bracketed (owner.now ++ 64 ∷ host_name macros.now)) }
 {
     let mut text = Text::of(alloc, owner)?;
     text.push(b'@')?;
-    text.extend(host_in(alloc, macros)?.bytes())?;
+    text.extend(host_name(alloc, macros)?.bytes())?;
     bracketed(alloc, text.bytes())
 }
 
@@ -76,18 +77,6 @@ fn sole_bare(members: &[Member]) -> Option<&Text>
             }
         }
         _ => None,
-    }
-}
-
-// The value of `$j`, or the empty text where that can't be expanded.
-fn host_in(alloc: Global, macros: &Macros) -> Result<Text, NoMemory>
-    ensures { IfOk result (λ host. host ≡ host_in macros.now) }
-{
-    let name = Text::of(alloc, b"$j")?;
-    match expand(alloc, &name, macros) {
-        Ok(host) => Ok(host),
-        Err(ExpandFault::NoMemory) => Err(NoMemory),
-        Err(_) => Ok(Text::new(alloc)),
     }
 }
 
