@@ -10,6 +10,7 @@ use Rattle.mail_base.specs.declared.config.Config.{Config}
 use Rattle.mail_base.specs.declared.draw.Draw.{Draw}
 use Rattle.mail_base.specs.declared.message.Message.{Message}
 use Rattle.mail_base.specs.declared.route.Resolved.TheVariants.{Goes}
+use Rattle.addr_tokens.specs.Reader.{cut}
 use Rattle.addr_tokens.specs.Scans.{most_tokens}
 use Rattle.smtp_lines.specs.declared.line.Line.{Line}
 use Rattle.smtp_lines.specs.declared.line.Line.TheVariants.{Command, Data, DataEnd}
@@ -102,7 +103,7 @@ begun = heard helo Unasked ∷ heard mail of_sender ∷ heard rcpt of_recipient 
 
 -- the sender is accepted
 pub mail_is : answer_heard config peer greeted (heard mail of_sender) ≡ Some (Says SenderOk)
-unfolding most_path most_local_part most_message most_tokens
+unfolding most_path most_local_part most_message cut most_tokens
 mail_is = refl
 
 -- the recipient is accepted

@@ -12,10 +12,7 @@ use Rattle.mail_base.specs.declared.message.Kept.{Kept}
 use Rattle.mail_base.specs.declared.message.Marks.{Marks}
 use Rattle.mail_base.specs.declared.message.Message.{Message as Mails}
 use Rattle.mail_base.specs.declared.route.RouteError.{RouteError}
-use Rattle.mail_base.specs.declared.token.Token.{Token}
-use Rattle.addr_tokens.specs.Pieces.{plain}
-use Rattle.addr_tokens.specs.Reader.{tokens_or_fault}
-use Rattle.addr_tokens.specs.declared.fault.ScanFault.{ScanFault}
+use Rattle.addr_tokens.specs.Reader.{cut}
 use Rattle.mail_header.specs.Fields.{class_in, hops_of}
 use Rattle.mail_header.specs.Gatherings.{is_above}
 use Rattle.mail_header.specs.Lines.{headers_of, body_of, block_of, size_of}
@@ -278,14 +275,10 @@ rcpt_fault given limit count path = if not given then Some NeedMail
     else if nat_le limit count then Some TooManyRecipients
     else None
 
-abbrev pub is_refused_text : Result (List Token) ScanFault → Bool
-is_refused_text (Ok tokens) = false
-is_refused_text (Err fault) = true
-
 -- a path that isn't empty can't be cut into tokens
 abbrev pub is_uncut : List ℕ → List ℕ → Bool
 is_uncut operators path = not (is_nothing path)
-    && is_refused_text (tokens_or_fault (plain operators) true (bracketed path))
+    && not (is_some (cut operators true (bracketed path)))
 
 -- the answer to a MAIL that was put to the judge
 abbrev pub sender_answer : Option RouteError → Bool → Answer

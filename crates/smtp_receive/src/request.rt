@@ -4,7 +4,7 @@ ghost use Rattle.smtp_lines.specs.Reading.{is_nothing, order_of};
 ghost use Rattle.smtp_receive.specs.Dialogue.{bracketed, fault_reply, is_large, is_uncut, mail_fault, path_reply, rcpt_fault};
 
 use crate::reply::Reply;
-use addr_tokens::{ScanFault, computed, tokens};
+use addr_tokens::cut;
 use mail_base::{Command, LineFault, NoMemory, Text, Verb};
 use smtp_lines::command;
 
@@ -89,10 +89,5 @@ pub(crate) fn is_uncut(path: &[u8], angled: &Text, operators: &Text) -> Result<b
     if path.is_empty() {
         return Ok(false);
     }
-    computed();
-    match tokens(angled.allocator(), angled, operators, true) {
-        Ok(_) => Ok(false),
-        Err(ScanFault::NoMemory) => Err(NoMemory),
-        Err(_) => Ok(true),
-    }
+    Ok(cut(angled.allocator(), angled, operators, true)?.is_none())
 }
