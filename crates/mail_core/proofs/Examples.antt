@@ -4,6 +4,7 @@ use Rattle.std.specs.Prelude.{◌≡◌, ℕ, List, [], ◌∷◌, ◌++◌, Non
 use Rattle.mail_base.specs.Configs.{initial}
 use Rattle.mail_base.specs.Names.{digits}
 use Rattle.mail_base.specs.Limits.{most_command, most_domain, most_headers, most_local_part, most_message, most_path, message_limit, most_recipients, most_rows}
+use Rattle.addr_tokens.specs.Reader.{cut}
 use Rattle.addr_tokens.specs.Scans.{most_tokens}
 use Rattle.link_edge.specs.declared.event.Event.TheVariants.{Opens, Brings, Stops}
 use Rattle.smtp_lines.specs.declared.line.Line.{Line}
@@ -62,7 +63,7 @@ given_effects = hello ++ Sends 1 (codes "250 2.1.0 Sender ok\r\n") true ∷ Send
 
 -- up to the first line of the message
 begins : Comes site 5 start guest (kept ∷ kept_mail ∷ kept_rcpt ∷ kept ∷ kept ∷ []) start begun granted given_effects GoesOn
-unfolding most_recipients most_rows most_tokens most_command most_message most_path most_local_part most_domain shown_host last_id
+unfolding most_recipients most_rows cut most_tokens most_command most_message most_path most_local_part most_domain shown_host last_id
 begins =
     let one = comes_more site 5 start guest [] start [] [] [] helo (comes_none site 5 start guest [] refl) refl Greets true refl refl in
     let two = comes_said site 5 start guest _ start _ _ _ mail one refl of_sender sender_ok true refl refl in
@@ -78,7 +79,7 @@ abbrev data_choices : List Choice
 data_choices = kept ∷ kept_mail ∷ kept_rcpt ∷ kept ∷ kept ∷ kept ∷ kept ∷ []
 
 up_to_the_dot : Comes site 5 start guest data_choices start given_lines whole given_effects GoesOn
-unfolding most_recipients most_rows most_tokens most_command most_message most_path most_local_part most_domain shown_host last_id
+unfolding most_recipients most_rows cut most_tokens most_command most_message most_path most_local_part most_domain shown_host last_id
 up_to_the_dot =
     let six = comes_more site 5 start guest _ start _ _ _ (Data []) begins refl Passes true refl refl in
     comes_more site 5 start guest _ start _ _ _ body six refl Passes true refl refl
@@ -92,7 +93,7 @@ closing = Sends 1 (codes "221 2.0.0 localhost closing connection\r\n") true ∷ 
 -- the whole session, in one piece
 plain_piece : Comes site 5 start guest (data_choices ++ kept ∷ kept ∷ []) stored_now (given_lines ++ input DataEnd false (Some 1) ∷ input quit false None ∷ []) (plain quit Closes ∷ plain DataEnd (Gives message) ∷ whole)
     (given_effects ++ Commits (accept_of site 5 message in_one) ∷ Sends 1 (codes "250 2.0.0 w000000000001 Message accepted for delivery\r\n") true ∷ closing) Leaves
-unfolding most_recipients most_rows most_tokens digits most_command most_message most_headers most_path most_local_part most_domain shown_host last_id
+unfolding most_recipients most_rows cut most_tokens digits most_command most_message most_headers most_path most_local_part most_domain shown_host last_id
 plain_piece =
     let dot = comes_more site 5 start guest _ start _ _ _ DataEnd up_to_the_dot refl (Gives message) true refl refl in
     comes_more site 5 start guest _ stored_now _ _ _ quit dot refl Closes true refl refl
@@ -141,7 +142,7 @@ plain_session =
 -- 452 4.3.1 at the dot: nothing is stored, the transaction is over, and the session goes on
 lacking_piece : Comes site 5 start guest (data_choices ++ OutOfMemory true ∷ kept ∷ []) start (given_lines ++ input DataEnd true None ∷ input quit false None ∷ []) (plain quit Closes ∷ lacked DataEnd ∷ whole)
     (given_effects ++ Sends 1 (codes "452 4.3.1 Out of memory\r\n") true ∷ closing) Leaves
-unfolding most_recipients most_rows most_tokens most_command most_message most_path most_local_part most_domain shown_host last_id
+unfolding most_recipients most_rows cut most_tokens most_command most_message most_path most_local_part most_domain shown_host last_id
 lacking_piece =
     let dot = comes_short site 5 start guest _ start _ _ _ DataEnd up_to_the_dot refl true refl in
     comes_more site 5 start guest _ start _ _ _ quit dot refl Closes true refl refl
@@ -155,7 +156,7 @@ memory_is_wanting_at_the_dot = session_by _ _ _ _ _ [] (record { state = left_st
 -- the reply to MAIL isn't sent whole: the session is hung up, and the rest of its piece is dropped
 lost_piece : Comes site 5 start guest (kept ∷ Normal of_sender in_one false ∷ []) start (input helo false None ∷ heard_by mail of_sender false None ∷ []) (by_said mail of_sender sender_ok ∷ plain helo Greets ∷ [])
     (hello ++ Sends 1 (codes "250 2.1.0 Sender ok\r\n") false ∷ HangsUp 1 ∷ []) Leaves
-unfolding most_recipients most_rows most_tokens most_command most_message most_path most_local_part most_domain shown_host last_id
+unfolding most_recipients most_rows cut most_tokens most_command most_message most_path most_local_part most_domain shown_host last_id
 lost_piece =
     let one = comes_more site 5 start guest [] start [] [] [] helo (comes_none site 5 start guest [] refl) refl Greets true refl refl in
     comes_said site 5 start guest _ start _ _ _ mail one refl of_sender sender_ok false refl refl
@@ -192,7 +193,7 @@ line_of bytes more table heard before effects t line said answer within next lef
 
 by_bytes_to_the_dot : Bytes (codes "HELO c.example\r\nMAIL FROM:<bob@c.example>\r\nRCPT TO:<ann@mx.example>\r\nDATA\r\nSubject: hi\r\n\r\nhello\r\n.\r\n") stored_now (given_lines ++ input DataEnd false (Some 1) ∷ []) (plain DataEnd (Gives message) ∷ whole)
     (first_effects ++ given_effects ++ Commits (accept_of site 5 message in_one) ∷ Sends 1 (codes "250 2.0.0 w000000000001 Message accepted for delivery\r\n") true ∷ [])
-unfolding most_recipients most_rows most_tokens digits most_command most_message most_headers most_path most_local_part most_domain shown_host last_id
+unfolding most_recipients most_rows cut most_tokens digits most_command most_message most_headers most_path most_local_part most_domain shown_host last_id
 by_bytes_to_the_dot =
     let one = line_of [] (codes "HELO c.example\r") start [] [] first_effects opening helo Unasked Greets refl refl refl refl refl refl in
     let two = line_of _ (codes "MAIL FROM:<bob@c.example>\r") start _ _ _ one mail of_sender sender_ok refl refl refl refl refl refl in
@@ -206,7 +207,7 @@ by_bytes_to_the_dot =
 -- the same is sent and stored as by one piece
 by_bytes : (turns : List Turn) × (map (λ (t : Turn). t.event) turns ≡ Opens 1 peer ∷ map one sent)
     × (answers_of (run site (beginning start) turns).effects ≡ first_effects ++ given_effects ++ Commits (accept_of site 5 message in_one) ∷ Sends 1 (codes "250 2.0.0 w000000000001 Message accepted for delivery\r\n") true ∷ closing)
-unfolding most_recipients most_rows most_tokens most_command most_message most_domain shown_host last_id most_path most_local_part
+unfolding most_recipients most_rows cut most_tokens most_command most_message most_domain shown_host last_id most_path most_local_part
 by_bytes =
     let t = talks_within site initial peer 5 5 same_moment _ (codes "QUIT\r") stored_now _ _ _ by_bytes_to_the_dot refl in
     talks_last site initial peer 5 5 same_moment _ stored_now _ _ _ t 10 quit Unasked Closes refl refl refl refl

@@ -4,6 +4,7 @@ use Rattle.std.proofs.Common.{ap, ◌∙◌}
 use Rattle.mail_base.specs.Names.{digits}
 use Rattle.mail_base.specs.Configs.{initial}
 use Rattle.mail_base.specs.Limits.{most_domain, most_headers, most_local_part, most_message, most_path, message_limit, most_recipients, most_rows}
+use Rattle.addr_tokens.specs.Reader.{cut}
 use Rattle.addr_tokens.specs.Scans.{most_tokens}
 use Rattle.smtp_lines.specs.declared.line.Line.TheVariants.{Data, DataEnd}
 use Rattle.smtp_lines.specs.Parameters.{listed}
@@ -44,14 +45,14 @@ abbrev first_texts : List (List ℕ)
 first_texts = codes "250 localhost Hello\r\n" ∷ codes "250 2.1.0 Sender ok\r\n" ∷ []
 
 to_the_sender : Replied (input helo false None ∷ heard_by mail of_sender false None ∷ []) (by_said mail of_sender sender_ok ∷ plain helo Greets ∷ []) first_texts
-unfolding most_message most_recipients most_rows most_tokens most_path most_local_part most_domain shown_host
+unfolding most_message most_recipients most_rows cut most_tokens most_path most_local_part most_domain shown_host
 to_the_sender = more _ _ _ (more [] [] [] none_yet (input helo false None) (Some Greets) refl) (heard_by mail of_sender false None) (Some sender_ok) refl
 
 abbrev given_texts : List (List ℕ)
 given_texts = first_texts ++ codes "250 2.1.5 Recipient ok\r\n" ∷ (codes "354 Enter mail, end with " ++ 34 ∷ 46 ∷ 34 ∷ codes " on a line by itself\r\n") ∷ []
 
 to_the_dot : Replied given_lines whole given_texts
-unfolding most_message most_recipients most_rows most_tokens most_path most_local_part most_domain shown_host
+unfolding most_message most_recipients most_rows cut most_tokens most_path most_local_part most_domain shown_host
 to_the_dot =
     let three = more _ _ _ to_the_sender (heard_by rcpt of_recipient false None) (Some recipient_ok) refl in
     let four = more _ _ _ three (input data_line false None) (Some Grants) refl in
@@ -64,14 +65,14 @@ last_text = codes "221 2.0.0 localhost closing connection\r\n"
 
 -- however the bytes come: by bytes the lines are the same
 replies_to_a_plain_session : replies_to initial host peer (given_lines ++ input DataEnd false (Some 1) ∷ input quit false None ∷ []) ≡ given_texts ++ codes "250 2.0.0 w000000000001 Message accepted for delivery\r\n" ∷ last_text ∷ []
-unfolding digits most_recipients most_rows most_tokens most_headers most_message most_path most_local_part most_domain shown_host
+unfolding digits most_recipients most_rows cut most_tokens most_headers most_message most_path most_local_part most_domain shown_host
 replies_to_a_plain_session =
     let dot = more _ _ _ to_the_dot (input DataEnd false (Some 1)) (Some (Gives message)) refl in
     let all = more _ _ _ dot (input quit false None) (Some Closes) refl in
     all.replies
 
 replies_where_memory_is_wanting : replies_to initial host peer (given_lines ++ input DataEnd true None ∷ input quit false None ∷ []) ≡ given_texts ++ codes "452 4.3.1 Out of memory\r\n" ∷ last_text ∷ []
-unfolding most_message most_recipients most_rows most_tokens most_path most_local_part most_domain shown_host
+unfolding most_message most_recipients most_rows cut most_tokens most_path most_local_part most_domain shown_host
 replies_where_memory_is_wanting =
     let dot = more _ _ _ to_the_dot (input DataEnd true None) None refl in
     let all = more _ _ _ dot (input quit false None) (Some Closes) refl in
