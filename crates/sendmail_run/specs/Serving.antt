@@ -1,10 +1,9 @@
 -- How session mode ends, and what was served by then (Sendmail Installation and Operation Guide,
 -- "Command Line Flags": -bs; the replies are those of RFC 5321; the ends are own).
-use Rattle.std.specs.Prelude.{◌≡◌, ℕ, ◌+◌, ◌^◌, ◌≤◌, List, [], length, take, None, Some, IfSome, Result, Ok, Err, codes, true}
-use Rattle.std.specs.Result.{result_unwrap_or}
+use Rattle.std.specs.Prelude.{◌≡◌, ℕ, ◌+◌, ◌^◌, ◌≤◌, List, length, take, None, Some, IfSome, Result, Ok, Err, true}
 use Rattle.mail_base.specs.declared.config.Config.{Config}
 use Rattle.mail_base.specs.Histories.{Rose}
-use Rattle.cf_macros.specs.Expansion.{value}
+use Rattle.cf_macros.specs.Expansion.{host_name}
 use Rattle.link_edge.specs.Begins.{begun_after}
 use Rattle.link_edge.specs.declared.place.Place.TheVariants.{Standard}
 use Rattle.spool_disk.specs.Disk.{FileMap}
@@ -34,7 +33,7 @@ use Rattle.sendmail_run.specs.declared.session_mode.SessionEnd.TheVariants as en
 -- the host that replies name: the value of `$j`, of which at most 255 bytes are named, and nothing
 -- where it can't be expanded
 abbrev pub host_of : List (List ℕ × List ℕ) → List ℕ
-host_of macros = take 255 (result_unwrap_or (value (codes "$j") macros) [])
+host_of macros = take 255 (host_name macros)
 
 -- what sessions are served with under a configuration and its maps
 abbrev pub session_site : Config → Loaded → Site

@@ -3,7 +3,7 @@ ghost use Rattle.queue_table.specs.Calls.{AreDirs};
 ghost use Rattle.queue_table.specs.Directories.{all_dirs, terms_of};
 ghost use Rattle.sendmail_run.specs.Serving as spec;
 
-use cf_macros::{ExpandFault, expand};
+use cf_macros::host_name;
 use mail_base::{Config, Macros, NoMemory, Seq, Text, first_bytes};
 use queue_table::Terms;
 use std::alloc::Global;
@@ -15,12 +15,8 @@ const MOST_HOST: usize = 255;
 pub fn host_of(alloc: Global, macros: &Macros) -> Result<Text, NoMemory>
     ensures { IfOk result (λ host. host ≡ spec.host_of macros.now) }
 {
-    let name = Text::of(alloc, b"$j")?;
-    match expand(alloc, &name, macros) {
-        Ok(host) => Text::of(alloc, first_bytes(host.bytes(), MOST_HOST)),
-        Err(ExpandFault::NoMemory) => Err(NoMemory),
-        Err(_) => Ok(Text::new(alloc)),
-    }
+    let name = host_name(alloc, macros)?;
+    Text::of(alloc, first_bytes(name.bytes(), MOST_HOST))
 }
 
 /// The directories of the queue, among which is that of each group.
