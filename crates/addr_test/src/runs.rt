@@ -13,6 +13,9 @@ use map_tables::Maps;
 use ruleset_run::{RunFault, run};
 use std::alloc::Global;
 
+/// The room that is taken at first for what is printed of an address.
+const ROOM: usize = 128;
+
 /// What the runs of the sets in a list print, in turn, from an address.
 pub(crate) fn runs(
     alloc: Global,
@@ -46,7 +49,7 @@ fn run_all(
 ) -> Result<Text, NoMemory>
     ensures { IfOk result (RunsSets maps.now config.now names.now start) }
 {
-    let mut text = Text::new(alloc);
+    let mut text = Text::from_vec(Vec::with_capacity(alloc, ROOM)?);
     let mut tokens = start;
     for name in names {
         match run_one(alloc, config, maps, name, &tokens, &mut text)? {

@@ -4,18 +4,15 @@ use Rattle.std.specs.Prelude.{OnOk}
 use Rattle.std.proofs.lemmas.List.{append_assoc, append-nil, drop_all, drop_more}
 use Rattle.mail_base.specs.declared.fault.NoMemory.{NoMemory}
 use Rattle.mail_base.specs.declared.token.Token.{Token}
-use Rattle.mail_base.specs.declared.rule.Piece.{Piece}
 use Rattle.mail_base.specs.declared.rule.Step.{Step}
-use Rattle.mail_base.specs.declared.rule.Step.TheVariants.{Plain}
 use Rattle.map_tables.specs.Answers.{Loaded}
 use Rattle.ruleset_run.specs.declared.fault.RunFault.{RunFault}
 use Rattle.ruleset_run.specs.declared.fault.RunFault.TheVariants as faults
 use Rattle.ruleset_run.specs.declared.parts.Parts.{Parts}
 use Rattle.ruleset_run.specs.Sites.{Macros}
 use Rattle.ruleset_run.specs.Cutting.{Lates, late_tokens}
-use Rattle.ruleset_run.specs.Filling.{Part, OneToken, OneCall, Matched, Filling, piece_tokens, put, filled, tokens_in}
+use Rattle.ruleset_run.specs.Filling.{Part, OneToken, OneCall, Matched, Filling, put, filled, tokens_in}
 use Rattle.ruleset_run.specs.inner.Filler.{fronts_parts, parts_of, StandBy, Stand, Gain, FillsFault, StepFault, StepFills}
-use Rattle.ruleset_run.proofs.LookLemmas.{step_plain}
 use Rattle.ruleset_run.proofs.Moves.{tokens_append}
 
 pub put_put : (a b : List Part) (f : Filling) → put a (put b f) ≡ put (a ++ b) f

@@ -1,5 +1,5 @@
 -- The steps of a run over the rules, from what the code knows.
-use Rattle.std.proofs.Common.{◌≡◌, ℕ, ◌+◌, ◌<◌, ◌≤◌, List, ◌∷◌, drop, length, map, Result, Ok, Err, Bool, true, false, refl, sym, ◌∙◌, ap, subst, arith}
+use Rattle.std.proofs.Common.{◌≡◌, ℕ, ◌+◌, ◌<◌, ◌≤◌, List, ◌∷◌, drop, Result, Ok, Err, Bool, true, false, refl, sym, ◌∙◌, ap, subst}
 use Rattle.mail_base.specs.declared.token.Token.{Token}
 use Rattle.mail_base.specs.declared.classes.Classes.{Classes}
 use Rattle.mail_base.specs.declared.rule.Item.{Item}
@@ -15,7 +15,7 @@ use Rattle.ruleset_run.specs.declared.parts.Parts.{Parts}
 use Rattle.ruleset_run.specs.declared.runner.Ran.{Ran}
 use Rattle.ruleset_run.specs.Sites.{Site, Macros}
 use Rattle.ruleset_run.specs.Cutting.{Lates, late_tokens, is_cut_left, left_lists}
-use Rattle.ruleset_run.specs.Filling.{OneToken, Matched, filled, is_cut_right, tokens_in, is_resolved}
+use Rattle.ruleset_run.specs.Filling.{Matched, filled, is_cut_right, tokens_in, is_resolved}
 use Rattle.ruleset_run.specs.Runs.{Done, Outcome, Called, Replaced, late_of, full_of, left_wants, matched, Takes, Runs, GivesFault, Ends}
 use Rattle.ruleset_run.specs.inner.Filler.{IsCutAs, parts_of, StandBy, Fills, FillsFault}
 use Rattle.ruleset_run.specs.inner.Looks.{IsAhead, LeftFault, LimitFault, MatchFound, times_at}

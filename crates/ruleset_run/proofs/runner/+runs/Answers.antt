@@ -1,4 +1,4 @@
-use Rattle.std.proofs.Common.{◌≡◌, ◌+◌, ◌++◌, [], ◌∷◌, Ok, Some, map, true, refl, sym, ◌∙◌, ap, subst, arith}
+use Rattle.std.proofs.Common.{◌≡◌, ◌++◌, ◌∷◌, Some, map, true, refl, sym, ◌∙◌, ap, subst, arith}
 use Rattle.std.specs.Option.{option_copied}
 use Rattle.std.proofs.lemmas.List.{append_assoc}
 use Rattle.std.proofs.lemmas.Result.{err_from_is_err_and}
@@ -7,7 +7,7 @@ use Rattle.rule_match.specs.Kept.{IsChoice}
 use Rattle.ruleset_run.specs.Cutting.{is_cut_left, left_lists}
 use Rattle.ruleset_run.specs.Filling.{OneCall, OneToken, call_name, is_cut_right, tokens_in}
 use Rattle.ruleset_run.specs.Sites.{site_of}
-use Rattle.ruleset_run.specs.Runs.{Done, Runs, RunsAt, Replaced, SetRuns, known, matched}
+use Rattle.ruleset_run.specs.Runs.{Done, Runs, RunsAt, SetRuns, known, matched}
 use Rattle.ruleset_run.specs.inner.Filler.{StandBy, fronts_parts, parts_of}
 use Rattle.ruleset_run.specs.inner.Values.{Known, lates}
 use Rattle.ruleset_run.proofs.Moves.{ends_weaker, deep_at, replaced_plain, tokens_done, parts_are, call_size, call_fails, call_long, call_gave}
