@@ -289,7 +289,7 @@ run_rules-loop-number-preserved t c =
     let operators = c.in_ok-now.ensures.operators ∙ ap (λ (k : Known). k.operators) c.in_ok-is_match.ensures.same ∙ i.operators in
     let mask = c.mask_of-mask-in-Some.ensures ∙ ap mask_of c.items-in-Some.ensures in
     elim c.match-rule.branch [
-      run_rules-in-Again w ↦ rw (w.from-is, w.times-is) (record {
+      | run_rules-in-Again w ↦ rw (w.from-is, w.times-is) (record {
         completes = λ o run. walk_again site (RunsAt site a.left) a.set.now.rules l.from c.in-Some.number l.times c.times_at-times.result c.in-Some.rule.now l.now.tokens l.now.work l.values ops c.in-Some.ensures.some c.times_at-times.ensures (Runs site (RunsAt site a.left) a.set.now.rules 0 a.start.tokens a.start.work a.values.now.macros) i.completes done taken unresolved w.in-Again.is o run;
         within = omega (arith, behind);
         times = omega (arith, c.in_ok-check_limits.ensures.within);
@@ -299,7 +299,7 @@ run_rules-loop-number-preserved t c =
         settled = c.in_ok-now.ensures.settled;
         mask = mask;
       })
-    | run_rules-in-Next w ↦ rw (w.from-is, w.times-is) (record {
+      | run_rules-in-Next w ↦ rw (w.from-is, w.times-is) (record {
         completes = λ o run. walk_next site (RunsAt site a.left) a.set.now.rules l.from c.in-Some.number l.times c.times_at-times.result c.in-Some.rule.now l.now.tokens l.now.work l.values ops c.in-Some.ensures.some c.times_at-times.ensures (Runs site (RunsAt site a.left) a.set.now.rules 0 a.start.tokens a.start.work a.values.now.macros) i.completes done taken unresolved w.in-Next.is o run;
         within = omega (arith, behind);
         times = omega arith;
