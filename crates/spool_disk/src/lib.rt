@@ -15,7 +15,7 @@ mod stop_spool;
 pub use attempt::Attempt;
 pub use change::Change;
 pub use file::File;
-pub use listing::sorted_names;
+pub use listing::{find, sorted_names};
 pub use mem_spool::MemSpool;
 pub use spool::Spool;
 pub use stop_spool::StopSpool;

@@ -8,8 +8,9 @@ use crate::File;
 use mail_base::{NoMemory, Seq, Text, TryCopy};
 use std::alloc::Global;
 
-/// The bytes of the first file at that place.
-pub(crate) fn find<'a>(files: &'a [File], dir: &Text, name: &Text) -> Option<&'a Text>
+/// The bytes of the first file of that directory and name, or `None` where there is none. It takes
+/// no memory, and looks at one file after another.
+pub fn find<'a>(files: &'a [File], dir: &Text, name: &Text) -> Option<&'a Text>
     ensures { option_copied result ≡ bytes_at files.now (dir.now, name.now) }
 {
     for file in files {

@@ -2,7 +2,7 @@
 
 use crate::commands::{Command, did, dirs};
 use mail_base::{NoMemory, Seq, StoreFault};
-use spool_disk::{File, MemSpool, StopSpool};
+use spool_disk::{File, MemSpool, StopSpool, find};
 use spool_store::Queue;
 use std::alloc::Global;
 
@@ -54,12 +54,10 @@ pub(crate) fn files_after(
 }
 
 fn has(files: &Seq<File>, file: &File) -> bool {
-    for other in files.items() {
-        if other.is_at(&file.dir, &file.name) {
-            return other.bytes.bytes() == file.bytes.bytes();
-        }
+    match find(files.items(), &file.dir, &file.name) {
+        Some(bytes) => bytes.bytes() == file.bytes.bytes(),
+        None => false,
     }
-    false
 }
 
 /// Whether these are the same files.

@@ -8,7 +8,7 @@ use crate::samples::{
 use crate::scenes::scene;
 use crate::stops::front;
 use mail_base::{Id, Kind, NoMemory, Seq, StoreFault, Text};
-use spool_disk::File;
+use spool_disk::{File, find};
 use std::alloc::Global;
 
 /// After so many commands of a scene: the directory, kind and id of a file, and which bytes it has,
@@ -83,22 +83,13 @@ fn kind_of(letter: u8) -> Kind {
     }
 }
 
-// The bytes of the file of that directory and name.
-fn bytes_of<'a>(files: &'a Seq<File>, dir: &Text, name: &Text) -> Option<&'a [u8]> {
-    for file in files.items() {
-        if file.is_at(dir, name) {
-            return Some(file.bytes.bytes());
-        }
-    }
-    None
-}
-
 fn is_so(alloc: Global, files: &Seq<File>, row: Row) -> Result<bool, NoMemory> {
     let (_, _, dir, kind, id, letter) = row;
     let dir = Text::of(alloc, dir_of(dir))?;
     let id = Id::new(id.min(999_999_999_999));
     let name = Text::of(alloc, id.name(kind_of(kind)).bytes())?;
-    Ok(bytes_of(files, &dir, &name) == text_of(letter))
+    let bytes = find(files.items(), &dir, &name).map(|text| text.bytes());
+    Ok(bytes == text_of(letter))
 }
 
 fn holds(alloc: Global, row: Row) -> Result<bool, StoreFault> {
