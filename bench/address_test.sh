@@ -1,5 +1,5 @@
 #!/bin/bash
-# Lines per second that address test mode answers, in the best of seven runs, and its greatest memory: over sets of 1, 300
+# Lines per second that address test mode answers, in the best of fifteen runs, and its greatest memory: over sets of 1, 300
 # and 3,000 rules of different anchors, and, by `3,0 user@host.example`, over each configuration that is an argument. Where
 # THEIRS names a command that is Sendmail's own program, it answers the same lines over these in the same run, in turns. Set
 # `program` to another `sendmail` to try that one. This is no part of the gate.
@@ -48,13 +48,13 @@ for _ in $(seq 20000); do echo '5 UCBARPA:eric'; done > "$work/lines"
 for count in 1 300 3000; do
     command=("$program" -bt "-C$work/$count.cf")
     ours=()
-    for _ in 1 2 3 4 5 6 7; do ours+=("$(taken "$work/lines" "$work/ours" "${command[@]}")"); done
+    for _ in $(seq 15); do ours+=("$(taken "$work/lines" "$work/ours" "${command[@]}")"); done
     told "$count rules" "$work/lines" "$(least "${ours[@]}")" "${command[@]}"
 done
 for _ in $(seq 20000); do echo '3,0 user@host.example'; done > "$work/lines"
 for file in ${files[@]+"${files[@]}"}; do
     ours=() theirs=()
-    for _ in 1 2 3 4 5 6 7; do
+    for _ in $(seq 15); do
         ours+=("$(taken "$work/lines" "$work/ours" "$program" -bt "-C$file")")
         if [ -n "${THEIRS:-}" ]; then
             theirs+=("$(taken "$work/lines" "$work/theirs" $THEIRS -bt -C "$file")")
