@@ -177,6 +177,10 @@ const CALLS: &[Case] = &[
     ),
 ];
 
+// A hundred `z`, and then `kz`.
+const HUNDRED_THEN_K: &str = "zzzzzzzzzzzzzzzzzzzzzzzzzzzzzzzzzzzzzzzzzzzzzzzzzz\
+    zzzzzzzzzzzzzzzzzzzzzzzzzzzzzzzzzzzzzzzzzzzzzzzzzzkz";
+
 const FAULTS: &[Case] = &[
     // A left side whose `$&y` can't be cut is refused, whether it matches or not.
     (
@@ -225,6 +229,81 @@ const FAULTS: &[Case] = &[
             ("w", Words(700), End::Long),
             ("y", Words(600), End::List(Words(1800), 2)),
             ("y", Words(700), End::Long),
+        ],
+    ),
+    // A 101st successive application is refused before the 10,001st, and each before all that it
+    // would meet: what can't be cut, look-ups, too many tokens, calls.
+    (
+        &[
+            ("s", Lines(&[("-+", Go::Again, ">t2")])),
+            ("t", Lines(&[("*", Go::Next, ">u1"); 9])),
+            ("u", Lines(&[("*", Go::Next, "1"); 10])),
+        ],
+        &[
+            ("s", Words(101), End::List(Words(1), 10_000)),
+            ("s", Words(102), End::Loop),
+        ],
+    ),
+    (
+        &[
+            ("s", Lines(&[("*", Go::Again, "1.{mx;-11;|&}")])),
+            ("t", Lines(&[("-+", Go::Again, "{t1;|}2")])),
+            ("u", Lines(&[("*", Go::Again, "1x")])),
+            ("v", Lines(&[("-+", Go::Again, ">12")])),
+            ("z", Lines(&[("*", Go::Return, "1")])),
+        ],
+        &[
+            ("s", Words(902), End::Loop),
+            ("s", Words(903), End::BadScan),
+            ("t", Signs(HUNDRED_THEN_K), End::Loop),
+            ("t", Signs("zzkz"), End::BadScan),
+            ("u", Words(1900), End::Loop),
+            ("u", Words(1901), End::Long),
+            ("v", Signs(HUNDRED_THEN_K), End::Loop),
+            ("v", Signs("zzkz"), End::NoRuleset("k")),
+        ],
+    ),
+    (
+        &[
+            ("r", Rounds(0)),
+            (
+                "s",
+                Lines(&[("*", Go::Next, ">r1"), ("*", Go::Return, "%")]),
+            ),
+            (
+                "t",
+                Lines(&[("*", Go::Next, ">r1"), ("*", Go::Return, "{z1}")]),
+            ),
+            (
+                "u",
+                Lines(&[
+                    ("*", Go::Next, ">r1"),
+                    ("*", Go::Return, "11111111111111111111"),
+                ]),
+            ),
+            (
+                "v",
+                Lines(&[("*", Go::Next, ">r1"), ("*", Go::Return, ">q1")]),
+            ),
+        ],
+        &[
+            ("s", Words(101), End::Work),
+            ("t", Words(101), End::Work),
+            ("u", Words(101), End::Work),
+            ("v", Words(101), End::Work),
+        ],
+    ),
+    // What can't be cut comes before too many tokens and before calls, and so do look-ups.
+    (
+        &[
+            ("s", Lines(&[("*", Go::Return, "11%")])),
+            ("t", Lines(&[("*", Go::Return, ">q1%")])),
+            ("u", Lines(&[("*", Go::Return, ">q1{z1}")])),
+        ],
+        &[
+            ("s", Words(1001), End::BadScan),
+            ("t", Signs("a"), End::BadScan),
+            ("u", Signs("a"), End::NoSuchMap("z")),
         ],
     ),
 ];
