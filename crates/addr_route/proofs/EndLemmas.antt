@@ -5,7 +5,7 @@ use Rattle.mail_base.specs.declared.route.Resolved.{Resolved}
 use Rattle.mail_base.specs.declared.route.Resolved.TheVariants.{Goes, Refuses}
 use Rattle.mail_base.specs.declared.route.RouteError.{RouteError}
 use Rattle.mail_base.specs.declared.token.Token.{Token}
-use Rattle.std.specs.Prelude.{IfOk, List, Result, codes}
+use Rattle.std.specs.Prelude.{List, Result, codes}
 use Rattle.mail_base.specs.declared.config.Config.{Config}
 use Rattle.map_tables.specs.Answers.{Loaded}
 use Rattle.ruleset_run.specs.Filling.{is_resolved}
@@ -13,14 +13,15 @@ use Rattle.ruleset_run.specs.Sites.{Macros, site_of}
 use Rattle.addr_route.specs.declared.aim.Aim.{Aim}
 use Rattle.addr_route.specs.Aims.{aim_of, asks_five, with_host}
 use Rattle.addr_route.specs.Routes.{Leads, Turns, turned, Lands, refused, goes, by_five}
-use Rattle.addr_route.specs.Sets.{Through}
+use Rattle.ruleset_run.specs.Sets.{Through}
 use Rattle.mail_base.specs.declared.route.Triple.{Triple}
-use Rattle.addr_route.specs.declared.fault.Refusal.{Refusal}
-use Rattle.addr_route.specs.declared.fault.Refusal.TheVariants as refusals
+use Rattle.ruleset_run.specs.declared.refusal.Refusal.{Refusal}
+use Rattle.ruleset_run.specs.declared.refusal.Refusal.TheVariants as refusals
 use Rattle.addr_route.specs.declared.fault.Stop.{Stop}
 use Rattle.addr_route.specs.declared.fault.Stop.TheVariants as stops
 use Rattle.addr_route.specs.Errors.{error_of}
-use Rattle.addr_route.specs.inner.Answers.{MeetsFault, Tells, TellsStop, of_refusal}
+use Rattle.addr_route.specs.inner.Answers.{Tells, TellsStop, of_refusal}
+use Rattle.ruleset_run.specs.Refusals.{MeetsFault}
 
 -- a refusal of tokens refuses the address
 pub refuses : (P : Result (List Token) Cause → Type 0) (Q : Resolved → Type 0) → ((why : Cause) → P (Err why) → Q (Refuses (error_of why))) → (refusal : Refusal) → MeetsFault refusal P → TellsStop (of_refusal refusal) Q
@@ -37,11 +38,6 @@ stops_so P Q go stops.NoMemory h = tt
 pub tells_so : (P Q : Resolved → Type 0) → ((resolved : Resolved) → P resolved → Q resolved) → (result : Result Triple Stop) → Tells result P → Tells result Q
 tells_so P Q go (Ok triple) h = go (Goes triple) h
 tells_so P Q go (Err stop) h = stops_so P Q (λ error. go (Refuses error)) stop h
-
--- what is said of a result's value may be said more weakly
-pub if_ok : {A E : Type 0} (P Q : A → Type 0) → ((x : A) → P x → Q x) → (r : Result A E) → IfOk r P → IfOk r Q
-if_ok P Q go (Ok x) h = go x h
-if_ok P Q go (Err e) h = tt
 
 -- ---- a list that is resolved, with what it says
 

@@ -4,4 +4,3 @@ mod EndLemmas
 mod OneLemmas
 mod SomeLemmas
 mod TextLemmas
-mod ThroughLemmas

@@ -1,5 +1,5 @@
 -- Each of these relations gives one answer.
-use Rattle.std.proofs.Common.{◌≡◌, ℕ, List, [], ◌∷◌, Bool, Option, Result, Ok, Err, refl, sym, ◌∙◌, ap, subst}
+use Rattle.std.proofs.Common.{◌≡◌, ℕ, List, [], ◌∷◌, Bool, Option, Result, refl, ap, subst}
 use Rattle.std.specs.Prelude.{codes}
 use Rattle.mail_base.specs.Catalogs.{value_like}
 use Rattle.mail_base.specs.declared.config.Config.{Config}
@@ -11,49 +11,17 @@ use Rattle.mail_base.specs.declared.route.RouteError.{RouteError}
 use Rattle.mail_base.specs.declared.route.Triple.{Triple}
 use Rattle.mail_base.specs.declared.token.Token.{Token}
 use Rattle.map_tables.specs.Answers.{Loaded}
-use Rattle.ruleset_run.specs.Runs.{Done, Outcome, RunsSet}
 use Rattle.ruleset_run.specs.Sites.{Site, Macros, site_of}
+use Rattle.ruleset_run.proofs.RewriteLemmas.{OneOutcome, one_through, one_passes}
 use Rattle.addr_route.specs.declared.aim.Aim.{Aim}
-use Rattle.addr_route.specs.declared.rewritten.Rewritten.{Rewritten}
 use Rattle.addr_route.specs.Aims.{aim_of, with_host, triple_of}
 use Rattle.addr_route.specs.Checks.{Checks, unchecked, checked, verdict}
 use Rattle.addr_route.specs.Errors.{error_of}
 use Rattle.addr_route.specs.Routes.{LeadsTo, files, no_user, unwritten, written, Leads, says_error, unknown_mailer, known_mailer, Turns, five_fails, stays, turned, Lands, rules_fail, not_resolved, refused, goes, by_five, Routes, program, file, by_rules, program_by}
 use Rattle.addr_route.specs.Senders.{Sends, null, sends, sent}
-use Rattle.addr_route.specs.Sets.{Through, no_set, set_fails, goes_on, Passes, no_tokens, passes, Rewrites, rewrites, rewritten, run_cause}
-
--- a run has one outcome
-abbrev pub OneOutcome : Type 0
-OneOutcome = (site : Site) (macros : Macros) (name : List ℕ) (tokens : List Token) (one another : Outcome) → RunsSet site macros name tokens one → RunsSet site macros name tokens another → one ≡ another
+use Rattle.ruleset_run.specs.Sets.{Passes}
 
 module _ (law : OneOutcome) where
-  -- ---- rulesets in order
-
-  module _ (site : Site) (macros : Macros) where
-    pub one_through : {sets : List (List ℕ)} {tokens : List Token} {a b : Result (List Token) Cause} → Through site macros sets tokens a → Through site macros sets tokens b → a ≡ b
-    one_through (no_set tokens) (no_set _) = refl
-    one_through (set_fails set sets tokens fault r) (set_fails _ _ _ fault' r') =
-        let e = law site macros set tokens (Err fault) (Err fault') r r' in
-        let same : fault ≡ fault' = cc in
-        ap (λ f. Err (run_cause f)) same
-    one_through (set_fails set sets tokens fault r) (goes_on _ _ _ done b r' t') = let e = law site macros set tokens (Err fault) (Ok done) r r' in absurd (cc e)
-    one_through (goes_on set sets tokens done a r t) (set_fails _ _ _ fault r') = let e = law site macros set tokens (Ok done) (Err fault) r r' in absurd (cc e)
-    one_through (goes_on set sets tokens done a r t) (goes_on _ _ _ done' b r' t') =
-        let e = law site macros set tokens (Ok done) (Ok done') r r' in
-        let same : done' ≡ done = cc in
-        one_through t (subst (λ (d : Done). Through site macros sets d.tokens b) same t')
-
-    pub one_passes : {sets : List (List ℕ)} {address : List ℕ} {a b : Result (List Token) Cause} → Passes site macros sets address a → Passes site macros sets address b → a ≡ b
-    one_passes (no_tokens why e) (no_tokens why' f) = sym e ∙ f
-    one_passes (no_tokens why e) (passes tokens b f t) = absurd (cc (e, f))
-    one_passes (passes tokens a e t) (no_tokens why f) = absurd (cc (e, f))
-    one_passes {sets} (passes tokens a e t) (passes tokens' b f t') =
-        let same : tokens' ≡ tokens = cc (e, f) in
-        one_through t (subst (λ ts. Through site macros sets ts b) same t')
-
-    pub one_rewrites : {sets : List (List ℕ)} {address : List ℕ} {a b : Rewritten} → Rewrites site macros sets address a → Rewrites site macros sets address b → a ≡ b
-    one_rewrites (rewrites answer p) (rewrites answer' p') = ap rewritten (one_passes p p')
-
   module _ (config : Config) (maps : Loaded) (macros : Macros) where
     abbrev site : Site
     site = site_of config maps
@@ -73,15 +41,15 @@ module _ (law : OneOutcome) where
       one_leads_to (unwritten cause f n t) (files g) = absurd (cc (f, g))
       one_leads_to (unwritten cause f n t) (no_user _ m) = absurd (cc (n, m))
       one_leads_to (unwritten cause f n t) (unwritten cause' _ _ t') =
-          let e = one_through site (with_host aim.host macros) t t' in
+          let e = one_through law site (with_host aim.host macros) t t' in
           let same : cause ≡ cause' = cc in
           ap (λ c. Refuses (error_of c)) same
-      one_leads_to (unwritten cause f n t) (written user _ _ t') = let e = one_through site (with_host aim.host macros) t t' in absurd (cc e)
+      one_leads_to (unwritten cause f n t) (written user _ _ t') = let e = one_through law site (with_host aim.host macros) t t' in absurd (cc e)
       one_leads_to (written user f n t) (files g) = absurd (cc (f, g))
       one_leads_to (written user f n t) (no_user _ m) = absurd (cc (n, m))
-      one_leads_to (written user f n t) (unwritten cause _ _ t') = let e = one_through site (with_host aim.host macros) t t' in absurd (cc e)
+      one_leads_to (written user f n t) (unwritten cause _ _ t') = let e = one_through law site (with_host aim.host macros) t t' in absurd (cc e)
       one_leads_to (written user f n t) (written user' _ _ t') =
-          let e = one_through site (with_host aim.host macros) t t' in
+          let e = one_through law site (with_host aim.host macros) t t' in
           let same : user ≡ user' = cc in
           ap (λ u. Goes (triple_of mailer aim.host u)) same
 
@@ -127,7 +95,7 @@ module _ (law : OneOutcome) where
     one_lands (by_five list triple answer a t l y h u) (by_five _ triple' answer' b _ l' _ h' u') =
         let e = one_leads l l' in
         let same : triple' ≡ triple = cc in
-        let alike : answer' ≡ answer = one_through site (with_host (aim_of list).host macros) h' h in
+        let alike : answer' ≡ answer = one_through law site (with_host (aim_of list).host macros) h' h in
         one_turns u (subst (λ x. Turns config maps macros x answer b) same (subst (λ x. Turns config maps macros triple' x b) alike u'))
 
     -- ---- addresses
@@ -145,17 +113,17 @@ module _ (law : OneOutcome) where
     one_routes (by_rules text answer a f p l) (file g) = absurd (cc (f, g))
     one_routes {address} {leaf} (by_rules text answer a f p l) (by_rules text' answer' b g p' l') =
         let same : text' ≡ text = cc (f, g) in
-        let alike : answer' ≡ answer = one_passes site macros (subst (λ x. Passes site macros (codes "3" ∷ codes "0" ∷ []) x answer') same p') p in
+        let alike : answer' ≡ answer = one_passes law site macros (subst (λ x. Passes site macros (codes "3" ∷ codes "0" ∷ []) x answer') same p') p in
         one_lands l (subst (λ x. Lands config maps macros leaf x b) alike l')
 
     pub one_checks : {set address : List ℕ} {a b : Option RouteError} → Checks config maps macros set address a → Checks config maps macros set address b → a ≡ b
     one_checks (unchecked n) (unchecked _) = refl
     one_checks (unchecked n) (checked rules answer m p) = absurd (cc (n, m))
     one_checks (checked rules answer m p) (unchecked n) = absurd (cc (n, m))
-    one_checks (checked rules answer m p) (checked _ answer' _ p') = ap verdict (one_passes site macros p p')
+    one_checks (checked rules answer m p) (checked _ answer' _ p') = ap verdict (one_passes law site macros p p')
 
     pub one_sends : {mailer : Mailer} {address : List ℕ} {a b : List ℕ} → Sends config maps macros mailer address a → Sends config maps macros mailer address b → a ≡ b
     one_sends (null t) (null _) = refl
     one_sends (null t) (sends answer f p) = absurd (cc (f, t))
     one_sends (sends answer f p) (null t) = absurd (cc (f, t))
-    one_sends {address = address} (sends answer f p) (sends answer' _ p') = ap (sent address) (one_passes site macros p p')
+    one_sends {address = address} (sends answer f p) (sends answer' _ p') = ap (sent address) (one_passes law site macros p p')

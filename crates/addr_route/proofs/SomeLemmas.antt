@@ -12,45 +12,18 @@ use Rattle.mail_base.specs.declared.route.Triple.{Triple}
 use Rattle.mail_base.specs.declared.token.Token.{Token}
 use Rattle.map_tables.specs.Answers.{Loaded}
 use Rattle.ruleset_run.specs.Filling.{is_resolved}
-use Rattle.ruleset_run.specs.Runs.{Outcome, RunsSet}
 use Rattle.ruleset_run.specs.Sites.{Site, Macros, site_of}
+use Rattle.ruleset_run.proofs.RewriteLemmas.{SomeOutcome, some_through, some_passes}
 use Rattle.addr_route.specs.declared.aim.Aim.{Aim}
 use Rattle.addr_route.specs.declared.form.Form.{Form}
-use Rattle.addr_route.specs.declared.rewritten.Rewritten.{Rewritten}
 use Rattle.addr_route.specs.declared.form.Form.TheVariants.{Program, File, Plain}
 use Rattle.addr_route.specs.Aims.{aim_of, is_error, said_by, is_file, asks_five, is_nil, with_host, triple_of}
 use Rattle.addr_route.specs.Errors.{error_of}
 use Rattle.addr_route.specs.Forms.{form_of}
 use Rattle.addr_route.specs.Routes.{LeadsTo, files, no_user, unwritten, written, Leads, says_error, unknown_mailer, known_mailer, Turns, five_fails, stays, turned, Lands, rules_fail, not_resolved, refused, goes, by_five, Routes, program, file, by_rules, program_by}
-use Rattle.addr_route.specs.Sets.{Through, no_set, set_fails, goes_on, Passes, no_tokens, passes, Rewrites, rewrites, rewritten, cut, run_cause, user_sets}
-
--- a run has an outcome
-abbrev pub SomeOutcome : Type 0
-SomeOutcome = (site : Site) (macros : Macros) (name : List ℕ) (tokens : List Token) → (outcome : Outcome) × RunsSet site macros name tokens outcome
+use Rattle.ruleset_run.specs.Sets.{Through, user_sets}
 
 module _ (law : SomeOutcome) where
-  module _ (site : Site) (macros : Macros) where
-    abbrev Comes : List (List ℕ) → List Token → Type 0
-    Comes sets tokens = (answer : Result (List Token) Cause) × Through site macros sets tokens answer
-
-    some_first : (set : List ℕ) (sets : List (List ℕ)) (tokens : List Token) → ((more : List Token) → Comes sets more) → (outcome : Outcome) → RunsSet site macros set tokens outcome → Comes (set ∷ sets) tokens
-    some_first set sets tokens go (Err fault) run = (Err (run_cause fault), set_fails set sets tokens fault run)
-    some_first set sets tokens go (Ok done) run = let w = go done.tokens in (w.0, goes_on set sets tokens done w.0 run w.1)
-
-    some_through : (sets : List (List ℕ)) (tokens : List Token) → Comes sets tokens
-    some_through [] tokens = (Ok tokens, no_set tokens)
-    some_through (set ∷ sets) tokens = let w = law site macros set tokens in some_first set sets tokens (λ more. some_through sets more) w.0 w.1
-
-    some_cut : (sets : List (List ℕ)) (address : List ℕ) (r : Result (List Token) Cause) → cut site.operators address ≡ r → (answer : Result (List Token) Cause) × Passes site macros sets address answer
-    some_cut sets address (Err why) e = (Err why, no_tokens why e)
-    some_cut sets address (Ok tokens) e = let w = some_through sets tokens in (w.0, passes tokens w.0 e w.1)
-
-    some_passes : (sets : List (List ℕ)) (address : List ℕ) → (answer : Result (List Token) Cause) × Passes site macros sets address answer
-    some_passes sets address = some_cut sets address (cut site.operators address) refl
-
-    pub some_rewrites : (sets : List (List ℕ)) (address : List ℕ) → (r : Rewritten) × Rewrites site macros sets address r
-    some_rewrites sets address = let w = some_passes sets address in (rewritten w.0, rewrites w.0 w.1)
-
   module _ (config : Config) (maps : Loaded) (macros : Macros) where
     abbrev site : Site
     site = site_of config maps
@@ -65,7 +38,7 @@ module _ (law : SomeOutcome) where
 
       some_user : is_file mailer ≡ false → (b : Bool) → is_nil aim.user ≡ b → LeadsOn
       some_user f true n = (Refuses (error_of NoUser), no_user f n)
-      some_user f false n = let w = some_through site (with_host aim.host macros) (user_sets mailer) aim.user in some_written f n w.0 w.1
+      some_user f false n = let w = some_through law site (with_host aim.host macros) (user_sets mailer) aim.user in some_written f n w.0 w.1
 
       some_leads_to : (b : Bool) → is_file mailer ≡ b → LeadsOn
       some_leads_to true f = (Refuses (error_of FileMailer), files f)
@@ -102,7 +75,7 @@ module _ (law : SomeOutcome) where
         some_five : (triple : Triple) → Leads config maps macros (aim_of list) (Goes triple) → (b : Bool) → asks_five config.mailers leaf (aim_of list) ≡ b → LandsOn
         some_five triple l false n = (Goes triple, goes list triple t l n)
         some_five triple l true y =
-            let w = some_through site (with_host (aim_of list).host macros) (codes "5" ∷ []) (aim_of list).user in
+            let w = some_through law site (with_host (aim_of list).host macros) (codes "5" ∷ []) (aim_of list).user in
             let v = some_turns triple w.0 in
             (v.0, by_five list triple w.0 v.0 t l y w.1 v.1)
 
@@ -122,7 +95,7 @@ module _ (law : SomeOutcome) where
       some_form address (Program command) f = (program_by command (value_like (codes "prog") config.mailers), program command f)
       some_form address File f = (Refuses (error_of FileMailer), file f)
       some_form address (Plain text) f =
-          let w = some_passes site macros (codes "3" ∷ codes "0" ∷ []) text in
+          let w = some_passes law site macros (codes "3" ∷ codes "0" ∷ []) text in
           let v = some_lands w.0 in
           (v.0, by_rules text w.0 v.0 f w.1 v.1)
 

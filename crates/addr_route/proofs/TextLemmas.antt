@@ -5,7 +5,8 @@ use Rattle.std.proofs.lemmas.Bool.{cond_both, and_parts, or_cases, eqb-true, leb
 use Rattle.std.proofs.lemmas.List.Elements.{All-cons, All-nil}
 use Rattle.mail_base.specs.Notes.{IsLineByte, blanked, is_digit, is_status}
 use Rattle.mail_base.specs.Texts.{IsSaid}
-use Rattle.addr_route.specs.Errors.{exit_of, exit_status, numbered_status, host_status, class_code, code_of, code_at, status_before, status_end, said}
+use Rattle.mail_base.specs.Exits.{exit_status, numbered_status}
+use Rattle.addr_route.specs.Errors.{exit_of, host_status, class_code, code_of, code_at, status_before, status_end, said}
 
 -- ---- texts
 

@@ -16,7 +16,7 @@ use Rattle.ruleset_run.specs.Sites.{Macros, site_of}
 use Rattle.addr_route.specs.declared.aim.Aim.{Aim}
 use Rattle.addr_route.specs.Aims.{aim_of, is_error, said_by}
 use Rattle.addr_route.specs.Errors.{error_of, error_with, is_like, reply_to}
-use Rattle.addr_route.specs.Sets.{Passes}
+use Rattle.ruleset_run.specs.Sets.{Passes}
 
 -- `$#ok` accepts, `$#error` refuses as it says, and another mailer is an error of the configuration
 abbrev pub verdict_of : Aim → Option RouteError

@@ -3,6 +3,7 @@
 -- own).
 use Rattle.std.specs.Prelude.{◌≡◌, ℕ, ◌+◌, ◌*◌, ◌-◌, ◌==◌, ◌&&◌, ◌||◌, nat_le, Bool, List, [], ◌∷◌, ◌++◌, Option, None, Some, map, take, drop, position, slice_index, codes, refl, if◌then◌else◌}
 use Rattle.std.specs.Str.{str_eq_ignore_ascii_case}
+use Rattle.mail_base.specs.Exits.{exit_status}
 use Rattle.mail_base.specs.Notes.{blanked, is_digit, is_status}
 use Rattle.mail_base.specs.declared.route.Cause.{Cause}
 use Rattle.mail_base.specs.declared.route.Cause.TheVariants.{BadAddress, LongAddress, NotResolved, UnknownMailer, NoUser, FileMailer, ErrorMailer}
@@ -70,24 +71,6 @@ exit_of host =
     else if is_like host (codes "protocol") then Some 76
     else if is_like host (codes "config") then Some 78
     else exit_numbered host
-
--- 64 usage, 65 dataerr, 66 noinput, 67 nouser, 68 nohost, 69 unavailable, 70 software, 71 oserr, 72
--- osfile, 73 cantcreat, 74 ioerr, 75 tempfail, 76 protocol, 77 noperm, 78 config
-abbrev pub numbered_status : ℕ → List ℕ
-numbered_status exit =
-    if exit == 64 then codes "5.5.4"
-    else if exit == 65 then codes "5.6.0"
-    else if exit == 67 then codes "5.1.1"
-    else if exit == 68 then codes "5.1.2"
-    else if exit == 75 then codes "4.3.0"
-    else if exit == 76 then codes "5.5.0"
-    else if exit == 77 then codes "5.7.0"
-    else if exit == 78 then codes "5.3.5"
-    else codes "5.3.0"
-
-abbrev pub exit_status : Option ℕ → List ℕ
-exit_status None = codes "5.0.0"
-exit_status (Some exit) = numbered_status exit
 
 -- the host where it is a status, or that of the exit which it names
 abbrev pub host_status : List ℕ → List ℕ

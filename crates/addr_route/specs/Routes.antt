@@ -20,7 +20,7 @@ use Rattle.addr_route.specs.declared.form.Form.TheVariants.{Program, File, Plain
 use Rattle.addr_route.specs.Aims.{aim_of, is_error, said_by, is_file, asks_five, is_nil, with_host, triple_of}
 use Rattle.addr_route.specs.Errors.{error_of}
 use Rattle.addr_route.specs.Forms.{form_of}
-use Rattle.addr_route.specs.Sets.{Passes, Through, user_sets}
+use Rattle.ruleset_run.specs.Sets.{Passes, Through, user_sets}
 
 -- ---- a mailer, a host and a user that the rules gave
 

@@ -11,7 +11,7 @@ use Rattle.mail_base.specs.declared.token.Token.{Token}
 use Rattle.addr_tokens.specs.Joins.{joined}
 use Rattle.map_tables.specs.Answers.{Loaded}
 use Rattle.ruleset_run.specs.Sites.{Macros, site_of}
-use Rattle.addr_route.specs.Sets.{Passes, sender_sets}
+use Rattle.ruleset_run.specs.Sets.{Passes, sender_sets}
 
 -- the list joined without blanks; where there is none, the address without its brackets
 abbrev pub sent : List ℕ → Result (List Token) Cause → List ℕ

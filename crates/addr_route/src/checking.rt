@@ -5,17 +5,16 @@ ghost use Rattle.mail_base.specs.declared.route.RouteError.{RouteError as TheErr
 ghost use Rattle.ruleset_run.specs.Sites.{site_of};
 ghost use Rattle.addr_route.specs.Checks.{Checks, IsBoundedIf, verdict, verdict_of};
 ghost use Rattle.addr_route.specs.Errors as spec;
-ghost use Rattle.addr_route.specs.Sets.{Passes};
+ghost use Rattle.ruleset_run.specs.Sets.{Passes};
 
 use crate::aim::{Aim, aim_of};
 use crate::error::{answer_error, error_of};
-use crate::fault::Refusal;
 use crate::law::one_check;
 use crate::lead::{is_error, is_resolved};
 use crate::message::said_by;
-use crate::through::passed;
 use mail_base::{Config, Macros, NoMemory, RouteError, Seq, Text, Token, TryCopy};
 use map_tables::Maps;
+use ruleset_run::{Refusal, passed};
 use std::alloc::Global;
 use std::slice;
 

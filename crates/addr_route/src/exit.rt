@@ -2,7 +2,7 @@ ghost use Rattle.std.specs.Prelude.{◌≡◌, IsTrue};
 ghost use Rattle.mail_base.specs.Notes.{is_status};
 ghost use Rattle.addr_route.specs.Errors as spec;
 
-use mail_base::Status;
+use mail_base::{Status, exit_status};
 
 /// The status that a host says to the mailer `error`: itself, or that of the exit which it names.
 pub fn host_status(host: &[u8]) -> &[u8]
@@ -81,31 +81,4 @@ fn exit_of_digits(tens: u8, ones: u8) -> Option<u8>
         return Some(70 + (ones - b'0'));
     }
     None
-}
-
-fn exit_status(exit: Option<u8>) -> &'static [u8]
-    ensures status { result.now ≡ spec.exit_status exit }
-    ensures form { IsTrue (is_status result.now) }
-{
-    match exit {
-        Some(number) => numbered_status(number),
-        None => b"5.0.0",
-    }
-}
-
-fn numbered_status(exit: u8) -> &'static [u8]
-    ensures status { result.now ≡ spec.numbered_status exit }
-    ensures form { IsTrue (is_status result.now) }
-{
-    match exit {
-        64 => b"5.5.4",
-        65 => b"5.6.0",
-        67 => b"5.1.1",
-        68 => b"5.1.2",
-        75 => b"4.3.0",
-        76 => b"5.5.0",
-        77 => b"5.7.0",
-        78 => b"5.3.5",
-        _ => b"5.3.0",
-    }
 }

@@ -4,12 +4,10 @@ ghost use Rattle.mail_base.specs.declared.mailer.Mailer.{Mailer};
 ghost use Rattle.mail_base.specs.declared.route.Resolved.{Resolved};
 ghost use Rattle.mail_base.specs.declared.route.RouteError.{RouteError};
 ghost use Rattle.map_tables.specs.Answers.{Loaded};
-ghost use Rattle.ruleset_run.specs.Sites.{Macros, Site};
-ghost use Rattle.addr_route.specs.declared.rewritten.Rewritten.{Rewritten};
+ghost use Rattle.ruleset_run.specs.Sites.{Macros};
 ghost use Rattle.addr_route.specs.Checks.{Checks};
 ghost use Rattle.addr_route.specs.Routes.{Routes};
 ghost use Rattle.addr_route.specs.Senders.{Sends};
-ghost use Rattle.addr_route.specs.Sets.{Rewrites};
 
 use ruleset_run::{each_run_ends, one_outcome};
 
@@ -28,26 +26,6 @@ pub fn one_route()
         (one another : Resolved)
         → Routes config maps macros address leaf one
         → Routes config maps macros address leaf another → one ≡ another }
-{
-    // A law: a run has one outcome.
-    one_outcome();
-}
-
-/// Rulesets make a text of an address, or refuse it, whatever their names are.
-pub fn some_rewriting()
-    ensures { (site : Site) (macros : Macros) (sets : List (List ℕ)) (address : List ℕ)
-        → (rewritten : Rewritten) × Rewrites site macros sets address rewritten }
-{
-    // A law: a run has an outcome.
-    each_run_ends();
-}
-
-/// Rulesets make one text of an address, or refuse it for one cause.
-pub fn one_rewriting()
-    ensures { (site : Site) (macros : Macros) (sets : List (List ℕ)) (address : List ℕ)
-        (one another : Rewritten)
-        → Rewrites site macros sets address one
-        → Rewrites site macros sets address another → one ≡ another }
 {
     // A law: a run has one outcome.
     one_outcome();

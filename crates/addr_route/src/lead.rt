@@ -5,17 +5,17 @@ ghost use Rattle.ruleset_run.specs.Sites.{site_of};
 ghost use Rattle.addr_route.specs.Aims as spec;
 ghost use Rattle.addr_route.specs.Aims.{with_host};
 ghost use Rattle.addr_route.specs.Routes.{Leads, LeadsTo};
-ghost use Rattle.addr_route.specs.Sets.{Through, user_sets};
-ghost use Rattle.addr_route.specs.inner.Answers.{Meets, Tells};
+ghost use Rattle.ruleset_run.specs.Sets.{Through, user_sets};
+ghost use Rattle.addr_route.specs.inner.Answers.{Tells};
+ghost use Rattle.ruleset_run.specs.Refusals.{Meets};
 
 use crate::aim::Aim;
-use crate::fault::{Refusal, Stop};
+use crate::fault::Stop;
 use crate::message::said_by;
-use crate::sets::{sets_of, user_sets};
-use crate::through::through;
 use crate::triple::{has_flag, triple_of};
 use mail_base::{Cause, Config, Macros, Mailer, Mark, NoMemory, Seq, Text, Token, Triple, TryCopy};
 use map_tables::Maps;
+use ruleset_run::{Refusal, sets_of, through, user_sets};
 use std::alloc::Global;
 
 /// Where a mailer, a host and a user lead that the rules gave.

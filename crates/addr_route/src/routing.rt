@@ -6,21 +6,21 @@ ghost use Rattle.mail_base.specs.declared.route.Resolved.{Resolved as TheResolve
 ghost use Rattle.ruleset_run.specs.Sites.{site_of};
 ghost use Rattle.addr_route.specs.Aims.{with_host};
 ghost use Rattle.addr_route.specs.Routes.{IsBounded, Lands, Leads, Routes, Turns, program_by};
-ghost use Rattle.addr_route.specs.Sets.{Passes, Through};
-ghost use Rattle.addr_route.specs.inner.Answers.{Meets, Tells};
+ghost use Rattle.ruleset_run.specs.Sets.{Passes, Through};
+ghost use Rattle.addr_route.specs.inner.Answers.{Tells};
+ghost use Rattle.ruleset_run.specs.Refusals.{Meets};
 
 use crate::aim::{Aim, aim_of};
 use crate::error::error_of;
-use crate::fault::{Refusal, Stop};
+use crate::fault::Stop;
 use crate::form::{Form, form_of};
 use crate::law::one_route;
 use crate::lead::{asks_five, five, is_file, is_resolved, lead};
-use crate::sets::sets_of;
-use crate::through::passed;
 use mail_base::{
     Cause, Config, Macros, Mailer, NoMemory, Resolved, Seq, Text, Token, Triple, TryCopy,
 };
 use map_tables::Maps;
+use ruleset_run::{Refusal, passed, sets_of};
 use std::alloc::Global;
 
 /// Where an address goes: a mailer, a host and a user, or the error that refuses it (Sendmail

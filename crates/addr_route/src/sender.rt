@@ -2,13 +2,11 @@ ghost use Rattle.std.specs.Prelude.{◌≡◌, ℕ, List, IfOk, bytes_eq};
 ghost use Rattle.mail_base.specs.Drawing.{null_sender};
 ghost use Rattle.addr_route.specs.Senders.{Sends};
 
-use crate::fault::Refusal;
 use crate::law::one_sender;
-use crate::sets::sender_sets;
-use crate::through::passed;
 use addr_tokens::join;
 use mail_base::{Config, Macros, Mailer, NoMemory, Text, without_angles};
 use map_tables::Maps;
+use ruleset_run::{Refusal, passed, sender_sets};
 use std::alloc::Global;
 
 /// The sender that a mailer is given for the sender of a message (Sendmail Operation Guide, R and

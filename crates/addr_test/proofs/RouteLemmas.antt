@@ -7,7 +7,7 @@ use Rattle.mail_base.specs.declared.mailer.Mailer.{Mailer}
 use Rattle.mail_base.specs.declared.route.Resolved.{Resolved}
 use Rattle.map_tables.specs.Answers.{Loaded}
 use Rattle.ruleset_run.specs.Sites.{Macros, Site, site_of}
-use Rattle.addr_route.specs.declared.rewritten.Rewritten.{Rewritten}
+use Rattle.ruleset_run.specs.declared.rewritten.Rewritten.{Rewritten}
 use Rattle.addr_route.specs.Routes.{Routes}
 use Rattle.addr_route.specs.Sets.{Rewrites, recipient_sets, sender_sets}
 use Rattle.addr_test.specs.Answers.{RewritesUnder, TellsBoth, TellsRoute, TellsTry}

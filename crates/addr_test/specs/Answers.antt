@@ -18,7 +18,7 @@ use Rattle.map_tables.specs.Answers.{Loaded, map_answer, told}
 use Rattle.ruleset_run.specs.declared.fault.RunFault.{RunFault}
 use Rattle.ruleset_run.specs.Runs.{Done, Outcome, RunsSet}
 use Rattle.ruleset_run.specs.Sites.{site_of}
-use Rattle.addr_route.specs.declared.rewritten.Rewritten.{Rewritten}
+use Rattle.ruleset_run.specs.declared.rewritten.Rewritten.{Rewritten}
 use Rattle.addr_route.specs.Routes.{Routes}
 use Rattle.addr_route.specs.Sets.{Rewrites, recipient_sets, sender_sets}
 use Rattle.addr_test.specs.declared.answers.Reply.{Reply}

@@ -21,8 +21,8 @@ use Rattle.map_tables.specs.declared.found.MapFault.{MapFault}
 use Rattle.map_tables.specs.declared.found.MapFault.TheVariants as maps
 use Rattle.ruleset_run.specs.declared.fault.RunFault.{RunFault}
 use Rattle.ruleset_run.specs.declared.fault.RunFault.TheVariants as runs
-use Rattle.addr_route.specs.declared.rewritten.Rewritten.{Rewritten}
-use Rattle.addr_route.specs.declared.rewritten.Rewritten.TheVariants as addresses
+use Rattle.ruleset_run.specs.declared.rewritten.Rewritten.{Rewritten}
+use Rattle.ruleset_run.specs.declared.rewritten.Rewritten.TheVariants as addresses
 
 -- a text, on a line of its own
 abbrev pub line_of : List ℕ → List ℕ

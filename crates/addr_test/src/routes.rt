@@ -2,7 +2,7 @@ ghost use Rattle.std.specs.Prelude.{◌≡◌, IfOk};
 ghost use Rattle.mail_base.specs.Catalogs.{value_like};
 ghost use Rattle.mail_base.specs.declared.route.Resolved.TheVariants.{Goes, Refuses};
 ghost use Rattle.addr_route.specs.Sets as sets;
-ghost use Rattle.addr_route.specs.declared.rewritten.Rewritten.TheVariants.{Gives};
+ghost use Rattle.ruleset_run.specs.declared.rewritten.Rewritten.TheVariants.{Gives};
 ghost use Rattle.addr_test.specs.Answers.{RewritesUnder, TellsBoth, TellsRoute, TellsTry};
 ghost use Rattle.addr_test.specs.Texts as spec;
 

@@ -3,4 +3,5 @@ pub mod Scans
 pub mod Joins
 pub mod Members
 pub mod Reader
+pub mod Separators
 pub mod inner

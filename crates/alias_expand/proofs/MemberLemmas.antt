@@ -9,11 +9,12 @@ use Rattle.map_tables.specs.Marks.{begins_with}
 use Rattle.alias_expand.specs.declared.aliases.Alias.{Alias}
 use Rattle.alias_expand.specs.declared.lines.Line.{Line}
 use Rattle.alias_expand.specs.declared.members.Member.TheVariants.{Address, Include}
-use Rattle.alias_expand.specs.declared.place.Place.{Place}
-use Rattle.alias_expand.specs.declared.place.Separator.TheVariants.{Colon, Comma}
+use Rattle.addr_tokens.specs.declared.place.Place.{Place}
+use Rattle.addr_tokens.specs.declared.place.Separator.TheVariants.{Colon, Comma}
 use Rattle.alias_expand.specs.Aliases.{alias_by, alias_of, file_aliases, name_of}
 use Rattle.alias_expand.specs.Lines.{attached, goes_on, grouped, is_heard, is_indented, joined, logical_lines, numbered, spliced}
-use Rattle.alias_expand.specs.Members.{IsMember, after, closes_last, file_members, include_mark, is_local, is_paired, length_to, line_members, member_of, outside, pieces_from, separates, unpaired, written}
+use Rattle.alias_expand.specs.Members.{IsMember, closes_last, file_members, include_mark, is_local, is_paired, line_members, member_of, unpaired, written}
+use Rattle.addr_tokens.specs.Separators.{after, length_to, outside, pieces_from, separates}
 use Rattle.mail_base.specs.Whites.{stripped}
 use Rattle.alias_expand.specs.inner.AliasPlaces.{HasMembers}
 

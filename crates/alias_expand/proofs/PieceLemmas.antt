@@ -8,9 +8,10 @@ use Rattle.std.proofs.lemmas.List.Splits.{slice_split_first, slice_split_none}
 use Rattle.bstr.specs.Find.{IsFirstByte, is_byte}
 use Rattle.mail_base.proofs.SearchLemmas.{byte_found, front_some}
 use Rattle.mail_base.specs.Texts.{is_lf}
-use Rattle.alias_expand.specs.declared.place.Place.{Place}
-use Rattle.alias_expand.specs.declared.place.Separator.TheVariants.{Comma}
-use Rattle.alias_expand.specs.Members.{after, length_to, outside, pieces_from, separates, written}
+use Rattle.addr_tokens.specs.declared.place.Place.{Place}
+use Rattle.addr_tokens.specs.declared.place.Separator.TheVariants.{Comma}
+use Rattle.alias_expand.specs.Members.{written}
+use Rattle.addr_tokens.specs.Separators.{after, length_to, outside, pieces_from, separates}
 use Rattle.mail_base.specs.Whites.{stripped}
 use Rattle.alias_expand.specs.inner.Pieces.{kept}
 

@@ -13,9 +13,10 @@ use Rattle.alias_expand.specs.declared.fault.AliasFault.TheVariants.{Refused, No
 use Rattle.alias_expand.specs.declared.lines.Line.{Line}
 use Rattle.alias_expand.specs.declared.members.Member.{Member}
 use Rattle.alias_expand.specs.declared.members.Member.TheVariants.{Address}
-use Rattle.alias_expand.specs.declared.place.Separator.TheVariants.{Colon}
+use Rattle.addr_tokens.specs.declared.place.Separator.TheVariants.{Colon}
 use Rattle.alias_expand.specs.Lines.{is_indented, logical_lines}
-use Rattle.alias_expand.specs.Members.{length_to, member_of, outside, written}
+use Rattle.alias_expand.specs.Members.{member_of, written}
+use Rattle.addr_tokens.specs.Separators.{length_to, outside}
 
 -- a name goes without white space around it and without its double quotes (34)
 abbrev pub name_of : List ℕ → List ℕ

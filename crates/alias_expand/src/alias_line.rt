@@ -4,9 +4,8 @@ ghost use Rattle.alias_expand.specs.Aliases.{ExplainsRefusal, file_aliases, firs
 
 use crate::lines::{is_indented, logical_lines};
 use crate::members::{push_members, written};
-use crate::place::Separator;
 use crate::{Alias, AliasFault};
-use addr_tokens::any_refused;
+use addr_tokens::{Separator, any_refused};
 use mail_base::{NoMemory, Seq, Text, stripped, without_quotes};
 use std::alloc::Global;
 

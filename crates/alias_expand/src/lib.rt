@@ -17,7 +17,6 @@ mod lines;
 mod member;
 mod members;
 mod owner;
-mod place;
 mod reading;
 mod refusal;
 mod site;

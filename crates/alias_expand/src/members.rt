@@ -5,7 +5,7 @@ ghost use Rattle.alias_expand.specs.Members.{IsMember, closes_last, escapes, fil
 ghost use Rattle.alias_expand.specs.inner.Pieces.{kept};
 
 use crate::lines::split_lf;
-use crate::place::Separator;
+use addr_tokens::Separator;
 use mail_base::{NoMemory, Seq, Text, stripped};
 use std::alloc::Global;
 

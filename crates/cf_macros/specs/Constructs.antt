@@ -1,7 +1,8 @@
 -- The first construct of a text that names macros (Sendmail Installation and Operation Guide,
 -- macros and conditionals; which bytes are no names is our own).
-use Rattle.std.specs.Prelude.{ℕ, List, [], ◌∷◌, Bool, Option, None, Some, if◌then◌else◌, ◌==◌, not, take, drop, codes, ◌+◌}
+use Rattle.std.specs.Prelude.{ℕ, List, [], ◌∷◌, Bool, Option, None, Some, if◌then◌else◌, ◌==◌, ◌&&◌, not, take, drop, codes, ◌+◌}
 use Rattle.std.specs.List.{list_any, position}
+use Rattle.mail_base.specs.Whites.{is_white}
 use Rattle.cf_macros.specs.declared.construct.Kind.{Kind}
 use Rattle.cf_macros.specs.declared.construct.Kind.TheVariants.{Plain, Reference, Test, Else, End, Unclosed}
 use Rattle.cf_macros.specs.declared.construct.Naming.{Naming}
@@ -9,13 +10,13 @@ use Rattle.cf_macros.specs.declared.construct.Naming.TheVariants.{Letter, Word, 
 use Rattle.cf_macros.specs.declared.scope.Scope.{Scope}
 use Rattle.cf_macros.specs.declared.scope.Scope.TheVariants.{Outside, Rule}
 
--- the bytes that are no names of macros without braces
+-- the signs that are no names of macros without braces
 abbrev pub nameless_bytes : List ℕ
 nameless_bytes = codes "0123456789*+-@:#>[]()=~$&?|.{"
 
--- whether a byte is the name of a macro
+-- whether a byte is the name of a macro: neither white space nor such a sign
 abbrev pub is_name : ℕ → Bool
-is_name byte = not (list_any (λ other. other == byte) nameless_bytes)
+is_name byte = not (is_white byte) && not (list_any (λ other. other == byte) nameless_bytes)
 
 -- the word in braces, whose text begins behind the first of them
 abbrev pub braced : Option ℕ → Naming

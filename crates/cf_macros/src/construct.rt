@@ -6,6 +6,7 @@ ghost use Rattle.cf_macros.specs.inner.Found.{IsWithin, Shows};
 
 use crate::scope::Scope;
 use bstr::ByteSlice;
+use mail_base::is_white;
 
 /// What a construct is.
 #[derive(Clone, Copy)]
@@ -51,7 +52,7 @@ pub(crate) struct Construct<'a> {
 fn is_name(byte: u8) -> bool
     ensures { result ≡ is_name byte }
 {
-    !b"0123456789*+-@:#>[]()=~$&?|.{".contains(&byte)
+    !is_white(byte) && !b"0123456789*+-@:#>[]()=~$&?|.{".contains(&byte)
 }
 
 fn word_length(text: &[u8]) -> Option<usize>

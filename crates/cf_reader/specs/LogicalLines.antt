@@ -4,6 +4,7 @@ use Rattle.std.specs.Prelude.{◌≡◌, ℕ, ◌+◌, ◌-◌, List, [], ◌∷
 use Rattle.std.specs.Str.Lines.{lines}
 use Rattle.std.specs.List.{flat_map, take_while, suffix_len, position_or_len}
 use Rattle.mail_base.specs.Texts.{is_blank}
+use Rattle.mail_base.specs.Whites.{is_white}
 use Rattle.cf_reader.specs.declared.logical.Logical.{Logical}
 
 -- a list begins with this byte
@@ -47,13 +48,9 @@ begins_comment (last, b) = (b == 35) && not (is_shield last)
 abbrev pub before_comment : List ℕ → List ℕ
 before_comment text = take (position_or_len begins_comment (zip (0 ∷ text) text)) text
 
--- white space before a comment: blanks and the LF of a joint
-abbrev pub is_margin : ℕ → Bool
-is_margin b = is_blank b || (b == 10)
-
--- without the white space at the end
+-- without the white space at the end, that of tokens, of which the LF of a joint is one
 abbrev pub trimmed : List ℕ → List ℕ
-trimmed text = take (length text - suffix_len is_margin text) text
+trimmed text = take (length text - suffix_len is_white text) text
 
 -- `\#` stands for `#`
 abbrev pub unshielded : List ℕ → List ℕ
@@ -99,8 +96,9 @@ example :
     ≡ (record { number = 1; text = codes "S1" })
     ∷ (record { number = 4; text = codes "Ra \tb" })
     ∷ (record { number = 7; text = codes "R#d" }) ∷ [])
+    × (logical_lines (codes "R" ++ 11 ∷ 127 ∷ codes "# e") ≡ record { number = 1; text = codes "R" } ∷ [])
     × (logical_lines (codes " x\nR$# e\r\nHa: b\n c\nS2\r")
     ≡ (record { number = 2; text = codes "R$# e" })
     ∷ (record { number = 3; text = codes "Ha: b\n c" })
     ∷ (record { number = 5; text = codes "S2\r" }) ∷ [])
-example = (refl, refl)
+example = (refl, refl, refl)

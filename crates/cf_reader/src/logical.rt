@@ -4,7 +4,7 @@ ghost use Rattle.cf_reader.specs.LogicalLines.{physical_lines};
 ghost use Rattle.cf_reader.specs.LogicalLines as spec;
 ghost use Rattle.cf_reader.specs.inner.Scans.{left, read_on};
 
-use mail_base::{NoMemory, Text, split_line};
+use mail_base::{NoMemory, Text, is_white, split_line};
 use std::alloc::Global;
 
 /// A logical line of a configuration file, and the number of its first physical line, from 1.
@@ -149,17 +149,11 @@ fn up_to_comment(text: &[u8]) -> &[u8]
     text
 }
 
-fn is_margin(byte: u8) -> bool
-    ensures { result ≡ spec.is_margin byte }
-{
-    byte == b' ' || byte == b'\t' || byte == b'\n'
-}
-
 fn trimmed(text: &[u8]) -> &[u8]
     ensures { result.now ≡ spec.trimmed text.now }
 {
     let mut end = text.len();
-    while end > 0 && is_margin(text[end - 1]) {
+    while end > 0 && is_white(text[end - 1]) {
         end -= 1;
     }
     &text[..end]

@@ -16,9 +16,9 @@ use mail_edge::Files;
 use std::alloc::Global;
 
 /// The configuration that the text of a file says, or the first line that is refused, by its number
-/// from 1, with its first fault. The files are those that F lines name; they are read as their
-/// lines come. Nothing is given of a configuration that is refused (Sendmail Installation and
-/// Operation Guide, "The Whole Scoop on the Configuration File").
+/// from 1, with its first fault. Where the files fail that F lines name, that may come in place of
+/// the fault of a line. Nothing is given of a configuration that is refused (Sendmail Installation
+/// and Operation Guide, "The Whole Scoop on the Configuration File").
 pub fn read<F: Files>(alloc: Global, text: &Text, files: &mut F) -> Result<Config, CfFault>
     requires { length text.now < 2 ^ 32 }
     ensures told { IfSome (F.seen files.old).map

@@ -32,7 +32,7 @@ unused_number n history (Sent s bytes) h t = absurd (true≢false (sym t))
 unused_number n history (Unsent s) h t = absurd (true≢false (sym t))
 unused_number n history (HungUp s) h t = absurd (true≢false (sym t))
 
-one_more_number : (b : Bool) (count : ℕ) → count ≤ 1 → (b ≡ true → count ≡ 0) → count + cond b 1 0 ≤ 1
+pub one_more_number : (b : Bool) (count : ℕ) → count ≤ 1 → (b ≡ true → count ≡ 0) → count + cond b 1 0 ≤ 1
 one_more_number true count h zero = let none = zero refl in omega arith
 one_more_number false count h zero = omega arith
 

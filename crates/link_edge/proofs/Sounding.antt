@@ -11,7 +11,7 @@ use Rattle.link_edge.specs.Sessions.{is_among, is_open, is_sound, open_after, so
 use Rattle.link_edge.proofs.Sessioning.{sound_push}
 
 -- a list with one session more
-among_push : (session added : ℕ) (xs : List ℕ) → is_among session (xs ++ added ∷ []) ≡ (is_among session xs || (nat_eq added session || false))
+pub among_push : (session added : ℕ) (xs : List ℕ) → is_among session (xs ++ added ∷ []) ≡ (is_among session xs || (nat_eq added session || false))
 among_push session added xs = list_any-append (λ other. nat_eq other session) xs (added ∷ [])
 
 -- the head of a list is taken out, or not
@@ -33,11 +33,11 @@ among_without session gone [] = refl
 among_without session gone (x ∷ xs) = without_head (nat_eq x session) (nat_eq x gone) (nat_eq session gone) (is_among session xs) session x (without gone xs) (λ t. ap (λ n. nat_eq n gone) (eqb-true x session t)) (among_without session gone xs) refl
 
 -- the sessions of the one list are among those of the other
-Within : List ℕ → List ℕ → Type 0
+unfoldable pub Within : List ℕ → List ℕ → Type 0
 Within some all = (session : ℕ) → is_among session some ≡ true → is_among session all ≡ true
 
 -- a session more in both
-within_push : (added : ℕ) (some all : List ℕ) → Within some all → Within (some ++ added ∷ []) (all ++ added ∷ [])
+pub within_push : (added : ℕ) (some all : List ℕ) → Within some all → Within (some ++ added ∷ []) (all ++ added ∷ [])
 unfolding Within
 within_push added some all h = λ s t. among_push s added all ∙ more (is_among s some) (is_among s all) (nat_eq added s || false) (h s) (sym (among_push s added some) ∙ t)
   where
@@ -46,12 +46,12 @@ within_push added some all h = λ s t. among_push s added all ∙ more (is_among
     more false b c h t = or_right b c t
 
 -- a session less in the one
-within_less : (gone : ℕ) (some all : List ℕ) → Within some all → Within (without gone some) all
+pub within_less : (gone : ℕ) (some all : List ℕ) → Within some all → Within (without gone some) all
 unfolding Within
 within_less gone some all h = λ s t. h s (and_parts (is_among s some) (not (nat_eq s gone)) (sym (among_without s gone some) ∙ t)).0
 
 -- a session less in both
-within_both : (gone : ℕ) (some all : List ℕ) → Within some all → Within (without gone some) (without gone all)
+pub within_both : (gone : ℕ) (some all : List ℕ) → Within some all → Within (without gone some) (without gone all)
 unfolding Within
 within_both gone some all h = λ s t.
     let parts = and_parts (is_among s some) (not (nat_eq s gone)) (sym (among_without s gone some) ∙ t) in

@@ -1,5 +1,8 @@
 pub mod Begins
+pub mod Dials
 pub mod Heard
+pub mod Lines
+pub mod Pieces
 pub mod Sessions
 pub mod Single
 pub mod Steps

@@ -1,2 +1,4 @@
 pub mod Kept
+pub mod KeptLines
+pub mod Parts
 pub mod Rests

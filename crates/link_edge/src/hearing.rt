@@ -116,7 +116,7 @@ fn is_peer(bytes: &[u8]) -> bool
 }
 
 // What stands behind the first bytes.
-fn behind(bytes: &[u8], count: usize) -> &[u8]
+pub(crate) fn behind(bytes: &[u8], count: usize) -> &[u8]
     ensures { result.now ≡ drop count bytes.now }
 {
     if count < bytes.len() {

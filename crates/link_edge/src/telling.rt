@@ -179,7 +179,7 @@ fn add(
 }
 
 // Takes a number out, wherever it stands.
-fn leave(sessions: &mut Vec<u64>, session: u64)
+pub(crate) fn leave(sessions: &mut Vec<u64>, session: u64)
     ensures without { sessions.new.items ≡ without session sessions.old.items }
     ensures fewer { length sessions.new.items ≤ length sessions.old.items }
     ensures one_less { is_among session sessions.old.items ≡ true

@@ -1,13 +1,14 @@
 -- One rule more in the buckets of a ruleset.
 use Rattle.std.proofs.Common.{◌≡◌, ℕ, ◌+◌, ◌<◌, ◌^◌, List, [], ◌∷◌, ◌++◌, ◌≤◌, get_or, length, map, take, Bool, true, false, refl, sym, ap, ◌∙◌, subst, arith, Some, None, zero, suc, inl, inr}
-use Rattle.std.specs.Prelude.{Option, cond, filter, slice_get, unwrap_or, Result, Ok, Err, OnOk, OnErr}
-use Rattle.std.specs.List.{IsDistinct}
+use Rattle.std.specs.Prelude.{Option, cond, filter, slice_get, ◌||◌, unwrap_or, Result, Ok, Err, OnOk, OnErr}
+use Rattle.std.specs.List.{IsDistinct, list_any}
 use Rattle.std.specs.Option.{option_map}
 use Rattle.std.specs.Result.{is_err}
 use Rattle.std.specs.Map.{lookup, lookup_key, keys_of, values_of}
 use Rattle.std.proofs.lemmas.Bool.{cases_eq, cases_order, cond_both, true≢false}
 use Rattle.std.proofs.lemmas.List.Elements.{filter-append}
 use Rattle.std.proofs.lemmas.List.{append-nil}
+use Rattle.std.proofs.lemmas.List.Sums.{fold-append}
 use Rattle.std.proofs.lemmas.Option.{slice_get-get_or, slice_get_within}
 use Rattle.std.proofs.lemmas.Map.Entries.{lookup_from_place}
 use Rattle.indexmap.specs.IndexMap.{set_value_at}
@@ -16,12 +17,12 @@ use Rattle.mail_base.specs.declared.rule.Rule.{Rule}
 use Rattle.mail_base.specs.declared.rule.Numbered.{Numbered}
 use Rattle.mail_base.specs.declared.rule.Slot.{Slot}
 use Rattle.mail_base.specs.declared.fault.NoMemory.{NoMemory}
-use Rattle.mail_base.specs.Candidates.{anchor, anchored, has_anchor, holds, is_free, is_none, numbered_from}
+use Rattle.mail_base.specs.Candidates.{anchor, anchored, anchors_of, free, has_anchor, holds, is_free, is_none, numbered_from, with_anchor}
 use Rattle.mail_base.specs.Masks.{IsNextCovered, covers, wanted_mask}
 use Rattle.mail_base.specs.inner.Covering.{AreUncovered, IsFirstCovered}
 use Rattle.mail_base.specs.Tokens.{same_token}
 use Rattle.mail_base.specs.inner.TokenLaws.{same_equiv}
-use Rattle.mail_base.specs.Buckets.{bucket_of, listed, at_place, in_bucket, stored, rule_in, in_order, IsIndex, IsSlotAt, IsSlotFor, IsBucket, Keeps, Grows, Puts}
+use Rattle.mail_base.specs.Buckets.{bucket_of, listed, at_place, in_bucket, stored, rule_in, in_order, IsIndex, IsSlotAt, IsSlotFor, IsBucket, Adds, Keeps, Grows, Puts}
 
 -- ---- lists
 
@@ -43,6 +44,10 @@ same_length f g [] [] h = refl
 same_length f g [] (y ∷ ys) h = absurd (cc h)
 same_length f g (x ∷ xs) [] h = absurd (cc h)
 same_length f g (x ∷ xs) (y ∷ ys) h = ap suc (same_length f g xs ys (cc h))
+
+take_front : {X : Type 0} (xs ys : List X) → take (length xs) (xs ++ ys) ≡ xs
+take_front [] ys = refl
+take_front {X} (x ∷ xs) ys = ap (λ (zs : List X). x ∷ zs) (take_front xs ys)
 
 -- ---- rules with their numbers
 
@@ -69,6 +74,17 @@ picked p rules rule k is = ap (filter p) (numbered_end rules rule k is) ∙ filt
 
 -- ---- what the slots hold
 
+-- the index but for the order of anchors
+record Inner (rules : List Rule) (entries : List (Token × List Numbered)) (loose : List Numbered) (slots : List Slot) : Type 0 where
+  each : (token : Token) → bucket_of token entries ≡ anchored token rules
+  rest : loose ≡ free rules
+  places : map (stored entries loose) slots ≡ map Some (numbered_from 0 rules)
+  masks : map (λ slot. slot.wanted) slots ≡ map (λ rule. wanted_mask rule.left) rules
+  few : length slots < 2 ^ 32
+
+inner : (rules : List Rule) (e : List (Token × List Numbered)) (l : List Numbered) (slots : List Slot) → IsIndex rules e l slots → Inner rules e l slots
+inner rules e l slots i = record { each = i.each; rest = i.rest; places = i.places; masks = i.masks; few = i.few }
+
 ordered : (e : List (Token × List Numbered)) (l : List Numbered) (slots : List Slot) (ones : List Numbered) → map (stored e l) slots ≡ map Some ones → in_order e l slots ≡ map (λ one. one.rule) ones
 ordered e l [] [] h = refl
 ordered e l [] (one ∷ ones) h = absurd (cc h)
@@ -78,7 +94,7 @@ ordered e l (slot ∷ slots) (one ∷ ones) h =
     let rest : map (stored e l) slots ≡ map Some ones = cc h in
     ap (λ (x : Option Numbered). rule_in x ++ in_order e l slots) first ∙ ap (λ (rs : List Rule). one.rule ∷ rs) (ordered e l slots ones rest)
 
-pub in_order_is : (rules : List Rule) (e : List (Token × List Numbered)) (l : List Numbered) (slots : List Slot) → IsIndex rules e l slots → in_order e l slots ≡ rules
+in_order_is : (rules : List Rule) (e : List (Token × List Numbered)) (l : List Numbered) (slots : List Slot) → Inner rules e l slots → in_order e l slots ≡ rules
 in_order_is rules e l slots i = ordered e l slots (numbered_from 0 rules) i.places ∙ rules_back 0 rules
 
 moved : (e f : List (Token × List Numbered)) (l m : List Numbered) (slots : List Slot) (ones : List Numbered) → ((slot : Slot) (one : Numbered) → stored e l slot ≡ Some one → stored f m slot ≡ Some one)
@@ -105,7 +121,7 @@ slot_kept e f l keeps (Some place) k one h = entry_kept e f place k one (slice_g
 
 -- ---- buckets that say the same
 
-pub calm : (rules : List Rule) (e f : List (Token × List Numbered)) (l : List Numbered) (slots : List Slot) → Keeps e f → IsIndex rules e l slots → IsIndex rules f l slots
+calm : (rules : List Rule) (e f : List (Token × List Numbered)) (l : List Numbered) (slots : List Slot) → Keeps e f → Inner rules e l slots → Inner rules f l slots
 calm rules e f l slots keeps i = record {
   each = λ token. keeps.each token ∙ i.each token;
   rest = i.rest;
@@ -114,10 +130,6 @@ calm rules e f l slots keeps i = record {
   few = i.few;
 }
 
--- where each bucket is as before, the slots give the same rules in order
-pub calm_order : (rules : List Rule) (e f : List (Token × List Numbered)) (l : List Numbered) (slots : List Slot) → Keeps e f → IsIndex rules e l slots → in_order f l slots ≡ rules
-calm_order rules e f l slots keeps i = in_order_is rules f l slots (calm rules e f l slots keeps i)
-
 -- ---- one more
 
 module _ (rules : List Rule) (e f : List (Token × List Numbered)) (l m : List Numbered) (slots : List Slot) (slot : Slot) (rule : Rule) (number : ℕ) where
@@ -125,12 +137,12 @@ module _ (rules : List Rule) (e f : List (Token × List Numbered)) (l m : List N
   one = record { number = number; rule = rule }
 
   -- what is left to show, by what stays and what comes
-  joined : slot.wanted ≡ wanted_mask rule.left → IsIndex rules e l slots → number ≡ length slots → number + 1 < 2 ^ 32
+  joined : slot.wanted ≡ wanted_mask rule.left → Inner rules e l slots → number ≡ length slots → number + 1 < 2 ^ 32
       → ((token : Token) → bucket_of token f ≡ bucket_of token e ++ cond (has_anchor token rule) (one ∷ []) [])
       → m ≡ l ++ cond (is_free rule) (one ∷ []) []
       → ((s : Slot) (x : Numbered) → stored e l s ≡ Some x → stored f m s ≡ Some x)
       → stored f m slot ≡ Some one
-      → IsIndex (rules ++ rule ∷ []) f m (slots ++ slot ∷ [])
+      → Inner (rules ++ rule ∷ []) f m (slots ++ slot ∷ [])
   unfolding one
   joined wants i is few each rest stays here =
       let count : number ≡ length rules = is ∙ same_length (stored e l) Some slots (numbered_from 0 rules) i.places ∙ numbered_length 0 rules in
@@ -149,7 +161,7 @@ module _ (rules : List Rule) (e f : List (Token × List Numbered)) (l m : List N
 
   -- a rule without an anchor
   grown_free : slot.wanted ≡ wanted_mask rule.left → anchor rule.left ≡ None → slot.bucket ≡ None → slot.place ≡ length l → f ≡ e → m ≡ l ++ one ∷ []
-      → IsIndex rules e l slots → number ≡ length slots → number + 1 < 2 ^ 32 → IsIndex (rules ++ rule ∷ []) f m (slots ++ slot ∷ [])
+      → Inner rules e l slots → number ≡ length slots → number + 1 < 2 ^ 32 → Inner (rules ++ rule ∷ []) f m (slots ++ slot ∷ [])
   unfolding one
   grown_free wants none bucket place same more i is few =
       joined wants i is few
@@ -165,7 +177,7 @@ module _ (rules : List Rule) (e f : List (Token × List Numbered)) (l m : List N
   -- a rule with an anchor
   grown_anchored : slot.wanted ≡ wanted_mask rule.left → (a : Token) → anchor rule.left ≡ Some a → (place : ℕ) (key : Token) (bucket : List Numbered) → slot.bucket ≡ Some place → slice_get e place ≡ Some (key, bucket) → same_token a key ≡ true
       → slot.place ≡ length bucket → Grows place one e f → m ≡ l
-      → IsIndex rules e l slots → number ≡ length slots → number + 1 < 2 ^ 32 → IsIndex (rules ++ rule ∷ []) f m (slots ++ slot ∷ [])
+      → Inner rules e l slots → number ≡ length slots → number + 1 < 2 ^ 32 → Inner (rules ++ rule ∷ []) f m (slots ++ slot ∷ [])
   unfolding one
   grown_anchored wants a anchored place key bucket at here alike end g same i is few =
       joined wants i is few each
@@ -203,12 +215,12 @@ module _ (rules : List Rule) (e f : List (Token × List Numbered)) (l m : List N
         | inr ne ↦ ap (λ (y : Option (Token × List Numbered)). at_place y k) (g.places p ne) ∙ h
       ]
 
-  pub grown : IsSlotFor rule slot e l → Puts slot.bucket (record { number = number; rule = rule }) e l f m
-      → IsIndex rules e l slots → number ≡ length slots → number + 1 < 2 ^ 32 → IsIndex (rules ++ rule ∷ []) f m (slots ++ slot ∷ [])
+  grown : IsSlotFor rule slot e l → Puts slot.bucket (record { number = number; rule = rule }) e l f m
+      → Inner rules e l slots → number ≡ length slots → number + 1 < 2 ^ 32 → Inner (rules ++ rule ∷ []) f m (slots ++ slot ∷ [])
   unfolding one
   grown fits puts i is few = go (anchor rule.left) refl fits.at
     where
-      go : (a : Option Token) → anchor rule.left ≡ a → IsSlotAt a slot e l → IsIndex (rules ++ rule ∷ []) f m (slots ++ slot ∷ [])
+      go : (a : Option Token) → anchor rule.left ≡ a → IsSlotAt a slot e l → Inner (rules ++ rule ∷ []) f m (slots ++ slot ∷ [])
       go None q s =
           let p : Puts None one e l f m = subst (λ (b : Option ℕ). Puts b one e l f m) s.0 puts in
           grown_free fits.wants q s.0 s.1 p.0 p.1 i is few
@@ -224,25 +236,6 @@ bucket_there rule slot e l fits = go (anchor rule.left) fits.at
     go None s = subst (λ (b : Option ℕ). IsBucket b e) (sym s.0) tt
     go (Some a) (place, key, bucket, at, here, alike, end) = subst (λ (b : Option ℕ). IsBucket b e) (sym at) (slice_get_within e place (key, bucket) here)
 
--- ---- the index after a call
-
--- where each bucket is as before, an index of what its slots give stays one
-pub still : (e f : List (Token × List Numbered)) (l : List Numbered) (slots : List Slot) → Keeps e f → IsIndex (in_order e l slots) e l slots → IsIndex (in_order f l slots) f l slots
-still e f l slots keeps i = subst (λ (rules : List Rule). IsIndex rules f l slots) (sym (calm_order (in_order e l slots) e f l slots keeps i)) (calm (in_order e l slots) e f l slots keeps i)
-
--- of the buckets after `put`
-pub pushed : (e d f : List (Token × List Numbered)) (l m : List Numbered) (slots : List Slot) (slot : Slot) (rule : Rule) (number : ℕ) → Keeps e d → IsIndex (in_order e l slots) e l slots
-    → IsSlotFor rule slot d l → Puts slot.bucket (record { number = number; rule = rule }) d l f m → number ≡ length slots → number + 1 < 2 ^ 32
-    → IsIndex (in_order e l slots ++ rule ∷ []) f m (slots ++ slot ∷ [])
-pushed e d f l m slots slot rule number keeps i fits puts is few =
-    grown (in_order e l slots) d f l m slots slot rule number fits puts (calm (in_order e l slots) e d l slots keeps i) is few
-
-pub pushed_order : (e d f : List (Token × List Numbered)) (l m : List Numbered) (slots : List Slot) (slot : Slot) (rule : Rule) (number : ℕ) → Keeps e d → IsIndex (in_order e l slots) e l slots
-    → IsSlotFor rule slot d l → Puts slot.bucket (record { number = number; rule = rule }) d l f m → number ≡ length slots → number + 1 < 2 ^ 32
-    → in_order f m (slots ++ slot ∷ []) ≡ in_order e l slots ++ rule ∷ []
-pushed_order e d f l m slots slot rule number keeps i fits puts is few =
-    in_order_is (in_order e l slots ++ rule ∷ []) f m (slots ++ slot ∷ []) (pushed e d f l m slots slot rule number keeps i fits puts is few)
-
 -- ---- what the map says
 
 lookup_agree : {X : Type 0} (p q : Token → Bool) → ((token : Token) → p token ≡ q token) → (es : List (Token × X)) → lookup p es ≡ lookup q es
@@ -253,6 +246,11 @@ set_here : {X : Type 0} (es : List (Token × X)) (i : ℕ) (w v : X) (key : Toke
 set_here [] i w v key h = absurd (cc h)
 set_here {X} (x ∷ es) zero w v key h = let e : x ≡ (key, v) = cc h in ap (λ (y : Token × X). Some (y.0, w)) e
 set_here (x ∷ es) (suc i) w v key h = set_here es i w v key h
+
+set_keys : {X : Type 0} (es : List (Token × X)) (i : ℕ) (w : X) → keys_of (set_value_at es i w) ≡ keys_of es
+set_keys [] i w = refl
+set_keys (x ∷ es) zero w = refl
+set_keys (x ∷ es) (suc i) w = ap (λ (ts : List Token). x.0 ∷ ts) (set_keys es i w)
 
 set_other : {X : Type 0} (es : List (Token × X)) (i j : ℕ) (w : X) → (j ≡ i → ⊥) → slice_get (set_value_at es i w) j ≡ slice_get es j
 set_other [] i j w ne = refl
@@ -277,6 +275,7 @@ pub grows_at : (e : List (Token × List Numbered)) (place : ℕ) (key : Token) (
 grows_at e place key bucket w last distinct was is looked = record {
   key = key;
   bucket = bucket;
+  keys = set_keys e place w;
   was = was;
   is = set_here e place w bucket key was ∙ ap (λ (xs : List Numbered). Some (key, xs)) is;
   same = λ token q. (
@@ -304,9 +303,18 @@ bucket_end test (x ∷ es) key = at (bucket_end test es key) (test x.0)
     at go true = refl
     at go false = go
 
+-- the buckets as they are
+pub keeps_same : (e : List (Token × List Numbered)) → Keeps e e
+keeps_same e = record {
+  front = ap (take (length e)) (sym (append-nil e)) ∙ take_front e [];
+  each = λ token. refl;
+  places = λ place entry h. h;
+}
+
 -- an empty bucket more
 pub keeps_end : (e : List (Token × List Numbered)) (key : Token) → Keeps e (e ++ (key, []) ∷ [])
 keeps_end e key = record {
+  front = take_front e ((key, []) ∷ []);
   each = λ token. bucket_end (same_token token) e key;
   places = λ place entry h. get_kept e ((key, []) ∷ []) place entry h;
 }
@@ -394,38 +402,77 @@ pub worked : {P : Type 0} (r : Result (Unit {0}) NoMemory) → is_err r ≡ fals
 worked (Ok x) e h = h
 worked (Err x) e h = absurd (true≢false e)
 
--- the slots as they were
-pub still_slots : (e f : List (Token × List Numbered)) (l : List Numbered) (slots now : List Slot) → now ≡ slots → Keeps e f → IsIndex (in_order e l slots) e l slots → IsIndex (in_order f l now) f l now
-still_slots e f l slots now same keeps i = subst (λ (s : List Slot). IsIndex (in_order f l s) f l s) (sym same) (still e f l slots keeps i)
+-- ---- the order of anchors
 
--- the slots as they were, and buckets that say the same, give the same rules in order
-pub still_order : (e f : List (Token × List Numbered)) (l : List Numbered) (slots now : List Slot) → now ≡ slots → Keeps e f → IsIndex (in_order e l slots) e l slots → in_order f l now ≡ in_order e l slots
-still_order e f l slots now same keeps i = ap (in_order f l) same ∙ calm_order (in_order e l slots) e f l slots keeps i
+-- a key that a test found is among the keys
+pub key_there : {X : Type 0} (test : Token → Bool) (es : List (Token × X)) (key : Token) → Some key ≡ lookup_key test es → list_any test (keys_of es) ≡ true
+key_there test [] key h = absurd (cc h)
+key_there test (x ∷ es) key h = at (λ k. key_there test es key k) (test x.0) refl
+  where
+    at : (Some key ≡ lookup_key test es → list_any test (keys_of es) ≡ true) → (b : Bool) → test x.0 ≡ b → (test x.0 || list_any test (keys_of es)) ≡ true
+    at go true q = ap (λ (b : Bool). b || list_any test (keys_of es)) q
+    at go false q = ap (λ (b : Bool). b || list_any test (keys_of es)) q ∙ go (h ∙ ap (λ (b : Bool). cond b (Some x.0) (lookup_key test es)) q)
 
--- `put` found no memory, and the slot is taken back
-pub undone : (e d f : List (Token × List Numbered)) (l m : List Numbered) (slots more now : List Slot) (slot : Slot) (number : ℕ) → (f ≡ d) × (m ≡ l) → more ≡ slots ++ slot ∷ [] → number ≡ length slots → now ≡ take number more
-    → Keeps e d → IsIndex (in_order e l slots) e l slots → IsIndex (in_order f m now) f m now × (in_order f m now ≡ in_order e l slots)
-undone e d f l m slots more now slot number same longer is cut keeps i =
-    let back : now ≡ slots = cut ∙ ap (take number) longer ∙ ap (λ (n : ℕ). take n (slots ++ slot ∷ [])) is ∙ take_front slots (slot ∷ []) in (
-      subst (λ (es : List (Token × List Numbered)). IsIndex (in_order es m now) es m now) (sym same.0)
-          (subst (λ (xs : List Numbered). IsIndex (in_order d xs now) d xs now) (sym same.1) (still_slots e d l slots now back keeps i)),
-      ap (λ (es : List (Token × List Numbered)). in_order es m now) same.0 ∙ ap (λ (xs : List Numbered). in_order d xs now) same.1 ∙ still_order e d l slots now back keeps i,
+-- where a test finds no value, no key passes it
+pub no_key : {X : Type 0} (test : Token → Bool) (es : List (Token × X)) → lookup test es ≡ None → list_any test (keys_of es) ≡ false
+no_key test [] h = refl
+no_key {X} test (x ∷ es) h = at (λ k. no_key test es k) (test x.0) refl
+  where
+    at : (lookup test es ≡ None → list_any test (keys_of es) ≡ false) → (b : Bool) → test x.0 ≡ b → (test x.0 || list_any test (keys_of es)) ≡ false
+    at go true q = let e : None ≡ Some x.1 = sym h ∙ ap (λ (b : Bool). cond b (Some x.1) (lookup test es)) q in absurd (cc e)
+    at go false q = ap (λ (b : Bool). b || list_any test (keys_of es)) q ∙ go (sym (ap (λ (b : Bool). cond b (Some x.1) (lookup test es)) q) ∙ h)
+
+-- an anchor that is there adds none
+pub met : (token : Token) (tokens : List Token) → list_any (same_token token) tokens ≡ true → tokens ≡ with_anchor tokens (Some token)
+met token tokens h = sym (ap (λ (b : Bool). cond b tokens (tokens ++ token ∷ [])) h)
+
+-- one that isn't stands last
+pub unmet : (token key : Token) (e f : List (Token × List Numbered)) → key ≡ token → f ≡ e ++ (key, []) ∷ [] → list_any (same_token token) (keys_of e) ≡ false → keys_of f ≡ with_anchor (keys_of e) (Some token)
+unmet token key e f same is h =
+    ap keys_of is ∙ map_end (λ (x : Token × List Numbered). x.0) e (key, []) ∙ ap (λ (t : Token). keys_of e ++ t ∷ []) same ∙ sym (ap (λ (b : Bool). cond b (keys_of e) (keys_of e ++ token ∷ [])) h)
+
+puts_keys : (bucket : Option ℕ) (one : Numbered) (d f : List (Token × List Numbered)) (l m : List Numbered) → Puts bucket one d l f m → keys_of f ≡ keys_of d
+puts_keys None _ d f l m puts = ap keys_of puts.0
+puts_keys (Some place) _ d f l m puts = puts.0.keys
+
+-- the key at a place of the buckets is the anchor of that place
+pub anchor_at : (rules all : List Rule) (e : List (Token × List Numbered)) (l : List Numbered) (slots : List Slot) → IsIndex rules e l slots → rules ≡ all → (place : ℕ) → slice_get (keys_of e) place ≡ slice_get (anchors_of all) place
+anchor_at rules all e l slots i same place = ap (λ (ts : List Token). slice_get ts place) (i.order ∙ ap anchors_of same)
+
+-- ---- what `push` leaves
+
+-- what is as before is an index of the same rules
+pub same_index : (e f : List (Token × List Numbered)) (l m : List Numbered) (slots now : List Slot) → f ≡ e → m ≡ l → now ≡ slots → IsIndex (in_order e l slots) e l slots → IsIndex (in_order f m now) f m now
+same_index e f l m slots now same free is i =
+    subst (λ (es : List (Token × List Numbered)). IsIndex (in_order es m now) es m now) (sym same)
+    (subst (λ (xs : List Numbered). IsIndex (in_order e xs now) e xs now) (sym free) (subst (λ (s : List Slot). IsIndex (in_order e l s) e l s) (sym is) i))
+
+pub same_order : (e f : List (Token × List Numbered)) (l m : List Numbered) (slots now : List Slot) → f ≡ e → m ≡ l → now ≡ slots → in_order f m now ≡ in_order e l slots
+same_order e f l m slots now same free is =
+    ap (λ (es : List (Token × List Numbered)). in_order es m now) same ∙ ap (λ (xs : List Numbered). in_order e xs now) free ∙ ap (in_order e l) is
+
+-- the buckets as they were are the front of those that are there
+pub cut_back : (e d f g : List (Token × List Numbered)) (before : ℕ) → Keeps e d → f ≡ d → g ≡ take before f → before ≡ length e → g ≡ e
+cut_back e d f g before keeps same is count = is ∙ ap (take before) same ∙ ap (λ (n : ℕ). take n d) count ∙ keeps.front
+
+-- the rule was put in
+pub done : (e d f : List (Token × List Numbered)) (l m : List Numbered) (slots more : List Slot) (slot : Slot) (rule : Rule) (number : ℕ) → Keeps e d → keys_of d ≡ with_anchor (keys_of e) (anchor rule.left)
+    → IsIndex (in_order e l slots) e l slots → IsSlotFor rule slot d l → Adds slot (record { number = number; rule = rule }) d l slots f m more → number ≡ length slots → number + 1 < 2 ^ 32
+    → IsIndex (in_order f m more) f m more × (in_order f m more ≡ in_order e l slots ++ rule ∷ [])
+done e d f l m slots more slot rule number keeps order i fits adds is few =
+    let same = in_order_is (in_order e l slots ++ rule ∷ []) f m (slots ++ slot ∷ []) all in (
+      subst (λ (s : List Slot). IsIndex (in_order f m s) f m s) (sym adds.slots)
+          (subst (λ (rules : List Rule). IsIndex rules f m (slots ++ slot ∷ [])) (sym same) (record { each = all.each; order = anchors; rest = all.rest; places = all.places; masks = all.masks; few = all.few })),
+      ap (in_order f m) adds.slots ∙ same,
     )
   where
-    take_front : (xs ys : List Slot) → take (length xs) (xs ++ ys) ≡ xs
-    take_front [] ys = refl
-    take_front (x ∷ xs) ys = ap (λ (zs : List Slot). x ∷ zs) (take_front xs ys)
+    all : Inner (in_order e l slots ++ rule ∷ []) f m (slots ++ slot ∷ [])
+    all = grown (in_order e l slots) d f l m slots slot rule number fits adds.puts (calm (in_order e l slots) e d l slots keeps (inner (in_order e l slots) e l slots i)) is few
 
--- `put` has put the rule in
-pub done : (e d f : List (Token × List Numbered)) (l m : List Numbered) (slots more : List Slot) (slot : Slot) (rule : Rule) (number : ℕ) → Keeps e d → IsIndex (in_order e l slots) e l slots
-    → IsSlotFor rule slot d l → Puts slot.bucket (record { number = number; rule = rule }) d l f m → number ≡ length slots → number + 1 < 2 ^ 32 → more ≡ slots ++ slot ∷ []
-    → IsIndex (in_order f m more) f m more × (in_order f m more ≡ in_order e l slots ++ rule ∷ [])
-done e d f l m slots more slot rule number keeps i fits puts is few longer =
-    let order = pushed_order e d f l m slots slot rule number keeps i fits puts is few in (
-      subst (λ (s : List Slot). IsIndex (in_order f m s) f m s) (sym longer)
-          (subst (λ (rules : List Rule). IsIndex rules f m (slots ++ slot ∷ [])) (sym order) (pushed e d f l m slots slot rule number keeps i fits puts is few)),
-      ap (in_order f m) longer ∙ order,
-    )
+    anchors : keys_of f ≡ anchors_of (in_order e l slots ++ rule ∷ [])
+    anchors =
+        puts_keys slot.bucket (record { number = number; rule = rule }) d f l m adds.puts ∙ order ∙ ap (λ (ts : List Token). with_anchor ts (anchor rule.left)) i.order
+        ∙ sym (fold-append (λ (ts : List Token) (r : Rule). with_anchor ts (anchor r.left)) [] (in_order e l slots) (rule ∷ []))
 
 -- a copy, rule by rule
 pub take_next : (rules copied more : List Rule) (n : ℕ) (o : Option Rule) → copied ≡ take n rules → o ≡ slice_get rules n → more ≡ copied ++ listed o → more ≡ take (n + 1) rules

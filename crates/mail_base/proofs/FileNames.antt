@@ -1,5 +1,5 @@
 -- A name tells its kind and its number.
-use Rattle.std.proofs.Common.{◌≡◌, ℕ, zero, suc, ◌+◌, ◌-◌, ◌*◌, ◌/◌, ◌%◌, ◌^◌, ◌<◌, ◌≤◌, List, [], ◌∷◌, fold, get_or, drop, refl, ap, sym, ◌∙◌, arith, eqb, if◌then◌else◌}
+use Rattle.std.proofs.Common.{◌≡◌, ℕ, zero, suc, ◌+◌, ◌-◌, ◌*◌, ◌/◌, ◌%◌, ◌^◌, ◌<◌, ◌≤◌, List, [], ◌∷◌, fold, get_or, drop, length, refl, ap, sym, ◌∙◌, arith, eqb, if◌then◌else◌}
 use Rattle.std.proofs.Math.Nat.{pow-suc}
 use Rattle.std.proofs.lemmas.Grind.{fold-append}
 use Rattle.mail_base.specs.declared.id.Kind.{Kind}
@@ -43,3 +43,7 @@ same_number k j n m p q e =
     let a : n < 10 ^ 12 = omega arith in
     let b : m < 10 ^ 12 = omega arith in
     sym (value-digits 12 n a) ∙ ap value (sym (digits_again k n) ∙ ap (drop 3) e ∙ digits_again j m) ∙ value-digits 12 m b
+
+-- a name has its two letters
+pub name_long : (id : ℕ) → 2 ≤ length (name_of Qf id)
+name_long id = omega arith

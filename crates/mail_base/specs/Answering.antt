@@ -1,9 +1,9 @@
 -- What one who answers, as what judges paths or draws rows, may tell: the one answer that belongs
 -- to a question (own).
-use Rattle.std.specs.Prelude.{◌≡◌, ℕ, ◌≤◌, ◌↔◌, Bool, Result, IfOk, IfErr, IsTrue}
+use Rattle.std.specs.Prelude.{◌≡◌, ℕ, ◌≤◌, ◌↔◌, Bool, true, false, Result, Ok, Err, IfOk, IfErr, IsTrue}
 use Rattle.mail_base.specs.Histories.{Rose}
 use Rattle.mail_base.specs.declared.fault.JudgeFault.{JudgeFault}
-use Rattle.mail_base.specs.declared.fault.JudgeFault.TheVariants.{FilesFault}
+use Rattle.mail_base.specs.declared.fault.JudgeFault.TheVariants.{FilesFault, NoMemory}
 
 -- what is seen of it beside its test: its count of faults, and whether the test is told
 pub record Answerer : Type 0 where
@@ -29,3 +29,9 @@ pub record HasJudgeCause {T : Type 0} (before now : ℕ) (result : Result T Judg
     : Type 0 where
   pub later : before ≤ now
   pub failed : IfErr result (λ fault. fault ≡ FilesFault → Rose before now)
+
+-- whether a result is no fault of files
+abbrev pub is_calm : {A : Type 0} → Result A JudgeFault → Bool
+is_calm (Ok answer) = true
+is_calm (Err NoMemory) = true
+is_calm (Err FilesFault) = false

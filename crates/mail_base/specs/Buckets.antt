@@ -1,12 +1,12 @@
 -- Where the rules of a ruleset stand: in buckets by anchor, and nowhere else.
-use Rattle.std.specs.Prelude.{◌≡◌, ℕ, ◌<◌, ◌^◌, List, [], ◌∷◌, length, map, Option, None, Some, slice_get, unwrap_or, ◌++◌, true, false}
+use Rattle.std.specs.Prelude.{◌≡◌, ℕ, ◌<◌, ◌^◌, List, [], ◌∷◌, length, map, Option, None, Some, slice_get, take, unwrap_or, ◌++◌, true, false}
 use Rattle.std.specs.List.{flat_map}
-use Rattle.std.specs.Map.{lookup}
+use Rattle.std.specs.Map.{keys_of, lookup}
 use Rattle.mail_base.specs.declared.token.Token.{Token}
 use Rattle.mail_base.specs.declared.rule.Rule.{Rule}
 use Rattle.mail_base.specs.declared.rule.Numbered.{Numbered}
 use Rattle.mail_base.specs.declared.rule.Slot.{Slot}
-use Rattle.mail_base.specs.Candidates.{anchor, anchored, free, numbered_from}
+use Rattle.mail_base.specs.Candidates.{anchor, anchored, anchors_of, free, numbered_from}
 use Rattle.mail_base.specs.Masks.{wanted_mask}
 use Rattle.mail_base.specs.Tokens.{same_token}
 
@@ -39,10 +39,12 @@ listed (Some rule) = rule ∷ []
 abbrev pub in_order : List (Token × List Numbered) → List Numbered → List Slot → List Rule
 in_order entries loose slots = flat_map (λ slot. rule_in (stored entries loose slot)) slots
 
--- the buckets are the index of these rules, and each slot has its rule
+-- the buckets are the index of these rules, one for each anchor in order of first meeting, and each
+-- slot has its rule
 pub record IsIndex (rules : List Rule) (entries : List (Token × List Numbered))
     (loose : List Numbered) (slots : List Slot) : Type 0 where
   pub each : (token : Token) → bucket_of token entries ≡ anchored token rules
+  pub order : keys_of entries ≡ anchors_of rules
   pub rest : loose ≡ free rules
   pub places : map (stored entries loose) slots ≡ map Some (numbered_from 0 rules)
   pub masks : map (λ slot. slot.wanted) slots ≡ map (λ rule. wanted_mask rule.left) rules
@@ -67,8 +69,9 @@ pub record IsSlotFor (rule : Rule) (slot : Slot) (entries : List (Token × List 
   pub at : IsSlotAt (anchor rule.left) slot entries loose
   pub wants : slot.wanted ≡ wanted_mask rule.left
 
--- each bucket is as before
+-- each bucket is as before, and what is new stands behind them
 pub record Keeps (old new : List (Token × List Numbered)) : Type 0 where
+  pub front : take (length old) new ≡ old
   pub each : (token : Token) → bucket_of token new ≡ bucket_of token old
   pub places : (place : ℕ) (entry : Token × List Numbered) → slice_get old place ≡ Some entry
       → slice_get new place ≡ Some entry
@@ -83,6 +86,7 @@ pub record Grows (place : ℕ) (one : Numbered) (old new : List (Token × List N
     : Type 0 where
   pub key : Token
   pub bucket : List Numbered
+  pub keys : keys_of new ≡ keys_of old
   pub was : slice_get old place ≡ Some (key, bucket)
   pub is : slice_get new place ≡ Some (key, bucket ++ one ∷ [])
   pub same : (token : Token) → same_token key token ≡ true
@@ -95,3 +99,10 @@ abbrev pub Puts : Option ℕ → Numbered → List (Token × List Numbered) → 
     → List (Token × List Numbered) → List Numbered → Type 0
 Puts None one old loose new more = (new ≡ old) × (more ≡ loose ++ one ∷ [])
 Puts (Some place) one old loose new more = Grows place one old new × (more ≡ loose)
+
+-- a slot more, in which a rule was put
+pub record Adds (slot : Slot) (one : Numbered) (old : List (Token × List Numbered))
+    (loose : List Numbered) (before : List Slot) (new : List (Token × List Numbered))
+    (more : List Numbered) (now : List Slot) : Type 0 where
+  pub slots : now ≡ before ++ slot ∷ []
+  pub puts : Puts slot.bucket one old loose new more

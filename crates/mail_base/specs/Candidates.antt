@@ -1,5 +1,5 @@
 -- The rules that may match a list of tokens, by a token that each of them wants (own).
-use Rattle.std.specs.Prelude.{◌≡◌, ℕ, ◌+◌, ◌≤◌, ◌<◌, List, [], ◌∷◌, Bool, true, false, Option, None, Some, filter, slice_get, ◌||◌, if◌then◌else◌}
+use Rattle.std.specs.Prelude.{◌≡◌, ℕ, ◌+◌, ◌≤◌, ◌<◌, List, [], ◌∷◌, ◌++◌, Bool, true, false, Option, None, Some, filter, fold, slice_get, ◌||◌, if◌then◌else◌}
 use Rattle.std.specs.List.{list_any}
 use Rattle.mail_base.specs.declared.token.Token.{Token}
 use Rattle.mail_base.specs.declared.token.Token.TheVariants.{Word}
@@ -52,13 +52,23 @@ has_anchor token rule = holds token (anchor rule.left)
 abbrev pub is_candidate : List Token → Rule → Bool
 is_candidate tokens rule = is_free rule || list_any (λ token. has_anchor token rule) tokens
 
+-- anchors with one more, where none of them is the same without ascii case
+abbrev pub with_anchor : List Token → Option Token → List Token
+with_anchor tokens None = tokens
+with_anchor tokens (Some token) =
+    if list_any (same_token token) tokens then tokens else tokens ++ token ∷ []
+
+-- the anchors of rules, each once without ascii case, in order of first meeting
+abbrev pub anchors_of : List Rule → List Token
+anchors_of rules = fold (λ tokens rule. with_anchor tokens (anchor rule.left)) [] rules
+
 -- the rules with their numbers, from this one on
 abbrev pub numbered_from : ℕ → List Rule → List Numbered
 numbered_from n [] = []
 numbered_from n (rule ∷ rules) = record { number = n; rule = rule } ∷ numbered_from (n + 1) rules
 
--- the index of rules: those with this anchor and those without one, each with its number, in
--- ascending order
+-- the index of rules: for each of their anchors those with it, and those without one, each with
+-- its number, in ascending order
 abbrev pub anchored : Token → List Rule → List Numbered
 anchored token rules = filter (λ one. has_anchor token one.rule) (numbered_from 0 rules)
 

@@ -6,6 +6,7 @@ pub mod Causes
 pub mod Classes
 pub mod Configs
 pub mod Drawing
+pub mod Exits
 pub mod Histories
 pub mod Lasts
 pub mod Lending

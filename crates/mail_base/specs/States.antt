@@ -14,6 +14,22 @@ is_open (Failed _ _) = true
 is_open (Returned _) = false
 is_open (Dead _ _) = false
 
+-- it is still tried
+abbrev pub is_queued : State → Bool
+is_queued (Queued _) = true
+is_queued Sent = false
+is_queued (Failed _ _) = false
+is_queued (Returned _) = false
+is_queued (Dead _ _) = false
+
+-- it awaits its return
+abbrev pub is_failed : State → Bool
+is_failed (Queued _) = false
+is_failed Sent = false
+is_failed (Failed _ _) = true
+is_failed (Returned _) = false
+is_failed (Dead _ _) = false
+
 -- a row of a double bounce that failed, whose body is kept
 abbrev pub is_dead : State → Bool
 is_dead (Queued _) = false
@@ -21,6 +37,18 @@ is_dead Sent = false
 is_dead (Failed _ _) = false
 is_dead (Returned _) = false
 is_dead (Dead _ _) = true
+
+-- a row is still tried
+abbrev pub has_queued : Control → Bool
+has_queued control = list_any (λ row. is_queued row.state) control.rows
+
+-- a row awaits its return
+abbrev pub has_failed : Control → Bool
+has_failed control = list_any (λ row. is_failed row.state) control.rows
+
+-- rows of it that failed are returned by a bounce: those of a double bounce are dead instead
+abbrev pub wants_bounce : Control → Bool
+wants_bounce control = not control.marks.double
 
 -- every row is done
 abbrev pub is_finished : Control → Bool

@@ -1,12 +1,13 @@
 ghost use Rattle.std.specs.Prelude.{◌≡◌, ◌+◌, ◌<◌, ◌≤◌, ◌^◌, ◌∷◌, ◌++◌, [], ℕ, length, false, Some, IfNone, IfOk, IfSome, OnOk, OnErr, slice_get};
-ghost use Rattle.mail_base.specs.Candidates.{anchored, free};
+ghost use Rattle.mail_base.specs.Candidates.{anchor, anchored, anchors_of, free, with_anchor};
+ghost use Rattle.std.specs.Map.{keys_of};
 ghost use Rattle.std.specs.Option.{option_copied, option_map};
 ghost use Rattle.mail_base.specs.Buckets.{listed};
 ghost use Rattle.mail_base.specs.Masks.{IsNextCovered, covers, wanted_mask};
 ghost use Rattle.mail_base.specs.declared.rule.Rule.{Rule as TheRule};
 ghost use Rattle.mail_base.specs.Buckets as spec;
 ghost use Rattle.mail_base.specs.inner.Covering.{AreUncovered, IsFirstCovered};
-ghost use Rattle.mail_base.specs.Buckets.{IsSlotFor, IsEndOf, IsBucket, Keeps, Puts};
+ghost use Rattle.mail_base.specs.Buckets.{Adds, IsSlotFor, IsEndOf, IsBucket, Keeps, Puts};
 
 use crate::rule::Slot;
 use crate::{NoMemory, Numbered, Rule, Seq, Token, TryCopy};
@@ -64,6 +65,14 @@ impl Buckets {
         self.free.items()
     }
 
+    /// The anchor of a place in the order in which anchors were first met, or `None` past the last.
+    pub fn anchor(&self, place: usize) -> Option<&Token>
+        ensures { option_copied result ≡ slice_get (anchors_of self.now) place }
+    {
+        let (anchor, _) = self.anchored.get_index(place)?;
+        Some(anchor)
+    }
+
     /// The number of rules.
     pub fn count(&self) -> u32
         ensures { result ≡ length self.now }
@@ -110,18 +119,20 @@ impl Buckets {
         ensures err { OnErr result (self.new ≡ self.old) }
     {
         let number = next_number(&self.slots)?;
+        let before = self.anchored.len();
         let slot = slot_for(&mut self.anchored, &self.free, &rule)?;
-        self.slots.push(slot)?;
-        let put = put(
+        let added = add(
             &mut self.anchored,
             &mut self.free,
-            slot.bucket,
+            &mut self.slots,
+            slot,
             Numbered { number, rule },
         );
-        if put.is_err() {
-            self.slots.truncate(number as usize);
+        if added.is_err() {
+            // A bucket that was made for the rule goes again, so that its anchor isn't met yet.
+            self.anchored.truncate(before);
         }
-        put
+        added
     }
 }
 
@@ -157,14 +168,17 @@ fn next_number(slots: &Seq<Slot>) -> Result<u32, NoMemory>
     }
 }
 
-// Where a rule is to stand; a new anchor gets a bucket.
+// Where a rule is to stand; a new anchor gets a bucket behind the others.
 fn slot_for(
     anchored: &mut IndexMap<Token, Seq<Numbered>>,
     free: &Seq<Numbered>,
     rule: &Rule,
 ) -> Result<Slot, NoMemory>
     ensures slot { IfOk result (λ slot. IsSlotFor rule.now slot anchored.new.entries free.now) }
-    ensures keeps { Keeps anchored.old.entries anchored.new.entries }
+    ensures keeps { OnOk result (Keeps anchored.old.entries anchored.new.entries) }
+    ensures order { OnOk result (keys_of anchored.new.entries
+        ≡ with_anchor (keys_of anchored.old.entries) (anchor rule.now.left)) }
+    ensures err { OnErr result (anchored.new.entries ≡ anchored.old.entries) }
 {
     let wanted = rule.left.wanted_mask();
     match rule.left.anchor() {
@@ -185,7 +199,10 @@ fn place_of(
 ) -> Result<Slot, NoMemory>
     ensures slot { IfOk result (λ slot. IsEndOf anchor.now slot anchored.new.entries) }
     ensures wants { IfOk result (λ slot. slot.wanted ≡ wanted) }
-    ensures keeps { Keeps anchored.old.entries anchored.new.entries }
+    ensures keeps { OnOk result (Keeps anchored.old.entries anchored.new.entries) }
+    ensures order { OnOk result (keys_of anchored.new.entries
+        ≡ with_anchor (keys_of anchored.old.entries) (Some anchor.now)) }
+    ensures err { OnErr result (anchored.new.entries ≡ anchored.old.entries) }
 {
     if let Some((place, _, bucket)) = anchored.get_full(anchor) {
         return Ok(Slot {
@@ -203,6 +220,29 @@ fn place_of(
         place: 0,
         wanted,
     })
+}
+
+// Puts a rule in its slot, which is one more. After `NoMemory` all is as before.
+fn add(
+    anchored: &mut IndexMap<Token, Seq<Numbered>>,
+    free: &mut Seq<Numbered>,
+    slots: &mut Seq<Slot>,
+    slot: Slot,
+    one: Numbered,
+) -> Result<(), NoMemory>
+    requires { IsBucket slot.bucket anchored.old.entries }
+    ensures ok { OnOk result (Adds slot one anchored.old.entries free.old slots.old
+        anchored.new.entries free.new slots.new) }
+    ensures err { OnErr result ((anchored.new.entries ≡ anchored.old.entries)
+        × (free.new ≡ free.old) × (slots.new ≡ slots.old)) }
+{
+    let count = slots.len();
+    slots.push(slot)?;
+    let put = put(anchored, free, slot.bucket, one);
+    if put.is_err() {
+        slots.truncate(count);
+    }
+    put
 }
 
 fn put(

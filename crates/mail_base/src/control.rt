@@ -1,5 +1,5 @@
 ghost use Rattle.std.specs.Prelude.{◌≡◌};
-ghost use Rattle.mail_base.specs.States.{is_dead, is_finished, is_open, needs_body};
+ghost use Rattle.mail_base.specs.States.{has_failed, has_queued, is_dead, is_failed, is_finished, is_open, is_queued, needs_body, wants_bounce};
 
 use crate::{Id, Kept, Marks, NoMemory, Note, Seq, Status, Text, TryCopy};
 
@@ -110,6 +110,20 @@ impl State {
         matches!(self, State::Queued(_) | State::Failed(_, _))
     }
 
+    /// Whether it is still tried.
+    pub fn is_queued(&self) -> bool
+        ensures { result ≡ is_queued self.now }
+    {
+        matches!(self, State::Queued(_))
+    }
+
+    /// Whether it awaits its return.
+    pub fn is_failed(&self) -> bool
+        ensures { result ≡ is_failed self.now }
+    {
+        matches!(self, State::Failed(_, _))
+    }
+
     /// Whether it failed as a row of a double bounce.
     pub fn is_dead(&self) -> bool
         ensures { result ≡ is_dead self.now }
@@ -124,6 +138,28 @@ impl Control {
         ensures { result ≡ is_finished self.now }
     {
         self.rows.items().iter().all(|row| !row.state.is_open())
+    }
+
+    /// Whether a row is still tried. It takes no memory.
+    pub fn has_queued(&self) -> bool
+        ensures { result ≡ has_queued self.now }
+    {
+        self.rows.items().iter().any(|row| row.state.is_queued())
+    }
+
+    /// Whether a row awaits its return. It takes no memory.
+    pub fn has_failed(&self) -> bool
+        ensures { result ≡ has_failed self.now }
+    {
+        self.rows.items().iter().any(|row| row.state.is_failed())
+    }
+
+    /// Whether rows that failed are returned by a bounce, and not dead instead. It takes no
+    /// memory.
+    pub fn wants_bounce(&self) -> bool
+        ensures { result ≡ wants_bounce self.now }
+    {
+        !self.marks.double
     }
 
     /// Whether the body is wanted: a row is open or dead. It takes no memory.

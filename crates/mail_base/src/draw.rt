@@ -1,5 +1,5 @@
-ghost use Rattle.std.specs.Prelude.{◌≡◌, ℕ, List, IfOk};
-ghost use Rattle.mail_base.specs.Answering.{Answerer, HasAnswered, HasJudgeCause, TellsOne};
+ghost use Rattle.std.specs.Prelude.{◌≡◌, ℕ, List, IfOk, true};
+ghost use Rattle.mail_base.specs.Answering.{Answerer, HasAnswered, HasJudgeCause, TellsOne, is_calm};
 ghost use Rattle.mail_base.specs.Drawing.{AreDrawn};
 ghost use Rattle.mail_base.specs.Texts.{IsAddress};
 ghost use Rattle.mail_base.specs.declared.draw.Draw.{Draw};
@@ -26,15 +26,23 @@ pub trait Draws {
     /// The test of an answer: whether these rows are those of an address.
     ghost answers: { Self → List ℕ → List Draw → Type 0 };
 
+    /// What no call changes of it, as the reference by which it reads files.
+    ghost Fixed: { Type 0 } = { Unit {0} };
+
+    ghost fixed: { Self → Self.Fixed };
+
     /// The rows of a receiver: 1 to 10,000, each with the sender `<>`. A `FilesFault` comes only
-    /// where the count of faults rose in this call.
+    /// where the count of faults rose in this call, and the count rises in no other.
     fn draw(&mut self, alloc: Global, address: &Text) -> Result<Seq<Draw>, JudgeFault>
         requires { IsAddress address.now }
         ensures rows { IfOk result AreDrawn }
         ensures told { HasAnswered (seen self.old) (seen self.new)
             (answers self.old) (answers self.new) address.now result }
         ensures one { TellsOne (seen self.old) (answers self.old) address.now }
-        ensures cause { HasJudgeCause (seen self.old).faults (seen self.new).faults result };
+        ensures cause { HasJudgeCause (seen self.old).faults (seen self.new).faults result }
+        ensures calm { is_calm result ≡ true
+            → (seen self.new).faults ≡ (seen self.old).faults }
+        ensures fixed { fixed self.new ≡ fixed self.old };
 }
 
 impl TryCopy for Draw {

@@ -1,8 +1,9 @@
-ghost use Rattle.std.specs.Prelude.{◌≡◌, ◌≢◌, ◌+◌, ◌<◌, ◌≤◌, ◌++◌, ◌∷◌, [], ℕ, List, length, IfSome, IfNone};
-ghost use Rattle.mail_base.specs.Names.{digits, letters, name_of};
+ghost use Rattle.std.specs.Prelude.{◌≡◌, ◌≢◌, ◌+◌, ◌<◌, ◌≤◌, ◌++◌, ◌∷◌, [], ℕ, List, length, IfOk, IfSome, IfNone};
+ghost use Rattle.mail_base.specs.Names.{digits, id_text, letters, name_of};
 
 use crate::{NoMemory, Text, TryCopy};
 use arrayvec::ArrayVec;
+use std::alloc::Global;
 use std::marker::Model;
 
 /// What a file of the queue holds.
@@ -116,6 +117,16 @@ impl Id {
         bytes.push(b'w');
         push_digits(&mut bytes, 12, self.number);
         Name { bytes }
+    }
+
+    /// The id as texts show it: a `w` and its twelve digits.
+    #[tactic(auto, using(crate::proofs::FileNames::name_long))]
+    pub fn text(self, alloc: Global) -> Result<Text, NoMemory>
+        ensures { IfOk result (λ text. text ≡ id_text self) }
+    {
+        let name = self.name(Kind::Qf);
+        let (_letters, text) = name.bytes().split_at(2);
+        Text::of(alloc, text)
     }
 
     /// The kind and the id that a file's name has, or `None` exactly where it is no name of the

@@ -16,6 +16,7 @@ mod control;
 mod cutting;
 mod draw;
 mod ends;
+mod exit;
 mod fault;
 mod id;
 mod law;
@@ -78,6 +79,7 @@ pub use token::{Mark, Token};
 pub use command::{Command, LineFault, Verb};
 pub use control::{Control, Draft, Entry, Parent, Row, State, Stray};
 pub use draw::{Draw, Draws};
+pub use exit::{exit_status, numbered_status};
 pub use fault::{EdgeFault, Failed, JudgeFault, NoMemory, StoreFault};
 pub use limits::{
     MOST_COMMAND, MOST_DOMAIN, MOST_HEADERS, MOST_LINE, MOST_LOCAL_PART, MOST_MESSAGE, MOST_PATH,

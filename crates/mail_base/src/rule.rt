@@ -374,6 +374,15 @@ impl TryCopy for Rule {
     }
 }
 
+impl TryCopy for Numbered {
+    fn copy(&self) -> Result<Numbered, NoMemory> {
+        Ok(Numbered {
+            number: self.number,
+            rule: self.rule.copy()?,
+        })
+    }
+}
+
 /// A ruleset: its names, which are compared without ASCII case, and its rules in order. It keeps
 /// the rules in buckets by anchor. A contract sees it as a record of the names and the rules.
 #[derive(Drop)]

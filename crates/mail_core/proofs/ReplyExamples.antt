@@ -7,8 +7,7 @@ use Rattle.mail_base.specs.Limits.{most_domain, most_headers, most_local_part, m
 use Rattle.addr_tokens.specs.Reader.{cut}
 use Rattle.addr_tokens.specs.Scans.{most_tokens}
 use Rattle.smtp_lines.specs.declared.line.Line.TheVariants.{Data, DataEnd}
-use Rattle.smtp_lines.specs.Parameters.{listed}
-use Rattle.smtp_receive.specs.Dialogue.{Answer, Closes, Exchange, Gives, Grants, Greets, Heard, Takes as Passes, answer_heard, exchanges, replies_to, reply_by, reply_heard}
+use Rattle.smtp_receive.specs.Dialogue.{listed, Answer, Closes, Exchange, Gives, Grants, Greets, Heard, Takes as Passes, answer_heard, exchanges, replies_to, reply_by, reply_heard}
 use Rattle.smtp_receive.specs.Replies.{shown_host}
 use Rattle.smtp_receive.proofs.Examples.{of_recipient, of_sender, peer, helo, mail, rcpt, data_line, subject, body, quit, message, taken as whole, more as one_more}
 use Rattle.smtp_receive.proofs.DialogueLemmas.{replies_more}

@@ -5,9 +5,8 @@ use Rattle.std.proofs.lemmas.Bool.{eq-eqb}
 use Rattle.std.proofs.lemmas.Grind.{flat_map-append}
 use Rattle.std.proofs.lemmas.List.{append-nil}
 use Rattle.smtp_lines.specs.declared.line.Line.{Line}
-use Rattle.smtp_lines.specs.Parameters.{listed}
 use Rattle.mail_base.specs.declared.message.Message.{Message}
-use Rattle.smtp_receive.specs.Dialogue.{Answer, Says, Refuses, Greets, Extends, Grants, Closes as Ends, Gives, Takes as Passes, answer_heard, exchanges, reply_by}
+use Rattle.smtp_receive.specs.Dialogue.{listed, Answer, Says, Refuses, Greets, Extends, Grants, Closes as Ends, Gives, Takes as Passes, answer_heard, exchanges, reply_by}
 use Rattle.smtp_receive.specs.Judging.{Said, Unasked}
 use Rattle.smtp_receive.specs.Replies.{text_of, refusal_text, grant_text, hello_text, extended_text, closing_text, stored_text, shown_host, out_of_memory_text}
 use Rattle.smtp_receive.proofs.DialogueLemmas.{replies_more}

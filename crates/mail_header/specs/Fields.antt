@@ -4,6 +4,7 @@ use Rattle.std.specs.Prelude.{◌≡◌, ℕ, ℤ, pos, ◌-◌, slice_index, �
 use Rattle.std.specs.List.{before_first, after_first}
 use Rattle.std.specs.Str.{str_eq_ignore_ascii_case}
 use Rattle.mail_base.specs.Texts.{trimmed}
+use Rattle.mail_base.specs.Whites.{stripped}
 use Rattle.mail_base.specs.declared.lines.Precedence.{Precedence}
 use Rattle.cf_macros.specs.declared.form.Form.TheVariants.{Mail}
 use Rattle.cf_macros.specs.Dates.{IsDateText}
@@ -42,10 +43,11 @@ abbrev pub class_named : List Precedence → List ℕ → Option ℤ
 class_named lines name =
     option_map (λ line. line.class) (find (λ line. str_eq_ignore_ascii_case line.name name) lines)
 
--- the class that a header gives, if it is a Precedence whose value names a P line
+-- the class that a header gives, if it is a Precedence whose value, without the white space at its
+-- ends, names a P line
 abbrev pub class_told : List Precedence → List ℕ → Option ℤ
 class_told lines header = if is_named (codes "Precedence") header
-    then class_named lines (trimmed (value_of header)) else None
+    then class_named lines (stripped (value_of header)) else None
 
 -- the class of a message: the first that a header gives, or 0
 abbrev pub class_in : List Precedence → List (List ℕ) → ℤ

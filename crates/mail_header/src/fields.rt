@@ -6,7 +6,7 @@ ghost use Rattle.mail_header.specs.Fields as spec;
 
 use bstr::ByteSlice;
 use cf_macros::{Form, date};
-use mail_base::{Config, NoMemory, Precedence, Seq, Text, trimmed};
+use mail_base::{Config, NoMemory, Precedence, Seq, Text, stripped, trimmed};
 
 /// How many headers have the name `Received`, without case (RFC 5321, section 6.3). It takes no
 /// memory.
@@ -31,7 +31,8 @@ fn is_received(header: &Text) -> bool
 }
 
 /// The class of a message: that of the first `Precedence` header whose value names a P line, both
-/// without case; a value that names none is passed over. Without one it is 0. It takes no memory.
+/// without case; a value that names none is passed over. White space at its ends, also the end of a
+/// line where it is folded, is no part of a name. Without one it is 0. It takes no memory.
 pub fn class_of(config: &Config, headers: &Seq<Text>) -> i64
     ensures { result ≡ spec.class_in config.now.precedences headers.now }
 {
@@ -55,7 +56,7 @@ fn class_told(lines: &[Precedence], header: &Text) -> Option<i64>
     if !is_named(b"Precedence", header.bytes()) {
         return None;
     }
-    class_named(lines, trimmed(value_of(header.bytes())))
+    class_named(lines, stripped(value_of(header.bytes())))
 }
 
 fn class_named(lines: &[Precedence], name: &[u8]) -> Option<i64>
@@ -113,19 +114,23 @@ fn some_text(text: &[u8]) -> Option<&[u8]>
     Some(text)
 }
 
-fn is_named(name: &[u8], header: &[u8]) -> bool
+/// Whether a header has this name, without case (RFC 5322, section 1.2.2).
+pub fn is_named(name: &[u8], header: &[u8]) -> bool
     ensures { result ≡ spec.is_named name.now header.now }
 {
     name_of(header).eq_ignore_ascii_case(name)
 }
 
-fn name_of(header: &[u8]) -> &[u8]
+/// The name of a header: what stands before its first colon, or all where there is none.
+pub fn name_of(header: &[u8]) -> &[u8]
     ensures { result.now ≡ spec.name_of header.now }
 {
     &header[..colon_place(header)]
 }
 
-fn value_of(header: &[u8]) -> &[u8]
+/// The value of a header: what stands behind its first colon, with the blanks and the folds that
+/// it has (RFC 5322, section 2.2.3), or nothing where there is none.
+pub fn value_of(header: &[u8]) -> &[u8]
     ensures { result.now ≡ spec.value_of header.now }
 {
     let colon = colon_place(header);
@@ -142,7 +147,8 @@ fn colon_place(header: &[u8]) -> usize
     header.find_byte(b':').unwrap_or(header.len())
 }
 
-fn first_line(value: &[u8]) -> &[u8]
+/// The first line of a value, without its LF and a CR before that.
+pub fn first_line(value: &[u8]) -> &[u8]
     ensures { result.now ≡ spec.first_line value.now }
 {
     without_return(&value[..feed_place(value)])

@@ -14,7 +14,7 @@ mod law;
 mod made;
 mod whole;
 
-pub use fields::{class_of, date_of, hops};
+pub use fields::{class_of, date_of, first_line, hops, is_named, name_of, value_of};
 pub use gathering::Gathering;
 pub use law::one_split;
 pub use made::received;

@@ -2,7 +2,7 @@
 use Rattle.std.specs.Prelude.{IfErr, IsTrue, codes, is_some, slice_index}
 use Rattle.std.proofs.Common.{◌≡◌, ℕ, ◌<◌, ◌≤◌, ◌==◌, ◌||◌, List, [], ◌∷◌, All, Bool, true, false, not, map, length, Option, None, Some, Result, Ok, Err, IfOk, option_map, refl, sym, subst, ap, arith}
 use Rattle.std.proofs.lemmas.List.Elements.{All-cons, All-nil}
-use Rattle.mail_base.specs.Answering.{HasAnswered, HasJudgeCause, TellsOne}
+use Rattle.mail_base.specs.Answering.{HasAnswered, HasJudgeCause, TellsOne, is_calm}
 use Rattle.mail_base.specs.Histories.{Rose}
 use Rattle.mail_base.specs.Notes.{IsLineByte, blanked, is_status}
 use Rattle.mail_base.specs.Refusals.{IsRefusal}
@@ -22,7 +22,7 @@ use Rattle.alias_expand.specs.declared.refusal.ExpandRefusal.{ExpandRefusal}
 use Rattle.alias_expand.specs.declared.refusal.ExpandRefusal.TheVariants as refusals
 use Rattle.smtp_receive.specs.declared.judge.Verdict.{Verdict}
 use Rattle.smtp_receive.specs.declared.judge.Verdict.TheVariants.{Rows, No}
-use Rattle.smtp_receive.specs.Judging.{Question, Said, IsFormedSaid, OfRecipient, as_said, is_calm}
+use Rattle.smtp_receive.specs.Judging.{Question, Said, IsFormedSaid, OfRecipient, as_said}
 use Rattle.mail_judge.specs.Judged.{Grounds, IsJudged, Judges, is_checked, is_refused, goes, answerer_of, error_of, error_with, site_in}
 
 abbrev Outcome : Type 0
@@ -129,13 +129,14 @@ said_so : (P : Said → Type 0) (result : Result Verdict JudgeFault) → IfOk re
 said_so P (Ok verdict) p = p
 said_so P (Err fault) p = tt
 
-module _ (a b : FilesSeen) (result : Result Verdict JudgeFault) (asks : Asks a b (not (is_calm result))) where
+module _ {T : Type 0} (a b : FilesSeen) (result : Result T JudgeFault) (asks : Asks a b (not (is_calm result))) where
   pub caused : HasJudgeCause (answerer_of a).faults (answerer_of b).faults result
   caused = record { later = asks.later; failed = risen a.faults b.faults result asks.rose }
 
   pub calmed : is_calm result ≡ true → (answerer_of b).faults ≡ (answerer_of a).faults
   calmed calm = asks.calm (ap not calm)
 
+module _ (a b : FilesSeen) (result : Result Verdict JudgeFault) (asks : Asks a b (not (is_calm result))) where
   pub answered : (grounds : Grounds) (question : Question) → IfOk result (λ verdict. IsJudged grounds a.map question (OfRecipient verdict)) → HasAnswered (answerer_of a) (answerer_of b) (IsJudged grounds a.map) (IsJudged grounds b.map) question (as_said OfRecipient result)
   answered grounds question judged = record {
     tells = ap is_some asks.fixed;

@@ -10,7 +10,7 @@ use Rattle.mail_edge.specs.Seen.{FileMap}
 use Rattle.mail_base.specs.declared.rule.RuleSet.{RuleSet}
 use Rattle.map_tables.specs.Answers.{Loaded}
 use Rattle.ruleset_run.specs.Sites.{Macros, Site as RunSite, site_of}
-use Rattle.addr_route.specs.declared.rewritten.Rewritten.{Rewritten}
+use Rattle.ruleset_run.specs.declared.rewritten.Rewritten.{Rewritten}
 use Rattle.addr_route.specs.Checks.{Checks, unchecked, checked, verdict}
 use Rattle.addr_route.specs.Sets.{Rewrites, rewrites}
 use Rattle.alias_expand.specs.Rows.{Expands, IsMeant, Site}

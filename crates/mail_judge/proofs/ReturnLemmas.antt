@@ -13,7 +13,7 @@ use Rattle.alias_expand.specs.Rows.{Expands, HoldsOf, IsMeant, RoutesTo, Site}
 use Rattle.alias_expand.specs.declared.refusal.ExpandRefusal.{ExpandRefusal}
 use Rattle.alias_expand.specs.declared.refusal.ExpandRefusal.TheVariants as refusals
 use Rattle.mail_judge.specs.Judged.{Grounds, site_in}
-use Rattle.mail_judge.specs.Returned.{IsItself, ReturnsTo, by_aliases, as_itself, itself_row, returning_site, with_null_sender}
+use Rattle.mail_judge.specs.Returned.{IsItself, ReturnsTo, by_aliases, as_itself, itself_row, returning_site}
 
 abbrev Outcome : Type 0
 Outcome = Result (List Draw) ExpandRefusal
@@ -92,19 +92,19 @@ held P refusals.FilesFault m p = absurd m
 held P refusals.NoMemory m p = absurd m
 
 module _ (grounds : Grounds) (files : Option FileMap) (macros : Macros) (address sender : List ℕ) where
-  -- of the macros f alone is set over those of the configuration, and the sender is the null sender
-  here : (at : Grounds) → at ≡ grounds → macros ≡ with_null_sender grounds.config.macros → sender ≡ null_sender → (outcome : Outcome) → Expands (site_in at macros) files address sender outcome → Expands (returning_site grounds) files address null_sender outcome
+  -- the macros are those of the configuration, and the sender is the null sender
+  here : (at : Grounds) → at ≡ grounds → macros ≡ grounds.config.macros → sender ≡ null_sender → (outcome : Outcome) → Expands (site_in at macros) files address sender outcome → Expands (returning_site grounds) files address null_sender outcome
   here at same set null outcome holds =
       let stands : Expands (site_in grounds macros) files address sender outcome = subst (λ (x : Grounds). Expands (site_in x macros) files address sender outcome) same holds in
       let sent : Expands (site_in grounds macros) files address null_sender outcome = subst (λ (s : List ℕ). Expands (site_in grounds macros) files address s outcome) null stands in
       subst (λ (m : Macros). Expands (site_in grounds m) files address null_sender outcome) set sent
 
   -- its aliases give it rows
-  pub by_rows : (at : Grounds) → at ≡ grounds → macros ≡ with_null_sender grounds.config.macros → sender ≡ null_sender → (rows : List Draw) → Expands (site_in at macros) files address sender (Ok rows) → ReturnsTo grounds files address rows
+  pub by_rows : (at : Grounds) → at ≡ grounds → macros ≡ grounds.config.macros → sender ≡ null_sender → (rows : List Draw) → Expands (site_in at macros) files address sender (Ok rows) → ReturnsTo grounds files address rows
   by_rows at same set null rows holds = by_aliases rows (here at same set null (Ok rows) holds)
 
   -- they give it none
-  pub by_refusal : (at : Grounds) → at ≡ grounds → macros ≡ with_null_sender grounds.config.macros → sender ≡ null_sender → (refusal : ExpandRefusal) (result : Result (List Draw) JudgeFault) → HoldsOf (refused refusal) (Expands (site_in at macros) files address sender) → IfOk result (λ rows. IsMeant (refused refusal)) → IfOk result (IsItself (site_in grounds macros) address) → IfOk result (ReturnsTo grounds files address)
+  pub by_refusal : (at : Grounds) → at ≡ grounds → macros ≡ grounds.config.macros → sender ≡ null_sender → (refusal : ExpandRefusal) (result : Result (List Draw) JudgeFault) → HoldsOf (refused refusal) (Expands (site_in at macros) files address sender) → IfOk result (λ rows. IsMeant (refused refusal)) → IfOk result (IsItself (site_in grounds macros) address) → IfOk result (ReturnsTo grounds files address)
   by_refusal at same set null refusal (Err fault) holds meant itself = tt
   by_refusal at same set null refusal (Ok rows) holds meant itself =
       let mine : Expands (site_in at macros) files address sender (refused refusal) = held (Expands (site_in at macros) files address sender) refusal meant holds in

@@ -1,24 +1,18 @@
 -- The rows of a receiver of returned mail (RFC 5321, section 4.5.5: returned mail has the sender
--- `<>`; Sendmail Installation and Operation Guide, "The Alias Database", and D: define macro, for
--- f; that a receiver stands for itself where its aliases give no rows is own).
+-- `<>`; Sendmail Installation and Operation Guide, "The Alias Database"; that a receiver stands for
+-- itself where its aliases give no rows is own).
 use Rattle.std.specs.Prelude.{◌≡◌, ℕ, true, List, [], ◌∷◌, Option, Ok, Err, codes, refl}
-use Rattle.mail_base.specs.Catalogs.{with_value}
 use Rattle.mail_base.specs.Drawing.{null_sender}
 use Rattle.mail_base.specs.declared.draw.Draw.{Draw}
 use Rattle.mail_base.specs.declared.route.Resolved.{Resolved}
 use Rattle.mail_edge.specs.Seen.{FileMap}
-use Rattle.ruleset_run.specs.Sites.{Macros}
 use Rattle.alias_expand.specs.Rows.{Expands, RoutesTo, Site}
 use Rattle.alias_expand.specs.declared.refusal.ExpandRefusal.{ExpandRefusal}
 use Rattle.mail_judge.specs.Judged.{Grounds, site_in}
 
--- macros with f, the null sender without its angles
-abbrev pub with_null_sender : Macros → Macros
-with_null_sender macros = with_value (codes "f") [] macros
-
--- what the rows stand on: of the macros of a session there is f alone
+-- what the rows stand on: the macros of the configuration, with none of a session
 abbrev pub returning_site : Grounds → Site
-returning_site grounds = site_in grounds (with_null_sender grounds.config.macros)
+returning_site grounds = site_in grounds grounds.config.macros
 
 -- the row of a receiver that stands for itself
 abbrev pub itself_row : List ℕ → Resolved → Draw
@@ -41,6 +35,5 @@ pub data ReturnsTo (grounds : Grounds) (files : Option FileMap) (address : List 
       → IsItself (returning_site grounds) address rows
       → ReturnsTo grounds files address rows
 
-example : with_null_sender ((codes "f", codes "bob@c") ∷ (codes "j", codes "mx") ∷ [])
-    ≡ (codes "f", []) ∷ (codes "j", codes "mx") ∷ []
-example = refl
+example : (grounds : Grounds) → (returning_site grounds).macros ≡ grounds.config.macros
+example = λ grounds. refl

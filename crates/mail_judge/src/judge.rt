@@ -1,9 +1,10 @@
 ghost use Rattle.std.specs.Prelude.{◌≡◌, ℕ, IfOk, Option, None, codes, not};
+ghost use Rattle.mail_base.specs.Answering.{is_calm};
 ghost use Rattle.mail_base.specs.Texts.{IsBracketed};
 ghost use Rattle.mail_edge.specs.Asking.{Asks};
 ghost use Rattle.mail_edge.specs.Seen.{FileMap};
 ghost use Rattle.addr_route.specs.Checks.{Checks, IsBoundedIf};
-ghost use Rattle.smtp_receive.specs.Judging.{AsksRecipient, IsFormedSaid, OfRecipient, is_calm};
+ghost use Rattle.smtp_receive.specs.Judging.{AsksRecipient, IsFormedSaid, OfRecipient};
 ghost use Rattle.smtp_receive.specs.SessionMacros.{session_macros};
 ghost use Rattle.mail_judge.specs.Judged.{IsJudged, Judges, answerer_of};
 
@@ -20,7 +21,7 @@ use std::alloc::Global;
 /// What judges the paths of sessions by the rules of a configuration (cf/README, check_mail and
 /// check_rcpt): a sender is accepted or refused by the set check_mail. A recipient is refused by
 /// the set check_rcpt; else it goes to the rows that its aliases give it, or is refused where they
-/// give none.
+/// give none. It draws the rows of receivers of returned mail too.
 ///
 /// No call changes what it says, and it fails where files do that aliases name, or for want of
 /// memory. It tells its answers where the files are told.

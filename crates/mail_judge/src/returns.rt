@@ -1,36 +1,34 @@
-ghost use Rattle.std.specs.Prelude.{◌≡◌, IfOk, List, Err, not};
+ghost use Rattle.std.specs.Prelude.{◌≡◌, ℕ, IfOk, List, Option, Err, not};
+ghost use Rattle.mail_base.specs.Answering.{is_calm};
 ghost use Rattle.mail_base.specs.Drawing.{AreDrawn, null_sender};
 ghost use Rattle.mail_base.specs.Texts.{IsAddress};
 ghost use Rattle.mail_base.specs.declared.draw.Draw.{Draw as TheDraw};
 ghost use Rattle.mail_edge.specs.Asking.{Asks};
+ghost use Rattle.mail_edge.specs.Seen.{FileMap};
 ghost use Rattle.alias_expand.specs.Rows.{IsMeant, is_files_fault};
-ghost use Rattle.smtp_receive.specs.Judging.{is_calm};
 ghost use Rattle.mail_judge.specs.Judged.{answerer_of, site_in};
-ghost use Rattle.mail_judge.specs.Returned.{IsItself, ReturnsTo, with_null_sender};
+ghost use Rattle.mail_judge.specs.Returned.{IsItself, ReturnsTo};
 
 use crate::grounds::Grounds;
+use crate::judge::Rules;
 use crate::law::one_return;
 use addr_route::route;
 use alias_expand::{ExpandRefusal, expand, null_sender_stays};
-use mail_base::{Config, Draw, Draws, JudgeFault, Macros, NoMemory, Seq, Text, TryCopy};
+use mail_base::{Draw, Draws, JudgeFault, Macros, NoMemory, Seq, Text, TryCopy};
 use mail_edge::Files;
 use std::alloc::Global;
 
-/// What draws the rows of receivers of returned mail: those that its aliases give a receiver, each
-/// with the sender `<>`, or where they give none the receiver itself. The check sets aren't asked.
-///
-/// No call changes what it says, and it fails where files do that aliases name, or for want of
-/// memory. It tells its answers where the files are told.
-#[derive(Drop)]
-pub struct Returns<'a, F: Files> {
-    pub grounds: &'a Grounds<'a>,
-    pub files: &'a mut F,
-}
+// The rows of a receiver are those that its aliases give it, each with the sender `<>`, or where
+// they give none the receiver itself. The check sets aren't asked.
+impl<F: Files> Draws for Rules<'_, F> {
+    ghost seen = { λ rules. answerer_of (F.seen rules.files.now) };
 
-impl<F: Files> Draws for Returns<'_, F> {
-    ghost seen = { λ returns. answerer_of (F.seen returns.files.now) };
+    ghost answers = { λ rules. ReturnsTo rules.grounds.now (F.seen rules.files.now).map };
 
-    ghost answers = { λ returns. ReturnsTo returns.grounds.now (F.seen returns.files.now).map };
+    // The reference to its files, and what these tell.
+    ghost Fixed = { ℕ × Option FileMap };
+
+    ghost fixed = { λ rules. (rules.files.ghost_name, (F.seen rules.files.now).map) };
 
     fn draw(&mut self, alloc: Global, address: &Text) -> Result<Seq<Draw>, JudgeFault> {
         // A law: a receiver has one list of rows.
@@ -51,18 +49,9 @@ fn rows_of<F: Files>(
     ensures form { IfOk result AreDrawn }
     ensures asks { Asks (F.seen files.old) (F.seen files.new) (not (is_calm result)) }
 {
-    let macros = macros_of(alloc, grounds.config)?;
+    let macros = &grounds.config.macros;
     let sender = Text::of(alloc, b"<>")?;
-    drawn(alloc, grounds, files, &macros, address, &sender)
-}
-
-// The macros of a configuration, with f: without its angles the null sender is empty.
-fn macros_of(alloc: Global, config: &Config) -> Result<Macros, NoMemory>
-    ensures { IfOk result (λ macros. macros ≡ with_null_sender config.now.macros) }
-{
-    let mut macros = config.macros.copy()?;
-    macros.define(b"f", &Text::new(alloc))?;
-    Ok(macros)
+    drawn(alloc, grounds, files, macros, address, &sender)
 }
 
 // The rows of its aliases, or of itself.
@@ -75,7 +64,7 @@ fn drawn<F: Files>(
     sender: &Text,
 ) -> Result<Seq<Draw>, JudgeFault>
     requires address { IsAddress address.now }
-    requires macros { macros.now ≡ with_null_sender grounds.now.config.macros }
+    requires macros { macros.now ≡ grounds.now.config.macros }
     requires sender { sender.now ≡ null_sender }
     ensures returns { IfOk result (ReturnsTo grounds.now (F.seen files.old).map address.now) }
     ensures form { IfOk result AreDrawn }

@@ -1,5 +1,6 @@
 mod BucketLemmas
 pub mod CountLemmas
+mod CutLemmas
 mod FirstLemmas
 pub mod FitLemmas
 mod GroupLemmas

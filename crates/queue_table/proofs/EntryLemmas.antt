@@ -30,7 +30,8 @@ found id (x ∷ xs) s h k e = ⊎_elim
     (decided (eqb x.id id)))
     (contains_cases x s xs k)
 
-by_test : (P : Stored → Type 0) (b : Bool) (d : Control) (a : Stored) → (b ≡ true → P (record { id = a.id; dir = a.dir; control = d; body = a.body })) → (b ≡ false → P a) → P (if b then record { id = a.id; dir = a.dir; control = d; body = a.body } else a)
+-- what holds of an entry with that control, and of it as it is, holds by a test of either
+pub by_test : (P : Stored → Type 0) (b : Bool) (d : Control) (a : Stored) → (b ≡ true → P (record { id = a.id; dir = a.dir; control = d; body = a.body })) → (b ≡ false → P a) → P (if b then record { id = a.id; dir = a.dir; control = d; body = a.body } else a)
 by_test P true d a one other = one refl
 by_test P false d a one other = other refl
 

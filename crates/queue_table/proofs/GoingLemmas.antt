@@ -20,7 +20,7 @@ use Rattle.spool_store.specs.Keepers.{after_replace}
 use Rattle.spool_store.specs.Writes.{numbered, stored, heir}
 use Rattle.queue_table.specs.Commands.{Command, after, brought, control_at, with_children, with_entry, drafts_of, draft_of}
 use Rattle.queue_table.specs.Commands.Command.{Accept, Record, Return, Warn}
-use Rattle.queue_table.specs.Order.{is_queued}
+use Rattle.mail_base.specs.States.{is_queued}
 use Rattle.queue_table.specs.Results.{is_old, recorded, restated, state_after, with_results, given_back, with_returns, with_warning}
 use Rattle.queue_table.specs.Soundness.{CanDo, IsSound, EntryGoes, Goes, stays, goes_on, was_sent, has_failed, went_back, died, HasEntry, IsTried, RowGoes, TableGoes}
 use Rattle.queue_table.specs.declared.terms.Terms.{Terms}
@@ -88,11 +88,13 @@ changed_go : (table : Table) (id : ℕ) (d : Control) (has : HasEntry table id) 
 changed_go table id d has sound goes = zip_each EntryGoes (replaced id d) table.entries
     (changed_each EntryGoes id d table.entries has.entry sound.ascending has.among has.is (λ a m. entry_stays a) (entry_goes has.entry d goes))
 
-numbered_above : (least id : ℕ) (b : List ℕ) (ds : List Draft) → least ≤ id → All (λ s. least ≤ s.id) (numbered id b ds)
+-- new entries have ids from the first one on
+pub numbered_above : (least id : ℕ) (b : List ℕ) (ds : List Draft) → least ≤ id → All (λ s. least ≤ s.id) (numbered id b ds)
 numbered_above least id b [] le = All-nil (λ (s : Stored). least ≤ s.id)
 numbered_above least id b (d ∷ ds) le = All-cons (λ (s : Stored). least ≤ s.id) (stored id b d) (numbered (id + 1) b ds) le (numbered_above least (id + 1) b ds (omega (arith, le)))
 
-brought_above : (least : ℕ) (terms : Terms) (moment : ℕ) (p : Parent) (next : ℕ) (backs : List Back) → least ≤ next → All (λ s. least ≤ s.id) (brought terms moment p next backs)
+-- and so have those that are brought
+pub brought_above : (least : ℕ) (terms : Terms) (moment : ℕ) (p : Parent) (next : ℕ) (backs : List Back) → least ≤ next → All (λ s. least ≤ s.id) (brought terms moment p next backs)
 brought_above least terms moment p next [] le = All-nil (λ (s : Stored). least ≤ s.id)
 brought_above least terms moment p next (back ∷ backs) le = All-append (λ (s : Stored). least ≤ s.id)
     (numbered next back.message.body (map (heir p) (drafts_of terms back.message moment back.cuts)))

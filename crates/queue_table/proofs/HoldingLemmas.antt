@@ -8,21 +8,10 @@ use Rattle.spool_disk.specs.Disk.{FileMap}
 use Rattle.spool_store.specs.Entries.{Stored, Table, ids}
 use Rattle.spool_store.specs.Stores.{Agrees, Holds, IsHeld, StoreSeen}
 use Rattle.spool_store.specs.declared.held.Held.{Held}
+use Rattle.queue_table.specs.Calls.{IsHeldIn, IsStoredIn}
 use Rattle.queue_table.specs.Commands.{control_at}
 use Rattle.spool_store.proofs.Standing.{contains_cases, contains_head, contains_tail}
 use Rattle.queue_table.proofs.EntryLemmas.{found}
-
--- what a store holds of an entry of the table
-pub record IsHeldIn (held : List Held) (s : Stored) : Type 0 where
-  pub one : Held
-  pub among : Contains held one
-  pub is : IsHeld one s
-
--- what a table has of an entry of the store
-pub record IsStoredIn (entries : List Stored) (h : Held) : Type 0 where
-  pub one : Stored
-  pub among : Contains entries one
-  pub is : IsHeld h one
 
 later_held : (h : Held) (hs : List Held) (s : Stored) → IsHeldIn hs s → IsHeldIn (h ∷ hs) s
 later_held h hs s k = record { one = k.one; among = contains_tail h k.one hs k.among; is = k.is }

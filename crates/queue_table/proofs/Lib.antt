@@ -6,6 +6,9 @@ mod PriorityLemmas
 mod EntryLemmas
 mod GoingLemmas
 mod SoundLemmas
+pub mod StayLemmas
+pub mod LowLemmas
+pub mod AskedLemmas
 pub mod CommandLemmas
 mod ResultLemmas
 mod RecordLemmas

@@ -1,6 +1,6 @@
 -- What is made ready before a call writes.
 use Rattle.std.proofs.Common.{◌≡◌, ◌≢◌, ◌⊎◌, ⊎_elim, ℕ, ◌+◌, ◌-◌, ◌<◌, ◌≤◌, ◌^◌, List, [], ◌∷◌, ◌++◌, map, length, Option, Some, None, Result, Ok, Err, Bool, true, false, refl, sym, ◌∙◌, ap, subst, arith, Contains}
-use Rattle.std.specs.Prelude.{◌↔◌, All, IfOk, IfSome, IsSome, IsTrue}
+use Rattle.std.specs.Prelude.{◌↔◌, All, IfOk, IfSome, IsSome, IsTrue, not, sum_by}
 use Rattle.std.proofs.lemmas.Bool.{cases_lt}
 use Rattle.std.specs.List.Sorted.{IsStrictlySortedBy}
 use Rattle.std.specs.Ordering.{nat_cmp}
@@ -193,7 +193,7 @@ last_is [] x y e = cc e
 last_is (z ∷ zs) x y e = absurd (no_push zs x (cc e))
 
 -- a return without a bounce is that of a double bounce
-pub no_bounce : (double : Bool) (backs : List Back) → AreBounces double backs → backs ≡ [] → double ≡ true
+pub no_bounce : (double : Bool) (backs : List Back) → AreBounces (not double) backs → backs ≡ [] → double ≡ true
 no_bounce true backs are none = refl
 no_bounce false backs are none = absurd (cc (are.1, none))
 
@@ -203,7 +203,7 @@ pub record IsOneBounce (double : Bool) (backs : List Back) (back : Back) : Type 
   pub one : backs ≡ back ∷ []
   pub is : IsBack back
 
-pub one_bounce : (double : Bool) (backs xs : List Back) (back : Back) → AreBounces double backs → backs ≡ xs ++ back ∷ [] → IsOneBounce double backs back
+pub one_bounce : (double : Bool) (backs xs : List Back) (back : Back) → AreBounces (not double) backs → backs ≡ xs ++ back ∷ [] → IsOneBounce double backs back
 one_bounce true backs xs back are e = absurd (no_push xs back (sym are ∙ e))
 one_bounce false backs xs back are e =
     let same : are.0 ≡ back = last_is xs back are.0 (sym are.1 ∙ e) in
@@ -331,15 +331,35 @@ return_one old mid id moment backs xs back (Ok parcel) asked same up one is =
     makes_one old mid id moment backs back parcel at same up (ap (λ (q : Control). q.marks.double) control ∙ b.single) b.one (is at.held at.among at.is)
 return_one old mid id moment backs xs back (Err e) asked same up one is = tt
 
-pub warning_one : (old mid : Kept) (id : ℕ) (moment : ℕ) (backs xs : List Back) (back : Back) (parent : Draft) (r : Result Parcel StoreFault) (asked : IsAsked old (Warn old.terms id backs moment)) → IsSame old mid → IsStrictlySortedBy nat_cmp (map (λ (h : Held). h.entry.id) (store old).entries) → backs ≡ xs ++ back ∷ []
-    → ((h : Held) → Contains (store old).entries h → h.entry.id ≡ id → parent ≡ next_draft h (with_warning h.entry.control))
-    → IfOk r (λ parcel. (n : ℕ) → parent.id ≡ Some n → IsParcelUnder (store mid) n (drafts_of old.terms back.message moment back.cuts) parent back.message.body parcel)
+pub warned_one : (old mid : Kept) (id : ℕ) (moment : ℕ) (backs xs : List Back) (back : Back) (r : Result Parcel StoreFault) (asked : IsAsked old (Warn old.terms id backs moment)) → IsSame old mid → IsStrictlySortedBy nat_cmp (map (λ (h : Held). h.entry.id) (store old).entries) → backs ≡ xs ++ back ∷ []
+    → IfOk r (λ parcel. (h : Held) → Contains (store old).entries h → h.entry.id ≡ id → IsParcelUnder (store mid) id (drafts_of old.terms back.message moment back.cuts) (next_draft h (with_warning h.entry.control)) back.message.body parcel)
     → IfOk r (Makes mid id (Warn old.terms id backs moment))
-warning_one old mid id moment backs xs back parent (Ok parcel) asked same up one is ready =
+warned_one old mid id moment backs xs back (Ok parcel) asked same up one is =
     let at = open_at old asked.table id asked.holds asked.can.has asked.can.waits in
-    let all = under_is (store mid) (store old).entries id (drafts_of old.terms back.message moment back.cuts) parent back.message.body with_warning (Ok parcel) is ready in
-    makes_warning old mid id moment backs back parcel at same up (one_warning backs xs back asked.can.warning asked.can.one one) (all at.held at.among at.is)
-warning_one old mid id moment backs xs back parent (Err e) asked same up one is ready = tt
+    makes_warning old mid id moment backs back parcel at same up (one_warning backs xs back asked.can.warning asked.can.one one) (is at.held at.among at.is)
+warned_one old mid id moment backs xs back (Err e) asked same up one is = tt
+
+-- the cuts of one message are those of all
+cuts_one : (backs : List Back) (back : Back) → backs ≡ back ∷ [] → sum_by (λ (q : Back). length q.cuts) backs ≡ length back.cuts
+cuts_one backs back one =
+    let same = ap (λ (q : List Back). sum_by (λ (b : Back). length b.cuts) q) one in
+    omega (arith, same)
+
+pub return_cuts : (old : Kept) (id : ℕ) (moment : ℕ) (backs xs : List Back) (back : Back) (asked : IsAsked old (Return old.terms id backs moment)) → backs ≡ xs ++ back ∷ [] → sum_by (λ (q : Back). length q.cuts) backs ≡ length back.cuts
+return_cuts old id moment backs xs back asked e = cuts_one backs back (one_bounce asked.can.has.entry.control.marks.double backs xs back asked.can.bounces_are e).one
+
+pub warn_cuts : (old : Kept) (id : ℕ) (moment : ℕ) (backs xs : List Back) (back : Back) (asked : IsAsked old (Warn old.terms id backs moment)) → backs ≡ xs ++ back ∷ [] → sum_by (λ (q : Back). length q.cuts) backs ≡ length back.cuts
+warn_cuts old id moment backs xs back asked e = cuts_one backs back (one_warning backs xs back asked.can.warning asked.can.one e)
+
+-- ids are spent by as many cuts
+pub spent_by : (S : Type 0) (next n m : ℕ) → m ≡ n → (S ↔ (999_999_999_999 + 1 < next + n)) → S ↔ (999_999_999_999 + 1 < next + m)
+spent_by S next n m e h = subst (λ (k : ℕ). S ↔ (999_999_999_999 + 1 < next + k)) (sym e) h
+
+-- or by none
+pub spent_none : (S : Type 0) (next : ℕ) (backs : List Back) → backs ≡ [] → (S ↔ (999_999_999_999 + 1 < next)) → S ↔ (999_999_999_999 + 1 < next + sum_by (λ (q : Back). length q.cuts) backs)
+spent_none S next backs none h =
+    let e : sum_by (λ (q : Back). length q.cuts) backs ≡ 0 = ap (λ (q : List Back). sum_by (λ (b : Back). length b.cuts) q) none in
+    (λ s. let lt = h.0 s in omega (arith, lt, e), λ lt. h.1 (omega (arith, lt, e)))
 
 -- a draft of an entry's parts is that of its next control
 pub draft_is : (id : ℕ) (dir : List ℕ) (control : Control) (change : Control → Control) (entry : Entry) (h : Held) → entry ≡ h.entry → dir ≡ entry.dir → control ≡ change entry.control → h.entry.id ≡ id → record { id = Some id; dir = dir; control = control } ≡ next_draft h (change h.entry.control)

@@ -1,6 +1,6 @@
 -- Each command leaves a sound table.
 use Rattle.std.proofs.Common.{◌≡◌, ℕ, zero, suc, ◌+◌, ◌-◌, ◌<◌, ◌≤◌, ◌^◌, List, [], ◌∷◌, ◌++◌, map, length, Option, Some, None, Bool, true, false, if◌then◌else◌, true≢false, refl, sym, ◌∙◌, ap, subst, arith, eq-eqb, Contains}
-use Rattle.std.specs.Prelude.{All, IfSome, eqb, sum_by}
+use Rattle.std.specs.Prelude.{All, IfSome, eqb, not, sum_by}
 use Rattle.std.specs.List.Sorted.{IsStrictlySortedBy}
 use Rattle.std.specs.Ordering.{nat_cmp}
 use Rattle.std.proofs.Math.Nat.{le_trans, le_refl}
@@ -384,7 +384,7 @@ first_bounce terms moment p next back (cut ∷ cuts) before new same some marked
       marked = marked;
     }
 
-return_sound : (terms : Terms) (moment : ℕ) (table : Table) (id : ℕ) (bounces : List Back) (has : HasEntry table id) (double : Bool) → has.entry.control.marks.double ≡ double → IsSound table → AreBounces double bounces → IsSound (with_children terms moment table id bounces (with_returns table.next has.entry.control))
+return_sound : (terms : Terms) (moment : ℕ) (table : Table) (id : ℕ) (bounces : List Back) (has : HasEntry table id) (double : Bool) → has.entry.control.marks.double ≡ double → IsSound table → AreBounces (not double) bounces → IsSound (with_children terms moment table id bounces (with_returns table.next has.entry.control))
 return_sound terms moment table id bounces has true is sound none =
     subst (λ (q : List Back). IsSound (with_children terms moment table id q (with_returns table.next has.entry.control))) (sym none)
     (no_back terms moment table id (with_returns table.next has.entry.control) has sound

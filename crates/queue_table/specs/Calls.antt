@@ -9,13 +9,13 @@ use Rattle.mail_base.specs.declared.message.Message.{Message}
 use Rattle.qf_format.specs.Valid.{IsValid}
 use Rattle.spool_disk.specs.Disk.{FileMap}
 use Rattle.spool_disk.specs.Spooled.{Spooled}
-use Rattle.spool_store.specs.Entries.{Table}
+use Rattle.spool_store.specs.Entries.{Stored, Table}
 use Rattle.spool_store.specs.Keepers.{seen}
 use Rattle.spool_store.specs.Moves.{Ends, Moves}
 use Rattle.spool_store.specs.Parcels.{IsBelowLast, IsParcel}
 use Rattle.spool_store.specs.Parts.{IsEitherTable}
 use Rattle.spool_store.specs.Settled.{IsSettled, StandsFor}
-use Rattle.spool_store.specs.Stores.{Agrees, Holds, KeepsOthers, StoreSeen}
+use Rattle.spool_store.specs.Stores.{Agrees, Holds, IsHeld, KeepsOthers, StoreSeen}
 use Rattle.spool_store.specs.declared.held.Held.{Held}
 use Rattle.queue_table.specs.Commands.{Command, after, draft_of, drafts_of, new_control}
 use Rattle.queue_table.specs.Commands.Command.{Accept, Record, Return, Warn}
@@ -36,6 +36,24 @@ HoldsTable kept table = Holds (store kept) table
 -- its store has what the files say that are told, if they are, unless it is broken
 abbrev pub Tallies : Kept → Option FileMap → Type 0
 Tallies kept told = (store kept).broken ≡ false → IfSome told (Agrees (store kept))
+
+-- what a store holds of an entry of a table
+pub record IsHeldIn (held : List Held) (s : Stored) : Type 0 where
+  pub one : Held
+  pub among : Contains held one
+  pub is : IsHeld one s
+
+-- what a table has of an entry of a store
+pub record IsStoredIn (entries : List Stored) (h : Held) : Type 0 where
+  pub one : Stored
+  pub among : Contains entries one
+  pub is : IsHeld h one
+
+-- the same entry is among these, whatever its control file is called
+pub record HasSame (held : List Held) (h : Held) : Type 0 where
+  pub one : Held
+  pub among : Contains held one
+  pub same : one.entry ≡ h.entry
 
 -- what no call changes: the terms, the directories and the strange files
 pub record Stays (old new : Kept) : Type 0 where

@@ -98,6 +98,13 @@ pub data Command : Type 0 where
   Return : (terms : Terms) (id : ℕ) (bounces : List Back) (moment : ℕ) → Command
   Warn : (terms : Terms) (id : ℕ) (warnings : List Back) (moment : ℕ) → Command
 
+-- the id of the entry that a command changes, if it changes one
+abbrev pub changed_by : Command → Option ℕ
+changed_by (Accept terms message cuts moment) = None
+changed_by (Record terms id places results moment) = Some id
+changed_by (Return terms id bounces moment) = Some id
+changed_by (Warn terms id warnings moment) = Some id
+
 -- the table after a command
 abbrev pub after : Table → Command → Table
 after table (Accept terms message cuts moment) = accepted terms message cuts moment table

@@ -5,6 +5,7 @@ pub mod Directories
 pub mod Results
 pub mod Commands
 pub mod Soundness
+pub mod Asked
 pub mod Calls
 pub mod Reserves
 pub mod Claims

@@ -10,11 +10,11 @@ use Rattle.mail_base.specs.declared.control.State.{State}
 use Rattle.mail_base.specs.declared.control.State.TheVariants.{Queued, Sent, Failed, Returned, Dead}
 use Rattle.mail_base.specs.declared.message.Back.{Back}
 use Rattle.mail_base.specs.declared.message.Cut.{Cut}
+use Rattle.mail_base.specs.States.{is_queued, wants_bounce}
 use Rattle.spool_store.specs.Entries.{Stored, Table, ids}
 use Rattle.spool_store.specs.Queue.{IsOpen}
 use Rattle.queue_table.specs.Commands.{Command}
 use Rattle.queue_table.specs.Commands.Command.{Accept, Record, Return, Warn}
-use Rattle.queue_table.specs.Order.{is_queued}
 
 -- the parent of an entry: an entry of a smaller id that has the revision which is named
 pub record IsHeir (entries : List Stored) (id : ℕ) (parent : Parent) : Type 0 where
@@ -77,15 +77,15 @@ pub record IsBack (back : Back) : Type 0 where
   pub cuts : AreCuts back.cuts
   pub marked : back.message.marks.bounce ≡ true
 
--- an entry that is a double bounce is given back by no message, and another one by one
+-- an entry that wants a bounce is given back by one message, and another one by none
 abbrev pub AreBounces : Bool → List Back → Type 0
-AreBounces true bounces = bounces ≡ []
-AreBounces false bounces = (back : Back) × (bounces ≡ back ∷ []) × IsBack back
+AreBounces true bounces = (back : Back) × (bounces ≡ back ∷ []) × IsBack back
+AreBounces false bounces = bounces ≡ []
 
 pub record CanReturn (table : Table) (id : ℕ) (bounces : List Back) : Type 0 where
   pub has : HasEntry table id
   pub waits : IsOpen has.entry.control
-  pub bounces_are : AreBounces has.entry.control.marks.double bounces
+  pub bounces_are : AreBounces (wants_bounce has.entry.control) bounces
 
 pub record CanWarn (table : Table) (id : ℕ) (warnings : List Back) : Type 0 where
   pub has : HasEntry table id

@@ -1,9 +1,16 @@
-ghost use Rattle.std.specs.Prelude.{◌≡◌, ◌≢◌, ◌⊎◌, ◌++◌, List};
+ghost use Rattle.std.specs.Prelude.{◌≡◌, ◌≢◌, ◌⊎◌, ◌+◌, ◌-◌, ◌^◌, ◌<◌, ◌++◌, ℕ, List, Contains, Some, length, map};
 ghost use Rattle.mail_base.specs.declared.control.Entry.{Entry};
-ghost use Rattle.spool_store.specs.Entries.{Table};
-ghost use Rattle.queue_table.specs.Commands.{Command, after, applied};
+ghost use Rattle.spool_store.specs.Entries.{Stored, Table};
+ghost use Rattle.spool_store.specs.Stores.{HasId, refinished};
+ghost use Rattle.spool_store.specs.declared.held.Held.{Held};
+ghost use Rattle.queue_table.specs.Asked.{AllStop, AreLow, IsStoppable};
+ghost use Rattle.queue_table.specs.Calls.{HasSame, HoldsTable, IsHeldIn, IsStoredIn, MayStop, store};
+ghost use Rattle.queue_table.specs.Commands.{Command, after, applied, changed_by, control_at};
 ghost use Rattle.queue_table.specs.Order.{IsBefore};
-ghost use Rattle.queue_table.specs.Soundness.{CanDo, IsSound, TableGoes};
+ghost use Rattle.queue_table.specs.Reserves.{IsReserved};
+ghost use Rattle.queue_table.specs.Soundness.{CanDo, HasEntry, IsSound, TableGoes};
+ghost use Rattle.queue_table.specs.declared.recording.Reserved.{Reserved};
+ghost use Rattle.queue_table.specs.declared.table.Table.{Table as Kept};
 
 /// The order of entries is a strict total one: of two with different ids one goes before the
 /// other.
@@ -30,4 +37,57 @@ pub fn commands_keep_soundness()
 pub fn rows_go_on()
     ensures { (table : Table) (command : Command) → IsSound table → CanDo table command
         → TableGoes table (after table command) }
+{}
+
+/// A command leaves each entry but the one that it changes: it is in the table after it, an entry
+/// whose id was not free was there before, and the control of each such id is the same.
+pub fn commands_leave_other_entries()
+    ensures stays { (table : Table) (command : Command) (s : Stored) → Contains table.entries s
+        → changed_by command ≢ Some s.id → Contains (after table command).entries s }
+    ensures came { (table : Table) (command : Command) (s : Stored)
+        → Contains (after table command).entries s → s.id < table.next
+        → changed_by command ≢ Some s.id → Contains table.entries s }
+    ensures found { (table : Table) (command : Command) (id : ℕ) → id < table.next
+        → changed_by command ≢ Some id
+        → control_at id (after table command).entries ≡ control_at id table.entries }
+{}
+
+/// So the store after a command has each other entry as before, and what was reserved for the
+/// record of an attempt goes on to be so, also while an entry is finished.
+pub fn reserves_outlive_other_commands()
+    ensures entries { (old new : Kept) (table : Table) (command : Command) (h : Held)
+        → HoldsTable old table → HoldsTable new (after table command)
+        → Contains (store old).entries h → changed_by command ≢ Some h.entry.id
+        → HasSame (store new).entries h }
+    ensures reserved { (old new : Kept) (table : Table) (command : Command) (reserved : Reserved)
+        → HoldsTable old table → HoldsTable new (after table command)
+        → changed_by command ≢ Some reserved.room.id
+        → IsReserved (store old).entries reserved → IsReserved (store new).entries reserved }
+    ensures finish { (entries : List Held) (id : ℕ) (reserved : Reserved)
+        → IsReserved entries reserved → IsReserved (map (refinished id) entries) reserved }
+{}
+
+/// What a table has of an id the store has that holds it, and back.
+pub fn the_store_has_what_the_table_has()
+    ensures held { (kept : Kept) (table : Table) (s : Stored) → HoldsTable kept table
+        → Contains table.entries s → IsHeldIn (store kept).entries s }
+    ensures stored { (kept : Kept) (table : Table) (h : Held) → HoldsTable kept table
+        → Contains (store kept).entries h → IsStoredIn table.entries h }
+    ensures has_id { (kept : Kept) (table : Table) (id : ℕ) → HoldsTable kept table
+        → HasEntry table id → HasId (store kept).entries id }
+    ensures has_entry { (kept : Kept) (table : Table) (id : ℕ) → HoldsTable kept table
+        → HasId (store kept).entries id → HasEntry table id }
+{}
+
+/// No command raises a revision by more than one, so commands that are fewer than what is left up
+/// to the last revision can all be stopped, over the store too.
+pub fn revisions_stay_low()
+    ensures command { (most : ℕ) (table : Table) (command : Command) → AreLow most table
+        → AreLow (most + 1) (after table command) }
+    ensures run { (most : ℕ) (table : Table) (commands : List Command) → AreLow most table
+        → AreLow (most + length commands) (applied table commands) }
+    ensures stops { (most : ℕ) (table : Table) (commands : List Command) → AreLow most table
+        → most + length commands < 2 ^ 64 - 1 → AllStop table commands }
+    ensures may { (kept : Kept) (table : Table) (command : Command) → HoldsTable kept table
+        → IsStoppable table command → MayStop (store kept) command }
 {}

@@ -3,6 +3,7 @@
 #![tactic(auto)]
 
 mod accepting;
+mod asked_law;
 mod dirs;
 mod drafts;
 mod factors;
@@ -17,8 +18,13 @@ mod terms;
 mod waiting;
 
 pub use accepting::Accepting;
+pub use asked_law::{files_of_steps_join, stops_of_steps_join, tables_of_steps_follow};
 pub use factors::{Factors, priority};
-pub use law::{commands_follow, commands_keep_soundness, entries_are_ordered, rows_go_on};
+pub use law::{
+    commands_follow, commands_keep_soundness, commands_leave_other_entries, entries_are_ordered,
+    reserves_outlive_other_commands, revisions_stay_low, rows_go_on,
+    the_store_has_what_the_table_has,
+};
 pub use order::{before, due};
 pub use recording::Reserved;
 pub use table::Table;

@@ -1,17 +1,17 @@
 ghost use Rattle.std.specs.Prelude.{◌≡◌, ◌<◌, ◌↔◌, ℕ, IsTrue, false};
-ghost use Rattle.queue_table.specs.Order.{IsBefore, has_failed, has_queued, has_waited, is_due};
+ghost use Rattle.queue_table.specs.Order.{IsBefore, has_waited, is_due};
 
-use mail_base::{Control, Entry, State};
+use mail_base::{Control, Entry};
 
 /// Whether an entry is to be tried at a moment, where so many seconds are to pass between two
 /// tries. It takes no memory.
 pub fn due(control: &Control, moment: u64, wait: u64) -> bool
     ensures { result ≡ is_due control.now moment wait }
 {
-    if has_failed(control) {
+    if control.has_failed() {
         return true;
     }
-    has_queued(control) && has_waited(control, moment, wait)
+    control.has_queued() && has_waited(control, moment, wait)
 }
 
 // Whether it was never tried, or long enough ago.
@@ -28,36 +28,16 @@ fn has_waited(control: &Control, moment: u64, wait: u64) -> bool
 pub(crate) fn due_from(control: &Control, wait: u64) -> u64
     ensures { (moment : ℕ) → moment < result → is_due control.now moment wait ≡ false }
 {
-    if has_failed(control) {
+    if control.has_failed() {
         return 0;
     }
-    if !has_queued(control) {
+    if !control.has_queued() {
         return u64::MAX;
     }
     if control.tries == 0 {
         return 0;
     }
     control.last_try.saturating_add(wait)
-}
-
-fn has_failed(control: &Control) -> bool
-    ensures { result ≡ has_failed control.now }
-{
-    control
-        .rows
-        .items()
-        .iter()
-        .any(|row| matches!(&row.state, State::Failed(_, _)))
-}
-
-fn has_queued(control: &Control) -> bool
-    ensures { result ≡ has_queued control.now }
-{
-    control
-        .rows
-        .items()
-        .iter()
-        .any(|row| matches!(&row.state, State::Queued(_)))
 }
 
 /// Whether an entry goes before another: the one of lower priority, and of two with the same the

@@ -78,7 +78,7 @@ impl Table {
             (Makes self.new id (Return self.old.terms id bounces moment)) }
         ensures same { IsSame self.old self.new }
         ensures spent { IsErrOf result Spent
-            → (Id.MOST + 1 < (store self.old).next + sum_by (λ back. length back.cuts) bounces) }
+            ↔ (Id.MOST + 1 < (store self.old).next + sum_by (λ back. length back.cuts) bounces) }
         ensures never { IsErrOf result Broke → ⊥ }
     {
         let _ = self.queue.entries();
@@ -97,9 +97,12 @@ impl Table {
             → IsParcelUnder (store self.new) id []
             (next_draft h (control_by None h.entry.control)) [] parcel) }
         ensures same { IsSame self.old self.new }
-        ensures spent { IsErrOf result Spent → (Id.MOST + 1 < (store self.old).next) }
+        ensures spent { IsErrOf result Spent ↔ (Id.MOST + 1 < (store self.old).next) }
         ensures never { IsErrOf result Broke → ⊥ }
     {
+        if self.queue.next() > Id::MOST + 1 {
+            return Err(StoreFault::IdsSpent);
+        }
         let parent = self.draft_back(id, None)?;
         let alloc = parent.dir.allocator();
         Ok(
@@ -123,7 +126,7 @@ impl Table {
             back.message.body parcel) }
         ensures same { IsSame self.old self.new }
         ensures spent { IsErrOf result Spent
-            → (Id.MOST + 1 < (store self.old).next + length back.cuts) }
+            ↔ (Id.MOST + 1 < (store self.old).next + length back.cuts) }
         ensures never { IsErrOf result Broke → ⊥ }
     {
         if self.lacks_ids(back.cuts.len()) {
@@ -149,17 +152,37 @@ impl Table {
             (Makes self.new id (Warn self.old.terms id warnings moment)) }
         ensures same { IsSame self.old self.new }
         ensures spent { IsErrOf result Spent
-            → (Id.MOST + 1 < (store self.old).next + sum_by (λ back. length back.cuts) warnings) }
+            ↔ (Id.MOST + 1 < (store self.old).next + sum_by (λ back. length back.cuts) warnings) }
         ensures never { IsErrOf result Broke → ⊥ }
     {
         let _ = self.queue.entries();
         match warnings.into_vec().pop() {
-            Some(back) => {
-                let parent = self.draft_warned(id)?;
-                self.plan_under(&parent, back, moment)
-            }
+            Some(back) => self.plan_notice(id, back, moment),
             None => unreachable!(),
         }
+    }
+
+    // Makes a message ready by which a warning of an entry is sent.
+    fn plan_notice(&mut self, id: Id, back: Back, moment: u64) -> Result<Parcel, StoreFault>
+        requires open_at { IsOpenAt self.old id }
+        requires fit { IsFit self.old id }
+        requires dirs { AreDirs self.old.terms (store self.old).dirs }
+        requires valid { AreValid self.old.terms back.message moment back.cuts }
+        ensures is { IfOk result
+            (λ parcel. (h : HeldSeen) → Contains (store self.old).entries h → h.entry.id ≡ id
+            → IsParcelUnder (store self.new) id
+            (drafts_of self.old.terms back.message moment back.cuts)
+            (next_draft h (with_warning h.entry.control)) back.message.body parcel) }
+        ensures same { IsSame self.old self.new }
+        ensures spent { IsErrOf result Spent
+            ↔ (Id.MOST + 1 < (store self.old).next + length back.cuts) }
+        ensures never { IsErrOf result Broke → ⊥ }
+    {
+        if self.lacks_ids(back.cuts.len()) {
+            return Err(StoreFault::IdsSpent);
+        }
+        let parent = self.draft_warned(id)?;
+        self.plan_under(&parent, back, moment)
     }
 
     // Makes an entry's next control ready, with the entries of a message as its children.

@@ -1,4 +1,4 @@
-ghost use Rattle.std.specs.Prelude.{◌≡◌, ◌⊎◌, ◌<◌, ◌+◌, IsErrOf, true, Err, sum_by, length};
+ghost use Rattle.std.specs.Prelude.{◌≡◌, ◌⊎◌, ◌↔◌, ◌<◌, ◌+◌, IsErrOf, false, true, Err, sum_by, length};
 ghost use Rattle.mail_base.specs.declared.fault.StoreFault.TheVariants.{SpoolFault as Broke, IdsSpent as Spent, NoMemory as Memory};
 ghost use Rattle.queue_table.specs.Calls.{AreBacksValid, AreDirs, CarriesOut, IsAsked, IsFit, IsSame, Tallies, store};
 ghost use Rattle.queue_table.specs.Commands.{Return, Warn};
@@ -10,7 +10,7 @@ use spool_disk::Spool;
 impl Table {
     /// Returns the failed rows of an entry at a moment, by a bounce whose entries are its children
     /// at its next revision, or in a double bounce, by none, leaves them dead. The bounce is given
-    /// up, so that its body is not copied. `IdsSpent` comes only where an id would pass
+    /// up, so that its body is not copied. `IdsSpent` comes exactly where an id would pass
     /// [`Id::MOST`]. A stop at any moment leaves the table before or after, unless the entry has
     /// the last revision.
     pub fn give_back<D: Spool>(
@@ -30,7 +30,8 @@ impl Table {
         ensures refused { (IsErrOf result Memory ⊎ IsErrOf result Spent)
             → IsSame self.old self.new × (spool.new ≡ spool.old) }
         ensures spent { IsErrOf result Spent
-            → (Id.MOST + 1 < (store self.old).next + sum_by (λ back. length back.cuts) bounces) }
+            ↔ ((store self.old).broken ≡ false
+            × (Id.MOST + 1 < (store self.old).next + sum_by (λ back. length back.cuts) bounces)) }
         ensures broken { (store self.old).broken ≡ true
             → (result ≡ Err Broke) × (spool.new ≡ spool.old) }
     {
@@ -60,7 +61,8 @@ impl Table {
         ensures refused { (IsErrOf result Memory ⊎ IsErrOf result Spent)
             → IsSame self.old self.new × (spool.new ≡ spool.old) }
         ensures spent { IsErrOf result Spent
-            → (Id.MOST + 1 < (store self.old).next + sum_by (λ back. length back.cuts) warnings) }
+            ↔ ((store self.old).broken ≡ false
+            × (Id.MOST + 1 < (store self.old).next + sum_by (λ back. length back.cuts) warnings)) }
         ensures broken { (store self.old).broken ≡ true
             → (result ≡ Err Broke) × (spool.new ≡ spool.old) }
     {

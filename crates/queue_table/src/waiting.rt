@@ -116,7 +116,7 @@ impl Waiting {
 
     /// The id of the least of the entries that are due, that nobody holds and whose lane has room,
     /// or `None` exactly where there is none. Where it is called again with the same entries before
-    /// one may be claimed, it looks at none of them. It takes no memory.
+    /// one may be claimed, it need not look at them. It takes no memory.
     pub fn least_due(&mut self, entries: &[Held], moment: u64) -> Option<Id>
         requires quiet { IsQuiet self.old entries.now }
         ensures is { IsLeastDue self.old moment entries.now result }

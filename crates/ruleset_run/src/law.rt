@@ -8,7 +8,9 @@ ghost use Rattle.mail_base.specs.Candidates.{is_candidate};
 ghost use Rattle.rule_match.specs.Choices.{Fits};
 ghost use Rattle.rule_match.specs.Wants.{wants};
 ghost use Rattle.ruleset_run.specs.Runs.{Outcome, RunsSet};
+ghost use Rattle.ruleset_run.specs.Sets.{Rewrites};
 ghost use Rattle.ruleset_run.specs.Sites.{Macros, Site};
+ghost use Rattle.ruleset_run.specs.declared.rewritten.Rewritten.{Rewritten};
 
 use rule_match::each_choice;
 
@@ -37,3 +39,21 @@ pub fn candidates_lose_no_match()
         × ((classes : Classes) (late : List (List Token)) (lengths : List ℕ)
         → Fits (wants classes late rule.left) tokens lengths → ⊥) }
 {}
+
+/// Rulesets make a text of an address, or refuse it, whatever their names are.
+pub fn some_rewriting()
+    ensures { (site : Site) (macros : Macros) (sets : List (List ℕ)) (address : List ℕ)
+        → (rewritten : Rewritten) × Rewrites site macros sets address rewritten }
+{
+    each_run_ends();
+}
+
+/// Rulesets make one text of an address, or refuse it for one cause.
+pub fn one_rewriting()
+    ensures { (site : Site) (macros : Macros) (sets : List (List ℕ)) (address : List ℕ)
+        (one another : Rewritten)
+        → Rewrites site macros sets address one
+        → Rewrites site macros sets address another → one ≡ another }
+{
+    one_outcome();
+}

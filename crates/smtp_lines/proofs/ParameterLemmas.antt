@@ -6,12 +6,12 @@ use Rattle.std.specs.List.{list_all}
 use Rattle.std.specs.Str.{bytes_eq, str_to_ascii_lowercase, str_eq_ignore_ascii_case}
 use Rattle.std.specs.Str.Parse.{digits_value}
 use Rattle.std.proofs.lemmas.Bool.{cond-true, cond-false, cases_Bool, and_parts, and_from, false≢true, le-leb, leb-true}
-use Rattle.std.proofs.lemmas.List.{append-nil, map-append, length-map, take_at, drop_at, take-append-drop}
+use Rattle.std.proofs.lemmas.List.{map-append, length-map, take_at, drop_at, take-append-drop}
 use Rattle.std.proofs.lemmas.Slice.Eq.{bytes_eq-Decides}
 use Rattle.smtp_lines.specs.declared.parameter.Given.{Given}
 use Rattle.smtp_lines.specs.declared.parameter.Given.TheVariants.{Size, Body}
 use Rattle.smtp_lines.specs.declared.parameter.Parameters.{Parameters}
-use Rattle.smtp_lines.specs.Parameters.{is_some_text, words_of, IsSize, IsParameter, says_size, says_seven, says_eight, AreParameters, no_more, one_more, sizes_in, bodies_in, listed, AreGiven}
+use Rattle.smtp_lines.specs.Parameters.{is_some_text, words_of, IsSize, IsParameter, says_size, says_seven, says_eight, AreParameters, no_more, one_more, sizes_in, bodies_in, last_or, AreGiven}
 use Rattle.smtp_lines.specs.Reading.{size_of, as_size, given_by, with_given, with_words, no_parameters, parameters_of}
 use Rattle.smtp_lines.proofs.WordLemmas.{words_none}
 
@@ -96,8 +96,8 @@ given_read word given e =
 pub record Adds (words : List (List ℕ)) (from to : Parameters) : Type 0 where
   pub given : List Given
   pub are : AreParameters words given
-  pub size_is : listed from.size ++ sizes_in given ≡ listed to.size
-  pub body_is : listed from.body ++ bodies_in given ≡ listed to.body
+  pub size_is : last_or from.size (sizes_in given) ≡ to.size
+  pub body_is : last_or from.body (bodies_in given) ≡ to.body
 
 no_words : (words : List (List ℕ)) (to : Parameters) → with_words words None ≡ Some to → ⊥
 no_words words to e = let none = words_none words in cc
@@ -106,62 +106,31 @@ some_is : (one other : Parameters) → Some one ≡ Some other → one ≡ other
 some_is one other e = cc
 
 module _ (word : List ℕ) (words : List (List ℕ)) (to : Parameters) (go : (from : Parameters) → with_words words (Some from) ≡ Some to → Adds words from to) where
-  add_size : (size : Option ℕ) (body : Option Bool) (n : ℕ) → IsParameter word (Size n) → with_words words (with_given (record { size = size; body = body }) (Some (Size n))) ≡ Some to → Adds (word ∷ words) (record { size = size; body = body }) to
-  add_size (Some m) body n is e = absurd (no_words words to e)
-  add_size None body n is e =
-      let adds = go (record { size = Some n; body = body }) e in
-      record { given = Size n ∷ adds.given; are = one_more word words (Size n) adds.given is adds.are; size_is = adds.size_is; body_is = adds.body_is }
-
-  add_body : (size : Option ℕ) (body : Option Bool) (eight : Bool) → IsParameter word (Body eight) → with_words words (with_given (record { size = size; body = body }) (Some (Body eight))) ≡ Some to → Adds (word ∷ words) (record { size = size; body = body }) to
-  add_body size (Some other) eight is e = absurd (no_words words to e)
-  add_body size None eight is e =
-      let adds = go (record { size = size; body = Some eight }) e in
-      record { given = Body eight ∷ adds.given; are = one_more word words (Body eight) adds.given is adds.are; size_is = adds.size_is; body_is = adds.body_is }
-
   add_given : (from : Parameters) (o : Option Given) → given_by word ≡ o → with_words words (with_given from o) ≡ Some to → Adds (word ∷ words) from to
   add_given from None is e = absurd (no_words words to e)
-  add_given from (Some (Size n)) is e = add_size from.size from.body n (given_read word (Size n) is) e
-  add_given from (Some (Body eight)) is e = add_body from.size from.body eight (given_read word (Body eight) is) e
+  add_given from (Some (Size n)) is e =
+      let adds = go (record from { size = Some n }) e in
+      record { given = Size n ∷ adds.given; are = one_more word words (Size n) adds.given (given_read word (Size n) is) adds.are; size_is = adds.size_is; body_is = adds.body_is }
+  add_given from (Some (Body eight)) is e =
+      let adds = go (record from { body = Some eight }) e in
+      record { given = Body eight ∷ adds.given; are = one_more word words (Body eight) adds.given (given_read word (Body eight) is) adds.are; size_is = adds.size_is; body_is = adds.body_is }
 
 words_read : (words : List (List ℕ)) (from to : Parameters) → with_words words (Some from) ≡ Some to → Adds words from to
 words_read [] from to e =
     let same = some_is from to e in
-    record { given = []; are = no_more; size_is = append-nil (listed from.size) ∙ ap (λ p. listed p.size) same; body_is = append-nil (listed from.body) ∙ ap (λ p. listed p.body) same }
+    record { given = []; are = no_more; size_is = ap (λ p. p.size) same; body_is = ap (λ p. p.body) same }
 words_read (word ∷ words) from to e = add_given word words to (λ before. words_read words before to) from (given_by word) refl e
 
-listed_is : {A : Type 0} (one other : Option A) → listed one ≡ listed other → one ≡ other
-listed_is None None e = refl
-listed_is None (Some y) e = absurd (cc)
-listed_is (Some x) None e = absurd (cc)
-listed_is (Some x) (Some y) e = cc
-
-two_listed : {A : Type 0} (x y : A) (later : List A) (o : Option A) → x ∷ (y ∷ later) ≡ listed o → ⊥
-two_listed x y later None e = cc
-two_listed x y later (Some z) e = cc
-
 module _ (word : List ℕ) (words : List (List ℕ)) (to : Parameters) (later : List Given)
-    (go : (from : Parameters) → listed from.size ++ sizes_in later ≡ listed to.size → listed from.body ++ bodies_in later ≡ listed to.body → with_words words (Some from) ≡ Some to) where
-  put_size : (size : Option ℕ) (body : Option Bool) (n : ℕ) → listed size ++ (n ∷ sizes_in later) ≡ listed to.size → listed body ++ bodies_in later ≡ listed to.body
-      → with_words words (with_given (record { size = size; body = body }) (Some (Size n))) ≡ Some to
-  put_size (Some m) body n sizes bodies = absurd (two_listed m n (sizes_in later) to.size sizes)
-  put_size None body n sizes bodies = go (record { size = Some n; body = body }) sizes bodies
-
-  put_body : (size : Option ℕ) (body : Option Bool) (eight : Bool) → listed size ++ sizes_in later ≡ listed to.size → listed body ++ (eight ∷ bodies_in later) ≡ listed to.body
-      → with_words words (with_given (record { size = size; body = body }) (Some (Body eight))) ≡ Some to
-  put_body size (Some other) eight sizes bodies = absurd (two_listed other eight (bodies_in later) to.body bodies)
-  put_body size None eight sizes bodies = go (record { size = size; body = Some eight }) sizes bodies
-
-  put_given : (from : Parameters) (given : Given) → listed from.size ++ sizes_in (given ∷ later) ≡ listed to.size → listed from.body ++ bodies_in (given ∷ later) ≡ listed to.body
+    (go : (from : Parameters) → last_or from.size (sizes_in later) ≡ to.size → last_or from.body (bodies_in later) ≡ to.body → with_words words (Some from) ≡ Some to) where
+  put_given : (from : Parameters) (given : Given) → last_or from.size (sizes_in (given ∷ later)) ≡ to.size → last_or from.body (bodies_in (given ∷ later)) ≡ to.body
       → with_words words (with_given from (Some given)) ≡ Some to
-  put_given from (Size n) sizes bodies = put_size from.size from.body n sizes bodies
-  put_given from (Body eight) sizes bodies = put_body from.size from.body eight sizes bodies
+  put_given from (Size n) sizes bodies = go (record from { size = Some n }) sizes bodies
+  put_given from (Body eight) sizes bodies = go (record from { body = Some eight }) sizes bodies
 
-words_found : (words : List (List ℕ)) (given : List Given) (from to : Parameters) → AreParameters words given → listed from.size ++ sizes_in given ≡ listed to.size → listed from.body ++ bodies_in given ≡ listed to.body
+words_found : (words : List (List ℕ)) (given : List Given) (from to : Parameters) → AreParameters words given → last_or from.size (sizes_in given) ≡ to.size → last_or from.body (bodies_in given) ≡ to.body
     → with_words words (Some from) ≡ Some to
-words_found _ _ from to no_more sizes bodies =
-    let size = listed_is from.size to.size (sym (append-nil (listed from.size)) ∙ sizes) in
-    let body = listed_is from.body to.body (sym (append-nil (listed from.body)) ∙ bodies) in
-    λ i. Some (record { size = size i; body = body i })
+words_found _ _ from to no_more sizes bodies = λ i. Some (record { size = sizes i; body = bodies i })
 words_found _ _ from to (one_more word words given later is are) sizes bodies =
     ap (λ o. with_words words (with_given from o)) (given_found word given is)
     ∙ put_given word words to later (λ before one two. words_found words later before to are one two) from given sizes bodies

@@ -1,5 +1,5 @@
 -- The parameters of MAIL (RFC 5321, section 4.1.1.11; RFC 1870, section 3, for SIZE; RFC 6152,
--- section 2, for BODY; that each comes once at most is our own).
+-- section 2, for BODY; that the last of two counts is our own).
 use Rattle.std.specs.Prelude.{◌≡◌, ◌≤◌, ◌<◌, ℕ, Bool, true, false, List, [], ◌∷◌, ◌++◌, length, Option, Some, None, unwrap_or, filter, codes, refl}
 use Rattle.std.specs.List.{list_all, slice_split}
 use Rattle.std.specs.Char.{is_ascii_digit}
@@ -51,19 +51,21 @@ bodies_in [] = []
 bodies_in (Size size ∷ later) = bodies_in later
 bodies_in (Body eight ∷ later) = eight ∷ bodies_in later
 
-abbrev pub listed : {A : Type 0} → Option A → List A
-listed None = []
-listed (Some x) = x ∷ []
+-- the last item, or the other where there is none
+abbrev pub last_or : {A : Type 0} → Option A → List A → Option A
+last_or other [] = other
+last_or other (x ∷ later) = last_or (Some x) later
 
--- the words of a text are parameters, each once at most, which give this size, if one, and whether
--- the body has 8 bits
+-- the words of a text are parameters, of which the last give this size, if any gives one, and
+-- whether the body has 8 bits
 pub record AreGiven (text : List ℕ) (size : Option ℕ) (eight : Bool) : Type 0 where
   pub given : List Given
   pub body : Option Bool
   pub are : AreParameters (words_of text) given
-  pub size_is : sizes_in given ≡ listed size
-  pub body_is : bodies_in given ≡ listed body
+  pub size_is : last_or None (sizes_in given) ≡ size
+  pub body_is : last_or None (bodies_in given) ≡ body
   pub eight_is : eight ≡ unwrap_or body false
 
-example : words_of (codes " SIZE=5  BODY=7BIT ") ≡ codes "SIZE=5" ∷ codes "BODY=7BIT" ∷ []
-example = refl
+example : (words_of (codes " SIZE=5  BODY=7BIT ") ≡ codes "SIZE=5" ∷ codes "BODY=7BIT" ∷ [])
+    × (last_or None (sizes_in (Size 5 ∷ Body true ∷ Size 7 ∷ [])) ≡ Some 7)
+example = (refl, refl)

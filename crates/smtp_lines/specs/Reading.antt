@@ -1,6 +1,6 @@
 -- How a command line is computed, by which the requests of a session go. The contract of `command`
 -- is by the grammar of Commands; the law `one_command` says that the two are one.
-use Rattle.std.specs.Prelude.{ℕ, ◌+◌, ◌==◌, nat_lt, ◌||◌, Bool, true, false, not, ◌&&◌, List, [], ◌∷◌, length, take, drop, Option, Some, None, Result, Ok, Err, unwrap_or, option_and_then, is_some, nat_le, if◌then◌else◌, codes}
+use Rattle.std.specs.Prelude.{ℕ, ◌+◌, ◌==◌, nat_lt, ◌||◌, Bool, true, false, not, ◌&&◌, List, [], ◌∷◌, length, take, drop, Option, Some, None, Result, Ok, Err, unwrap_or, option_and_then, nat_le, if◌then◌else◌, codes}
 use Rattle.std.specs.List.{list_any, list_all, position_or_len}
 use Rattle.std.specs.Char.{is_ascii_digit}
 use Rattle.std.specs.Str.{str_eq_ignore_ascii_case}
@@ -91,13 +91,11 @@ given_by word =
     then as_size (size_of (drop 5 word))
     else None
 
--- with one parameter more, where none of its kind came before
+-- with one parameter more, which counts in place of an earlier one of its kind
 abbrev pub with_given : Parameters → Option Given → Option Parameters
 with_given earlier None = None
-with_given earlier (Some (Size size)) =
-    if is_some earlier.size then None else Some (record earlier { size = Some size })
-with_given earlier (Some (Body eight)) =
-    if is_some earlier.body then None else Some (record earlier { body = Some eight })
+with_given earlier (Some (Size size)) = Some (record earlier { size = Some size })
+with_given earlier (Some (Body eight)) = Some (record earlier { body = Some eight })
 
 -- with those of some words
 abbrev pub with_words : List (List ℕ) → Option Parameters → Option Parameters

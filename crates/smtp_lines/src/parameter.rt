@@ -1,4 +1,4 @@
-ghost use Rattle.std.specs.Prelude.{◌≡◌, Some};
+ghost use Rattle.std.specs.Prelude.{◌≡◌};
 ghost use Rattle.smtp_lines.specs.Reading as reading;
 
 use crate::digits::{are_digits, value_of};
@@ -16,14 +16,14 @@ pub(crate) enum Given {
     Body(bool),
 }
 
-/// What the parameters of MAIL give, each once at most.
+/// What the parameters of MAIL give, of each kind the last.
 #[derive(Clone, Copy)]
 pub(crate) struct Parameters {
     pub(crate) size: Option<u128>,
     pub(crate) body: Option<bool>,
 }
 
-/// The parameters that a text has between blanks, or `None` where a word is none or comes twice.
+/// The parameters that a text has between blanks, or `None` where a word is none.
 pub(crate) fn parameters_of(text: &[u8]) -> Option<Parameters>
     ensures { result ≡ reading.parameters_of text.now }
 {
@@ -48,29 +48,15 @@ fn with_given(earlier: Parameters, given: Option<Given>) -> Option<Parameters>
 {
     match given {
         None => None,
-        Some(Given::Size(size)) => with_size(earlier, size),
-        Some(Given::Body(eight)) => with_body(earlier, eight),
+        Some(Given::Size(size)) => Some(Parameters {
+            size: Some(size),
+            ..earlier
+        }),
+        Some(Given::Body(eight)) => Some(Parameters {
+            body: Some(eight),
+            ..earlier
+        }),
     }
-}
-
-fn with_size(earlier: Parameters, size: u128) -> Option<Parameters>
-    ensures { result ≡ reading.with_given earlier (Some (Given.Size size)) }
-{
-    if earlier.size.is_some() {
-        return None;
-    }
-    let size = Some(size);
-    Some(Parameters { size, ..earlier })
-}
-
-fn with_body(earlier: Parameters, eight: bool) -> Option<Parameters>
-    ensures { result ≡ reading.with_given earlier (Some (Given.Body eight)) }
-{
-    if earlier.body.is_some() {
-        return None;
-    }
-    let body = Some(eight);
-    Some(Parameters { body, ..earlier })
 }
 
 fn given_by(word: &[u8]) -> Option<Given>

@@ -2,8 +2,7 @@
 use Rattle.std.proofs.Common.{◌≡◌, ℕ, List, [], ◌∷◌, ◌++◌, Some, None, reverse, fold, refl, sym, ap, ◌∙◌, append_assoc}
 use Rattle.std.proofs.lemmas.List.{append-nil, reverse-append, reverse-reverse}
 use Rattle.mail_base.specs.declared.config.Config.{Config}
-use Rattle.smtp_lines.specs.Parameters.{listed}
-use Rattle.smtp_receive.specs.Dialogue.{Answer, Says, Refuses, Greets, Extends, Grants, Closes, Gives, Takes, Exchange, Heard, dialogue, did_of, exchange_of, exchanges, replies_from, replies_to, reply_by, reply_heard, with_heard}
+use Rattle.smtp_receive.specs.Dialogue.{listed, Answer, Says, Refuses, Greets, Extends, Grants, Closes, Gives, Takes, Exchange, Heard, dialogue, did_of, exchange_of, exchanges, replies_from, replies_to, reply_by, reply_heard, with_heard}
 use Rattle.smtp_receive.specs.Finals.{text_told}
 use Rattle.smtp_receive.proofs.KeepLemmas.{heard_more}
 

@@ -17,7 +17,6 @@ use Rattle.mail_header.specs.Fields.{class_in, hops_of}
 use Rattle.mail_header.specs.Gatherings.{is_above}
 use Rattle.mail_header.specs.Lines.{headers_of, body_of, block_of, size_of}
 use Rattle.smtp_lines.specs.Commands.{Order, Greet, Extend, From, To, Begin, Reset, Wait, End, Verify, Expand, Explain}
-use Rattle.smtp_lines.specs.Parameters.{listed}
 use Rattle.smtp_lines.specs.Reading.{is_nothing, order_of}
 use Rattle.smtp_lines.specs.declared.line.Line.{Line}
 use Rattle.smtp_lines.specs.declared.line.Line.TheVariants.{Command, TooLong, Data as DataLine, DataEnd}
@@ -106,6 +105,11 @@ transaction (e ∷ before) = if ends e then [] else e ∷ transaction before
 abbrev pub or_else : {A : Type 0} → Option A → Option A → Option A
 or_else (Some told) earlier = Some told
 or_else None earlier = earlier
+
+-- one item or none, as a list
+abbrev pub listed : {A : Type 0} → Option A → List A
+listed None = []
+listed (Some x) = x ∷ []
 
 abbrev pub path_in : Option Order → Option (List ℕ)
 path_in (Some (From path size eight)) = Some (bracketed path)

@@ -6,11 +6,11 @@ use Rattle.mail_base.specs.Drawing.{AreRows}
 use Rattle.mail_base.specs.Refusals.{IsRefusal}
 use Rattle.mail_base.specs.declared.draw.Draw.{Draw}
 use Rattle.mail_base.specs.declared.fault.JudgeFault.{JudgeFault}
-use Rattle.mail_base.specs.declared.fault.JudgeFault.TheVariants.{FilesFault, NoMemory}
 use Rattle.mail_base.specs.declared.message.Kept.{Kept}
 use Rattle.mail_base.specs.declared.route.RouteError.{RouteError}
 use Rattle.smtp_receive.specs.declared.judge.Verdict.{Verdict}
 use Rattle.smtp_receive.specs.declared.judge.Verdict.TheVariants.{Rows, No}
+pub use Rattle.mail_base.specs.Answering.{is_calm}
 
 -- what a judge is asked: of a sender, and of a recipient with the sender; paths have their angles,
 -- and with each stand the macros that are kept of the session
@@ -70,12 +70,6 @@ IsSaid seen Test (Some question) said = Answers seen Test question said
 abbrev pub as_said : {A : Type 0} → (A → Said) → Result A JudgeFault → Result Said JudgeFault
 as_said said_by (Ok answer) = Ok (said_by answer)
 as_said said_by (Err fault) = Err fault
-
--- whether a result is no fault of files
-abbrev pub is_calm : {A : Type 0} → Result A JudgeFault → Bool
-is_calm (Ok answer) = true
-is_calm (Err NoMemory) = true
-is_calm (Err FilesFault) = false
 
 -- neither whether a judge tells its answers has changed, nor what they are
 pub record IsSteady (before now : Answerer) (Before Now : Question → Said → Type 0) : Type 0 where

@@ -140,7 +140,7 @@ waiting_by dirs f g names found done hf gone swept s c live qf = ⊎_elim
 
 owned : (dirs : List (List ℕ)) (f g : FileMap) (id : ℕ) (x : Named) → IsTidied dirs f g → x.id ≡ id → IsWanted dirs f x → ((s : Spot) × (s.id ≡ id) × IsStrange dirs g s) ⊎ ((s : Spot) × (c : Control) × (s.id ≡ id) × IsLive dirs g s c × NeedsBody c)
 owned dirs f g id x tidied i (by_strange s e k) = inl (s, e ∙ i, tidied_strange dirs f g tidied s k)
-owned dirs f g id x tidied i (by_live s c d e live needs) = let t = live_goes dirs f g tidied s c live in inr (t.0, c, went_id t.1 ∙ e ∙ i, tidied_live dirs f g tidied s t.0 c t.1 live, needs)
+owned dirs f g id x tidied i (by_live s c e live needs) = let t = live_goes dirs f g tidied s c live in inr (t.0, c, went_id t.1 ∙ e ∙ i, tidied_live dirs f g tidied s t.0 c t.1 live, needs)
 
 body_kept : (dirs : List (List ℕ)) (f g : FileMap) (dir : List ℕ) (id : ℕ) (b : List ℕ) → bytes_at g (at dir Df id) ≡ Some b → IsTidiedBody dirs f g dir id → bytes_at f (at dir Df id) ≡ Some b
 body_kept dirs f g dir id b there (IsTidiedBody.stays e) = sym e ∙ there
@@ -265,23 +265,21 @@ none_strange dirs f s t b there plain k i = ⊎_elim
 pub unwanted_dead : (dirs : List (List ℕ)) (f : FileMap) (s : Spot) (x : Named) → IsDead dirs f s → s.id ≡ x.id → IsUnwanted dirs f x
 unwanted_dead dirs f s x dead i = record {
   strange = λ t k st. none_strange dirs f s t dead.bytes dead.there dead.plain st (k ∙ sym i);
-  live = λ t c d k live needs. not_of_live dirs f s t c dead live (k ∙ sym i);
+  live = λ t c k live needs. not_of_live dirs f s t c dead live (k ∙ sym i);
 }
 
--- a body that its live control file doesn't need there is unwanted
-pub unwanted_live : (dirs : List (List ℕ)) (f : FileMap) (s : Spot) (c : Control) (x : Named) → IsLive dirs f s c → s.id ≡ x.id → (s.dir ≡ dir_at dirs x.dir → NeedsBody c → ⊥) → IsUnwanted dirs f x
+-- a body that its live control file doesn't need is unwanted
+pub unwanted_live : (dirs : List (List ℕ)) (f : FileMap) (s : Spot) (c : Control) (x : Named) → IsLive dirs f s c → s.id ≡ x.id → (NeedsBody c → ⊥) → IsUnwanted dirs f x
 unwanted_live dirs f s c x live i unless = record {
   strange = λ t k st. none_strange dirs f s t (live_read live).bytes (live_read live).there (live_plain live) st (k ∙ sym i);
-  live = λ t e d k other needs.
-      let one = one_live dirs f s t c e live other (k ∙ sym i) in
-      unless (ap (λ (w : Spot). w.dir) (sym one.0) ∙ d) (subst NeedsBody (sym one.1) needs);
+  live = λ t e k other needs. unless (subst NeedsBody (sym (one_live dirs f s t c e live other (k ∙ sym i)).1) needs);
 }
 
 -- a body of an id without a control file is unwanted
 pub unwanted_none : (dirs : List (List ℕ)) (f : FileMap) (found : List Found) (x : Named) → AreFound dirs f found → ((y : Found) → Contains found y → y.named.id ≢ x.id) → IsUnwanted dirs f x
 unwanted_none dirs f found x h none = record {
   strange = λ t k st. let y = h.all t (strange_control st).0 (strange_control st).1 in none y.0 y.1 (ap (λ (w : Spot). w.id) y.2 ∙ k);
-  live = λ t c d k live needs. let y = h.all t (live_read live).bytes (live_read live).there in none y.0 y.1 (ap (λ (w : Spot). w.id) y.2 ∙ k);
+  live = λ t c k live needs. let y = h.all t (live_read live).bytes (live_read live).there in none y.0 y.1 (ap (λ (w : Spot). w.id) y.2 ∙ k);
 }
 
 -- drafts that are picked of names lie in the same directories

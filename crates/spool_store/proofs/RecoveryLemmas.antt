@@ -8,6 +8,7 @@ use Rattle.spool_disk.specs.Spooled.{Spooled, Reads}
 use Rattle.spool_store.specs.Moves.{Moves, Becomes, Ends}
 use Rattle.spool_store.specs.Entries.{Table}
 use Rattle.spool_store.specs.Settled.{StandsFor}
+use Rattle.spool_store.specs.Stores.{KeepsOthers}
 use Rattle.spool_store.specs.Tidying.{IsTidied, IsSwept, IsClean}
 use Rattle.spool_store.specs.declared.named.Named.{Named}
 use Rattle.spool_store.specs.declared.named.Found.{Found}
@@ -20,7 +21,8 @@ use Rattle.spool_store.specs.declared.verdict.Verdict.{Verdict}
 use Rattle.spool_store.specs.inner.Plans.{Stays, its_name}
 use Rattle.spool_store.specs.inner.Sweeps.{IsSweptOf, Never}
 use Rattle.spool_store.proofs.Finding.{none_in}
-use Rattle.spool_store.proofs.MovesLemmas.{becomes_to, moves_told}
+use Rattle.spool_store.proofs.Keeping.{tidied_keeps}
+use Rattle.spool_store.proofs.MovesLemmas.{becomes_to, moves_told, moves_weaker}
 use Rattle.spool_store.proofs.Readings.{read_found}
 use Rattle.spool_store.proofs.SweepLemmas.{moves_read}
 use Rattle.spool_store.proofs.Sweeping.{tidied_none, swept_clean}
@@ -65,6 +67,12 @@ stands_moves a b dirs table steps h = moves_told a b (StandsFor dirs table) (Sta
   images = λ d i q t x le left. ⊎_elim (λ before. inl before) (λ (r : IsTidied dirs f x). inr (tidied_stands dirs table f x r p)) ((h f e).images d i q t x le left);
   kept = steps.kept;
 })
+
+-- each map that it may leave has each file that no call touches
+pub frame_moves : (a b : Spooled) (dirs : List (List ℕ)) → Moves a b Never Never Never → ((f : FileMap) → a.told ≡ Some f → Moves a b (λ g. g ≡ f) (IsTidied dirs f) (IsTidied dirs f)) → (f : FileMap) → Moves a b (λ g. g ≡ f) (KeepsOthers dirs f) (KeepsOthers dirs f)
+frame_moves a b dirs steps h f = moves_told a b (λ g. g ≡ f) (KeepsOthers dirs f) (KeepsOthers dirs f) Never Never Never steps (λ d e q.
+    let keeps = λ (x : FileMap) (t : IsTidied dirs d x). subst (λ (p : FileMap). KeepsOthers dirs p x) q (tidied_keeps dirs d x t) in
+    moves_weaker a b (λ g. g ≡ d) (IsTidied dirs d) (IsTidied dirs d) (KeepsOthers dirs f) (KeepsOthers dirs f) keeps keeps (h d e))
 
 -- the map that is left is clean
 pub clean_at : (a b : Option FileMap) (dirs : List (List ℕ)) → Becomes a b Never Never → ((f : FileMap) → a ≡ Some f → Becomes a b (λ g. g ≡ f) (IsSwept dirs)) → IfSome b (IsClean dirs)

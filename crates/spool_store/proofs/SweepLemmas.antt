@@ -24,7 +24,7 @@ use Rattle.spool_store.specs.inner.Sweeps.{Counts, Never, IsSweptOf, IsDecided, 
 use Rattle.spool_store.proofs.Reading.{one_control}
 use Rattle.spool_store.proofs.Replacing.{place_or}
 use Rattle.spool_store.proofs.Carrying.{live_read}
-use Rattle.spool_store.proofs.Tidying.{Went, stayed, went, origin, read_back, went_id, went_dir}
+use Rattle.spool_store.proofs.Tidying.{Went, stayed, went, origin, read_back, went_id}
 use Rattle.spool_store.proofs.Sweeping.{tidied_unchanged, drop_draft, drop_body, drop_control, move_live}
 use Rattle.spool_store.proofs.Finding.{none_in}
 use Rattle.spool_store.proofs.Places.{kinds_of}
@@ -111,15 +111,15 @@ gone_dead dirs f g o s b (went _ m) dead none there = dead.lost m.control m.live
 -- what is read in a tidied map was dead in the map that was found, or is live there, or strange
 wants_none : (dirs : List (List ℕ)) (f g : FileMap) (done : List Place) (x : Named) → IsTidied dirs f g → ((q : Place) → Contains done q → bytes_at g q ≡ None) → ((s : Spot) → IsDead dirs f s → Contains done (spot_place s)) → IsUnwanted dirs f x
     → IsDecided dirs f
-    → (s : Spot) (c : Control) → s.dir ≡ dir_at dirs x.dir → s.id ≡ x.id → IsRead dirs g s c → NeedsBody c → ⊥
-wants_none dirs f g done x tidied gone dead unwanted decided s c d i read needs =
+    → (s : Spot) (c : Control) → s.id ≡ x.id → IsRead dirs g s c → NeedsBody c → ⊥
+wants_none dirs f g done x tidied gone dead unwanted decided s c i read needs =
     let o = origin dirs f g tidied s read.bytes read.there in
     let was = read_back o.1 c read in
     ⊎_elim
     (λ (k : IsStrange dirs f o.0). unwanted.strange o.0 (sym (went_id o.1) ∙ i) k)
     (λ (rest : IsDead dirs f o.0 ⊎ ((e : Control) × IsLive dirs f o.0 e)). ⊎_elim
     (λ (k : IsDead dirs f o.0). gone_dead dirs f g o.0 s read.bytes o.1 k (gone (spot_place o.0) (dead o.0 k)) read.there)
-    (λ (k : (e : Control) × IsLive dirs f o.0 e). unwanted.live o.0 k.0 (sym (went_dir o.1) ∙ d) (sym (went_id o.1) ∙ i) k.1 (subst NeedsBody (one_control dirs f o.0 c k.0 was (live_read k.1)) needs))
+    (λ (k : (e : Control) × IsLive dirs f o.0 e). unwanted.live o.0 k.0 (sym (went_id o.1) ∙ i) k.1 (subst NeedsBody (one_control dirs f o.0 c k.0 was (live_read k.1)) needs))
     rest)
     (decided.verdict o.0 was.bytes was.there)
 

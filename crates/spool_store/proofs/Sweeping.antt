@@ -33,17 +33,17 @@ spot_same dirs f g h s same spot (came sf m) =
     let its = (live_read m.live).there.spot in
     came sf (record { kind = m.kind; control = m.control; live = m.live; closed = m.closed; gone = same (as_kind Qf s) its ∙ m.gone; holds = same (as_kind Sf s) (record { among = its.among; kind = inr refl; within = its.within }) ∙ m.holds })
 
-body_same : (dirs : List (List ℕ)) (f g h : FileMap) (dir : List ℕ) (id : ℕ) → bytes_at h (at dir Df id) ≡ bytes_at g (at dir Df id) → ((t : Spot) (b : List ℕ) → t.dir ≡ dir → t.id ≡ id → IsControl dirs h t b → (s : Spot) × IsControl dirs g s b × (s.dir ≡ dir) × (s.id ≡ id)) → IsTidiedBody dirs f g dir id → IsTidiedBody dirs f h dir id
+body_same : (dirs : List (List ℕ)) (f g h : FileMap) (dir : List ℕ) (id : ℕ) → bytes_at h (at dir Df id) ≡ bytes_at g (at dir Df id) → ((t : Spot) (b : List ℕ) → t.id ≡ id → IsControl dirs h t b → (s : Spot) × IsControl dirs g s b × (s.id ≡ id)) → IsTidiedBody dirs f g dir id → IsTidiedBody dirs f h dir id
 body_same dirs f g h dir id same back (IsTidiedBody.stays e) = IsTidiedBody.stays (same ∙ e)
-body_same dirs f g h dir id same back (IsTidiedBody.gone e strange wanted) = IsTidiedBody.gone (same ∙ e) strange (λ t c d i read needs.
-    let was = back t read.bytes d i read.there in
-    wanted was.0 c was.2 was.3 (record { bytes = read.bytes; there = was.1; says = read.says }) needs)
+body_same dirs f g h dir id same back (IsTidiedBody.gone e strange wanted) = IsTidiedBody.gone (same ∙ e) strange (λ t c i read needs.
+    let was = back t read.bytes i read.there in
+    wanted was.0 c was.2 (record { bytes = read.bytes; there = was.1; says = read.says }) needs)
 
 -- nothing has changed
 pub tidied_unchanged : (dirs : List (List ℕ)) (f g h : FileMap) → IsSame g h → IsTidied dirs f g → IsTidied dirs f h
 tidied_unchanged dirs f g h same tidied = record {
   controls = λ s spot. spot_same dirs f g h s (λ t q. same (spot_place t)) spot (tidied.controls s spot);
-  bodies = λ d i m w. body_same dirs f g h d i (same (at d Df i)) (λ t b p q there. (t, record { spot = there.spot; there = sym (same (spot_place t)) ∙ there.there }, p, q)) (tidied.bodies d i m w);
+  bodies = λ d i m w. body_same dirs f g h d i (same (at d Df i)) (λ t b q there. (t, record { spot = there.spot; there = sym (same (spot_place t)) ∙ there.there }, q)) (tidied.bodies d i m w);
   drafts = λ d i m w. ⊎_elim (λ (e : bytes_at g (at d Tf i) ≡ bytes_at f (at d Tf i)). inl (same (at d Tf i) ∙ e)) (λ (e : bytes_at g (at d Tf i) ≡ None). inr (same (at d Tf i) ∙ e)) (tidied.drafts d i m w);
   others = λ place foreign. same place ∙ tidied.others place foreign;
 }
@@ -54,7 +54,7 @@ drop_draft dirs f g h dir id among within tidied r =
     let same = λ (t : Spot) (spot : IsSpot dirs t). r.others (spot_place t) (λ e. (not_kind t.kind spot.kind).1 (kinds_of t.dir dir t.kind Tf t.id id e)) in
     record {
       controls = λ s spot. spot_same dirs f g h s same spot (tidied.controls s spot);
-      bodies = λ d i m w. body_same dirs f g h d i (r.others (at d Df i) (λ e. let z : Df ≡ Tf = kinds_of d dir Df Tf i id e in cc z)) (λ t b p q there. (t, record { spot = there.spot; there = sym (same t there.spot) ∙ there.there }, p, q)) (tidied.bodies d i m w);
+      bodies = λ d i m w. body_same dirs f g h d i (r.others (at d Df i) (λ e. let z : Df ≡ Tf = kinds_of d dir Df Tf i id e in cc z)) (λ t b q there. (t, record { spot = there.spot; there = sym (same t there.spot) ∙ there.there }, q)) (tidied.bodies d i m w);
       drafts = λ d i m w. ⊎_elim
           (λ (e : at d Tf i ≡ at dir Tf id). inr (ap (bytes_at h) e ∙ r.gone))
           (λ (ne : at d Tf i ≢ at dir Tf id). ⊎_elim (λ (k : bytes_at g (at d Tf i) ≡ bytes_at f (at d Tf i)). inl (r.others (at d Tf i) ne ∙ k)) (λ (k : bytes_at g (at d Tf i) ≡ None). inr (r.others (at d Tf i) ne ∙ k)) (tidied.drafts d i m w))
@@ -63,7 +63,7 @@ drop_draft dirs f g h dir id among within tidied r =
     }
 
 -- a body goes that no strange file's id has, and that no control file which is still there wants
-pub drop_body : (dirs : List (List ℕ)) (f g h : FileMap) (dir : List ℕ) (id : ℕ) → Contains dirs dir → IsId id → ((s : Spot) → s.id ≡ id → IsStrange dirs f s → ⊥) → ((s : Spot) (c : Control) → s.dir ≡ dir → s.id ≡ id → IsRead dirs g s c → NeedsBody c → ⊥) → IsTidied dirs f g → HasRemoved (at dir Df id) g h → IsTidied dirs f h
+pub drop_body : (dirs : List (List ℕ)) (f g h : FileMap) (dir : List ℕ) (id : ℕ) → Contains dirs dir → IsId id → ((s : Spot) → s.id ≡ id → IsStrange dirs f s → ⊥) → ((s : Spot) (c : Control) → s.id ≡ id → IsRead dirs g s c → NeedsBody c → ⊥) → IsTidied dirs f g → HasRemoved (at dir Df id) g h → IsTidied dirs f h
 drop_body dirs f g h dir id among within strange wanted tidied r =
     let same = λ (t : Spot) (spot : IsSpot dirs t). r.others (spot_place t) (λ e. (not_kind t.kind spot.kind).0 (kinds_of t.dir dir t.kind Df t.id id e)) in
     let back = λ (t : Spot) (b : List ℕ) (there : IsControl dirs h t b). let was : IsControl dirs g t b = record { spot = there.spot; there = sym (same t there.spot) ∙ there.there } in was in
@@ -72,9 +72,8 @@ drop_body dirs f g h dir id among within strange wanted tidied r =
       bodies = λ d i m w. ⊎_elim
           (λ (e : at d Df i ≡ at dir Df id).
           let j : i ≡ id = ids_of d dir Df Df i id w within e in
-          let p : d ≡ dir = ap (λ (q : Place). q.0) e in
-          IsTidiedBody.gone (ap (bytes_at h) e ∙ r.gone) (λ s k. strange s (k ∙ j)) (λ s c q k read needs. wanted s c (q ∙ p) (k ∙ j) (record { bytes = read.bytes; there = back s read.bytes read.there; says = read.says }) needs))
-          (λ (ne : at d Df i ≢ at dir Df id). body_same dirs f g h d i (r.others (at d Df i) ne) (λ t b p q there. (t, back t b there, p, q)) (tidied.bodies d i m w))
+          IsTidiedBody.gone (ap (bytes_at h) e ∙ r.gone) (λ s k. strange s (k ∙ j)) (λ s c k read needs. wanted s c (k ∙ j) (record { bytes = read.bytes; there = back s read.bytes read.there; says = read.says }) needs))
+          (λ (ne : at d Df i ≢ at dir Df id). body_same dirs f g h d i (r.others (at d Df i) ne) (λ t b q there. (t, back t b there, q)) (tidied.bodies d i m w))
           (place_or (at d Df i) (at dir Df id));
       drafts = λ d i m w. let k = r.others (at d Tf i) (λ e. let z : Tf ≡ Df = kinds_of d dir Tf Df i id e in cc z) in ⊎_elim (λ (e : bytes_at g (at d Tf i) ≡ bytes_at f (at d Tf i)). inl (k ∙ e)) (λ (e : bytes_at g (at d Tf i) ≡ None). inr (k ∙ e)) (tidied.drafts d i m w);
       others = λ place foreign. r.others place (foreign dir Df id among within) ∙ tidied.others place foreign;
@@ -127,7 +126,7 @@ drop_control dirs f g h s dead tidied r =
           (λ (e : t ≡ s). gone (ap (λ (w : Spot). bytes_at h (spot_place w)) e ∙ r.gone) (subst (IsDead dirs f) (sym e) dead))
           (λ (ne : t ≢ s). drop_at dirs f g h s dead r t spot ne (tidied.controls t spot))
           (spot_or dirs t s);
-      bodies = λ d i m w. body_same dirs f g h d i (r.others (at d Df i) (λ e. (not_kind s.kind its.kind).0 (sym (kinds_of d s.dir Df s.kind i s.id e)))) (λ t b p q there. (t, still_there dirs g h s its r t b there, p, q)) (tidied.bodies d i m w);
+      bodies = λ d i m w. body_same dirs f g h d i (r.others (at d Df i) (λ e. (not_kind s.kind its.kind).0 (sym (kinds_of d s.dir Df s.kind i s.id e)))) (λ t b q there. (t, still_there dirs g h s its r t b there, q)) (tidied.bodies d i m w);
       drafts = λ d i m w. let k = r.others (at d Tf i) (λ e. (not_kind s.kind its.kind).1 (sym (kinds_of d s.dir Tf s.kind i s.id e))) in ⊎_elim (λ (e : bytes_at g (at d Tf i) ≡ bytes_at f (at d Tf i)). inl (k ∙ e)) (λ (e : bytes_at g (at d Tf i) ≡ None). inr (k ∙ e)) (tidied.drafts d i m w);
       others = λ place foreign. r.others place (foreign s.dir s.kind s.id its.among its.within) ∙ tidied.others place foreign;
     }
@@ -175,12 +174,12 @@ move_at dirs f g h s c m t spot ne nor (came sf n) =
       holds = elsewhere dirs f g h s c m (as_kind Sf t) (sf_spot dirs t spot) (λ e. qf_sf (sym m.kind ∙ ap (λ (w : Spot). w.kind) (sym e))) (λ e. nor (λ j. record { dir = (e j).dir; kind = sf j; id = (e j).id })) ∙ n.holds;
     })
 
-move_back : (dirs : List (List ℕ)) (f g h : FileMap) (s : Spot) (c : Control) → IsMove dirs f g h s c → (t : Spot) (b : List ℕ) → IsControl dirs h t b → (r : Spot) × IsControl dirs g r b × (r.dir ≡ t.dir) × (r.id ≡ t.id)
+move_back : (dirs : List (List ℕ)) (f g h : FileMap) (s : Spot) (c : Control) → IsMove dirs f g h s c → (t : Spot) (b : List ℕ) → IsControl dirs h t b → (r : Spot) × IsControl dirs g r b × (r.id ≡ t.id)
 move_back dirs f g h s c m t b there = ⊎_elim
     (λ (e : t ≡ s). absurd (let z : Some b ≡ None = sym there.there ∙ ap (λ (w : Spot). bytes_at h (spot_place w)) e ∙ m.renamed.gone in cc z))
     (λ (ne : t ≢ s). ⊎_elim
-    (λ (e : t ≡ as_kind Sf s). (s, record { spot = m.there.spot; there = sym m.renamed.holds ∙ ap (λ (w : Spot). bytes_at h (spot_place w)) (sym e) ∙ there.there }, ap (λ (w : Spot). w.dir) (sym e), ap (λ (w : Spot). w.id) (sym e)))
-    (λ (nor : t ≢ as_kind Sf s). (t, record { spot = there.spot; there = sym (elsewhere dirs f g h s c m t there.spot ne nor) ∙ there.there }, refl, refl))
+    (λ (e : t ≡ as_kind Sf s). (s, record { spot = m.there.spot; there = sym m.renamed.holds ∙ ap (λ (w : Spot). bytes_at h (spot_place w)) (sym e) ∙ there.there }, ap (λ (w : Spot). w.id) (sym e)))
+    (λ (nor : t ≢ as_kind Sf s). (t, record { spot = there.spot; there = sym (elsewhere dirs f g h s c m t there.spot ne nor) ∙ there.there }, refl))
     (spot_or dirs t (as_kind Sf s)))
     (spot_or dirs t s)
 
@@ -199,7 +198,7 @@ move_live dirs f g h s c m tidied =
           (λ (nor : t ≢ as_kind Sf s). move_at dirs f g h s c m t spot ne nor (tidied.controls t spot))
           (spot_or dirs t (as_kind Sf s)))
           (spot_or dirs t s);
-      bodies = λ d i n w. body_same dirs f g h d i (away d Df i (not_kind s.kind its.kind).0 (λ z. cc z)) (λ t b p q there. let r = move_back dirs f g h s c m t b there in (r.0, r.1, r.2 ∙ p, r.3 ∙ q)) (tidied.bodies d i n w);
+      bodies = λ d i n w. body_same dirs f g h d i (away d Df i (not_kind s.kind its.kind).0 (λ z. cc z)) (λ t b q there. let r = move_back dirs f g h s c m t b there in (r.0, r.1, r.2 ∙ q)) (tidied.bodies d i n w);
       drafts = λ d i n w. let k = away d Tf i (not_kind s.kind its.kind).1 (λ z. cc z) in ⊎_elim (λ (e : bytes_at g (at d Tf i) ≡ bytes_at f (at d Tf i)). inl (k ∙ e)) (λ (e : bytes_at g (at d Tf i) ≡ None). inr (k ∙ e)) (tidied.drafts d i n w);
       others = λ place foreign. m.renamed.others place (foreign s.dir s.kind s.id its.among its.within) (foreign s.dir Sf s.id its.among its.within) ∙ tidied.others place foreign;
     }
@@ -292,7 +291,7 @@ finish_body dirs f g h s c tidied live none r =
     let its = (live_read live).there.spot in
     drop_body dirs f g h s.dir s.id its.among its.within
     (λ t i k. let there = strange_control k in live_plain live (subst (λ (q : Spot). IsStrange dirs f q) (one_spot dirs f s t c there.0 live there.1 i) k))
-    (λ t d p i read needs.
+    (λ t d i read needs.
     let o = origin dirs f g tidied t read.bytes read.there in
     let was = read_back o.1 d read in
     let q : o.0 ≡ s = one_spot dirs f s o.0 c was.bytes live was.there (sym (went_id o.1) ∙ i) in

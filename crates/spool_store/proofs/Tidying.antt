@@ -120,9 +120,9 @@ pub tidied_strange : (dirs : List (List ℕ)) (f g : FileMap) → IsTidied dirs 
 tidied_strange dirs f g h s k = strange_carries dirs f g (IsStill dirs f) (still_carries dirs f g h) k s (record { same = refl; strange = k })
 
 -- strange ones of the new map
-body_back : (dirs : List (List ℕ)) (f g : FileMap) (t : Spot) (c : Control) (dir : List ℕ) (id : ℕ) → IsTidiedBody dirs f g dir id → t.dir ≡ dir → t.id ≡ id → IsRead dirs g t c → NeedsBody c → bytes_at g (at dir Df id) ≡ bytes_at f (at dir Df id)
-body_back dirs f g t c dir id (stays e) d i read needs = e
-body_back dirs f g t c dir id (gone e strange wanted) d i read needs = absurd (wanted t c d i read needs)
+body_back : (dirs : List (List ℕ)) (f g : FileMap) (t : Spot) (c : Control) (dir : List ℕ) (id : ℕ) → IsTidiedBody dirs f g dir id → t.id ≡ id → IsRead dirs g t c → NeedsBody c → bytes_at g (at dir Df id) ≡ bytes_at f (at dir Df id)
+body_back dirs f g t c dir id (stays e) i read needs = e
+body_back dirs f g t c dir id (gone e strange wanted) i read needs = absurd (wanted t c i read needs)
 
 closed_kind : {dirs : List (List ℕ)} {f g : FileMap} {s t : Spot} → Went dirs f g s t → (c : Control) → IsRead dirs f s c → IsOpen c → t.kind ≡ Sf → s.kind ≡ Sf
 closed_kind (stayed s e) c read rows sf = sf
@@ -150,7 +150,7 @@ came_carries dirs f g h = record {
   twin = λ t s b r there twin. twin_back dirs f g h t s b r there twin;
   body = λ t s c r read needs none.
       let spot = (went_back r read.bytes read.there).spot in
-      sym (body_back dirs f g t c s.dir s.id (h.bodies s.dir s.id spot.among spot.within) (went_dir r) (went_id r) read needs)
+      sym (body_back dirs f g t c s.dir s.id (h.bodies s.dir s.id spot.among spot.within) (went_id r) read needs)
       ∙ ap (λ (d : List ℕ). bytes_at g (at d Df s.id)) (sym (went_dir r)) ∙ ap (λ (i : ℕ). bytes_at g (at t.dir Df i)) (sym (went_id r)) ∙ none;
   finished = λ t s c r read sf rows. closed_kind r c (read_back r c read) rows sf;
   above = λ t s c p a r read u k. let there = strange_control k in origin dirs f g h a there.0 there.1;
@@ -192,7 +192,7 @@ each_by dirs f g h e kind t r live holds =
     record {
       kind = t.kind;
       live = subst (λ (w : Spot). IsLive dirs g w e.control) (λ j. record { dir = d j; kind = t.kind; id = i j }) live;
-      body = λ needs. body_back dirs f g t e.control e.dir e.id (h.bodies e.dir e.id spot.among spot.within) d i (live_read live) needs ∙ holds needs;
+      body = λ needs. body_back dirs f g t e.control e.dir e.id (h.bodies e.dir e.id spot.among spot.within) i (live_read live) needs ∙ holds needs;
     }
 
 -- a tidied map stands for the tables that the map stood for

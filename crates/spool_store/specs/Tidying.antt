@@ -36,12 +36,12 @@ pub data IsTidiedAt (dirs : List (List ℕ)) (f g : FileMap) (s : Spot) : Type 0
   moved : HasMoved dirs f g s → IsTidiedAt dirs f g s
   came : s.kind ≡ Sf → HasMoved dirs f g (as_kind Qf s) → IsTidiedAt dirs f g s
 
--- what has become of a body: it may go where no strange file has its id, and no control file that
--- is still there wants it
+-- what has become of a body: it may go where no strange file has its id, and no control file of its
+-- id that is still there, in whatever directory, wants it
 pub data IsTidiedBody (dirs : List (List ℕ)) (f g : FileMap) (dir : List ℕ) (id : ℕ) : Type 0 where
   stays : bytes_at g (at dir Df id) ≡ bytes_at f (at dir Df id) → IsTidiedBody dirs f g dir id
   gone : bytes_at g (at dir Df id) ≡ None → ((s : Spot) → s.id ≡ id → IsStrange dirs f s → ⊥)
-      → ((s : Spot) (c : Control) → s.dir ≡ dir → s.id ≡ id → IsRead dirs g s c → NeedsBody c → ⊥)
+      → ((s : Spot) (c : Control) → s.id ≡ id → IsRead dirs g s c → NeedsBody c → ⊥)
       → IsTidiedBody dirs f g dir id
 
 -- a place of no file of the queue

@@ -1,4 +1,4 @@
-ghost use Rattle.std.specs.Prelude.{◌≡◌, ◌<◌, ◌++◌, ◌∷◌, [], IfOk, OnOk, List, ℕ, Some, Contains, length, true, false, if◌then◌else◌};
+ghost use Rattle.std.specs.Prelude.{◌≡◌, ◌++◌, ◌∷◌, [], IfOk, OnOk, List, ℕ, Some, Contains, length, true, false, if◌then◌else◌};
 ghost use Rattle.std.specs.List.Sorted.{IsNonDecreasingBy};
 ghost use Rattle.mail_base.specs.declared.id.Kind.TheVariants.{Qf as ControlKind, Tf as DraftKind, Df as BodyKind};
 ghost use Rattle.mail_base.specs.declared.control.Control.{Control as ControlSeen};
@@ -6,7 +6,7 @@ ghost use Rattle.mail_base.specs.States.{NeedsBody};
 ghost use Rattle.spool_disk.specs.Disk.{FileMap};
 ghost use Rattle.spool_store.specs.Queue.{IsOpen};
 ghost use Rattle.spool_store.specs.inner.Judging.{IsVerdict, AreJudged};
-ghost use Rattle.spool_store.specs.inner.Finds.{AreFound, IsFound, dir_at, spot_named};
+ghost use Rattle.spool_store.specs.inner.Finds.{AreFound, IsFound, spot_named};
 ghost use Rattle.spool_store.specs.inner.Plans.{AreDrafts, AreDead, AreDone, AreUnwanted, Stays, its_name};
 ghost use Rattle.spool_store.specs.inner.Sweeps.{IsDone, IsUnwanted, IsWanted};
 ghost use Rattle.spool_store.specs.declared.named.Named.{Named as NamedSeen};
@@ -16,7 +16,7 @@ ghost use Rattle.spool_store.specs.declared.verdict.Verdict.TheVariants.{Dead as
 use crate::judged::place_of;
 use crate::named::{Found, Named};
 use crate::verdict::Verdict;
-use mail_base::{Kind, NoMemory, Seq, Text};
+use mail_base::{Kind, NoMemory, Seq};
 use std::alloc::Global;
 
 // Adds a file to a list, if it is picked.
@@ -138,76 +138,63 @@ pub(crate) fn closed(
     Ok(out)
 }
 
-// Whether a live entry wants a body of its id that lies in that directory.
-fn wants(dirs: &[Text], x: &Found, named: &Named) -> bool
-    requires one { x.now.named.dir < length dirs.now }
-    requires other { named.now.dir < length dirs.now }
-    ensures yes { (c : ControlSeen) → x.now.control ≡ Some c → result ≡ true
-        → (dir_at dirs.now x.now.named.dir ≡ dir_at dirs.now named.now.dir) × NeedsBody c }
-    ensures no { (c : ControlSeen) → x.now.control ≡ Some c → result ≡ false
-        → dir_at dirs.now x.now.named.dir ≡ dir_at dirs.now named.now.dir → NeedsBody c → ⊥ }
+// Whether a live entry wants its body.
+fn wants(x: &Found) -> bool
+    ensures yes { (c : ControlSeen) → x.now.control ≡ Some c → result ≡ true → NeedsBody c }
+    ensures no { (c : ControlSeen) → x.now.control ≡ Some c → result ≡ false → NeedsBody c → ⊥ }
 {
-    if dirs[x.named.dir] == dirs[named.dir] {
-        return match &x.control {
-            None => false,
-            Some(control) => control.needs_body(),
-        };
+    match &x.control {
+        None => false,
+        Some(control) => control.needs_body(),
     }
-    false
 }
 
-// Whether a body stays.
-fn is_wanted(dirs: &[Text], found: &[Found], verdicts: &[Verdict], named: &Named) -> bool
+// Whether a body stays: it does wherever the control file of its id is.
+fn is_wanted(found: &[Found], verdicts: &[Verdict], named: &Named) -> bool
     requires order { IsNonDecreasingBy (λ (y : FoundSeen). y.named.id) found.now }
-    requires within { (x : FoundSeen) → Contains found.now x → x.named.dir < length dirs.now }
-    requires own { named.now.dir < length dirs.now }
     requires long { length verdicts.now ≡ length found.now }
-    ensures yes { (f : FileMap) → AreFound dirs.now f found.now
-        → AreJudged dirs.now f found.now verdicts.now → result ≡ true
-        → IsWanted dirs.now f named.now }
-    ensures no { (f : FileMap) → AreFound dirs.now f found.now
-        → AreJudged dirs.now f found.now verdicts.now → result ≡ false
-        → IsUnwanted dirs.now f named.now }
+    ensures yes { (dirs : List (List ℕ)) (f : FileMap) → AreFound dirs f found.now
+        → AreJudged dirs f found.now verdicts.now → result ≡ true → IsWanted dirs f named.now }
+    ensures no { (dirs : List (List ℕ)) (f : FileMap) → AreFound dirs f found.now
+        → AreJudged dirs f found.now verdicts.now → result ≡ false → IsUnwanted dirs f named.now }
 {
     match place_of(found, named.id) {
         None => false,
-        Some(place) => is_wanted_by(dirs, &found[place], &verdicts[place], named),
+        Some(place) => is_wanted_by(&found[place], &verdicts[place], named),
     }
 }
 
 // Whether the verdict on a control file, which is of the body's id, keeps the body.
-fn is_wanted_by(dirs: &[Text], x: &Found, verdict: &Verdict, named: &Named) -> bool
-    requires one { x.now.named.dir < length dirs.now }
-    requires other { named.now.dir < length dirs.now }
-    ensures yes { (f : FileMap) → IsFound dirs.now f x.now → x.now.named.id ≡ named.now.id
-        → IsVerdict dirs.now f (spot_named dirs.now x.now.named) verdict.now → result ≡ true
-        → IsWanted dirs.now f named.now }
-    ensures no { (f : FileMap) → IsFound dirs.now f x.now → x.now.named.id ≡ named.now.id
-        → IsVerdict dirs.now f (spot_named dirs.now x.now.named) verdict.now → result ≡ false
-        → IsUnwanted dirs.now f named.now }
+fn is_wanted_by(x: &Found, verdict: &Verdict, named: &Named) -> bool
+    ensures yes { (dirs : List (List ℕ)) (f : FileMap) → IsFound dirs f x.now
+        → x.now.named.id ≡ named.now.id
+        → IsVerdict dirs f (spot_named dirs x.now.named) verdict.now → result ≡ true
+        → IsWanted dirs f named.now }
+    ensures no { (dirs : List (List ℕ)) (f : FileMap) → IsFound dirs f x.now
+        → x.now.named.id ≡ named.now.id
+        → IsVerdict dirs f (spot_named dirs x.now.named) verdict.now → result ≡ false
+        → IsUnwanted dirs f named.now }
 {
     match verdict {
         Verdict::Strange => true,
         Verdict::Dead => false,
-        Verdict::Live(_) => wants(dirs, x, named),
+        Verdict::Live(_) => wants(x),
     }
 }
 
 // Whether a file is a body that goes.
-fn is_stray_body(dirs: &[Text], found: &[Found], verdicts: &[Verdict], named: &Named) -> bool
+fn is_stray_body(found: &[Found], verdicts: &[Verdict], named: &Named) -> bool
     requires order { IsNonDecreasingBy (λ (y : FoundSeen). y.named.id) found.now }
-    requires within { (x : FoundSeen) → Contains found.now x → x.named.dir < length dirs.now }
-    requires own { named.now.dir < length dirs.now }
     requires long { length verdicts.now ≡ length found.now }
-    ensures yes { (f : FileMap) → AreFound dirs.now f found.now
-        → AreJudged dirs.now f found.now verdicts.now → result ≡ true
-        → (named.now.kind ≡ BodyKind) × IsUnwanted dirs.now f named.now }
-    ensures no { (f : FileMap) → AreFound dirs.now f found.now
-        → AreJudged dirs.now f found.now verdicts.now → result ≡ false → named.now.kind ≡ BodyKind
-        → IsWanted dirs.now f named.now }
+    ensures yes { (dirs : List (List ℕ)) (f : FileMap) → AreFound dirs f found.now
+        → AreJudged dirs f found.now verdicts.now → result ≡ true
+        → (named.now.kind ≡ BodyKind) × IsUnwanted dirs f named.now }
+    ensures no { (dirs : List (List ℕ)) (f : FileMap) → AreFound dirs f found.now
+        → AreJudged dirs f found.now verdicts.now → result ≡ false → named.now.kind ≡ BodyKind
+        → IsWanted dirs f named.now }
 {
     if named.kind == Kind::Df {
-        return !is_wanted(dirs, found, verdicts, named);
+        return !is_wanted(found, verdicts, named);
     }
     false
 }
@@ -215,23 +202,19 @@ fn is_stray_body(dirs: &[Text], found: &[Found], verdicts: &[Verdict], named: &N
 /// The bodies that nobody wants.
 pub(crate) fn bodies(
     alloc: Global,
-    dirs: &[Text],
     names: &[Named],
     found: &[Found],
     verdicts: &[Verdict],
 ) -> Result<Seq<Named>, NoMemory>
     requires order { IsNonDecreasingBy (λ (y : FoundSeen). y.named.id) found.now }
-    requires within { (x : FoundSeen) → Contains found.now x → x.named.dir < length dirs.now }
-    requires own { (x : NamedSeen) → Contains names.now x → x.dir < length dirs.now }
     requires long { length verdicts.now ≡ length found.now }
     ensures stays { IfOk result (λ out. (x : NamedSeen) → Contains out x → Contains names.now x) }
-    ensures picks { (f : FileMap) → AreFound dirs.now f found.now
-        → AreJudged dirs.now f found.now verdicts.now
-        → IfOk result (AreUnwanted dirs.now f names.now) }
+    ensures picks { (dirs : List (List ℕ)) (f : FileMap) → AreFound dirs f found.now
+        → AreJudged dirs f found.now verdicts.now → IfOk result (AreUnwanted dirs f names.now) }
 {
     let mut out = Seq::new(alloc);
     for named in names {
-        add_if(named, is_stray_body(dirs, found, verdicts, named), &mut out)?;
+        add_if(named, is_stray_body(found, verdicts, named), &mut out)?;
     }
     Ok(out)
 }

@@ -91,6 +91,9 @@ impl Queue {
         ensures tidied { (f : FileMap) → (D.seen spool.old).told ≡ Some f
             → Moves (D.seen spool.old) (D.seen spool.new) (λ g. g ≡ f) (IsTidied dirs.now f)
             (IsTidied dirs.now f) }
+        ensures frame { (f : FileMap)
+            → Moves (D.seen spool.old) (D.seen spool.new) (λ g. g ≡ f)
+            (KeepsOthers dirs.now f) (KeepsOthers dirs.now f) }
         ensures clean { IfOk result (λ _. IfSome (D.seen spool.new).told (IsClean dirs.now)) }
         ensures later { (D.seen spool.old).faults ≤ (D.seen spool.new).faults }
         ensures never { IsErrOf result Spent → ⊥ }

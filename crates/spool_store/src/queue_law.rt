@@ -98,7 +98,7 @@ pub fn steps_tidy()
         → IsTidied dirs f g → HasRemoved (spot_place s) g h → IsTidied dirs f h }
     ensures body { (dirs : List (List ℕ)) (f g h : FileMap) (dir : List ℕ) (id : ℕ)
         → Contains dirs dir → IsId id → ((s : Spot) → s.id ≡ id → IsStrange dirs f s → ⊥)
-        → ((s : Spot) (c : Control) → s.dir ≡ dir → s.id ≡ id → IsRead dirs g s c → NeedsBody c → ⊥)
+        → ((s : Spot) (c : Control) → s.id ≡ id → IsRead dirs g s c → NeedsBody c → ⊥)
         → IsTidied dirs f g → HasRemoved (at dir Df id) g h → IsTidied dirs f h }
     ensures rename { (dirs : List (List ℕ)) (f g h : FileMap) (s : Spot) (c : Control)
         → IsMove dirs f g h s c → IsTidied dirs f g → IsTidied dirs f h }

@@ -8,7 +8,7 @@ ghost use Rattle.spool_store.specs.Entries.{Table};
 ghost use Rattle.spool_store.specs.Openings.{AreEntries, AreOrdered, AreStrays, IsNext};
 ghost use Rattle.spool_store.specs.Keepers.{IsReading, seen};
 ghost use Rattle.spool_store.specs.Settled.{IsSettled, StandsFor};
-ghost use Rattle.spool_store.specs.Stores.{Agrees, Holds};
+ghost use Rattle.spool_store.specs.Stores.{Agrees, Holds, KeepsOthers};
 ghost use Rattle.spool_store.specs.Tidying.{IsClean, IsSwept, IsTidied};
 ghost use Rattle.spool_store.specs.inner.Finds.{AreForeign, AreNamed};
 ghost use Rattle.spool_store.specs.inner.Looks.{Looks};
@@ -91,7 +91,7 @@ fn plan_of(alloc: Global, dirs: &[Text], looked: &Looked) -> Result<Plan, NoMemo
     let drafts = drafts(alloc, named)?;
     let dead = dead(alloc, found, verdicts)?;
     let closed = closed(alloc, found, verdicts)?;
-    let bodies = bodies(alloc, dirs, named, found, verdicts)?;
+    let bodies = bodies(alloc, named, found, verdicts)?;
     Ok(Plan {
         drafts,
         dead,
@@ -171,10 +171,10 @@ pub(crate) fn take_over<D: Spool>(
 }
 
 /// Takes over the files of these directories, whatever they hold: it removes the drafts, the
-/// control files that are neither strange nor live, and the bodies that nobody wants, and finishes
-/// the live entries that are done. Strange files and the bodies of their ids stay as they are, and
-/// so does each file elsewhere and of another name. After a fault it can be called again.
-/// `IdsSpent` never comes.
+/// control files that are neither strange nor live, and the bodies that nobody wants, wherever the
+/// control file of their id is, and finishes the live entries that are done. Strange files and the
+/// bodies of their ids stay as they are, and so does each file elsewhere and of another name. After
+/// a fault it can be called again. `IdsSpent` never comes.
 pub fn recover<D: Spool>(
     alloc: Global,
     spool: &mut D,
@@ -199,6 +199,12 @@ pub fn recover<D: Spool>(
         (λ opened. IfSome (D.seen spool.old).told (λ f. AreStrays dirs.now f opened.strange)) }
     ensures next { IfOk result
         (λ opened. IfSome (D.seen spool.old).told (λ f. IsNext dirs.now f opened.next)) }
+    ensures frame { (f : FileMap) → Moves
+        (D.seen spool.old)
+        (D.seen spool.new)
+        (λ g. g ≡ f)
+        (KeepsOthers dirs.now f)
+        (KeepsOthers dirs.now f) }
     ensures clean { IfOk result (λ _. IfSome (D.seen spool.new).told (IsClean dirs.now)) }
     ensures later { (D.seen spool.old).faults ≤ (D.seen spool.new).faults }
     ensures never { IsErrOf result Spent → ⊥ }
@@ -237,6 +243,12 @@ pub(crate) fn reopen<D: Spool>(
     ensures tidied { (f : FileMap) → (D.seen spool.old).told ≡ Some f
         → Moves (D.seen spool.old) (D.seen spool.new) (λ g. g ≡ f) (IsTidied dirs.now f)
         (IsTidied dirs.now f) }
+    ensures frame { (f : FileMap) → Moves
+        (D.seen spool.old)
+        (D.seen spool.new)
+        (λ g. g ≡ f)
+        (KeepsOthers dirs.now f)
+        (KeepsOthers dirs.now f) }
     ensures clean { IfOk result (λ _. IfSome (D.seen spool.new).told (IsClean dirs.now)) }
     ensures counts { Counts (D.seen spool.old) (D.seen spool.new) result }
 {

@@ -24,7 +24,7 @@ use Rattle.spool_store.specs.declared.queue.Queue.{Queue}
 use Rattle.spool_store.proofs.Carrying.{live_read}
 use Rattle.queue_table.specs.Calls.{AreDirs, AreValid, Stays, store}
 use Rattle.queue_table.specs.Commands.{new_control, new_row}
-use Rattle.queue_table.specs.Order.{is_queued}
+use Rattle.mail_base.specs.States.{is_queued}
 use Rattle.queue_table.specs.Priorities.{within_128}
 use Rattle.queue_table.specs.Reserves.{CanReserve}
 use Rattle.queue_table.specs.Soundness.{AreCuts, IsTried}

@@ -3,7 +3,7 @@
 ghost use Rattle.std.specs.Prelude.{◌≡◌, All, Contains, IfOk, IsTrue, OnOk};
 ghost use Rattle.spool_store.specs.Queue.{IsOpen};
 ghost use Rattle.queue_table.specs.Calls.{store};
-ghost use Rattle.queue_table.specs.Order.{is_queued};
+ghost use Rattle.mail_base.specs.States.{is_queued};
 ghost use Rattle.queue_table.specs.Reserves.{IsReserved};
 ghost use Rattle.queue_table.specs.Soundness.{IsTried};
 ghost use Rattle.table_samples.specs.Samples.{AreSound};

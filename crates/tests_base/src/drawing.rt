@@ -16,6 +16,8 @@ impl Draws for Itself {
 
     ghost answers = { λ _ address rows. rows ≡ rows_of address };
 
+    ghost fixed = { λ _. tt };
+
     #[tactic(auto, unfolding(mail_base::specs::Limits::most_rows))]
     fn draw(&mut self, alloc: Global, address: &Text) -> Result<Seq<Draw>, JudgeFault> {
         let mut rows = Seq::new(alloc);

@@ -3,9 +3,13 @@
 #![tactic(auto)]
 
 #[cfg(test)]
+mod dialers;
+#[cfg(test)]
 mod edges;
 #[cfg(test)]
 mod floors;
 pub mod once;
+#[cfg(test)]
+mod spawners;
 #[cfg(test)]
 mod spools;

@@ -7,7 +7,7 @@ type Row = (&'static [u8], &'static [u8], &'static [u8]);
 
 /// Each case of the table of replies in its order and, where two cases beside each other in a
 /// command's order apply to a line, the line to which both do: the first is replied.
-static CASES: [Row; 68] = [
+static CASES: [Row; 70] = [
     // A bad byte, before an unknown verb and before an argument that lacks.
     (b"", b"NOOP \x01\r\n", b"500 5.5.2 Bad byte in line\r\n"),
     (b"", b"NOOP \tx\r\n", b"250 2.0.0 OK\r\n"),
@@ -144,13 +144,24 @@ static CASES: [Row; 68] = [
     ),
     (
         b"",
-        b"MAIL FROM:<a> SIZE=1 SIZE=1\r\n",
+        b"MAIL FROM:<a> SIZE=1 SIZE=\r\n",
         b"555 5.5.4 Parameter not known\r\n",
     ),
     (
         b"MAIL FROM:<a>\r\n",
         b"RCPT TO:<> SIZE=1\r\n",
         b"555 5.5.4 Parameter not known\r\n",
+    ),
+    // Of two sizes the last counts.
+    (
+        b"",
+        b"MAIL FROM:<a> SIZE=16777217 SIZE=1\r\n",
+        b"250 2.1.0 Sender ok\r\n",
+    ),
+    (
+        b"",
+        b"MAIL FROM:<a> SIZE=1 SIZE=16777217\r\n",
+        b"552 5.3.4 Message too large\r\n",
     ),
     // A size at and above the limit, and before a refusal.
     (

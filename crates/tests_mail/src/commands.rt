@@ -55,7 +55,7 @@ static VERBS: [Row; 44] = [
 ];
 
 /// Paths with quotes, routes and other bytes, and where their faults stand among others.
-static PATHS: [Row; 34] = [
+static PATHS: [Row; 36] = [
     (b"MAIL FROM:<\"a>b\"@c>", b"MAIL<\"a>b\"@c>"),
     (b"MAIL FROM:<\"a\\\">\"@c>", b"MAIL<\"a\\\">\"@c>"),
     (b"MAIL FROM:<\"a>", b"!Syntax MAIL"),
@@ -93,15 +93,17 @@ static PATHS: [Row; 34] = [
     (b"MAIL FROM:<a@b> SIZE=", b"!Parameter MAIL"),
     (b"MAIL FROM:<a@b> SIZE", b"!Parameter MAIL"),
     (b"MAIL FROM:<a@b> SIZE=1x", b"!Parameter MAIL"),
-    (b"MAIL FROM:<a@b> SIZE=1 SIZE=1", b"!Parameter MAIL"),
+    (b"MAIL FROM:<a@b> SIZE=1 SIZE=2", b"MAIL<a@b> size 2"),
+    (b"MAIL FROM:<a@b> SIZE=1 SIZE=x", b"!Parameter MAIL"),
+    (b"MAIL FROM:<a@b> BODY=8BITMIME BODY=7BIT", b"MAIL<a@b>"),
     (b"MAIL FROM:<a@b> BODY=7BIT", b"MAIL<a@b>"),
     (
         b"MAIL FROM:<a@b> body=8BitMime  size=5",
         b"MAIL<a@b> size 5 eight",
     ),
     (
-        b"MAIL FROM:<a@b> BODY=8BITMIME BODY=8BITMIME",
-        b"!Parameter MAIL",
+        b"MAIL FROM:<a@b> BODY=7BIT BODY=8BITMIME",
+        b"MAIL<a@b> eight",
     ),
     (b"MAIL FROM:<a@b> BODY=", b"!Parameter MAIL"),
     (b"RCPT TO:<a@b> SIZE=1", b"!Parameter RCPT"),

@@ -157,10 +157,12 @@ fn classes(alloc: Global) -> Result<Config, NoMemory> {
 }
 
 /// A header block, and the class of its message.
-static CLASSES: [(&[u8], i64); 7] = [
+static CLASSES: [(&[u8], i64); 9] = [
     (b"", 0),
     (b"Precedence: junk\r\n", -100),
     (b"precedence:\t JuNK \r\n", -100),
+    (b"Precedence:\r\n junk\r\n", -100),
+    (b"Precedence: junk\r\n \r\n", -100),
     (b"Precedence: bulk\r\nPrecedence: special\r\n", 100),
     (b"Precedence: special\r\nPrecedence: junk\r\n", 100),
     (b"Precedence: junk mail\r\n", 0),

@@ -178,8 +178,8 @@ static SESSIONS: [Row; 59] = [
         b"555 5.5.4 Parameter not known\r\n",
     ),
     (
-        b"MAIL FROM:<a> SIZE=1 SIZE=1\r\n",
-        b"555 5.5.4 Parameter not known\r\n",
+        b"MAIL FROM:<a> SIZE=1 SIZE=16777217\r\n",
+        b"552 5.3.4 Message too large\r\n",
     ),
     (
         b"MAIL FROM:<a> BODY=9BIT\r\n",

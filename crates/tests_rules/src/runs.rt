@@ -1,30 +1,22 @@
 // What a run of a ruleset ends with, and the sets that are found.
-use self::Rules::{Lines, Rounds};
 use self::Tokens::{Signs, Words};
-use crate::sets::{Line, add_lines, rule_of, set_of};
+use crate::sets::{Line, add_lines, set_of};
 use crate::signs::{Broken, are_all, are_signs, repeated, tokens_of};
 use crate::world::{World, world_of};
-use mail_base::{Book, Config, Go, NoMemory, Piece, Rule, Seq, Step, Text, Token};
+use mail_base::{Book, Config, Go, NoMemory, Seq, Text, Token};
 use ruleset_run::{Ran, RunFault, run};
 use std::alloc::Global;
 
-/// The rules of a set: lines, or rounds and so many applications more.
+// Tokens: by signs, or so many words.
 #[derive(Clone, Copy)]
-pub enum Rules {
-    Lines(&'static [Line]),
-    Rounds(usize),
-}
-
-/// Tokens: by signs, or so many words.
-#[derive(Clone, Copy)]
-pub enum Tokens {
+enum Tokens {
     Signs(&'static str),
     Words(usize),
 }
 
-/// What a run ends with: a list with so much work, or a fault.
+// What a run ends with: a list with so much work, or a fault.
 #[derive(Clone, Copy)]
-pub enum End {
+enum End {
     List(Tokens, u32),
     Loop,
     Work,
@@ -36,51 +28,18 @@ pub enum End {
     BadScan,
 }
 
-// Each application takes a token away, as long as there are two.
-const SHORTER: Line = ("-+", Go::Again, "2");
-
-// Makes 101 tokens of one.
-fn add_longer(rules: &mut Seq<Rule>) -> Result<(), Broken> {
-    let mut rule = rule_of(rules.allocator(), &("-", Go::Next, ""))?;
-    widen(&mut rule.right.steps)?;
-    Ok(rules.push(rule)?)
-}
-
-fn widen(steps: &mut Seq<Step>) -> Result<(), NoMemory> {
-    for _ in 0..101 {
-        steps.push(Step::Plain(Piece::Cut(1)))?;
-    }
-    Ok(())
-}
-
-// A hundred applications take away what the 101st puts back, 99 times over; then as many more as
-// asked.
-fn add_rounds(rules: &mut Seq<Rule>, more: usize) -> Result<(), Broken> {
-    for _ in 0..99 {
-        add_lines(rules, &[SHORTER])?;
-        add_longer(rules)?;
-    }
-    for _ in 0..more {
-        add_lines(rules, &[("*", Go::Next, "1")])?;
-    }
-    Ok(())
-}
-
-fn add(alloc: Global, book: &mut Book, name: &str, made: Rules) -> Result<(), Broken> {
+fn add(alloc: Global, book: &mut Book, name: &str, lines: &[Line]) -> Result<(), Broken> {
     let mut rules = Seq::new(alloc);
-    match made {
-        Rules::Lines(lines) => add_lines(&mut rules, lines)?,
-        Rules::Rounds(more) => add_rounds(&mut rules, more)?,
-    }
+    add_lines(&mut rules, lines)?;
     Ok(book.push(set_of(name, &rules)?)?)
 }
 
-/// Rulesets by their names.
-pub type Sets<'a> = &'a [(&'static str, Rules)];
+// Rulesets by their names.
+type Sets = &'static [(&'static str, &'static [Line])];
 
 fn add_sets(alloc: Global, config: &mut Config, sets: Sets) -> Result<(), Broken> {
-    for (name, made) in sets {
-        add(alloc, &mut config.book, name, *made)?;
+    for (name, lines) in sets {
+        add(alloc, &mut config.book, name, lines)?;
     }
     Ok(())
 }
@@ -123,8 +82,8 @@ fn is_fault(fault: &RunFault, end: End) -> bool {
     }
 }
 
-/// The name of the set that runs, what it runs over, and what the run ends with.
-pub type Run = (&'static str, Tokens, End);
+// The name of the set that runs, what it runs over, and what the run ends with.
+type Run = (&'static str, Tokens, End);
 
 fn ends_so(alloc: Global, world: &World, row: &Run) -> Result<bool, Broken> {
     let set = Text::of(alloc, row.0.as_bytes())?;
@@ -150,138 +109,73 @@ fn wrong_of(alloc: Global, world: &World, rows: &[Run]) -> Result<Option<usize>,
     Ok(None)
 }
 
-/// The first place of a run that ends otherwise, in a configuration with these sets.
-pub fn wrong(alloc: Global, sets: Sets, rows: &[Run]) -> Result<Option<usize>, Broken> {
+// The first place of a run that ends otherwise, in a configuration with these sets.
+fn wrong(alloc: Global, sets: Sets, rows: &[Run]) -> Result<Option<usize>, Broken> {
     let mut world = world_of(alloc)?;
     add_sets(alloc, &mut world.config, sets)?;
     wrong_of(alloc, &world, rows)
 }
 
-// The cases of one set, which is called Set, and those of three.
+// Rules in whose set s a hundred applications of one rule are ten thousand in all.
+const ROUND: (&str, &[Line]) = ("s", &[("-+", Go::Again, ">t2")]);
+
+const TENS: &[Line] = &[("*", Go::Next, ">u1"); 9];
+
+const ONES: &[Line] = &[("*", Go::Next, "1"); 10];
+
+// What each end tells besides its name: the list as it is written, its work, and what wasn't found.
 const CASES: &[(Sets, &[Run])] = &[
-    // A rule gives its list.
     (
-        &[("Set", Lines(&[("*.*", Go::Return, "1:2")]))],
-        &[("sET", Signs("a.b.c"), End::List(Signs("a:b.c"), 1))],
-    ),
-    (
-        &[("Set", Lines(&[("-:+", Go::Return, "2@1")]))],
+        &[
+            ("Set", &[("-:+", Go::Return, "2@1")]),
+            ("0", &[("*", Go::Return, ">31")]),
+        ],
         &[
             ("sET", Signs("U:e"), End::List(Signs("e@U"), 1)),
             ("sET", Signs("U.e"), End::List(Signs("U.e"), 0)),
-        ],
-    ),
-    (
-        &[("Set", Lines(&[("X", Go::Return, "y")]))],
-        &[("sET", Signs("x"), End::List(Signs("y"), 1))],
-    ),
-    (
-        &[("Set", Lines(&[("-", Go::Return, "1123")]))],
-        &[("sET", Signs("a"), End::List(Signs("aa"), 1))],
-    ),
-    (
-        &[("Set", Lines(&[("*.", Go::Again, "1")]))],
-        &[("sET", Signs("a.."), End::List(Signs("a"), 2))],
-    ),
-    (
-        &[("Set", Lines(&[("-", Go::Next, "1x")]))],
-        &[("sET", Signs("a"), End::List(Signs("ax"), 1))],
-    ),
-    (
-        &[("Set", Lines(&[("-", Go::Again, "")]))],
-        &[("sET", Signs("a"), End::List(Signs(""), 1))],
-    ),
-    // Its prefix says what comes after it.
-    (
-        &[(
-            "Set",
-            Lines(&[("*", Go::Next, "1b"), ("*", Go::Return, "1c")]),
-        )],
-        &[("sET", Signs("a"), End::List(Signs("abc"), 2))],
-    ),
-    (
-        &[(
-            "Set",
-            Lines(&[("*", Go::Return, "1b"), ("*", Go::Return, "1c")]),
-        )],
-        &[("sET", Signs("a"), End::List(Signs("ab"), 1))],
-    ),
-    (
-        &[(
-            "Set",
-            Lines(&[("a", Go::Again, "b"), ("b", Go::Return, "c")]),
-        )],
-        &[("sET", Signs("a"), End::List(Signs("c"), 2))],
-    ),
-    (
-        &[(
-            "Set",
-            Lines(&[("*", Go::Next, "#1"), ("*", Go::Return, "x")]),
-        )],
-        &[("sET", Signs("a"), End::List(Signs("#a"), 1))],
-    ),
-    (
-        &[(
-            "Set",
-            Lines(&[("-", Go::Again, "#1"), ("*", Go::Return, "x")]),
-        )],
-        &[("sET", Signs("a"), End::List(Signs("#a"), 1))],
-    ),
-    (
-        &[(
-            "Set",
-            Lines(&[("-", Go::Next, "1#"), ("*#", Go::Return, "1x")]),
-        )],
-        &[("sET", Signs("a"), End::List(Signs("ax"), 2))],
-    ),
-    (
-        &[(
-            "Set",
-            Lines(&[("-", Go::Again, "1#"), ("*#", Go::Return, "1x")]),
-        )],
-        &[("sET", Signs("a"), End::List(Signs("ax"), 2))],
-    ),
-    // A loop stops, a rule applies a hundred times, and ten thousand in all.
-    (
-        &[("Set", Lines(&[("*", Go::Again, "1x")]))],
-        &[("sET", Words(1), End::Loop)],
-    ),
-    (
-        &[("Set", Lines(&[SHORTER]))],
-        &[
-            ("sET", Words(101), End::List(Words(1), 100)),
-            ("sET", Words(102), End::Loop),
-        ],
-    ),
-    (
-        &[("Set", Rounds(1))],
-        &[("sET", Words(101), End::List(Words(101), 10_000))],
-    ),
-    (&[("Set", Rounds(2))], &[("sET", Words(101), End::Work)]),
-    // A list has two thousand tokens at most.
-    (
-        &[("Set", Lines(&[("*", Go::Return, "11")]))],
-        &[
-            ("sET", Words(1000), End::List(Words(2000), 1)),
-            ("sET", Words(1001), End::Long),
-        ],
-    ),
-    // The set is found by its name or its number.
-    (
-        &[
-            ("one", Lines(&[("*", Go::Return, "1x")])),
-            ("ONE", Lines(&[("*", Go::Return, "1y")])),
-            ("3", Lines(&[("*", Go::Return, "1z")])),
-        ],
-        &[
-            ("One", Signs("a"), End::List(Signs("ax"), 1)),
-            ("3", Signs("a"), End::List(Signs("az"), 1)),
-            ("0", Signs("a"), End::List(Signs("a"), 0)),
+            ("0", Signs("a"), End::NoRuleset("a")),
             ("5", Signs("a"), End::List(Signs("a"), 0)),
-            ("6", Words(1), End::NoRuleset("6")),
-            ("two", Words(1), End::NoRuleset("two")),
-            ("", Words(1), End::NoRuleset("")),
             ("00", Words(1), End::NoRuleset("00")),
+            ("", Words(1), End::NoRuleset("")),
+        ],
+    ),
+    (
+        &[
+            ("s", &[("*", Go::Return, ".>t1>u!")]),
+            ("t", &[("*", Go::Return, "t1")]),
+            ("u", &[("*", Go::Return, "u1")]),
+            ("v", &[("*", Go::Return, "1>")]),
+            ("w", &[("*", Go::Return, "{o1}{z1}")]),
+            ("x", &[("*", Go::Return, "{z1}{o1}")]),
+            ("y", &[("*", Go::Return, "{tk}")]),
+            ("z", &[("*", Go::Return, ">z1")]),
+            ("1", &[("-.-", Go::Return, "{a+;-1;-2}")]),
+            ("2", &[("*", Go::Return, "{t1;|no1}")]),
+        ],
+        &[
+            ("s", Signs("a"), End::List(Signs(".tau!"), 3)),
+            ("v", Signs("a"), End::NoRuleset("")),
+            ("w", Signs("a"), End::MapClass("o")),
+            ("x", Signs("a"), End::NoSuchMap("z")),
+            ("y", Signs("a"), End::BadScan),
+            ("z", Signs("a"), End::Deep),
+            ("1", Signs("4.5"), End::List(Signs("9"), 1)),
+            ("2", Signs("z"), End::List(Signs("noz"), 1)),
+        ],
+    ),
+    (
+        &[
+            ROUND,
+            ("t", TENS),
+            ("u", ONES),
+            ("v", &[("*", Go::Next, "1"), ("*", Go::Return, ">s1")]),
+            ("w", &[("*", Go::Return, "11")]),
+        ],
+        &[
+            ("s", Words(101), End::List(Words(1), 10_000)),
+            ("s", Words(102), End::Loop),
+            ("v", Words(101), End::Work),
+            ("w", Words(1001), End::Long),
         ],
     ),
 ];

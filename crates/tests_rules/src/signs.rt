@@ -80,16 +80,13 @@ pub fn are_all(tokens: &[Token], sign: u8, count: usize) -> bool {
 }
 
 // An item is written as a token, or as `*`, `+` or `-` for the one with `$` in front; `&` is a
-// `$&x`, `%` a `$&y`, `=` a `$=c` and `~` a `$~c`.
+// `$&x`.
 fn item_of(alloc: Global, sign: u8) -> Result<Item, NoMemory> {
     match sign {
         b'*' => Ok(Item::Any),
         b'+' => Ok(Item::More),
         b'-' => Ok(Item::One),
         b'&' => Ok(Item::Late(Text::of(alloc, b"x")?)),
-        b'%' => Ok(Item::Late(Text::of(alloc, b"y")?)),
-        b'=' => Ok(Item::InClass(Text::of(alloc, b"c")?)),
-        b'~' => Ok(Item::NotInClass(Text::of(alloc, b"c")?)),
         _ => Ok(Item::Exact(token_of(alloc, sign)?)),
     }
 }
@@ -106,15 +103,12 @@ pub fn pattern_of(alloc: Global, signs: &str) -> Result<Pattern, Broken> {
     Pattern::of(items_of(alloc, signs)?).ok_or(Broken::ManySigns)
 }
 
-// A piece is written as a token, as the digit of a `$1` to `$3`, or as `&` or `%` for a `$&x` or
-// `$&y`.
+// A piece is written as a token, or as the digit of a `$1` to `$3`.
 fn piece_of(alloc: Global, sign: u8) -> Result<Piece, NoMemory> {
     match sign {
         b'1' => Ok(Piece::Cut(1)),
         b'2' => Ok(Piece::Cut(2)),
         b'3' => Ok(Piece::Cut(3)),
-        b'&' => Ok(Piece::Late(Text::of(alloc, b"x")?)),
-        b'%' => Ok(Piece::Late(Text::of(alloc, b"y")?)),
         _ => Ok(Piece::Give(token_of(alloc, sign)?)),
     }
 }

@@ -1,6 +1,6 @@
 // The configuration that runs are tried in, but for its rulesets, and its maps.
-use crate::signs::{Broken, tokens_of};
-use mail_base::{Config, MapClass, MapLine, Member, NoMemory, Seq, Text};
+use crate::signs::Broken;
+use mail_base::{Config, MapClass, MapLine, NoMemory, Seq, Text};
 use map_tables::{Maps, Named};
 use std::alloc::Global;
 
@@ -10,38 +10,10 @@ pub struct World {
     pub maps: Maps,
 }
 
-// The macro x is `p`, and y can't be cut.
-fn add_macros(alloc: Global, config: &mut Config) -> Result<(), NoMemory> {
-    config
-        .macros
-        .set(&Text::of(alloc, b"x")?, &Text::of(alloc, b"p")?)?;
-    config
-        .macros
-        .set(&Text::of(alloc, b"y")?, &Text::of(alloc, b"(")?)
-}
-
-fn member_of(alloc: Global, text: &str) -> Result<Member, NoMemory> {
-    let tokens = Some(tokens_of(alloc, text)?);
-    Ok(Member {
-        text: Text::of(alloc, text.as_bytes())?,
-        tokens,
-    })
-}
-
-// The class c has `a` and `b.a`.
-fn add_class(alloc: Global, config: &mut Config) -> Result<(), NoMemory> {
-    let mut members = Seq::new(alloc);
-    members.push(member_of(alloc, "a")?)?;
-    members.push(member_of(alloc, "b.a")?)?;
-    config.classes.extend(&Text::of(alloc, b"c")?, members)
-}
-
 fn class_of(alloc: Global, name: u8) -> Result<MapClass, NoMemory> {
     match name {
         b't' => Ok(MapClass::Text),
         b'a' => Ok(MapClass::Arith),
-        b'm' => Ok(MapClass::Macro),
-        b'h' => Ok(MapClass::Host),
         _ => Ok(MapClass::Other(Text::of(alloc, b"ldap")?)),
     }
 }
@@ -63,9 +35,9 @@ fn line_of(alloc: Global, name: u8) -> Result<MapLine, NoMemory> {
     })
 }
 
-// Maps of the classes text, arith, macro and host, and one of a class that isn't supported.
+// Maps of the classes text and arith, and one of a class that isn't supported.
 fn add_maps(alloc: Global, config: &mut Config) -> Result<(), NoMemory> {
-    for name in b"tamho" {
+    for name in b"tao" {
         config.maps.push(line_of(alloc, *name)?)?;
     }
     Ok(())
@@ -88,8 +60,6 @@ fn maps_of(alloc: Global, config: &Config) -> Result<Maps, NoMemory> {
 
 fn config_of(alloc: Global) -> Result<Config, NoMemory> {
     let mut config = Config::new(alloc)?;
-    add_macros(alloc, &mut config)?;
-    add_class(alloc, &mut config)?;
     add_maps(alloc, &mut config)?;
     Ok(config)
 }

@@ -1,30 +1,35 @@
-//! Tests of the top call: its worked examples, as a table of lines and a table of sessions. They
-//! stand apart from the library, which a check would else prove twice.
+//! Tests of the top call and of the libraries below it that read configurations, plan queues, and
+//! expand aliases: each public call once, and what no scene shows. They stand apart from the
+//! libraries, which a check would else prove twice.
 #![tactic(auto)]
 
 #[cfg(test)]
-mod devices;
+mod asking;
 #[cfg(test)]
-mod expansions;
+mod conf;
+#[cfg(test)]
+mod drawn;
 #[cfg(test)]
 mod faults;
 #[cfg(test)]
-mod groups;
+mod listed;
 #[cfg(test)]
-mod lines;
+mod long;
 #[cfg(test)]
-mod maps;
+mod many;
 #[cfg(test)]
-mod parts;
+mod names;
 #[cfg(test)]
-mod queues;
+mod plans;
 #[cfg(test)]
-mod receipt;
+mod returns;
 #[cfg(test)]
-mod serving;
+mod rows;
 #[cfg(test)]
-mod session_files;
+mod samples;
 #[cfg(test)]
-mod sessions;
+mod shown;
 #[cfg(test)]
-mod stops;
+mod top;
+#[cfg(test)]
+mod worlds;

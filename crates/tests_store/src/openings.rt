@@ -67,7 +67,7 @@ static HELD: &[Held] = &[
     // An entry.
     (6, b'q', b'q', 1, b'O'),
     (6, b'q', b'd', 1, b'B'),
-    // An entry, and a body of its id elsewhere.
+    // An entry, and a body of its id elsewhere, which stays.
     (7, b'q', b'q', 1, b'O'),
     (7, b'q', b'd', 1, b'B'),
     (7, b'r', b'd', 1, b'B'),
@@ -140,6 +140,7 @@ static LEFT: &[Spot] = &[
     (6, b'q', b'q', 1),
     (7, b'q', b'd', 1),
     (7, b'q', b'q', 1),
+    (7, b'r', b'd', 1),
     (8, b'q', b'q', 1),
     (8, b'r', b'd', 1),
     (9, b'q', b's', 1),

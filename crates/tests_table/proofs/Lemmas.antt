@@ -1,6 +1,6 @@
 -- Commands may be asked of a table with what is sent.
 use Rattle.std.proofs.Common.{◌<◌, ◌^◌, ℕ, List, [], ◌∷◌, map, Bool, true, false, Option, refl, sym, subst}
-use Rattle.std.specs.Prelude.{IsSome}
+use Rattle.std.specs.Prelude.{IsSome, not}
 use Rattle.std.specs.List.{AllZip}
 use Rattle.std.proofs.lemmas.List.Elements.{All-nil, All-cons, All-contains}
 use Rattle.mail_base.specs.declared.message.Back.{Back}
@@ -62,7 +62,7 @@ asked_return kept terms id backs moment o are =
       can = record {
         has = record { entry = bare o.held; among = contains_map bare o.held (store kept).entries o.among; is = o.is };
         waits = o.waits;
-        bounces_are = subst (λ (d : Bool). AreBounces d backs) (sym o.double_is) (are.back, are.is, record { cuts = are_cuts are.back.cuts b.cuts; marked = b.marked });
+        bounces_are = subst (λ (d : Bool). AreBounces (not d) backs) (sym o.double_is) (are.back, are.is, record { cuts = are_cuts are.back.cuts b.cuts; marked = b.marked });
       };
     }
 
@@ -74,7 +74,7 @@ asked_burial kept terms id moment o = record {
   can = record {
     has = record { entry = bare o.held; among = contains_map bare o.held (store kept).entries o.among; is = o.is };
     waits = o.waits;
-    bounces_are = subst (λ (d : Bool). AreBounces d []) (sym o.double_is) refl;
+    bounces_are = subst (λ (d : Bool). AreBounces (not d) []) (sym o.double_is) refl;
   };
 }
 

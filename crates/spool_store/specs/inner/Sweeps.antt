@@ -14,7 +14,7 @@ use Rattle.spool_store.specs.Moves.{Moves}
 use Rattle.spool_store.specs.Queue.{IsOpen, Spot, spot_place, IsControl, IsStrange, IsLive}
 use Rattle.spool_store.specs.Tidying.{IsDead, IsTidied, as_kind}
 use Rattle.spool_store.specs.declared.named.Named.{Named}
-use Rattle.spool_store.specs.inner.Finds.{dir_at, spot_named}
+use Rattle.spool_store.specs.inner.Finds.{spot_named}
 
 -- where these files lie
 abbrev pub place_named : List (List ℕ) → Named → Place
@@ -29,17 +29,16 @@ pub record IsSweptOf (dirs : List (List ℕ)) (f : FileMap) (done : List Place)
   pub tidied : IsTidied dirs f g
   pub gone : (p : Place) → Contains done p → bytes_at g p ≡ None
 
--- no strange file has the id, and no live one in the directory wants the body
+-- no strange file has the id, and no live one of it, in whatever directory, wants the body
 pub record IsUnwanted (dirs : List (List ℕ)) (f : FileMap) (x : Named) : Type 0 where
   pub strange : (s : Spot) → s.id ≡ x.id → IsStrange dirs f s → ⊥
-  pub live : (s : Spot) (c : Control) → s.dir ≡ dir_at dirs x.dir → s.id ≡ x.id
-      → IsLive dirs f s c → NeedsBody c → ⊥
+  pub live : (s : Spot) (c : Control) → s.id ≡ x.id → IsLive dirs f s c → NeedsBody c → ⊥
 
--- a strange file has the id, or a live one in the directory wants the body
+-- a strange file has the id, or a live one of it, in whatever directory, wants the body
 pub data IsWanted (dirs : List (List ℕ)) (f : FileMap) (x : Named) : Type 0 where
   by_strange : (s : Spot) → s.id ≡ x.id → IsStrange dirs f s → IsWanted dirs f x
-  by_live : (s : Spot) (c : Control) → s.dir ≡ dir_at dirs x.dir → s.id ≡ x.id → IsLive dirs f s c
-      → NeedsBody c → IsWanted dirs f x
+  by_live : (s : Spot) (c : Control) → s.id ≡ x.id → IsLive dirs f s c → NeedsBody c
+      → IsWanted dirs f x
 
 -- each control file is strange, dead or live
 pub record IsDecided (dirs : List (List ℕ)) (f : FileMap) : Type 0 where

@@ -1,7 +1,7 @@
 use Rattle.std.proofs.Common.{◌≡◌}
 use Rattle.addr_route.specs.Checks.{Checks, IsBoundedIf}
 use Rattle.addr_route.proofs.BoundLemmas.{checks_bound}
-use Rattle.addr_route.proofs.EndLemmas.{if_ok}
+use Rattle.ruleset_run.proofs.RewriteLemmas.{if_ok}
 use Rattle.addr_route.proofs.checking.check.Goals as goal
 
 pub returns-clause-only : goal.returns-clause-only

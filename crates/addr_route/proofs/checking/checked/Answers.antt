@@ -5,8 +5,8 @@ use Rattle.mail_base.specs.declared.route.RouteError.{RouteError}
 use Rattle.mail_base.specs.declared.token.Token.{Token}
 use Rattle.ruleset_run.specs.Sites.{site_of}
 use Rattle.addr_route.specs.Checks.{Checks, checked, unchecked, verdict}
-use Rattle.addr_route.specs.Sets.{Passes}
-use Rattle.addr_route.proofs.EndLemmas.{if_ok}
+use Rattle.ruleset_run.specs.Sets.{Passes}
+use Rattle.ruleset_run.proofs.RewriteLemmas.{if_ok}
 use Rattle.addr_route.proofs.checking.checked.Goals as goal
 
 pub returns-in-Some : goal.returns-in-Some

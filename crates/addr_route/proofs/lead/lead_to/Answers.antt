@@ -5,7 +5,7 @@ use Rattle.mail_base.specs.declared.route.Triple.{Triple}
 use Rattle.ruleset_run.specs.Sites.{site_of}
 use Rattle.addr_route.specs.Aims.{with_host}
 use Rattle.addr_route.specs.Routes.{LeadsTo, files, no_user, unwritten, written}
-use Rattle.addr_route.specs.Sets.{Through, user_sets}
+use Rattle.ruleset_run.specs.Sets.{Through, user_sets}
 use Rattle.addr_route.proofs.EndLemmas.{refuses}
 use Rattle.addr_route.proofs.lead.lead_to.Goals as goal
 

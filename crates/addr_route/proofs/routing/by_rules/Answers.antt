@@ -5,7 +5,7 @@ use Rattle.mail_base.specs.declared.route.Cause.{Cause}
 use Rattle.mail_base.specs.declared.token.Token.{Token}
 use Rattle.ruleset_run.specs.Sites.{site_of}
 use Rattle.addr_route.specs.Routes.{Lands, rules_fail}
-use Rattle.addr_route.specs.Sets.{Passes}
+use Rattle.ruleset_run.specs.Sets.{Passes}
 use Rattle.addr_route.proofs.EndLemmas.{refuses}
 use Rattle.addr_route.proofs.routing.by_rules.Goals as goal
 

@@ -7,7 +7,7 @@ use Rattle.ruleset_run.specs.Filling.{is_resolved}
 use Rattle.ruleset_run.specs.Sites.{site_of}
 use Rattle.addr_route.specs.Aims.{with_host}
 use Rattle.addr_route.specs.Routes.{Lands, Leads, Turns, not_resolved}
-use Rattle.addr_route.specs.Sets.{Through}
+use Rattle.ruleset_run.specs.Sets.{Through}
 use Rattle.addr_route.proofs.EndLemmas.{stops_so, tells_so, land_refused, land_goes, land_five}
 use Rattle.addr_route.proofs.routing.land.Goals as goal
 

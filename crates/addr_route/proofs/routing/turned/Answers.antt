@@ -7,7 +7,7 @@ use Rattle.ruleset_run.specs.Filling.{is_resolved}
 use Rattle.ruleset_run.specs.Sites.{site_of}
 use Rattle.addr_route.specs.Aims.{aim_of, with_host}
 use Rattle.addr_route.specs.Routes.{Leads, Turns, five_fails, stays}
-use Rattle.addr_route.specs.Sets.{Through}
+use Rattle.ruleset_run.specs.Sets.{Through}
 use Rattle.addr_route.proofs.EndLemmas.{refuses, tells_so, turn_led}
 use Rattle.addr_route.proofs.routing.turned.Goals as goal
 

@@ -6,7 +6,7 @@ use Rattle.mail_base.specs.declared.route.Resolved.{Resolved}
 use Rattle.mail_base.specs.declared.token.Token.{Token}
 use Rattle.ruleset_run.specs.Sites.{site_of}
 use Rattle.addr_route.specs.Routes.{Lands, Routes, program, file, by_rules, program_by}
-use Rattle.addr_route.specs.Sets.{Passes}
+use Rattle.ruleset_run.specs.Sets.{Passes}
 use Rattle.addr_route.proofs.EndLemmas.{tells_so}
 use Rattle.addr_route.proofs.routing.went.Goals as goal
 

@@ -1,6 +1,6 @@
 use Rattle.std.proofs.Common.{◌≡◌}
 use Rattle.addr_route.specs.Senders.{Sends}
-use Rattle.addr_route.proofs.EndLemmas.{if_ok}
+use Rattle.ruleset_run.proofs.RewriteLemmas.{if_ok}
 use Rattle.addr_route.proofs.sender.sender_for.Goals as goal
 
 pub returns-clause-only : goal.returns-clause-only

@@ -4,7 +4,7 @@ use Rattle.mail_base.specs.Drawing.{null_sender}
 use Rattle.addr_tokens.specs.Joins.{joined}
 use Rattle.mail_base.specs.Texts.{without_angles}
 use Rattle.addr_route.specs.Senders.{Sends, null, sends}
-use Rattle.addr_route.proofs.EndLemmas.{if_ok}
+use Rattle.ruleset_run.proofs.RewriteLemmas.{if_ok}
 use Rattle.addr_route.proofs.sender.sent.Goals as goal
 
 pub returns-then-is_null : goal.returns-then-is_null

@@ -8,11 +8,8 @@ use Rattle.spool_store.proofs.Readings.{named_in}
 use Rattle.spool_store.proofs.PlanLemmas.{picks_next, each_by}
 use Rattle.spool_store.proofs.plan.bodies.Goals as goal
 
-pub is_stray_body-requires-clause-own : goal.is_stray_body-requires-clause-own
-is_stray_body-requires-clause-own c = c.requires.own c.named-item.result (named_in c.args.names.now c.loop-named.named-index c.named-item.result (omega arith) c.named-item.is)
-
 pub loop-named-preserved : goal.loop-named-preserved
 loop-named-preserved c = record {
   stays = each_by (Contains c.args.names.now) c.named-item.result c.is_stray_body.result c.loop-named.out c.add_if.new.out (λ e. named_in c.args.names.now c.loop-named.named-index c.named-item.result (omega arith) c.named-item.is) c.in_ok-add_if.ensures c.loop-named.invariant.stays;
-  picks = λ f found judged. picks_next itself (λ (x : Named). (x.kind ≡ Df) × IsUnwanted c.args.dirs.now f x) (λ (x : Named). x.kind ≡ Df → IsWanted c.args.dirs.now f x) c.args.names.now c.loop-named.named-index c.named-item.result c.is_stray_body.result c.loop-named.out c.add_if.new.out (omega arith) c.named-item.is (c.is_stray_body.ensures.yes f found judged) (c.is_stray_body.ensures.no f found judged) c.in_ok-add_if.ensures (c.loop-named.invariant.picks f found judged);
+  picks = λ dirs f found judged. picks_next itself (λ (x : Named). (x.kind ≡ Df) × IsUnwanted dirs f x) (λ (x : Named). x.kind ≡ Df → IsWanted dirs f x) c.args.names.now c.loop-named.named-index c.named-item.result c.is_stray_body.result c.loop-named.out c.add_if.new.out (omega arith) c.named-item.is (c.is_stray_body.ensures.yes dirs f found judged) (c.is_stray_body.ensures.no dirs f found judged) c.in_ok-add_if.ensures (c.loop-named.invariant.picks dirs f found judged);
 }

@@ -1,14 +1,8 @@
 -- What was picked.
 use Rattle.std.proofs.Common.{length}
-use Rattle.spool_store.proofs.RecoveryLemmas.{stays_within, within_items, within_named}
+use Rattle.spool_store.proofs.RecoveryLemmas.{stays_within, within_named}
 use Rattle.spool_store.proofs.PlanLemmas.{drafts_within}
 use Rattle.spool_store.proofs.recovery.plan_of.Goals as goal
-
-pub bodies-requires-clause-within : goal.bodies-requires-clause-within
-bodies-requires-clause-within c = within_items (length c.args.dirs.now) c.args.looked.now.found c.items-found.result.now c.items-found.ensures c.requires.look.indexed.within
-
-pub bodies-requires-clause-own : goal.bodies-requires-clause-own
-bodies-requires-clause-own c = within_named (length c.args.dirs.now) c.args.looked.now.named c.items-named.result.now c.items-named.ensures c.requires.look.named
 
 pub returns-clause-plan : goal.returns-clause-plan
 returns-clause-plan c = record {

@@ -4,8 +4,9 @@ use Rattle.std.specs.Prelude.{IfOk, IfSome}
 use Rattle.spool_store.specs.Moves.{Moves}
 use Rattle.spool_store.specs.Openings.{AreEntries, AreStrays, IsNext}
 use Rattle.spool_store.specs.Settled.{StandsFor}
+use Rattle.spool_store.specs.Stores.{KeepsOthers}
 use Rattle.spool_store.specs.Tidying.{IsClean, IsTidied}
-use Rattle.spool_store.proofs.RecoveryLemmas.{clean_ok, ends_in, entries_ok, next_ok, strays_ok, stands_moves}
+use Rattle.spool_store.proofs.RecoveryLemmas.{clean_ok, ends_in, entries_ok, frame_moves, next_ok, strays_ok, stands_moves}
 use Rattle.spool_store.proofs.MovesLemmas.{moves_weaker}
 use Rattle.spool_store.proofs.recovery.recover.Goals as goal
 
@@ -15,6 +16,10 @@ returns-clause-stands g c = λ table. subst (λ (d : List (List ℕ)). Moves (g.
 
 pub returns-clause-tidied : goal.returns-clause-tidied
 returns-clause-tidied g c = λ f e. subst (λ (d : List (List ℕ)). Moves (g.D.Spool.seen c.args.spool.now) (g.D.Spool.seen c.take_over.new.spool) (λ h. h ≡ f) (IsTidied d f) (IsTidied d f)) c.items.ensures (moves_weaker _ _ _ _ _ _ _ (ends_in c.take_over.result _ _ (λ h k. k.0)) (λ h m. m) (c.take_over.ensures.tidied f e))
+
+pub returns-clause-frame : goal.returns-clause-frame
+returns-clause-frame g c = λ f. subst (λ (d : List (List ℕ)). Moves (g.D.Spool.seen c.args.spool.now) (g.D.Spool.seen c.take_over.new.spool) (λ h. h ≡ f) (KeepsOthers d f) (KeepsOthers d f)) c.items.ensures
+    (frame_moves (g.D.Spool.seen c.args.spool.now) (g.D.Spool.seen c.take_over.new.spool) c.items.result.now c.take_over.ensures.counts.steps (λ e q. moves_weaker _ _ _ _ _ _ _ (ends_in c.take_over.result _ _ (λ h k. k.0)) (λ h m. m) (c.take_over.ensures.tidied e q)) f)
 
 pub returns-clause-entries : goal.returns-clause-entries
 returns-clause-entries g c = subst (λ (d : List (List ℕ)). IfOk c.take_over.result (λ opened. IfSome (g.D.Spool.seen c.args.spool.now).told (λ f. AreEntries d f opened.entries))) c.items.ensures (entries_ok c.take_over.result (g.D.Spool.seen c.args.spool.now).told c.items.result.now c.take_over.ensures.entries)

@@ -8,11 +8,11 @@ use Rattle.spool_store.specs.Keepers.{IsReading}
 use Rattle.spool_store.specs.Moves.{Moves}
 use Rattle.spool_store.specs.Settled.{IsSettled, StandsFor}
 use Rattle.spool_store.specs.Openings.{AreEntries}
-use Rattle.spool_store.specs.Stores.{Agrees, Holds, StoreSeen}
+use Rattle.spool_store.specs.Stores.{Agrees, Holds, KeepsOthers, StoreSeen}
 use Rattle.spool_store.specs.Tidying.{IsTidied}
 use Rattle.spool_store.proofs.Matching.{opened_holds, opened_table}
 use Rattle.spool_store.proofs.MovesLemmas.{moves_weaker}
-use Rattle.spool_store.proofs.RecoveryLemmas.{stands_moves}
+use Rattle.spool_store.proofs.RecoveryLemmas.{frame_moves, stands_moves}
 use Rattle.spool_store.proofs.Reopening.{HasOpened, agrees_now, clean_now, reading_of, settled_now}
 use Rattle.spool_store.proofs.SweepLemmas.{counts_err, counts_none, counts_starved, counts_then}
 use Rattle.spool_store.proofs.recovery.reopen.Goals as goal
@@ -23,6 +23,10 @@ returns-in_err-opened-clause-stands g c = λ table. subst (λ (d : List (List �
 
 pub returns-in_err-opened-clause-tidied : goal.returns-in_err-opened-clause-tidied
 returns-in_err-opened-clause-tidied g c = λ f e. subst (λ (d : List (List ℕ)). Moves (g.D.Spool.seen c.args.spool.now) (g.D.Spool.seen c.take_over.new.spool) (λ h. h ≡ f) (IsTidied d f) (IsTidied d f)) c.items.ensures (c.in_err-opened.ensures.tidied f e)
+
+pub returns-in_err-opened-clause-frame : goal.returns-in_err-opened-clause-frame
+returns-in_err-opened-clause-frame g c = λ f. subst (λ (d : List (List ℕ)). Moves (g.D.Spool.seen c.args.spool.now) (g.D.Spool.seen c.take_over.new.spool) (λ h. h ≡ f) (KeepsOthers d f) (KeepsOthers d f)) c.items.ensures
+    (frame_moves (g.D.Spool.seen c.args.spool.now) (g.D.Spool.seen c.take_over.new.spool) c.items.result.now c.in_err-opened.ensures.counts.steps (λ e q. c.in_err-opened.ensures.tidied e q) f)
 
 pub returns-in_err-opened-clause-counts : goal.returns-in_err-opened-clause-counts
 returns-in_err-opened-clause-counts g c =
@@ -36,6 +40,10 @@ returns-in_err-queue-clause-stands g c = λ table. subst (λ (d : List (List ℕ
 pub returns-in_err-queue-clause-tidied : goal.returns-in_err-queue-clause-tidied
 returns-in_err-queue-clause-tidied g c = λ f e. subst (λ (d : List (List ℕ)). Moves (g.D.Spool.seen c.args.spool.now) (g.D.Spool.seen c.take_over.new.spool) (λ h. h ≡ f) (IsTidied d f) (IsTidied d f)) c.items.ensures (moves_weaker _ _ _ _ _ _ _ (λ h k. k.0) (λ h k. k) (c.in_ok-opened.ensures.tidied f e))
 
+pub returns-in_err-queue-clause-frame : goal.returns-in_err-queue-clause-frame
+returns-in_err-queue-clause-frame g c = λ f. subst (λ (d : List (List ℕ)). Moves (g.D.Spool.seen c.args.spool.now) (g.D.Spool.seen c.take_over.new.spool) (λ h. h ≡ f) (KeepsOthers d f) (KeepsOthers d f)) c.items.ensures
+    (frame_moves (g.D.Spool.seen c.args.spool.now) (g.D.Spool.seen c.take_over.new.spool) c.items.result.now c.in_ok-opened.ensures.counts.steps (λ e q. moves_weaker _ _ _ _ _ _ _ (λ h k. k.0) (λ h k. k) (c.in_ok-opened.ensures.tidied e q)) f)
+
 pub returns-in_err-queue-clause-counts : goal.returns-in_err-queue-clause-counts
 returns-in_err-queue-clause-counts g c =
     let p = err_from_is_err_and c.from_residual-in_err-queue.result c.from_residual-in_err-queue.ensures.1 in
@@ -47,6 +55,10 @@ returns-clause-stands g c = λ table. subst (λ (d : List (List ℕ)). Moves (g.
 
 pub returns-clause-tidied : goal.returns-clause-tidied
 returns-clause-tidied g c = λ f e. subst (λ (d : List (List ℕ)). Moves (g.D.Spool.seen c.args.spool.now) (g.D.Spool.seen c.take_over.new.spool) (λ h. h ≡ f) (IsTidied d f) (IsTidied d f)) c.items.ensures (moves_weaker _ _ _ _ _ _ _ (λ h k. k.0) (λ h k. k) (c.in_ok-opened.ensures.tidied f e))
+
+pub returns-clause-frame : goal.returns-clause-frame
+returns-clause-frame g c = λ f. subst (λ (d : List (List ℕ)). Moves (g.D.Spool.seen c.args.spool.now) (g.D.Spool.seen c.take_over.new.spool) (λ h. h ≡ f) (KeepsOthers d f) (KeepsOthers d f)) c.items.ensures
+    (frame_moves (g.D.Spool.seen c.args.spool.now) (g.D.Spool.seen c.take_over.new.spool) c.items.result.now c.in_ok-opened.ensures.counts.steps (λ e q. moves_weaker _ _ _ _ _ _ _ (λ h k. k.0) (λ h k. k) (c.in_ok-opened.ensures.tidied e q)) f)
 
 pub returns-clause-counts : goal.returns-clause-counts
 returns-clause-counts g c = counts_then _ _ _ _ _ c.in_ok-opened.ensures.counts (counts_none _ c.in_ok-queue.queue)

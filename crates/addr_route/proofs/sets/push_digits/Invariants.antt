@@ -1,6 +1,0 @@
-use Rattle.std.proofs.Common.{◌≡◌, ◌++◌, ◌∷◌, [], map, take}
-use Rattle.addr_route.proofs.sets.push_digits.Given as goal
-
--- the digits so far are added
-abbrev pub invariant-loop-digit : goal.invariant-loop-digit
-invariant-loop-digit l = l.sets ≡ l.fn.sets ++ map (λ digit. digit ∷ []) (take l.digit-index l.digits)

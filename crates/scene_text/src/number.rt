@@ -1,0 +1,40 @@
+use mail_base::{NoMemory, Text};
+
+/// The number of decimal digits, one at least, below 2^64.
+pub fn number_of(digits: &[u8]) -> Option<u64> {
+    if digits.is_empty() {
+        return None;
+    }
+    let mut number = 0u64;
+    for digit in digits {
+        if !digit.is_ascii_digit() {
+            return None;
+        }
+        number = number.checked_mul(10)?.checked_add(u64::from(*digit & 15))?;
+    }
+    Some(number)
+}
+
+/// Adds a number in decimal digits.
+pub fn put_number(text: &mut Text, number: u64) -> Result<(), NoMemory> {
+    put_digits(text, number, 1)
+}
+
+/// Adds a number with twelve digits at least, as ids have them.
+pub fn put_padded(text: &mut Text, number: u64) -> Result<(), NoMemory> {
+    put_digits(text, number, 12)
+}
+
+fn put_digits(text: &mut Text, number: u64, least: u32) -> Result<(), NoMemory> {
+    let mut power = 10_000_000_000_000_000_000u64;
+    let mut began = false;
+    for place in 0..20u32 {
+        let digit = number.checked_div(power).unwrap_or(0) % 10;
+        began = began || digit > 0 || place.saturating_add(least) >= 20;
+        if began {
+            text.push(b'0' + digit as u8)?;
+        }
+        power /= 10;
+    }
+    Ok(())
+}

@@ -1,0 +1,5 @@
+mod Examples
+pub mod Following
+pub mod Keeping
+pub mod Leaving
+pub mod Running

@@ -1,0 +1,4 @@
+pub mod Children
+pub mod Lives
+pub mod Spawned
+pub mod inner

@@ -1,0 +1,327 @@
+use link_edge::{DialEvent, Dialer, Peer, ScriptDialer};
+use mail_base::{Failed, NoMemory, Seq, Text, TryCopy};
+use std::alloc::{AllocError, Global};
+use std::test::Fail;
+
+// What is done with a dialer.
+#[derive(Clone, Copy)]
+enum Act {
+    // Dials that port of the host `h`, or, at 0, the socket `/s`.
+    Dial(u16),
+    // Reads from a line into a buffer of four bytes.
+    Read(u64),
+    Write(u64, &'static [u8]),
+    Close(u64),
+}
+
+// A dialer by what its peers say and its failing calls, and what is done with it; how each act
+// went, what it told, and how many calls failed.
+#[derive(Clone, Copy)]
+struct Row {
+    pieces: &'static [&'static [u8]],
+    failing: &'static [u64],
+    acts: &'static [Act],
+    went: &'static [u8],
+    told: &'static [u8],
+    faults: u64,
+}
+
+// A long reply, one that fits, and the end of the line.
+const PIECES: &[&[u8]] = &[b"220 hi", b"250", b""];
+
+const TALK: &[Act] = &[
+    Act::Dial(25),
+    Act::Read(1),
+    Act::Read(1),
+    Act::Write(1, b"QUIT"),
+    Act::Read(1),
+    Act::Close(1),
+];
+
+// Each call of one dialogue fails in turn.
+const ROWS: &[Row] = &[
+    Row {
+        pieces: PIECES,
+        failing: &[],
+        acts: TALK,
+        went: b"1+ 1>220  1>hi 1< 1>250 1x ",
+        told: b"1+h25 1>220  1>hi 1<QUIT 1>250 1x ",
+        faults: 0,
+    },
+    Row {
+        pieces: PIECES,
+        failing: &[0],
+        acts: TALK,
+        went: b"fail no no no no no ",
+        told: b"!h25 ",
+        faults: 1,
+    },
+    // A line of which a read failed is neither read nor written to any more.
+    Row {
+        pieces: PIECES,
+        failing: &[1],
+        acts: TALK,
+        went: b"1+ fail no no no 1x ",
+        told: b"1+h25 1?> 1x ",
+        faults: 1,
+    },
+    Row {
+        pieces: PIECES,
+        failing: &[2],
+        acts: TALK,
+        went: b"1+ 1>220  fail no no 1x ",
+        told: b"1+h25 1>220  1?> 1x ",
+        faults: 1,
+    },
+    // So is one of which a write failed.
+    Row {
+        pieces: PIECES,
+        failing: &[3],
+        acts: TALK,
+        went: b"1+ 1>220  1>hi fail no 1x ",
+        told: b"1+h25 1>220  1>hi 1?< 1x ",
+        faults: 1,
+    },
+    Row {
+        pieces: PIECES,
+        failing: &[4],
+        acts: TALK,
+        went: b"1+ 1>220  1>hi 1< fail 1x ",
+        told: b"1+h25 1>220  1>hi 1<QUIT 1?> 1x ",
+        faults: 1,
+    },
+    // An empty piece is an end, and so is each read behind the last piece. What is closed may not be
+    // read, written to or closed.
+    Row {
+        pieces: &[b"", b"ab"],
+        failing: &[],
+        acts: &[
+            Act::Dial(0),
+            Act::Read(1),
+            Act::Read(1),
+            Act::Read(1),
+            Act::Close(1),
+            Act::Read(1),
+            Act::Write(1, b"a"),
+            Act::Close(1),
+        ],
+        went: b"1+ 1> 1>ab 1> 1x no no no ",
+        told: b"1+/s 1> 1>ab 1> 1x ",
+        faults: 0,
+    },
+    // Lines have numbers of their own, and a failed dial takes none.
+    Row {
+        pieces: &[b"a", b"b"],
+        failing: &[1],
+        acts: &[
+            Act::Dial(0),
+            Act::Dial(26),
+            Act::Dial(27),
+            Act::Read(2),
+            Act::Read(1),
+            Act::Close(1),
+            Act::Close(2),
+        ],
+        went: b"1+ fail 2+ 2>a 1>b 1x 2x ",
+        told: b"1+/s !h26 2+h27 2>a 1>b 1x 2x ",
+        faults: 1,
+    },
+];
+
+fn numbers(alloc: Global, numbers: &[u64]) -> Result<Seq<u64>, AllocError> {
+    Ok(Seq::from_vec(Vec::from_slice(alloc, numbers)?))
+}
+
+fn texts(alloc: Global, pieces: &[&[u8]]) -> Result<Seq<Text>, NoMemory> {
+    let mut texts = Seq::new(alloc);
+    for piece in pieces {
+        texts.push(Text::of(alloc, piece)?)?;
+    }
+    Ok(texts)
+}
+
+fn peer(alloc: Global, port: u16) -> Result<Peer, NoMemory> {
+    if port == 0 {
+        return Ok(Peer::Path(Text::of(alloc, b"/s")?));
+    }
+    Ok(Peer::Host {
+        address: Text::of(alloc, b"h")?,
+        port,
+    })
+}
+
+// Does these acts, and gives how they went.
+fn went(alloc: Global, dialer: &mut ScriptDialer, acts: &[Act]) -> Result<Text, NoMemory> {
+    let mut text = Text::new(alloc);
+    for act in acts {
+        match act {
+            Act::Dial(port) => dial(dialer, *port, &mut text)?,
+            Act::Read(line) => read(dialer, *line, &mut text)?,
+            Act::Write(line, bytes) => write(dialer, *line, bytes, &mut text)?,
+            Act::Close(line) => close(dialer, *line, &mut text)?,
+        }
+    }
+    Ok(text)
+}
+
+fn dial(dialer: &mut ScriptDialer, port: u16, went: &mut Text) -> Result<(), NoMemory> {
+    let peer = peer(went.allocator(), port)?;
+    match dialer.dial(&peer) {
+        Ok(line) => write_mark(went, line, b"+", b""),
+        Err(Failed) => went.extend(b"fail "),
+    }
+}
+
+// A line is read, written to and closed only where it may be.
+fn read(dialer: &mut ScriptDialer, line: u64, went: &mut Text) -> Result<(), NoMemory> {
+    if !dialer.is_sound(line) {
+        return went.extend(b"no ");
+    }
+    let mut buf = [0u8; 4];
+    match dialer.read(line, &mut buf) {
+        Ok(count) => write_mark(went, line, b">", &buf[..count]),
+        Err(Failed) => went.extend(b"fail "),
+    }
+}
+
+fn write(
+    dialer: &mut ScriptDialer,
+    line: u64,
+    bytes: &[u8],
+    went: &mut Text,
+) -> Result<(), NoMemory> {
+    if !dialer.is_sound(line) {
+        return went.extend(b"no ");
+    }
+    let bytes = Text::of(went.allocator(), bytes)?;
+    match dialer.write(line, &bytes) {
+        Ok(()) => write_mark(went, line, b"<", b""),
+        Err(Failed) => went.extend(b"fail "),
+    }
+}
+
+fn close(dialer: &mut ScriptDialer, line: u64, went: &mut Text) -> Result<(), NoMemory> {
+    if !dialer.is_open(line) {
+        return went.extend(b"no ");
+    }
+    dialer.close(line);
+    write_mark(went, line, b"x", b"")
+}
+
+// A line's number as a digit, and what is said of it.
+fn write_mark(text: &mut Text, line: u64, mark: &[u8], bytes: &[u8]) -> Result<(), NoMemory> {
+    text.push(b'0' + (line % 10) as u8)?;
+    text.extend(mark)?;
+    text.extend(bytes)?;
+    text.push(b' ')
+}
+
+// What a dialer told, a word for each event.
+fn told(alloc: Global, events: &[DialEvent]) -> Result<Text, NoMemory> {
+    let mut text = Text::new(alloc);
+    for event in events {
+        write_event(&mut text, event)?;
+    }
+    Ok(text)
+}
+
+fn write_event(text: &mut Text, event: &DialEvent) -> Result<(), NoMemory> {
+    match event {
+        DialEvent::Dialled { peer, line, .. } => {
+            text.push(b'0' + (*line % 10) as u8)?;
+            text.push(b'+')?;
+            write_peer(text, peer)
+        }
+        DialEvent::Undialled { peer, .. } => {
+            text.push(b'!')?;
+            write_peer(text, peer)
+        }
+        DialEvent::Read(line, bytes) => write_mark(text, *line, b">", bytes.bytes()),
+        DialEvent::Unread(line) => write_mark(text, *line, b"?>", b""),
+        DialEvent::Wrote(line, bytes) => write_mark(text, *line, b"<", bytes.bytes()),
+        DialEvent::Unwritten(line) => write_mark(text, *line, b"?<", b""),
+        DialEvent::Closed(line) => write_mark(text, *line, b"x", b""),
+    }
+}
+
+// A peer, its port by its last two digits.
+fn write_peer(text: &mut Text, peer: &Peer) -> Result<(), NoMemory> {
+    match peer {
+        Peer::Host { address, port } => {
+            text.extend(address.bytes())?;
+            text.push(b'0' + (*port / 10 % 10) as u8)?;
+            text.push(b'0' + (*port % 10) as u8)?;
+        }
+        Peer::Path(path) => text.extend(path.bytes())?,
+    }
+    text.push(b' ')
+}
+
+// How many failed calls were told, and how many weren't.
+fn failures(dialer: &ScriptDialer) -> (u64, u64) {
+    let mut shown = 0u64;
+    let mut hidden = dialer.missed;
+    for event in dialer.seen() {
+        match event {
+            DialEvent::Dialled { missed, .. } => hidden = hidden.saturating_add(*missed),
+            DialEvent::Undialled { missed, .. } => {
+                hidden = hidden.saturating_add(*missed);
+                shown = shown.saturating_add(1);
+            }
+            DialEvent::Unread(_) => shown = shown.saturating_add(1),
+            DialEvent::Unwritten(_) => shown = shown.saturating_add(1),
+            _ => {}
+        }
+    }
+    (shown, hidden)
+}
+
+impl Row {
+    fn dialer(&self, alloc: Global) -> Result<ScriptDialer, NoMemory> {
+        let failing = numbers(alloc, self.failing)?;
+        Ok(ScriptDialer::new(alloc, texts(alloc, self.pieces)?, failing))
+    }
+
+    // Each failed call is told or counted, also where memory was wanting; where it wasn't, all is
+    // as the row has it.
+    fn is_played(&self, alloc: Global, dialer: &mut ScriptDialer) -> Result<bool, NoMemory> {
+        let went = went(alloc, dialer, self.acts)?;
+        let (shown, hidden) = failures(dialer);
+        if dialer.starved > 0 || hidden > 0 {
+            return Ok(shown.saturating_add(hidden) == dialer.calls.faults);
+        }
+        let told = told(alloc, dialer.seen())?;
+        Ok(
+            went.bytes() == self.went
+                && told.bytes() == self.told
+                && (shown, dialer.calls.faults) == (self.faults, self.faults),
+        )
+    }
+
+    fn plays(&self, alloc: Global) -> Result<bool, NoMemory> {
+        let mut dialer = self.dialer(alloc)?;
+        self.is_played(alloc, &mut dialer)
+    }
+}
+
+#[test]
+fn peers_say_their_pieces_and_the_list_decides(rt: HostRuntime) -> Result<(), Fail> {
+    for (at, row) in ROWS.iter().enumerate() {
+        assert!(rt; row.plays(rt.alloc())?, "row {at}");
+    }
+    Ok(())
+}
+
+#[test]
+fn a_peer_is_copied(rt: HostRuntime) -> Result<(), Fail> {
+    let host = peer(rt.alloc(), 25)?;
+    let path = peer(rt.alloc(), 0)?;
+    assert!(rt;
+        matches!(
+            &host.copy()?,
+            Peer::Host { address, port: 25 } if address.bytes() == b"h".as_slice()
+        )
+    );
+    assert!(rt; matches!(&path.copy()?, Peer::Path(path) if path.bytes() == b"/s".as_slice()));
+    Ok(())
+}
