@@ -1,6 +1,6 @@
 # What the README names: `make run` and `make test`.
 
-.PHONY: run statement test
+.PHONY: run scene scenes statement test
 
 # Builds the proved program and answers one line of address test mode.
 run:
@@ -13,3 +13,14 @@ test:
 # Writes the statement of the top call, with the definitions that it cites, from the specs.
 statement:
 	python3 tools/statement.py > docs/STATEMENT.md
+
+# Plays all scenes with the proved program.
+scenes: crates/scenes/out/scenes
+	cd crates/scenes/data && cat ../stdin large.txt | ../out/scenes
+
+# Plays the scene NAME, and shows what was wanted and what came.
+scene: crates/scenes/out/scenes
+	cd crates/scenes/data && cat ../stdin large.txt | ../out/scenes -v '$(NAME)'
+
+crates/scenes/out/scenes: $(wildcard crates/*/src/*.rt)
+	cd crates/scenes && rt run < /dev/null > /dev/null
