@@ -16,3 +16,4 @@ mod TakeLemmas
 mod JoinLemmas
 mod GatherLemmas
 mod AgainLemmas
+mod SpanLemmas

@@ -83,7 +83,7 @@ module _ (alphabet : Alphabet) where
   outcome_from : (angles : Bool) (text : List ℕ) (reading : Reading) (answer : Answer) → reading_of alphabet 0 text ≡ reading → judged dollars angles 0 [] reading.pieces reading.fault ≡ answer → outcome_of alphabet angles text ≡ gathered false [] answer
   outcome_from angles text reading answer is judged_is = ap (λ r. gathered false [] (judged dollars angles 0 [] r.pieces r.fault)) is ∙ ap (gathered false []) judged_is
 
-  whole_reading : (text : List ℕ) (pieces : List Piece) → Cuts alphabet text pieces → reading_of alphabet 0 text ≡ record { pieces = pieces; fault = None }
+  pub whole_reading : (text : List ℕ) (pieces : List Piece) → Cuts alphabet text pieces → reading_of alphabet 0 text ≡ record { pieces = pieces; fault = None }
   whole_reading text pieces cut =
       ap (reading_of alphabet 0) (sym (append-nil (flat_map bytes_of pieces) ∙ cut.whole))
       ∙ reading_of-pieces alphabet pieces [] 0 cut.each cut.apart (record { stays = refl })
@@ -96,7 +96,7 @@ module _ (alphabet : Alphabet) where
       ∙ reading_of-pieces alphabet pieces rest 0 cut.each cut.apart none
       ∙ ap (λ k. before alphabet pieces (reading_of alphabet k rest)) n
 
-  balanced_judged : (angles : Bool) (pieces : List Piece) → AreBalanced angles (lexemes_of dollars pieces) → judged dollars angles 0 [] pieces None ≡ Ok (lexemes_of dollars pieces)
+  pub balanced_judged : (angles : Bool) (pieces : List Piece) → AreBalanced angles (lexemes_of dollars pieces) → judged dollars angles 0 [] pieces None ≡ Ok (lexemes_of dollars pieces)
   balanced_judged false pieces balanced = unchecked dollars 0 [] pieces None ∙ ap Ok (append-nil (lexemes_of dollars pieces))
   balanced_judged true pieces balanced = closes_more dollars pieces 0 [] [] None (balanced refl) ∙ ap Ok (append-nil (lexemes_of dollars pieces))
 

@@ -20,7 +20,7 @@ use Rattle.addr_tokens.proofs.OutcomeLemmas.{lexemes_of_answer, fault_of_answer}
 use Rattle.addr_tokens.proofs.FirstLemmas.{IsFirst, FirstReads, first_read}
 
 -- how many bytes the piece has
-piece-length : (first : Front) (text : List ℕ) → size_of first ≤ length text → length (bytes_of (piece_of first text)) ≡ size_of first
+pub piece-length : (first : Front) (text : List ℕ) → size_of first ≤ length text → length (bytes_of (piece_of first text)) ≡ size_of first
 piece-length front.White text le = refl
 piece-length (front.Comment n) text le = length-take-le n text le
 piece-length (front.Quotation n) text le = length-take-le n text le

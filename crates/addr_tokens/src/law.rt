@@ -1,12 +1,15 @@
-ghost use Rattle.std.specs.Prelude.{◌≡◌, ◌⊎◌, ◌↔◌, ℕ, List, Bool, map, true, false, None, Some, Ok, Err};
+ghost use Rattle.std.specs.Prelude.{◌≡◌, ◌≢◌, ◌⊎◌, ◌↔◌, ℕ, List, Bool, map, true, false, None, Some, Ok, Err};
 ghost use Rattle.mail_base.specs.declared.token.Token.{Token as TheToken};
 ghost use Rattle.addr_tokens.specs.declared.fault.ScanFault.{ScanFault as TheFault};
+ghost use Rattle.addr_tokens.specs.declared.fault.ScanFault.TheVariants.{Long as TooMany};
+ghost use Rattle.addr_tokens.specs.declared.span.PieceSpan.{PieceSpan as TheSpan};
 ghost use Rattle.addr_tokens.specs.declared.lexeme.Lexeme.{Lexeme as TheLexeme};
 ghost use Rattle.addr_tokens.specs.declared.lexeme.Lexeme.TheVariants.{Token as Plain};
 ghost use Rattle.mail_base.specs.Whites.{is_white};
 ghost use Rattle.addr_tokens.specs.Pieces.{Alphabet, Piece, Cuts, plain, is_side};
 ghost use Rattle.addr_tokens.specs.Scans.{AreLexemes, AreTokens, HasFault};
 ghost use Rattle.addr_tokens.specs.Reader.{outcome_of, tokens_or_fault};
+ghost use Rattle.addr_tokens.specs.Spans.{AreSpans, spans_or_fault};
 ghost use Rattle.addr_tokens.specs.Joins.{joined, have_neighbours};
 
 /// A text has at most one cutting.
@@ -50,6 +53,17 @@ pub fn computed()
         → is_side alphabet.dollars ≡ false
         → ((tokens_or_fault alphabet angles text ≡ Ok tokens)
         ↔ (AreTokens alphabet angles text tokens)) }
+{}
+
+/// The pieces that are computed are those of a cutting, or the text has the first fault.
+pub fn spans_computed()
+    ensures spans { (alphabet : Alphabet) (angles : Bool) (text : List ℕ) (spans : List TheSpan)
+        → ((spans_or_fault alphabet angles text ≡ Ok spans)
+        ↔ (AreSpans alphabet angles text spans)) }
+    ensures fault { (alphabet : Alphabet) (angles : Bool) (text : List ℕ) (fault : TheFault)
+        → fault ≢ TooMany
+        → ((spans_or_fault alphabet angles text ≡ Err fault)
+        ↔ (HasFault alphabet angles text fault)) }
 {}
 
 /// The tokens of a text that are joined with white space are cut into the same tokens, under the
