@@ -1,3 +1,4 @@
+mod EndsLemmas
 mod FoundLemmas
 mod GatherLemmas
 pub mod GrammarLemmas

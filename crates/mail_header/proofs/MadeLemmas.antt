@@ -1,5 +1,6 @@
 -- A header that is made is a header.
-use Rattle.std.proofs.Common.{◌≡◌, ℕ, zero, suc, ◌+◌, ◌<◌, ◌==◌, ◌||◌, true, false, List, [], ◌∷◌, ◌++◌, length, drop, slice_index, refl, sym, ap, subst, ◌∙◌, arith, ⊎_elim, inl, inr}
+use Rattle.std.proofs.Common.{◌≡◌, ℕ, zero, suc, ◌+◌, ◌<◌, ◌==◌, ◌||◌, Bool, true, false, not, List, [], ◌∷◌, ◌++◌, length, drop, slice_index, refl, sym, ap, subst, ◌∙◌, arith, ⊎_elim, inl, inr}
+use Rattle.std.specs.List.{list_any}
 use Rattle.std.proofs.lemmas.Bool.{cond-true, cond-false, cases_Bool, or_cases, eqb-true, eqb-false, false≢true}
 use Rattle.std.proofs.lemmas.List.{append_assoc, at_drop_more}
 use Rattle.mail_base.specs.Texts.{is_blank, IsBlank, IsHeader}
@@ -46,3 +47,8 @@ tidied_more text made i low =
     append_assoc made (tidy_first (drop i text) ∷ []) (tidied (drop (i + 1) text))
     ∙ ap (λ b. made ++ b ∷ tidied (drop (i + 1) text)) (at_drop_more tidy_first text i 0 low)
     ∙ sym (ap (λ t. made ++ t) (at_drop_more tidied text i 0 low))
+
+-- an H line with flags is wanted where one of them is there
+pub wanted_by : (flags : List ℕ) (one : Bool) → (flags ≡ [] → ⊥) → one ≡ (not (list_any (λ f. true) flags) || one)
+wanted_by [] one some = absurd (some refl)
+wanted_by (f ∷ flags) one some = refl

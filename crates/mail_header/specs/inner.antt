@@ -1,3 +1,4 @@
 pub mod Added
+pub mod Ends
 pub mod Tidy
 pub mod Wholes

@@ -170,7 +170,7 @@ fn without_return(text: &[u8]) -> &[u8]
     text
 }
 
-fn ends_in_return(text: &[u8]) -> bool
+pub(crate) fn ends_in_return(text: &[u8]) -> bool
     ensures { result ≡ (slice_index text.now (length text.now - 1) == 13) }
 {
     !text.is_empty() && text[text.len() - 1] == b'\r'

@@ -31,14 +31,14 @@ fn received_line(lines: &[HeaderLine]) -> Option<&HeaderLine>
     lines.iter().find(|line| is_received(line))
 }
 
-fn is_received(line: &HeaderLine) -> bool
+pub(crate) fn is_received(line: &HeaderLine) -> bool
     ensures { result ≡ spec.is_for (codes "Received") line.now }
 {
     line.name.bytes().eq_ignore_ascii_case(b"Received")
 }
 
 /// The header that an H line makes.
-fn made(line: &HeaderLine, macros: &Macros) -> Result<Text, NoMemory>
+pub(crate) fn made(line: &HeaderLine, macros: &Macros) -> Result<Text, NoMemory>
     ensures { IfOk result (λ made. made ≡ spec.made_of macros.now line.now) }
 {
     let value = expanded(line.template.allocator(), &line.template, macros)?;
