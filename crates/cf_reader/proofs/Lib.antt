@@ -1,5 +1,6 @@
 mod LineLemmas
 mod SetLemmas
+mod FieldLemmas
 mod FileLemmas
 mod PlaceLemmas
 mod ColumnLemmas

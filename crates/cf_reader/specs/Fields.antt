@@ -1,7 +1,7 @@
 -- The fields of M and Q lines and of some options: names with values, between commas (Sendmail
 -- Installation and Operation Guide, "M: Define Mailer" and "Q: Define Queue Group"; what quotes and
 -- backslashes do is the public program's).
-use Rattle.std.specs.Prelude.{◌≡◌, ℕ, Bool, true, false, not, ◌&&◌, ◌||◌, ◌==◌, if◌then◌else◌, List, [], ◌∷◌, ◌++◌, length, filter, map, unwrap_or, codes, refl}
+use Rattle.std.specs.Prelude.{◌≡◌, ◌≢◌, ℕ, Bool, true, false, not, ◌&&◌, ◌||◌, ◌==◌, if◌then◌else◌, List, [], ◌∷◌, ◌++◌, length, filter, map, unwrap_or, codes, refl}
 use Rattle.cf_reader.specs.Cuts.{cut_at}
 use Rattle.mail_base.specs.Whites.{stripped}
 use Rattle.cf_reader.specs.declared.fields.Field.{Field}
@@ -61,6 +61,19 @@ plain_from stand (b ∷ text) = said stand b ++ plain_from (behind stand b) text
 -- a value without its quotes, and with the bytes that its escapes stand for
 abbrev pub plain : List ℕ → List ℕ
 plain text = plain_from outside text
+
+-- ---- quoted stretches, for the law on fields
+
+-- a byte that neither quotes nor escapes
+pub record IsQuotable (b : ℕ) : Type 0 where
+  pub no_quote : b ≢ 34
+  pub no_backslash : b ≢ 92
+
+-- what may stand between two double quotes: commas too, and a backslash with the byte behind it
+pub data InQuotes : List ℕ → Type 0 where
+  quote_nothing : InQuotes []
+  quote_plain : (b : ℕ) (more : List ℕ) → IsQuotable b → InQuotes more → InQuotes (b ∷ more)
+  quote_escaped : (b : ℕ) (more : List ℕ) → InQuotes more → InQuotes (92 ∷ b ∷ more)
 
 -- ---- names and values
 

@@ -13,6 +13,7 @@ mod file_line;
 mod finish;
 mod group_line;
 mod header_line;
+mod law;
 mod left_sides;
 mod letters;
 mod logical;
@@ -35,4 +36,5 @@ mod state;
 mod values;
 
 pub use fault::{CfFault, Fault};
+pub use law::fields_by_first_construct;
 pub use reader::read;
