@@ -5,4 +5,5 @@ pub mod Headers
 pub mod Lines
 pub mod Made
 pub mod Outgoing
+pub mod Places
 pub mod inner
