@@ -1,0 +1,3 @@
+mod HoldLemmas
+mod LiteralLemmas
+mod NoteLemmas

@@ -1,0 +1,4 @@
+pub mod Arguments
+pub mod Ends
+pub mod Starts
+pub mod inner
