@@ -1,0 +1,4 @@
+pub mod Inboxes
+pub mod Looks
+pub mod Steps
+pub mod Ways
