@@ -1,5 +1,5 @@
 -- What a call does of what it commits, and what one that fails before leaves.
-use Rattle.std.proofs.Common.{◌≡◌, ◌⊎◌, inl, inr, ⊎_elim, ℕ, ◌≤◌, List, Option, Some, None, Result, Ok, Err, true, refl, sym, ◌∙◌, ap, subst}
+use Rattle.std.proofs.Common.{◌≡◌, ◌⊎◌, inl, inr, ⊎_elim, ℕ, List, Option, Some, None, Result, Ok, Err, true, refl, sym, ◌∙◌, ap, subst}
 use Rattle.std.specs.Prelude.{IfSome, IsErrOf, OnOk, OnErr}
 use Rattle.std.proofs.Math.Nat.{le_refl}
 use Rattle.std.proofs.lemmas.Result.{on_ok_weaker}
@@ -13,7 +13,7 @@ use Rattle.spool_disk.specs.Disk.{FileMap, bytes_at}
 use Rattle.spool_disk.specs.Spooled.{Spooled}
 use Rattle.spool_store.specs.Entries.{Table}
 use Rattle.spool_store.specs.Moves.{Becomes, Ends, Moves}
-use Rattle.spool_store.specs.Parcels.{IsBelowLast, IsParcel, IsReady, IsReadyUnder, with_children, with_commit}
+use Rattle.spool_store.specs.Parcels.{IsBelowLast, with_children, with_commit}
 use Rattle.spool_store.specs.Parts.{IsEitherTable}
 use Rattle.spool_store.specs.Settled.{IsSettled, StandsFor}
 use Rattle.spool_store.specs.Stores.{Holds, KeepsOthers, StoreSeen}
@@ -21,7 +21,7 @@ use Rattle.spool_store.specs.Writes.{after_commit}
 use Rattle.spool_store.specs.declared.held.Held.{Held}
 use Rattle.spool_store.specs.declared.parcel.Parcel.{Parcel}
 use Rattle.spool_store.proofs.MovesLemmas.{moves_none, told_after}
-use Rattle.queue_table.specs.Calls.{CarriesOut, HoldsTable, IsAccepting, IsPlanned, IsSame, LeadsTo, MayStop, broken_one, store}
+use Rattle.queue_table.specs.Calls.{CarriesOut, HoldsTable, IsAccepting, IsSame, LeadsTo, MayStop, broken_one, store}
 use Rattle.queue_table.specs.Commands.{Command, accepted, after, draft_of, drafts_of}
 use Rattle.queue_table.specs.Commands.Command.{Accept, Record, Return, Warn}
 use Rattle.queue_table.specs.declared.accepting.Accepting.{Accepting}
@@ -102,25 +102,12 @@ broken_holds s new table e h = subst (λ (q : StoreSeen). Holds q table) (sym e)
 pub broken_stays : (s new : StoreSeen) → new ≡ broken_one s → (new.dirs ≡ s.dirs) × (new.strange ≡ s.strange)
 broken_stays s new e = (ap (λ (q : StoreSeen). q.dirs) e, ap (λ (q : StoreSeen). q.strange) e)
 
--- what is committed is what the parcel has
-pub own_body : (s : StoreSeen) (children : List Draft) (parent : Draft) (b : List ℕ) (parcel : Parcel) → IsParcel s children parent b parcel → IsParcel s children parent parcel.body parcel
-own_body s children parent b parcel is = subst (λ (q : List ℕ). IsParcel s children parent q parcel) (sym is.body_is) is
-
-pub planned_ready : (kept : Kept) (accepting : Accepting) → IsPlanned kept accepting → IsReady (store kept) accepting.parcel
-planned_ready kept accepting p = record {
-  children = drafts_of kept.terms p.message p.moment p.is.rest;
-  parent = draft_of kept.terms p.message p.moment p.is.first;
-  is = own_body (store kept) (drafts_of kept.terms p.message p.moment p.is.rest) (draft_of kept.terms p.message p.moment p.is.first) p.message.body accepting.parcel p.is.parcel;
-}
-
 -- a commit of what was planned makes what the command does
-pub accept_leads : (kept : Kept) (message : Message) (cuts : List Cut) (moment : ℕ) (accepting : Accepting) (is : IsAccepting kept message cuts moment accepting) (table : Table) → after_commit table (drafts_of kept.terms message moment is.rest) (draft_of kept.terms message moment is.first) accepting.parcel.body None ≡ after table (Accept kept.terms message cuts moment)
-accept_leads kept message cuts moment accepting is table =
-    ap (λ (b : List ℕ). after_commit table (drafts_of kept.terms message moment is.rest) (draft_of kept.terms message moment is.first) b None) is.parcel.body_is
-    ∙ sym (ap (λ (q : List Cut). accepted kept.terms message q moment table) is.whole)
+pub accept_leads : (kept : Kept) (message : Message) (cuts : List Cut) (moment : ℕ) (accepting : Accepting) (is : IsAccepting kept message cuts moment accepting) (table : Table) → after_commit table (drafts_of kept.terms message moment is.rest) (draft_of kept.terms message moment is.first) message.body None ≡ after table (Accept kept.terms message cuts moment)
+accept_leads kept message cuts moment accepting is table = sym (ap (λ (q : List Cut). accepted kept.terms message q moment table) is.whole)
 
 pub accept_holds : {T E : Type 0} (kept : Kept) (message : Message) (cuts : List Cut) (moment : ℕ) (accepting : Accepting) (r : Result T E) (new : StoreSeen) (table : Table) (is : IsAccepting kept message cuts moment accepting) → OnOk r (new ≡ with_commit (store kept) (drafts_of kept.terms message moment is.rest) (draft_of kept.terms message moment is.first))
-    → Holds (with_commit (store kept) (drafts_of kept.terms message moment is.rest) (draft_of kept.terms message moment is.first)) (after_commit table (drafts_of kept.terms message moment is.rest) (draft_of kept.terms message moment is.first) accepting.parcel.body None)
+    → Holds (with_commit (store kept) (drafts_of kept.terms message moment is.rest) (draft_of kept.terms message moment is.first)) (after_commit table (drafts_of kept.terms message moment is.rest) (draft_of kept.terms message moment is.first) message.body None)
     → OnOk r (Holds new (after table (Accept kept.terms message cuts moment)))
 accept_holds kept message cuts moment accepting r new table is ok holds =
     on_ok_weaker r (λ e. subst (λ (q : StoreSeen). Holds q (after table (Accept kept.terms message cuts moment))) (sym e) (subst (Holds (with_commit (store kept) (drafts_of kept.terms message moment is.rest) (draft_of kept.terms message moment is.first))) (accept_leads kept message cuts moment accepting is table) holds)) ok
@@ -134,9 +121,6 @@ pub commit_whole : {T E : Type 0} (r : Result T E) (s new : StoreSeen) (children
 commit_whole r s new children parent ok = on_ok_weaker r (λ e. ap (λ (q : StoreSeen). q.broken) e) ok
 
 -- of a command under an entry
-pub makes_ready : (kept : Kept) (id : ℕ) (command : Command) (parcel : Parcel) → Makes kept id command parcel → IsReadyUnder (store kept) parcel
-makes_ready kept id command parcel m = record { id = id; children = m.children; parent = m.parent; is = m.is }
-
 pub under_holds : (kept : Kept) (id : ℕ) (command : Command) (parcel : Parcel) (m : Makes kept id command parcel) (new : StoreSeen) (table : Table) → HoldsTable kept table → new ≡ with_children (store kept) id m.children m.parent → Holds (with_children (store kept) id m.children m.parent) (after_commit table m.children m.parent parcel.body (Some id)) → Holds new (after table command)
 under_holds kept id command parcel m new table holds e h = subst (λ (q : StoreSeen). Holds q (after table command)) (sym e) (subst (Holds (with_children (store kept) id m.children m.parent)) (m.leads table holds) h)
 

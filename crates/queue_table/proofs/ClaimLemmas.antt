@@ -1,5 +1,5 @@
 -- The least of the entries that may be claimed.
-use Rattle.std.proofs.Common.{◌≡◌, ◌⊎◌, inl, inr, ⊎_elim, ℕ, ◌+◌, ◌<◌, ◌≤◌, List, length, get_or, Option, None, Some, Bool, true, false, not, ◌&&◌, eqb, if◌then◌else◌, map, refl, sym, ◌∙◌, ap, subst, arith, true≢false}
+use Rattle.std.proofs.Common.{◌≡◌, ◌⊎◌, inl, inr, ⊎_elim, ℕ, ◌+◌, ◌<◌, List, length, get_or, Option, None, Some, Bool, true, false, not, ◌&&◌, eqb, if◌then◌else◌, map, refl, sym, ◌∙◌, ap, subst, arith, true≢false}
 use Rattle.std.proofs.lemmas.Bool.{cases_eq, eqb-true}
 use Rattle.std.proofs.lemmas.List.Elements.{All-map}
 use Rattle.mail_base.specs.declared.control.Control.{Control}

@@ -5,7 +5,7 @@ mod OrderLemmas
 mod PriorityLemmas
 mod EntryLemmas
 mod GoingLemmas
-mod SoundLemmas
+pub mod SoundLemmas
 pub mod StayLemmas
 pub mod LowLemmas
 pub mod AskedLemmas
@@ -13,4 +13,5 @@ pub mod CommandLemmas
 mod ResultLemmas
 mod RecordLemmas
 mod ClaimLemmas
+mod OpenLemmas
 pub mod DirLemmas

@@ -1,11 +1,11 @@
 -- What is made ready before a call writes.
-use Rattle.std.proofs.Common.{◌≡◌, ◌≢◌, ◌⊎◌, ⊎_elim, ℕ, ◌+◌, ◌-◌, ◌<◌, ◌≤◌, ◌^◌, List, [], ◌∷◌, ◌++◌, map, length, Option, Some, None, Result, Ok, Err, Bool, true, false, refl, sym, ◌∙◌, ap, subst, arith, Contains}
+use Rattle.std.proofs.Common.{◌≡◌, ⊎_elim, ℕ, ◌+◌, ◌<◌, ◌≤◌, List, [], ◌∷◌, ◌++◌, map, length, Option, Some, None, Result, Ok, Err, Bool, true, false, refl, sym, ◌∙◌, ap, subst, arith, Contains}
 use Rattle.std.specs.Prelude.{◌↔◌, All, IfOk, IfSome, IsSome, IsTrue, not, sum_by}
 use Rattle.std.proofs.lemmas.Bool.{cases_lt}
 use Rattle.std.specs.List.Sorted.{IsStrictlySortedBy}
 use Rattle.std.specs.Ordering.{nat_cmp}
 use Rattle.std.proofs.lemmas.List.{append-nil, length-map}
-use Rattle.std.proofs.lemmas.List.Elements.{All-head, All-tail, All-nil, All-cons}
+use Rattle.std.proofs.lemmas.List.Elements.{All-contains, All-head, All-tail, All-nil, All-cons}
 use Rattle.mail_base.specs.Limits.{IsId, most_rows}
 use Rattle.mail_base.specs.declared.control.Control.{Control}
 use Rattle.mail_base.specs.declared.control.Draft.{Draft}
@@ -21,14 +21,15 @@ use Rattle.mail_base.specs.declared.message.Message.{Message}
 use Rattle.qf_format.specs.Valid.{IsRevision, IsRow, IsState, IsValid}
 use Rattle.spool_store.specs.Entries.{Stored, Table, with_control}
 use Rattle.spool_store.specs.Keepers.{raised}
+use Rattle.spool_store.specs.Openings.{IsFitting}
 use Rattle.spool_store.specs.Parcels.{CanPrepare, CanPrepareUnder, IsParcel, IsParcelUnder}
 use Rattle.spool_store.specs.Queue.{IsOpen}
 use Rattle.spool_store.specs.Stores.{HasId, StoreSeen}
 use Rattle.spool_store.specs.Writes.{IsDraftable, after_commit, heir, numbered}
 use Rattle.spool_store.specs.declared.held.Held.{Held}
 use Rattle.spool_store.specs.declared.parcel.Parcel.{Parcel}
-use Rattle.queue_table.specs.Calls.{AreBacksValid, AreDirs, AreValid, HoldsTable, IsAccepting, IsAsked, IsFit, IsSame, store}
-use Rattle.queue_table.specs.Commands.{Command, control_at, draft_of, drafts_of, with_children, with_entry}
+use Rattle.queue_table.specs.Calls.{AreBacksValid, AreDirs, AreValid, HoldsTable, IsAccepting, IsAsked, IsSame, store}
+use Rattle.queue_table.specs.Commands.{control_at, draft_of, drafts_of, with_children, with_entry}
 use Rattle.queue_table.specs.Commands.Command.{Return, Warn}
 use Rattle.queue_table.specs.Results.{given_back, with_returns, with_warning}
 use Rattle.queue_table.specs.Soundness.{AreBounces, HasEntry, IsBack}
@@ -37,6 +38,10 @@ use Rattle.queue_table.specs.declared.table.Table.{Table as Kept}
 use Rattle.queue_table.specs.declared.terms.Terms.{Terms}
 use Rattle.queue_table.specs.inner.Planning.{AreDrafts, IsOpenAt, Makes, control_by, given_by, next_draft, row_by}
 use Rattle.queue_table.proofs.HoldingLemmas.{held_found, held_in}
+
+-- what a store tells of its entries
+abbrev pub AreFitting : StoreSeen → Type 0
+AreFitting s = All (λ (h : Held). IsFitting s.dirs h.entry) s.entries
 
 -- drafts of valid parts can be committed
 pub all_draftable : (dirs : List (List ℕ)) (terms : Terms) (message : Message) (moment : ℕ) (cuts : List Cut) → AreDirs terms dirs → AreValid terms message moment cuts → All (IsDraftable dirs) (drafts_of terms message moment cuts)
@@ -144,14 +149,14 @@ warned_valid c v = record {
 }
 
 -- an entry's next control and the children under it can be committed
-can_under : (old : Kept) (id : ℕ) (children : List Draft) (parent : Draft) (change : Control → Control) → IsOpenAt old id → IsFit old id → ((c : Control) → IsValid c → IsValid (change c)) → ((c : Control) → (change c).parent ≡ c.parent) → ((c : Control) → (change c).revision ≡ raised c.revision) → All (IsDraftable (store old).dirs) children
+can_under : (old : Kept) (id : ℕ) (children : List Draft) (parent : Draft) (change : Control → Control) → IsOpenAt old id → ((c : Control) → IsValid c → IsValid (change c)) → ((c : Control) → (change c).parent ≡ c.parent) → ((c : Control) → (change c).revision ≡ raised c.revision) → All (IsDraftable (store old).dirs) children
     → ((h : Held) → Contains (store old).entries h → h.entry.id ≡ id → parent ≡ next_draft h (change h.entry.control)) → CanPrepareUnder (store old).dirs (store old).entries children parent
-can_under old id children parent change at fit valid up raise each is =
+can_under old id children parent change at valid up raise each is =
     let h = at.held in
     let e : parent ≡ next_draft h (change h.entry.control) = is h at.among at.is in
     record {
       each = each;
-      head = subst (IsDraftable (store old).dirs) (sym e) (record { among = fit.dir h at.among at.is; valid = valid h.entry.control (fit.valid h at.among at.is) });
+      head = subst (IsDraftable (store old).dirs) (sym e) (record { among = at.fit.dir; valid = valid h.entry.control at.fit.valid });
       held = h;
       among = at.among;
       named = ap (λ (q : Draft). q.id) e;
@@ -163,13 +168,13 @@ can_under old id children parent change at fit valid up raise each is =
       };
     }
 
-pub can_back : (old : Kept) (id : ℕ) (children : List Draft) (parent : Draft) (bounce : Option ℕ) → IfSome bounce IsId → IsOpenAt old id → IsFit old id → All (IsDraftable (store old).dirs) children
+pub can_back : (old : Kept) (id : ℕ) (children : List Draft) (parent : Draft) (bounce : Option ℕ) → IfSome bounce IsId → IsOpenAt old id → All (IsDraftable (store old).dirs) children
     → ((h : Held) → Contains (store old).entries h → h.entry.id ≡ id → parent ≡ next_draft h (control_by bounce h.entry.control)) → CanPrepareUnder (store old).dirs (store old).entries children parent
-can_back old id children parent bounce b at fit each is = can_under old id children parent (control_by bounce) at fit (back_valid bounce b) (λ c. refl) (λ c. refl) each is
+can_back old id children parent bounce b at each is = can_under old id children parent (control_by bounce) at (back_valid bounce b) (λ c. refl) (λ c. refl) each is
 
-pub can_warn : (old : Kept) (id : ℕ) (children : List Draft) (parent : Draft) → IsOpenAt old id → IsFit old id → All (IsDraftable (store old).dirs) children
+pub can_warn : (old : Kept) (id : ℕ) (children : List Draft) (parent : Draft) → IsOpenAt old id → All (IsDraftable (store old).dirs) children
     → ((h : Held) → Contains (store old).entries h → h.entry.id ≡ id → parent ≡ next_draft h (with_warning h.entry.control)) → CanPrepareUnder (store old).dirs (store old).entries children parent
-can_warn old id children parent at fit each is = can_under old id children parent with_warning at fit warned_valid (λ c. refl) (λ c. refl) each is
+can_warn old id children parent at each is = can_under old id children parent with_warning at warned_valid (λ c. refl) (λ c. refl) each is
 
 pub open_id : (old : Kept) (id : ℕ) → IsOpenAt old id → HasId (store old).entries id
 open_id old id at = record { held = at.held; among = at.among; is = at.is }
@@ -248,14 +253,14 @@ with_there : (change : Control → Table) (table : Table) (o : Option Control) (
 with_there change table o c e = sym (ap (with_entry change table) e)
 
 -- the entry of an id, as the store has it
-pub open_at : (old : Kept) (table : Table) (id : ℕ) → HoldsTable old table → (has : HasEntry table id) → IsOpen has.entry.control → IsOpenAt old id
-open_at old table id holds has waits =
+pub open_at : (old : Kept) (table : Table) (id : ℕ) → AreFitting (store old) → HoldsTable old table → (has : HasEntry table id) → IsOpen has.entry.control → IsOpenAt old id
+open_at old table id fit holds has waits =
     let k = held_in (store old).entries table.entries has.entry holds.entries has.among in
-    record { held = k.one; among = k.among; is = k.is.id ∙ has.is; waits = subst IsOpen (sym k.is.control) waits }
+    record { held = k.one; among = k.among; is = k.is.id ∙ has.is; waits = subst IsOpen (sym k.is.control) waits; fit = All-contains (λ (h : Held). IsFitting (store old).dirs h.entry) (store old).entries k.one fit k.among }
 
-pub open_control : (old : Kept) (table : Table) (id : ℕ) (holds : HoldsTable old table) (has : HasEntry table id) (waits : IsOpen has.entry.control) → (open_at old table id holds has waits).held.entry.control ≡ has.entry.control
+pub open_control : (old : Kept) (table : Table) (id : ℕ) (fit : AreFitting (store old)) (holds : HoldsTable old table) (has : HasEntry table id) (waits : IsOpen has.entry.control) → (open_at old table id fit holds has waits).held.entry.control ≡ has.entry.control
 unfolding open_at
-open_control old table id holds has waits = (held_in (store old).entries table.entries has.entry holds.entries has.among).is.control
+open_control old table id fit holds has waits = (held_in (store old).entries table.entries has.entry holds.entries has.among).is.control
 
 -- what stands where the plan's entry is found in a table
 found_after : (old mid : Kept) (id : ℕ) (at : IsOpenAt old id) (table : Table) (change : Control → Table) → IsSame old mid → IsStrictlySortedBy nat_cmp (map (λ (h : Held). h.entry.id) (store old).entries) → HoldsTable mid table → change at.held.entry.control ≡ with_entry change table (control_at id table.entries)
@@ -312,32 +317,32 @@ makes_warning old mid id moment backs back parcel at same up one is = record {
 }
 
 -- what is ready is the command
-pub return_none : (old mid : Kept) (id : ℕ) (moment : ℕ) (backs : List Back) (r : Result Parcel StoreFault) (asked : IsAsked old (Return old.terms id backs moment)) → IsSame old mid → IsStrictlySortedBy nat_cmp (map (λ (h : Held). h.entry.id) (store old).entries) → backs ≡ []
+pub return_none : (old mid : Kept) (id : ℕ) (moment : ℕ) (backs : List Back) (r : Result Parcel StoreFault) (asked : IsAsked old (Return old.terms id backs moment)) → AreFitting (store old) → IsSame old mid → IsStrictlySortedBy nat_cmp (map (λ (h : Held). h.entry.id) (store old).entries) → backs ≡ []
     → IfOk r (λ parcel. (h : Held) → Contains (store old).entries h → h.entry.id ≡ id → IsParcelUnder (store mid) id [] (next_draft h (control_by None h.entry.control)) [] parcel)
     → IfOk r (Makes mid id (Return old.terms id backs moment))
-return_none old mid id moment backs (Ok parcel) asked same up none is =
-    let at = open_at old asked.table id asked.holds asked.can.has asked.can.waits in
-    let control = open_control old asked.table id asked.holds asked.can.has asked.can.waits in
+return_none old mid id moment backs (Ok parcel) asked fit same up none is =
+    let at = open_at old asked.table id fit asked.holds asked.can.has asked.can.waits in
+    let control = open_control old asked.table id fit asked.holds asked.can.has asked.can.waits in
     makes_none old mid id moment backs parcel at same up (ap (λ (q : Control). q.marks.double) control ∙ no_bounce asked.can.has.entry.control.marks.double backs asked.can.bounces_are none) none (is at.held at.among at.is)
-return_none old mid id moment backs (Err e) asked same up none is = tt
+return_none old mid id moment backs (Err e) asked fit same up none is = tt
 
-pub return_one : (old mid : Kept) (id : ℕ) (moment : ℕ) (backs xs : List Back) (back : Back) (r : Result Parcel StoreFault) (asked : IsAsked old (Return old.terms id backs moment)) → IsSame old mid → IsStrictlySortedBy nat_cmp (map (λ (h : Held). h.entry.id) (store old).entries) → backs ≡ xs ++ back ∷ []
+pub return_one : (old mid : Kept) (id : ℕ) (moment : ℕ) (backs xs : List Back) (back : Back) (r : Result Parcel StoreFault) (asked : IsAsked old (Return old.terms id backs moment)) → AreFitting (store old) → IsSame old mid → IsStrictlySortedBy nat_cmp (map (λ (h : Held). h.entry.id) (store old).entries) → backs ≡ xs ++ back ∷ []
     → IfOk r (λ parcel. (h : Held) → Contains (store old).entries h → h.entry.id ≡ id → IsParcelUnder (store mid) id (drafts_of old.terms back.message moment back.cuts) (next_draft h (control_by (Some (store old).next) h.entry.control)) back.message.body parcel)
     → IfOk r (Makes mid id (Return old.terms id backs moment))
-return_one old mid id moment backs xs back (Ok parcel) asked same up one is =
-    let at = open_at old asked.table id asked.holds asked.can.has asked.can.waits in
-    let control = open_control old asked.table id asked.holds asked.can.has asked.can.waits in
+return_one old mid id moment backs xs back (Ok parcel) asked fit same up one is =
+    let at = open_at old asked.table id fit asked.holds asked.can.has asked.can.waits in
+    let control = open_control old asked.table id fit asked.holds asked.can.has asked.can.waits in
     let b = one_bounce asked.can.has.entry.control.marks.double backs xs back asked.can.bounces_are one in
     makes_one old mid id moment backs back parcel at same up (ap (λ (q : Control). q.marks.double) control ∙ b.single) b.one (is at.held at.among at.is)
-return_one old mid id moment backs xs back (Err e) asked same up one is = tt
+return_one old mid id moment backs xs back (Err e) asked fit same up one is = tt
 
-pub warned_one : (old mid : Kept) (id : ℕ) (moment : ℕ) (backs xs : List Back) (back : Back) (r : Result Parcel StoreFault) (asked : IsAsked old (Warn old.terms id backs moment)) → IsSame old mid → IsStrictlySortedBy nat_cmp (map (λ (h : Held). h.entry.id) (store old).entries) → backs ≡ xs ++ back ∷ []
+pub warned_one : (old mid : Kept) (id : ℕ) (moment : ℕ) (backs xs : List Back) (back : Back) (r : Result Parcel StoreFault) (asked : IsAsked old (Warn old.terms id backs moment)) → AreFitting (store old) → IsSame old mid → IsStrictlySortedBy nat_cmp (map (λ (h : Held). h.entry.id) (store old).entries) → backs ≡ xs ++ back ∷ []
     → IfOk r (λ parcel. (h : Held) → Contains (store old).entries h → h.entry.id ≡ id → IsParcelUnder (store mid) id (drafts_of old.terms back.message moment back.cuts) (next_draft h (with_warning h.entry.control)) back.message.body parcel)
     → IfOk r (Makes mid id (Warn old.terms id backs moment))
-warned_one old mid id moment backs xs back (Ok parcel) asked same up one is =
-    let at = open_at old asked.table id asked.holds asked.can.has asked.can.waits in
+warned_one old mid id moment backs xs back (Ok parcel) asked fit same up one is =
+    let at = open_at old asked.table id fit asked.holds asked.can.has asked.can.waits in
     makes_warning old mid id moment backs back parcel at same up (one_warning backs xs back asked.can.warning asked.can.one one) (is at.held at.among at.is)
-warned_one old mid id moment backs xs back (Err e) asked same up one is = tt
+warned_one old mid id moment backs xs back (Err e) asked fit same up one is = tt
 
 -- the cuts of one message are those of all
 cuts_one : (backs : List Back) (back : Back) → backs ≡ back ∷ [] → sum_by (λ (q : Back). length q.cuts) backs ≡ length back.cuts
@@ -375,11 +380,11 @@ pub renamed : (s : StoreSeen) (entries : List Held) (id m n : ℕ) (children : L
 renamed s entries id m n children b r same is = subst (λ (q : ℕ). IfOk r (λ parcel. (h : Held) → Contains entries h → h.entry.id ≡ id → IsParcelUnder s id children (next_draft h (control_by (Some q) h.entry.control)) b parcel)) same is
 
 -- where an entry may be given back, or warned of, it is open
-pub return_open : (old : Kept) (id : ℕ) (moment : ℕ) (backs : List Back) → IsAsked old (Return old.terms id backs moment) → IsOpenAt old id
-return_open old id moment backs asked = open_at old asked.table id asked.holds asked.can.has asked.can.waits
+pub return_open : (old : Kept) (id : ℕ) (moment : ℕ) (backs : List Back) → AreFitting (store old) → IsAsked old (Return old.terms id backs moment) → IsOpenAt old id
+return_open old id moment backs fit asked = open_at old asked.table id fit asked.holds asked.can.has asked.can.waits
 
-pub warn_open : (old : Kept) (id : ℕ) (moment : ℕ) (backs : List Back) → IsAsked old (Warn old.terms id backs moment) → IsOpenAt old id
-warn_open old id moment backs asked = open_at old asked.table id asked.holds asked.can.has asked.can.waits
+pub warn_open : (old : Kept) (id : ℕ) (moment : ℕ) (backs : List Back) → AreFitting (store old) → IsAsked old (Warn old.terms id backs moment) → IsOpenAt old id
+warn_open old id moment backs fit asked = open_at old asked.table id fit asked.holds asked.can.has asked.can.waits
 
 last_all : (P : Back → Type 0) (xs : List Back) (x : Back) → All P (xs ++ x ∷ []) → P x
 last_all P [] x all = All-head P x [] all

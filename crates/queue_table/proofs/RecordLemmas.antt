@@ -1,9 +1,10 @@
 -- A record over a store is that over the table that it holds.
 use Rattle.std.proofs.Common.{◌≡◌, ⊎_elim, ℕ, ◌≤◌, List, [], ◌∷◌, map, Some, Result, Ok, Err, refl, sym, ◌∙◌, ap, subst, arith, Contains}
-use Rattle.std.specs.Prelude.{OnOk}
+use Rattle.std.specs.Prelude.{All, OnOk}
 use Rattle.std.specs.List.{AllZip}
 use Rattle.std.specs.List.Sorted.{IsStrictlySortedBy}
 use Rattle.std.specs.Ordering.{nat_cmp}
+use Rattle.std.proofs.lemmas.List.Elements.{All-contains}
 use Rattle.mail_base.specs.declared.control.Control.{Control}
 use Rattle.mail_base.specs.declared.outcome.Result1.{Result1}
 use Rattle.qf_format.specs.Room.{SameTexts, room_of}
@@ -11,6 +12,7 @@ use Rattle.qf_format.specs.Sheets.{Sheet}
 use Rattle.qf_format.specs.Valid.{IsValid}
 use Rattle.spool_store.specs.Entries.{Stored, Table, ids}
 use Rattle.spool_store.specs.Keepers.{CanReplace, after_replace}
+use Rattle.spool_store.specs.Openings.{IsFitting}
 use Rattle.spool_store.specs.Stores.{Holds, IsHeld, StoreSeen}
 use Rattle.spool_store.specs.declared.held.Held.{Held}
 use Rattle.queue_table.specs.Commands.{after, control_at, with_entry}
@@ -58,8 +60,8 @@ record_is store table reserved terms results moment holds up r =
     (held_control store table r.can.held reserved.room.id holds up r.can.among r.can.is ∙ ap (λ (c : Control). Some c) (sym r.control))
 
 -- and may do so
-pub record_can : (entries : List Held) (reserved : Reserved) (terms : Terms) (results : List Result1) (moment : ℕ) (id : ℕ) (control : Control) (paper : Sheet) → IsReserved entries reserved → id ≡ reserved.room.id → paper ≡ reserved.room.paper → control ≡ recorded terms reserved.rows results moment reserved.room.control → (IsValid reserved.room.control → IsValid control) → CanReplace entries id control paper
-record_can entries reserved terms results moment id control paper r id_is paper_is is valid =
+pub record_can : (dirs : List (List ℕ)) (entries : List Held) (reserved : Reserved) (terms : Terms) (results : List Result1) (moment : ℕ) (id : ℕ) (control : Control) (paper : Sheet) → All (λ (h : Held). IsFitting dirs h.entry) entries → IsReserved entries reserved → id ≡ reserved.room.id → paper ≡ reserved.room.paper → control ≡ recorded terms reserved.rows results moment reserved.room.control → (IsValid reserved.room.control → IsValid control) → CanReplace entries id control paper
+record_can dirs entries reserved terms results moment id control paper fit r id_is paper_is is valid =
     let held = r.can.held in
     let made : control ≡ recorded terms reserved.rows results moment held.entry.control = is ∙ ap (recorded terms reserved.rows results moment) r.control in
     record {
@@ -67,7 +69,7 @@ record_can entries reserved terms results moment id control paper r id_is paper_
       among = r.can.among;
       is = r.can.is ∙ sym id_is;
       open_row = r.can.waits;
-      valid = valid (subst IsValid (sym r.control) r.can.valid);
+      valid = valid (subst IsValid (sym r.control) (All-contains (λ (h : Held). IsFitting dirs h.entry) entries held fit r.can.among).valid);
       texts = subst (SameTexts held.entry.control) (sym made) (record { group = refl; sender = refl; kept = refl; addresses = results_addresses (is_old terms held.entry.control.created moment) reserved.rows results held.entry.control.rows; headers = refl });
       parent = ap (λ (c : Control). c.parent) made;
       revision = ap (λ (c : Control). c.revision) made;

@@ -1,21 +1,18 @@
 -- A command leaves each entry but the one that it changes.
-use Rattle.std.proofs.Common.{◌≡◌, ◌≢◌, ◌⊎◌, ⊎_elim, ℕ, ◌+◌, ◌<◌, ◌≤◌, List, [], ◌∷◌, ◌++◌, map, length, Option, Some, None, Bool, true, false, if◌then◌else◌, refl, sym, ◌∙◌, ap, subst, arith, ne_eqb, Contains}
+use Rattle.std.proofs.Common.{◌≡◌, ◌≢◌, ⊎_elim, ℕ, ◌+◌, ◌<◌, ◌≤◌, List, [], ◌∷◌, ◌++◌, map, Option, Some, None, Bool, true, false, if◌then◌else◌, refl, sym, ◌∙◌, ap, subst, arith, ne_eqb, Contains}
 use Rattle.std.specs.Prelude.{All, eqb}
 use Rattle.std.proofs.lemmas.Bool.{cases_eq}
 use Rattle.std.proofs.lemmas.List.Elements.{All-head, All-tail, All-cons, All-contains, Contains-append_left, Contains-append_cases}
 use Rattle.mail_base.specs.declared.control.Control.{Control}
 use Rattle.mail_base.specs.declared.control.Parent.{Parent}
 use Rattle.mail_base.specs.declared.message.Back.{Back}
-use Rattle.mail_base.specs.declared.message.Cut.{Cut}
-use Rattle.mail_base.specs.declared.message.Message.{Message}
-use Rattle.qf_format.specs.Valid.{IsValid}
 use Rattle.spool_store.specs.Entries.{Stored, Table, replaced, with_control}
 use Rattle.spool_store.specs.Keepers.{after_replace}
 use Rattle.spool_store.specs.Queue.{IsOpen}
 use Rattle.spool_store.specs.Stores.{HasId, refinished}
 use Rattle.spool_store.specs.Writes.{heir, numbered, stored}
 use Rattle.spool_store.specs.declared.held.Held.{Held}
-use Rattle.queue_table.specs.Calls.{HasSame, HoldsTable, IsHeldIn, IsStoredIn, store}
+use Rattle.queue_table.specs.Calls.{HasSame, HoldsTable, store}
 use Rattle.queue_table.specs.Commands.{Command, after, brought, changed_by, control_at, draft_of, drafts_of, with_children, with_entry}
 use Rattle.queue_table.specs.Commands.Command.{Accept, Record, Return, Warn}
 use Rattle.queue_table.specs.Reserves.{IsReserved}
@@ -167,7 +164,6 @@ reserve_stays old new table command reserved was is ne r =
         among = now.among;
         is = now.id ∙ r.can.is;
         waits = subst IsOpen (sym now.control) r.can.waits;
-        valid = subst IsValid (sym now.control) r.can.valid;
         tried = subst (λ (c : Control). All (IsTried c.rows) reserved.rows) (sym now.control) r.can.tried;
       };
       control = r.control ∙ sym now.control;
@@ -190,7 +186,6 @@ reserve_finishes entries id reserved r =
         among = contains_map (refinished id) r.can.held entries r.can.among;
         is = (λ i. (same i).id) ∙ r.can.is;
         waits = subst IsOpen (sym control) r.can.waits;
-        valid = subst IsValid (sym control) r.can.valid;
         tried = subst (λ (c : Control). All (IsTried c.rows) reserved.rows) (sym control) r.can.tried;
       };
       control = r.control ∙ sym control;

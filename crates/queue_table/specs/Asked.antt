@@ -1,6 +1,6 @@
 -- What a list of steps leaves in the files, where some of the steps ask commands of a table (own).
 -- `asked` gives the commands of a step, whatever its type is: none, or one.
-use Rattle.std.specs.Prelude.{◌≡◌, ◌⊎◌, ℕ, ◌<◌, ◌≤◌, ◌-◌, ◌^◌, List, [], ◌∷◌, ◌++◌, Bool, true, false, Option, IfSome, All, Contains}
+use Rattle.std.specs.Prelude.{◌≡◌, ◌⊎◌, ℕ, ◌<◌, ◌≤◌, ◌-◌, ◌^◌, List, [], ◌∷◌, ◌++◌, Bool, true, false, IfSome, All, Contains}
 use Rattle.std.specs.List.{flat_map}
 use Rattle.spool_disk.specs.Disk.{FileMap}
 use Rattle.spool_store.specs.Entries.{Stored, Table}

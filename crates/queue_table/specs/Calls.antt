@@ -15,7 +15,7 @@ use Rattle.spool_store.specs.Moves.{Ends, Moves}
 use Rattle.spool_store.specs.Parcels.{IsBelowLast, IsParcel}
 use Rattle.spool_store.specs.Parts.{IsEitherTable}
 use Rattle.spool_store.specs.Settled.{IsSettled, StandsFor}
-use Rattle.spool_store.specs.Stores.{Agrees, Holds, IsHeld, KeepsOthers, StoreSeen}
+use Rattle.spool_store.specs.Stores.{Agrees, Holds, IsAtRest, IsHeld, KeepsOthers, StoreSeen}
 use Rattle.spool_store.specs.declared.held.Held.{Held}
 use Rattle.queue_table.specs.Commands.{Command, after, draft_of, drafts_of, new_control}
 use Rattle.queue_table.specs.Commands.Command.{Accept, Record, Return, Warn}
@@ -100,7 +100,7 @@ pub record CarriesOut {T : Type 0} (old new : Kept) (command : Command)
   pub holds : (table : Table) → HoldsTable old table
       → OnOk result (HoldsTable new (after table command))
   pub kept : (table : Table) → HoldsTable old table → OnErr result (HoldsTable new table)
-  pub agrees : OnOk result (IfSome b.told (Agrees (store new)))
+  pub agrees : OnOk result (IsAtRest (store new) b)
   -- no place of a strange file, and none outside, is touched
   pub frame : (f : FileMap) → Moves a b (λ g. g ≡ f) (KeepsOthers (store old).dirs f)
       (KeepsOthers (store old).dirs f)
@@ -147,10 +147,3 @@ pub record IsAsked (kept : Kept) (command : Command) : Type 0 where
   pub table : Table
   pub holds : HoldsTable kept table
   pub can : CanDo table command
-
--- the entry of an id is in a directory of the store, and its control has a text
-pub record IsFit (kept : Kept) (id : ℕ) : Type 0 where
-  pub dir : (h : Held) → Contains (store kept).entries h → h.entry.id ≡ id
-      → Contains (store kept).dirs h.entry.dir
-  pub valid : (h : Held) → Contains (store kept).entries h → h.entry.id ≡ id
-      → IsValid h.entry.control

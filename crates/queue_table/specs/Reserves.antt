@@ -1,19 +1,17 @@
 -- What is reserved for the record of an attempt (own).
 use Rattle.std.specs.Prelude.{◌≡◌, ◌≤◌, ℕ, List, [], All, Contains}
 use Rattle.qf_format.specs.Room.{room_of}
-use Rattle.qf_format.specs.Valid.{IsValid}
 use Rattle.spool_store.specs.Queue.{IsOpen}
 use Rattle.spool_store.specs.declared.held.Held.{Held}
 use Rattle.queue_table.specs.Soundness.{IsTried}
 use Rattle.queue_table.specs.declared.recording.Reserved.{Reserved}
 
--- the rows at these places of the entry of an id are still tried, and its control has a text
+-- the rows at these places of the entry of an id are still tried
 pub record CanReserve (entries : List Held) (id : ℕ) (places : List ℕ) : Type 0 where
   pub held : Held
   pub among : Contains entries held
   pub is : held.entry.id ≡ id
   pub waits : IsOpen held.entry.control
-  pub valid : IsValid held.entry.control
   pub tried : All (IsTried held.entry.control.rows) places
 
 -- it was reserved for rows of an entry that wasn't changed since

@@ -1,16 +1,19 @@
-ghost use Rattle.std.specs.Prelude.{◌≡◌, ◌≢◌, ◌⊎◌, ◌+◌, ◌-◌, ◌^◌, ◌<◌, ◌++◌, ℕ, List, Contains, Some, length, map};
+ghost use Rattle.std.specs.Prelude.{◌≡◌, ◌≢◌, ◌⊎◌, ◌+◌, ◌-◌, ◌^◌, ◌<◌, ◌++◌, ◌∷◌, [], ℕ, All, List, Contains, Some, length, map, true};
+ghost use Rattle.mail_base.specs.States.{has_failed, has_queued, wants_bounce};
 ghost use Rattle.mail_base.specs.declared.control.Entry.{Entry};
+ghost use Rattle.mail_base.specs.declared.message.Back.{Back};
 ghost use Rattle.spool_store.specs.Entries.{Stored, Table};
 ghost use Rattle.spool_store.specs.Stores.{HasId, refinished};
 ghost use Rattle.spool_store.specs.declared.held.Held.{Held};
 ghost use Rattle.queue_table.specs.Asked.{AllStop, AreLow, IsStoppable};
-ghost use Rattle.queue_table.specs.Calls.{HasSame, HoldsTable, IsHeldIn, IsStoredIn, MayStop, store};
-ghost use Rattle.queue_table.specs.Commands.{Command, after, applied, changed_by, control_at};
+ghost use Rattle.queue_table.specs.Calls.{HasSame, HoldsTable, IsAsked, IsHeldIn, IsStoredIn, MayStop, store};
+ghost use Rattle.queue_table.specs.Commands.{Command, Return, Warn, after, applied, changed_by, control_at};
 ghost use Rattle.queue_table.specs.Order.{IsBefore};
-ghost use Rattle.queue_table.specs.Reserves.{IsReserved};
-ghost use Rattle.queue_table.specs.Soundness.{CanDo, HasEntry, IsSound, TableGoes};
+ghost use Rattle.queue_table.specs.Reserves.{CanReserve, IsReserved};
+ghost use Rattle.queue_table.specs.Soundness.{AreBounces, AreCuts, CanDo, HasEntry, IsSound, IsTried, TableGoes};
 ghost use Rattle.queue_table.specs.declared.recording.Reserved.{Reserved};
 ghost use Rattle.queue_table.specs.declared.table.Table.{Table as Kept};
+ghost use Rattle.queue_table.specs.declared.terms.Terms.{Terms};
 
 /// The order of entries is a strict total one: of two with different ids one goes before the
 /// other.
@@ -77,6 +80,23 @@ pub fn the_store_has_what_the_table_has()
         → HasEntry table id → HasId (store kept).entries id }
     ensures has_entry { (kept : Kept) (table : Table) (id : ℕ) → HoldsTable kept table
         → HasId (store kept).entries id → HasEntry table id }
+{}
+
+/// What calls ask of an entry is what a table gives that the store holds: failed rows may be given
+/// back by what the entry's mark wants, a warning may be sent where a row is still tried, and rows
+/// that are may be reserved.
+pub fn open_entries_may_be_asked()
+    ensures returns { (kept : Kept) (table : Table) (s : Stored) (terms : Terms)
+        (bounces : List Back) (moment : ℕ) → HoldsTable kept table → Contains table.entries s
+        → has_failed s.control ≡ true → AreBounces (wants_bounce s.control) bounces
+        → IsAsked kept (Return terms s.id bounces moment) }
+    ensures warns { (kept : Kept) (table : Table) (s : Stored) (terms : Terms) (warning : Back)
+        (moment : ℕ) → HoldsTable kept table → Contains table.entries s
+        → has_queued s.control ≡ true → AreCuts warning.cuts
+        → IsAsked kept (Warn terms s.id (warning ∷ []) moment) }
+    ensures reserves { (kept : Kept) (table : Table) (s : Stored) (places : List ℕ)
+        → HoldsTable kept table → Contains table.entries s → has_queued s.control ≡ true
+        → All (IsTried s.control.rows) places → CanReserve (store kept).entries s.id places }
 {}
 
 /// No command raises a revision by more than one, so commands that are fewer than what is left up

@@ -22,7 +22,7 @@ pub use asked_law::{files_of_steps_join, stops_of_steps_join, tables_of_steps_fo
 pub use factors::{Factors, priority};
 pub use law::{
     commands_follow, commands_keep_soundness, commands_leave_other_entries, entries_are_ordered,
-    reserves_outlive_other_commands, revisions_stay_low, rows_go_on,
+    open_entries_may_be_asked, reserves_outlive_other_commands, revisions_stay_low, rows_go_on,
     the_store_has_what_the_table_has,
 };
 pub use order::{before, due};

@@ -3,7 +3,7 @@ ghost use Rattle.mail_base.specs.declared.fault.StoreFault.TheVariants.{SpoolFau
 ghost use Rattle.spool_store.specs.Parcels.{CanPrepare, CanPrepareUnder, IsParcel, IsParcelUnder, IsReadyUnder};
 ghost use Rattle.spool_store.specs.Stores.{HasId};
 ghost use Rattle.spool_store.specs.declared.held.Held.{Held as HeldSeen};
-ghost use Rattle.queue_table.specs.Calls.{AreBacksValid, AreDirs, AreValid, CarriesOut, IsAsked, IsFit, IsSame, Tallies, store};
+ghost use Rattle.queue_table.specs.Calls.{AreBacksValid, AreDirs, AreValid, CarriesOut, IsAsked, IsSame, Tallies, store};
 ghost use Rattle.queue_table.specs.Commands.{Command, Return, Warn, drafts_of};
 ghost use Rattle.queue_table.specs.Results.{with_warning};
 ghost use Rattle.queue_table.specs.Soundness.{AreCuts};
@@ -71,7 +71,6 @@ impl Table {
         moment: u64,
     ) -> Result<Parcel, StoreFault>
         requires asked { IsAsked self.old (Return self.old.terms id bounces moment) }
-        requires fit { IsFit self.old id }
         requires dirs { AreDirs self.old.terms (store self.old).dirs }
         requires valid { AreBacksValid self.old.terms moment bounces }
         ensures is { IfOk result
@@ -91,7 +90,6 @@ impl Table {
     // Makes the end of a double bounce's failed rows ready.
     fn plan_death(&mut self, id: Id) -> Result<Parcel, StoreFault>
         requires open_at { IsOpenAt self.old id }
-        requires fit { IsFit self.old id }
         ensures is { IfOk result
             (λ parcel. (h : HeldSeen) → Contains (store self.old).entries h → h.entry.id ≡ id
             → IsParcelUnder (store self.new) id []
@@ -114,7 +112,6 @@ impl Table {
     // Makes a bounce ready that returns an entry's failed rows.
     fn plan_bounce(&mut self, id: Id, back: Back, moment: u64) -> Result<Parcel, StoreFault>
         requires open_at { IsOpenAt self.old id }
-        requires fit { IsFit self.old id }
         requires dirs { AreDirs self.old.terms (store self.old).dirs }
         requires cuts { AreCuts back.cuts }
         requires valid { AreValid self.old.terms back.message moment back.cuts }
@@ -145,7 +142,6 @@ impl Table {
         moment: u64,
     ) -> Result<Parcel, StoreFault>
         requires asked { IsAsked self.old (Warn self.old.terms id warnings moment) }
-        requires fit { IsFit self.old id }
         requires dirs { AreDirs self.old.terms (store self.old).dirs }
         requires valid { AreBacksValid self.old.terms moment warnings }
         ensures is { IfOk result
@@ -165,7 +161,6 @@ impl Table {
     // Makes a message ready by which a warning of an entry is sent.
     fn plan_notice(&mut self, id: Id, back: Back, moment: u64) -> Result<Parcel, StoreFault>
         requires open_at { IsOpenAt self.old id }
-        requires fit { IsFit self.old id }
         requires dirs { AreDirs self.old.terms (store self.old).dirs }
         requires valid { AreValid self.old.terms back.message moment back.cuts }
         ensures is { IfOk result

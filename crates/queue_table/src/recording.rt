@@ -6,7 +6,7 @@ ghost use Rattle.spool_store.specs.Entries.{Table as Entries};
 ghost use Rattle.spool_store.specs.Keepers.{CanFinish, IsFiled};
 ghost use Rattle.spool_store.specs.Moves.{Moves};
 ghost use Rattle.spool_store.specs.Settled.{StandsFor};
-ghost use Rattle.spool_store.specs.Stores.{Agrees, KeepsOthers, recontrolled, refinished};
+ghost use Rattle.spool_store.specs.Stores.{IsAtRest, KeepsOthers, recontrolled, refinished};
 ghost use Rattle.spool_store.specs.Tidying.{IsTidied};
 ghost use Rattle.spool_store.specs.declared.held.Held.{Held};
 ghost use Rattle.queue_table.specs.Calls.{HoldsTable, LeadsTo, Stays, Tallies, broken_one, store};
@@ -141,7 +141,7 @@ impl Table {
         ensures frame { (f : FileMap)
             → Moves (D.seen spool.old) (D.seen spool.new) (λ g. g ≡ f)
             (KeepsOthers (store self.old).dirs f) (KeepsOthers (store self.old).dirs f) }
-        ensures agrees { OnOk result (IfSome (D.seen spool.new).told (Agrees (store self.new))) }
+        ensures agrees { OnOk result (IsAtRest (store self.new) (D.seen spool.new)) }
         ensures stays { Stays self.old self.new }
         ensures ok { OnOk result
             (store self.new ≡ record (store self.old) {
@@ -189,7 +189,7 @@ impl Table {
             → h.finished ≡ false → IsFiled h g)) }
         ensures already { (h : Held) → Contains (store self.old).entries h → h.entry.id ≡ id.now
             → h.finished ≡ true → spool.new ≡ spool.old }
-        ensures agrees { OnOk result (IfSome (D.seen spool.new).told (Agrees (store self.new))) }
+        ensures agrees { OnOk result (IsAtRest (store self.new) (D.seen spool.new)) }
         ensures stays { Stays self.old self.new }
         ensures ok { OnOk result
             (store self.new ≡ record (store self.old) {

@@ -1,6 +1,6 @@
 ghost use Rattle.std.specs.Prelude.{◌≡◌, ◌⊎◌, ◌↔◌, ◌<◌, ◌+◌, IsErrOf, false, true, Err, sum_by, length};
 ghost use Rattle.mail_base.specs.declared.fault.StoreFault.TheVariants.{SpoolFault as Broke, IdsSpent as Spent, NoMemory as Memory};
-ghost use Rattle.queue_table.specs.Calls.{AreBacksValid, AreDirs, CarriesOut, IsAsked, IsFit, IsSame, Tallies, store};
+ghost use Rattle.queue_table.specs.Calls.{AreBacksValid, AreDirs, CarriesOut, IsAsked, IsSame, Tallies, store};
 ghost use Rattle.queue_table.specs.Commands.{Return, Warn};
 
 use crate::Table;
@@ -22,7 +22,6 @@ impl Table {
     ) -> Result<(), StoreFault>
         requires agrees { Tallies self.old (D.seen spool.old).told }
         requires asked { IsAsked self.old (Return self.old.terms id.now bounces moment) }
-        requires fit { IsFit self.old id.now }
         requires dirs { AreDirs self.old.terms (store self.old).dirs }
         requires valid { AreBacksValid self.old.terms moment bounces }
         ensures does { CarriesOut self.old self.new (Return self.old.terms id.now bounces moment) result
@@ -53,7 +52,6 @@ impl Table {
     ) -> Result<(), StoreFault>
         requires agrees { Tallies self.old (D.seen spool.old).told }
         requires asked { IsAsked self.old (Warn self.old.terms id.now warnings moment) }
-        requires fit { IsFit self.old id.now }
         requires dirs { AreDirs self.old.terms (store self.old).dirs }
         requires valid { AreBacksValid self.old.terms moment warnings }
         ensures does { CarriesOut self.old self.new (Warn self.old.terms id.now warnings moment) result

@@ -1,4 +1,4 @@
-ghost use Rattle.std.specs.Prelude.{◌≡◌, ◌⊎◌, ◌↔◌, ◌+◌, ◌<◌, ◌≤◌, All, IfOk, IfSome, IsErrOf, OnOk, OnErr, List, ℕ, true, false, Err, length, map};
+ghost use Rattle.std.specs.Prelude.{◌≡◌, ◌⊎◌, ◌↔◌, ◌+◌, ◌<◌, ◌≤◌, All, IfOk, IsErrOf, OnOk, OnErr, List, ℕ, true, false, Err, length, map};
 ghost use Rattle.std.specs.List.Sorted.{IsStrictlySortedBy};
 ghost use Rattle.std.specs.Ordering.{nat_cmp};
 ghost use Rattle.mail_base.specs.Histories.{Rose};
@@ -8,7 +8,8 @@ ghost use Rattle.mail_base.specs.declared.message.Message.{Message as MessageSee
 ghost use Rattle.spool_disk.specs.Disk.{FileMap};
 ghost use Rattle.spool_store.specs.Entries.{Table as Entries};
 ghost use Rattle.spool_store.specs.Moves.{Moves};
-ghost use Rattle.spool_store.specs.Stores.{Agrees, KeepsOthers};
+ghost use Rattle.spool_store.specs.Openings.{IsFitting};
+ghost use Rattle.spool_store.specs.Stores.{IsAtRest, KeepsOthers};
 ghost use Rattle.queue_table.specs.Calls.{AreDirs, AreValid, CarriesOut, HoldsTable, IsAccepting, IsPlanned, IsSame, LeadsTo, Stays, Tallies, broken_one, store};
 ghost use Rattle.queue_table.specs.Commands.{Accept, after};
 ghost use Rattle.queue_table.specs.Directories.{terms_of};
@@ -60,12 +61,14 @@ impl Table {
         self.queue.next()
     }
 
-    /// The entries in order of id, each below the first free one. It takes no memory.
+    /// The entries in order of id, each below the first free one. Whatever the spool tells, each is
+    /// in one of the store's directories, and its control has a text. It takes no memory.
     pub fn entries(&self) -> &[Held]
         ensures is { result.now ≡ (store self.now).entries }
         ensures ascending { IsStrictlySortedBy nat_cmp
             (map (λ h. h.entry.id) (store self.now).entries) }
         ensures below { All (λ h. h.entry.id < (store self.now).next) (store self.now).entries }
+        ensures fit { All (λ h. IsFitting (store self.now).dirs h.entry) (store self.now).entries }
     {
         self.queue.entries()
     }
@@ -124,7 +127,7 @@ impl Table {
         ensures frame { (f : FileMap)
             → Moves (D.seen spool.old) (D.seen spool.new) (λ g. g ≡ f)
             (KeepsOthers (store self.old).dirs f) (KeepsOthers (store self.old).dirs f) }
-        ensures agrees { OnOk result (IfSome (D.seen spool.new).told (Agrees (store self.new))) }
+        ensures agrees { OnOk result (IsAtRest (store self.new) (D.seen spool.new)) }
         ensures id { IfOk result (λ id. id ≡ (store self.old).next) }
         ensures stays { Stays self.old self.new }
         ensures ok { OnOk result ((store self.new).broken ≡ (store self.old).broken) }

@@ -69,8 +69,8 @@ already [] id known = refl
 already (h ∷ items) id known = λ i. step id h (known h (contains_head h items)) i ∷ already items id (λ q k. known q (contains_tail h q items k)) i
 
 -- a store with that entry finished
-pub seen_finished : (w s : StoreSeen) (shelf : Shelved) (id : ℕ) → w ≡ s → shelf ≡ record { items = map (refinished id) w.entries; next = w.next; room = w.room } → record w { entries = shelf.items; next = shelf.next; room = shelf.room } ≡ record s { entries = map (refinished id) s.entries }
-seen_finished w s shelf id e h = (λ i. record w { entries = (h i).items; next = (h i).next; room = (h i).room }) ∙ (λ i. record (e i) { entries = map (refinished id) (e i).entries })
+pub seen_finished : (w s : StoreSeen) (shelf : Shelved) (id : ℕ) → w ≡ s → shelf ≡ record { dirs = w.dirs; items = map (refinished id) w.entries; next = w.next; room = w.room } → record w { dirs = shelf.dirs; entries = shelf.items; next = shelf.next; room = shelf.room } ≡ record s { entries = map (refinished id) s.entries }
+seen_finished w s shelf id e h = (λ i. record w { dirs = (h i).dirs; entries = (h i).items; next = (h i).next; room = (h i).room }) ∙ (λ i. record (e i) { entries = map (refinished id) (e i).entries })
 
 -- the same for a finish
 pub finish_run : (a b : Spooled) (store : StoreSeen) (id : ℕ) (can : CanFinish store.entries id) (P S T : FileMap → Type 0) (Q : Held → FileMap → FileMap → Type 0) → can.held.finished ≡ false → IfSome a.told (Agrees store) → IsRun a b

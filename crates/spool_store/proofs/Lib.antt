@@ -22,6 +22,8 @@ mod Agreeing
 mod Keeping
 mod Finishing
 mod Shelving
+mod Fitting
+mod Owning
 mod Replaces
 mod Bodies
 mod Ended

@@ -3,7 +3,7 @@ use Rattle.std.proofs.Common.{◌≡◌, inl, inr, ⊎_elim, Option, Some, None,
 use Rattle.std.specs.Prelude.{IsOk, IfSome}
 use Rattle.std.proofs.Math.Nat.{le_refl, le_trans}
 use Rattle.spool_disk.specs.Disk.{FileMap}
-use Rattle.spool_disk.specs.Spooled.{Spooled, Calls, Leads, Rests}
+use Rattle.spool_disk.specs.Spooled.{Spooled, Calls, Leads, Reads, Rests}
 use Rattle.spool_store.specs.Moves.{Moves, Becomes, Ends}
 use Rattle.spool_store.specs.inner.Finishing.{IsRun}
 
@@ -56,6 +56,10 @@ moves_by a b Image Done well P Q R h safe leads = record {
   images = λ f e p t x le left. ⊎_elim (λ before. inl before) (λ i. inr (safe f x p i)) (h.images f e t x le left);
   kept = h.kept;
 }
+
+-- a call that changes nothing leaves what files stand for
+pub moves_read : (a b : Spooled) (P : FileMap → Type 0) → Reads a b → Moves a b P P P
+moves_read a b P h = moves_by a b Rests Rests (Unit {0}) P P P h (λ f g p e. subst P (sym e) p) (λ f g p e d. subst P (sym e) p)
 
 -- the same for a call with a result
 pub moves_call : {T E : Type 0} (a b : Spooled) (Image Done : FileMap → FileMap → Type 0) (r : Result T E) (P Q R : FileMap → Type 0) → Calls a b Image Done (IsOk r) → ((f g : FileMap) → P f → Image f g → R g) → ((f g : FileMap) → P f → Done f g → Q g) → Moves a b P (Ends r Q R) R

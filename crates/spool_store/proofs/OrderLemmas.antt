@@ -93,6 +93,6 @@ ordered_by names found entries first next ascending source among above past = re
   ascending = ascending;
   below = All-weaker (Contains entries) (λ (e : Entry). e.id < next) (λ e c.
       let s = source e c in
-      let less = above s.0.named (among s.0 s.1) in
+      let less = above s.0.named (among s.0 s.1).0 in
       omega (arith, less, s.2, past.kept)) entries (All-contains_itself entries);
 }

@@ -1,5 +1,5 @@
 -- A commit of a parcel: from a map with which the store agrees, and what a stop leaves.
-use Rattle.std.proofs.Common.{◌≡◌, ◌≢◌, ◌⊎◌, inl, inr, ℕ, zero, suc, ◌+◌, ◌-◌, ◌<◌, ◌≤◌, List, [], ◌∷◌, ◌++◌, map, length, get_or, None, refl, sym, ◌∙◌, ap, subst, arith}
+use Rattle.std.proofs.Common.{◌≡◌, ◌≢◌, ◌⊎◌, inl, inr, ℕ, zero, suc, ◌+◌, ◌-◌, ◌<◌, ◌≤◌, List, [], ◌∷◌, ◌++◌, map, length, get_or, None, refl, sym, ◌∙◌, ap, subst, arith, Contains}
 use Rattle.std.specs.Prelude.{All, AllPairs, Any, IfSome}
 use Rattle.std.specs.List.{AllZip}
 use Rattle.std.proofs.lemmas.List.{append_assoc, length-map, get_or-map}
@@ -13,7 +13,10 @@ use Rattle.spool_store.specs.Changes.{IsNew, IsMidway, IsPut, control, body, oth
 use Rattle.spool_store.specs.Entries.{Stored, Table}
 use Rattle.spool_store.specs.Moves.{Moves}
 use Rattle.spool_store.specs.Parcels.{IsParcel, with_commit}
+use Rattle.qf_format.specs.Valid.{IsValid}
+use Rattle.spool_store.specs.Openings.{IsFitting}
 use Rattle.spool_store.specs.Parts.{entry_of}
+use Rattle.spool_store.proofs.Fitting.{parts_fit}
 use Rattle.spool_store.specs.inner.Parts.{AreNew, CanFollow, IsOwn, IsUnderWay, own_body, own_control}
 use Rattle.spool_store.specs.Settled.{StandsFor, IsSettled}
 use Rattle.spool_store.specs.Stores.{Agrees, Holds, IsHeld, KeepsOthers, StoreSeen, entered}
@@ -179,12 +182,23 @@ parcel_row store children parent b parcel is = row_of (store.next + 1) [] (map (
 pub parcel_id : (store : StoreSeen) (children : List Draft) (parent : Draft) (b : List ℕ) (parcel : Parcel) → IsParcel store children parent b parcel → parcel.parent.entry.id ≡ store.next
 parcel_id store children parent b parcel is = ap (λ (s : Stored). s.id) (is.head [])
 
+-- the parts of a parcel fit
+pub parcel_fits : (store : StoreSeen) (children : List Draft) (parent : Draft) (b : List ℕ) (parcel : Parcel) → IsParcel store children parent b parcel → All (λ (p : Part). IsFitting store.dirs p.entry) parcel.children
+parcel_fits store children parent b parcel is = parts_fit store.dirs store.next parcel.children (children_of store.next children parent [] None) (is.parts [])
+    (numbered_new store.dirs store.next (store.next + 1) [] (head_of store.next parent None) children (new_head store.dirs store.next children parent is.able) (omega arith) is.able.room is.able.each)
+
+pub parent_fits : (store : StoreSeen) (children : List Draft) (parent : Draft) (b : List ℕ) (parcel : Parcel) → IsParcel store children parent b parcel → IsFitting store.dirs parcel.parent.entry
+parent_fits store children parent b parcel is = record {
+  dir = subst (Contains store.dirs) (ap (λ (s : Stored). s.dir) (sym (is.head []))) is.able.head.among;
+  valid = subst IsValid (ap (λ (s : Stored). s.control) (sym (is.head []))) is.able.head.valid;
+}
+
 -- a shelf that has taken in all parts of a parcel has what the store has after the commit
 pub taken_in : (store : StoreSeen) (children : List Draft) (parent : Draft) (b : List ℕ) (parcel : Parcel) (one more : Shelved) → IsParcel store children parent b parcel
-    → one.items ≡ store.entries ++ queued parcel.parent ∷ [] → one.next ≡ store.next + 1 → one.room + 1 ≡ store.room
+    → one.dirs ≡ store.dirs → more.dirs ≡ one.dirs → one.items ≡ store.entries ++ queued parcel.parent ∷ [] → one.next ≡ store.next + 1 → one.room + 1 ≡ store.room
     → more.items ≡ one.items ++ map queued parcel.children → more.next ≡ one.next + length parcel.children → more.room + length parcel.children ≡ one.room
-    → record store { entries = more.items; next = more.next; room = more.room } ≡ with_commit store children parent
-taken_in store children parent b parcel one more is first first_next first_room second second_next second_room =
+    → record store { dirs = more.dirs; entries = more.items; next = more.next; room = more.room } ≡ with_commit store children parent
+taken_in store children parent b parcel one more is dirs_one dirs_more first first_next first_room second second_next second_room =
     let rest : List Stored = children_of store.next children parent [] None in
     let long : length parcel.children ≡ length children = sym (length-map parcel.children (entry_of [])) ∙ ap length (is.parts []) ∙ numbered_long (store.next + 1) [] (map (heir (head_of store.next parent None)) children) ∙ length-map children (heir (head_of store.next parent None)) in
     let items : more.items ≡ store.entries ++ map entered (stored store.next [] parent ∷ rest) =
@@ -193,7 +207,8 @@ taken_in store children parent b parcel one more is first first_next first_room 
     ∙ (λ i. store.entries ++ entered (is.head [] i) ∷ (queued_are parcel.children ∙ ap (map entered) (is.parts [])) i) in
     let next : more.next ≡ store.next + 1 + length children = omega (arith, second_next, first_next, long) in
     let room : more.room ≡ store.room - (length children + 1) = omega (arith, second_room, first_room, long) in
-    λ i. record store { entries = items i; next = next i; room = room i }
+    let dirs : more.dirs ≡ store.dirs = dirs_more ∙ dirs_one in
+    λ i. record store { dirs = dirs i; entries = items i; next = next i; room = room i }
 
 -- the table goes with it
 pub held_numbered : (id : ℕ) (b c : List ℕ) (ds : List Draft) → AllZip IsHeld (map entered (numbered id b ds)) (numbered id c ds)

@@ -2,12 +2,14 @@
 use Rattle.std.proofs.Common.{◌≡◌, ◌⊎◌, inl, inr, ⊎_elim, ℕ, ◌<◌, List, [], ◌∷◌, ◌++◌, length, Option, Some, None, IsSome, refl, sym, ◌∙◌, ap, subst, Contains, get_or}
 use Rattle.std.proofs.lemmas.List.{get_or_default}
 use Rattle.std.proofs.lemmas.List.Elements.{Contains-append_left, Contains-push, Contains-push_cases}
+use Rattle.mail_base.specs.declared.control.Control.{Control}
 use Rattle.mail_base.specs.declared.id.Kind.TheVariants.{Qf, Sf}
+use Rattle.qf_format.specs.Valid.{IsValid}
 use Rattle.spool_disk.specs.Disk.{FileMap, bytes_at}
 use Rattle.spool_store.specs.Queue.{at, spot_place, IsSpot, IsControl}
 use Rattle.spool_store.specs.declared.named.Named.{Named}
 use Rattle.spool_store.specs.declared.named.Found.{Found}
-use Rattle.spool_store.specs.inner.Finds.{AddsFound, AreFound, AreNamed, AreRead, IsFound, IsMeaning, IsThere, AreAmong, dir_at, spot_named}
+use Rattle.spool_store.specs.inner.Finds.{AddsFound, AreFound, AreNamed, AreRead, HasText, IsFound, IsMeaning, IsThere, AreAmong, dir_at, spot_named}
 use Rattle.spool_store.proofs.Finding.{none_in}
 
 -- a directory is among them
@@ -27,6 +29,18 @@ found_more dirs f named x bytes old new spot there is means e = rw e (record {
       (Contains-push_cases old x y c);
   all = λ some. (x, Contains-push old x, is);
 })
+
+-- what bytes say has a text
+pub meaning_text : (bytes : List ℕ) (o : Option Control) → IsMeaning bytes o → (c : Control) → o ≡ Some c → IsValid c
+meaning_text bytes None means c e = absurd (cc e)
+meaning_text bytes (Some d) means c e = let same : d ≡ c = cc e in subst IsValid same means.valid
+
+-- the control file that is read behind the others has a text
+pub pushed_text : (named : Named) (x : Found) (old new : List Found) → x.named ≡ named → HasText x → new ≡ old ++ x ∷ [] → (y : Found) → Contains new y → Contains old y ⊎ ((y.named ≡ named) × HasText y)
+pushed_text named x old new is text e y c = ⊎_elim
+    (λ (was : Contains old y). inl was)
+    (λ (q : x ≡ y). inr (subst (λ (z : Found). (z.named ≡ named) × HasText z) q (is, text)))
+    (Contains-push_cases old x y (subst (λ (l : List Found). Contains l y) e c))
 
 -- none is read at first, and then one more
 pub read_nothing : (dirs : List (List ℕ)) (f : FileMap) → AreRead dirs f [] []
@@ -83,15 +97,15 @@ pub spot_there : (dirs : List (List ℕ)) (f : FileMap) (x : Named) → IsThere 
 spot_there dirs f x h kind = record { among = dir_among dirs x.dir h.before; kind = kind; within = h.within }
 
 -- what was found and the next name's is among the names with it
-pub among_more : (names : List Named) (named : Named) (old new : List Found) → ((x : Found) → Contains new x → Contains old x ⊎ (x.named ≡ named)) → AreAmong names old → AreAmong (names ++ named ∷ []) new
+pub among_more : (names : List Named) (named : Named) (old new : List Found) → ((x : Found) → Contains new x → Contains old x ⊎ ((x.named ≡ named) × HasText x)) → AreAmong names old → AreAmong (names ++ named ∷ []) new
 among_more names named old new adds h x c = ⊎_elim
-    (λ (was : Contains old x). Contains-append_left names (named ∷ []) x.named (h x was))
-    (λ (is : x.named ≡ named). subst (λ (y : Named). Contains (names ++ named ∷ []) y) (sym is) (Contains-push names named))
+    (λ (was : Contains old x). (Contains-append_left names (named ∷ []) x.named (h x was).0, (h x was).1))
+    (λ (is : (x.named ≡ named) × HasText x). (subst (λ (y : Named). Contains (names ++ named ∷ []) y) (sym is.0) (Contains-push names named), is.1))
     (adds x c)
 
 -- what was found among names is among them with one more
 pub among_skip : (names : List Named) (named : Named) (old : List Found) → AreAmong names old → AreAmong (names ++ named ∷ []) old
-among_skip names named old h x c = Contains-append_left names (named ∷ []) x.named (h x c)
+among_skip names named old h x c = (Contains-append_left names (named ∷ []) x.named (h x c).0, (h x c).1)
 
 -- nothing found is among no names
 pub among_nothing : AreAmong [] []

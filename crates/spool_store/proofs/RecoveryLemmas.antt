@@ -38,11 +38,11 @@ found_by dirs f names xs ys p named read = found_order dirs f xs ys p (read_foun
 
 -- what was found lies in the directories of the names
 pub found_within : (n : ℕ) (names : List Named) (xs ys : List Found) → IsPermutation xs ys → AreAmong names xs → ((x : Named) → Contains names x → x.dir < n) → (y : Found) → Contains ys y → y.named.dir < n
-found_within n names xs ys p among within y c = within y.named (among y (Contains-permutation ys xs y (IsPermutation-sym xs ys p) c))
+found_within n names xs ys p among within y c = within y.named (among y (Contains-permutation ys xs y (IsPermutation-sym xs ys p) c)).0
 
 -- what is found stays among the files when it is sorted
 pub found_among : (names shown : List Named) (xs ys : List Found) → shown ≡ names → IsPermutation xs ys → AreAmong shown xs → AreAmong names ys
-found_among names shown xs ys e p among = λ y c. subst (λ (q : List Named). Contains q y.named) e (among y (Contains-permutation ys xs y (IsPermutation-sym xs ys p) c))
+found_among names shown xs ys e p among = λ y c. let a = among y (Contains-permutation ys xs y (IsPermutation-sym xs ys p) c) in (subst (λ (q : List Named). Contains q y.named) e a.0, a.1)
 
 -- an end in either fact is one in the weaker
 pub ends_in : {T E : Type 0} (r : Result T E) (Q R : FileMap → Type 0) → ((f : FileMap) → Q f → R f) → (f : FileMap) → Ends r Q R f → R f

@@ -12,11 +12,12 @@ use Rattle.spool_disk.specs.Spooled.{Spooled}
 use Rattle.spool_store.specs.Entries.{Table}
 use Rattle.spool_store.specs.Moves.{Becomes}
 use Rattle.spool_store.specs.Keepers.{IsReading}
-use Rattle.spool_store.specs.Openings.{AreAscending, AreEntries, AreOrdered, AreStrays, IsNext}
+use Rattle.spool_store.specs.Openings.{AreAscending, AreEntries, AreOrdered, AreStrays, IsFitting, IsNext}
 use Rattle.spool_store.specs.Queue.{IsLive, Spot, reopened}
 use Rattle.spool_store.specs.Settled.{IsSettled, StandsFor}
 use Rattle.spool_store.specs.Stores.{Agrees, HasHeld, kind_of, spot_at}
 use Rattle.spool_store.specs.inner.Shelves.{IsAscending}
+use Rattle.spool_store.proofs.Fitting.{fits_taken}
 use Rattle.spool_store.specs.Tidying.{IsClean, IsSwept, IsTidied}
 use Rattle.spool_store.specs.declared.held.Held.{Held}
 use Rattle.spool_store.specs.declared.opened.Opened.{Opened}
@@ -140,5 +141,5 @@ taken_ascends es up i j d lt within =
     omega (arith, less, first, second)
 
 -- entries that are in order below an id stay so on the shelf
-pub shelf_ordered : (es : List Entry) (next : ℕ) (held : List Held) → held ≡ map taken_over es → AreOrdered es next → IsAscending held × All (λ (h : Held). h.entry.id < next) held
-shelf_ordered es next held is h = subst (λ (q : List Held). IsAscending q × All (λ (x : Held). x.entry.id < next) q) (sym is) (taken_ascends es h.ascending, All-map (λ (x : Held). x.entry.id < next) taken_over es h.below)
+pub shelf_ordered : (dirs : List (List ℕ)) (es : List Entry) (next : ℕ) (held : List Held) → held ≡ map taken_over es → AreOrdered es next → All (IsFitting dirs) es → IsAscending held × (All (λ (h : Held). h.entry.id < next) held × All (λ (h : Held). IsFitting dirs h.entry) held)
+shelf_ordered dirs es next held is h fit = (subst IsAscending (sym is) (taken_ascends es h.ascending), (subst (All (λ (x : Held). x.entry.id < next)) (sym is) (All-map (λ (x : Held). x.entry.id < next) taken_over es h.below), fits_taken dirs es held is fit))

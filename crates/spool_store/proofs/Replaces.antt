@@ -136,5 +136,5 @@ pub fits_paper : (store : StoreSeen) (id : ℕ) (c : Control) (paper : Sheet) �
 fits_paper store id c paper can = le_trans (text_fits_room can.held.entry.control c can.texts can.valid) can.fits
 
 -- a store with that entry's control
-pub seen_set : (w s : StoreSeen) (shelf : Shelved) (id n : ℕ) (c d : Control) → w ≡ s → shelf ≡ record { items = map (recontrolled n d) w.entries; next = w.next; room = w.room } → n ≡ id → d ≡ c → record w { entries = shelf.items; next = shelf.next; room = shelf.room } ≡ record s { entries = map (recontrolled id c) s.entries }
-seen_set w s shelf id n c d e h p q = (λ i. record w { entries = (h i).items; next = (h i).next; room = (h i).room }) ∙ (λ i. record (e i) { entries = map (recontrolled (p i) (q i)) (e i).entries })
+pub seen_set : (w s : StoreSeen) (shelf : Shelved) (id n : ℕ) (c d : Control) → w ≡ s → shelf ≡ record { dirs = w.dirs; items = map (recontrolled n d) w.entries; next = w.next; room = w.room } → n ≡ id → d ≡ c → record w { dirs = shelf.dirs; entries = shelf.items; next = shelf.next; room = shelf.room } ≡ record s { entries = map (recontrolled id c) s.entries }
+seen_set w s shelf id n c d e h p q = (λ i. record w { dirs = (h i).dirs; entries = (h i).items; next = (h i).next; room = (h i).room }) ∙ (λ i. record (e i) { entries = map (recontrolled (p i) (q i)) (e i).entries })

@@ -15,6 +15,7 @@ use Rattle.mail_base.specs.declared.id.Kind.{Kind}
 use Rattle.mail_base.specs.declared.id.Kind.TheVariants.{Df, Qf, Tf, Sf}
 use Rattle.mail_base.specs.declared.control.Control.{Control}
 use Rattle.spool_store.specs.declared.held.Held.{Held}
+use Rattle.spool_store.specs.Openings.{IsFitting}
 use Rattle.spool_store.specs.Stores.{recontrolled, refinished}
 use Rattle.spool_store.specs.inner.Shelves.{IsAscending, IsPlaceOf}
 
@@ -132,12 +133,21 @@ same_ascends change items same up i j d lt within =
     let second = same (get_or items j d) in
     omega (arith, less, one, other, first, second)
 
--- a shelf keeps its order, its bound and its room where a change leaves each entry's id as it is
-pub same_kept : (change : Held → Held) (items new : List Held) (n room cap : ℕ) → ((h : Held) → (change h).entry.id ≡ h.entry.id) → new ≡ map change items → length items + room ≤ cap → IsAscending items → All (λ (h : Held). h.entry.id < n) items → (length new + room ≤ cap) × (IsAscending new × All (λ (h : Held). h.entry.id < n) new)
-same_kept change items new n room cap same e fits up below =
+-- a shelf keeps its order, its bound, its room and what fits where a change leaves each entry's id as it is
+pub same_kept : (change : Held → Held) (dirs : List (List ℕ)) (items new : List Held) (n room cap : ℕ) → ((h : Held) → (change h).entry.id ≡ h.entry.id) → ((h : Held) → IsFitting dirs h.entry → IsFitting dirs (change h).entry) → new ≡ map change items → length items + room ≤ cap → IsAscending items → All (λ (h : Held). h.entry.id < n) items → All (λ (h : Held). IsFitting dirs h.entry) items
+    → (length new + room ≤ cap) × (IsAscending new × (All (λ (h : Held). h.entry.id < n) new × All (λ (h : Held). IsFitting dirs h.entry) new))
+same_kept change dirs items new n room cap same fitting e fits up below fit =
     let long = length-map items change in
-    subst (λ (q : List Held). (length q + room ≤ cap) × (IsAscending q × All (λ (h : Held). h.entry.id < n) q)) (sym e)
-    (omega (arith, fits, long), (same_ascends change items same up, All-map (λ (h : Held). h.entry.id < n) change items (All-weaker (λ (h : Held). h.entry.id < n) (λ (h : Held). (change h).entry.id < n) (λ h lt. let k = same h in omega (arith, lt, k)) items below)))
+    subst (λ (q : List Held). (length q + room ≤ cap) × (IsAscending q × (All (λ (h : Held). h.entry.id < n) q × All (λ (h : Held). IsFitting dirs h.entry) q))) (sym e) (
+      omega (arith, fits, long),
+      (
+        same_ascends change items same up,
+        (
+          All-map (λ (h : Held). h.entry.id < n) change items (All-weaker (λ (h : Held). h.entry.id < n) (λ (h : Held). (change h).entry.id < n) (λ h lt. let k = same h in omega (arith, lt, k)) items below),
+          All-map (λ (h : Held). IsFitting dirs h.entry) change items (All-weaker (λ (h : Held). IsFitting dirs h.entry) (λ (h : Held). IsFitting dirs (change h).entry) fitting items fit),
+        ),
+      ),
+    )
 
 -- a replaced control leaves each entry's id as it is
 pub recontrolled_id : (id : ℕ) (c : Control) (h : Held) → (recontrolled id c h).entry.id ≡ h.entry.id

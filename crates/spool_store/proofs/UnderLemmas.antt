@@ -18,7 +18,10 @@ use Rattle.spool_store.specs.Entries.{Stored, Table, with_control}
 use Rattle.spool_store.specs.Keepers.{raised}
 use Rattle.spool_store.specs.Moves.{Becomes, Moves}
 use Rattle.spool_store.specs.Parcels.{CanPrepareUnder, IsBelowLast, IsParcelUnder, with_children}
+use Rattle.qf_format.specs.Valid.{IsValid}
+use Rattle.spool_store.specs.Openings.{IsFitting}
 use Rattle.spool_store.specs.Parts.{entry_of}
+use Rattle.spool_store.proofs.Fitting.{parts_fit}
 use Rattle.spool_store.specs.inner.Parts.{AreNew, CanRaise, IsLeft, IsOwn, IsUnderWay, own_body, own_control, own_draft}
 use Rattle.spool_store.specs.Queue.{Spot, IsLive}
 use Rattle.spool_store.specs.Settled.{StandsFor, IsSettled, spot_of}
@@ -199,12 +202,19 @@ under_row store id children parent b parcel is = row_of store.next [] (map (heir
 pub under_id : (store : StoreSeen) (id : ℕ) (children : List Draft) (parent : Draft) (b : List ℕ) (parcel : Parcel) → IsParcelUnder store id children parent b parcel → parcel.parent.entry.id ≡ id
 under_id store id children parent b parcel is = ap (λ (s : Stored). s.id) (is.head [])
 
+-- the parts of a parcel fit
+pub under_fits : (store : StoreSeen) (id : ℕ) (children : List Draft) (parent : Draft) (b : List ℕ) (parcel : Parcel) → IsParcelUnder store id children parent b parcel → All (λ (p : Part). IsFitting store.dirs p.entry) parcel.children
+under_fits store id children parent b parcel is = parts_fit store.dirs store.next parcel.children (children_of store.next children parent [] (Some id)) (is.parts []) (children_new store.dirs store.next id children parent [] is.able is.below)
+
+pub under_valid : (store : StoreSeen) (id : ℕ) (children : List Draft) (parent : Draft) (b : List ℕ) (parcel : Parcel) → IsParcelUnder store id children parent b parcel → IsValid parcel.parent.entry.control
+under_valid store id children parent b parcel is = subst IsValid (ap (λ (s : Stored). s.control) (sym (is.head []))) is.able.head.valid
+
 -- a shelf that has taken in all parts of a parcel has what the store has after the commit
 pub taken_under : (store : StoreSeen) (id n : ℕ) (c : Control) (children : List Draft) (parent : Draft) (b : List ℕ) (parcel : Parcel) (one more : Shelved) → IsParcelUnder store id children parent b parcel → n ≡ id → c ≡ parcel.parent.entry.control
-    → one ≡ record { items = map (recontrolled n c) store.entries; next = store.next; room = store.room }
-    → more.items ≡ one.items ++ map queued parcel.children → more.next ≡ one.next + length parcel.children → more.room + length parcel.children ≡ one.room
-    → record store { entries = more.items; next = more.next; room = more.room } ≡ with_children store id children parent
-taken_under store id n c children parent b parcel one more is at its first items_are next_is room_is =
+    → one ≡ record { dirs = store.dirs; items = map (recontrolled n c) store.entries; next = store.next; room = store.room }
+    → more.dirs ≡ one.dirs → more.items ≡ one.items ++ map queued parcel.children → more.next ≡ one.next + length parcel.children → more.room + length parcel.children ≡ one.room
+    → record store { dirs = more.dirs; entries = more.items; next = more.next; room = more.room } ≡ with_children store id children parent
+taken_under store id n c children parent b parcel one more is at its first dirs_are items_are next_is room_is =
     let p : Parent = head_of store.next parent (Some id) in
     let long : length parcel.children ≡ length children = sym (length-map parcel.children (entry_of [])) ∙ ap length (is.parts []) ∙ numbered_long store.next [] (map (heir p) children) ∙ length-map children (heir p) in
     let control : c ≡ parent.control = its ∙ ap (λ (s : Stored). s.control) (is.head []) in
@@ -215,7 +225,8 @@ taken_under store id n c children parent b parcel one more is at its first items
     let one_room : one.room ≡ store.room = ap (λ (q : Shelved). q.room) first in
     let next : more.next ≡ store.next + length children = omega (arith, next_is, one_next, long) in
     let room : more.room ≡ store.room - length children = omega (arith, room_is, one_room, long) in
-    λ i. record store { entries = items i; next = next i; room = room i }
+    let dirs : more.dirs ≡ store.dirs = dirs_are ∙ ap (λ (q : Shelved). q.dirs) first in
+    λ i. record store { dirs = dirs i; entries = items i; next = next i; room = room i }
 
 -- a store that holds a table holds the table after it once it has done it too
 pub under_holds : (store : StoreSeen) (table : Table) (id : ℕ) (children : List Draft) (parent : Draft) (b : List ℕ) → Holds store table → Holds (with_children store id children parent) (after_commit table children parent b (Some id))

@@ -19,7 +19,7 @@ use Rattle.spool_store.specs.declared.queue.Queue.{Queue}
 abbrev pub seen : Queue → StoreSeen
 seen q =
     record {
-      dirs = q.dirs;
+      dirs = q.shelf.dirs;
       entries = q.shelf.items;
       strange = q.strange;
       next = q.shelf.next;

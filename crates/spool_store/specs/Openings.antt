@@ -6,6 +6,7 @@ use Rattle.mail_base.specs.declared.control.Control.{Control}
 use Rattle.mail_base.specs.declared.control.Entry.{Entry}
 use Rattle.mail_base.specs.declared.control.Stray.{Stray}
 use Rattle.mail_base.specs.Names.{name_of}
+use Rattle.qf_format.specs.Valid.{IsValid}
 use Rattle.spool_disk.specs.Disk.{FileMap, bytes_at}
 use Rattle.spool_store.specs.Settled.{IsNamed}
 use Rattle.spool_store.specs.Queue.{Spot, IsLive, IsStrange}
@@ -16,6 +17,11 @@ pub record AreEntries (dirs : List (List ℕ)) (f : FileMap) (entries : List Ent
       → (kind : Kind) × IsLive dirs f (record { dir = e.dir; kind = kind; id = e.id }) e.control
   pub all : (s : Spot) (c : Control) → IsLive dirs f s c
       → Contains entries (record { id = s.id; dir = s.dir; control = c })
+
+-- an entry of these directories, whose control has a text
+pub record IsFitting (dirs : List (List ℕ)) (e : Entry) : Type 0 where
+  pub dir : Contains dirs e.dir
+  pub valid : IsValid e.control
 
 -- each id is less than those behind it
 abbrev pub AreAscending : List Entry → Type 0

@@ -32,7 +32,8 @@ pub record IsParcel (store : StoreSeen) (children : List Draft) (parent : Draft)
 pub record IsReady (store : StoreSeen) (parcel : Parcel) : Type 0 where
   pub children : List Draft
   pub parent : Draft
-  pub is : IsParcel store children parent parcel.body parcel
+  pub body : List ℕ
+  pub is : IsParcel store children parent body parcel
 
 -- the store after a commit: the parent under the first free id, and its children under the next
 -- ones
@@ -86,7 +87,8 @@ pub record IsReadyUnder (store : StoreSeen) (parcel : Parcel) : Type 0 where
   pub id : ℕ
   pub children : List Draft
   pub parent : Draft
-  pub is : IsParcelUnder store id children parent parcel.body parcel
+  pub body : List ℕ
+  pub is : IsParcelUnder store id children parent body parcel
 
 -- the entry of that id has not the last revision
 abbrev pub IsBelowLast : List Held → ℕ → Type 0

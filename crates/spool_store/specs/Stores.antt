@@ -1,12 +1,13 @@
 -- What a store knows of a map: its entries without their bodies, and the files that it leaves alone
 -- (own).
-use Rattle.std.specs.Prelude.{◌≡◌, ◌↔◌, ℕ, List, Bool, true, false, Contains, All, eqb, if◌then◌else◌}
+use Rattle.std.specs.Prelude.{◌≡◌, ◌↔◌, ℕ, List, Bool, true, false, Contains, All, IfSome, eqb, if◌then◌else◌}
 use Rattle.std.specs.List.{AllZip}
 use Rattle.mail_base.specs.declared.id.Kind.{Kind}
 use Rattle.mail_base.specs.declared.id.Kind.TheVariants.{Df, Qf, Sf}
 use Rattle.mail_base.specs.declared.control.Control.{Control}
 use Rattle.mail_base.specs.declared.control.Stray.{Stray}
 use Rattle.spool_disk.specs.Disk.{Place, FileMap, bytes_at}
+use Rattle.spool_disk.specs.Spooled.{Spooled}
 use Rattle.spool_store.specs.declared.held.Held.{Held}
 use Rattle.spool_store.specs.Queue.{at, Spot, spot_place, IsStrange, IsLive}
 use Rattle.spool_store.specs.Entries.{Stored, Table}
@@ -50,6 +51,11 @@ pub record Agrees (store : StoreSeen) (files : FileMap) : Type 0 where
   pub all : (s : Spot) (c : Control) → IsLive store.dirs files s c → HasHeld store.entries s c
   pub strange : (stray : Stray) → IsStray store.dirs files stray ↔ Contains store.strange stray
   pub tidy : IsTidy store.dirs store.next files
+
+-- what holds between the calls of a store that isn't broken, by what is seen of its spool: where the
+-- files are told, the store has what they have
+abbrev pub IsAtRest : StoreSeen → Spooled → Type 0
+IsAtRest store spooled = IfSome spooled.told (Agrees store)
 
 -- an entry of a store and one of a table are the same but for the body
 pub record IsHeld (h : Held) (s : Stored) : Type 0 where

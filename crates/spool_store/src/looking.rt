@@ -1,7 +1,7 @@
 ghost use Rattle.std.specs.Prelude.{◌≡◌, ◌⊎◌, ◌<◌, ◌++◌, ◌∷◌, [], List, true, false, IfOk, OnOk, Some, Contains, length};
 ghost use Rattle.spool_disk.specs.Disk.{FileMap, bytes_at};
 ghost use Rattle.spool_store.specs.Queue.{at, IsSpot};
-ghost use Rattle.spool_store.specs.inner.Finds.{IsMeaning, IsThere, AreNamed, AddsFound, AreAmong, AreRead, spot_named};
+ghost use Rattle.spool_store.specs.inner.Finds.{HasText, IsMeaning, IsThere, AreNamed, AddsFound, AreAmong, AreRead, spot_named};
 ghost use Rattle.spool_store.specs.inner.Looks.{Looks};
 ghost use Rattle.mail_base.specs.declared.id.Kind.TheVariants.{Qf as ControlKind, Sf as FinishedKind};
 ghost use Rattle.spool_store.specs.declared.named.Named.{Named as NamedSeen};
@@ -41,7 +41,8 @@ fn meaning(bytes: &Text) -> Result<Option<Control>, NoMemory>
 
 // A control file with what it says.
 fn found_of(named: &Named, bytes: &Text) -> Result<Found, NoMemory>
-    ensures { IfOk result (λ x. (x.named ≡ named.now) × IsMeaning bytes.now x.control) }
+    ensures is { IfOk result (λ x. (x.named ≡ named.now) × IsMeaning bytes.now x.control) }
+    ensures text { IfOk result HasText }
 {
     let control = meaning(bytes)?;
     Ok(Found {
@@ -67,7 +68,8 @@ fn read_one<D: Spool>(
         → IsSpot dirs.now (spot_named dirs.now named.now)
         → OnOk result (AddsFound dirs.now f named.now found.old found.new) }
     ensures among { OnOk result
-        ((x : FoundSeen) → Contains found.new x → Contains found.old x ⊎ (x.named ≡ named.now)) }
+        ((x : FoundSeen) → Contains found.new x
+        → Contains found.old x ⊎ ((x.named ≡ named.now) × HasText x)) }
     ensures looks { Looks (D.seen spool.old) (D.seen spool.new) result }
 {
     match read_bytes(alloc, spool, &dirs[named.dir], named)? {

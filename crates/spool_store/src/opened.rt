@@ -2,9 +2,9 @@ ghost use Rattle.std.specs.Prelude.{◌≡◌, ◌⊎◌, ◌+◌, ◌<◌, ◌�
 ghost use Rattle.std.specs.List.Sorted.{IsNonDecreasingBy};
 ghost use Rattle.mail_base.specs.declared.control.Control.{Control as ControlSeen};
 ghost use Rattle.spool_disk.specs.Disk.{FileMap};
-ghost use Rattle.spool_store.specs.Openings.{AreAscending, AreEntries, AreOrdered, AreStrays, IsNext};
+ghost use Rattle.spool_store.specs.Openings.{AreAscending, AreEntries, AreOrdered, AreStrays, IsFitting, IsNext};
 ghost use Rattle.spool_store.specs.inner.Judging.{IsVerdict, AreJudged};
-ghost use Rattle.spool_store.specs.inner.Finds.{AreForeign, AreFound, IsFound, spot_named};
+ghost use Rattle.spool_store.specs.inner.Finds.{AreForeign, AreFound, HasText, IsFound, spot_named};
 ghost use Rattle.spool_store.specs.inner.Recovering.{HasLooked, IsLook};
 ghost use Rattle.spool_store.specs.inner.Telling.{AreShown, AreTold, ComeFrom, HasEntry, IsAdding, IsPast, IsRising, Names};
 ghost use Rattle.mail_base.specs.Names.{name_of};
@@ -45,6 +45,8 @@ fn add_live(dir: &Text, x: &Found, out: &mut Seq<Entry>) -> Result<(), NoMemory>
         → OnOk result (out.new
         ≡ out.old ++ record { id = x.now.named.id; dir = dir.now; control = c } ∷ []) }
     ensures adds { OnOk result (IsAdding out.old out.new x.now.named.id) }
+    ensures fit { (dirs : List (List ℕ)) → Contains dirs dir.now → HasText x.now
+        → All (IsFitting dirs) out.old → OnOk result (All (IsFitting dirs) out.new) }
 {
     match &x.control {
         None => Ok(()),
@@ -74,6 +76,8 @@ fn add_once(dir: &Text, x: &Found, out: &mut Seq<Entry>) -> Result<(), NoMemory>
     ensures rises { (n : ℕ) → IsRising out.old n → n ≤ x.now.named.id
         → OnOk result (IsRising out.new x.now.named.id) }
     ensures adds { OnOk result (IsAdding out.old out.new x.now.named.id) }
+    ensures fit { (dirs : List (List ℕ)) → Contains dirs dir.now → HasText x.now
+        → All (IsFitting dirs) out.old → OnOk result (All (IsFitting dirs) out.new) }
 {
     if is_last(out.items(), x.named.id) {
         return Ok(());
@@ -97,6 +101,8 @@ fn add_entry(
     ensures rises { (n : ℕ) → IsRising out.old n → n ≤ x.now.named.id
         → OnOk result (IsRising out.new x.now.named.id) }
     ensures adds { OnOk result (IsAdding out.old out.new x.now.named.id) }
+    ensures fit { HasText x.now → All (IsFitting dirs.now) out.old
+        → OnOk result (All (IsFitting dirs.now) out.new) }
 {
     match verdict {
         Verdict::Strange => Ok(()),
@@ -151,6 +157,8 @@ fn entries_of(
         → AreJudged dirs.now f found.now verdicts.now → IfOk result (AreEntries dirs.now f) }
     ensures ascending { IfOk result AreAscending }
     ensures source { IfOk result (ComeFrom found.now) }
+    ensures fit { ((x : FoundSeen) → Contains found.now x → HasText x)
+        → IfOk result (All (IsFitting dirs.now)) }
 {
     let mut entries = Seq::new(alloc);
     for place in 0..found.len() {
@@ -234,6 +242,7 @@ fn past_parents(found: &[Found], next: u64) -> u64
 pub(crate) fn opened_of(alloc: Global, dirs: &[Text], looked: &Looked) -> Result<Opened, NoMemory>
     requires look { IsLook dirs.now looked.now }
     ensures order { IfOk result (λ opened. AreOrdered opened.entries opened.next) }
+    ensures fit { IfOk result (λ opened. All (IsFitting dirs.now) opened.entries) }
     ensures entries { (f : FileMap) → HasLooked dirs.now f looked.now
         → IfOk result (λ opened. AreEntries dirs.now f opened.entries) }
     ensures strange { (f : FileMap) → HasLooked dirs.now f looked.now

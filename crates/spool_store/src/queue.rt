@@ -18,12 +18,12 @@ ghost use Rattle.spool_store.specs.inner.Parts.{with_new, CanRaise, IsUnderWay};
 ghost use Rattle.spool_store.specs.inner.Finishing.{HasFinished, IsDone, IsRun};
 ghost use Rattle.spool_store.specs.Moves.{Moves, Ends};
 ghost use Rattle.spool_store.specs.Parts.{IsEitherTable};
-ghost use Rattle.spool_store.specs.Openings.{AreOrdered};
+ghost use Rattle.spool_store.specs.Openings.{AreOrdered, IsFitting};
 ghost use Rattle.spool_store.specs.Parcels.{CanPrepare, CanPrepareUnder, IsBelowLast, IsParcel, IsParcelUnder, IsReady, IsReadyUnder, with_children, with_commit};
 ghost use Rattle.spool_store.specs.inner.Commits.{IsNamedIn};
 ghost use Rattle.mail_base.specs.Limits.{IsId};
 ghost use Rattle.spool_store.specs.Settled.{IsSettled, StandsFor};
-ghost use Rattle.spool_store.specs.Stores.{Agrees, HasId, Holds, KeepsOthers, recontrolled, refinished, spot_at};
+ghost use Rattle.spool_store.specs.Stores.{Agrees, HasId, Holds, IsAtRest, KeepsOthers, recontrolled, refinished, spot_at};
 ghost use Rattle.spool_store.specs.inner.Shelves.{IsAscending};
 ghost use Rattle.spool_store.specs.Tidying.{IsClean, IsTidied};
 ghost use Rattle.spool_store.specs.Writes.{AreRaised, after_commit};
@@ -52,7 +52,6 @@ use std::alloc::Global;
 /// spool answers that and touches nothing, until the spool is opened again.
 #[derive(Drop)]
 pub struct Queue {
-    pub(crate) dirs: Seq<Text>,
     pub(crate) shelf: Shelf,
     pub(crate) strange: Seq<Stray>,
     pub(crate) broken: bool,
@@ -73,7 +72,7 @@ impl Queue {
             (λ q. ((seen q).dirs ≡ dirs.now) × ((seen q).broken ≡ false) × ((seen q).room ≡ 0)) }
         ensures read { (f : FileMap) → (D.seen spool.old).told ≡ Some f
             → IfOk result (λ q. IsReading dirs.now f (seen q)) }
-        ensures agrees { IfOk result (λ q. IfSome (D.seen spool.new).told (Agrees (seen q))) }
+        ensures agrees { IfOk result (λ q. IsAtRest (seen q) (D.seen spool.new)) }
         ensures settled { (table : Table) (f : FileMap) → (D.seen spool.old).told ≡ Some f
             → StandsFor dirs.now table f
             → IfOk result (λ q. IfSome (D.seen spool.new).told
@@ -108,14 +107,14 @@ impl Queue {
     // The store of what an opening found.
     pub(crate) fn of(alloc: Global, dirs: &Seq<Text>, opened: Opened) -> Result<Queue, NoMemory>
         requires order { AreOrdered opened.entries opened.next }
+        requires fit { All (IsFitting dirs.now) opened.entries }
         ensures { IfOk result (λ q. seen q ≡ opened_store dirs.now opened) }
     {
         let dirs = dirs.copy()?;
         let from = Label::new(alloc)?;
         let to = Label::new(alloc)?;
-        let shelf = Shelf::of(alloc, opened.entries, opened.next)?;
+        let shelf = Shelf::of(alloc, dirs, opened.entries, opened.next)?;
         Ok(Queue {
-            dirs,
             shelf,
             strange: opened.strange,
             broken: false,
@@ -124,12 +123,14 @@ impl Queue {
         })
     }
 
-    /// The entries in order of id, each below the first free one. It takes no memory.
+    /// The entries in order of id, each below the first free one. Whatever the spool tells, each is
+    /// in one of the store's directories, and its control has a text. It takes no memory.
     pub fn entries(&self) -> &[Held]
         ensures is { result.now ≡ (seen self.now).entries }
         ensures ascending { IsStrictlySortedBy nat_cmp
             (map (λ h. h.entry.id) (seen self.now).entries) }
         ensures below { All (λ h. h.entry.id < (seen self.now).next) (seen self.now).entries }
+        ensures fit { All (λ h. IsFitting (seen self.now).dirs h.entry) (seen self.now).entries }
     {
         self.shelf.items()
     }
@@ -137,6 +138,7 @@ impl Queue {
     /// The entry of an id. It takes no memory.
     pub fn entry(&self, id: &Id) -> &Entry
         requires entry { HasId (seen self.now).entries id.now }
+        ensures fit { IsFitting (seen self.now).dirs result.now }
         ensures is { (h : Held) → Contains (seen self.now).entries h → h.entry.id ≡ id.now
             → result.now ≡ h.entry }
     {
@@ -182,7 +184,7 @@ impl Queue {
         if most == u64::MAX {
             return Err(NoMemory);
         }
-        let paper = Paper::with_room(self.dirs.allocator(), most as usize)?;
+        let paper = Paper::with_room(self.shelf.allocator(), most as usize)?;
         Ok(Room {
             control,
             id: *id,
@@ -190,8 +192,9 @@ impl Queue {
         })
     }
 
-    /// The body of the entry of an id, or no bytes where its file isn't there. A fault doesn't
-    /// break the store.
+    /// The body of the entry of an id, or no bytes where its file isn't there. What the spool tells
+    /// stays, and the files stand for the table for which they stood. A fault doesn't break the
+    /// store.
     pub fn body<D: Spool>(&self, spool: &mut D, id: &Id) -> Result<Text, StoreFault>
         requires entry { HasId (seen self.now).entries id.now }
         ensures read { IfOk result
@@ -204,6 +207,10 @@ impl Queue {
             → Agrees (seen self.now) files → Contains table.entries s → s.id ≡ id.now
             → NeedsBody s.control → text ≡ s.body)) }
         ensures untouched { Reads (D.seen spool.old) (D.seen spool.new) }
+        ensures told { (D.seen spool.new).told ≡ (D.seen spool.old).told }
+        ensures stands { (table : Table)
+            → Moves (D.seen spool.old) (D.seen spool.new) (StandsFor (seen self.now).dirs table)
+            (StandsFor (seen self.now).dirs table) (StandsFor (seen self.now).dirs table) }
         ensures broken { (seen self.now).broken ≡ true
             → (result ≡ Err Broke) × (spool.new ≡ spool.old) }
         ensures never { IsErrOf result Spent → ⊥ }
@@ -217,7 +224,7 @@ impl Queue {
         if self.broken {
             return Err(StoreFault::SpoolFault);
         }
-        let alloc = self.dirs.allocator();
+        let alloc = self.shelf.allocator();
         let name = Text::of(alloc, id.name(Kind::Df).bytes())?;
         let place = self.shelf.place(*id);
         match spool.read(alloc, &self.shelf.items()[place].entry.dir, &name) {
@@ -231,7 +238,7 @@ impl Queue {
     /// decides. It takes no memory.
     pub fn replace<D: Spool>(&mut self, spool: &mut D, room: Room) -> Result<(), SpoolFault>
         requires agrees { (seen self.old).broken ≡ false
-            → IfSome (D.seen spool.old).told (Agrees (seen self.old)) }
+            → IsAtRest (seen self.old) (D.seen spool.old) }
         requires can { CanReplace (seen self.old).entries room.id room.control room.paper }
         ensures moves { (table : Table) → Holds (seen self.old) table → Moves
             (D.seen spool.old)
@@ -245,7 +252,7 @@ impl Queue {
         ensures frame { (f : FileMap)
             → Moves (D.seen spool.old) (D.seen spool.new) (λ g. g ≡ f)
             (KeepsOthers (seen self.old).dirs f) (KeepsOthers (seen self.old).dirs f) }
-        ensures agrees { OnOk result (IfSome (D.seen spool.new).told (Agrees (seen self.new))) }
+        ensures agrees { OnOk result (IsAtRest (seen self.new) (D.seen spool.new)) }
         ensures ok { OnOk result
             (seen self.new ≡ record (seen self.old) {
               entries = map (recontrolled room.id room.control) (seen self.old).entries;
@@ -314,7 +321,7 @@ impl Queue {
     /// it is. It takes no memory.
     pub fn finish<D: Spool>(&mut self, spool: &mut D, id: &Id) -> Result<(), SpoolFault>
         requires agrees { (seen self.old).broken ≡ false
-            → IfSome (D.seen spool.old).told (Agrees (seen self.old)) }
+            → IsAtRest (seen self.old) (D.seen spool.old) }
         requires can { CanFinish (seen self.old).entries id.now }
         ensures moves { (f : FileMap)
             → Moves (D.seen spool.old) (D.seen spool.new) (λ g. g ≡ f)
@@ -331,7 +338,7 @@ impl Queue {
             → h.finished ≡ false → IsFiled h g)) }
         ensures already { (h : Held) → Contains (seen self.old).entries h → h.entry.id ≡ id.now
             → h.finished ≡ true → spool.new ≡ spool.old }
-        ensures agrees { OnOk result (IfSome (D.seen spool.new).told (Agrees (seen self.new))) }
+        ensures agrees { OnOk result (IsAtRest (seen self.new) (D.seen spool.new)) }
         ensures ok { OnOk result
             (seen self.new ≡ record (seen self.old) {
               entries = map (refinished id.now) (seen self.old).entries;
@@ -377,7 +384,7 @@ impl Queue {
 
     // Renames the control file of an entry, and takes its body away unless it is wanted.
     fn write_finished<D: Spool>(&mut self, spool: &mut D, id: Id) -> Result<(), Failed>
-        requires agrees { IfSome (D.seen spool.old).told (Agrees (seen self.old)) }
+        requires agrees { IsAtRest (seen self.old) (D.seen spool.old) }
         requires can { CanFinish (seen self.old).entries id }
         requires queued { (h : Held) → Contains (seen self.old).entries h → h.entry.id ≡ id
             → h.finished ≡ false }
@@ -443,7 +450,7 @@ impl Queue {
         requires room { length children.now + 1 ≤ (seen self.now).room }
         ensures { IfOk result (IsParcel (seen self.now) children.now parent.now body) }
     {
-        let alloc = self.dirs.allocator();
+        let alloc = self.shelf.allocator();
         let next = self.shelf.next();
         let id = Id::new(next);
         let under = Parent {
@@ -465,28 +472,28 @@ impl Queue {
     /// [`Queue::prepare`] made since the last commit.
     pub fn commit<D: Spool>(&mut self, spool: &mut D, parcel: Parcel) -> Result<Id, SpoolFault>
         requires agrees { (seen self.old).broken ≡ false
-            → IfSome (D.seen spool.old).told (Agrees (seen self.old)) }
+            → IsAtRest (seen self.old) (D.seen spool.old) }
         requires ready { IsReady (seen self.old) parcel }
         ensures moves { (table : Table) (children : List DraftSeen) (parent : DraftSeen)
-            → Holds (seen self.old) table
-            → IsParcel (seen self.old) children parent parcel.body parcel → Moves
+            (body : List ℕ) → Holds (seen self.old) table
+            → IsParcel (seen self.old) children parent body parcel → Moves
             (D.seen spool.old)
             (D.seen spool.new)
             (StandsFor (seen self.old).dirs table)
             (Ends result
             (IsSettled (seen self.old).dirs
-            (after_commit table children parent parcel.body None))
+            (after_commit table children parent body None))
             (IsEitherTable (seen self.old).dirs table
-            (after_commit table children parent parcel.body None)))
+            (after_commit table children parent body None)))
             (IsEitherTable (seen self.old).dirs table
-            (after_commit table children parent parcel.body None)) }
+            (after_commit table children parent body None)) }
         ensures frame { (f : FileMap)
             → Moves (D.seen spool.old) (D.seen spool.new) (λ g. g ≡ f)
             (KeepsOthers (seen self.old).dirs f) (KeepsOthers (seen self.old).dirs f) }
-        ensures agrees { OnOk result (IfSome (D.seen spool.new).told (Agrees (seen self.new))) }
+        ensures agrees { OnOk result (IsAtRest (seen self.new) (D.seen spool.new)) }
         ensures id { IfOk result (λ id. id ≡ (seen self.old).next) }
-        ensures ok { (children : List DraftSeen) (parent : DraftSeen)
-            → IsParcel (seen self.old) children parent parcel.body parcel
+        ensures ok { (children : List DraftSeen) (parent : DraftSeen) (body : List ℕ)
+            → IsParcel (seen self.old) children parent body parcel
             → OnOk result (seen self.new ≡ with_commit (seen self.old) children parent) }
         ensures err { OnErr result (seen self.new ≡ record (seen self.old) { broken = true }) }
         ensures broken { (seen self.old).broken ≡ true
@@ -513,8 +520,8 @@ impl Queue {
     fn take_in(&mut self, parcel: Parcel) -> Id
         requires ready { IsReady (seen self.old) parcel }
         ensures id { result ≡ (seen self.old).next }
-        ensures is { (children : List DraftSeen) (parent : DraftSeen)
-            → IsParcel (seen self.old) children parent parcel.body parcel
+        ensures is { (children : List DraftSeen) (parent : DraftSeen) (body : List ℕ)
+            → IsParcel (seen self.old) children parent body parcel
             → seen self.new ≡ with_commit (seen self.old) children parent }
     {
         let id = parcel.id();
@@ -566,7 +573,7 @@ impl Queue {
             (λ parcel. (id : ℕ) → parent.now.id ≡ Some id
             → IsParcelUnder (seen self.now) id children.now parent.now body parcel) }
     {
-        let alloc = self.dirs.allocator();
+        let alloc = self.shelf.allocator();
         let above = self.above(parent);
         let children = heirs(alloc, self.shelf.next(), &above, children.items())?;
         let parent = part_of(alloc, above.id, parent, parent.control.parent)?;
@@ -605,39 +612,39 @@ impl Queue {
         parcel: Parcel,
     ) -> Result<Id, SpoolFault>
         requires agrees { (seen self.old).broken ≡ false
-            → IfSome (D.seen spool.old).told (Agrees (seen self.old)) }
+            → IsAtRest (seen self.old) (D.seen spool.old) }
         requires ready { IsReadyUnder (seen self.old) parcel }
         ensures moves { (table : Table) (id : ℕ) (children : List DraftSeen) (parent : DraftSeen)
-            → Holds (seen self.old) table
-            → IsParcelUnder (seen self.old) id children parent parcel.body parcel
+            (body : List ℕ) → Holds (seen self.old) table
+            → IsParcelUnder (seen self.old) id children parent body parcel
             → IsBelowLast (seen self.old).entries id → Moves
             (D.seen spool.old)
             (D.seen spool.new)
             (StandsFor (seen self.old).dirs table)
             (Ends result
             (IsSettled (seen self.old).dirs
-            (after_commit table children parent parcel.body (Some id)))
+            (after_commit table children parent body (Some id)))
             (IsEitherTable (seen self.old).dirs table
-            (after_commit table children parent parcel.body (Some id))))
+            (after_commit table children parent body (Some id))))
             (IsEitherTable (seen self.old).dirs table
-            (after_commit table children parent parcel.body (Some id))) }
+            (after_commit table children parent body (Some id))) }
         ensures settled { (table : Table) (id : ℕ) (children : List DraftSeen) (parent : DraftSeen)
-            (f : FileMap) → Holds (seen self.old) table
-            → IsParcelUnder (seen self.old) id children parent parcel.body parcel
+            (body : List ℕ) (f : FileMap) → Holds (seen self.old) table
+            → IsParcelUnder (seen self.old) id children parent body parcel
             → (D.seen spool.old).told ≡ Some f → StandsFor (seen self.old).dirs table f
             → OnOk result
             (IfSome (D.seen spool.new).told
             (IsSettled (seen self.old).dirs
-            (after_commit table children parent parcel.body (Some id)))) }
+            (after_commit table children parent body (Some id)))) }
         ensures frame { (f : FileMap)
             → Moves (D.seen spool.old) (D.seen spool.new) (λ g. g ≡ f)
             (KeepsOthers (seen self.old).dirs f) (KeepsOthers (seen self.old).dirs f) }
-        ensures agrees { OnOk result (IfSome (D.seen spool.new).told (Agrees (seen self.new))) }
-        ensures id { (id : ℕ) (children : List DraftSeen) (parent : DraftSeen)
-            → IsParcelUnder (seen self.old) id children parent parcel.body parcel
+        ensures agrees { OnOk result (IsAtRest (seen self.new) (D.seen spool.new)) }
+        ensures id { (id : ℕ) (children : List DraftSeen) (parent : DraftSeen) (body : List ℕ)
+            → IsParcelUnder (seen self.old) id children parent body parcel
             → IfOk result (λ r. r ≡ id) }
-        ensures ok { (id : ℕ) (children : List DraftSeen) (parent : DraftSeen)
-            → IsParcelUnder (seen self.old) id children parent parcel.body parcel
+        ensures ok { (id : ℕ) (children : List DraftSeen) (parent : DraftSeen) (body : List ℕ)
+            → IsParcelUnder (seen self.old) id children parent body parcel
             → OnOk result (seen self.new ≡ with_children (seen self.old) id children parent) }
         ensures err { OnErr result (seen self.new ≡ record (seen self.old) { broken = true }) }
         ensures broken { (seen self.old).broken ≡ true
@@ -663,10 +670,10 @@ impl Queue {
     // Takes in the children and the parent's new control once their files are written.
     fn take_under(&mut self, parcel: Parcel) -> Id
         requires ready { IsReadyUnder (seen self.old) parcel }
-        ensures id { (id : ℕ) (children : List DraftSeen) (parent : DraftSeen)
-            → IsParcelUnder (seen self.old) id children parent parcel.body parcel → result ≡ id }
-        ensures is { (id : ℕ) (children : List DraftSeen) (parent : DraftSeen)
-            → IsParcelUnder (seen self.old) id children parent parcel.body parcel
+        ensures id { (id : ℕ) (children : List DraftSeen) (parent : DraftSeen) (body : List ℕ)
+            → IsParcelUnder (seen self.old) id children parent body parcel → result ≡ id }
+        ensures is { (id : ℕ) (children : List DraftSeen) (parent : DraftSeen) (body : List ℕ)
+            → IsParcelUnder (seen self.old) id children parent body parcel
             → seen self.new ≡ with_children (seen self.old) id children parent }
     {
         let id = parcel.id();

@@ -1,14 +1,14 @@
-ghost use Rattle.std.specs.Prelude.{◌≡◌, ◌<◌, ◌≤◌, ◌⊎◌, [], false, IfOk, IfSome, IsErrOf, Some, Contains, length};
+ghost use Rattle.std.specs.Prelude.{◌≡◌, ◌<◌, ◌≤◌, ◌⊎◌, [], false, All, IfOk, IfSome, IsErrOf, Some, Contains, length};
 ghost use Rattle.std.specs.List.Sorted.{IsNonDecreasingBy, IsPermutation};
 ghost use Rattle.mail_base.specs.Histories.{Rose};
 ghost use Rattle.mail_base.specs.declared.fault.StoreFault.TheVariants.{SpoolFault as Broke, IdsSpent as Spent};
 ghost use Rattle.spool_disk.specs.Disk.{FileMap};
 ghost use Rattle.spool_store.specs.Moves.{Moves, Ends};
 ghost use Rattle.spool_store.specs.Entries.{Table};
-ghost use Rattle.spool_store.specs.Openings.{AreEntries, AreOrdered, AreStrays, IsNext};
+ghost use Rattle.spool_store.specs.Openings.{AreEntries, AreOrdered, AreStrays, IsFitting, IsNext};
 ghost use Rattle.spool_store.specs.Keepers.{IsReading, seen};
 ghost use Rattle.spool_store.specs.Settled.{IsSettled, StandsFor};
-ghost use Rattle.spool_store.specs.Stores.{Agrees, Holds, KeepsOthers};
+ghost use Rattle.spool_store.specs.Stores.{Holds, IsAtRest, KeepsOthers};
 ghost use Rattle.spool_store.specs.Tidying.{IsClean, IsSwept, IsTidied};
 ghost use Rattle.spool_store.specs.inner.Finds.{AreForeign, AreNamed};
 ghost use Rattle.spool_store.specs.inner.Looks.{Looks};
@@ -156,6 +156,7 @@ pub(crate) fn take_over<D: Spool>(
         (Ends result (λ g. IsTidied dirs.now f g × IsSwept dirs.now g) (IsTidied dirs.now f))
         (IsTidied dirs.now f) }
     ensures order { IfOk result (λ opened. AreOrdered opened.entries opened.next) }
+    ensures fit { IfOk result (λ opened. All (IsFitting dirs.now) opened.entries) }
     ensures entries { (f : FileMap) → (D.seen spool.old).told ≡ Some f
         → IfOk result (λ opened. AreEntries dirs.now f opened.entries) }
     ensures strange { (f : FileMap) → (D.seen spool.old).told ≡ Some f
@@ -193,6 +194,7 @@ pub fn recover<D: Spool>(
         (IsTidied dirs.now f)
         (IsTidied dirs.now f) }
     ensures order { IfOk result (λ opened. AreOrdered opened.entries opened.next) }
+    ensures fit { IfOk result (λ opened. All (IsFitting dirs.now) opened.entries) }
     ensures entries { IfOk result
         (λ opened. IfSome (D.seen spool.old).told (λ f. AreEntries dirs.now f opened.entries)) }
     ensures strange { IfOk result
@@ -225,7 +227,7 @@ pub(crate) fn reopen<D: Spool>(
         (λ q. ((seen q).dirs ≡ dirs.now) × ((seen q).broken ≡ false) × ((seen q).room ≡ 0)) }
     ensures read { (f : FileMap) → (D.seen spool.old).told ≡ Some f
         → IfOk result (λ q. IsReading dirs.now f (seen q)) }
-    ensures agrees { IfOk result (λ q. IfSome (D.seen spool.new).told (Agrees (seen q))) }
+    ensures agrees { IfOk result (λ q. IsAtRest (seen q) (D.seen spool.new)) }
     ensures settled { (table : Table) (f : FileMap) → (D.seen spool.old).told ≡ Some f
         → StandsFor dirs.now table f
         → IfOk result (λ q. IfSome (D.seen spool.new).told

@@ -2,20 +2,23 @@ ghost use Rattle.std.specs.Prelude.{◌≡◌, ◌≢◌, ◌+◌, ◌<◌, ◌�
 ghost use Rattle.mail_base.specs.Limits.{IsId};
 ghost use Rattle.spool_store.specs.Stores.{HasId, recontrolled, refinished};
 ghost use Rattle.spool_store.specs.inner.Shelves.{IsAscending, IsPlaceOf, Shelved};
-ghost use Rattle.spool_store.specs.Openings.{AreOrdered};
+ghost use Rattle.qf_format.specs.Valid.{IsValid};
+ghost use Rattle.spool_store.specs.Openings.{AreOrdered, IsFitting};
 ghost use Rattle.spool_store.specs.inner.Commits.{IsRow, queued};
 ghost use Rattle.spool_store.specs.inner.Opening.{taken_over};
 
 use crate::{Held, Part};
-use mail_base::{Control, Entry, Id, NoMemory, Seq};
+use mail_base::{Control, Entry, Id, NoMemory, Seq, Text};
 use std::alloc::Global;
 use std::marker::Model;
 
 /// Entries in order of id, with room for more, and the first free id, which is greater than each of
-/// theirs. A contract sees it as its entries, that id and its room, the number of entries that it
-/// takes without memory.
+/// theirs. Each is in one of the directories and has a control with a text, whatever a spool tells.
+/// A contract sees it as its directories, its entries, that id and its room, the number of entries
+/// that it takes without memory.
 #[derive(Drop)]
 pub struct Shelf {
+    dirs: Seq<Text>,
     held: Vec<Held>,
     next: u64,
     room: usize,
@@ -24,14 +27,22 @@ pub struct Shelf {
 impl Model for Shelf {
     ghost use Rattle.std.specs.Prelude.{◌+◌, ◌<◌, ◌≤◌, All, length};
     ghost use Rattle.std.specs.Vec.{vec_capacity};
+    ghost use Rattle.spool_store.specs.Openings.{IsFitting};
     ghost use Rattle.spool_store.specs.inner.Shelves.{IsAscending, Shelved};
 
     ghost Value = { Shelved };
 
-    ghost view = { λ s. record { items = s.held.items; next = s.next; room = s.room } };
+    ghost view = { λ s. record {
+      dirs = s.dirs;
+      items = s.held.items;
+      next = s.next;
+      room = s.room;
+    } };
 
     ghost invariant = { λ s. (length s.held.items + s.room ≤ vec_capacity s.held)
-        × (IsAscending s.held.items × All (λ h. h.entry.id < s.next) s.held.items) };
+        × (IsAscending s.held.items
+        × (All (λ h. h.entry.id < s.next) s.held.items
+        × All (λ h. IsFitting s.dirs h.entry) s.held.items)) };
 }
 
 // Entries that an opening found.
@@ -46,14 +57,26 @@ fn all_held(alloc: Global, entries: Seq<Entry>) -> Result<Vec<Held>, NoMemory>
 }
 
 impl Shelf {
-    /// These entries, with no room for more.
-    pub(crate) fn of(alloc: Global, entries: Seq<Entry>, next: u64) -> Result<Shelf, NoMemory>
+    /// These entries in these directories, with no room for more.
+    pub(crate) fn of(
+        alloc: Global,
+        dirs: Seq<Text>,
+        entries: Seq<Entry>,
+        next: u64,
+    ) -> Result<Shelf, NoMemory>
         requires order { AreOrdered entries next }
+        requires fit { All (IsFitting dirs) entries }
         ensures { IfOk result
-            (λ shelf. shelf ≡ record { items = map taken_over entries; next = next; room = 0 }) }
+            (λ shelf. shelf ≡ record {
+              dirs = dirs;
+              items = map taken_over entries;
+              next = next;
+              room = 0;
+            }) }
     {
         let held = all_held(alloc, entries)?;
         Ok(Shelf {
+            dirs,
             held,
             next,
             room: 0,
@@ -64,8 +87,14 @@ impl Shelf {
         ensures items { result.now ≡ self.now.items }
         ensures ascending { IsAscending self.now.items }
         ensures below { All (λ h. h.entry.id < self.now.next) self.now.items }
+        ensures fit { All (λ h. IsFitting self.now.dirs h.entry) self.now.items }
     {
         &self.held
+    }
+
+    /// Where it has its memory.
+    pub(crate) fn allocator(&self) -> Global {
+        self.dirs.allocator()
     }
 
     /// The first free id.
@@ -79,6 +108,7 @@ impl Shelf {
     pub(crate) fn reserve(&mut self, more: usize) -> Result<(), NoMemory>
         ensures items { self.new.items ≡ self.old.items }
         ensures next { self.new.next ≡ self.old.next }
+        ensures dirs { self.new.dirs ≡ self.old.dirs }
         ensures ok { OnOk result (more ≤ self.new.room) }
         ensures least { self.old.room ≤ self.new.room }
         ensures err { OnErr result (self.new ≡ self.old) }
@@ -95,6 +125,8 @@ impl Shelf {
     pub(crate) fn add(&mut self, held: Held)
         requires room { 0 < self.old.room }
         requires next { held.entry.id ≡ self.old.next }
+        requires fit { IsFitting self.old.dirs held.entry }
+        ensures dirs { self.new.dirs ≡ self.old.dirs }
         ensures items { self.new.items ≡ self.old.items ++ held ∷ [] }
         ensures next { self.new.next ≡ self.old.next + 1 }
         ensures room { self.new.room + 1 ≡ self.old.room }
@@ -109,6 +141,8 @@ impl Shelf {
     pub(crate) fn add_all(&mut self, parts: Seq<Part>)
         requires room { length parts ≤ self.old.room }
         requires next { IsRow self.old.next parts }
+        requires fit { All (λ p. IsFitting self.old.dirs p.entry) parts }
+        ensures dirs { self.new.dirs ≡ self.old.dirs }
         ensures items { self.new.items ≡ self.old.items ++ map queued parts }
         ensures next { self.new.next ≡ self.old.next + length parts }
         ensures room { self.new.room + length parts ≡ self.old.room }
@@ -160,7 +194,8 @@ impl Shelf {
 
     /// Gives the entry of an id another control. It takes no memory.
     pub(crate) fn set_control(&mut self, id: Id, control: Control)
-        requires { HasId self.old.items id }
+        requires entry { HasId self.old.items id }
+        requires valid { IsValid control }
         ensures { self.new
             ≡ record self.old { items = map (recontrolled id control) self.old.items } }
     {

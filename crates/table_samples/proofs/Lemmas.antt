@@ -30,7 +30,7 @@ use Rattle.queue_table.specs.Reserves.{CanReserve}
 use Rattle.queue_table.specs.Soundness.{AreCuts, IsTried}
 use Rattle.queue_table.specs.declared.table.Table.{Table as Kept}
 use Rattle.queue_table.specs.declared.terms.Terms.{Terms}
-use Rattle.table_samples.specs.Samples.{AreSampleCuts, AreSound, HasAddress, IsReady, IsSampleCut, IsSampleMessage, IsSoundHeld}
+use Rattle.table_samples.specs.Samples.{AreSampleCuts, HasAddress, IsReady, IsSampleCut, IsSampleMessage}
 
 -- one more behind the others
 pub pushed : {X : Type 0} (P : X → Type 0) (r : Result (Unit {0}) NoMemory) (old new : List X) (x : X) → OnOk r (new ≡ old ++ x ∷ []) → All P old → P x → OnOk r (All P new)
@@ -103,21 +103,15 @@ tried_at rows place row is queued = tried_in rows place row is queued (slice_get
 pub place_pushed : (rows : List Row) (r : Result (Unit {0}) NoMemory) (old new : List ℕ) (place : ℕ) → OnOk r (new ≡ old ++ place ∷ []) → All (IsTried rows) old → IsTried rows place → OnOk r (All (IsTried rows) new)
 place_pushed rows r old new place e all is = pushed (IsTried rows) r old new place e all is
 
--- rows of an entry of a sound store may be reserved
-pub can_reserve : (s : StoreSeen) (h : Held) (places : List ℕ) → AreSound s → Contains s.entries h → IsOpen h.entry.control → All (IsTried h.entry.control.rows) places → CanReserve s.entries h.entry.id places
-can_reserve s h places sound among waits tried = record {
+-- rows of an entry may be reserved
+pub can_reserve : (s : StoreSeen) (h : Held) (places : List ℕ) → Contains s.entries h → IsOpen h.entry.control → All (IsTried h.entry.control.rows) places → CanReserve s.entries h.entry.id places
+can_reserve s h places among waits tried = record {
   held = h;
   among = among;
   is = refl;
   waits = waits;
-  valid = (All-contains (IsSoundHeld s) s.entries h sound among).valid;
   tried = tried;
 }
-
--- the entries of a table that has what told files say
-pub ready_sound : (told : Option FileMap) (t : Kept) → IsSome told → IsReady told t → AreSound (store t)
-ready_sound (Some f) t some r = All-weaker (λ (h : Held). IsLive (store t).dirs f (spot_at h) h.entry.control) (IsSoundHeld (store t)) (λ (h : Held) live. let read = live_read live in record { among = read.there.spot.among; valid = read.says.valid }) (store t).entries r.agrees.each
-ready_sound None t some r = absurd (false≢true some)
 
 -- a table over a queue that was opened with the directories of its terms
 pub over_ready : (told : Option FileMap) (kept : Kept) (queue : Queue) (terms : Terms) (dirs : List (List ℕ)) → kept ≡ record { queue = queue; terms = terms } → (seen queue).dirs ≡ dirs → AreDirs terms dirs → IfSome told (Agrees (seen queue)) → IsReady told kept

@@ -1,15 +1,14 @@
 -- Messages and cuts whose controls have a text, and tables that may be changed (own).
-use Rattle.std.specs.Prelude.{◌<◌, ◌≤◌, List, Option, length, All, Contains, FitsSigned, IfSome}
+use Rattle.std.specs.Prelude.{◌<◌, ◌≤◌, List, Option, length, All, FitsSigned, IfSome}
 use Rattle.std.specs.Int.{w64}
 use Rattle.mail_base.specs.Limits.{most_rows}
 use Rattle.mail_base.specs.Texts.{IsAddress, IsBracketed, IsHeader, IsLine}
 use Rattle.mail_base.specs.declared.draw.Draw.{Draw}
 use Rattle.mail_base.specs.declared.message.Cut.{Cut}
 use Rattle.mail_base.specs.declared.message.Message.{Message}
-use Rattle.qf_format.specs.Valid.{AreKept, IsValid}
+use Rattle.qf_format.specs.Valid.{AreKept}
 use Rattle.spool_disk.specs.Disk.{FileMap}
-use Rattle.spool_store.specs.Stores.{Agrees, StoreSeen}
-use Rattle.spool_store.specs.declared.held.Held.{Held}
+use Rattle.spool_store.specs.Stores.{Agrees}
 use Rattle.queue_table.specs.Calls.{AreDirs, store}
 use Rattle.queue_table.specs.declared.table.Table.{Table}
 
@@ -37,11 +36,3 @@ pub record IsSampleMessage (m : Message) : Type 0 where
 pub record IsReady (told : Option FileMap) (t : Table) : Type 0 where
   pub agrees : IfSome told (Agrees (store t))
   pub dirs : AreDirs t.terms (store t).dirs
-
--- an entry lies in a directory of the queue, and its control has a text
-pub record IsSoundHeld (s : StoreSeen) (h : Held) : Type 0 where
-  pub among : Contains s.dirs h.entry.dir
-  pub valid : IsValid h.entry.control
-
-abbrev pub AreSound : StoreSeen → Type 0
-AreSound s = All (IsSoundHeld s) s.entries

@@ -1,8 +1,8 @@
 //! Calls of the message table on entries by their places.
 
-ghost use Rattle.std.specs.Prelude.{IfOk, IfSome, IsSome, OnOk};
+ghost use Rattle.std.specs.Prelude.{IfOk, IfSome, OnOk};
 ghost use Rattle.spool_store.specs.Keepers.{CanFinish};
-ghost use Rattle.spool_store.specs.Stores.{Agrees};
+ghost use Rattle.spool_store.specs.Stores.{IsAtRest};
 ghost use Rattle.queue_table.specs.Calls.{AreDirs, store};
 ghost use Rattle.queue_table.specs.Directories.{terms_of};
 ghost use Rattle.table_samples.specs.Samples.{AreSampleCuts, IsReady, IsSampleMessage};
@@ -57,7 +57,6 @@ pub fn record<D: Spool>(
     outcomes: &Outcomes,
     moment: u64,
 ) -> Result<(), StoreFault>
-    requires told { IsSome (D.seen spool.old).told }
     requires ready { IsReady (D.seen spool.old).told table.old }
     ensures { OnOk result (IsReady (D.seen spool.new).told table.new) }
 {
@@ -91,8 +90,8 @@ pub fn finish_done<D: Spool>(
     table: &mut Table,
     place: usize,
 ) -> Result<(), StoreFault>
-    requires { IfSome (D.seen spool.old).told (Agrees (store table.old)) }
-    ensures { OnOk result (IfSome (D.seen spool.new).told (Agrees (store table.new))) }
+    requires { IsAtRest (store table.old) (D.seen spool.old) }
+    ensures { OnOk result (IsAtRest (store table.new) (D.seen spool.new)) }
 {
     let Some(id) = done_id(table, place) else {
         return Ok(());

@@ -6,7 +6,6 @@ ghost use Rattle.queue_table.specs.Calls.{store};
 ghost use Rattle.mail_base.specs.States.{is_queued};
 ghost use Rattle.queue_table.specs.Reserves.{IsReserved};
 ghost use Rattle.queue_table.specs.Soundness.{IsTried};
-ghost use Rattle.table_samples.specs.Samples.{AreSound};
 
 use mail_base::{NoMemory, Row, Seq, State, StoreFault};
 use queue_table::{Reserved, Table};
@@ -57,7 +56,6 @@ fn places_of(alloc: Global, rows: &[Row], count: u32) -> Result<Seq<u32>, NoMemo
 fn reserved_of(table: &Table, held: &Held, count: u32) -> Result<Reserved, NoMemory>
     requires among { Contains (store table.now).entries held.now }
     requires waits { IsOpen held.now.entry.control }
-    requires sound { AreSound (store table.now) }
     ensures { IfOk result (IsReserved (store table.now).entries) }
 {
     let rows = held.entry.control.rows.items();
@@ -67,7 +65,6 @@ fn reserved_of(table: &Table, held: &Held, count: u32) -> Result<Reserved, NoMem
 
 /// The same of the entry at a place.
 pub(crate) fn reserved_at(table: &Table, place: usize, count: u32) -> Result<Reserved, StoreFault>
-    requires { AreSound (store table.now) }
     ensures { IfOk result (IsReserved (store table.now).entries) }
 {
     let Some(held) = table.entries().get(place) else {

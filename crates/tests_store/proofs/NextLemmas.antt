@@ -10,6 +10,7 @@ use Rattle.qf_format.specs.Sheets.{Sheet}
 use Rattle.qf_format.specs.Valid.{IsRevision, IsValid}
 use Rattle.spool_disk.specs.Disk.{FileMap}
 use Rattle.spool_store.specs.Keepers.{CanReplace, raised, seen}
+use Rattle.spool_store.specs.Openings.{IsFitting}
 use Rattle.spool_store.specs.Parcels.{CanPrepareUnder, IsParcelUnder, IsReadyUnder}
 use Rattle.spool_store.specs.Queue.{IsLive}
 use Rattle.spool_store.specs.Stores.{Agrees, StoreSeen, spot_at}
@@ -19,16 +20,8 @@ use Rattle.spool_store.specs.declared.parcel.Parcel.{Parcel}
 use Rattle.spool_store.specs.declared.queue.Queue.{Queue}
 use Rattle.spool_store.proofs.Carrying.{live_read}
 use Rattle.spool_store.proofs.Numbering.{valid_with}
-use Rattle.tests_store.specs.Nexts.{AreSound, HasOpen, IsNext}
+use Rattle.tests_store.specs.Nexts.{HasOpen, IsNext}
 use Rattle.tests_store.specs.Samples.{sample_dirs}
-
--- the entries of a store that agrees with files
-agrees_sound : (store : StoreSeen) (f : FileMap) → Agrees store f → AreSound store
-agrees_sound store f a = All-weaker (λ (h : Held). IsLive store.dirs f (spot_at h) h.entry.control) (λ (h : Held). IsDraftable store.dirs (record { id = None; dir = h.entry.dir; control = h.entry.control })) (λ h live. let read = live_read live in record { among = read.there.spot.among; valid = read.says.valid }) store.entries a.each
-
-pub sound_ok : (r : Result Queue StoreFault) (f : FileMap) → IfOk r (λ q. Agrees (seen q) f) → IfOk r (λ q. AreSound (seen q))
-sound_ok (Ok q) f a = agrees_sound (seen q) f a
-sound_ok (Err e) f a = tt
 
 raised_range : (r : ℕ) → IsRevision r → IsRevision (raised r)
 raised_range r v = record { least = grind (arith, v.least); most = grind (arith, v.most) }
@@ -36,11 +29,11 @@ raised_range r v = record { least = grind (arith, v.least); most = grind (arith,
 raised_valid : (c : Control) → IsValid c → IsValid (record c { revision = raised c.revision })
 raised_valid c v = valid_with (raised c.revision) c.parent c (raised_range c.revision v.revision_range) v.parent_form v
 
-pub can_replace : (store : StoreSeen) (id n k : ℕ) (c : Control) (paper : Sheet) → AreSound store → HasOpen store.entries id → n ≡ id → ((h : Held) → Contains store.entries h → h.entry.id ≡ id → c ≡ h.entry.control) → (paper.bytes ≡ []) × (room_of c ≤ paper.room) → k ≡ raised c.revision → CanReplace store.entries n (record c { revision = k }) paper
-can_replace store id n k c paper sound o known same sheet next =
+pub can_replace : (store : StoreSeen) (id n k : ℕ) (c : Control) (paper : Sheet) → All (λ (h : Held). IsFitting store.dirs h.entry) store.entries → HasOpen store.entries id → n ≡ id → ((h : Held) → Contains store.entries h → h.entry.id ≡ id → c ≡ h.entry.control) → (paper.bytes ≡ []) × (room_of c ≤ paper.room) → k ≡ raised c.revision → CanReplace store.entries n (record c { revision = k }) paper
+can_replace store id n k c paper fit o known same sheet next =
     let h : Held = o.held in
     let e : c ≡ h.entry.control = same h o.among o.is in
-    let can = All-contains (λ (h : Held). IsDraftable store.dirs (record { id = None; dir = h.entry.dir; control = h.entry.control })) store.entries h sound o.among in
+    let can = All-contains (λ (h : Held). IsFitting store.dirs h.entry) store.entries h fit o.among in
     record {
       held = h;
       among = o.among;
@@ -60,13 +53,13 @@ can_replace store id n k c paper sound o known same sheet next =
       fits = subst (λ (q : Control). room_of q ≤ paper.room) e sheet.1;
     }
 
-pub can_prepare_under : (store : StoreSeen) (children : List Draft) (parent : Draft) → store.dirs ≡ sample_dirs → All (IsDraftable sample_dirs) children → AreSound store → IsNext store.entries parent → CanPrepareUnder store.dirs store.entries children parent
-can_prepare_under store children parent e each sound next =
+pub can_prepare_under : (store : StoreSeen) (children : List Draft) (parent : Draft) → store.dirs ≡ sample_dirs → All (IsDraftable sample_dirs) children → All (λ (h : Held). IsFitting store.dirs h.entry) store.entries → IsNext store.entries parent → CanPrepareUnder store.dirs store.entries children parent
+can_prepare_under store children parent e each fit next =
     let h : Held = next.held in
-    let can = All-contains (λ (h : Held). IsDraftable store.dirs (record { id = None; dir = h.entry.dir; control = h.entry.control })) store.entries h sound next.among in
+    let can = All-contains (λ (h : Held). IsFitting store.dirs h.entry) store.entries h fit next.among in
     subst (λ (d : Draft). CanPrepareUnder store.dirs store.entries children d) (sym next.is) (record {
       each = subst (λ (q : List (List ℕ)). All (IsDraftable q) children) (sym e) each;
-      head = record { among = can.among; valid = raised_valid h.entry.control can.valid };
+      head = record { among = can.dir; valid = raised_valid h.entry.control can.valid };
       held = h;
       among = next.among;
       named = refl;
@@ -77,5 +70,5 @@ can_prepare_under store children parent e each sound next =
 pub ready_under_ok : (r : Result Parcel StoreFault) (store : StoreSeen) (entries : List Held) (children : List Draft) (parent : Draft) (body : List ℕ) → IsNext entries parent → IfOk r (λ parcel. (id : ℕ) → parent.id ≡ Some id → IsParcelUnder store id children parent body parcel) → IfOk r (IsReadyUnder store)
 ready_under_ok (Ok parcel) store entries children parent body next is =
     let made = is next.held.entry.id (ap (λ (d : Draft). d.id) next.is) in
-    record { id = next.held.entry.id; children = children; parent = parent; is = subst (λ (b : List ℕ). IsParcelUnder store next.held.entry.id children parent b parcel) (sym made.body_is) made }
+    record { id = next.held.entry.id; children = children; parent = parent; body = body; is = made }
 ready_under_ok (Err e) store entries children parent body next is = tt

@@ -34,7 +34,7 @@ pub can_prepare : (dirs : List (List ℕ)) (children : List Draft) (parent : Dra
 can_prepare dirs children parent e each head alone = subst (λ (q : List (List ℕ)). CanPrepare q children parent) (sym e) (record { each = each; head = head; alone = alone })
 
 pub ready_ok : (r : Result Parcel StoreFault) (store : StoreSeen) (children : List Draft) (parent : Draft) (body : List ℕ) → IfOk r (IsParcel store children parent body) → IfOk r (IsReady store)
-ready_ok (Ok parcel) store children parent body is = record { children = children; parent = parent; is = subst (λ (b : List ℕ). IsParcel store children parent b parcel) (sym is.body_is) is }
+ready_ok (Ok parcel) store children parent body is = record { children = children; parent = parent; body = body; is = is }
 ready_ok (Err e) store children parent body is = tt
 
 -- one more

@@ -1,10 +1,8 @@
 -- The next control of an entry, for examples (own).
-use Rattle.std.specs.Prelude.{◌≡◌, ℕ, List, None, Some, All, Contains}
+use Rattle.std.specs.Prelude.{◌≡◌, ℕ, List, Some, Contains}
 use Rattle.mail_base.specs.declared.control.Draft.{Draft}
 use Rattle.spool_store.specs.Keepers.{raised}
 use Rattle.spool_store.specs.Queue.{IsOpen}
-use Rattle.spool_store.specs.Stores.{StoreSeen}
-use Rattle.spool_store.specs.Writes.{IsDraftable}
 use Rattle.spool_store.specs.declared.held.Held.{Held}
 
 -- a draft of an entry's control at its next revision
@@ -14,12 +12,6 @@ next_draft h = record {
   dir = h.entry.dir;
   control = record h.entry.control { revision = raised h.entry.control.revision };
 }
-
--- each entry lies in a directory of the queue, and its control has a text
-abbrev pub AreSound : StoreSeen → Type 0
-AreSound store =
-    All (λ h. IsDraftable store.dirs
-    (record { id = None; dir = h.entry.dir; control = h.entry.control })) store.entries
 
 -- the entry of an id has an open row
 pub record HasOpen (entries : List Held) (id : ℕ) : Type 0 where

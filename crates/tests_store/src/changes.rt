@@ -5,9 +5,9 @@ ghost use Rattle.std.specs.Prelude.{◌≡◌, All, IfOk, IfSome};
 ghost use Rattle.spool_disk.specs.Changes.{after_all};
 ghost use Rattle.spool_store.specs.Keepers.{CanFinish, CanReplace, seen};
 ghost use Rattle.spool_store.specs.Parcels.{IsReadyUnder};
-ghost use Rattle.spool_store.specs.Stores.{Agrees};
+ghost use Rattle.spool_store.specs.Stores.{Agrees, IsAtRest};
 ghost use Rattle.spool_store.specs.Writes.{IsDraftable};
-ghost use Rattle.tests_store.specs.Nexts.{AreSound, HasOpen, IsNext, next_draft};
+ghost use Rattle.tests_store.specs.Nexts.{HasOpen, IsNext, next_draft};
 ghost use Rattle.tests_store.specs.Samples.{sample_dirs};
 
 use crate::openings::{DEAD, DONE};
@@ -165,7 +165,6 @@ fn opened(alloc: Global, spool: &mut StopSpool) -> Result<Queue, StoreFault>
     ensures dirs { IfOk result (λ q. (seen q).dirs ≡ sample_dirs) }
     ensures agrees { IfOk result
         (λ q. Agrees (seen q) (after_all spool.new.spool.past spool.new.spool.start)) }
-    ensures sound { IfOk result (λ q. AreSound (seen q)) }
 {
     let dirs = dirs(alloc)?;
     Queue::open(alloc, spool, &dirs)
@@ -196,9 +195,9 @@ fn done_id(queue: &Queue) -> Option<Id>
 // Room with the next control of an entry.
 fn next_room(queue: &Queue, id: Id) -> Result<Room, NoMemory>
     requires entry { HasOpen (seen queue.now).entries id }
-    requires sound { AreSound (seen queue.now) }
     ensures { IfOk result (λ r. CanReplace (seen queue.now).entries r.id r.control r.paper) }
 {
+    let _held = queue.entries();
     let mut room = queue.reserve(&id)?;
     room.control.revision = room.control.revision.saturating_add(1);
     Ok(room)
@@ -206,8 +205,7 @@ fn next_room(queue: &Queue, id: Id) -> Result<Room, NoMemory>
 
 // Replaces the control of the first entry.
 fn replace_first<D: Spool>(spool: &mut D, queue: &mut Queue) -> Result<(), StoreFault>
-    requires agrees { IfSome (D.seen spool.old).told (Agrees (seen queue.old)) }
-    requires sound { AreSound (seen queue.old) }
+    requires agrees { IsAtRest (seen queue.old) (D.seen spool.old) }
 {
     let Some(id) = open_id(queue) else {
         return Ok(());
@@ -256,20 +254,19 @@ fn ready_under(
 ) -> Result<Parcel, StoreFault>
     requires dirs { (seen queue.old).dirs ≡ sample_dirs }
     requires children { All (IsDraftable sample_dirs) children.now }
-    requires sound { AreSound (seen queue.old) }
     requires parent { IsNext (seen queue.old).entries parent.now }
     ensures ready { IfOk result (IsReadyUnder (seen queue.new)) }
     ensures same { seen queue.new ≡ record (seen queue.old) { room = (seen queue.new).room } }
 {
+    let _held = queue.entries();
     queue.prepare_under(children, parent, body)
 }
 
 // Commits two children under the first entry.
 #[tactic(auto, using(crate::proofs::SampleLemmas::room_agrees))]
 fn branch_first<D: Spool>(alloc: Global, spool: &mut D, queue: &mut Queue) -> Result<(), StoreFault>
-    requires agrees { IfSome (D.seen spool.old).told (Agrees (seen queue.old)) }
+    requires agrees { IsAtRest (seen queue.old) (D.seen spool.old) }
     requires dirs { (seen queue.old).dirs ≡ sample_dirs }
-    requires sound { AreSound (seen queue.old) }
 {
     let body = Text::of(alloc, BODY)?;
     let children = two_children(alloc)?;
@@ -285,7 +282,7 @@ fn branch_first<D: Spool>(alloc: Global, spool: &mut D, queue: &mut Queue) -> Re
 
 // Finishes the first entry.
 fn finish_first<D: Spool>(spool: &mut D, queue: &mut Queue) -> Result<(), StoreFault>
-    requires agrees { IfSome (D.seen spool.old).told (Agrees (seen queue.old)) }
+    requires agrees { IsAtRest (seen queue.old) (D.seen spool.old) }
 {
     let Some(id) = done_id(queue) else {
         return Ok(());
@@ -303,7 +300,7 @@ fn commit_and_finish<D: Spool>(
     queue: &mut Queue,
     text: &[u8],
 ) -> Result<(), StoreFault>
-    requires agrees { IfSome (D.seen spool.old).told (Agrees (seen queue.old)) }
+    requires agrees { IsAtRest (seen queue.old) (D.seen spool.old) }
     requires dirs { (seen queue.old).dirs ≡ sample_dirs }
 {
     let Some(parent) = drafted(alloc, text)? else {
@@ -320,9 +317,8 @@ fn changed<D: Spool>(
     spool: &mut D,
     queue: &mut Queue,
 ) -> Result<(), StoreFault>
-    requires agrees { IfSome (D.seen spool.old).told (Agrees (seen queue.old)) }
+    requires agrees { IsAtRest (seen queue.old) (D.seen spool.old) }
     requires dirs { (seen queue.old).dirs ≡ sample_dirs }
-    requires sound { AreSound (seen queue.old) }
 {
     match change {
         Change::Replace => replace_first(spool, queue),

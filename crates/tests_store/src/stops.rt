@@ -5,7 +5,7 @@ ghost use Rattle.std.specs.Prelude.{◌≡◌, All, IfOk, IfSome, None, OnOk};
 ghost use Rattle.qf_format.specs.Valid.{IsValid};
 ghost use Rattle.spool_store.specs.Keepers.{seen};
 ghost use Rattle.spool_store.specs.Parcels.{IsReady};
-ghost use Rattle.spool_store.specs.Stores.{Agrees};
+ghost use Rattle.spool_store.specs.Stores.{IsAtRest};
 ghost use Rattle.spool_store.specs.Writes.{IsDraftable};
 ghost use Rattle.tests_store.specs.Samples.{sample_dir, sample_dirs};
 
@@ -119,12 +119,12 @@ pub(crate) fn commit_drafts<D: Spool>(
     children: &Seq<Draft>,
     parent: &Draft,
 ) -> Result<(), StoreFault>
-    requires agrees { IfSome (D.seen spool.old).told (Agrees (seen queue.old)) }
+    requires agrees { IsAtRest (seen queue.old) (D.seen spool.old) }
     requires dirs { (seen queue.old).dirs ≡ sample_dirs }
     requires children { All (IsDraftable sample_dirs) children.now }
     requires parent { IsDraftable sample_dirs parent.now }
     requires alone { parent.now.control.parent ≡ None }
-    ensures agrees { OnOk result (IfSome (D.seen spool.new).told (Agrees (seen queue.new))) }
+    ensures agrees { OnOk result (IsAtRest (seen queue.new) (D.seen spool.new)) }
 {
     let body = Text::of(children.allocator(), BODY)?;
     let parcel = ready(queue, children, parent, body)?;
@@ -140,7 +140,7 @@ fn commit_them<D: Spool>(
     spool: &mut D,
     queue: &mut Queue,
 ) -> Result<bool, StoreFault>
-    requires agrees { IfSome (D.seen spool.old).told (Agrees (seen queue.old)) }
+    requires agrees { IsAtRest (seen queue.old) (D.seen spool.old) }
     requires dirs { (seen queue.old).dirs ≡ sample_dirs }
 {
     let children = two_children(alloc)?;

@@ -9,13 +9,12 @@ use Rattle.spool_store.specs.Entries.{Stored, Table}
 use Rattle.spool_store.specs.Stores.{Holds, IsHeld, StoreSeen}
 use Rattle.spool_store.specs.declared.held.Held.{Held}
 use Rattle.spool_store.proofs.Replacing.{contains_map}
-use Rattle.queue_table.specs.Calls.{AreBacksValid, AreValid, IsAsked, IsFit, store}
+use Rattle.queue_table.specs.Calls.{AreBacksValid, AreValid, IsAsked, store}
 use Rattle.queue_table.specs.Commands.Command.{Return, Warn}
 use Rattle.queue_table.specs.Soundness.{AreBounces}
 use Rattle.queue_table.specs.declared.table.Table.{Table as Kept}
 use Rattle.queue_table.specs.declared.terms.Terms.{Terms}
-use Rattle.table_samples.specs.Samples.{IsReady, IsSoundHeld}
-use Rattle.table_samples.proofs.Lemmas.{are_cuts, ready_sound, valid_cuts}
+use Rattle.table_samples.proofs.Lemmas.{are_cuts, valid_cuts}
 use Rattle.tests_table.specs.Samples.{AreBacks, IsOpenWith}
 
 -- the first controls of what is sent for an entry have a text
@@ -42,15 +41,6 @@ bare_held (h ∷ entries) = (record { id = refl; dir = refl; control = refl }, b
 
 holds_bare : (s : StoreSeen) → Holds s (table_of s)
 holds_bare s = record { entries = bare_held s.entries; next = refl }
-
--- the entry of an id is in a directory, and its control has a text
-pub ready_fit : (told : Option FileMap) (kept : Kept) (id : ℕ) → IsSome told → IsReady told kept → IsFit kept id
-ready_fit told kept id some ready =
-    let sound = ready_sound told kept some ready in
-    record {
-      dir = λ h among is. (All-contains (IsSoundHeld (store kept)) (store kept).entries h sound among).among;
-      valid = λ h among is. (All-contains (IsSoundHeld (store kept)) (store kept).entries h sound among).valid;
-    }
 
 -- an entry that is no double bounce may be returned by what is sent
 pub asked_return : (kept : Kept) (terms : Terms) (id : ℕ) (backs : List Back) (moment : ℕ) → IsOpenWith (store kept).entries false id → AreBacks backs → IsAsked kept (Return terms id backs moment)

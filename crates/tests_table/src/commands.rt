@@ -1,8 +1,8 @@
 //! Commands of a table over a spool that is opened for each, of entries by their places.
 
-ghost use Rattle.std.specs.Prelude.{IfOk, IfSome, IsSome, OnOk, Some};
+ghost use Rattle.std.specs.Prelude.{IfOk, IfSome, OnOk, Some};
 ghost use Rattle.spool_disk.specs.Changes.{after_all};
-ghost use Rattle.spool_store.specs.Stores.{Agrees};
+ghost use Rattle.spool_store.specs.Stores.{IsAtRest};
 ghost use Rattle.queue_table.specs.Calls.{store};
 ghost use Rattle.table_samples.specs.Samples.{IsReady};
 ghost use Rattle.tests_table.specs.Samples.{IsOpenWith};
@@ -106,7 +106,6 @@ fn record_at<D: Spool>(
     what: Results,
     moment: u64,
 ) -> Result<(), StoreFault>
-    requires told { IsSome (D.seen spool.old).told }
     requires ready { IsReady (D.seen spool.old).told table.old }
     ensures { OnOk result (IsReady (D.seen spool.new).told table.new) }
 {
@@ -139,9 +138,8 @@ fn return_at<D: Spool>(
     sent: Sent,
     moment: u64,
 ) -> Result<(), StoreFault>
-    requires told { IsSome (D.seen spool.old).told }
     requires ready { IsReady (D.seen spool.old).told table.old }
-    ensures { OnOk result (IfSome (D.seen spool.new).told (Agrees (store table.new))) }
+    ensures { OnOk result (IsAtRest (store table.new) (D.seen spool.new)) }
 {
     let backs = backs_of(alloc, sent)?;
     let Some(id) = open_id(table, place, false) else {
@@ -158,9 +156,8 @@ fn bury_at<D: Spool>(
     place: usize,
     moment: u64,
 ) -> Result<(), StoreFault>
-    requires told { IsSome (D.seen spool.old).told }
     requires ready { IsReady (D.seen spool.old).told table.old }
-    ensures { OnOk result (IfSome (D.seen spool.new).told (Agrees (store table.new))) }
+    ensures { OnOk result (IsAtRest (store table.new) (D.seen spool.new)) }
 {
     let Some(id) = open_id(table, place, true) else {
         return Err(StoreFault::SpoolFault);
@@ -176,7 +173,6 @@ fn warn_at<D: Spool>(
     place: usize,
     moment: u64,
 ) -> Result<(), StoreFault>
-    requires told { IsSome (D.seen spool.old).told }
     requires ready { IsReady (D.seen spool.old).told table.old }
 {
     let backs = backs_of(alloc, Sent::Warning)?;
@@ -192,7 +188,6 @@ fn carry_out<D: Spool>(
     table: &mut Table,
     command: Command,
 ) -> Result<(), StoreFault>
-    requires told { IsSome (D.seen spool.old).told }
     requires ready { IsReady (D.seen spool.old).told table.old }
 {
     match command {

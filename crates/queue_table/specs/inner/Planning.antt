@@ -9,6 +9,7 @@ use Rattle.mail_base.specs.declared.message.Cut.{Cut}
 use Rattle.mail_base.specs.declared.message.Message.{Message}
 use Rattle.spool_store.specs.Entries.{Table}
 use Rattle.spool_store.specs.Keepers.{raised}
+use Rattle.spool_store.specs.Openings.{IsFitting}
 use Rattle.spool_store.specs.Parcels.{IsBelowLast, IsParcelUnder}
 use Rattle.spool_store.specs.Queue.{IsOpen}
 use Rattle.spool_store.specs.Writes.{after_commit}
@@ -45,12 +46,14 @@ control_by bounce control =
 abbrev pub next_draft : Held → Control → Draft
 next_draft h control = record { id = Some h.entry.id; dir = h.entry.dir; control = control }
 
--- the entry of an id, with a row that isn't done
+-- the entry of an id, with a row that isn't done, in a directory of the store and with a control
+-- that has a text
 pub record IsOpenAt (kept : Kept) (id : ℕ) : Type 0 where
   pub held : Held
   pub among : Contains (store kept).entries held
   pub is : held.entry.id ≡ id
   pub waits : IsOpen held.entry.control
+  pub fit : IsFitting (store kept).dirs held.entry
 
 -- a parcel that makes of a table what a command does
 pub record Makes (kept : Kept) (id : ℕ) (command : Command) (parcel : Parcel) : Type 0 where

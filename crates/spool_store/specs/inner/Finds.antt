@@ -10,6 +10,7 @@ use Rattle.mail_base.specs.Names.{name_of}
 use Rattle.mail_base.specs.Limits.{IsId}
 use Rattle.spool_disk.specs.Disk.{FileMap, bytes_at}
 use Rattle.qf_format.specs.Saying.{Says}
+use Rattle.qf_format.specs.Valid.{IsValid}
 use Rattle.spool_store.specs.Queue.{at, Spot, spot_place, IsControl}
 use Rattle.spool_store.specs.declared.named.Named.{Named}
 use Rattle.spool_store.specs.declared.named.Found.{Found}
@@ -102,6 +103,10 @@ pub record AreRead (dirs : List (List ℕ)) (f : FileMap) (names : List Named)
   pub all : (x : Named) → Contains names x → (x.kind ≡ Qf) ⊎ (x.kind ≡ Sf)
       → (y : Found) × Contains found y × (y.named ≡ x)
 
--- what was read is of these files
+-- what a control file says, if anything, has a text
+abbrev pub HasText : Found → Type 0
+HasText x = (c : Control) → x.control ≡ Some c → IsValid c
+
+-- what was read is of these files, and what it says has a text
 abbrev pub AreAmong : List Named → List Found → Type 0
-AreAmong names found = (x : Found) → Contains found x → Contains names x.named
+AreAmong names found = (x : Found) → Contains found x → Contains names x.named × HasText x

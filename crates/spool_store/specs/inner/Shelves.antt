@@ -2,8 +2,9 @@
 use Rattle.std.specs.Prelude.{◌≡◌, ℕ, ◌<◌, List, length, AllPairs, get_or}
 use Rattle.spool_store.specs.declared.held.Held.{Held}
 
--- entries in reserved room, and the first free id
+-- directories, entries in them with reserved room, and the first free id
 pub record Shelved : Type 0 where
+  pub dirs : List (List ℕ)
   pub items : List Held
   pub next : ℕ
   pub room : ℕ

@@ -1,5 +1,4 @@
 -- Numbers and rows are in their ranges.
-use Rattle.std.proofs.Common.{◌≡◌}
 use Rattle.std.specs.Prelude.{FitsSigned}
 use Rattle.std.specs.Int.{w128}
 use Rattle.std.proofs.lemmas.Int.{to_z-of_z}

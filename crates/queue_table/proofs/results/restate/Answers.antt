@@ -1,5 +1,5 @@
 -- The row at its place, or none.
-use Rattle.std.proofs.Common.{◌≡◌, ◌∙◌, ℕ, subst, sym, ◌<◌, ◌≤◌}
+use Rattle.std.proofs.Common.{◌∙◌, ℕ, subst, sym, ◌<◌, ◌≤◌}
 use Rattle.qf_format.specs.Valid.{AreRows}
 use Rattle.queue_table.proofs.ResultLemmas.{set_restates, past_end, restated_form}
 use Rattle.queue_table.proofs.results.restate.Goals as goal

@@ -1,10 +1,11 @@
 -- A live control file tells its entry, another nothing.
-use Rattle.std.proofs.Common.{◌≡◌, [], subst, inl, refl}
+use Rattle.std.proofs.Common.{◌≡◌, [], sym, subst, inl, refl, Contains, List, ℕ}
 use Rattle.std.proofs.lemmas.List.{get_or_read}
 use Rattle.spool_store.specs.inner.Judging.{IsVerdict}
 use Rattle.spool_store.specs.inner.Finds.{dir_at, spot_named}
 use Rattle.spool_store.proofs.Carrying.{live_read, live_plain}
 use Rattle.spool_store.proofs.Finding.{on_ok}
+use Rattle.spool_store.proofs.Readings.{dir_among}
 use Rattle.spool_store.proofs.OrderLemmas.{rising_to, told_once}
 use Rattle.spool_store.proofs.PlanLemmas.{found_says}
 use Rattle.spool_store.proofs.TellingLemmas.{told_skip}
@@ -34,3 +35,8 @@ returns-in-Strange-clause-adds c = inl refl
 
 pub returns-in-Dead-clause-adds : goal.returns-in-Dead-clause-adds
 returns-in-Dead-clause-adds c = inl refl
+
+pub returns-in-Live-clause-fit : goal.returns-in-Live-clause-fit
+returns-in-Live-clause-fit c = λ text fit.
+    let dir : c.index-dirs-x.result ≡ dir_at c.args.dirs.now c.args.x.now.named.dir = get_or_read c.args.dirs.now _ _ c.requires.own c.index-dirs-x.is [] in
+    c.add_once.ensures.fit c.args.dirs.now (subst (λ (d : List ℕ). Contains c.args.dirs.now d) (sym dir) (dir_among c.args.dirs.now c.args.x.now.named.dir c.requires.own)) text fit

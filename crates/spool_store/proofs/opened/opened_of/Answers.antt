@@ -1,5 +1,5 @@
 -- What was looked at.
-use Rattle.std.proofs.Common.{sym, subst, List, length}
+use Rattle.std.proofs.Common.{sym, subst, List, length, Contains}
 use Rattle.std.specs.List.Sorted.{IsNonDecreasingBy}
 use Rattle.spool_store.specs.declared.named.Found.{Found}
 use Rattle.spool_store.specs.declared.verdict.Verdict.{Verdict}
@@ -29,3 +29,6 @@ returns-clause-strange c = λ f looked. c.in_ok-strange.ensures f looked.foreign
 pub returns-clause-order : goal.returns-clause-order
 returns-clause-order c = ordered_by c.items.result.now c.items-found.result.now c.in_ok-entries.entries c.next_named.result c.past_parents.result c.in_ok-entries.ensures.ascending c.in_ok-entries.ensures.source
     (subst (λ (q : List Named). AreAmong q c.items-found.result.now) (sym c.items.ensures) (subst (λ (q : List Found). AreAmong c.args.looked.now.named q) (sym c.items-found.ensures) c.requires.look.among)) c.next_named.ensures.above c.past_parents.ensures
+
+pub returns-clause-fit : goal.returns-clause-fit
+returns-clause-fit c = c.in_ok-entries.ensures.fit (λ x k. (c.requires.look.among x (subst (λ (q : List Found). Contains q x) c.items-found.ensures k)).1)

@@ -1,13 +1,13 @@
 -- What was found, and what was left of it.
 use Rattle.std.proofs.Common.{◌≡◌, ◌∙◌, ap, sym, subst, List, ℕ, Err}
-use Rattle.std.specs.Prelude.{IfSome}
+use Rattle.std.specs.Prelude.{All, IfSome}
 use Rattle.std.proofs.lemmas.Result.{err_from_is_err_and}
 use Rattle.mail_base.specs.declared.fault.StoreFault.{StoreFault}
 use Rattle.spool_store.specs.Entries.{Table}
 use Rattle.spool_store.specs.Keepers.{IsReading}
 use Rattle.spool_store.specs.Moves.{Moves}
 use Rattle.spool_store.specs.Settled.{IsSettled, StandsFor}
-use Rattle.spool_store.specs.Openings.{AreEntries}
+use Rattle.spool_store.specs.Openings.{AreEntries, IsFitting}
 use Rattle.spool_store.specs.Stores.{Agrees, Holds, KeepsOthers, StoreSeen}
 use Rattle.spool_store.specs.Tidying.{IsTidied}
 use Rattle.spool_store.proofs.Matching.{opened_holds, opened_table}
@@ -16,6 +16,9 @@ use Rattle.spool_store.proofs.RecoveryLemmas.{frame_moves, stands_moves}
 use Rattle.spool_store.proofs.Reopening.{HasOpened, agrees_now, clean_now, reading_of, settled_now}
 use Rattle.spool_store.proofs.SweepLemmas.{counts_err, counts_none, counts_starved, counts_then}
 use Rattle.spool_store.proofs.recovery.reopen.Goals as goal
+
+pub of-requires-clause-fit : goal.of-requires-clause-fit
+of-requires-clause-fit g c = subst (λ (d : List (List ℕ)). All (IsFitting d) c.in_ok-opened.opened.entries) c.items.ensures c.in_ok-opened.ensures.fit
 
 pub returns-in_err-opened-clause-stands : goal.returns-in_err-opened-clause-stands
 returns-in_err-opened-clause-stands g c = λ table. subst (λ (d : List (List ℕ)). Moves (g.D.Spool.seen c.args.spool.now) (g.D.Spool.seen c.take_over.new.spool) (StandsFor d table) (StandsFor d table) (StandsFor d table)) c.items.ensures

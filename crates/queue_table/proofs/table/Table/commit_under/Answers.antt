@@ -16,10 +16,10 @@ pub returns-in-Ok-clause-does : goal.returns-in-Ok-clause-does
 returns-in-Ok-clause-does g c = λ id command m.
     let kept = c.args.self.now in
     let parcel = c.args.parcel in
-    let done = c.in-Ok.ensures.ok id m.children m.parent m.is in
+    let done = c.in-Ok.ensures.ok id m.children m.parent parcel.body m.is in
     record {
-      moves = λ table holds may. leads_done (store kept).dirs table (after_commit table m.children m.parent parcel.body (Some id)) (after table command) _ _ (m.leads table holds) (c.in-Ok.ensures.moves table id m.children m.parent holds m.is (m.last may));
-      settled = λ table f holds told stands. subst (λ (q : Table). IfSome (g.D.Spool.seen c.commit_under.new.spool).told (IsSettled (store kept).dirs q)) (m.leads table holds) (c.in-Ok.ensures.settled table id m.children m.parent f holds m.is told stands);
+      moves = λ table holds may. leads_done (store kept).dirs table (after_commit table m.children m.parent parcel.body (Some id)) (after table command) _ _ (m.leads table holds) (c.in-Ok.ensures.moves table id m.children m.parent parcel.body holds m.is (m.last may));
+      settled = λ table f holds told stands. subst (λ (q : Table). IfSome (g.D.Spool.seen c.commit_under.new.spool).told (IsSettled (store kept).dirs q)) (m.leads table holds) (c.in-Ok.ensures.settled table id m.children m.parent parcel.body f holds m.is told stands);
       holds = λ table holds. under_holds kept id command parcel m (seen c.commit_under.new.self) table holds done (c.holding_goes_on.ensures.commit_under (store kept) table id m.children m.parent parcel.body holds);
       kept = λ table holds. tt;
       agrees = c.in-Ok.ensures.agrees;
@@ -37,7 +37,7 @@ returns-in-Err-clause-does g c = λ id command m.
     let kept = c.args.self.now in
     let same = broken_stays (store kept) (seen c.commit_under.new.self) c.in-Err.ensures.err in
     record {
-      moves = λ table holds may. leads_failed (store kept).dirs table (after_commit table m.children m.parent c.args.parcel.body (Some id)) (after table command) _ _ (m.leads table holds) (c.in-Err.ensures.moves table id m.children m.parent holds m.is (m.last may));
+      moves = λ table holds may. leads_failed (store kept).dirs table (after_commit table m.children m.parent c.args.parcel.body (Some id)) (after table command) _ _ (m.leads table holds) (c.in-Err.ensures.moves table id m.children m.parent c.args.parcel.body holds m.is (m.last may));
       settled = λ table f holds told stands. tt;
       holds = λ table holds. tt;
       kept = λ table holds. broken_holds (store kept) (seen c.commit_under.new.self) table c.in-Err.ensures.err holds;

@@ -10,7 +10,7 @@ pub plan_under-requires-clause-can : goal.plan_under-requires-clause-can
 plan_under-requires-clause-can c =
     let old = c.args.self.now in
     let back = c.args.back in
-    can_back old c.args.id (drafts_of old.terms back.message c.args.moment back.cuts) c.in_ok-parent.parent (Some c.new-bounce.result) (subst (λ n. n ≤ 999_999_999_999) (sym (c.new-bounce.ensures ∙ c.next.ensures)) (low c.lacks_ids.result (store old).next (length back.cuts) c.if-lacks_ids.false (rw (← c.len.ensures) c.lacks_ids.ensures) c.requires.cuts.some)) c.requires.open_at c.requires.fit
+    can_back old c.args.id (drafts_of old.terms back.message c.args.moment back.cuts) c.in_ok-parent.parent (Some c.new-bounce.result) (subst (λ n. n ≤ 999_999_999_999) (sym (c.new-bounce.ensures ∙ c.next.ensures)) (low c.lacks_ids.result (store old).next (length back.cuts) c.if-lacks_ids.false (rw (← c.len.ensures) c.lacks_ids.ensures) c.requires.cuts.some)) c.requires.open_at
     (all_draftable (store old).dirs old.terms back.message c.args.moment back.cuts c.requires.dirs c.requires.valid) c.in_ok-parent.ensures
 
 pub returns-clause-is : goal.returns-clause-is

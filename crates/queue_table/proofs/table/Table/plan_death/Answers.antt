@@ -9,7 +9,7 @@ use Rattle.queue_table.proofs.PlanLemmas.{can_back, under_is}
 use Rattle.queue_table.proofs.table.Table.plan_death.Goals as goal
 
 pub prepare_under-requires : goal.prepare_under-requires
-prepare_under-requires c = record { can = rw c.new.ensures (can_back c.args.self.now c.args.id [] c.in_ok-parent.parent None tt c.requires.open_at c.requires.fit (All-nil (IsDraftable (store c.args.self.now).dirs)) c.in_ok-parent.ensures) }
+prepare_under-requires c = record { can = rw c.new.ensures (can_back c.args.self.now c.args.id [] c.in_ok-parent.parent None tt c.requires.open_at (All-nil (IsDraftable (store c.args.self.now).dirs)) c.in_ok-parent.ensures) }
 
 pub returns-clause-is : goal.returns-clause-is
 returns-clause-is c =

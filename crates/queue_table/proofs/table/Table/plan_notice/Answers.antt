@@ -12,7 +12,7 @@ pub plan_under-requires-clause-can : goal.plan_under-requires-clause-can
 plan_under-requires-clause-can c =
     let old = c.args.self.now in
     let back = c.args.back in
-    can_warn old c.args.id (drafts_of old.terms back.message c.args.moment back.cuts) c.in_ok-parent.parent c.requires.open_at c.requires.fit
+    can_warn old c.args.id (drafts_of old.terms back.message c.args.moment back.cuts) c.in_ok-parent.parent c.requires.open_at
     (all_draftable (store old).dirs old.terms back.message c.args.moment back.cuts c.requires.dirs c.requires.valid) c.in_ok-parent.ensures
 
 pub returns-clause-is : goal.returns-clause-is

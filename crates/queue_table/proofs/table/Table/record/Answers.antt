@@ -8,7 +8,7 @@ use Rattle.queue_table.proofs.RecordLemmas.{holds_ok, record_by, record_can}
 use Rattle.queue_table.proofs.table.Table.record.Goals as goal
 
 pub replace-requires-clause-can : goal.replace-requires-clause-can
-replace-requires-clause-can g c = record_can c.args.self.now.queue.shelf.items c.args.reserved c.args.self.now.terms c.args.outcomes.now.results c.args.moment _ _ _ c.requires.reserved c.recorded-room.ensures.id c.recorded-room.ensures.paper c.recorded-room.ensures.control c.recorded-room.ensures.valid
+replace-requires-clause-can g c = record_can c.args.self.now.queue.shelf.dirs c.args.self.now.queue.shelf.items c.args.reserved c.args.self.now.terms c.args.outcomes.now.results c.args.moment _ _ _ c.entries-held.ensures.fit c.requires.reserved c.recorded-room.ensures.id c.recorded-room.ensures.paper c.recorded-room.ensures.control c.recorded-room.ensures.valid
 
 pub returns-clause-moves : goal.returns-clause-moves
 returns-clause-moves g c = λ table holds.

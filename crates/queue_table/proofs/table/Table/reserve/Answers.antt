@@ -12,7 +12,6 @@ returns-clause-is c =
         among = can.among;
         is = can.is ∙ sym c.in_ok-room.ensures.id;
         waits = can.waits;
-        valid = can.valid;
         tried = subst (λ q. All (IsTried can.held.entry.control.rows) q) (sym c.in_ok-rows.ensures) can.tried;
       };
       control = c.in_ok-room.ensures.control can.held can.among can.is;

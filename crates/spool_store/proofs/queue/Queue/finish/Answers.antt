@@ -16,10 +16,10 @@ use Rattle.spool_store.proofs.Tidying.{tidied_stands}
 use Rattle.spool_store.proofs.queue.Queue.finish.Goals as goal
 
 pub returns-then-self-clause-moves : goal.returns-then-self-clause-moves
-returns-then-self-clause-moves g c = λ base. moves_none _ _ _ _ (λ f e. subst (λ (q : FileMap). IsTidied c.args.self.now.dirs base q) (sym e) (tidied_none c.args.self.now.dirs base))
+returns-then-self-clause-moves g c = λ base. moves_none _ _ _ _ (λ f e. subst (λ (q : FileMap). IsTidied c.args.self.now.shelf.dirs base q) (sym e) (tidied_none c.args.self.now.shelf.dirs base))
 
 pub returns-then-is_finished-clause-moves : goal.returns-then-is_finished-clause-moves
-returns-then-is_finished-clause-moves g c = λ base. moves_none _ _ _ _ (λ f e. subst (λ (q : FileMap). IsTidied c.args.self.now.dirs base q) (sym e) (tidied_none c.args.self.now.dirs base))
+returns-then-is_finished-clause-moves g c = λ base. moves_none _ _ _ _ (λ f e. subst (λ (q : FileMap). IsTidied c.args.self.now.shelf.dirs base q) (sym e) (tidied_none c.args.self.now.shelf.dirs base))
 
 pub returns-then-is_finished-clause-ok : goal.returns-then-is_finished-clause-ok
 returns-then-is_finished-clause-ok g c = λ i. record (seen c.args.self.now) { entries = sym (already c.args.self.now.shelf.items c.args.id.now (λ h k has. sym (c.is_finished.ensures.is h k has) ∙ c.if-is_finished.true)) i }

@@ -3,6 +3,7 @@ use Rattle.std.proofs.Common.{◌∙◌, ◌≡◌, ap, subst, sym, inr, map}
 use Rattle.std.specs.Prelude.{IfSome}
 use Rattle.mail_base.specs.Limits.{IsId}
 use Rattle.qf_format.specs.Spelling.{spelled}
+use Rattle.qf_format.specs.Valid.{IsValid}
 use Rattle.spool_disk.specs.Disk.{FileMap}
 use Rattle.spool_store.specs.Keepers.{seen, after_replace}
 use Rattle.spool_store.specs.inner.Parts.{with_new}
@@ -15,6 +16,9 @@ use Rattle.spool_store.proofs.queue.Queue.replace.Goals as goal
 
 pub print_into-requires-clause-fits : goal.print_into-requires-clause-fits
 print_into-requires-clause-fits g c = rw c.into_parts-control.ensures.parts (fits_paper (seen c.args.self.now) c.args.room.id c.args.room.control c.args.room.paper c.requires.can)
+
+pub set_control-requires-clause-valid : goal.set_control-requires-clause-valid
+set_control-requires-clause-valid g c = subst IsValid (sym (ap (λ q. q.0) c.into_parts-control.ensures.parts)) c.requires.can.valid
 
 pub returns-in-Ok-clause-moves : goal.returns-in-Ok-clause-moves
 returns-in-Ok-clause-moves g c = λ table holds.

@@ -23,15 +23,15 @@ pub returns-in_err-end-clause-moves : goal.returns-in_err-end-clause-moves
 returns-in_err-end-clause-moves g c = λ f h k has done.
     let is = held_is c.args.self.now.shelf.items c.items-items.result.now c.args.id c.place-place.result c.index-items-place.result h c.items-items.ensures.items c.items-items.ensures.ascending c.place-place.ensures.at k has in
     let p = err_from_is_err_and c.from_residual.result c.from_residual.ensures.1 in
-    rw p.1 (c.in_err-end.ensures.moves c.args.self.now.dirs f (spot_at h) h.entry.control done (ap (λ (q : Held). q.entry.dir) is) (c.text.ensures ∙ c.write.ensures ∙ ap (name_of Qf) (sym has)) (c.text-2.ensures ∙ c.write-2.ensures ∙ ap (name_of Sf) (sym has)))
+    rw p.1 (c.in_err-end.ensures.moves c.args.self.now.shelf.dirs f (spot_at h) h.entry.control done (ap (λ (q : Held). q.entry.dir) is) (c.text.ensures ∙ c.write.ensures ∙ ap (name_of Qf) (sym has)) (c.text-2.ensures ∙ c.write-2.ensures ∙ ap (name_of Sf) (sym has)))
 
 pub returns-then-needs_body-clause-moves : goal.returns-then-needs_body-clause-moves
 returns-then-needs_body-clause-moves g c = λ f h k has done.
     let is = held_is c.args.self.now.shelf.items c.items-items.result.now c.args.id c.place-place.result c.index-items-place.result h c.items-items.ensures.items c.items-items.ensures.ascending c.place-place.ensures.at k has in
     let shown = held_is c.args.self.now.shelf.items c.items-items.result.now c.args.id c.place-place.result c.index-items-place-2.result h c.items-items.ensures.items c.items-items.ensures.ascending c.place-place.ensures.at k has in
     let needs : needs_body h.entry.control ≡ true = ap (λ (q : Held). needs_body q.entry.control) (sym shown) ∙ sym c.if-needs_body.ensures in
-    moves_weaker _ _ _ _ _ _ _ (λ x (e : HasEnded c.args.self.now.dirs f (spot_at h) x). record { ended = e; body = λ none. absurd (true≢false (sym needs ∙ none)) }) (λ x t. t)
-    (c.in_ok-end.ensures.moves c.args.self.now.dirs f (spot_at h) h.entry.control done (ap (λ (q : Held). q.entry.dir) is) (c.text.ensures ∙ c.write.ensures ∙ ap (name_of Qf) (sym has)) (c.text-2.ensures ∙ c.write-2.ensures ∙ ap (name_of Sf) (sym has)))
+    moves_weaker _ _ _ _ _ _ _ (λ x (e : HasEnded c.args.self.now.shelf.dirs f (spot_at h) x). record { ended = e; body = λ none. absurd (true≢false (sym needs ∙ none)) }) (λ x t. t)
+    (c.in_ok-end.ensures.moves c.args.self.now.shelf.dirs f (spot_at h) h.entry.control done (ap (λ (q : Held). q.entry.dir) is) (c.text.ensures ∙ c.write.ensures ∙ ap (name_of Qf) (sym has)) (c.text-2.ensures ∙ c.write-2.ensures ∙ ap (name_of Sf) (sym has)))
 
 pub returns-clause-moves : goal.returns-clause-moves
 returns-clause-moves g c = λ f h k has done.
@@ -40,8 +40,8 @@ returns-clause-moves g c = λ f h k has done.
     let shown = held_is c.args.self.now.shelf.items c.items-items.result.now c.args.id c.place-place.result c.index-items-place-2.result h c.items-items.ensures.items c.items-items.ensures.ascending c.place-place.ensures.at k has in
     let none : needs_body h.entry.control ≡ false = ap (λ (q : Held). needs_body q.entry.control) (sym shown) ∙ sym c.if-needs_body.ensures in
     moves_join _ _ _ _ _ _ _
-    (c.in_ok-end.ensures.moves c.args.self.now.dirs f (spot_at h) h.entry.control done (ap (λ (q : Held). q.entry.dir) is) (c.text.ensures ∙ c.write.ensures ∙ ap (name_of Qf) (sym has)) (c.text-2.ensures ∙ c.write-2.ensures ∙ ap (name_of Sf) (sym has)))
-    (c.drop_body.ensures.moves c.args.self.now.dirs f (spot_at h) h.entry.control done none (ap (λ (q : Held). q.entry.dir) its) (c.text-3.ensures ∙ c.write-3.ensures ∙ ap (name_of Df) (sym has)))
+    (c.in_ok-end.ensures.moves c.args.self.now.shelf.dirs f (spot_at h) h.entry.control done (ap (λ (q : Held). q.entry.dir) is) (c.text.ensures ∙ c.write.ensures ∙ ap (name_of Qf) (sym has)) (c.text-2.ensures ∙ c.write-2.ensures ∙ ap (name_of Sf) (sym has)))
+    (c.drop_body.ensures.moves c.args.self.now.shelf.dirs f (spot_at h) h.entry.control done none (ap (λ (q : Held). q.entry.dir) its) (c.text-3.ensures ∙ c.write-3.ensures ∙ ap (name_of Df) (sym has)))
 
 pub returns-clause-runs : goal.returns-clause-runs
 returns-clause-runs g c = run_join _ _ _ c.in_ok-end.ensures.runs c.drop_body.ensures.runs

@@ -2,6 +2,7 @@
 use Rattle.std.proofs.Common.{sym, subst}
 use Rattle.spool_store.specs.Stores.{recontrolled}
 use Rattle.spool_store.specs.inner.Shelves.{IsPlaceOf, Shelved}
+use Rattle.spool_store.proofs.Fitting.{recontrolled_fits}
 use Rattle.spool_store.proofs.Shelving.{recontrolled_at, recontrolled_id, same_kept}
 use Rattle.spool_store.proofs.shelf.Shelf.set_control.Goals as goal
 
@@ -9,11 +10,11 @@ pub returns : goal.returns
 returns c =
     let at = subst (λ (q : Shelved). IsPlaceOf q.items c.args.id c.place-place.result) (sym c.self.view_is) c.place-place.ensures.at in
     let done = recontrolled_at c.self.inside.held.items c.args.id c.place-place.result c.index_mut.result.now c.args.control c.self.invariant.1.0 at c.index_mut.ensures.value in
-    rw (← c.self.view_is) (λ i. record { items = done i; next = c.self.inside.next; room = c.self.inside.room })
+    rw (← c.self.view_is) (λ i. record { dirs = c.self.inside.dirs; items = done i; next = c.self.inside.next; room = c.self.inside.room })
 
 pub invariant_of-self : goal.invariant_of-self
 invariant_of-self c =
     let items = c.self.inside.held.items in
     let at = subst (λ (q : Shelved). IsPlaceOf q.items c.args.id c.place-place.result) (sym c.self.view_is) c.place-place.ensures.at in
     let done = recontrolled_at items c.args.id c.place-place.result c.index_mut.result.now c.args.control c.self.invariant.1.0 at c.index_mut.ensures.value in
-    same_kept (recontrolled c.args.id c.args.control) items _ c.self.inside.next c.self.inside.room c.self.inside.held.cap (recontrolled_id c.args.id c.args.control) done c.self.invariant.0 c.self.invariant.1.0 c.self.invariant.1.1
+    same_kept (recontrolled c.args.id c.args.control) c.self.inside.dirs items _ c.self.inside.next c.self.inside.room c.self.inside.held.cap (recontrolled_id c.args.id c.args.control) (recontrolled_fits c.self.inside.dirs c.args.id c.args.control c.requires.valid) done c.self.invariant.0 c.self.invariant.1.0 c.self.invariant.1.1.0 c.self.invariant.1.1.1
