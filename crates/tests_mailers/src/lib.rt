@@ -3,4 +3,10 @@
 #![tactic(auto)]
 
 #[cfg(test)]
+mod dialogues;
+#[cfg(test)]
+mod examples;
+#[cfg(test)]
+mod replies;
+#[cfg(test)]
 mod returned;

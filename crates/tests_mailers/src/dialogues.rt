@@ -1,0 +1,166 @@
+use link_edge::{DialEvent, Peer, ScriptDialer};
+use mail_base::{NoMemory, Outcomes, Result1, Seq, Text, words_of};
+use mailer_smtp::{Letter, Speech, deliver};
+use std::alloc::Global;
+
+/// How what happened is told.
+#[derive(Clone, Copy)]
+pub(crate) enum Telling {
+    /// A letter for each text that was written.
+    Letters,
+    /// Hosts and texts as they are.
+    Whole,
+}
+
+/// A letter for these users, parted by blanks.
+pub(crate) fn letter_to(alloc: Global, users: &[u8]) -> Result<Letter, NoMemory> {
+    Ok(Letter {
+        host: Text::of(alloc, b"mx.example")?,
+        sender: Text::of(alloc, b"bob@c.example")?,
+        message: Text::of(alloc, b".x\r\ny\r\n")?,
+        eight: true,
+        users: words_of(alloc, users)?,
+    })
+}
+
+fn peers(alloc: Global, hosts: &[u8]) -> Result<Seq<Peer>, NoMemory> {
+    let mut peers = Seq::new(alloc);
+    for host in hosts.split(|byte| *byte == b' ') {
+        if !host.is_empty() {
+            peers.push(peer(alloc, host)?)?;
+        }
+    }
+    Ok(peers)
+}
+
+fn peer(alloc: Global, host: &[u8]) -> Result<Peer, NoMemory> {
+    Ok(Peer::Host {
+        address: Text::of(alloc, host)?,
+        port: 25,
+    })
+}
+
+/// The calls of these numbers, which are below 256.
+pub(crate) fn calls(alloc: Global, numbers: &[u8]) -> Result<Seq<u64>, NoMemory> {
+    let mut calls = Seq::new(alloc);
+    for number in numbers {
+        calls.push(*number as u64)?;
+    }
+    Ok(calls)
+}
+
+/// What happens where a letter is handed over to these hosts, parted by blanks, who say these
+/// pieces, an empty one being an end, and where these calls fail. Behind a `=` the rows follow.
+pub(crate) fn played(
+    alloc: Global,
+    telling: Telling,
+    speech: Speech,
+    letter: &Letter,
+    hosts: &[u8],
+    says: Seq<Text>,
+    failing: Seq<u64>,
+) -> Result<Text, NoMemory> {
+    let mut told = Text::new(alloc);
+    let mut dialer = ScriptDialer::new(alloc, says, failing);
+    let mut outcomes = Outcomes {
+        results: Seq::new(alloc),
+    };
+    let hosts = peers(alloc, hosts)?;
+    deliver(alloc, &mut dialer, &hosts, speech, letter, &mut outcomes)?;
+    tell(&mut told, telling, dialer.seen(), outcomes.results.items())?;
+    Ok(told)
+}
+
+fn tell(
+    told: &mut Text,
+    telling: Telling,
+    events: &[DialEvent],
+    rows: &[Result1],
+) -> Result<(), NoMemory> {
+    for event in events {
+        match telling {
+            Telling::Letters => tell_letter(told, event)?,
+            Telling::Whole => tell_event(told, event)?,
+        }
+    }
+    told.push(b'=')?;
+    for row in rows {
+        tell_row(told, row)?;
+    }
+    Ok(())
+}
+
+fn tell_letter(told: &mut Text, event: &DialEvent) -> Result<(), NoMemory> {
+    match event {
+        DialEvent::Wrote(_, text) => told.push(letter_of(text.bytes())),
+        DialEvent::Read(_, _) => Ok(()),
+        _ => told.push(mark_of(event)),
+    }
+}
+
+fn letter_of(text: &[u8]) -> u8 {
+    if text.starts_with(b"EHLO") || text.starts_with(b"LHLO") {
+        b'E'
+    } else if text.starts_with(b"..x\r\n") {
+        b'T'
+    } else {
+        first_of(text)
+    }
+}
+
+fn first_of(text: &[u8]) -> u8 {
+    match text.first() {
+        Some(byte) => *byte,
+        None => b'?',
+    }
+}
+
+fn mark_of(event: &DialEvent) -> u8 {
+    match event {
+        DialEvent::Dialled { .. } => b'+',
+        DialEvent::Closed(_) => b'-',
+        _ => b'!',
+    }
+}
+
+fn tell_event(told: &mut Text, event: &DialEvent) -> Result<(), NoMemory> {
+    match event {
+        DialEvent::Wrote(_, text) => told.extend(text.bytes()),
+        DialEvent::Read(_, _) => Ok(()),
+        DialEvent::Dialled { peer, .. } => tell_peer(told, b'+', peer),
+        DialEvent::Undialled { peer, .. } => tell_peer(told, b'!', peer),
+        _ => told.push(mark_of(event)),
+    }
+}
+
+fn tell_peer(told: &mut Text, mark: u8, peer: &Peer) -> Result<(), NoMemory> {
+    told.push(mark)?;
+    told.extend(name_of(peer))?;
+    told.push(b' ')
+}
+
+fn name_of(peer: &Peer) -> &[u8] {
+    match peer {
+        Peer::Host { address, port: _ } => address.bytes(),
+        Peer::Path(path) => path.bytes(),
+    }
+}
+
+fn tell_row(told: &mut Text, row: &Result1) -> Result<(), NoMemory> {
+    match row {
+        Result1::Sent => told.push(b'S'),
+        Result1::Deferred(note) => tell_note(told, b'D', b"", note.bytes()),
+        Result1::Failed(status, note) => tell_note(told, b'F', status.bytes(), note.bytes()),
+    }
+}
+
+fn tell_note(told: &mut Text, mark: u8, status: &[u8], note: &[u8]) -> Result<(), NoMemory> {
+    told.push(mark)?;
+    told.push(b'(')?;
+    if !status.is_empty() {
+        told.extend(status)?;
+        told.push(b' ')?;
+    }
+    told.extend(note)?;
+    told.push(b')')
+}
