@@ -1,0 +1,3 @@
+pub mod Names
+pub mod Rewriting
+pub mod inner
