@@ -2,7 +2,7 @@
 -- A and macro u; that dollar signs of a user stay, and what u is in the words behind the first that
 -- holds it, are our own).
 use Rattle.std.specs.Prelude.{◌≡◌, ℕ, ◌+◌, ◌==◌, Bool, true, false, not, ◌||◌, ◌&&◌, List, [], ◌∷◌, ◌++◌, map, take, drop, length, bytes_eq, get_or, position, Option, None, Some, if◌then◌else◌, codes, refl}
-use Rattle.std.specs.List.{flat_map, list_any}
+use Rattle.std.specs.List.{flat_map, list_all, list_any}
 use Rattle.mail_base.specs.Catalogs.{with_value}
 use Rattle.mail_base.specs.declared.mailer.Mailer.{Mailer}
 use Rattle.cf_macros.specs.Expansion.{expanded}
@@ -78,6 +78,9 @@ args_of macros users words = args_at (position holds_user words) macros users wo
 -- a user may be an argument where it has no NUL, at which the system cuts arguments
 abbrev pub is_argument : List ℕ → Bool
 is_argument user = not (list_any (λ b. b == 0) user)
+
+abbrev pub are_arguments : List (List ℕ) → Bool
+are_arguments users = list_all is_argument users
 
 example :
     (holds_user (codes "-d$u") ≡ true) × (holds_user (codes "a$&{u}") ≡ true)

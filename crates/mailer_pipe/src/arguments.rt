@@ -24,6 +24,13 @@ pub fn is_argument(user: &Text) -> bool
     !user.bytes().contains(&0)
 }
 
+/// Whether each of these users may be an argument. It takes no memory.
+pub fn are_arguments(users: &Seq<Text>) -> bool
+    ensures { result ≡ spec.are_arguments users.now }
+{
+    users.items().iter().all(|user| is_argument(user))
+}
+
 /// The value of a macro that stands for a text: where the macro is expanded, each byte of the text
 /// comes, dollar signs too.
 pub fn literal(alloc: Global, text: &[u8]) -> Result<Text, NoMemory>

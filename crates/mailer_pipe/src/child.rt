@@ -1,5 +1,4 @@
 ghost use Rattle.std.specs.Prelude.{◌≡◌, true};
-ghost use Rattle.std.specs.List.{list_all};
 ghost use Rattle.mailer_pipe.specs.Arguments as spec;
 ghost use Rattle.mailer_pipe.specs.Starts.{Begins, start_of};
 
@@ -22,7 +21,7 @@ pub fn begin<S: Spawner>(
     message: &Text,
 ) -> Result<u64, PipeFault>
     requires takes { spec.takes_users mailer.now ≡ true }
-    requires users { list_all spec.is_argument users.now ≡ true }
+    requires users { spec.are_arguments users.now ≡ true }
     ensures begins { Begins (start_of mailer.now macros.now users.now message.now)
         (S.seen spawner.old) (S.seen spawner.new) result }
 {

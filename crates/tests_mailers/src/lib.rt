@@ -5,7 +5,11 @@
 #[cfg(test)]
 mod dialogues;
 #[cfg(test)]
+mod ends;
+#[cfg(test)]
 mod examples;
+#[cfg(test)]
+mod programs;
 #[cfg(test)]
 mod replies;
 #[cfg(test)]
