@@ -5,8 +5,7 @@ use Rattle.std.specs.Prelude.{reverse}
 use Rattle.std.proofs.lemmas.List.{append-nil, map-append, reverse-reverse}
 use Rattle.std.proofs.lemmas.Grind.{flat_map-append}
 use Rattle.smtp_lines.specs.declared.line.Line.{Line}
-use Rattle.mail_base.specs.declared.message.Message.{Message as Mails}
-use Rattle.smtp_receive.specs.declared.did.Did.TheVariants.{Reply as Replied, Granted, Message, Taken, Bye}
+use Rattle.smtp_receive.specs.Mails.{Mail, Replied, Granted, Received, Taken, Parted}
 use Rattle.smtp_receive.specs.Dialogue.{Heard, Exchange, Answer, Says, Refuses, Greets, Extends, Grants, Closes, Gives, Takes, is_grant, did_of, answer_heard, exchanges, exchange_of, dialogue}
 use Rattle.smtp_receive.specs.Judging.{Said}
 use Rattle.smtp_receive.specs.Replies.{text_of, refusal_text, grant_text, shown_host}
@@ -64,7 +63,7 @@ pub record IsBye (site : Site) (moment : ℕ) (d : Did) (answer : Answer) (text 
   pub meant : (table : Table) (made : Made) → IsMadeAt site moment table answer made
 
 -- a farewell that a session gives closes with its answer's text
-pub bye_is : (site : Site) (moment : ℕ) (d : Did) (answer : Answer) (text : List ℕ) → Bye text ≡ did_of (shown_host site.host) (limit_of d) answer → IsBye site moment d answer text
+pub bye_is : (site : Site) (moment : ℕ) (d : Did) (answer : Answer) (text : List ℕ) → Parted text ≡ did_of (shown_host site.host) (limit_of d) answer → IsBye site moment d answer text
 bye_is site moment d (Says reply) text e = absurd (cc e)
 bye_is site moment d (Refuses error) text e = absurd (cc e)
 bye_is site moment d Greets text e = absurd (cc e)
@@ -93,7 +92,7 @@ taken_is site moment d (Gives message) e = absurd (cc e)
 taken_is site moment d Takes e = record { says_none = λ made whole. refl; answered = λ table made. refl; grant_is = refl; meant = λ table made. tt }
 
 -- a message that a session gives is its answer's
-pub message_is : (host : List ℕ) (limit : ℕ) (answer : Answer) (message : Mails) → Message message ≡ did_of host limit answer → answer ≡ Gives message
+pub message_is : (host : List ℕ) (limit : ℕ) (answer : Answer) (message : Mail) → Received message ≡ did_of host limit answer → answer ≡ Gives message
 message_is host limit (Says reply) message e = absurd (cc e)
 message_is host limit (Refuses error) message e = absurd (cc e)
 message_is host limit Greets message e = absurd (cc e)

@@ -12,6 +12,7 @@ use Rattle.link_edge.specs.declared.event.Event.{Event}
 use Rattle.link_edge.specs.declared.event.Event.TheVariants.{Opens, Brings}
 use Rattle.smtp_lines.specs.declared.line.Line.{Line}
 use Rattle.smtp_lines.specs.Stream.{reading_of}
+use Rattle.smtp_receive.specs.Mails.{message_of}
 use Rattle.smtp_receive.specs.Dialogue.{Heard, Exchange, Answer, Says, Refuses, Greets, Extends, Grants, Closes, Gives, Takes as Passes, answer_to, exchanges, is_dropped, with_heard}
 use Rattle.smtp_receive.specs.Judging.{Said, Unasked}
 use Rattle.smtp_receive.proofs.Examples.{message as example_message}
@@ -73,7 +74,7 @@ module _ (site : Site) (moment : ℕ) where
   effects_by limit session table Extends whole = speech session (extended_text (shown_host site.host) limit) whole
   effects_by limit session table Grants whole = speech session grant_text whole
   effects_by limit session table Closes whole = Sends session (closing_text (shown_host site.host)) whole ∷ HangsUp session ∷ []
-  effects_by limit session table (Gives message) whole = Commits (accept_of site moment message in_one) ∷ speech session (stored_text table.next) whole
+  effects_by limit session table (Gives message) whole = Commits (accept_of site moment (message_of message) in_one) ∷ speech session (stored_text table.next) whole
   effects_by limit session table Passes whole = []
 
   -- the table after an answer, where a message is accepted
@@ -84,7 +85,7 @@ module _ (site : Site) (moment : ℕ) where
   table_by table Extends = table
   table_by table Grants = table
   table_by table Closes = table
-  table_by table (Gives message) = after table (accept_of site moment message in_one)
+  table_by table (Gives message) = after table (accept_of site moment (message_of message) in_one)
   table_by table Passes = table
 
   -- how a session goes on after an answer, by whether it was sent whole
@@ -140,8 +141,8 @@ module _ (site : Site) (moment : ℕ) where
     replied Closes whole left = refl
     replied (Gives message) whole left =
         cond-false (is_spent now in_one) _ _ left
-        ∙ ap (λ q. so_far (after now (accept_of site moment message in_one)) guest heard c.may q (way_of whole))
-        (append_assoc effects (Commits (accept_of site moment message in_one) ∷ []) (speech guest.number (stored_text now.next) whole))
+        ∙ ap (λ q. so_far (after now (accept_of site moment (message_of message) in_one)) guest heard c.may q (way_of whole))
+        (append_assoc effects (Commits (accept_of site moment (message_of message) in_one) ∷ []) (speech guest.number (stored_text now.next) whole))
     replied Passes whole left = ap (λ q. so_far now guest heard c.may q GoesOn) (sym (append-nil effects))
 
     heard_more : (h : Heard) → exchanges guest.config guest.peer (heard ++ h ∷ []) ≡ with_heard guest.config guest.peer before h

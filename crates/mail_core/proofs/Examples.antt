@@ -9,6 +9,7 @@ use Rattle.addr_tokens.specs.Scans.{most_tokens}
 use Rattle.link_edge.specs.declared.event.Event.TheVariants.{Opens, Brings, Stops}
 use Rattle.smtp_lines.specs.declared.line.Line.{Line}
 use Rattle.smtp_lines.specs.declared.line.Line.TheVariants.{Data, DataEnd}
+use Rattle.smtp_receive.specs.Mails.{message_of}
 use Rattle.smtp_receive.specs.Dialogue.{Heard, Exchange, Answer, Greets, Grants, Closes, Gives, Takes as Passes, answer_to}
 use Rattle.smtp_receive.specs.Replies.{shown_host}
 use Rattle.smtp_receive.specs.Judging.{Said, Unasked}
@@ -85,14 +86,14 @@ up_to_the_dot =
     comes_more site 5 start guest _ start _ _ _ body six refl Passes true refl refl
 
 abbrev stored_now : Table
-stored_now = after start (accept_of site 5 message in_one)
+stored_now = after start (accept_of site 5 (message_of message) in_one)
 
 abbrev closing : List Effect
 closing = Sends 1 (codes "221 2.0.0 localhost closing connection\r\n") true ∷ HangsUp 1 ∷ []
 
 -- the whole session, in one piece
 plain_piece : Comes site 5 start guest (data_choices ++ kept ∷ kept ∷ []) stored_now (given_lines ++ input DataEnd false (Some 1) ∷ input quit false None ∷ []) (plain quit Closes ∷ plain DataEnd (Gives message) ∷ whole)
-    (given_effects ++ Commits (accept_of site 5 message in_one) ∷ Sends 1 (codes "250 2.0.0 w000000000001 Message accepted for delivery\r\n") true ∷ closing) Leaves
+    (given_effects ++ Commits (accept_of site 5 (message_of message) in_one) ∷ Sends 1 (codes "250 2.0.0 w000000000001 Message accepted for delivery\r\n") true ∷ closing) Leaves
 unfolding most_recipients most_rows cut most_tokens digits most_command most_message most_headers most_path most_local_part most_domain shown_host last_id
 plain_piece =
     let dot = comes_more site 5 start guest _ start _ _ _ DataEnd up_to_the_dot refl (Gives message) true refl refl in
@@ -133,7 +134,7 @@ session_by choices now heard before effects turns later c rest =
 -- the message is in the table before its 250 is sent
 plain_session : run site (beginning start) (opens ∷ piece 1 sent 5 (data_choices ++ kept ∷ kept ∷ []) ∷ stops ∷ []) ≡ record {
   state = record { table = stored_now; guests = []; latest = 5; over = Some (By Stopped) };
-  effects = greeting ++ Takes (Brings 1 sent) ∷ Ticks 5 ∷ (given_effects ++ Commits (accept_of site 5 message in_one) ∷ Sends 1 (codes "250 2.0.0 w000000000001 Message accepted for delivery\r\n") true ∷ closing) ++ Takes Stops ∷ Ticks 5 ∷ [];
+  effects = greeting ++ Takes (Brings 1 sent) ∷ Ticks 5 ∷ (given_effects ++ Commits (accept_of site 5 (message_of message) in_one) ∷ Sends 1 (codes "250 2.0.0 w000000000001 Message accepted for delivery\r\n") true ∷ closing) ++ Takes Stops ∷ Ticks 5 ∷ [];
 }
 unfolding last_moment
 plain_session =
@@ -192,7 +193,7 @@ line_of bytes more table heard before effects t line said answer within next lef
     talks_line site initial peer 5 5 same_moment (bytes ++ more) table heard before effects (talks_within site initial peer 5 5 same_moment bytes more table heard before effects t within) 10 line said answer next left is on none
 
 by_bytes_to_the_dot : Bytes (codes "HELO c.example\r\nMAIL FROM:<bob@c.example>\r\nRCPT TO:<ann@mx.example>\r\nDATA\r\nSubject: hi\r\n\r\nhello\r\n.\r\n") stored_now (given_lines ++ input DataEnd false (Some 1) ∷ []) (plain DataEnd (Gives message) ∷ whole)
-    (first_effects ++ given_effects ++ Commits (accept_of site 5 message in_one) ∷ Sends 1 (codes "250 2.0.0 w000000000001 Message accepted for delivery\r\n") true ∷ [])
+    (first_effects ++ given_effects ++ Commits (accept_of site 5 (message_of message) in_one) ∷ Sends 1 (codes "250 2.0.0 w000000000001 Message accepted for delivery\r\n") true ∷ [])
 unfolding most_recipients most_rows cut most_tokens digits most_command most_message most_headers most_path most_local_part most_domain shown_host last_id
 by_bytes_to_the_dot =
     let one = line_of [] (codes "HELO c.example\r") start [] [] first_effects opening helo Unasked Greets refl refl refl refl refl refl in
@@ -206,7 +207,7 @@ by_bytes_to_the_dot =
 
 -- the same is sent and stored as by one piece
 by_bytes : (turns : List Turn) × (map (λ (t : Turn). t.event) turns ≡ Opens 1 peer ∷ map one sent)
-    × (answers_of (run site (beginning start) turns).effects ≡ first_effects ++ given_effects ++ Commits (accept_of site 5 message in_one) ∷ Sends 1 (codes "250 2.0.0 w000000000001 Message accepted for delivery\r\n") true ∷ closing)
+    × (answers_of (run site (beginning start) turns).effects ≡ first_effects ++ given_effects ++ Commits (accept_of site 5 (message_of message) in_one) ∷ Sends 1 (codes "250 2.0.0 w000000000001 Message accepted for delivery\r\n") true ∷ closing)
 unfolding most_recipients most_rows cut most_tokens most_command most_message most_domain shown_host last_id most_path most_local_part
 by_bytes =
     let t = talks_within site initial peer 5 5 same_moment _ (codes "QUIT\r") stored_now _ _ _ by_bytes_to_the_dot refl in

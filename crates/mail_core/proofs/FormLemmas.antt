@@ -10,6 +10,7 @@ use Rattle.mail_base.specs.declared.message.Message.{Message}
 use Rattle.mail_base.specs.Texts.{IsHeader}
 use Rattle.mail_base.specs.Drawing.{IsDrawn}
 use Rattle.smtp_receive.specs.Forms.{IsFormed}
+use Rattle.smtp_receive.specs.Mails.{mail_of}
 use Rattle.queue_plan.specs.Parts.{IsPart}
 use Rattle.queue_table.specs.Calls.{AreValid}
 use Rattle.queue_table.specs.Commands.{new_control, new_row}
@@ -18,7 +19,7 @@ use Rattle.queue_table.specs.Soundness.{AreCuts}
 use Rattle.queue_table.specs.declared.terms.Terms.{Terms}
 use Rattle.mail_base.specs.declared.message.Cut.{Cut}
 use Rattle.mail_core.specs.Messages.{headed, put_first}
-use Rattle.mail_core.specs.inner.Made.{AreForms}
+use Rattle.queue_plan.specs.Cuts.{AreForms}
 
 abbrev NotLf : ℕ → Type 0
 NotLf b = b ≢ 10
@@ -49,7 +50,7 @@ protocol_formed protocol (inl e) = subst (All NotLf) (sym e) protocol_line
 protocol_formed protocol (inr e) = subst (All NotLf) (sym e) (line_of 69 (codes "SMTP") (λ e. omega (arith, e)) protocol_line)
 
 -- a message of the right form has a control that is valid
-valid_message : (terms : Terms) (moment : ℕ) (first : Option (List ℕ)) (message : Message) (peer : List ℕ) (cut : Cut) → moment < 2 ^ 64 → All NotLf peer → FitsSigned w64 message.class → IfSome first IsHeader → IsFormed message peer → IsPart cut → IsValid (new_control terms (headed first message) moment cut)
+valid_message : (terms : Terms) (moment : ℕ) (first : Option (List ℕ)) (message : Message) (peer : List ℕ) (cut : Cut) → moment < 2 ^ 64 → All NotLf peer → FitsSigned w64 message.class → IfSome first IsHeader → IsFormed (mail_of message) peer → IsPart cut → IsValid (new_control terms (headed first message) moment cut)
 valid_message terms moment first message peer cut fits line class header form part = record {
   revision_range = record { least = omega arith; most = omega arith };
   parent_form = tt;
@@ -74,7 +75,7 @@ valid_message terms moment first message peer cut fits line class header form pa
 }
 
 -- and so has each of its parts
-pub valid_parts : (terms : Terms) (moment : ℕ) (first : Option (List ℕ)) (message : Message) (peer : List ℕ) (cuts : List Cut) → moment < 2 ^ 64 → All NotLf peer → FitsSigned w64 message.class → IfSome first IsHeader → IsFormed message peer → All IsPart cuts → AreValid terms (headed first message) moment cuts
+pub valid_parts : (terms : Terms) (moment : ℕ) (first : Option (List ℕ)) (message : Message) (peer : List ℕ) (cuts : List Cut) → moment < 2 ^ 64 → All NotLf peer → FitsSigned w64 message.class → IfSome first IsHeader → IsFormed (mail_of message) peer → All IsPart cuts → AreValid terms (headed first message) moment cuts
 valid_parts terms moment first message peer cuts fits line class header form parts =
     All-weaker IsPart (λ (cut : Cut). IsValid (new_control terms (headed first message) moment cut)) (λ cut part. valid_message terms moment first message peer cut fits line class header form part) cuts parts
 

@@ -1,7 +1,8 @@
 -- A line is answered.
 use Rattle.std.proofs.Common.{◌≡◌, ℕ, List, [], ◌∷◌, ◌++◌, Bool, true, false, not, Option, Some, None, Ok, Err, refl, sym, ◌∙◌, ap, subst}
-use Rattle.std.specs.Prelude.{Result, is_ok, ◌≢◌, ◌&&◌, if◌then◌else◌}
-use Rattle.std.proofs.lemmas.Bool.{cond-false}
+use Rattle.std.specs.Prelude.{is_some, Result, is_ok, ◌≢◌, ◌&&◌, if◌then◌else◌}
+use Rattle.std.proofs.lemmas.Bool.{cond-false, cond-true}
+use Rattle.mail_base.specs.Answering.{is_calm}
 use Rattle.mail_base.specs.Histories.{Gains}
 use Rattle.mail_base.specs.declared.config.Config.{Config}
 use Rattle.map_tables.specs.Answers.{Loaded}
@@ -10,10 +11,13 @@ use Rattle.link_edge.specs.Heard.{Heard as FloorHeard}
 use Rattle.smtp_lines.specs.declared.line.Line.{Line}
 use Rattle.smtp_lines.specs.declared.line.Line.TheVariants.{DataEnd}
 use Rattle.smtp_lines.specs.Stream.{asks}
+use Rattle.mail_base.specs.declared.fault.JudgeFault.{JudgeFault}
+use Rattle.mail_base.specs.declared.fault.JudgeFault.TheVariants as judged
 use Rattle.mail_base.specs.declared.message.Message.{Message}
+use Rattle.smtp_receive.specs.Mails.{Mail, deed_of, mail_of}
 use Rattle.smtp_receive.specs.Dialogue.{Answer, Gives, Heard, did_of, exchanges, is_grant}
 use Rattle.smtp_receive.specs.Forms.{AreFormed, FormedFor}
-use Rattle.smtp_receive.specs.Judging.{Said, Unasked}
+use Rattle.smtp_receive.specs.Judging.{Question, Said, Unasked}
 use Rattle.smtp_receive.proofs.JudgeLemmas.{formed_lacking, formed_more, said_for}
 use Rattle.smtp_receive.specs.Replies.{out_of_memory_text, shown_host, stored_text}
 use Rattle.smtp_receive.specs.declared.did.Did.{Did as Done}
@@ -136,13 +140,21 @@ line_lacked j site moment d line intake caller f g s k fed kept spoken grants to
           (hears_line j site moment d line Unasked intake caller true None (says d out_of_memory_text whole) fed refl (ap is_grant (lacking d.guest.config d.guest.peer (exchanges d.guest.config d.guest.peer d.guest.heard) line Unasked kept) ∙ sym (grants on)) serves talks);
     }
 
--- the judge failed at a line
+is_asked : (question : Option Question) → (question ≡ None → false ≡ true) → is_some question ≡ true
+is_asked None never = never refl
+is_asked (Some question) never = refl
+
+-- a fault of files isn't calm
+pub fault_calm : (e : JudgeFault) → e ≡ judged.FilesFault → is_calm {A = Done} (Err e) ≡ true → false ≡ true
+fault_calm e is calm = ap (λ (q : JudgeFault). is_calm {A = Done} (Err q)) (sym is) ∙ calm
+
+-- the judge failed at a line that asks it
 pub line_judged : (j : JudgeSeen) (site : Site) (moment : ℕ) (d : Did) (line : Line) (intake : Intake) (caller : Caller) (f : FloorHeard) (s : Spooled) (k : ClockSeen)
-    → AnswersLine j site moment d line (seen f s k) (seen f s k) intake caller (Err stops.FilesFault)
-line_judged j site moment d line intake caller f s k = record {
+    → (question_here d line ≡ None → false ≡ true) → AnswersLine j site moment d line (seen f s k) (seen f s k) intake caller (Err stops.FilesFault)
+line_judged j site moment d line intake caller f s k never = record {
   choice = JudgeFails;
   meant = tt;
-  does = does_judged site d f s k;
+  does = subst (λ e. Does site d e (seen f s k) (seen f s k) (Err stops.FilesFault)) (sym (cond-true (is_some (question_here d line)) _ _ (is_asked (question_here d line) never))) (does_judged site d f s k);
   alive = λ live. absurd (cc live);
   hears = λ on. absurd (cc on);
 }
@@ -153,7 +165,7 @@ line_judged j site moment d line intake caller f s k = record {
 pub record AnswersAt (j : JudgeSeen) (site : Site) (d : Did) (line : Line) (session : Session) (did : Done) : Type 0 where
   pub said : Said
   pub is_said : IsSaidAt j d line said
-  pub did_is : did ≡ did_of (shown_host site.host) (limit_of d) (answer_by d said line)
+  pub did_is : deed_of did ≡ did_of (shown_host site.host) (limit_of d) (answer_by d said line)
   pub stands : (id : Option ℕ) → Speaks session d.guest.config site.host d.guest.peer (d.guest.heard ++ record { line = line; said = said; short = false; id = id } ∷ [])
 
 -- a caller's session answers for its guest
@@ -197,7 +209,7 @@ pub asked_line : (j : JudgeSeen) (site : Site) (d : Did) (line : Line) (caller :
 asked_line j site d line caller said id is talks = subst (λ q. Talks site caller (with_line d.guest line q false id)) is talks
 
 -- the answer to the end of data hangs on nothing that is said
-pub given_by_all : (d : Did) (line : Line) (said : Said) (message : Message) → line ≡ DataEnd → answer_by d said line ≡ Gives message → (other : Said) → answer_by d other line ≡ Gives message
+pub given_by_all : (d : Did) (line : Line) (said : Said) (message : Mail) → line ≡ DataEnd → answer_by d said line ≡ Gives message → (other : Said) → answer_by d other line ≡ Gives message
 given_by_all d line said message ends gives other = ap (answer_by d other) ends ∙ sym (ap (answer_by d said) ends) ∙ gives
 
 -- ---- a line that ends a message
@@ -222,12 +234,12 @@ failed_on spent d x (Err stop) way on = cc on
 module _ (site : Site) (moment : ℕ) (d : Did) (line : Line) (message : Message) where
   -- whatever the judge says, the line gives the message
   abbrev GivesIt : Type 0
-  GivesIt = (said : Said) → answer_by d said line ≡ Gives message
+  GivesIt = (said : Said) → answer_by d said line ≡ Gives (mail_of message)
 
   chosen : GivesIt → (choice : Choice) → choice ≢ Disconnects → choice ≢ JudgeFails
       → by_choice site moment d choice (Some line) ≡ heard_chosen d.table choice (message_by site moment d message choice) line
   chosen gives (Normal said made whole) apart calm = ap (λ a. heard_where (is_answered d.table made a) (replies site moment d a made whole) line said false (id_by d.table a)) (gives said)
-  chosen gives (OutOfMemory whole) apart calm = short_is site moment d line whole (gift_kept d.guest.config d.guest.peer (exchanges d.guest.config d.guest.peer d.guest.heard) Unasked line message (gives Unasked))
+  chosen gives (OutOfMemory whole) apart calm = short_is site moment d line whole (gift_kept d.guest.config d.guest.peer (exchanges d.guest.config d.guest.peer d.guest.heard) Unasked line (mail_of message) (gives Unasked))
   chosen gives Disconnects apart calm = absurd (apart refl)
   chosen gives (SpoolFails made) apart calm = ap (λ a. fails site moment d a made) (gives Unasked)
   chosen gives JudgeFails apart calm = absurd (calm refl)
@@ -246,7 +258,7 @@ module _ (site : Site) (moment : ℕ) (d : Did) (line : Line) (message : Message
   -- what was done with the message is no grant
   no_grant : (said : Said) (short : Bool) → GivesIt → is_grant (answer_kept d.guest line said short) ≡ false
   no_grant said true gives =
-      let es = exchanges d.guest.config d.guest.peer d.guest.heard in ap is_grant (lacking d.guest.config d.guest.peer es line said (gift_kept d.guest.config d.guest.peer es said line message (gives said)))
+      let es = exchanges d.guest.config d.guest.peer d.guest.heard in ap is_grant (lacking d.guest.config d.guest.peer es line said (gift_kept d.guest.config d.guest.peer es said line (mail_of message) (gives said)))
   no_grant said false gives = ap (λ a. is_grant (Some a)) (gives said)
 
   -- the caller goes on with its session as it is, or reset

@@ -13,6 +13,7 @@ use Rattle.link_edge.specs.declared.event.Event.TheVariants.{Opens, Brings, Clos
 use Rattle.smtp_lines.specs.declared.line.Line.{Line}
 use Rattle.mail_base.specs.declared.message.Cut.{Cut as Part}
 use Rattle.mail_base.specs.declared.message.Message.{Message}
+use Rattle.smtp_receive.specs.Mails.{message_of as of_mail}
 use Rattle.smtp_receive.specs.Dialogue.{Answer, Says, Refuses, Greets, Extends, Grants, Closes as Ends, Gives, Takes as Passes, did_of}
 use Rattle.smtp_receive.specs.Finals.{IsFinal, text_told}
 use Rattle.smtp_receive.specs.Judging.{Said, Unasked}
@@ -27,7 +28,8 @@ use Rattle.mail_base.specs.declared.control.Parent.{Parent}
 use Rattle.mail_base.specs.declared.draw.Draw.{Draw}
 use Rattle.queue_table.specs.Commands.{Command, after, draft_of, drafts_of, new_row}
 use Rattle.queue_table.specs.Commands.Command.{Accept, Record, Return, Warn}
-use Rattle.queue_table.specs.Soundness.{AreCuts}
+use Rattle.queue_table.specs.Soundness.{AreCuts, CanDo, IsSound}
+use Rattle.queue_table.proofs.SoundLemmas.{command_sound}
 use Rattle.mail_core.specs.Sites.{Site, terms_at}
 use Rattle.mail_core.specs.Effects.{Effect, Takes, Ticks, Commits, Sends, HangsUp, speech}
 use Rattle.mail_core.specs.Guests.{Guest, is_passed, guest_of, is_here, next_line, with_bytes}
@@ -63,12 +65,26 @@ abbrev pub AreTaking : List Effect → Type 0
 AreTaking [] = Unit {0}
 AreTaking (effect ∷ effects) = IsTaking effect × AreTaking effects
 
+-- a command may be asked of the table
+abbrev pub CanBe : Table → Effect → Type 0
+CanBe table (Takes event) = Unit {0}
+CanBe table (Ticks reading) = Unit {0}
+CanBe table (Commits command) = CanDo table command
+CanBe table (Sends session text whole) = Unit {0}
+CanBe table (HangsUp session) = Unit {0}
+
+-- each command may be asked of the table as it is then
+abbrev pub AreFit : Table → List Effect → Type 0
+AreFit table [] = Unit {0}
+AreFit table (effect ∷ effects) = CanBe table effect × AreFit (table_after table (effect ∷ [])) effects
+
 -- effects that lead from a table to another; each final 250 is of the message that was put
--- in last where F is so
+-- in last where F is so, and each command may then be asked
 pub record Leads (F : Type 0) (old new : Table) (effects : List Effect) : Type 0 where
   pub table : new ≡ table_after old effects
   pub acked : F → (latest : List Stored) → AreAcked latest old effects
   pub taking : AreTaking effects
+  pub fits : F → AreFit old effects
 
 -- what was done has grown
 pub record Grows (F : Type 0) (d e : Did) : Type 0 where
@@ -91,6 +107,19 @@ pub acked_front : (latest : List Stored) (table : Table) (xs ys : List Effect) �
 acked_front latest table [] ys h = tt
 acked_front latest table (x ∷ xs) ys h = (h.0, acked_front (latest_by latest table x) (table_after table (x ∷ [])) xs ys h.1)
 
+pub fit_join : (table : Table) (xs ys : List Effect) → AreFit table xs → AreFit (table_after table xs) ys → AreFit table (xs ++ ys)
+fit_join table [] ys h k = k
+fit_join table (x ∷ xs) ys h k = (h.0, fit_join (table_after table (x ∷ [])) xs ys h.1 (subst (λ t. AreFit t ys) (table_more table (x ∷ []) xs) k))
+
+-- from a sound table each front of the effects gives a sound table
+pub sound_front : (table : Table) (done rest : List Effect) → IsSound table → AreFit table (done ++ rest) → IsSound (table_after table done)
+sound_front table [] rest sound fit = sound
+sound_front table (Commits command ∷ done) rest sound fit = sound_front (after table command) done rest (command_sound table command sound fit.0) fit.1
+sound_front table (Takes event ∷ done) rest sound fit = sound_front table done rest sound fit.1
+sound_front table (Ticks reading ∷ done) rest sound fit = sound_front table done rest sound fit.1
+sound_front table (Sends session text whole ∷ done) rest sound fit = sound_front table done rest sound fit.1
+sound_front table (HangsUp session ∷ done) rest sound fit = sound_front table done rest sound fit.1
+
 pub taking_join : (xs ys : List Effect) → AreTaking xs → AreTaking ys → AreTaking (xs ++ ys)
 taking_join [] ys h k = k
 taking_join (x ∷ xs) ys h k = (h.0, taking_join xs ys h.1 k)
@@ -101,13 +130,14 @@ taking_front [] ys h = tt
 taking_front (x ∷ xs) ys h = (h.0, taking_front xs ys h.1)
 
 pub leads_none : (F : Type 0) (table : Table) → Leads F table table []
-leads_none F table = record { table = refl; acked = λ f latest. tt; taking = tt }
+leads_none F table = record { table = refl; acked = λ f latest. tt; taking = tt; fits = λ f. tt }
 
 pub leads_join : (F G H : Type 0) → (H → F) → (H → G) → (one two three : Table) (xs ys : List Effect) → Leads F one two xs → Leads G two three ys → Leads H one three (xs ++ ys)
 leads_join F G H to_f to_g one two three xs ys h k = record {
   table = k.table ∙ ap (λ t. table_after t ys) h.table ∙ sym (table_more one xs ys);
   acked = λ f latest. acked_join latest one xs ys (h.acked (to_f f) latest) (λ other. subst (λ t. AreAcked other t ys) h.table (k.acked (to_g f) other));
   taking = taking_join xs ys h.taking k.taking;
+  fits = λ f. fit_join one xs ys (h.fits (to_f f)) (subst (λ t. AreFit t ys) h.table (k.fits (to_g f)));
 }
 
 -- ---- an entry stays
@@ -187,20 +217,20 @@ message_of site moment table message made (cut ∷ cuts) session whole left are 
 -- ---- single effects
 
 speech_leads : (F : Type 0) (table : Table) (session : ℕ) (text : List ℕ) (whole : Bool) → (F → (latest : List Stored) (w : Bool) → IsAcked latest table (Sends session text w)) → Leads F table table (speech session text whole)
-speech_leads F table session text true acked = record { table = refl; acked = λ f latest. (acked f latest true, tt); taking = (tt, tt) }
-speech_leads F table session text false acked = record { table = refl; acked = λ f latest. (acked f latest false, (tt, tt)); taking = (tt, (tt, tt)) }
+speech_leads F table session text true acked = record { table = refl; acked = λ f latest. (acked f latest true, tt); taking = (tt, tt); fits = λ f. (tt, tt) }
+speech_leads F table session text false acked = record { table = refl; acked = λ f latest. (acked f latest false, (tt, tt)); taking = (tt, (tt, tt)); fits = λ f. (tt, (tt, tt)) }
 
 last_leads : (F : Type 0) (table : Table) (session : ℕ) (text : List ℕ) (whole : Bool) → (F → (latest : List Stored) → IsAcked latest table (Sends session text whole)) → Leads F table table (Sends session text whole ∷ HangsUp session ∷ [])
-last_leads F table session text whole acked = record { table = refl; acked = λ f latest. (acked f latest, (tt, tt)); taking = (tt, (tt, tt)) }
+last_leads F table session text whole acked = record { table = refl; acked = λ f latest. (acked f latest, (tt, tt)); taking = (tt, (tt, tt)); fits = λ f. (tt, (tt, tt)) }
 
 hang_leads : (F : Type 0) (table : Table) (session : ℕ) → Leads F table table (HangsUp session ∷ [])
-hang_leads F table session = record { table = refl; acked = λ f latest. (tt, tt); taking = (tt, tt) }
+hang_leads F table session = record { table = refl; acked = λ f latest. (tt, tt); taking = (tt, tt); fits = λ f. (tt, tt) }
 
 -- a message is put in, and then its 250 said
-accept_leads : (F : Type 0) (table : Table) (command : Command) (session : ℕ) (text : List ℕ) (whole : Bool) → IsAccept command → (F → (w : Bool) → IsAcked (put_by table command) (after table command) (Sends session text w))
+accept_leads : (F : Type 0) (table : Table) (command : Command) (session : ℕ) (text : List ℕ) (whole : Bool) → IsAccept command → (F → CanDo table command) → (F → (w : Bool) → IsAcked (put_by table command) (after table command) (Sends session text w))
     → Leads F table (after table command) (Commits command ∷ speech session text whole)
-accept_leads F table command session text true is acked = record { table = refl; acked = λ f latest. (tt, (acked f true, tt)); taking = (is, (tt, tt)) }
-accept_leads F table command session text false is acked = record { table = refl; acked = λ f latest. (tt, (acked f false, (tt, tt))); taking = (is, (tt, (tt, tt))) }
+accept_leads F table command session text true is can acked = record { table = refl; acked = λ f latest. (tt, (acked f true, tt)); taking = (is, (tt, tt)); fits = λ f. (can f, (tt, tt)) }
+accept_leads F table command session text false is can acked = record { table = refl; acked = λ f latest. (tt, (acked f false, (tt, tt))); taking = (is, (tt, (tt, tt))); fits = λ f. (can f, (tt, (tt, tt))) }
 
 -- ---- what is done for a session
 
@@ -235,11 +265,11 @@ over_grows F d finish = does_grows F d [] (Over finish) (leads_none F d.table)
 drops_grows : (F : Type 0) (d : Did) → Grows F d (does d (HangsUp d.guest.number ∷ []) Leaves)
 drops_grows F d = does_grows F d (HangsUp d.guest.number ∷ []) Leaves (hang_leads F d.table d.guest.number)
 
-commits_grows : (F : Type 0) (site : Site) (moment : ℕ) (d : Did) (message : Message) (made : Made) → Grows F d (commits site moment d message made)
-commits_grows F site moment d message made = record {
+commits_grows : (F : Type 0) (site : Site) (moment : ℕ) (d : Did) (message : Message) (made : Made) → (F → AreCuts made.cuts) → Grows F d (commits site moment d message made)
+commits_grows F site moment d message made some = record {
   more = Commits (accept_of site moment message made) ∷ [];
   effects = refl;
-  leads = record { table = refl; acked = λ f latest. (tt, tt); taking = (tt, tt) };
+  leads = record { table = refl; acked = λ f latest. (tt, tt); taking = (tt, tt); fits = λ f. (some f, tt) };
   number = refl;
 }
 
@@ -250,7 +280,7 @@ accepts_by F site moment d message made whole false e some =
     let command : Command = accept_of site moment message made in record {
       more = Commits command ∷ speech d.guest.number (stored_text d.table.next) whole;
       effects = append_assoc d.effects (Commits command ∷ []) (speech d.guest.number (stored_text d.table.next) whole);
-      leads = accept_leads F d.table command d.guest.number (stored_text d.table.next) whole tt (λ f w. message_of site moment d.table message made made.cuts d.guest.number w e refl (some f e));
+      leads = accept_leads F d.table command d.guest.number (stored_text d.table.next) whole tt (λ f. some f e) (λ f w. message_of site moment d.table message made made.cuts d.guest.number w e refl (some f e));
       number = refl;
     }
 
@@ -269,27 +299,27 @@ replies_grows F site moment d Greets made whole final taken = tells_grows F d (h
 replies_grows F site moment d Extends made whole final taken = tells_grows F d (extended_text (shown_host site.host) (limit_of d)) whole (λ f. final f (extended_text (shown_host site.host) (limit_of d)) refl)
 replies_grows F site moment d Grants made whole final taken = tells_grows F d grant_text whole (λ f. final f grant_text refl)
 replies_grows F site moment d Ends made whole final taken = closes_grows F d (closing_text (shown_host site.host)) whole (λ f. final f (closing_text (shown_host site.host)) refl)
-replies_grows F site moment d (Gives message) made whole final taken = stores_grows F site moment d message made whole (λ f left. cuts_taken site.config site.maps moment message d.table.next made (taken f (unspent d.table made left)))
+replies_grows F site moment d (Gives mail) made whole final taken = stores_grows F site moment d (of_mail mail) made whole (λ f left. cuts_taken site.config site.maps moment (of_mail mail) d.table.next made (taken f (unspent d.table made left)))
 replies_grows F site moment d Passes made whole final taken = grows_none F d
 
 lack_grows : (F : Type 0) (d : Did) (whole : Bool) → Grows F d (says d out_of_memory_text whole)
 lack_grows F d whole = tells_grows F d out_of_memory_text whole (λ f. memory_final)
 
-failing_grows : (F : Type 0) (site : Site) (moment : ℕ) (d : Did) (message : Message) (made : Made) (spent : Bool) → Grows F d (if spent then is_over d (By IdsSpent) else is_over (commits site moment d message made) (By SpoolFault))
-failing_grows F site moment d message made true = over_grows F d (By IdsSpent)
-failing_grows F site moment d message made false =
+failing_grows : (F : Type 0) (site : Site) (moment : ℕ) (d : Did) (message : Message) (made : Made) (spent : Bool) → is_spent d.table made ≡ spent → (F → is_spent d.table made ≡ false → AreCuts made.cuts) → Grows F d (if spent then is_over d (By IdsSpent) else is_over (commits site moment d message made) (By SpoolFault))
+failing_grows F site moment d message made true e some = over_grows F d (By IdsSpent)
+failing_grows F site moment d message made false e some =
     let c = commits site moment d message made in
-    grows_join F F F (λ f. f) (λ f. f) d c (is_over c (By SpoolFault)) (commits_grows F site moment d message made) (over_grows F c (By SpoolFault))
+    grows_join F F F (λ f. f) (λ f. f) d c (is_over c (By SpoolFault)) (commits_grows F site moment d message made (λ f. some f e)) (over_grows F c (By SpoolFault))
 
-fails_grows : (F : Type 0) (site : Site) (moment : ℕ) (d : Did) (answer : Answer) (made : Made) → Grows F d (fails site moment d answer made)
-fails_grows F site moment d (Gives message) made = failing_grows F site moment d message made (is_spent d.table made)
-fails_grows F site moment d (Says reply) made = over_grows F d Cut
-fails_grows F site moment d (Refuses error) made = over_grows F d Cut
-fails_grows F site moment d Greets made = over_grows F d Cut
-fails_grows F site moment d Extends made = over_grows F d Cut
-fails_grows F site moment d Grants made = over_grows F d Cut
-fails_grows F site moment d Ends made = over_grows F d Cut
-fails_grows F site moment d Passes made = over_grows F d Cut
+fails_grows : (F : Type 0) (site : Site) (moment : ℕ) (d : Did) (answer : Answer) (made : Made) → (F → IsMadeAt site moment d.table answer made) → Grows F d (fails site moment d answer made)
+fails_grows F site moment d (Gives mail) made taken = failing_grows F site moment d (of_mail mail) made (is_spent d.table made) refl (λ f left. cuts_taken site.config site.maps moment (of_mail mail) d.table.next made (taken f (unspent d.table made left)))
+fails_grows F site moment d (Says reply) made taken = over_grows F d Cut
+fails_grows F site moment d (Refuses error) made taken = over_grows F d Cut
+fails_grows F site moment d Greets made taken = over_grows F d Cut
+fails_grows F site moment d Extends made taken = over_grows F d Cut
+fails_grows F site moment d Grants made taken = over_grows F d Cut
+fails_grows F site moment d Ends made taken = over_grows F d Cut
+fails_grows F site moment d Passes made taken = over_grows F d Cut
 
 line_grows : (F : Type 0) (d e : Did) (line : Line) (said : Said) (short : Bool) (id : Option ℕ) → Grows F d e → Grows F d (heard_line e line said short id)
 line_grows F d e line said short id h = record { more = h.more; effects = h.effects; leads = h.leads; number = h.number }
@@ -301,6 +331,10 @@ where_grows F d e line said id false h = h
 drop_grows : (F : Type 0) (d : Did) (may : Bool) → Grows F d (if may then does d (HangsUp d.guest.number ∷ []) Leaves else is_over d Cut)
 drop_grows F d true = drops_grows F d
 drop_grows F d false = over_grows F d Cut
+
+judged_grows : (F : Type 0) (d : Did) (asked : Bool) → Grows F d (if asked then is_over d (By FilesFault) else is_over d Cut)
+judged_grows F d true = over_grows F d (By FilesFault)
+judged_grows F d false = over_grows F d Cut
 
 -- 452 4.3.1 to a line, but where it is dropped
 short_grows : (F : Type 0) (d e : Did) (passed : Bool) → Grows F d e → Grows F d (if passed then is_over d Cut else e)
@@ -318,8 +352,8 @@ choice_grows j site moment d (Normal said made whole) (Some line) =
 choice_grows j site moment d (OutOfMemory whole) (Some line) =
     short_grows (Unit {0}) d (heard_line (says d out_of_memory_text whole) line Unasked true None) (is_passed d.guest line)
     (line_grows (Unit {0}) d (says d out_of_memory_text whole) line Unasked true None (lack_grows (Unit {0}) d whole))
-choice_grows j site moment d (SpoolFails made) (Some line) = fails_grows (IsMeant j site moment d (SpoolFails made) (Some line)) site moment d (answer_by d Unasked line) made
-choice_grows j site moment d JudgeFails (Some line) = over_grows (Unit {0}) d (By FilesFault)
+choice_grows j site moment d (SpoolFails made) (Some line) = fails_grows (IsMeant j site moment d (SpoolFails made) (Some line)) site moment d (answer_by d Unasked line) made (λ f. f)
+choice_grows j site moment d JudgeFails (Some line) = judged_grows (Unit {0}) d (is_some (question_here d line))
 choice_grows j site moment d Disconnects (Some line) = drop_grows (Unit {0}) d d.may_disconnect
 choice_grows j site moment d Disconnects None = drop_grows (Unit {0}) d d.may_disconnect
 choice_grows j site moment d (Normal said made whole) None = over_grows (said ≡ Unasked) d Cut
@@ -405,7 +439,7 @@ handled_steps j site m Rests none = leads_none (Unit {0}) m.table
 handled_steps j site m Stops none = leads_none (Unit {0}) m.table
 
 taken_steps : (F : Type 0) (table : Table) (turn : Turn) (step : Step) → Steps F table step → Steps F table (taken turn step)
-taken_steps F table turn step h = record { table = h.table; acked = λ f latest. (tt, (tt, h.acked f latest)); taking = (tt, (tt, h.taking)) }
+taken_steps F table turn step h = record { table = h.table; acked = λ f latest. (tt, (tt, h.acked f latest)); taking = (tt, (tt, h.taking)); fits = λ f. (tt, (tt, h.fits f)) }
 
 -- the effects of a step lead to its table
 stepped_leads : (j : JudgeSeen) (site : Site) (m : State) (turn : Turn) → Leads (IsEventMeant j site (at_moment m turn.reading) turn.event turn.choices) m.table (stepped site m turn).state.table (stepped site m turn).effects

@@ -12,6 +12,7 @@ use Rattle.mail_base.specs.declared.message.Cut.{Cut}
 use Rattle.mail_base.specs.declared.message.Message.{Message}
 use Rattle.map_tables.specs.Answers.{Loaded}
 use Rattle.smtp_receive.specs.Dialogue.{Gives}
+use Rattle.smtp_receive.specs.Mails.{mail_of}
 use Rattle.smtp_receive.specs.Judging.{Unasked}
 use Rattle.smtp_receive.specs.Replies.{out_of_memory_text, stored_text}
 use Rattle.spool_disk.specs.Disk.{FileMap}
@@ -47,7 +48,7 @@ use Rattle.mail_core.proofs.GoingLemmas.{IsSpoken, does_says, does_spent, does_f
 -- ---- the table
 
 -- a table with another room has what is told
-pub tallies_same : (old new : Kept) (told : Option FileMap) → IsSame old new → Tallies old told → Tallies new told
+pub tallies_same : (old new : Kept) (told : Option FileMap) → IsSame old new → ((store old).broken ≡ false → IfSome told (Agrees (store old))) → (store new).broken ≡ false → IfSome told (Agrees (store new))
 tallies_same old new told same h = λ whole. agrees_same old new told same (h (sym (ap (λ (q : StoreSeen). q.broken) same.1) ∙ whole))
   where
     agrees_same : (old new : Kept) (told : Option FileMap) → IsSame old new → IfSome told (Agrees (store old)) → IfSome told (Agrees (store new))
@@ -145,7 +146,7 @@ module _ (site : Site) (moment : ℕ) (message : Message) (made : Made) (a b : S
   holds_at new h = subst (λ (q : Command). HoldsTable new (after table q)) (command_is site kept table moment message made s) h
 
 -- what a commit spares, said of the site: the table has what is told before and after it
-pub spared_at : (site : Site) (old new : Kept) (table : Table) (s t : Spooled) → Stores site old table → Stays old new → Tallies old s.told → IfSome t.told (Agrees (store new))
+pub spared_at : (site : Site) (old new : Kept) (table : Table) (s t : Spooled) → Stores site old table → Stays old new → Tallies old s → IfSome t.told (Agrees (store new))
     → ((f : FileMap) → Moves s t (λ g. g ≡ f) (KeepsOthers (store old).dirs f) (KeepsOthers (store old).dirs f)) → IsSparing site.dirs s t true
 spared_at site old new table s t is stays before behind moves =
     subst (λ (q : List (List ℕ)). IsSparing q s t true) is.dirs
@@ -162,7 +163,7 @@ taken_at site config maps moment next table message made under same t =
 
 module _ (site : Site) (moment : ℕ) (d : Did) (message : Message) (old new : Caller) (k : ClockSeen) where
   -- an id is wanting
-  pub message_spent : (f : FloorHeard) (s : Spooled) (intake : Intake) (made : Made) → is_spent d.table made ≡ true → last_id + 1 < d.table.next + most_rows → IsMadeAt site moment d.table (Gives message) made → AnswersMessage site moment d message (seen f s k) (seen f s k) intake old new (Err stops.IdsSpent)
+  pub message_spent : (f : FloorHeard) (s : Spooled) (intake : Intake) (made : Made) → is_spent d.table made ≡ true → last_id + 1 < d.table.next + most_rows → IsMadeAt site moment d.table (Gives (mail_of message)) made → AnswersMessage site moment d message (seen f s k) (seen f s k) intake old new (Err stops.IdsSpent)
   message_spent f s intake made spent wanting meant = record {
     choice = SpoolFails made;
     answers = λ e. cc e;

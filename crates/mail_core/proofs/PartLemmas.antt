@@ -24,8 +24,9 @@ use Rattle.queue_table.specs.Calls.{IsAccepting}
 use Rattle.queue_table.specs.Soundness.{AreCuts}
 use Rattle.queue_table.specs.declared.accepting.Accepting.{Accepting}
 use Rattle.queue_table.specs.declared.table.Table.{Table as Kept}
-use Rattle.mail_core.specs.Messages.{AreGrouped, AreParts, IsTakenIn, Made, last_id}
-use Rattle.mail_core.specs.inner.Made.{AreForms, IsMacros, IsMade, IsMessageMade, LacksIds}
+use Rattle.queue_plan.specs.Cuts.{AreForms, AreParts}
+use Rattle.mail_core.specs.Messages.{IsMessageMade, IsTakenIn, Made, dated_macros, headed, last_id, macros_seen, put_first}
+use Rattle.mail_core.specs.inner.Made.{IsMacros, IsMade, LacksIds}
 
 -- where there is a row, one stays
 some_distinct : (rows : List Draw) → 1 ≤ length rows → 0 < length (distinct rows)
@@ -33,7 +34,7 @@ some_distinct [] some = absurd (omega (arith, some))
 some_distinct (row ∷ rows) some = omega arith
 
 -- the parts of rows are one at least, each with a row
-cuts_of_rows : (config : Config) (maps : Loaded) (macros : Macros) (rows : List Draw) (cuts : List Cut) → 1 ≤ length rows → AreParts config maps macros rows cuts → AreCuts cuts
+cuts_of_rows : (config : Config) (maps : Loaded) (macros : Macros) (rows : List Draw) (cuts : List Cut) → 1 ≤ length rows → AreParts config maps macros (distinct rows) cuts → AreCuts cuts
 cuts_of_rows config maps macros rows cuts some p =
     let long = AllZip-long (λ (row : Draw) (group : List ℕ). Groups config maps macros row.address (mailer_of row.resolved) group) (distinct rows) p.groups p.grouped in
     subst AreCuts (sym p.are) (record { some = first_part config (distinct rows) p.groups long (some_distinct rows some); each = parts_filled config (distinct rows) p.groups })
@@ -44,45 +45,22 @@ cuts_taken config maps moment message id made t = cuts_of_rows config maps _ mes
 
 -- ---- parts are made
 
-abbrev HasGroup : Config → Loaded → Macros → Draw → List ℕ → Type 0
-HasGroup config maps macros row group = Groups config maps macros row.address (mailer_of row.resolved) group
-
--- one row more has its group
-pub grouped_more : (config : Config) (maps : Loaded) (macros : Macros) (rows : List Draw) (i : ℕ) (row : Draw) (groups : List (List ℕ)) (group : List ℕ) → i < length rows → row ≡ get_or rows i row → AreGrouped config maps macros (take i rows) groups → HasGroup config maps macros row group → AreGrouped config maps macros (take (i + 1) rows) (groups ++ group ∷ [])
-grouped_more config maps macros rows i row groups group below is so next =
-    subst (λ (q : List Draw). AreGrouped config maps macros q (groups ++ group ∷ [])) (sym (take_more rows i row below))
-    (all_zipped_more (HasGroup config maps macros) (take i rows) groups (get_or rows i row) group so (subst (λ (q : Draw). HasGroup config maps macros q group) is next))
-
-pub lines_more : (groups : List (List ℕ)) (group : List ℕ) → All IsLine groups → IsLine group → All IsLine (groups ++ group ∷ [])
-lines_more groups group all line = All-append IsLine groups (group ∷ []) all (All-cons IsLine group [] line (All-nil IsLine))
-
--- there is a group for each row
-pub groups_long : (config : Config) (maps : Loaded) (macros : Macros) (rows : List Draw) (groups : List (List ℕ)) → AreGrouped config maps macros rows groups → length groups ≡ length rows
-groups_long config maps macros rows groups so = AllZip-long (HasGroup config maps macros) rows groups so
-
--- they are the parts of rows
-pub parted_by : {E : Type 0} (config : Config) (maps : Loaded) (macros : Macros) (rows kept : List Draw) (groups : List (List ℕ)) (result : Result (List Cut) E) → kept ≡ distinct rows → AreGrouped config maps macros kept groups → IfOk result (λ cuts. cuts ≡ parts_of config kept groups) → IfOk result (AreParts config maps macros rows)
-parted_by config maps macros rows kept groups (Ok cuts) is so h = record {
-  groups = groups;
-  grouped = subst (λ (q : List Draw). AreGrouped config maps macros q groups) is so;
-  are = h ∙ ap (λ (q : List Draw). parts_of config q groups) is;
-}
-parted_by config maps macros rows kept groups (Err fault) is so h = tt
-
--- and may become entries
-pub forms_by : {E : Type 0} (kept : List Draw) (result : Result (List Cut) E) → AreRows kept → IfOk result (λ cuts. 0 < length cuts) → IfOk result (λ cuts. length cuts ≤ length kept) → IfOk result (All IsPart) → IfOk result AreForms
-forms_by kept (Ok cuts) rows some few each = record { some = some; few = omega (arith, few, rows.few); each = each }
-forms_by kept (Err fault) rows some few each = tt
-
 -- this is what is made of a message
-pub taken_of : (config : Config) (maps : Loaded) (moment : ℕ) (message : Message) (id : ℕ) (macros : Macros) (first : Option (List ℕ)) (cuts : List Cut) → AreRows message.rows → IsMacros config moment message id macros → first ≡ received_of config.headers macros → AreParts config maps macros message.rows cuts → IsTakenIn config maps moment message id (record { first = first; cuts = cuts })
-taken_of config maps moment message id macros first cuts rows m is parts = record {
-  some = rows.some;
+pub taken_of : (config : Config) (maps : Loaded) (moment : ℕ) (message : Message) (id : ℕ) (session macros : Macros) (first : Option (List ℕ)) (rows : List Draw) (cuts : List Cut) → AreRows message.rows → session ≡ macros_seen config message → IsMacros session moment message id macros → first ≡ received_of config.headers macros → rows ≡ distinct message.rows → AreParts config maps session rows cuts → IsTakenIn config maps moment message id (record { first = first; cuts = cuts })
+taken_of config maps moment message id session macros first rows cuts form seen m is kept parts = record {
+  some = form.some;
   dates = m.dates;
   are = m.are;
-  first = is ∙ ap (λ (q : Macros). received_of config.headers q) m.is;
-  parts = subst (λ (q : Macros). AreParts config maps q message.rows cuts) m.is parts;
+  first = is ∙ ap (λ (q : Macros). received_of config.headers q) m.is ∙ ap (λ (q : Macros). received_of config.headers (dated_macros q m.dates id)) seen;
+  parts = subst (λ (q : Macros). AreParts config maps q (distinct message.rows) cuts) seen (subst (λ (q : List Draw). AreParts config maps session q cuts) kept parts);
 }
+
+-- the message is the one without its rows, with the header in front
+pub headed_of : (first : Option (List ℕ)) (message rest all : Message) (none : List Draw) → rest ≡ record message { rows = none } → none ≡ [] → all ≡ record rest { headers = put_first first rest.headers } → all ≡ headed first message
+headed_of first message rest all none is empty made =
+    made
+    ∙ ap (λ (m : Message). record m { headers = put_first first m.headers }) is
+    ∙ ap (λ (q : List Draw). record message { rows = q; headers = put_first first message.headers }) empty
 
 -- ---- a message is planned
 

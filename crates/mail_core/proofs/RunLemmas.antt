@@ -28,20 +28,21 @@ use Rattle.mail_core.specs.declared.serving.Act.{Act}
 use Rattle.mail_core.specs.declared.serving.Act.TheVariants.{Went}
 use Rattle.mail_core.specs.declared.serving.CoreStop.{CoreStop}
 use Rattle.queue_table.specs.Commands.{Command, after}
+use Rattle.queue_table.specs.Soundness.{IsSound}
 use Rattle.mail_core.specs.Effects.{Effect, Takes, Ticks, Commits, Sends, HangsUp, heard, heard_of}
 use Rattle.mail_core.specs.Causes.{EndsSo, is_well}
 use Rattle.mail_core.specs.Events.{Turns}
 use Rattle.mail_core.specs.Judges.{JudgeSeen, untold}
 use Rattle.mail_core.specs.Meant.{IsRunMeant}
-use Rattle.mail_core.specs.Machine.{Step, Turn, at_moment, beginning, stepped}
-use Rattle.mail_core.specs.Runs.{AreAcked, AreKept, BeginsWith, HasEntry, HasMessage, Headline, IsAcked, IsEnded, IsKept, IsLeft, latest_by, put_by, run_over}
+use Rattle.mail_core.specs.Machine.{State, Step, Turn, at_moment, beginning, run, stepped}
+use Rattle.mail_core.specs.Runs.{AreAcked, AreKept, BeginsWith, HasEntry, HasMessage, Headline, IsAcked, IsEnded, IsKept, IsLeft, StaysSound, latest_by, put_by, run_over}
 use Rattle.mail_core.specs.inner.UnderWay.{IsUnderWay}
 use Rattle.mail_core.specs.Seen.{IsPart, IsSparing, LacksLast, Leaves as Left, Ran, Seen, SparesBy, seen, table_after}
 use Rattle.mail_core.specs.Standing.{IsTallied, Stands}
 use Rattle.mail_core.proofs.GoingLemmas.{cause_since}
 use Rattle.mail_core.proofs.JudgeLemmas.{IsAlike, event_since, run_meant}
 use Rattle.mail_core.proofs.RanLemmas.{ran_join, ran_quiet, table_more}
-use Rattle.mail_core.proofs.MachineLemmas.{AreTaking, IsAccept, acked_front, among_accepted, entry_after, entry_stays, run_leads, run_more, taking_front}
+use Rattle.mail_core.proofs.MachineLemmas.{AreFit, AreTaking, IsAccept, acked_front, among_accepted, entry_after, entry_stays, run_leads, run_more, sound_front, taking_front}
 
 -- ---- a run begins
 
@@ -52,7 +53,7 @@ opened_part dirs table s t moves =
 
 -- a core over a table for which the spool stands still is under way, after no event
 pub under_way_begin : (j : JudgeSeen) (site : Site) (table : Table) (core : Core) (f g : Heard) (s t : Spooled) (c : ClockSeen) → Moves s t (StandsFor site.dirs table) (StandsFor site.dirs table) (StandsFor site.dirs table) → IsSparing site.dirs s t true
-    → g.told ≡ f.told → f.faults ≤ g.faults → s.faults ≤ t.faults → Stands site core (beginning table) → IsTallied core t.told
+    → g.told ≡ f.told → f.faults ≤ g.faults → s.faults ≤ t.faults → Stands site core (beginning table) → IsTallied core t
     → IsUnderWay j site table core 0 (seen f s c) (seen g t c)
 under_way_begin j site table core f g s t c moves sparing same floor_faults spool_faults stands tallied = record {
   turns = [];
@@ -87,7 +88,7 @@ ran_turn site table turns turn a b c well h k =
 
 -- a core that took one event more and goes on is under way
 pub under_way_more : (j i : JudgeSeen) (site : Site) (table : Table) (core new : Core) (n : ℕ) (event : Event) (reading : ℕ) (a b c : Seen) → (u : IsUnderWay j site table core n a b) → IsAlike j i → Turns i site (run_over site table u.turns).state event reading b c new (Ok Went)
-    → c.clock.readings ≡ b.clock.readings + 1 → IsTallied new c.spool.told → IsUnderWay j site table new (n + 1) a c
+    → c.clock.readings ≡ b.clock.readings + 1 → IsTallied new c.spool → IsUnderWay j site table new (n + 1) a c
 under_way_more j i site table core new n event reading a b c u alike t read tallied =
     let turn : Turn = record { event = event; reading = reading; choices = t.choices } in record {
       turns = u.turns ++ turn ∷ [];
@@ -304,6 +305,10 @@ spared_others : (dirs : List (List ℕ)) (well : Bool) (f g : FileMap) → Spare
 spared_others dirs true f g h = h.others
 spared_others dirs false f g h = h
 
+-- each front of what was done leaves a sound table sound
+pub runs_sound : (j : JudgeSeen) (site : Site) (m : State) (turns : List Turn) → IsRunMeant j site m turns → IsSound m.table → StaysSound m.table (run site m turns).effects
+runs_sound j site m turns meant sound done rest is = let leads = run_leads j site m turns in sound_front m.table done rest sound (subst (AreFit m.table) is (leads.fits meant))
+
 pub headline_of : (j : JudgeSeen) (site : Site) (table : Table) (turns : List Turn) (a b : Seen) (well : Bool) → IsRunMeant j site (beginning table) turns → OnlyNow a.spool → Ran site.dirs table a b (run_over site table turns).effects well → Headline j site table turns a b well
 headline_of j site table turns a b well meant only ran =
     let effects = (run_over site table turns).effects in record {
@@ -327,6 +332,7 @@ headline_of j site table turns a b well meant only ran =
           record { done = []; rest = effects; whole = refl; stands = subst (StandsFor site.dirs table) same stands })
           (λ part. part)
           (ran.spool.images files told stands a.spool.moment left (le_refl a.spool.moment) at);
+      sound = runs_sound j site (beginning table) turns meant;
       floor_faults = ran.floor_faults;
       spool_faults = ran.spool_faults;
     }

@@ -1,11 +1,12 @@
 -- What is said to a session for a piece are the replies of its dialogue.
 use Rattle.std.proofs.Common.{◌≡◌, ℕ, List, [], ◌∷◌, ◌++◌, Bool, true, false, not, Option, Some, None, refl, sym, ◌∙◌, ap, subst, append_assoc}
-use Rattle.std.specs.Prelude.{fold, if◌then◌else◌, nat_eq}
+use Rattle.std.specs.Prelude.{is_some, fold, if◌then◌else◌, nat_eq}
 use Rattle.std.proofs.lemmas.Bool.{eq-eqb}
 use Rattle.std.proofs.lemmas.Grind.{flat_map-append}
 use Rattle.std.proofs.lemmas.List.{append-nil}
 use Rattle.smtp_lines.specs.declared.line.Line.{Line}
 use Rattle.mail_base.specs.declared.message.Message.{Message}
+use Rattle.smtp_receive.specs.Mails.{Mail, message_of}
 use Rattle.smtp_receive.specs.Dialogue.{listed, Answer, Says, Refuses, Greets, Extends, Grants, Closes as Ends, Gives, Takes as Passes, answer_heard, exchanges, reply_by}
 use Rattle.smtp_receive.specs.Judging.{Said, Unasked}
 use Rattle.smtp_receive.specs.Replies.{text_of, refusal_text, grant_text, hello_text, extended_text, closing_text, stored_text, shown_host, out_of_memory_text}
@@ -15,7 +16,7 @@ use Rattle.spool_store.specs.Entries.{Table}
 use Rattle.mail_core.specs.Sites.{Site}
 use Rattle.mail_core.specs.Effects.{Effect, Commits, Sends, HangsUp, speech}
 use Rattle.mail_core.specs.Guests.{Guest, is_passed, next_line, with_line}
-use Rattle.mail_core.specs.Machine.{Choice, Normal, OutOfMemory, Disconnects, SpoolFails, JudgeFails, SpoolFault, IdsSpent, FilesFault, Finish, By, Cut, Way, GoesOn, Leaves, Over, Did, answer_by, limit_of, does, says, closes, is_over, commits, replies, fails, heard_line, heard_where, id_by, is_answered, by_choice, answered, settled_by, fresh_start, all_answered}
+use Rattle.mail_core.specs.Machine.{Choice, Normal, OutOfMemory, Disconnects, SpoolFails, JudgeFails, SpoolFault, IdsSpent, FilesFault, Finish, By, Cut, Way, GoesOn, Leaves, Over, Did, answer_by, limit_of, question_here, does, says, closes, is_over, commits, replies, fails, heard_line, heard_where, id_by, is_answered, by_choice, answered, settled_by, fresh_start, all_answered}
 use Rattle.mail_core.proofs.WayLemmas.{goes_keeps}
 use Rattle.mail_core.specs.Messages.{Made, accept_of, is_spent}
 use Rattle.mail_core.specs.Told.{said_to, replies_of}
@@ -125,12 +126,12 @@ module _ (site : Site) (moment : ℕ) where
         apart = λ s h. a.apart s (subst (λ n. nat_eq n s ≡ false) (sym t.number) h) ∙ t.apart s h;
       }
 
-  gives_told : (spent : Bool) (g : Guest) (d : Did) (line : Line) (said : Said) (message : Message) (made : Made) (whole : Bool) → answer_by d said line ≡ Gives message → IsTold g d
-      → IsTold g (heard_where (not spent) (if spent then is_over d (By IdsSpent) else says (commits site moment d message made) (stored_text d.table.next) whole) line said false (Some d.table.next))
-  gives_told true g d line said message made whole is t = told_none g d (is_over d (By IdsSpent)) (adds_none d (Over (By IdsSpent))) t
-  gives_told false g d line said message made whole is t =
-      told_line g d (says (commits site moment d message made) (stored_text d.table.next) whole) line said false (Some d.table.next)
-      (subst (λ a. Adds d (says (commits site moment d message made) (stored_text d.table.next) whole) (listed (reply_by (shown_host site.host) (limit_of d) (Some a) (Some d.table.next)))) (sym is) (adds_stored d message made (stored_text d.table.next) whole)) t
+  gives_told : (spent : Bool) (g : Guest) (d : Did) (line : Line) (said : Said) (mail : Mail) (made : Made) (whole : Bool) → answer_by d said line ≡ Gives mail → IsTold g d
+      → IsTold g (heard_where (not spent) (if spent then is_over d (By IdsSpent) else says (commits site moment d (message_of mail) made) (stored_text d.table.next) whole) line said false (Some d.table.next))
+  gives_told true g d line said mail made whole is t = told_none g d (is_over d (By IdsSpent)) (adds_none d (Over (By IdsSpent))) t
+  gives_told false g d line said mail made whole is t =
+      told_line g d (says (commits site moment d (message_of mail) made) (stored_text d.table.next) whole) line said false (Some d.table.next)
+      (subst (λ a. Adds d (says (commits site moment d (message_of mail) made) (stored_text d.table.next) whole) (listed (reply_by (shown_host site.host) (limit_of d) (Some a) (Some d.table.next)))) (sym is) (adds_stored d (message_of mail) made (stored_text d.table.next) whole)) t
 
   -- a line was answered with these words
   words_told : (g : Guest) (d : Did) (line : Line) (said : Said) (answer : Answer) (text : List ℕ) (whole : Bool) → reply_by (shown_host site.host) (limit_of d) (Some answer) None ≡ Some text → answer_by d said line ≡ answer → IsTold g d
@@ -141,7 +142,7 @@ module _ (site : Site) (moment : ℕ) where
 
   normal_told : (g : Guest) (d : Did) (line : Line) (said : Said) (answer : Answer) (made : Made) (whole : Bool) → answer_by d said line ≡ answer → IsTold g d
       → IsTold g (heard_where (is_answered d.table made answer) (replies site moment d answer made whole) line said false (id_by d.table answer))
-  normal_told g d line said (Gives message) made whole is t = gives_told (is_spent d.table made) g d line said message made whole is t
+  normal_told g d line said (Gives mail) made whole is t = gives_told (is_spent d.table made) g d line said mail made whole is t
   normal_told g d line said (Says reply) made whole is t = words_told g d line said (Says reply) (text_of reply) whole refl is t
   normal_told g d line said (Refuses error) made whole is t = words_told g d line said (Refuses error) (refusal_text error) whole refl is t
   normal_told g d line said Greets made whole is t = words_told g d line said Greets (hello_text (shown_host site.host)) whole refl is t
@@ -161,7 +162,7 @@ module _ (site : Site) (moment : ℕ) where
   over_told g d finish t = told_none g d (is_over d finish) (adds_none d (Over finish)) t
 
   fails_told : (g : Guest) (d : Did) (answer : Answer) (made : Made) → IsTold g d → IsTold g (fails site moment d answer made)
-  fails_told g d (Gives message) made t = failing_told (is_spent d.table made) g d message made t
+  fails_told g d (Gives mail) made t = failing_told (is_spent d.table made) g d (message_of mail) made t
   fails_told g d (Says reply) made t = over_told g d Cut t
   fails_told g d (Refuses error) made t = over_told g d Cut t
   fails_told g d Greets made t = over_told g d Cut t
@@ -183,11 +184,15 @@ module _ (site : Site) (moment : ℕ) where
   drop_told true g d t = told_none g d (does d (HangsUp d.guest.number ∷ []) Leaves) (hang_none d) t
   drop_told false g d t = over_told g d Cut t
 
+  judged_told : (asked : Bool) (g : Guest) (d : Did) → IsTold g d → IsTold g (if asked then is_over d (By FilesFault) else is_over d Cut)
+  judged_told true g d t = over_told g d (By FilesFault) t
+  judged_told false g d t = over_told g d Cut t
+
   choice_told : (g : Guest) (d : Did) (choice : Choice) (line : Option Line) → IsTold g d → IsTold g (by_choice site moment d choice line)
   choice_told g d (Normal said made whole) (Some line) t = normal_told g d line said (answer_by d said line) made whole refl t
   choice_told g d (OutOfMemory whole) (Some line) t = short_told (is_passed d.guest line) g d line whole refl t
   choice_told g d (SpoolFails made) (Some line) t = fails_told g d (answer_by d Unasked line) made t
-  choice_told g d JudgeFails (Some line) t = over_told g d (By FilesFault) t
+  choice_told g d JudgeFails (Some line) t = judged_told (is_some (question_here d line)) g d t
   choice_told g d Disconnects (Some line) t = drop_told d.may_disconnect g d t
   choice_told g d Disconnects None t = drop_told d.may_disconnect g d t
   choice_told g d (Normal said made whole) None t = over_told g d Cut t

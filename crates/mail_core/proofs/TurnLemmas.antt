@@ -1,6 +1,6 @@
 -- The lines of a session that were answered stand first in what it sent, and what came of it is what was taken.
 use Rattle.std.proofs.Common.{◌≡◌, ℕ, List, [], ◌∷◌, ◌++◌, Bool, true, false, Option, Some, None, refl, sym, ◌∙◌, ap, subst, ⊎_elim}
-use Rattle.std.specs.Prelude.{fold, length, slice_get, if◌then◌else◌}
+use Rattle.std.specs.Prelude.{is_some, fold, length, slice_get, if◌then◌else◌}
 use Rattle.std.proofs.lemmas.Bool.{cases_Bool}
 use Rattle.std.proofs.lemmas.Grind.{flat_map-append}
 use Rattle.std.proofs.lemmas.List.{append-nil}
@@ -9,6 +9,7 @@ use Rattle.smtp_lines.specs.declared.line.Mode.{Mode}
 use Rattle.smtp_lines.specs.declared.line.Mode.TheVariants.{Commands}
 use Rattle.smtp_lines.specs.Stream.{Reads, asks, granted_mode, line_of, mode_after, reading_of}
 use Rattle.mail_base.specs.declared.message.Message.{Message}
+use Rattle.smtp_receive.specs.Mails.{message_of}
 use Rattle.smtp_receive.specs.Dialogue.{Answer, Says, Refuses, Greets, Extends, Grants, Closes as Ends, Gives, Takes as Passes, is_grant}
 use Rattle.smtp_receive.specs.Judging.{Said, Unasked}
 use Rattle.smtp_receive.specs.Replies.{text_of, refusal_text, grant_text, hello_text, extended_text, closing_text, stored_text, shown_host, out_of_memory_text}
@@ -16,7 +17,7 @@ use Rattle.spool_store.specs.Entries.{Table}
 use Rattle.mail_core.specs.Sites.{Site}
 use Rattle.mail_core.specs.Effects.{Effect, Commits, Sends, HangsUp, speech}
 use Rattle.mail_core.specs.Guests.{Guest, grants_of, is_passed, next_line, with_line, lines_heard}
-use Rattle.mail_core.specs.Machine.{Choice, Normal, OutOfMemory, Disconnects, SpoolFails, JudgeFails, SpoolFault, IdsSpent, FilesFault, Finish, By, Cut, Way, GoesOn, Leaves, Over, Did, answer_by, limit_of, does, says, closes, is_over, commits, replies, fails, heard_line, heard_where, id_by, is_answered, by_choice, goes_on, answered, settled_by, fresh_start, all_answered}
+use Rattle.mail_core.specs.Machine.{Choice, Normal, OutOfMemory, Disconnects, SpoolFails, JudgeFails, SpoolFault, IdsSpent, FilesFault, Finish, By, Cut, Way, GoesOn, Leaves, Over, Did, answer_by, limit_of, question_here, does, says, closes, is_over, commits, replies, fails, heard_line, heard_where, id_by, is_answered, by_choice, goes_on, answered, settled_by, fresh_start, all_answered}
 use Rattle.mail_core.specs.Messages.{Made, accept_of, is_spent}
 use Rattle.mail_core.specs.Told.{IsInTurn, brought_by, brought_of}
 use Rattle.mail_core.proofs.WayLemmas.{goes_keeps}
@@ -152,7 +153,7 @@ module _ (site : Site) (moment : ℕ) where
   idles_replies d Extends made whole = idles_says d (extended_text (shown_host site.host) (limit_of d)) whole
   idles_replies d Grants made whole = idles_says d grant_text whole
   idles_replies d Ends made whole = idles_closes d (closing_text (shown_host site.host)) whole
-  idles_replies d (Gives message) made whole = idles_accepts (is_spent d.table made) d message made whole
+  idles_replies d (Gives mail) made whole = idles_accepts (is_spent d.table made) d (message_of mail) made whole
   idles_replies d Passes made whole = idles_still d
 
   idles_failing : (spent : Bool) (d : Did) (message : Message) (made : Made) → Idles d (if spent then is_over d (By IdsSpent) else is_over (commits site moment d message made) (By SpoolFault))
@@ -162,7 +163,7 @@ module _ (site : Site) (moment : ℕ) where
       idles_join d c (is_over c (By SpoolFault)) (idles_commits d message made) (idles_over c (By SpoolFault))
 
   idles_fails : (d : Did) (answer : Answer) (made : Made) → Idles d (fails site moment d answer made)
-  idles_fails d (Gives message) made = idles_failing (is_spent d.table made) d message made
+  idles_fails d (Gives mail) made = idles_failing (is_spent d.table made) d (message_of mail) made
   idles_fails d (Says reply) made = idles_over d Cut
   idles_fails d (Refuses error) made = idles_over d Cut
   idles_fails d Greets made = idles_over d Cut
@@ -170,6 +171,10 @@ module _ (site : Site) (moment : ℕ) where
   idles_fails d Grants made = idles_over d Cut
   idles_fails d Ends made = idles_over d Cut
   idles_fails d Passes made = idles_over d Cut
+
+  idles_judged : (d : Did) (asked : Bool) → Idles d (if asked then is_over d (By FilesFault) else is_over d Cut)
+  idles_judged d true = idles_over d (By FilesFault)
+  idles_judged d false = idles_over d Cut
 
   idles_drops : (d : Did) (may : Bool) → Idles d (if may then does d (HangsUp d.guest.number ∷ []) Leaves else is_over d Cut)
   idles_drops d true = record { same = refl; quiet = λ s. brings_none s d.effects (HangsUp d.guest.number ∷ []) refl }
@@ -192,7 +197,7 @@ module _ (site : Site) (moment : ℕ) where
       moves_where (is_answered d.table made answer) d (replies site moment d answer made whole) line said false (id_by d.table answer) (idles_replies d answer made whole)
   moves_choice d (OutOfMemory whole) (Some line) = moves_short (is_passed d.guest line) d line whole
   moves_choice d (SpoolFails made) (Some line) = let answer = answer_by d Unasked line in moves_idle d (fails site moment d answer made) (Some line) (idles_fails d answer made)
-  moves_choice d JudgeFails (Some line) = moves_idle d (is_over d (By FilesFault)) (Some line) (idles_over d (By FilesFault))
+  moves_choice d JudgeFails (Some line) = moves_idle d _ (Some line) (idles_judged d (is_some (question_here d line)))
   moves_choice d Disconnects (Some line) = moves_idle d _ (Some line) (idles_drops d d.may_disconnect)
   moves_choice d Disconnects None = moves_idle d _ None (idles_drops d d.may_disconnect)
   moves_choice d (Normal said made whole) None = moves_idle d (is_over d Cut) None (idles_over d Cut)

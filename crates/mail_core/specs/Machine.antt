@@ -1,6 +1,6 @@
 -- The machine: what sessions, table and clock come to at each event. What it can't know are the
--- choices at an event: whether a text could be sent, where memory was wanting, and that the spool
--- failed (own; the replies are those of RFC 5321).
+-- choices at an event: whether a text could be sent, where memory was wanting, what the judge said,
+-- and that the spool failed, or files that the judge reads (own; the replies are those of RFC 5321).
 use Rattle.std.specs.Prelude.{ℕ, nat_le, List, [], ◌∷◌, ◌++◌, length, fold, max, min, Option, Some, None, is_some, Bool, true, false, not, ◌&&◌, if◌then◌else◌}
 use Rattle.link_edge.specs.declared.event.Event.{Event}
 use Rattle.link_edge.specs.declared.event.Event.TheVariants.{Opens, Brings, Closes, Rests, Stops}
@@ -10,6 +10,7 @@ use Rattle.mail_base.specs.Limits.{message_limit}
 use Rattle.mail_base.specs.declared.message.Message.{Message}
 use Rattle.smtp_receive.specs.Dialogue.{Answer, Says, Refuses, Greets, Extends, Grants, Closes as Ends, Gives, Takes as Passes}
 use Rattle.smtp_receive.specs.Judging.{Question, Said, Unasked}
+use Rattle.smtp_receive.specs.Mails.{message_of}
 use Rattle.smtp_receive.specs.Replies.{text_of, refusal_text, grant_text, hello_text, extended_text, closing_text, greeting_text, stored_text, shown_host, out_of_memory_text, too_many_sessions_text}
 use Rattle.smtp_receive.specs.Sessions.{answer_of, question_of}
 use Rattle.spool_store.specs.Entries.{Table}
@@ -129,14 +130,15 @@ replies site moment d Extends made whole =
     says d (extended_text (shown_host site.host) (limit_of d)) whole
 replies site moment d Grants made whole = says d grant_text whole
 replies site moment d Ends made whole = closes d (closing_text (shown_host site.host)) whole
-replies site moment d (Gives message) made whole = accepts site moment d message made whole
+replies site moment d (Gives mail) made whole =
+    accepts site moment d (message_of mail) made whole
 replies site moment d Passes made whole = d
 
 -- the spool fails at a message, where no id is wanting for it; nothing else is asked of it
 abbrev pub fails : Site → ℕ → Did → Answer → Made → Did
-fails site moment d (Gives message) made =
+fails site moment d (Gives mail) made =
     if is_spent d.table made then is_over d (By IdsSpent)
-    else is_over (commits site moment d message made) (By SpoolFault)
+    else is_over (commits site moment d (message_of mail) made) (By SpoolFault)
 fails site moment d answer made = is_over d Cut
 
 -- the line was answered; bytes that came after one that asks may be what want of memory keeps from
@@ -174,7 +176,8 @@ abbrev pub heard_where : Bool → Did → Line → Said → Bool → Option ℕ 
 heard_where true d line said short id = heard_line d line said short id
 heard_where false d line said short id = d
 
--- a line is answered by a choice; 452 4.3.1 comes to no line of data that is dropped. Want of
+-- a line is answered by a choice; 452 4.3.1 comes to no line of data that is dropped, and files
+-- fail only at one that asks the judge. Want of
 -- memory for a piece, or for the bytes after a line that asks, drops them whole and ends the
 -- session
 abbrev pub by_choice : Site → ℕ → Did → Choice → Option Line → Did
@@ -187,7 +190,8 @@ by_choice site moment d (OutOfMemory whole) (Some line) =
     else heard_line (says d out_of_memory_text whole) line Unasked true None
 by_choice site moment d (SpoolFails made) (Some line) =
     fails site moment d (answer_by d Unasked line) made
-by_choice site moment d JudgeFails (Some line) = is_over d (By FilesFault)
+by_choice site moment d JudgeFails (Some line) =
+    if is_some (question_here d line) then is_over d (By FilesFault) else is_over d Cut
 by_choice site moment d Disconnects line =
     if d.may_disconnect then does d (HangsUp d.guest.number ∷ []) Leaves else is_over d Cut
 by_choice site moment d (Normal said made whole) None = is_over d Cut

@@ -7,6 +7,7 @@ use Rattle.link_edge.specs.declared.event.Event.TheVariants.{Opens, Brings, Clos
 use Rattle.smtp_lines.specs.declared.line.Line.{Line}
 use Rattle.smtp_receive.specs.Dialogue.{Answer, Says as Replies, Refuses, Greets, Extends, Grants, Closes as Ends, Gives, Takes as Passes}
 use Rattle.smtp_receive.specs.Judging.{Said, Unasked}
+use Rattle.smtp_receive.specs.Mails.{message_of}
 use Rattle.spool_store.specs.Entries.{Table}
 use Rattle.mail_core.specs.Guests.{Guest, guest_of, next_line, with_bytes}
 use Rattle.mail_core.specs.Judges.{JudgeSeen, Says}
@@ -21,8 +22,9 @@ IsSaidAt j d line said = Says j (question_here d line) said
 -- a message that an answer gives has a row, and what is made of it is what the configuration says,
 -- where an id is left for its first part
 abbrev pub IsMadeAt : Site → ℕ → Table → Answer → Made → Type 0
-IsMadeAt site moment table (Gives message) made =
-    table.next ≤ last_id → IsTakenIn site.config site.maps moment message table.next made
+IsMadeAt site moment table (Gives mail) made =
+    table.next ≤ last_id
+    → IsTakenIn site.config site.maps moment (message_of mail) table.next made
 IsMadeAt site moment table (Replies reply) made = Unit {0}
 IsMadeAt site moment table (Refuses error) made = Unit {0}
 IsMadeAt site moment table Greets made = Unit {0}

@@ -1,12 +1,10 @@
 -- The command that a received message becomes (Sendmail Installation and Operation Guide, "The
--- queue", "Queue Groups", and H: Define Header for the header Received; until aliases are read each
--- recipient is one row, primary).
-use Rattle.std.specs.Prelude.{◌≡◌, ℕ, ◌+◌, ◌≤◌, List, [], ◌∷◌, length, max, Bool, Option, None, Some, codes, nat_lt}
-use Rattle.std.specs.List.{AllZip}
+-- queue", "Queue Groups", and H: Define Header for the header Received).
+use Rattle.std.specs.Prelude.{◌≡◌, ℕ, ◌+◌, ◌≤◌, List, [], ◌∷◌, length, max, Bool, IfSome, Option, None, Some, codes, nat_lt}
 use Rattle.mail_base.specs.Catalogs.{with_value}
 use Rattle.mail_base.specs.Names.{id_text}
+use Rattle.mail_base.specs.Texts.{IsHeader}
 use Rattle.mail_base.specs.declared.config.Config.{Config}
-use Rattle.mail_base.specs.declared.draw.Draw.{Draw}
 use Rattle.mail_base.specs.declared.id.TheConstants.Id.{MOST}
 use Rattle.mail_base.specs.declared.message.Cut.{Cut}
 use Rattle.mail_base.specs.declared.message.Message.{Message}
@@ -16,10 +14,9 @@ use Rattle.mail_header.specs.Fields.{IsDate, date_told}
 use Rattle.mail_header.specs.Made.{received_of}
 use Rattle.map_tables.specs.Answers.{Loaded}
 use Rattle.ruleset_run.specs.Sites.{Macros}
-use Rattle.smtp_receive.specs.SessionMacros.{session_macros}
+use Rattle.cf_macros.specs.SessionMacros.{session_macros}
 use Rattle.spool_store.specs.Entries.{Table}
-use Rattle.queue_plan.specs.Groups.{Groups, mailer_of}
-use Rattle.queue_plan.specs.Parts.{parts_of}
+use Rattle.queue_plan.specs.Cuts.{AreParts}
 use Rattle.queue_plan.specs.Rows.{distinct}
 use Rattle.queue_table.specs.Commands.{Command}
 use Rattle.queue_table.specs.Commands.Command.{Accept}
@@ -41,31 +38,22 @@ pub record AreDates (message : Message) (moment : ℕ) (dates : Dates) : Type 0 
   pub unix : IsDateText Unix moment dates.unix
   pub short : IsDateText Short moment dates.short
 
--- the macros of a message on receipt: those of its session, its dates and its id
-abbrev pub receipt_macros : Config → Message → Dates → ℕ → Macros
-receipt_macros config message dates id =
+-- macros with dates and an id
+abbrev pub dated_macros : Macros → Dates → ℕ → Macros
+dated_macros macros dates id =
     with_value (codes "i") (id_text id)
     (with_value (codes "t") dates.short
     (with_value (codes "d") dates.unix
     (with_value (codes "b") dates.mail
-    (with_value (codes "a") dates.told
-    (session_macros config message.kept message.sender)))))
+    (with_value (codes "a") dates.told macros))))
 
--- ---- the parts
+-- the macros of a message that rulesets see on receipt: those of its session
+abbrev pub macros_seen : Config → Message → Macros
+macros_seen config message = session_macros config message.kept message.sender
 
--- each of these rows goes to the group at its place
-abbrev pub AreGrouped : Config → Loaded → Macros → List Draw → List (List ℕ) → Type 0
-AreGrouped config maps macros rows groups =
-    AllZip (λ row group. Groups config maps macros row.address (mailer_of row.resolved) group) rows
-    groups
-
--- the parts of rows: of equal rows the first stays, and those that stay are parted by sender and
--- queue group
-pub record AreParts (config : Config) (maps : Loaded) (macros : Macros) (rows : List Draw)
-    (cuts : List Cut) : Type 0 where
-  pub groups : List (List ℕ)
-  pub grouped : AreGrouped config maps macros (distinct rows) groups
-  pub are : cuts ≡ parts_of config (distinct rows) groups
+-- those of its header Received, with its dates and its id besides
+abbrev pub receipt_macros : Config → Message → Dates → ℕ → Macros
+receipt_macros config message dates id = dated_macros (macros_seen config message) dates id
 
 -- ---- a message on its way into the queue
 
@@ -76,14 +64,14 @@ pub record Made : Type 0 where
   pub cuts : List Cut
 
 -- a message that is taken in under an id has a row, and this is made of it: the header that the
--- configuration puts first, and the parts of its rows, by the macros on receipt
+-- configuration puts first, and the parts of its rows, of which the first of equal ones stays
 pub record IsTakenIn (config : Config) (maps : Loaded) (moment : ℕ) (message : Message) (id : ℕ)
     (made : Made) : Type 0 where
   pub some : 1 ≤ length message.rows
   pub dates : Dates
   pub are : AreDates message moment dates
   pub first : made.first ≡ received_of config.headers (receipt_macros config message dates id)
-  pub parts : AreParts config maps (receipt_macros config message dates id) message.rows made.cuts
+  pub parts : AreParts config maps (macros_seen config message) (distinct message.rows) made.cuts
 
 -- headers with one more in front, if there is one
 abbrev pub put_first : Option (List ℕ) → List (List ℕ) → List (List ℕ)
@@ -94,6 +82,14 @@ put_first (Some first) headers = first ∷ headers
 abbrev pub headed : Option (List ℕ) → Message → Message
 headed first message =
     record message { rows = []; headers = put_first first message.headers }
+
+-- this message and these parts are made of one that is taken in under an id
+pub record IsMessageMade (config : Config) (maps : Loaded) (moment : ℕ) (message : Message) (id : ℕ)
+    (now : Message) (cuts : List Cut) : Type 0 where
+  pub first : Option (List ℕ)
+  pub header : IfSome first IsHeader
+  pub taken : IsTakenIn config maps moment message id (record { first = first; cuts = cuts })
+  pub is : now ≡ headed first message
 
 -- ---- the command
 

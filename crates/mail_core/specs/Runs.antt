@@ -15,6 +15,7 @@ use Rattle.spool_store.specs.Queue.{IsLive}
 use Rattle.spool_store.specs.Settled.{StandsFor, spot_of}
 use Rattle.spool_store.specs.Stores.{KeepsOthers}
 use Rattle.queue_table.specs.Commands.{Command, after}
+use Rattle.queue_table.specs.Soundness.{IsSound}
 use Rattle.mail_core.specs.Effects.{Effect, Takes, Ticks, Commits, Sends, HangsUp, heard_of, readings_of}
 use Rattle.mail_core.specs.Sites.{Site}
 use Rattle.mail_core.specs.declared.serving.Act.{Act}
@@ -28,6 +29,11 @@ use Rattle.mail_core.specs.Seen.{Seen, IsPart, Leaves, table_after}
 -- a run of these turns over a table
 abbrev pub run_over : Site → Table → List Turn → Step
 run_over site table turns = run site (beginning table) turns
+
+-- the table after each front of some effects is sound
+abbrev pub StaysSound : Table → List Effect → Type 0
+StaysSound table effects =
+    (done rest : List Effect) → effects ≡ done ++ rest → IsSound (table_after table done)
 
 -- the entry of that id is in the table, and its body is wanted
 pub record HasEntry (table : Table) (id : ℕ) : Type 0 where
@@ -132,6 +138,9 @@ pub record Headline (j : JudgeSeen) (site : Site) (table : Table) (turns : List 
   pub images : (files : FileMap) → a.spool.told ≡ Some files → StandsFor site.dirs table files
       → (left : FileMap) → b.spool.left_since a.spool.moment left
       → IsPart site.dirs table (run_over site table turns).effects left
+  -- where the table is sound, so is the one after each front of what was done: that of each of
+  -- these, and that of the exit
+  pub sound : IsSound table → StaysSound table (run_over site table turns).effects
   -- whatever the files were, at the exit and in each of these what no call touches is as it was:
   -- files that are none of the queue's, and strange ones with the bodies of their ids
   pub spared : (files : FileMap) → a.spool.told ≡ Some files

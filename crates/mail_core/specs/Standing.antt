@@ -6,7 +6,7 @@ use Rattle.smtp_lines.specs.Reader.{Reader, Stream, awaited, Stands as Reads}
 use Rattle.smtp_receive.specs.Forms.{AreFormed}
 use Rattle.smtp_receive.specs.Sessions.{Stands as Speaks}
 use Rattle.smtp_receive.specs.Replies.{out_of_memory_text, too_many_sessions_text}
-use Rattle.spool_disk.specs.Disk.{FileMap}
+use Rattle.spool_disk.specs.Spooled.{Spooled}
 use Rattle.spool_store.specs.Entries.{Table}
 use Rattle.queue_table.specs.Calls.{AreDirs, HoldsTable, Tallies, store}
 use Rattle.queue_table.specs.declared.table.Table.{Table as Kept}
@@ -75,9 +75,13 @@ pub record Stands (site : Site) (core : Core) (m : State) : Type 0 where
   pub callers : Hosts site core.caller m.guests
   pub on : m.over ≡ None
 
+-- the message table of a core
+abbrev pub table_of : Core → Kept
+table_of core = core.intake.table
+
 -- a core whose table has what the files say that are told
-abbrev pub IsTallied : Core → Option FileMap → Type 0
-IsTallied core told = Tallies core.intake.table told
+abbrev pub IsTallied : Core → Spooled → Type 0
+IsTallied core spooled = Tallies (table_of core) spooled
 
 -- a core that stands for some state, under a configuration and maps
 pub record IsStanding (core : Core) (config : Config) (maps : Loaded) : Type 0 where

@@ -195,7 +195,7 @@ impl Intake {
             → All IsPart cuts
             → AreValid self.old.table.terms (headed first message) self.old.moment cuts }
         requires rows { AreRows message.rows }
-        requires tallied { Tallies self.old.table (D.seen spool.old).told }
+        requires tallied { Tallies self.old.table (D.seen spool.old) }
         ensures accepts { (site : Site) (d : machine.Did) (clock : ClockSeen)
             → IsUnder site config.now maps.now → d.way ≡ machine.GoesOn → Serves site self.old d.table
             → caller.old.number ≡ d.guest.number → AnswersMessage site self.old.moment d message
@@ -208,7 +208,7 @@ impl Intake {
         ensures calm { is_well result ≡ true
             → (D.seen spool.new).faults ≡ (D.seen spool.old).faults }
         ensures tallied { is_well result ≡ true
-            → Tallies self.new.table (D.seen spool.new).told }
+            → Tallies self.new.table (D.seen spool.new) }
         ensures moment { self.new.moment ≡ self.old.moment }
         ensures number { caller.new.number ≡ caller.old.number }
         ensures lines { caller.new.lines ≡ caller.old.lines }
@@ -240,7 +240,7 @@ impl Intake {
     ) -> Result<Next, CoreStop>
         requires sound { IsSoundAt (F.seen floor.old) caller.old.number }
         requires ready { IsReady self.old caller.old config.now maps.now }
-        requires tallied { Tallies self.old.table (D.seen spool.old).told }
+        requires tallied { Tallies self.old.table (D.seen spool.old) }
         ensures answers { (site : Site) (d : machine.Did) (clock : ClockSeen)
             → IsUnder site config.now maps.now → d.way ≡ machine.GoesOn → Serves site self.old d.table → Talks site caller.old d.guest
             → AnswersLine (judge_seen (J.seen judge.old) (J.answers judge.old)) site self.old.moment d line.now
@@ -256,7 +256,7 @@ impl Intake {
         ensures calm { is_well result ≡ true
             → (D.seen spool.new).faults ≡ (D.seen spool.old).faults }
         ensures tallied { is_well result ≡ true
-            → Tallies self.new.table (D.seen spool.new).told }
+            → Tallies self.new.table (D.seen spool.new) }
         ensures moment { self.new.moment ≡ self.old.moment }
         ensures number { caller.new.number ≡ caller.old.number }
         ensures lines { caller.new.lines ≡ caller.old.lines }
@@ -289,7 +289,7 @@ impl Intake {
     ) -> Result<Next, CoreStop>
         requires sound { IsSoundAt (F.seen floor.old) caller.old.number }
         requires ready { IsReady self.old caller.old config.now maps.now }
-        requires tallied { Tallies self.old.table (D.seen spool.old).told }
+        requires tallied { Tallies self.old.table (D.seen spool.old) }
         ensures answers { (site : Site) (d : machine.Did) (clock : ClockSeen)
             → IsUnder site config.now maps.now → d.way ≡ machine.GoesOn → Serves site self.old d.table → Talks site caller.old d.guest
             → OnlyLastAsks lines.now
@@ -307,7 +307,7 @@ impl Intake {
         ensures calm { is_well result ≡ true
             → (D.seen spool.new).faults ≡ (D.seen spool.old).faults }
         ensures tallied { is_well result ≡ true
-            → Tallies self.new.table (D.seen spool.new).told }
+            → Tallies self.new.table (D.seen spool.new) }
         ensures moment { self.new.moment ≡ self.old.moment }
         ensures number { caller.new.number ≡ caller.old.number }
         ensures lines { caller.new.lines ≡ caller.old.lines }
@@ -337,7 +337,7 @@ impl Intake {
     ) -> Result<Next, CoreStop>
         requires sound { IsSoundAt (F.seen floor.old) caller.old.number }
         requires ready { IsReady self.old caller.old config.now maps.now }
-        requires tallied { Tallies self.old.table (D.seen spool.old).told }
+        requires tallied { Tallies self.old.table (D.seen spool.old) }
         ensures feeds { (site : Site) (table : Entries) (g : Guest) (clock : ClockSeen)
             → IsUnder site config.now maps.now → Serves site self.old table → Keeps site caller.old g
             → Feeds (judge_seen (J.seen judge.old) (J.answers judge.old)) site self.old.moment table g piece.now
@@ -352,7 +352,7 @@ impl Intake {
         ensures calm { is_well result ≡ true
             → (D.seen spool.new).faults ≡ (D.seen spool.old).faults }
         ensures tallied { is_well result ≡ true
-            → Tallies self.new.table (D.seen spool.new).told }
+            → Tallies self.new.table (D.seen spool.new) }
         ensures moment { self.new.moment ≡ self.old.moment }
     {
         let Ok(given) = caller.lines.feed(piece) else {

@@ -1,11 +1,12 @@
 ghost use Rattle.std.specs.Prelude.{◌≡◌, ◌++◌, ◌∷◌, [], List, ℕ, Some, None};
 ghost use Rattle.mail_core.specs.Sites.{Site};
+ghost use Rattle.queue_table.specs.Soundness.{IsSound};
 ghost use Rattle.spool_store.specs.Entries.{Table};
 ghost use Rattle.mail_core.specs.Guests.{Guest, guest_of};
 ghost use Rattle.mail_core.specs.Judges.{untold};
 ghost use Rattle.mail_core.specs.Meant.{IsRunMeant};
 ghost use Rattle.mail_core.specs.Machine.{Choice, Opening, State, Turn, all_answered, run};
-ghost use Rattle.mail_core.specs.Runs.{AreAcked};
+ghost use Rattle.mail_core.specs.Runs.{AreAcked, StaysSound};
 ghost use Rattle.mail_core.specs.Seen.{table_after};
 ghost use Rattle.mail_core.specs.Told.{Converses, IsInTurn, NeverOpens, Welcomes, brought_of, opening_of, replies_of, said_to};
 
@@ -22,6 +23,15 @@ pub fn acknowledged_messages_are_in_the_table()
 pub fn the_table_is_that_of_the_commands()
     ensures { (site : Site) (m : State) (turns : List Turn)
         → (run site m turns).state.table ≡ table_after m.table (run site m turns).effects }
+{}
+
+/// From a sound table, each front of what is done in a run gives a sound table, where the judge
+/// says what one may and what is made of messages is what the configuration says. So the files that
+/// a stop leaves at any moment of it stand for a sound table.
+pub fn tables_stay_sound()
+    ensures { (site : Site) (m : State) (turns : List Turn)
+        → IsRunMeant untold site m turns → IsSound m.table
+        → StaysSound m.table (run site m turns).effects }
 {}
 
 /// What is said to a session for a piece are the replies of its dialogue to the lines that the

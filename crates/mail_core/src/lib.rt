@@ -13,7 +13,8 @@ mod speech;
 pub use law::{
     acknowledged_messages_are_in_the_table, open_sessions_are_sent_their_replies,
     opened_sessions_are_sent_their_replies, sessions_are_sent_their_replies,
-    sessions_that_are_not_open_are_sent_nothing, the_table_is_that_of_the_commands,
-    what_is_said_are_the_replies,
+    sessions_that_are_not_open_are_sent_nothing, tables_stay_sound,
+    the_table_is_that_of_the_commands, what_is_said_are_the_replies,
 };
+pub use message::made;
 pub use serving::{Act, Core, CoreStop};

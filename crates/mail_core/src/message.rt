@@ -1,24 +1,23 @@
 ghost use Rattle.std.specs.Int.{w64};
-ghost use Rattle.std.specs.Prelude.{◌≡◌, ◌∷◌, ℕ, All, FitsSigned, IfOk, IfSome};
+ghost use Rattle.std.specs.Prelude.{◌≡◌, ◌∷◌, ℕ, FitsSigned, IfOk};
 ghost use Rattle.mail_base.specs.Drawing.{AreRows};
-ghost use Rattle.mail_base.specs.Names.{id_text as shown_id};
-ghost use Rattle.mail_base.specs.Texts.{IsLine};
-ghost use Rattle.queue_plan.specs.Groups.{Groups, mailer_of};
-ghost use Rattle.mail_core.specs.Messages.{AreGrouped, AreParts, put_first};
-ghost use Rattle.mail_core.specs.inner.Made.{AreForms, IsMacros, IsMessageMade};
+ghost use Rattle.queue_plan.specs.Cuts.{AreForms};
+ghost use Rattle.mail_core.specs.Messages.{IsMessageMade, put_first};
+ghost use Rattle.mail_core.specs.inner.Made.{IsMacros};
 
-use cf_macros::{Form, date};
-use mail_base::{Config, Cut, Draw, Id, Kind, Macros, Message, NoMemory, Seq, Text};
+use cf_macros::{Form, date, session_macros};
+use mail_base::{Config, Cut, Id, Macros, Message, NoMemory, Seq, Text, TryCopy};
 use mail_header::{date_of, received};
 use map_tables::Maps;
-use queue_plan::{distinct, group_of, mailer_of, parts};
-use smtp_receive::session_macros;
+use queue_plan::{cuts, distinct};
 use std::alloc::Global;
 use std::mem;
 
 /// What is made of a message that is taken in at a moment under an id: the message with the header
-/// `Received` in front, if the configuration has one, and its parts, which have its rows.
-pub(crate) fn made(
+/// `Received` in front, if the configuration has one, and its parts, which have its rows. The
+/// header is expanded with the id and the dates of the message; the set `queuegroup` sees the
+/// macros of its session alone. What can't be made for want of memory takes the message with it.
+pub fn made(
     alloc: Global,
     config: &Config,
     maps: &Maps,
@@ -31,98 +30,38 @@ pub(crate) fn made(
         (λ made. IsMessageMade config.now maps.now moment message id made.0 made.1) }
     ensures form { IfOk result (λ made. AreForms made.1) }
 {
-    let macros = message_macros(alloc, config, moment, &message, id)?;
+    let session = session_macros(alloc, config, &message.kept, &message.sender)?;
+    let macros = message_macros(alloc, &session, moment, &message, id)?;
     let first = received(config, &macros)?;
     let mut message = message;
     let rows = mem::replace(&mut message.rows, Seq::new(alloc));
-    let cuts = cuts_of(alloc, config, maps, &macros, rows)?;
+    let rows = distinct(alloc, rows)?;
+    let cuts = cuts(alloc, config, maps, &session, &rows)?;
     Ok((headed(first, message)?, cuts))
 }
 
-// The parts of rows.
-fn cuts_of(
-    alloc: Global,
-    config: &Config,
-    maps: &Maps,
-    macros: &Macros,
-    rows: Seq<Draw>,
-) -> Result<Seq<Cut>, NoMemory>
-    requires rows { AreRows rows }
-    ensures is { IfOk result (AreParts config.now maps.now macros.now rows) }
-    ensures form { IfOk result AreForms }
-{
-    let rows = distinct(alloc, rows)?;
-    let groups = groups_of(alloc, config, maps, macros, rows.items())?;
-    parts(alloc, &rows, &groups, config)
-}
-
-// The queue group of each row.
-fn groups_of(
-    alloc: Global,
-    config: &Config,
-    maps: &Maps,
-    macros: &Macros,
-    rows: &[Draw],
-) -> Result<Seq<Text>, NoMemory>
-    ensures are { IfOk result (AreGrouped config.now maps.now macros.now rows.now) }
-    ensures lines { IfOk result (All IsLine) }
-{
-    let mut groups = Seq::new(alloc);
-    for row in rows {
-        let group = group_at(alloc, config, maps, macros, row)?;
-        groups.push(group)?;
-    }
-    Ok(groups)
-}
-
-// The queue group of a row.
-fn group_at(
-    alloc: Global,
-    config: &Config,
-    maps: &Maps,
-    macros: &Macros,
-    row: &Draw,
-) -> Result<Text, NoMemory>
-    ensures is { IfOk result
-        (Groups config.now maps.now macros.now row.now.address (mailer_of row.now.resolved)) }
-    ensures line { IfOk result IsLine }
-{
-    let mailer = mailer_of(alloc, &row.resolved)?;
-    group_of(alloc, config, maps, macros, &row.address, &mailer)
-}
-
-// The macros of a message on receipt: those of its session, its dates and its id.
+// The macros of a header `Received`: those of the message's session, its dates and its id.
 fn message_macros(
     alloc: Global,
-    config: &Config,
+    session: &Macros,
     moment: u64,
     message: &Message,
     id: Id,
 ) -> Result<Macros, NoMemory>
-    ensures { IfOk result (IsMacros config.now moment message.now id) }
+    ensures { IfOk result (IsMacros session.now moment message.now id) }
 {
     let told = date_of(&message.headers, moment)?;
     let mail = date(alloc, moment, Form::Mail)?;
     let unix = date(alloc, moment, Form::Unix)?;
     let short = date(alloc, moment, Form::Short)?;
-    let id = id_text(alloc, id)?;
-    let mut macros = session_macros(alloc, config, &message.kept, &message.sender)?;
+    let id = id.text(alloc)?;
+    let mut macros = session.copy()?;
     macros.define(b"a", &told)?;
     macros.define(b"b", &mail)?;
     macros.define(b"d", &unix)?;
     macros.define(b"t", &short)?;
     macros.define(b"i", &id)?;
     Ok(macros)
-}
-
-// An id as replies show it.
-#[tactic(auto, using(smtp_receive::proofs::ReplyLemmas::name_long))]
-fn id_text(alloc: Global, id: Id) -> Result<Text, NoMemory>
-    ensures { IfOk result (λ text. text ≡ shown_id id) }
-{
-    let name = id.name(Kind::Qf);
-    let (_kind, text) = name.bytes().split_at(2);
-    Text::of(alloc, text)
 }
 
 /// The class of a message has the range of its type: to read it says so.

@@ -18,8 +18,7 @@ ghost use Rattle.mail_core.specs.Machine.{State, beginning};
 ghost use Rattle.mail_core.specs.Seen.{seen};
 ghost use Rattle.mail_core.specs.Sites.{IsUnder, Site};
 ghost use Rattle.map_tables.specs.Answers.{Loaded};
-ghost use Rattle.mail_core.specs.Standing.{IsStanding, IsTallied, Keeps, Stands, Stores};
-ghost use Rattle.queue_table.specs.Calls.{Tallies};
+ghost use Rattle.mail_core.specs.Standing.{IsStanding, IsTallied, Keeps, Stands, Stores, table_of};
 ghost use Rattle.spool_store.specs.Entries.{Table as Entries};
 
 use crate::caller::Caller;
@@ -93,8 +92,7 @@ impl Core {
             (λ core. (site : Site) (entries : Entries) → site.host ≡ host
             → Stores site table entries
             → Stands site core (beginning entries)) }
-        ensures tallied { IfOk result
-            (λ core. (told : Option FileMap) → Tallies table told → IsTallied core told) }
+        ensures table { IfOk result (λ core. table_of core ≡ table) }
     {
         Ok(Core {
             alloc,
@@ -127,7 +125,7 @@ impl Core {
         requires fits { Fits turn buf.now }
         requires sound { IsHeardAt (F.seen floor.old) turn }
         requires standing { IsStanding self.old config.now maps.now }
-        requires tallied { IsTallied self.old (D.seen spool.old).told }
+        requires tallied { IsTallied self.old (D.seen spool.old) }
         ensures turns { (site : Site) (m : State) (before : Heard) (clock read : ClockSeen)
             → IsUnder site config.now maps.now → Stands site self.old m
             → IsTaken before (F.seen floor.old) clock read (event_of turn buf.now) reading
@@ -143,7 +141,7 @@ impl Core {
         ensures calm { is_well result ≡ true
             → (D.seen spool.new).faults ≡ (D.seen spool.old).faults }
         ensures tallied { is_well result ≡ true
-            → IsTallied self.new (D.seen spool.new).told }
+            → IsTallied self.new (D.seen spool.new) }
     {
         self.intake.at(reading);
         self.handle(floor, spool, config, maps, judge, turn, buf)
@@ -163,7 +161,7 @@ impl Core {
         requires fits { Fits turn buf.now }
         requires sound { IsHeardAt (F.seen floor.old) turn }
         requires standing { IsStanding self.old config.now maps.now }
-        requires tallied { IsTallied self.old (D.seen spool.old).told }
+        requires tallied { IsTallied self.old (D.seen spool.old) }
         ensures steps { (site : Site) (m : State) (clock : ClockSeen) → IsUnder site config.now maps.now
             → Stands site self.old m
             → Steps (judge_seen (J.seen judge.old) (J.answers judge.old)) site m (event_of turn buf.now)
@@ -178,7 +176,7 @@ impl Core {
         ensures calm { is_well result ≡ true
             → (D.seen spool.new).faults ≡ (D.seen spool.old).faults }
         ensures tallied { is_well result ≡ true
-            → IsTallied self.new (D.seen spool.new).told }
+            → IsTallied self.new (D.seen spool.new) }
     {
         match turn {
             Turn::Opened(session, count) => {
@@ -300,7 +298,7 @@ impl Core {
     ) -> Result<Act, CoreStop>
         requires sound { IsSoundAt (F.seen floor.old) session }
         requires standing { IsStanding self.old config.now maps.now }
-        requires tallied { IsTallied self.old (D.seen spool.old).told }
+        requires tallied { IsTallied self.old (D.seen spool.old) }
         ensures steps { (site : Site) (m : State) (clock : ClockSeen) → IsUnder site config.now maps.now
             → Stands site self.old m
             → Steps (judge_seen (J.seen judge.old) (J.answers judge.old)) site m (Brings session piece.now)
@@ -315,7 +313,7 @@ impl Core {
         ensures calm { is_well result ≡ true
             → (D.seen spool.new).faults ≡ (D.seen spool.old).faults }
         ensures tallied { is_well result ≡ true
-            → IsTallied self.new (D.seen spool.new).told }
+            → IsTallied self.new (D.seen spool.new) }
     {
         let Some(mut caller) = self.take(session) else {
             return Ok(Act::Went);

@@ -19,7 +19,7 @@ use Rattle.alias_expand.specs.declared.refusal.ExpandRefusal.TheVariants as refu
 use Rattle.smtp_receive.specs.declared.judge.Verdict.{Verdict}
 use Rattle.smtp_receive.specs.declared.judge.Verdict.TheVariants.{Rows, No}
 use Rattle.smtp_receive.specs.Judging.{Question, AsksSender, AsksRecipient, Said, Unasked, OfSender, OfRecipient}
-use Rattle.smtp_receive.specs.SessionMacros.{session_macros}
+use Rattle.cf_macros.specs.SessionMacros.{session_macros}
 use Rattle.mail_judge.specs.Judged.{Grounds, IsJudged, Judges, is_checked, is_refused, goes, error_of, site_in}
 
 abbrev Outcome : Type 0

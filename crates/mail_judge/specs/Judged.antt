@@ -20,7 +20,7 @@ use Rattle.alias_expand.specs.declared.refusal.ExpandRefusal.{ExpandRefusal}
 use Rattle.alias_expand.specs.declared.refusal.ExpandRefusal.TheVariants as refusals
 use Rattle.smtp_receive.specs.declared.judge.Verdict.{Verdict}
 use Rattle.smtp_receive.specs.declared.judge.Verdict.TheVariants.{Rows, No}
-use Rattle.smtp_receive.specs.SessionMacros.{session_macros}
+use Rattle.cf_macros.specs.SessionMacros.{session_macros}
 use Rattle.smtp_receive.specs.Judging.{Question, AsksSender, AsksRecipient, Said, OfSender, OfRecipient}
 
 -- what a judgement stands on beside files: a configuration, its maps, aliases, and homes of users

@@ -4,8 +4,8 @@ ghost use Rattle.mail_base.specs.Texts.{IsBracketed};
 ghost use Rattle.mail_edge.specs.Asking.{Asks};
 ghost use Rattle.mail_edge.specs.Seen.{FileMap};
 ghost use Rattle.addr_route.specs.Checks.{Checks, IsBoundedIf};
+ghost use Rattle.cf_macros.specs.SessionMacros.{session_macros};
 ghost use Rattle.smtp_receive.specs.Judging.{AsksRecipient, IsFormedSaid, OfRecipient};
-ghost use Rattle.smtp_receive.specs.SessionMacros.{session_macros};
 ghost use Rattle.mail_judge.specs.Judged.{IsJudged, Judges, answerer_of};
 
 use crate::grounds::Grounds;
@@ -13,9 +13,10 @@ use crate::law::one_judgement;
 use crate::refused::refused;
 use addr_route::check;
 use alias_expand::expand;
+use cf_macros::session_macros;
 use mail_base::{JudgeFault, Kept, Macros, NoMemory, RouteError, Text};
 use mail_edge::Files;
-use smtp_receive::{Judge, Verdict, session_macros};
+use smtp_receive::{Judge, Verdict};
 use std::alloc::Global;
 
 /// What judges the paths of sessions by the rules of a configuration (cf/README, check_mail and

@@ -15,7 +15,7 @@ use Rattle.spool_store.specs.Moves.{Ends, Moves}
 use Rattle.spool_store.specs.Parcels.{IsBelowLast, IsParcel}
 use Rattle.spool_store.specs.Parts.{IsEitherTable}
 use Rattle.spool_store.specs.Settled.{IsSettled, StandsFor}
-use Rattle.spool_store.specs.Stores.{Agrees, Holds, IsAtRest, IsHeld, KeepsOthers, StoreSeen}
+use Rattle.spool_store.specs.Stores.{Holds, IsAtRest, IsHeld, KeepsOthers, StoreSeen}
 use Rattle.spool_store.specs.declared.held.Held.{Held}
 use Rattle.queue_table.specs.Commands.{Command, after, draft_of, drafts_of, new_control}
 use Rattle.queue_table.specs.Commands.Command.{Accept, Record, Return, Warn}
@@ -34,8 +34,8 @@ abbrev pub HoldsTable : Kept → Table → Type 0
 HoldsTable kept table = Holds (store kept) table
 
 -- its store has what the files say that are told, if they are, unless it is broken
-abbrev pub Tallies : Kept → Option FileMap → Type 0
-Tallies kept told = (store kept).broken ≡ false → IfSome told (Agrees (store kept))
+abbrev pub Tallies : Kept → Spooled → Type 0
+Tallies kept spooled = (store kept).broken ≡ false → IsAtRest (store kept) spooled
 
 -- what a store holds of an entry of a table
 pub record IsHeldIn (held : List Held) (s : Stored) : Type 0 where

@@ -236,7 +236,7 @@ impl Table {
         spool: &mut D,
         parcel: Parcel,
     ) -> Result<(), StoreFault>
-        requires agrees { Tallies self.old (D.seen spool.old).told }
+        requires agrees { Tallies self.old (D.seen spool.old) }
         requires ready { IsReadyUnder (store self.old) parcel }
         ensures does { (id : ℕ) (command : Command) → Makes self.old id command parcel
             → CarriesOut self.old self.new command result (D.seen spool.old) (D.seen spool.new) }

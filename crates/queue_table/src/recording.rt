@@ -125,7 +125,7 @@ impl Table {
         outcomes: &Outcomes,
         moment: u64,
     ) -> Result<(), SpoolFault>
-        requires agrees { Tallies self.old (D.seen spool.old).told }
+        requires agrees { Tallies self.old (D.seen spool.old) }
         requires reserved { IsReserved (store self.old).entries reserved }
         requires each { length outcomes.now.results ≡ length reserved.rows }
         ensures moves { (table : Entries) → HoldsTable self.old table
@@ -170,7 +170,7 @@ impl Table {
     /// Finishes an entry whose rows are all done: its control file gets the name of a finished
     /// one's, and its body goes unless a row is dead. The table stays. It takes no memory.
     pub fn finish<D: Spool>(&mut self, spool: &mut D, id: &Id) -> Result<(), SpoolFault>
-        requires agrees { Tallies self.old (D.seen spool.old).told }
+        requires agrees { Tallies self.old (D.seen spool.old) }
         requires can { CanFinish (store self.old).entries id.now }
         ensures moves { (f : FileMap)
             → Moves (D.seen spool.old) (D.seen spool.new) (λ g. g ≡ f)

@@ -20,7 +20,7 @@ impl Table {
         bounces: Seq<Back>,
         moment: u64,
     ) -> Result<(), StoreFault>
-        requires agrees { Tallies self.old (D.seen spool.old).told }
+        requires agrees { Tallies self.old (D.seen spool.old) }
         requires asked { IsAsked self.old (Return self.old.terms id.now bounces moment) }
         requires dirs { AreDirs self.old.terms (store self.old).dirs }
         requires valid { AreBacksValid self.old.terms moment bounces }
@@ -50,7 +50,7 @@ impl Table {
         warnings: Seq<Back>,
         moment: u64,
     ) -> Result<(), StoreFault>
-        requires agrees { Tallies self.old (D.seen spool.old).told }
+        requires agrees { Tallies self.old (D.seen spool.old) }
         requires asked { IsAsked self.old (Warn self.old.terms id.now warnings moment) }
         requires dirs { AreDirs self.old.terms (store self.old).dirs }
         requires valid { AreBacksValid self.old.terms moment warnings }

@@ -113,7 +113,7 @@ impl Table {
         spool: &mut D,
         accepting: Accepting,
     ) -> Result<Id, SpoolFault>
-        requires agrees { Tallies self.old (D.seen spool.old).told }
+        requires agrees { Tallies self.old (D.seen spool.old) }
         requires planned { IsPlanned self.old accepting }
         ensures moves { (table : Entries) (message : MessageSeen) (cuts : List CutSeen) (moment : ℕ)
             → HoldsTable self.old table → IsAccepting self.old message cuts moment accepting
@@ -155,7 +155,7 @@ impl Table {
         cuts: &[Cut],
         moment: u64,
     ) -> Result<Id, StoreFault>
-        requires agrees { Tallies self.old (D.seen spool.old).told }
+        requires agrees { Tallies self.old (D.seen spool.old) }
         requires cuts { AreCuts cuts.now }
         requires dirs { AreDirs self.old.terms (store self.old).dirs }
         requires valid { AreValid self.old.terms message moment cuts.now }
@@ -179,7 +179,7 @@ impl Table {
 
     // Takes in what is ready.
     fn carry_out<D: Spool>(&mut self, spool: &mut D, accepting: Accepting) -> Result<Id, StoreFault>
-        requires agrees { Tallies self.old (D.seen spool.old).told }
+        requires agrees { Tallies self.old (D.seen spool.old) }
         requires planned { IsPlanned self.old accepting }
         ensures does { (message : MessageSeen) (cuts : List CutSeen) (moment : ℕ)
             → IsAccepting self.old message cuts moment accepting

@@ -17,7 +17,7 @@ use Rattle.spool_store.specs.Keepers.{IsReading, seen as queue_seen}
 use Rattle.spool_store.specs.Moves.{Moves}
 use Rattle.spool_store.specs.Openings.{AreStrays}
 use Rattle.spool_store.specs.Settled.{StandsFor}
-use Rattle.spool_store.specs.Stores.{Agrees, Holds, IsHeld, StoreSeen}
+use Rattle.spool_store.specs.Stores.{Agrees, Holds, IsAtRest, IsHeld, StoreSeen}
 use Rattle.spool_store.specs.Tidying.{IsTidied, IsTidiedAt, IsTidiedBody}
 use Rattle.spool_store.specs.declared.held.Held.{Held}
 use Rattle.spool_store.specs.declared.queue.Queue.{Queue}
@@ -34,7 +34,7 @@ use Rattle.mail_core.specs.Sites.{Site}
 use Rattle.mail_core.specs.Machine.{beginning}
 use Rattle.mail_core.specs.Messages.{start}
 use Rattle.mail_core.specs.Seen.{IsSparing, seen}
-use Rattle.mail_core.specs.Standing.{IsTallied, Stands, Stores}
+use Rattle.mail_core.specs.Standing.{IsTallied, Stands, Stores, table_of}
 use Rattle.mail_core.proofs.SparingLemmas.{LeavesStrange, sparing_opening}
 use Rattle.sendmail_run.specs.declared.outcome.Outcome.TheVariants as outcomes
 use Rattle.sendmail_run.specs.declared.session_mode.SessionEnd.{SessionEnd}
@@ -159,8 +159,12 @@ stands_over config queue kept host (Ok core) named is whole dirs made = λ maps 
     made (session_site config maps) table (sym named) (subst (λ (k : Kept). Stores (session_site config maps) k table) (sym is) stores)
 stands_over config queue kept host (Err e) named is whole dirs made = tt
 
--- and it has what the files say
-pub tallied_over : (queue : Queue) (kept : Kept) (terms : Terms) (r : Result Core NoMemory) → kept ≡ record { queue = queue; terms = terms } → IfOk r (λ core. (told : Option FileMap) → Tallies kept told → IsTallied core told)
-    → IfOk r (λ core. (told : Option FileMap) → IfSome told (Agrees (queue_seen queue)) → IsTallied core told)
-tallied_over queue kept terms (Ok core) is made = λ told agrees. made told (subst (λ (k : Kept). Tallies k told) (sym is) (λ whole. agrees))
-tallied_over queue kept terms (Err e) is made = tt
+-- and over that queue
+pub queue_over : (queue : Queue) (kept : Kept) (terms : Terms) (r : Result Core NoMemory) → kept ≡ record { queue = queue; terms = terms } → IfOk r (λ core. table_of core ≡ kept)
+    → IfOk r (λ core. (table_of core).queue ≡ queue)
+queue_over queue kept terms (Ok core) is made = ap (λ (k : Kept). k.queue) (made ∙ is)
+queue_over queue kept terms (Err e) is made = tt
+
+-- so it has what the files say
+pub tallied_over : (queue : Queue) (core : Core) (s : Spooled) → (table_of core).queue ≡ queue → IsAtRest (queue_seen queue) s → IsTallied core s
+tallied_over queue core s is rest = λ whole. subst (λ (q : Queue). IsAtRest (queue_seen q) s) (sym is) rest

@@ -88,7 +88,7 @@ taken f g k l Stop buf reading told follows later read counted = record { told =
 -- ---- turns over each table
 
 -- a core over the queue that was opened has begun
-pub going_begin : (j : JudgeSeen) (site : Site) (core : Core) (f g : Heard) (s t : Spooled) (c : ClockSeen) → IsTakenOver site.dirs s t → IsSparing site.dirs s t true → g.told ≡ f.told → f.faults ≤ g.faults → s.faults ≤ t.faults → IsOpened site s.told core → IsTallied core t.told
+pub going_begin : (j : JudgeSeen) (site : Site) (core : Core) (f g : Heard) (s t : Spooled) (c : ClockSeen) → IsTakenOver site.dirs s t → IsSparing site.dirs s t true → g.told ≡ f.told → f.faults ≤ g.faults → s.faults ≤ t.faults → IsOpened site s.told core → IsTallied core t
     → IsGoing j site core 0 (seen f s c) (seen g t c)
 going_begin j site core f g s t c taken sparing same floor_faults spool_faults opened tallied = record {
   store = opened.store;
@@ -97,7 +97,7 @@ going_begin j site core f g s t c taken sparing same floor_faults spool_faults o
 }
 
 -- one turn more
-pub going_more : (j i : JudgeSeen) (site : Site) (core new : Core) (n : ℕ) (event : Event) (reading : ℕ) (a b c : Seen) → IsGoing j site core n a b → IsAlike j i → ((m : State) → Stands site core m → Turns i site m event reading b c new (Ok Went)) → c.clock.readings ≡ b.clock.readings + 1 → IsTallied new c.spool.told
+pub going_more : (j i : JudgeSeen) (site : Site) (core new : Core) (n : ℕ) (event : Event) (reading : ℕ) (a b c : Seen) → IsGoing j site core n a b → IsAlike j i → ((m : State) → Stands site core m → Turns i site m event reading b c new (Ok Went)) → c.clock.readings ≡ b.clock.readings + 1 → IsTallied new c.spool
     → IsGoing j site new (n + 1) a c
 going_more j i site core new n event reading a b c going alike turns counted tallied = record {
   store = going.store;
@@ -123,7 +123,7 @@ standing j site core n a b going config maps under =
     record { site = site; under = under; state = (run_over site going.found.some u.turns).state; stands = u.stands }
 
 -- and has what the files say
-pub tallied_so : (j : JudgeSeen) (site : Site) (core : Core) (n : ℕ) (a b : Seen) → IsGoing j site core n a b → IsTallied core b.spool.told
+pub tallied_so : (j : JudgeSeen) (site : Site) (core : Core) (n : ℕ) (a b : Seen) → IsGoing j site core n a b → IsTallied core b.spool
 tallied_so j site core n a b going = (one_run j site core n a b going).tallied
 
 -- no count of the floor falls
@@ -162,7 +162,7 @@ served j site core n a b begun only going = record {
 }
 
 -- the floor failed
-pub serves_lost : (j : JudgeSeen) (faults : ℕ) (site : Site) (core : Core) (n : ℕ) (a b : Seen) → IsBegun a b → OnlyNow a → n ≤ 2 ^ 60 → IsGoing j site core n a b → Rose a.floor.faults b.floor.faults → Serves j faults site a b ends.FloorFault
+pub serves_lost : (j : JudgeSeen) (faults : ℕ) (site : Site) (core : Core) (n : ℕ) (a b : Seen) → IsBegun a b → OnlyNow a → n < 2 ^ 60 → IsGoing j site core n a b → Rose a.floor.faults b.floor.faults → Serves j faults site a b ends.FloorFault
 serves_lost j faults site core n a b begun only few going rose = record { count = n; few = few; served = served j site core n a b begun only going; rose = rose }
 
 -- all turns were taken

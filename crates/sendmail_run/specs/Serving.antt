@@ -1,6 +1,6 @@
 -- How session mode ends, and what was served by then (Sendmail Installation and Operation Guide,
 -- "Command Line Flags": -bs; the replies are those of RFC 5321; the ends are own).
-use Rattle.std.specs.Prelude.{◌≡◌, ℕ, ◌+◌, ◌^◌, ◌≤◌, List, length, take, None, Some, IfSome, Result, Ok, Err, true}
+use Rattle.std.specs.Prelude.{◌≡◌, ℕ, ◌+◌, ◌^◌, ◌<◌, ◌≤◌, List, length, take, None, Some, IfSome, Result, Ok, Err, true}
 use Rattle.mail_base.specs.declared.config.Config.{Config}
 use Rattle.mail_base.specs.Histories.{Rose}
 use Rattle.cf_macros.specs.Expansion.{host_name}
@@ -122,10 +122,10 @@ pub record IsServedOut (j : JudgeSeen) (site : Site) (a b : Seen) (went : Result
   pub begun : IsBegun a b
   pub over : IsOverQueue site a (λ table. IsEnded j site table count a b went)
 
--- the floor failed as it began, or at the turn after so many
+-- the floor failed as it began, or at the turn after so many, which are fewer than a run may have
 pub record HasLostFloor (j : JudgeSeen) (site : Site) (a b : Seen) : Type 0 where
   pub count : ℕ
-  pub few : count ≤ 2 ^ 60
+  pub few : count < 2 ^ 60
   pub served : IsServed j site count a b
   pub rose : Rose a.floor.faults b.floor.faults
 

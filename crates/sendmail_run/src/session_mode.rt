@@ -14,7 +14,7 @@ ghost use Rattle.mail_core.specs.Causes.{is_judge_fault, is_well};
 ghost use Rattle.mail_core.specs.Events.{IsHeardAt, IsTaken, Turns, event_of};
 ghost use Rattle.mail_core.specs.Machine.{State, beginning};
 ghost use Rattle.mail_core.specs.Seen.{IsSparing, seen};
-ghost use Rattle.mail_core.specs.Standing.{IsStanding, IsTallied, Stands};
+ghost use Rattle.mail_core.specs.Standing.{IsStanding, IsTallied, Stands, table_of};
 ghost use Rattle.mail_judge.specs.Judged.{Grounds as TheGrounds};
 ghost use Rattle.sendmail_run.specs.Outcomes.{of_session};
 ghost use Rattle.sendmail_run.specs.Rises.{RisesOnlyAt};
@@ -168,7 +168,7 @@ fn take_turn<F: Files, D: Spool, L: Floor>(
     requires fits { Fits turn buffer.now }
     requires sound { IsHeardAt (L.seen floor.old) turn }
     requires standing { IsStanding core.old config.now maps.now }
-    requires tallied { IsTallied core.old (D.seen spool.old).told }
+    requires tallied { IsTallied core.old (D.seen spool.old) }
     ensures turns { (m : State) (before : Heard) (clock read : ClockSeen)
         → Stands (session_site config.now maps.now) core.old m
         → IsTaken before (L.seen floor.old) clock read (event_of turn buffer.now) reading
@@ -182,7 +182,7 @@ fn take_turn<F: Files, D: Spool, L: Floor>(
     ensures calm { is_well result ≡ true
         → (D.seen spool.new).faults ≡ (D.seen spool.old).faults }
     ensures tallied { is_well result ≡ true
-        → IsTallied core.new (D.seen spool.new).told }
+        → IsTallied core.new (D.seen spool.new) }
 {
     let grounds = Grounds::new(config, maps, &names.aliases, &names.homes);
     let mut judge = Rules {
@@ -202,7 +202,7 @@ fn opened<D: Spool>(alloc: Global, config: &Config, spool: &mut D) -> Result<Cor
     ensures core { IfOk result
         (λ core. (maps : Loaded) → IsOpened (session_site config.now maps) (D.seen spool.old).told
         core) }
-    ensures tallied { IfOk result (λ core. IsTallied core (D.seen spool.new).told) }
+    ensures tallied { IfOk result (λ core. IsTallied core (D.seen spool.new)) }
     ensures sparing { IfOk result
         (λ _. IsSparing (all_dirs (terms_of config.now)) (D.seen spool.old) (D.seen spool.new)
         true) }
@@ -251,9 +251,7 @@ fn core_over(alloc: Global, config: &Config, queue: Queue) -> Result<Core, NoMem
     ensures stands { IfOk result (λ core. (maps : Loaded) (entries : Entries)
         → Holds (queue_seen queue) entries
         → Stands (session_site config.now maps) core (beginning entries)) }
-    ensures tallied { IfOk result
-        (λ core. (told : Option FileMap) → IfSome told (Agrees (queue_seen queue))
-        → IsTallied core told) }
+    ensures queue { IfOk result (λ core. (table_of core).queue ≡ queue) }
 {
     let host = host_of(alloc, &config.macros)?;
     let table = Table::over(queue, config)?;

@@ -27,7 +27,7 @@ use Rattle.smtp_receive.specs.declared.ending.End.{End}
 use Rattle.smtp_receive.specs.declared.ending.End.TheVariants.{Refused, Whole}
 use Rattle.smtp_receive.specs.declared.reply.Reply.TheVariants.{MessageTooLarge, HeaderTooLarge, TooManyHops}
 use Rattle.smtp_receive.specs.declared.session.Session.{Session}
-use Rattle.smtp_receive.specs.inner.Steps.{Ends, Goes, IsSmallIfSome, end_of, ending_of, ends_as, given_in, given_or, message_of}
+use Rattle.smtp_receive.specs.inner.Steps.{Ends, Goes, IsSmallIfSome, end_of, ending_of, ends_as, gathered_mail, given_in, given_or}
 use Rattle.smtp_receive.proofs.KeepLemmas.{keep_end}
 
 -- ---- what is kept is small
@@ -100,7 +100,7 @@ message_did host config kept sender eight rows g lines gathers =
     (λ large. ap (did_of host limit) (message_block config kept sender eight rows g lines gathers small large))
     (λ whole.
     ap (did_of host limit) (message_whole config kept sender eight rows g lines gathers small whole)
-    ∙ did_cond host limit (is_above config.options.max_hop_count (hops_of g.headers)) (Says TooManyHops) (Gives (message_of config g sender rows eight kept))))
+    ∙ did_cond host limit (is_above config.options.max_hop_count (hops_of g.headers)) (Says TooManyHops) (Gives (gathered_mail config g sender rows eight kept))))
 
 end_did : (host : List ℕ) (config : Config) (kept : Kept) (eight : Bool) (rows : List Draw) (sender : Option (List ℕ)) (m : Option Gathered) (lines : Option (List (List ℕ)))
     → Holds (message_limit config.options) m lines

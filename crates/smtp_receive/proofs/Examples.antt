@@ -8,7 +8,7 @@ use Rattle.mail_base.specs.Limits.{most_message, most_headers, most_path, most_l
 use Rattle.mail_base.specs.Texts.{crlf}
 use Rattle.mail_base.specs.declared.config.Config.{Config}
 use Rattle.mail_base.specs.declared.draw.Draw.{Draw}
-use Rattle.mail_base.specs.declared.message.Message.{Message}
+use Rattle.smtp_receive.specs.Mails.{Mail}
 use Rattle.mail_base.specs.declared.route.Resolved.TheVariants.{Goes}
 use Rattle.addr_tokens.specs.Reader.{cut}
 use Rattle.addr_tokens.specs.Scans.{most_tokens}
@@ -135,7 +135,7 @@ abbrev pub quit : Line
 quit = Command (codes "QUIT")
 
 -- the message that these lines give
-abbrev pub message : Message
+abbrev pub message : Mail
 message = record {
   sender = codes "<bob@c.example>";
   rows = row ∷ [];

@@ -12,7 +12,7 @@ use Rattle.mail_base.specs.declared.config.Config.{Config}
 use Rattle.mail_base.specs.declared.draw.Draw.{Draw}
 use Rattle.mail_base.specs.declared.id.Kind.TheVariants.{Qf}
 use Rattle.mail_base.specs.declared.message.Kept.{Kept}
-use Rattle.mail_base.specs.declared.message.Message.{Message}
+use Rattle.smtp_receive.specs.Mails.{Mail}
 use Rattle.mail_base.specs.declared.route.RouteError.{RouteError}
 use Rattle.mail_base.proofs.FileNames.{same_number}
 use Rattle.mail_header.specs.Fields.{class_in, hops_of}
@@ -147,7 +147,7 @@ command_well config now said (Ok Explain) formed = tt
 
 message_well : (config : Config) (kept : Kept) (sender : List ℕ) (eight : Bool) (rows : List Draw) (lines : List (List ℕ)) → RefusesWell (message_answer config kept sender eight rows lines)
 message_well config kept sender eight rows lines =
-    let message : Message = record {
+    let message : Mail = record {
       sender = sender;
       rows = rows;
       headers = headers_of lines;

@@ -10,7 +10,7 @@ use Rattle.mail_base.specs.Texts.{is_blank, IsLine, IsBracketed, IsBlank, IsHead
 use Rattle.mail_base.specs.declared.config.Config.{Config}
 use Rattle.mail_base.specs.declared.draw.Draw.{Draw}
 use Rattle.mail_base.specs.declared.message.Kept.{Kept}
-use Rattle.mail_base.specs.declared.message.Message.{Message}
+use Rattle.smtp_receive.specs.Mails.{Mail}
 use Rattle.mail_base.specs.declared.options.Options.{Options}
 use Rattle.mail_base.specs.declared.command.LineFault.{LineFault}
 use Rattle.mail_header.specs.Fields.{class_in, hops_of}
@@ -254,7 +254,7 @@ message_formed : (config : Config) (peer : List ℕ) (kept : Kept) (sender : Lis
 message_formed config peer kept sender eight rows lines helo protocol client sender_is rows_are =
     let P : Answer → Type 0 = AnswerFormed peer in
     let limit : ℕ = message_limit config.options in
-    let message : Message = record {
+    let message : Mail = record {
       sender = sender;
       rows = rows;
       headers = headers_of lines;
@@ -289,7 +289,7 @@ end_formed config peer kept (Some sender) eight rows (Some lines) helo protocol 
     message_formed config peer kept sender eight rows lines helo protocol client sender_is (rows_are refl)
 
 -- a message that is given is formed
-pub given_formed : (config : Config) (peer : List ℕ) (heard : List Heard) (said : Said) (line : Line) (message : Message) → AreFormed config peer heard → answer_of config peer heard said line ≡ Gives message
+pub given_formed : (config : Config) (peer : List ℕ) (heard : List Heard) (said : Said) (line : Line) (message : Mail) → AreFormed config peer heard → answer_of config peer heard said line ≡ Gives message
     → IsFormed message peer
 given_formed config peer heard said line message formed gives =
     let before : List Exchange = exchanges config peer heard in

@@ -17,8 +17,8 @@ use Rattle.smtp_receive.specs.Dialogue.{Answer, Says, Refuses, Greets, Extends, 
 use Rattle.smtp_receive.specs.Judging.{Question, Said, Unasked, IsSaid, drawn_in}
 use Rattle.smtp_receive.specs.Replies.{shown_host, text_of}
 use Rattle.smtp_receive.specs.Sessions.{Holds, Keeps, Stands, cleared}
+use Rattle.smtp_receive.specs.Mails.{Replied, Taken, deed_of}
 use Rattle.smtp_receive.specs.declared.did.Did.{Did}
-use Rattle.smtp_receive.specs.declared.did.Did.TheVariants.{Reply as Replied, Taken}
 use Rattle.smtp_receive.specs.declared.reply.Reply.{Reply}
 use Rattle.smtp_receive.specs.declared.reply.Reply.TheVariants.{LineTooLong, SenderOk, RecipientOk, ResetState}
 use Rattle.smtp_receive.specs.declared.session.Session.{Session}
@@ -148,7 +148,7 @@ goes_command seen Test s n config host peer before text did k does =
 -- ---- lines that are no commands
 
 goes_long : (seen : Answerer) (Test : Question → Said → Type 0) (s : Session) (config : Config) (host peer : List ℕ) (before : List Exchange) (did : Did) → Keeps s config host peer before
-    → did ≡ Replied (text_of LineTooLong) → Goes seen Test s config host peer before TooLong did
+    → deed_of did ≡ Replied (text_of LineTooLong) → Goes seen Test s config host peer before TooLong did
 goes_long seen Test s config host peer before did k did_is = record {
   said = Unasked;
   is_said = refl;
@@ -157,7 +157,7 @@ goes_long seen Test s config host peer before did k did_is = record {
 }
 
 goes_data : (seen : Answerer) (Test : Question → Said → Type 0) (s n : Session) (config : Config) (host peer : List ℕ) (before : List Exchange) (text : List ℕ) (did : Did)
-    → Keeps s config host peer before → did ≡ Taken → AddsLine (message_limit config.options) s n text → Goes seen Test n config host peer before (DataLine text) did
+    → Keeps s config host peer before → deed_of did ≡ Taken → AddsLine (message_limit config.options) s n text → Goes seen Test n config host peer before (DataLine text) did
 goes_data seen Test s n config host peer before text did k did_is adds = record {
   said = Unasked;
   is_said = refl;
@@ -286,13 +286,13 @@ command_goes (Ok d) seen Test s n config host peer before line text is k does =
 
 -- a line that is too long and was answered changes nothing
 pub long_goes : {E : Type 0} (r : Result Did E) (seen : Answerer) (Test : Question → Said → Type 0) (s : Session) (config : Config) (host peer : List ℕ) (before : List Exchange) (line : Line)
-    → line ≡ TooLong → Keeps s config host peer before → IfOk r (λ did. did ≡ Replied (text_of LineTooLong)) → IfOk r (Goes seen Test s config host peer before line)
+    → line ≡ TooLong → Keeps s config host peer before → IfOk r (λ did. deed_of did ≡ Replied (text_of LineTooLong)) → IfOk r (Goes seen Test s config host peer before line)
 long_goes (Err e) seen Test s config host peer before line is k did = tt
 long_goes (Ok d) seen Test s config host peer before line is k did = subst (λ l. Goes seen Test s config host peer before l d) (sym is) (goes_long seen Test s config host peer before d k did)
 
 -- a data line that is taken is kept as one line more of the message
 pub data_goes : {E : Type 0} (r : Result Did E) (seen : Answerer) (Test : Question → Said → Type 0) (s n : Session) (config : Config) (host peer : List ℕ) (before : List Exchange) (line : Line)
-    (text : List ℕ) → line ≡ DataLine text → Keeps s config host peer before → IfOk r (λ did. did ≡ Taken) → IfOk r (λ _. AddsLine (message_limit config.options) s n text)
+    (text : List ℕ) → line ≡ DataLine text → Keeps s config host peer before → IfOk r (λ did. deed_of did ≡ Taken) → IfOk r (λ _. AddsLine (message_limit config.options) s n text)
     → IfOk r (Goes seen Test n config host peer before line)
 data_goes (Err e) seen Test s n config host peer before line text is k did adds = tt
 data_goes (Ok d) seen Test s n config host peer before line text is k did adds =

@@ -19,7 +19,7 @@ use Rattle.smtp_lines.specs.Commands.{Order, Greet, Extend, From, To, Begin, Res
 use Rattle.smtp_lines.specs.Reading.{is_nothing, order_of}
 use Rattle.smtp_lines.specs.declared.line.Line.{Line}
 use Rattle.smtp_lines.specs.declared.line.Line.TheVariants.{Command, TooLong, Data as DataLine, DataEnd}
-use Rattle.smtp_receive.specs.Dialogue.{Answer, Says, Grants, Gives, Exchange, Heard, Standing, answer_heard, answer_to, command_answer, eight_in, end_answer, ends, exchange_of, exchanges, fault_reply, is_dropped, is_large, is_uncut, kept_in, lines_in, mail_answer, mail_fault, mail_question, message_answer, no_marks, order_question, path_reply, question, rcpt_answer, rcpt_fault, rcpt_question, read_in, recipient_answer, rows_in, rows_of, sender_answer, sender_in, standing_in, transaction, with_heard, with_rows}
+use Rattle.smtp_receive.specs.Dialogue.{Answer, Says, Grants, Gives, Exchange, Heard, Standing, answer_heard, answer_to, asked, command_answer, eight_in, end_answer, ends, exchange_of, exchanges, fault_reply, is_dropped, is_large, is_uncut, kept_in, lines_in, mail_answer, mail_fault, mail_question, message_answer, no_marks, order_question, path_reply, question, rcpt_answer, rcpt_fault, rcpt_question, read_in, recipient_answer, rows_in, rows_of, sender_answer, sender_in, standing_in, transaction, with_heard, with_rows}
 use Rattle.smtp_receive.specs.Forms.{FormedFor}
 use Rattle.mail_base.specs.Drawing.{AreRows}
 use Rattle.smtp_receive.specs.Judging.{Question, Said, Unasked, OfSender, OfRecipient, drawn_in, refusal_in}
@@ -182,15 +182,15 @@ heard_fits config peer before h =
 abbrev AreFew : List Draw → Type 0
 AreFew rows = length rows ≤ most_rows
 
-few_more : (q : Option Question) (now : Standing) (said : Said) (answer : Option Answer) → IfSome answer (Fits q now said) → AreFew now.rows → AreFew (with_rows answer said now.rows)
-few_more q now said (Some (Says RecipientOk)) fits few = let both = fits.0 in omega (arith, length-append now.rows (drawn_in said))
-few_more q now said _ fits few = few
+few_more : (q : Option Question) (now : Standing) (order : Option Order) (said : Said) (answer : Option Answer) → IfSome answer (Fits q now said) → AreFew now.rows → AreFew (with_rows answer order said now.rows)
+few_more q now order said (Some (Says RecipientOk)) fits few = let both = fits.0 in omega (arith, length-append now.rows (drawn_in said))
+few_more q now order said _ fits few = few
 
 few_step : (config : Config) (peer : List ℕ) (before : List Exchange) (h : Heard) → AreFew (rows_in before) → AreFew (rows_in (with_heard config peer before h))
 few_step config peer before h few =
     let e : Exchange = exchange_of config peer before h in
     cond_both (ends e) [] (e ∷ transaction before) (λ es. AreFew (rows_of es)) (λ over. omega arith)
-    (λ on. few_more (question config peer before h.line) (standing_in before) h.said (answer_heard config peer before h) (heard_fits config peer before h) few)
+    (λ on. few_more (question config peer before h.line) (standing_in before) (asked h.line) h.said (answer_heard config peer before h) (heard_fits config peer before h) few)
 
 few_all : (config : Config) (peer : List ℕ) (heard : List Heard) (before : List Exchange) → AreFew (rows_in before) → AreFew (rows_in (fold (with_heard config peer) before heard))
 few_all config peer [] before few = few

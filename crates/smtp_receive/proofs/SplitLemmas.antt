@@ -5,7 +5,7 @@ use Rattle.mail_base.specs.Limits.{message_limit, most_headers}
 use Rattle.mail_base.specs.declared.config.Config.{Config}
 use Rattle.mail_base.specs.declared.draw.Draw.{Draw}
 use Rattle.mail_base.specs.declared.message.Kept.{Kept}
-use Rattle.mail_base.specs.declared.message.Message.{Message}
+use Rattle.smtp_receive.specs.Mails.{Mail}
 use Rattle.mail_header.specs.Fields.{class_in, hops_of}
 use Rattle.mail_header.specs.Gatherings.{is_above}
 use Rattle.mail_header.specs.Headers.{AreLines, text_of}
@@ -29,7 +29,7 @@ message_split : (config : Config) (kept : Kept) (sender : List ℕ) (eight : Boo
     → AnswerSplit (text_of lines) (message_answer config kept sender eight rows lines)
 message_split config kept sender eight rows lines are =
     let P : Answer → Type 0 = AnswerSplit (text_of lines) in
-    let message : Message = record {
+    let message : Mail = record {
       sender = sender;
       rows = rows;
       headers = headers_of lines;
@@ -53,7 +53,7 @@ end_split config kept (Some sender) eight rows lines are = message_split config 
 end_split config kept None eight rows lines are = tt
 
 -- a message that is given is split as the text of its lines is
-pub given_split : (config : Config) (peer : List ℕ) (heard : List Heard) (said : Said) (line : Line) (message : Message) (lines : List (List ℕ)) → answer_of config peer heard said line ≡ Gives message
+pub given_split : (config : Config) (peer : List ℕ) (heard : List Heard) (said : Said) (line : Line) (message : Mail) (lines : List (List ℕ)) → answer_of config peer heard said line ≡ Gives message
     → lines_in (exchanges config peer heard) ≡ Some lines → AreLines lines → IsSplitOf message (text_of lines)
 given_split config peer heard said line message lines gives is are =
     let before : List Exchange = exchanges config peer heard in

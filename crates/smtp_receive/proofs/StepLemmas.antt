@@ -12,6 +12,7 @@ use Rattle.mail_base.specs.declared.route.RouteError.{RouteError}
 use Rattle.smtp_lines.specs.Commands.{Order, Begin, From, To}
 use Rattle.smtp_receive.specs.Dialogue.{Says, Grants, bracketed, data_answer, did_of, is_uncut, mail_answer, mail_fault, mail_question, rcpt_answer, rcpt_fault, rcpt_question, recipient_answer, sender_answer}
 use Rattle.smtp_receive.specs.Judging.{Answers, AsksRecipient, Question, Said, Unasked, OfSender, OfRecipient, IsSaid, drawn_in, refusal_in}
+use Rattle.smtp_receive.specs.Mails.{deed_of}
 use Rattle.smtp_receive.specs.declared.did.Did.{Did}
 use Rattle.smtp_receive.specs.declared.judge.Verdict.{Verdict}
 use Rattle.smtp_receive.specs.declared.reply.Reply.{Reply}
@@ -44,14 +45,14 @@ data_changes (Ok d) config s n order refused begins =
     positive (suc count) h = omega arith
 
 data_did : (done : Result Did NoMemory) (seen : Answerer) (Test : Question → Said → Type 0) (s n : Session) (config : Config)
-    → IfOk done (λ did. did ≡ did_of s.host (message_limit config.options) (data_answer s.count)) → IfOk done (λ _. Changes config s n (data_answer s.count) (Some Begin) Unasked)
+    → IfOk done (λ did. deed_of did ≡ did_of s.host (message_limit config.options) (data_answer s.count)) → IfOk done (λ _. Changes config s n (data_answer s.count) (Some Begin) Unasked)
     → IfOk done (Does seen Test s n config (Ok Begin))
 data_did (Err e) seen Test s n config did changes = tt
 data_did (Ok d) seen Test s n config did changes = record { said = Unasked; is_said = refl; did_is = did; changes = changes }
 
 -- a DATA that was answered
 pub data_does : (r : Result Did JudgeFault) (done : Result Did NoMemory) (seen : Answerer) (Test : Question → Said → Type 0) (s n : Session) (config : Config) (read : Result Order LineFault) → r ≡ judged done
-    → read ≡ Ok Begin → IfOk done (λ did. did ≡ did_of s.host (message_limit config.options) (data_answer s.count)) → IfOk done (λ _. s.count ≡ 0 → n ≡ s)
+    → read ≡ Ok Begin → IfOk done (λ did. deed_of did ≡ did_of s.host (message_limit config.options) (data_answer s.count)) → IfOk done (λ _. s.count ≡ 0 → n ≡ s)
     → IfOk done (λ _. 0 < s.count → (limit : ℕ) → BeginsMessage limit s n) → IfOk r (Does seen Test s n config read)
 data_does r done seen Test s n config read is read_is did refused begins =
     subst (λ x. IfOk r (Does seen Test s n config x)) (sym read_is)
@@ -95,11 +96,11 @@ rcpt_fault_is fault given limit s config path is given_is limit_is =
 -- what a judge's verdict is answered with
 pub recipient_checks : (r : Result Did JudgeFault) (done : Result Did NoMemory) (seen : Answerer) (Test : Question → Said → Type 0) (s n : Session) (limit : ℕ) (path : List ℕ) (verdict : Verdict) → r ≡ judged done
     → ((sender : List ℕ) → s.sender ≡ Some sender → Answers seen Test (AsksRecipient (bracketed path) sender s.kept) (OfRecipient verdict))
-    → IfOk done (λ did. did ≡ did_of s.host limit (verdict_answer s (OfRecipient verdict))) → IfOk done (λ _. n ≡ after s (verdict_answer s (OfRecipient verdict)) None (OfRecipient verdict))
+    → IfOk done (λ did. deed_of did ≡ did_of s.host limit (verdict_answer s (OfRecipient verdict))) → IfOk done (λ _. n ≡ after s (verdict_answer s (OfRecipient verdict)) None (OfRecipient verdict))
     → IfOk r (ChecksRecipient seen Test s n limit path)
 recipient_checks r done seen Test s n limit path verdict is answers did new = ok_of (ChecksRecipient seen Test s n limit path) r done is (checked done did new)
   where
-    checked : (done : Result Did NoMemory) → IfOk done (λ did. did ≡ did_of s.host limit (verdict_answer s (OfRecipient verdict)))
+    checked : (done : Result Did NoMemory) → IfOk done (λ did. deed_of did ≡ did_of s.host limit (verdict_answer s (OfRecipient verdict)))
         → IfOk done (λ _. n ≡ after s (verdict_answer s (OfRecipient verdict)) None (OfRecipient verdict)) → IfOk done (ChecksRecipient seen Test s n limit path)
     checked (Err e) did new = tt
     checked (Ok d) did new = record { verdict = verdict; answers = answers; did_is = did; new_is = new }

@@ -7,7 +7,7 @@ use Rattle.mail_base.specs.declared.command.LineFault.{LineFault}
 use Rattle.mail_base.specs.declared.config.Config.{Config}
 use Rattle.mail_base.specs.declared.draw.Draw.{Draw}
 use Rattle.mail_base.specs.declared.message.Kept.{Kept}
-use Rattle.mail_base.specs.declared.message.Message.{Message}
+use Rattle.smtp_receive.specs.Mails.{Mail}
 use Rattle.mail_base.specs.declared.route.RouteError.{RouteError}
 use Rattle.smtp_lines.specs.Commands.{Order, Greet, Extend, From, To, Begin, Reset, Wait, End, Verify, Expand, Explain}
 use Rattle.smtp_lines.specs.Reading.{order_of}
@@ -56,21 +56,21 @@ command_none config now said (Ok Expand) = tt
 command_none config now said (Ok Explain) = tt
 
 -- a message is given at the line that ends the data
-pub gift_at_end : (config : Config) (peer : List ℕ) (before : List Exchange) (said : Said) (line : Line) (message : Message) → answer_to config peer before said line ≡ Gives message → line ≡ DataEnd
+pub gift_at_end : (config : Config) (peer : List ℕ) (before : List Exchange) (said : Said) (line : Line) (message : Mail) → answer_to config peer before said line ≡ Gives message → line ≡ DataEnd
 gift_at_end config peer before said (Command text) message e = absurd (subst GivesNone e (command_none config (standing_in before) said (order_of text)))
 gift_at_end config peer before said TooLong message e = absurd (cc e)
 gift_at_end config peer before said (Data text) message e = absurd (cc e)
 gift_at_end config peer before said DataEnd message e = refl
 
 -- what gives a message is kept of its lines
-end_kept : (config : Config) (kept : Kept) (sender : Option (List ℕ)) (eight : Bool) (rows : List Draw) (lines : Option (List (List ℕ))) (message : Message)
+end_kept : (config : Config) (kept : Kept) (sender : Option (List ℕ)) (eight : Bool) (rows : List Draw) (lines : Option (List (List ℕ))) (message : Mail)
     → end_answer config kept sender eight rows lines ≡ Gives message → not (is_some lines) ≡ false
 end_kept config kept None eight rows lines message e = absurd (cc e)
 end_kept config kept (Some sender) eight rows None message e = absurd (cc e)
 end_kept config kept (Some sender) eight rows (Some lines) message e = refl
 
 -- a line that gives a message isn't dropped
-pub gift_kept : (config : Config) (peer : List ℕ) (before : List Exchange) (said : Said) (line : Line) (message : Message) → answer_to config peer before said line ≡ Gives message → is_dropped before line ≡ false
+pub gift_kept : (config : Config) (peer : List ℕ) (before : List Exchange) (said : Said) (line : Line) (message : Mail) → answer_to config peer before said line ≡ Gives message → is_dropped before line ≡ false
 gift_kept config peer before said (Command text) message e = refl
 gift_kept config peer before said TooLong message e = refl
 gift_kept config peer before said (Data text) message e = absurd (cc e)

@@ -10,7 +10,6 @@ use Rattle.mail_base.specs.declared.config.Config.{Config}
 use Rattle.mail_base.specs.declared.draw.Draw.{Draw}
 use Rattle.mail_base.specs.declared.message.Kept.{Kept}
 use Rattle.mail_base.specs.declared.message.Marks.{Marks}
-use Rattle.mail_base.specs.declared.message.Message.{Message as Mails}
 use Rattle.mail_base.specs.declared.route.RouteError.{RouteError}
 use Rattle.addr_tokens.specs.Reader.{cut}
 use Rattle.mail_header.specs.Fields.{class_in, hops_of}
@@ -22,8 +21,7 @@ use Rattle.smtp_lines.specs.declared.line.Line.{Line}
 use Rattle.smtp_lines.specs.declared.line.Line.TheVariants.{Command, TooLong, Data as DataLine, DataEnd}
 use Rattle.smtp_receive.specs.Judging.{Question, AsksSender, AsksRecipient, Said, refusal_in, drawn_in}
 use Rattle.smtp_receive.specs.Replies.{text_of, refusal_text, grant_text, hello_text, extended_text, closing_text, stored_text, out_of_memory_text}
-use Rattle.smtp_receive.specs.declared.did.Did.{Did}
-use Rattle.smtp_receive.specs.declared.did.Did.TheVariants.{Reply as Replied, Granted, Message, Taken, Bye}
+use Rattle.smtp_receive.specs.Mails.{Deed, Mail as Mails, Replied, Granted, Received, Taken, Parted}
 use Rattle.smtp_receive.specs.declared.reply.Reply.{Reply}
 use Rattle.smtp_receive.specs.declared.reply.Reply.TheVariants.{LineTooLong, BadByte, Unrecognized, ArgumentNeeded, NoArgument, SenderGiven, NeedMail, NeedRcpt, SyntaxError, PathTooLong, ParameterNotKnown, UserRequired, TooManyRecipients, BadAddress, SenderOk, RecipientOk, MessageTooLarge, HeaderTooLarge, TooManyHops, ResetState, Okay, CannotVerify, NotAvailable, SeeStandard}
 
@@ -132,9 +130,10 @@ abbrev pub eight_by : Option Answer → Option Order → Option Bool
 eight_by (Some (Says SenderOk)) order = Some (is_eight order)
 eight_by _ order = None
 
-abbrev pub with_rows : Option Answer → Said → List Draw → List Draw
-with_rows (Some (Says RecipientOk)) said rows = rows ++ drawn_in said
-with_rows _ said rows = rows
+-- the rows with those of a line, by its answer and by what it asks
+abbrev pub with_rows : Option Answer → Option Order → Said → List Draw → List Draw
+with_rows (Some (Says RecipientOk)) order said rows = rows ++ drawn_in said
+with_rows _ order said rows = rows
 
 abbrev pub with_recipient : Option Answer → ℕ → ℕ
 with_recipient (Some (Says RecipientOk)) count = count + 1
@@ -156,7 +155,7 @@ eight_of (e ∷ es) = or_else (eight_by e.answer (asked e.line)) (eight_of es)
 
 abbrev pub rows_of : List Exchange → List Draw
 rows_of [] = []
-rows_of (e ∷ es) = with_rows e.answer e.said (rows_of es)
+rows_of (e ∷ es) = with_rows e.answer (asked e.line) e.said (rows_of es)
 
 abbrev pub count_of : List Exchange → ℕ
 count_of [] = 0
@@ -435,14 +434,14 @@ dialogue config peer heard = reverse (exchanges config peer heard)
 
 -- what is done at an answer, where there was memory, by the bytes that a message may have; lines
 -- of a message follow 354 alone
-abbrev pub did_of : List ℕ → ℕ → Answer → Did
+abbrev pub did_of : List ℕ → ℕ → Answer → Deed
 did_of host limit (Says reply) = Replied (text_of reply)
 did_of host limit (Refuses error) = Replied (refusal_text error)
 did_of host limit Greets = Replied (hello_text host)
 did_of host limit Extends = Replied (extended_text host limit)
 did_of host limit Grants = Granted grant_text
-did_of host limit Closes = Bye (closing_text host)
-did_of host limit (Gives message) = Message message
+did_of host limit Closes = Parted (closing_text host)
+did_of host limit (Gives mail) = Received mail
 did_of host limit Takes = Taken
 
 -- the reply to a line, if it gets one: 452 4.3.1 where there was no memory for its answer; to a

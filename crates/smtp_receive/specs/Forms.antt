@@ -4,14 +4,14 @@ use Rattle.std.specs.Prelude.{◌≡◌, ◌⊎◌, ℕ, ◌≤◌, true, List, 
 use Rattle.mail_base.specs.Limits.{most_message}
 use Rattle.mail_base.specs.Texts.{IsLine, IsBracketed, IsHeader}
 use Rattle.mail_base.specs.declared.config.Config.{Config}
-use Rattle.mail_base.specs.declared.message.Message.{Message}
 use Rattle.mail_header.specs.Headers.{IsSplit}
 use Rattle.smtp_receive.specs.Dialogue.{Exchange, Heard, exchanges, no_marks, question}
 use Rattle.mail_base.specs.Drawing.{AreRows}
+use Rattle.smtp_receive.specs.Mails.{Mail}
 use Rattle.smtp_receive.specs.Judging.{IsFormedSaid, Question, Said, is_answer_to}
 
 -- a message of this peer has its parts in these forms
-pub record IsFormed (message : Message) (peer : List ℕ) : Type 0 where
+pub record IsFormed (message : Mail) (peer : List ℕ) : Type 0 where
   pub sender_form : IsBracketed message.sender
   pub rows_form : AreRows message.rows
   pub headers_form : All IsHeader message.headers
@@ -22,7 +22,7 @@ pub record IsFormed (message : Message) (peer : List ℕ) : Type 0 where
   pub client_is : message.kept.client ≡ peer
 
 -- a message has the headers and the body of this text, by the grammar of mail_header
-pub record IsSplitOf (message : Message) (text : List ℕ) : Type 0 where
+pub record IsSplitOf (message : Mail) (text : List ℕ) : Type 0 where
   pub block : ℕ
   pub split : IsSplit text
       (record { headers = message.headers; body = message.body; block = block })

@@ -1,7 +1,7 @@
 pub mod Judging
+pub mod Mails
 pub mod Replies
 pub mod Dialogue
-pub mod SessionMacros
 pub mod Sessions
 pub mod Forms
 pub mod Finals

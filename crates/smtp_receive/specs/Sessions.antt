@@ -9,6 +9,7 @@ use Rattle.mail_header.specs.Gatherings.{Gathers, IsSmall}
 use Rattle.smtp_receive.specs.declared.did.Did.{Did}
 use Rattle.smtp_receive.specs.declared.session.Session.{Session}
 use Rattle.smtp_receive.specs.Judging.{Question, Said, IsSaid}
+use Rattle.smtp_receive.specs.Mails.{deed_of}
 use Rattle.smtp_receive.specs.Replies.{shown_host}
 use Rattle.smtp_receive.specs.Dialogue.{Heard, Exchange, Answer, exchanges, answer_to, question, sender_in, eight_in, rows_in, count_in, lines_in, kept_in, did_of}
 
@@ -54,7 +55,7 @@ pub record Answered (seen : Answerer) (Test : Question → Said → Type 0) (ses
     : Type 0 where
   pub said : Said
   pub is_said : IsSaid seen Test (question_of config peer heard line) said
-  pub did_is : did ≡ did_of (shown_host host) (message_limit config.options)
+  pub did_is : deed_of did ≡ did_of (shown_host host) (message_limit config.options)
       (answer_of config peer heard said line)
   pub stands : (id : Option ℕ) → Stands session config host peer
       (heard ++ record { line = line; said = said; short = false; id = id } ∷ [])

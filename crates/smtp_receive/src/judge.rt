@@ -1,7 +1,7 @@
 ghost use Rattle.std.specs.Prelude.{◌≡◌, true, IfOk};
-ghost use Rattle.mail_base.specs.Answering.{Answerer, HasAnswered, HasJudgeCause, TellsOne};
+ghost use Rattle.mail_base.specs.Answering.{Answerer, HasAnswered, HasJudgeCause, TellsOne, is_calm};
 ghost use Rattle.mail_base.specs.Texts.{IsBracketed};
-ghost use Rattle.smtp_receive.specs.Judging.{AsksRecipient, AsksSender, IsFormedSaid, OfRecipient, OfSender, Question, Said, as_said, is_calm};
+ghost use Rattle.smtp_receive.specs.Judging.{AsksRecipient, AsksSender, IsFormedSaid, OfRecipient, OfSender, Question, Said, as_said};
 
 use mail_base::{Draw, JudgeFault, Kept, RouteError, Seq, Text};
 use std::alloc::Global;

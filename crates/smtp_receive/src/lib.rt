@@ -7,7 +7,6 @@ mod did;
 mod ending;
 mod judge;
 mod law;
-mod macros;
 mod path;
 mod reply;
 mod request;
@@ -17,9 +16,8 @@ mod steps;
 pub use did::Did;
 pub use judge::{Judge, Verdict};
 pub use law::{
-    a_final_reply_tells_its_message, messages_are_split, messages_have_forms,
-    no_other_reply_is_final, one_exchange_a_line, one_reply_a_line,
+    a_final_reply_tells_its_message, lines_are_split_by_the_grammar, messages_are_split,
+    messages_have_forms, no_other_reply_is_final, one_exchange_a_line, one_reply_a_line,
 };
-pub use macros::session_macros;
 pub use reply::{out_of_memory, too_many_sessions};
 pub use session::Session;

@@ -1,8 +1,8 @@
 ghost use Rattle.std.specs.Prelude.{◌≡◌, ◌∷◌, ◌++◌, [], List, ℕ, Bool, Option, None, Ok, true, false, IfOk, OnErr, codes};
-ghost use Rattle.mail_base.specs.Answering.{HasJudgeCause};
+ghost use Rattle.mail_base.specs.Answering.{HasJudgeCause, is_calm};
 ghost use Rattle.mail_base.specs.Texts.{crlf};
 ghost use Rattle.smtp_receive.specs.Dialogue.{Heard, exchanges, is_dropped};
-ghost use Rattle.smtp_receive.specs.Judging.{IsSteady, Said, is_calm};
+ghost use Rattle.smtp_receive.specs.Judging.{IsSteady, Said};
 ghost use Rattle.smtp_receive.specs.Replies.{greeting_text, stored_text, shown_host};
 ghost use Rattle.smtp_receive.specs.Sessions.{Answered, IsBounded, Stands, question_of, cleared};
 ghost use Rattle.mail_base.specs.declared.config.Config.{Config as Configuration};
@@ -71,7 +71,7 @@ impl Session {
     ///
     /// After an error the session is as before. After `NoMemory` the caller replies 452 4.3.1 and
     /// calls [`Session::reset`]; a line that gets no reply in any case takes no memory. A
-    /// `FilesFault` is the judge's.
+    /// `FilesFault` is the judge's, and comes at no line at which it isn't asked.
     pub fn line<J: Judge>(
         &mut self,
         line: &Line,
@@ -92,6 +92,9 @@ impl Session {
         ensures unasked { (host peer : List ℕ) (heard : List Heard)
             → Stands self.old config.now host peer heard
             → question_of config.now peer heard line.now ≡ None → judge.new ≡ judge.old }
+        ensures quiet { (host peer : List ℕ) (heard : List Heard)
+            → Stands self.old config.now host peer heard
+            → question_of config.now peer heard line.now ≡ None → is_calm result ≡ true }
         ensures err { OnErr result (self.new ≡ self.old) }
         ensures cause { HasJudgeCause (J.seen judge.old).faults (J.seen judge.new).faults result }
         ensures calm { is_calm result ≡ true

@@ -1,4 +1,5 @@
 ghost use Rattle.std.specs.Prelude.{◌≡◌, ◌∷◌, ◌++◌, ◌<◌, ◌≤◌, ◌+◌, ◌-◌, ◌^◌, [], List, ℕ, Option, Some, None, Ok, Err, true, false, is_some, length, nat_lt, IfOk, IsOk, OnOk, OnErr, IfSome, codes};
+ghost use Rattle.mail_base.specs.Answering.{is_calm};
 ghost use Rattle.mail_base.specs.Limits.{message_limit, most_headers, most_message, most_rows, recipient_limit};
 ghost use Rattle.mail_base.specs.Refusals.{IsRefusal};
 ghost use Rattle.mail_base.specs.Texts.{IsLine};
@@ -7,6 +8,7 @@ ghost use Rattle.smtp_lines.specs.Commands.{Extend, From, Greet, To};
 ghost use Rattle.smtp_lines.specs.Reading.{order_of};
 ghost use Rattle.smtp_receive.specs.Dialogue.{Exchange, asked, bracketed, data_answer, did_of, is_uncut, mail_fault, rcpt_fault, read_in, recipient_answer, sender_answer, with_text};
 ghost use Rattle.smtp_receive.specs.Judging.{Answers, AsksRecipient, AsksSender, IsFormedSaid, OfRecipient, OfSender, drawn_in, refusal_in};
+ghost use Rattle.smtp_receive.specs.Mails.{Parted, Replied, deed_of};
 ghost use Rattle.smtp_receive.specs.Replies.{closing_text, extended_text, hello_text, refusal_text, text_of};
 ghost use Rattle.smtp_receive.specs.Sessions.{Holds, Keeps, cleared};
 ghost use Rattle.smtp_receive.specs.inner.Steps as spec;
@@ -44,6 +46,8 @@ impl Session {
             → result ≡ Ok Did.Taken }
         ensures unasked { question_by config.now self.old (asked line.now) ≡ None
             → judge.new ≡ judge.old }
+        ensures quiet { question_by config.now self.old (asked line.now) ≡ None
+            → is_calm result ≡ true }
         ensures err { OnErr result (self.new ≡ self.old) }
         ensures uses { Uses (J.seen judge.old) (J.seen judge.new) (J.answers judge.old)
             (J.answers judge.new) result }
@@ -75,6 +79,8 @@ impl Session {
             → result ≡ Ok Did.Taken }
         ensures unasked { question_by config.now self.old (asked line.now) ≡ None
             → judge.new ≡ judge.old }
+        ensures quiet { question_by config.now self.old (asked line.now) ≡ None
+            → is_calm result ≡ true }
         ensures err { OnErr result (self.new ≡ self.old) }
         ensures uses { Uses (J.seen judge.old) (J.seen judge.new) (J.answers judge.old)
             (J.answers judge.new) result }
@@ -98,6 +104,8 @@ impl Session {
             config.now (order_of line.now)) }
         ensures unasked { question_by config.now self.old (read_in (order_of line.now)) ≡ None
             → judge.new ≡ judge.old }
+        ensures quiet { question_by config.now self.old (read_in (order_of line.now)) ≡ None
+            → is_calm result ≡ true }
         ensures err { OnErr result (self.new ≡ self.old) }
         ensures uses { Uses (J.seen judge.old) (J.seen judge.new) (J.answers judge.old)
             (J.answers judge.new) result }
@@ -120,14 +128,14 @@ impl Session {
     }
 
     fn say(&self, reply: Reply) -> Result<Did, NoMemory>
-        ensures { IfOk result (λ did. did ≡ Did.Reply (text_of reply)) }
+        ensures { IfOk result (λ did. deed_of did ≡ Replied (text_of reply)) }
     {
         Ok(Did::Reply(reply.text(self.host.allocator())?))
     }
 
     fn refuse(&self, error: &RouteError) -> Result<Did, NoMemory>
         requires { IsRefusal error.now }
-        ensures { IfOk result (λ did. did ≡ Did.Reply (refusal_text error.now)) }
+        ensures { IfOk result (λ did. deed_of did ≡ Replied (refusal_text error.now)) }
     {
         Ok(Did::Reply(refusal(self.host.allocator(), error)?))
     }
@@ -135,7 +143,8 @@ impl Session {
 
 // What a call that asks no judge has done.
 fn judged(done: Result<Did, NoMemory>) -> Result<Did, JudgeFault>
-    ensures { result ≡ spec.judged done }
+    ensures is { result ≡ spec.judged done }
+    ensures calm { is_calm result ≡ true }
 {
     match done {
         Ok(did) => Ok(did),
@@ -147,7 +156,7 @@ fn judged(done: Result<Did, NoMemory>) -> Result<Did, JudgeFault>
 
 impl Session {
     fn helo(&mut self, argument: &[u8]) -> Result<Did, NoMemory>
-        ensures did { IfOk result (λ did. did ≡ Did.Reply (hello_text self.old.host)) }
+        ensures did { IfOk result (λ did. deed_of did ≡ Replied (hello_text self.old.host)) }
         ensures ok { IfOk result
             (λ _. self.new ≡ greeted self.old (Some (Greet argument.now))) }
         ensures err { OnErr result (self.new ≡ self.old) }
@@ -158,8 +167,8 @@ impl Session {
     }
 
     fn ehlo(&mut self, argument: &[u8], config: &Config) -> Result<Did, NoMemory>
-        ensures did { IfOk result (λ did. did
-            ≡ Did.Reply (extended_text self.old.host (message_limit config.now.options))) }
+        ensures did { IfOk result (λ did. deed_of did
+            ≡ Replied (extended_text self.old.host (message_limit config.now.options))) }
         ensures ok { IfOk result
             (λ _. self.new ≡ greeted self.old (Some (Extend argument.now))) }
         ensures err { OnErr result (self.new ≡ self.old) }
@@ -185,7 +194,7 @@ impl Session {
     }
 
     fn rset(&mut self) -> Result<Did, NoMemory>
-        ensures did { IfOk result (λ did. did ≡ Did.Reply (text_of Reply.ResetState)) }
+        ensures did { IfOk result (λ did. deed_of did ≡ Replied (text_of Reply.ResetState)) }
         ensures ok { IfOk result (λ _. self.new ≡ cleared self.old) }
         ensures err { OnErr result (self.new ≡ self.old) }
     {
@@ -195,7 +204,7 @@ impl Session {
     }
 
     fn quit(&self) -> Result<Did, NoMemory>
-        ensures { IfOk result (λ did. did ≡ Did.Bye (closing_text self.now.host)) }
+        ensures { IfOk result (λ did. deed_of did ≡ Parted (closing_text self.now.host)) }
     {
         Ok(Did::Bye(self.with_host(b"221 2.0.0 ", b" closing connection")?))
     }
@@ -217,6 +226,8 @@ impl Session {
             config.now (Ok (From path.now size eight))) }
         ensures unasked { question_by config.now self.old (Some (From path.now size eight)) ≡ None
             → judge.new ≡ judge.old }
+        ensures quiet { question_by config.now self.old (Some (From path.now size eight)) ≡ None
+            → is_calm result ≡ true }
         ensures err { OnErr result (self.new ≡ self.old) }
         ensures uses { Uses (J.seen judge.old) (J.seen judge.new) (J.answers judge.old)
             (J.answers judge.new) result }
@@ -265,7 +276,7 @@ impl Session {
         requires form { IsFormedSaid (OfSender refused) }
         requires path { sender ≡ bracketed path.now }
         ensures did { IfOk result
-            (λ did. did ≡ did_of self.old.host (message_limit config.now.options)
+            (λ did. deed_of did ≡ did_of self.old.host (message_limit config.now.options)
             (sender_answer refused (is_uncut config.now.options.operator_chars path.now))) }
         ensures ok { IfOk result
             (λ _. self.new ≡ spec.with_sender self.old
@@ -289,7 +300,7 @@ impl Session {
     ) -> Result<Did, NoMemory>
         requires { sender ≡ bracketed path.now }
         ensures did { IfOk result
-            (λ did. did ≡ did_of self.old.host (message_limit config.now.options)
+            (λ did. deed_of did ≡ did_of self.old.host (message_limit config.now.options)
             (sender_answer None (is_uncut config.now.options.operator_chars path.now))) }
         ensures ok { IfOk result
             (λ _. self.new ≡ spec.with_sender self.old
@@ -321,6 +332,8 @@ impl Session {
             config.now (Ok (To path.now))) }
         ensures unasked { question_by config.now self.old (Some (To path.now)) ≡ None
             → judge.new ≡ judge.old }
+        ensures quiet { question_by config.now self.old (Some (To path.now)) ≡ None
+            → is_calm result ≡ true }
         ensures err { OnErr result (self.new ≡ self.old) }
         ensures uses { Uses (J.seen judge.old) (J.seen judge.new) (J.answers judge.old)
             (J.answers judge.new) result }
@@ -383,7 +396,7 @@ impl Session {
         requires form { IsFormedSaid (OfRecipient verdict) }
         requires count { self.old.count < 2 ^ 64 - 1 }
         ensures did { (limit : ℕ) → IfOk result
-            (λ did. did ≡ did_of self.old.host limit
+            (λ did. deed_of did ≡ did_of self.old.host limit
             (spec.verdict_answer self.old (OfRecipient verdict))) }
         ensures ok { IfOk result
             (λ _. self.new ≡ after self.old (spec.verdict_answer self.old (OfRecipient verdict))
@@ -399,7 +412,7 @@ impl Session {
     fn take_rows(&mut self, rows: Seq<Draw>) -> Result<Did, NoMemory>
         requires { self.old.count < 2 ^ 64 - 1 }
         ensures did { (limit : ℕ) → IfOk result
-            (λ did. did ≡ did_of self.old.host limit (recipient_answer None
+            (λ did. deed_of did ≡ did_of self.old.host limit (recipient_answer None
             (nat_lt most_rows (length self.old.rows + length rows)))) }
         ensures many { IfOk result
             (λ _. nat_lt most_rows (length self.old.rows + length rows) ≡ true
@@ -446,7 +459,7 @@ fn append(rows: &mut Seq<Draw>, more: Seq<Draw>) -> Result<(), NoMemory>
 impl Session {
     fn begin_data(&mut self) -> Result<Did, NoMemory>
         ensures did { (limit : ℕ) → IfOk result
-            (λ did. did ≡ did_of self.old.host limit (data_answer self.old.count)) }
+            (λ did. deed_of did ≡ did_of self.old.host limit (data_answer self.old.count)) }
         ensures refused { IfOk result (λ _. self.old.count ≡ 0 → self.new ≡ self.old) }
         ensures ok { IfOk result (λ _. 0 < self.old.count
             → (limit : ℕ) → BeginsMessage limit self.old self.new) }
@@ -508,7 +521,7 @@ impl Session {
     fn give(&mut self, kept: Kept, refusal: Text, config: &Config) -> Did
         requires { refusal ≡ text_of Reply.TooManyHops }
         ensures did { spec.IsSmallIfSome self.old.message
-            → result ≡ given_by config.now self.old kept }
+            → deed_of result ≡ given_by config.now self.old kept }
         ensures ok { self.new ≡ cleared self.old }
     {
         let eight = self.eight;
@@ -551,7 +564,7 @@ fn message_or(
 ) -> Did
     requires { refusal ≡ text_of Reply.TooManyHops }
     ensures { length message.headers ≤ most_headers
-        → result ≡ spec.given_or config.now message sender rows eight kept }
+        → deed_of result ≡ spec.given_or config.now message sender rows eight kept }
 {
     let size = message.size();
     let split = message.into_split();

@@ -7,6 +7,7 @@ use Rattle.smtp_lines.specs.declared.line.Line.{Line}
 use Rattle.smtp_lines.specs.declared.line.Line.TheVariants.{DataEnd}
 use Rattle.mail_base.specs.declared.message.Message.{Message}
 use Rattle.smtp_receive.specs.Dialogue.{Heard, Gives}
+use Rattle.smtp_receive.specs.Mails.{mail_of}
 use Rattle.smtp_receive.specs.Judging.{Said, Unasked}
 use Rattle.smtp_receive.specs.Replies.{out_of_memory_text}
 use Rattle.smtp_receive.specs.Sessions.{Stands as Speaks}
@@ -104,18 +105,18 @@ message_by site moment d message (Normal said made whole) =
     accepts site moment d message made whole
 message_by site moment d message (OutOfMemory whole) = says d out_of_memory_text whole
 message_by site moment d message Disconnects = is_over d Cut
-message_by site moment d message (SpoolFails made) = fails site moment d (Gives message) made
+message_by site moment d message (SpoolFails made) = fails site moment d (Gives (mail_of message)) made
 message_by site moment d message JudgeFails = is_over d Cut
 
 -- at a message nothing is put to the judge, and what is made of it is what the configuration says
 abbrev pub IsMessageMeant : Site → ℕ → Did → Message → Choice → Type 0
 IsMessageMeant site moment d message (Normal said made whole) =
-    (said ≡ Unasked) × IsMadeAt site moment d.table (Gives message) made
+    (said ≡ Unasked) × IsMadeAt site moment d.table (Gives (mail_of message)) made
 IsMessageMeant site moment d message (OutOfMemory whole) = Unit {0}
 IsMessageMeant site moment d message Disconnects = Unit {0}
 IsMessageMeant site moment d message JudgeFails = ⊥
 IsMessageMeant site moment d message (SpoolFails made) =
-    IsMadeAt site moment d.table (Gives message) made
+    IsMadeAt site moment d.table (Gives (mail_of message)) made
 
 -- what the judge said
 abbrev pub said_in : Choice → Said

@@ -19,4 +19,4 @@ pub record IsUnderWay (j : JudgeSeen) (site : Site) (table : Table) (core : Core
   pub ran : Ran site.dirs table a b (run_over site table turns).effects true
   pub readings : b.clock.readings ≡ a.clock.readings + count
   pub stands : Stands site core (run_over site table turns).state
-  pub tallied : IsTallied core b.spool.told
+  pub tallied : IsTallied core b.spool

@@ -1,6 +1,6 @@
 -- What private contracts say of a session's steps.
 use Rattle.std.specs.Prelude.{◌≡◌, ◌≤◌, ℕ, ◌+◌, nat_lt, Bool, true, false, IfSome, List, [], ◌∷◌, ◌++◌, length, Option, Some, None, unwrap_or, Result, Ok, Err, if◌then◌else◌}
-use Rattle.mail_base.specs.Answering.{Answerer, HasJudgeCause}
+use Rattle.mail_base.specs.Answering.{Answerer, HasJudgeCause, is_calm}
 use Rattle.mail_base.specs.Limits.{message_limit, most_headers, most_rows}
 use Rattle.mail_base.specs.declared.command.LineFault.{LineFault}
 use Rattle.mail_base.specs.declared.config.Config.{Config}
@@ -9,7 +9,6 @@ use Rattle.mail_base.specs.declared.fault.JudgeFault.{JudgeFault}
 use Rattle.mail_base.specs.declared.fault.JudgeFault.TheVariants.{NoMemory as JudgeMemory}
 use Rattle.mail_base.specs.declared.fault.NoMemory.{NoMemory}
 use Rattle.mail_base.specs.declared.message.Kept.{Kept}
-use Rattle.mail_base.specs.declared.message.Message.{Message as Mails}
 use Rattle.mail_base.specs.declared.route.RouteError.{RouteError}
 use Rattle.mail_header.specs.Fields.{class_in, hops_of}
 use Rattle.mail_header.specs.Gatherings.{is_above}
@@ -18,11 +17,11 @@ use Rattle.smtp_lines.specs.Commands.{Order}
 use Rattle.smtp_lines.specs.declared.line.Line.{Line}
 use Rattle.smtp_lines.specs.declared.line.Line.TheVariants.{Command, TooLong, Data as DataLine, DataEnd}
 use Rattle.smtp_receive.specs.Dialogue.{Answer, Says, Greets, Extends, Grants, Exchange, Standing, answer_to, argument_in, bracketed, command_answer, did_of, is_eight, is_uncut, no_marks, order_question, or_else, path_in, protocol_of, question, read_in, recipient_answer, sender_answer, with_text}
-use Rattle.smtp_receive.specs.Judging.{Answers, AsksRecipient, AsksSender, Question, Said, OfRecipient, OfSender, IsSaid, IsSteady, drawn_in, is_calm, refusal_in}
+use Rattle.smtp_receive.specs.Judging.{Answers, AsksRecipient, AsksSender, Question, Said, OfRecipient, OfSender, IsSaid, IsSteady, drawn_in, refusal_in}
 use Rattle.smtp_receive.specs.Replies.{shown_host, text_of}
 use Rattle.smtp_receive.specs.Sessions.{Holds, Keeps, cleared}
+use Rattle.smtp_receive.specs.Mails.{Deed, Mail, Received, Replied, Taken, deed_of}
 use Rattle.smtp_receive.specs.declared.did.Did.{Did}
-use Rattle.smtp_receive.specs.declared.did.Did.TheVariants.{Reply as Replied, Message, Taken}
 use Rattle.smtp_receive.specs.declared.ending.End.{End}
 use Rattle.smtp_receive.specs.declared.ending.End.TheVariants.{Nothing, Refused, Whole}
 use Rattle.smtp_receive.specs.declared.judge.Verdict.{Verdict}
@@ -94,7 +93,7 @@ pub record Does (seen : Answerer) (Test : Question → Said → Type 0) (old new
     (config : Config) (read : Result Order LineFault) (did : Did) : Type 0 where
   pub said : Said
   pub is_said : IsSaid seen Test (question_by config old (read_in read)) said
-  pub did_is : did ≡ did_of old.host (message_limit config.options)
+  pub did_is : deed_of did ≡ did_of old.host (message_limit config.options)
       (answer_by config old said read)
   pub changes : Changes config old new (answer_by config old said read) (read_in read) said
 
@@ -108,7 +107,7 @@ pub record ChecksSender (seen : Answerer) (Test : Question → Said → Type 0) 
     (config : Config) (path : List ℕ) (eight : Bool) (did : Did) : Type 0 where
   pub refusal : Option RouteError
   pub answers : Answers seen Test (AsksSender (bracketed path) old.kept) (OfSender refusal)
-  pub did_is : did ≡ did_of old.host (message_limit config.options)
+  pub did_is : deed_of did ≡ did_of old.host (message_limit config.options)
       (sender_answer refusal (is_uncut config.options.operator_chars path))
   pub new_is : new ≡ with_sender old
       (sender_answer refusal (is_uncut config.options.operator_chars path)) (bracketed path) eight
@@ -124,7 +123,7 @@ pub record ChecksRecipient (seen : Answerer) (Test : Question → Said → Type 
   pub verdict : Verdict
   pub answers : (sender : List ℕ) → old.sender ≡ Some sender
       → Answers seen Test (AsksRecipient (bracketed path) sender old.kept) (OfRecipient verdict)
-  pub did_is : did ≡ did_of old.host limit (verdict_answer old (OfRecipient verdict))
+  pub did_is : deed_of did ≡ did_of old.host limit (verdict_answer old (OfRecipient verdict))
   pub new_is : new ≡ after old (verdict_answer old (OfRecipient verdict)) None
       (OfRecipient verdict)
 
@@ -134,7 +133,7 @@ pub record Goes (seen : Answerer) (Test : Question → Said → Type 0) (s : Ses
     : Type 0 where
   pub said : Said
   pub is_said : IsSaid seen Test (question config peer before line) said
-  pub did_is : did ≡ did_of (shown_host host) (message_limit config.options)
+  pub did_is : deed_of did ≡ did_of (shown_host host) (message_limit config.options)
       (answer_to config peer before said line)
   pub keeps : Keeps s config host peer (record {
     line = line;
@@ -169,8 +168,8 @@ end_of limit (Some sender) (Some g) = ending_of limit g
 end_of limit _ _ = Nothing
 
 -- the message of the lines that are kept
-abbrev pub message_of : Config → Gathered → List ℕ → List Draw → Bool → Kept → Mails
-message_of config g sender rows eight kept = record {
+abbrev pub gathered_mail : Config → Gathered → List ℕ → List Draw → Bool → Kept → Mail
+gathered_mail config g sender rows eight kept = record {
   sender = sender;
   rows = rows;
   headers = g.headers;
@@ -183,19 +182,19 @@ message_of config g sender rows eight kept = record {
 }
 
 -- what is done at it, by how many hosts it has passed
-abbrev pub given_or : Config → Gathered → List ℕ → List Draw → Bool → Kept → Did
+abbrev pub given_or : Config → Gathered → List ℕ → List Draw → Bool → Kept → Deed
 given_or config g sender rows eight kept =
     if is_above config.options.max_hop_count (hops_of g.headers)
     then Replied (text_of TooManyHops)
-    else Message (message_of config g sender rows eight kept)
+    else Received (gathered_mail config g sender rows eight kept)
 
 -- what is done where a message is given
-abbrev pub given_in : Config → Kept → Bool → List Draw → Option (List ℕ) → Option Gathered → Did
+abbrev pub given_in : Config → Kept → Bool → List Draw → Option (List ℕ) → Option Gathered → Deed
 given_in config kept eight rows (Some sender) (Some g) =
     given_or config g sender rows eight kept
 given_in config kept eight rows _ _ = Taken
 
-abbrev pub given_by : Config → Session → Kept → Did
+abbrev pub given_by : Config → Session → Kept → Deed
 given_by config s kept = given_in config kept s.eight s.rows s.sender s.message
 
 -- no more headers are kept than a header block has bytes
@@ -203,12 +202,12 @@ abbrev pub IsSmallIfSome : Option Gathered → Type 0
 IsSmallIfSome message = IfSome message (λ g. length g.headers ≤ most_headers)
 
 -- what is done at the end of data, by what it comes to
-abbrev pub ends_as : Did → End → Did
+abbrev pub ends_as : Deed → End → Deed
 ends_as given Nothing = Taken
 ends_as given (Refused reply) = Replied (text_of reply)
 ends_as given Whole = given
 
 abbrev pub Ends : Config → Session → Did → Type 0
-Ends config s did = did
+Ends config s did = deed_of did
     ≡ ends_as (given_by config s s.kept)
     (end_of (message_limit config.options) s.sender s.message)

@@ -2,7 +2,7 @@ use Rattle.std.proofs.Common.{Err, ap, ◌∙◌}
 use Rattle.mail_base.specs.declared.fault.StoreFault.{StoreFault}
 use Rattle.spool_store.specs.Keepers.{seen as queue_seen}
 use Rattle.sendmail_run.specs.Serving.{judge_by, session_site}
-use Rattle.sendmail_run.proofs.OpeningLemmas.{found_of, no_maps, quiet_by, rises_by, serves_unopened, sparing_of, taken_none, taken_of, unserved, untouched}
+use Rattle.sendmail_run.proofs.OpeningLemmas.{found_of, no_maps, quiet_by, rises_by, serves_unopened, sparing_of, taken_none, tallied_over, taken_of, unserved, untouched}
 use Rattle.sendmail_run.proofs.session_mode.opened.Goals as goal
 
 -- there is no memory for the directories
@@ -45,7 +45,7 @@ returns-in-Ok-core_over-clause-core g c = λ maps. record {
 }
 
 pub returns-in-Ok-core_over-clause-tallied : goal.returns-in-Ok-core_over-clause-tallied
-returns-in-Ok-core_over-clause-tallied g c = c.in-Ok-core_over.ensures.tallied (g.D.Spool.seen c.open.new.spool).told c.in-Ok-open.ensures.agrees
+returns-in-Ok-core_over-clause-tallied g c = tallied_over c.in-Ok-open.queue c.in-Ok-core_over.core (g.D.Spool.seen c.open.new.spool) c.in-Ok-core_over.ensures.queue c.in-Ok-open.ensures.agrees
 
 pub returns-in-Ok-core_over-clause-sparing : goal.returns-in-Ok-core_over-clause-sparing
 returns-in-Ok-core_over-clause-sparing g c =

@@ -28,7 +28,7 @@ invariant-answers g l = record {
   own : (g.F.Floor.seen l.floor).faults ≡ (g.F.Floor.seen l.fn.floor).faults;
   begun : (g.F.Floor.seen l.floor).begun ≡ (g.F.Floor.seen l.fn.floor).begun;
   calm : (g.D.Spool.seen l.spool).faults ≡ (g.D.Spool.seen l.fn.spool).faults;
-  tallied : Tallies l.self.table (g.D.Spool.seen l.spool).told;
+  tallied : Tallies l.self.table (g.D.Spool.seen l.spool);
   sound : IsSoundAt (g.F.Floor.seen l.floor) l.caller.number;
 }
 

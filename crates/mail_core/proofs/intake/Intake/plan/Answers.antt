@@ -4,7 +4,7 @@ use Rattle.mail_base.specs.declared.message.Cut.{Cut}
 use Rattle.mail_base.specs.declared.message.Message.{Message}
 use Rattle.queue_table.specs.Calls.{AreValid}
 use Rattle.queue_table.specs.Soundness.{AreCuts}
-use Rattle.mail_core.specs.inner.Made.{IsMessageMade}
+use Rattle.mail_core.specs.Messages.{IsMessageMade}
 use Rattle.mail_core.proofs.FormLemmas.{parts_are}
 use Rattle.mail_core.proofs.PartLemmas.{lacks_all, lacks_some}
 use Rattle.mail_core.proofs.intake.Intake.plan.Goals as goal

@@ -26,10 +26,10 @@ returns-in-Stop-clause-steps g c = λ site m clock under st. rw c.in-Stop.is (st
 
 -- the store is as it was
 pub returns-in-Opened-clause-tallied : goal.returns-in-Opened-clause-tallied
-returns-in-Opened-clause-tallied g c = λ well. subst (λ (i : Intake). Tallies i.table (g.D.Spool.seen c.args.spool.now).told) (sym c.open.ensures.intake) c.requires.tallied
+returns-in-Opened-clause-tallied g c = λ well. subst (λ (i : Intake). Tallies i.table (g.D.Spool.seen c.args.spool.now)) (sym c.open.ensures.intake) c.requires.tallied
 
 pub returns-in-Closed-clause-tallied : goal.returns-in-Closed-clause-tallied
-returns-in-Closed-clause-tallied g c = λ well. subst (λ (i : Intake). Tallies i.table (g.D.Spool.seen c.args.spool.now).told) (sym c.take-caller.ensures.intake) c.requires.tallied
+returns-in-Closed-clause-tallied g c = λ well. subst (λ (i : Intake). Tallies i.table (g.D.Spool.seen c.args.spool.now)) (sym c.take-caller.ensures.intake) c.requires.tallied
 
 pub returns-in-Opened-clause-asked : goal.returns-in-Opened-clause-asked
 returns-in-Opened-clause-asked g c = asked_none (judge_seen (g.J.Judge.seen c.args.judge.now) (g.J.Judge.answers c.args.judge.now))

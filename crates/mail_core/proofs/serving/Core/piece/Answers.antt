@@ -39,10 +39,10 @@ returns-clause-steps g c = λ site m clock under st.
 
 -- the store is as it was
 pub returns-in_default-clause-tallied : goal.returns-in_default-clause-tallied
-returns-in_default-clause-tallied g c = λ well. subst (λ (i : Intake). Tallies i.table (g.D.Spool.seen c.args.spool.now).told) (sym c.in_default.ensures.intake) c.requires.tallied
+returns-in_default-clause-tallied g c = λ well. subst (λ (i : Intake). Tallies i.table (g.D.Spool.seen c.args.spool.now)) (sym c.in_default.ensures.intake) c.requires.tallied
 
 pub feed-requires-clause-tallied : goal.feed-requires-clause-tallied
-feed-requires-clause-tallied g c = subst (λ (i : Intake). Tallies i.table (g.D.Spool.seen c.args.spool.now).told) (sym c.in-Some.ensures.intake) c.requires.tallied
+feed-requires-clause-tallied g c = subst (λ (i : Intake). Tallies i.table (g.D.Spool.seen c.args.spool.now)) (sym c.in-Some.ensures.intake) c.requires.tallied
 
 -- the judge was asked by the piece alone
 pub returns-in_default-clause-asked : goal.returns-in_default-clause-asked

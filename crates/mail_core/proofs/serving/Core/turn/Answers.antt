@@ -11,7 +11,7 @@ handle-requires-clause-standing g c =
     record { site = r.site; under = r.under; state = at_moment r.state c.args.reading; stands = at_stands r.site r.state c.args.self.now c.at.new.self c.args.reading r.stands c.at.ensures.moment c.at.ensures.range }
 
 pub handle-requires-clause-tallied : goal.handle-requires-clause-tallied
-handle-requires-clause-tallied g c = subst (λ (i : Intake). Tallies i.table (g.D.Spool.seen c.args.spool.now).told) (sym c.at.ensures.moment) c.requires.tallied
+handle-requires-clause-tallied g c = subst (λ (i : Intake). Tallies i.table (g.D.Spool.seen c.args.spool.now)) (sym c.at.ensures.moment) c.requires.tallied
 
 pub returns : goal.returns
 returns g c = record {

@@ -15,5 +15,5 @@ rcpt-requires g c = order_is_line c.args.line.now (To c.in-Ok-Rcpt.path.now) (sy
 
 pub returns-in-Ok-Data-clause-does : goal.returns-in-Ok-Data-clause-does
 returns-in-Ok-Data-clause-does g c =
-    data_does c.judged-in-Ok-Data.result c.begin_data.result _ _ c.args.self.now c.begin_data.new.self c.args.config.now (order_of c.args.line.now) c.judged-in-Ok-Data.ensures
+    data_does c.judged-in-Ok-Data.result c.begin_data.result _ _ c.args.self.now c.begin_data.new.self c.args.config.now (order_of c.args.line.now) c.judged-in-Ok-Data.ensures.is
     (sym (rw c.in-Ok-Data.field-0-is at c.in-Ok-Data.ensures)) (c.begin_data.ensures.did (message_limit c.args.config.now.options)) c.begin_data.ensures.refused c.begin_data.ensures.ok

@@ -26,6 +26,11 @@ returns-clause-unasked g c =
     λ host peer heard k none.
     c.answer.ensures.unasked (question_is c.args.self.now c.args.config.now host peer (exchanges c.args.config.now peer heard) c.args.line.now k ∙ none)
 
+pub returns-clause-quiet : goal.returns-clause-quiet
+returns-clause-quiet g c =
+    λ host peer heard k none.
+    c.answer.ensures.quiet (question_is c.args.self.now c.args.config.now host peer (exchanges c.args.config.now peer heard) c.args.line.now k ∙ none)
+
 pub returns-clause-cause : goal.returns-clause-cause
 returns-clause-cause g c = c.answer.ensures.uses.cause
 

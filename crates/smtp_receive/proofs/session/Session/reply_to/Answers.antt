@@ -17,5 +17,5 @@ pub returns-in-DataEnd-clause-goes : goal.returns-in-DataEnd-clause-goes
 returns-in-DataEnd-clause-goes g c =
     λ host peer before k.
     end_goes c.judged-in-DataEnd.result _ _ c.args.self.now c.data_end.new.self c.args.config.now host peer before c.args.line.now c.in-DataEnd.is k
-    (λ small. ok_of (Ends c.args.config.now c.args.self.now) c.judged-in-DataEnd.result c.data_end.result c.judged-in-DataEnd.ensures (c.data_end.ensures.did small))
-    (ok_of (λ _. c.data_end.new.self ≡ cleared c.args.self.now) c.judged-in-DataEnd.result c.data_end.result c.judged-in-DataEnd.ensures c.data_end.ensures.ok)
+    (λ small. ok_of (Ends c.args.config.now c.args.self.now) c.judged-in-DataEnd.result c.data_end.result c.judged-in-DataEnd.ensures.is (c.data_end.ensures.did small))
+    (ok_of (λ _. c.data_end.new.self ≡ cleared c.args.self.now) c.judged-in-DataEnd.result c.data_end.result c.judged-in-DataEnd.ensures.is c.data_end.ensures.ok)
