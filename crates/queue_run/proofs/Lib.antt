@@ -1,0 +1,12 @@
+mod ClaimLemmas
+mod SplitLemmas
+mod ReadyLemmas
+mod StepLemmas
+mod PutLemmas
+mod WaitLemmas
+mod SettleLemmas
+mod StartLemmas
+mod FinishLemmas
+mod HandLemmas
+mod LawLemmas
+mod Examples

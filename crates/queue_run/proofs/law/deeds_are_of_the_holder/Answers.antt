@@ -1,0 +1,6 @@
+-- By the kind of the step.
+use Rattle.queue_run.proofs.LawLemmas.{acted_mine}
+use Rattle.queue_run.proofs.law.deeds_are_of_the_holder.Goals as goal
+
+pub returns : goal.returns
+returns c = λ config moment table h kind luck. (acted_mine config moment table h kind luck).own

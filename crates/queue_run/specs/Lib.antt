@@ -1,0 +1,12 @@
+pub mod inner
+pub mod Results
+pub mod Batches
+pub mod Holders
+pub mod Claims
+pub mod Ready
+pub mod Peers
+pub mod Deeds
+pub mod Kinds
+pub mod Steps
+pub mod Meant
+pub mod Working
