@@ -1,5 +1,5 @@
-//! Tests of the receipt of mail and of control texts, as tables. They stand apart from the
-//! libraries, which a check would else prove twice.
+//! Tests of the receipt of mail, of what a mailer gets of it, and of control texts, as tables. They
+//! stand apart from the libraries, which a check would else prove twice.
 #![tactic(auto)]
 
 #[cfg(test)]
@@ -12,6 +12,8 @@ mod control;
 mod headers;
 #[cfg(test)]
 mod lines;
+#[cfg(test)]
+mod outgoing;
 #[cfg(test)]
 mod receive;
 #[cfg(test)]
