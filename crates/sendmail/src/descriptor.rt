@@ -143,16 +143,18 @@ impl Descriptor {
         }
     }
 
-    /// Whether a name in a directory is that of a directory.
-    pub fn has_dir(&self, name: &[u8]) -> Result<bool, Failed> {
+    /// Whether a name in a directory is that of a file: not of a directory, also of one that may
+    /// not be read, nor of what is gone since it was listed.
+    pub fn has_file(&self, name: &[u8]) -> Result<bool, Failed> {
         for _ in 0..u64::MAX {
             let fd = os::open_dir_at(self.fd, name);
             if fd >= 0 {
                 libc::close(fd);
-                return Ok(true);
+                return Ok(false);
             }
             match os::errno() {
-                libc::ENOTDIR | libc::ELOOP => return Ok(false),
+                libc::ENOTDIR | libc::ELOOP => return Ok(true),
+                libc::ENOENT | libc::EACCES => return Ok(false),
                 libc::EINTR => {}
                 _ => break,
             }

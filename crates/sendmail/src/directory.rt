@@ -1,7 +1,7 @@
 // The names of the files in a directory, of any bytes.
 use crate::descriptor::Descriptor;
 use crate::path::is_dots;
-use mail_base::{EdgeFault, Failed, Text};
+use mail_base::{EdgeFault, Failed, Id, Text};
 use std::alloc::Global;
 
 /// The bytes that one reading of a directory may take; the longest name has 255.
@@ -36,15 +36,25 @@ fn add_names(
     names: &mut Vec<Text>,
 ) -> Result<(), EdgeFault> {
     for name in piece.split(|byte| *byte == 0) {
-        if !name.is_empty() && !is_dots(name) && !dir.has_dir(name)? {
-            add_name(alloc, name, names)?;
+        if !name.is_empty() && !is_dots(name) {
+            add_name(alloc, dir, name, names)?;
         }
     }
     Ok(())
 }
 
-fn add_name(alloc: Global, name: &[u8], names: &mut Vec<Text>) -> Result<(), EdgeFault> {
+// Adds a name, if it is that of a file. What has the name of a file of the queue isn't looked at:
+// a queue has many of these, and makes no directories.
+fn add_name(
+    alloc: Global,
+    dir: &Descriptor,
+    name: &[u8],
+    names: &mut Vec<Text>,
+) -> Result<(), EdgeFault> {
     let name = Text::of(alloc, name)?;
+    if Id::of(&name).is_none() && !dir.has_file(name.bytes())? {
+        return Ok(());
+    }
     match names.push(name) {
         Ok(()) => Ok(()),
         Err(_) => Err(EdgeFault::NoMemory),

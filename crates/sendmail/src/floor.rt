@@ -7,14 +7,16 @@ use crate::counting::counted;
 use crate::limits::Limits;
 use crate::port::Port;
 use crate::standard::{Standard, Wires};
+use delivery_devices::Motion;
 use link_edge::{Begun, Floor, Place, Turn};
 use mail_base::{Failed, Text};
 use std::io;
 use std::io::{ErrorKind, Read, Write};
 
-/// One session on a reader and a writer, or, once it began at a port, many there.
-pub struct SystemFloor<R, W> {
-    site: Site<R, W>,
+/// One session on a reader and a writer, or, once it began at a port, many there. A floor at a port
+/// that shares what moves with the devices of deliveries doesn't wait while these work.
+pub struct SystemFloor<'a, R, W> {
+    site: Site<'a, R, W>,
     begun: Begun,
     faults: u64,
     send_faults: u64,
@@ -22,15 +24,16 @@ pub struct SystemFloor<R, W> {
 
 /// Where the sessions are.
 #[derive(Drop)]
-struct Site<R, W> {
+struct Site<'a, R, W> {
     rt: HostRuntime,
     limits: Limits,
+    motion: Option<&'a Motion>,
     standard: Standard<R, W>,
     port: Option<Port>,
 }
 
 // Written out, since a caller's proof goes through the parts of a derived drop at each way out.
-impl<R: Drop, W: Drop> Drop for SystemFloor<R, W> {
+impl<R: Drop, W: Drop> Drop for SystemFloor<'_, R, W> {
     fn drop(self) {
         let SystemFloor {
             site: _,
@@ -41,7 +44,7 @@ impl<R: Drop, W: Drop> Drop for SystemFloor<R, W> {
     }
 }
 
-impl<R: Read, W: Write> SystemFloor<R, W> {
+impl<'a, R: Read, W: Write> SystemFloor<'a, R, W> {
     /// A floor that didn't begin. A session on a reader and a writer that have no descriptors is
     /// never silent.
     pub fn new(
@@ -50,11 +53,13 @@ impl<R: Read, W: Write> SystemFloor<R, W> {
         writer: W,
         wires: Option<Wires>,
         limits: Limits,
-    ) -> SystemFloor<R, W> {
+        motion: Option<&'a Motion>,
+    ) -> SystemFloor<'a, R, W> {
         SystemFloor {
             site: Site {
                 rt,
                 limits,
+                motion,
                 standard: Standard::new(reader, writer, wires, limits.silence),
                 port: None,
             },
@@ -66,9 +71,10 @@ impl<R: Read, W: Write> SystemFloor<R, W> {
 
     /// Ends all sessions, and writes what waits, for a while.
     pub fn finish(&mut self) {
+        let rt = self.site.rt;
         if let Some(port) = &mut self.site.port {
             // The run is over, and nobody is left to be told.
-            let _ = port.finish(&self.site.rt);
+            let _ = port.finish(&rt);
         }
     }
 
@@ -97,7 +103,7 @@ impl<R: Read, W: Write> SystemFloor<R, W> {
     }
 }
 
-impl<R: Read, W: Write> Site<R, W> {
+impl<R: Read, W: Write> Site<'_, R, W> {
     fn begin(&mut self, place: &Place, most: u64) -> io::Result<()> {
         match place {
             Place::Standard => match self.standard.begin() {
@@ -120,10 +126,18 @@ impl<R: Read, W: Write> Site<R, W> {
     {
         match &mut self.port {
             None => self.standard.turn(buf),
-            Some(port) => match port.turn(&self.rt, buf) {
-                Ok(turn) => Ok(turn),
-                Err(_) => Err(Failed),
-            },
+            Some(port) => {
+                if is_busy(self.motion) {
+                    port.hasten();
+                }
+                match port.turn(&self.rt, buf) {
+                    Ok(turn) => {
+                        note(self.motion, turn);
+                        Ok(turn)
+                    }
+                    Err(_) => Err(Failed),
+                }
+            }
         }
     }
 
@@ -142,7 +156,7 @@ impl<R: Read, W: Write> Site<R, W> {
     }
 }
 
-impl<R: Read, W: Write> Floor for SystemFloor<R, W> {
+impl<R: Read, W: Write> Floor for SystemFloor<'_, R, W> {
     ghost seen = { λ f. record {
       told = None;
       begun = f.begun;
@@ -165,5 +179,21 @@ impl<R: Read, W: Write> Floor for SystemFloor<R, W> {
 
     fn hang_up(&mut self, session: u64) {
         self.site.hang_up(session);
+    }
+}
+
+// Whether the devices of deliveries worked since this was last asked.
+fn is_busy(motion: Option<&Motion>) -> bool {
+    match motion {
+        Some(motion) => motion.take_work(),
+        None => false,
+    }
+}
+
+// Tells the devices of deliveries of a turn that brought something.
+fn note(motion: Option<&Motion>, turn: Turn) {
+    match (motion, turn) {
+        (None, _) | (_, Turn::Idle) => {}
+        (Some(motion), _) => motion.note_move(),
     }
 }

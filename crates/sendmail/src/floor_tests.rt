@@ -2,6 +2,7 @@ use crate::clock::SystemClock;
 use crate::floor::SystemFloor;
 use crate::limits::{LIMITS, Limits};
 use crate::standard::Wires;
+use delivery_devices::Motion;
 use link_edge::{Floor, Place, Turn};
 use mail_base::{NoMemory, Text};
 use mail_edge::Clock;
@@ -9,9 +10,10 @@ use std::io;
 use std::io::{ErrorKind, Read, Write};
 use std::net::{TcpListener, TcpStream};
 use std::test::Fail;
+use std::time::Instant;
 
 /// A floor at a port, with no standard input.
-type PortFloor = SystemFloor<&'static [u8], Vec<u8>>;
+type PortFloor = SystemFloor<'static, &'static [u8], Vec<u8>>;
 
 /// The buffer of a turn.
 type Buffer = [u8; 64];
@@ -211,7 +213,14 @@ fn listening(rt: &HostRuntime, scene: &Scene) -> Option<PortFloor> {
 }
 
 fn not_begun(rt: &HostRuntime, limits: Limits) -> PortFloor {
-    SystemFloor::new(*rt, b"".as_slice(), Vec::new(rt.alloc()), None, limits)
+    SystemFloor::new(
+        *rt,
+        b"".as_slice(),
+        Vec::new(rt.alloc()),
+        None,
+        limits,
+        None,
+    )
 }
 
 fn place(rt: &HostRuntime, address: &[u8], port: u16) -> Result<Place, NoMemory> {
@@ -309,7 +318,7 @@ fn reads(reader: &mut impl Read, wanted: &[u8]) -> bool {
 }
 
 // Whether this is the next turn that isn't idle, or `Idle` where many are.
-fn brings<R: Read, W: Write>(floor: &mut SystemFloor<R, W>, wanted: Turn) -> bool {
+fn brings<R: Read, W: Write>(floor: &mut SystemFloor<'_, R, W>, wanted: Turn) -> bool {
     let mut buf = [0u8; 64];
     let turn = next(floor, &mut buf);
     turn == wanted && (!is_opening(turn) || buf.starts_with(b"127.0.0.1"))
@@ -320,7 +329,7 @@ fn is_opening(turn: Turn) -> bool {
 }
 
 // The next turn that isn't idle; `Idle` where many were.
-fn next<R: Read, W: Write>(floor: &mut SystemFloor<R, W>, buf: &mut Buffer) -> Turn {
+fn next<R: Read, W: Write>(floor: &mut SystemFloor<'_, R, W>, buf: &mut Buffer) -> Turn {
     for _ in 0..200u32 {
         match floor.turn(buf) {
             Ok(Turn::Idle) => {}
@@ -460,7 +469,7 @@ fn is_held(rt: &HostRuntime, talk: &Talk) -> io::Result<bool> {
         silence: talk.silence,
         ..LIMITS
     };
-    let mut floor = SystemFloor::new(*rt, reader, writer, Some(wires), limits);
+    let mut floor = SystemFloor::new(*rt, reader, writer, Some(wires), limits, None);
     let goes = follows(rt, &mut floor, talk.turns) && reads(&mut far_reader, talk.heard);
     drop(far);
     Ok(goes)
@@ -469,7 +478,7 @@ fn is_held(rt: &HostRuntime, talk: &Talk) -> io::Result<bool> {
 // Whether these are the turns of standard input and output that aren't idle.
 fn follows<R: Read, W: Write>(
     rt: &HostRuntime,
-    floor: &mut SystemFloor<R, W>,
+    floor: &mut SystemFloor<'_, R, W>,
     turns: &[Turn],
 ) -> bool {
     if floor.begin(&Place::Standard, 1).is_err() {
@@ -485,7 +494,11 @@ fn follows<R: Read, W: Write>(
 }
 
 // Replies to a piece, and says whether that went.
-fn replies<R: Read, W: Write>(rt: &HostRuntime, floor: &mut SystemFloor<R, W>, turn: Turn) -> bool {
+fn replies<R: Read, W: Write>(
+    rt: &HostRuntime,
+    floor: &mut SystemFloor<'_, R, W>,
+    turn: Turn,
+) -> bool {
     let Turn::Piece(session, _) = turn else {
         return true;
     };
@@ -515,13 +528,48 @@ fn tells_peer(rt: &HostRuntime) -> io::Result<bool> {
 
 fn opens(rt: &HostRuntime, near: &TcpStream) -> bool {
     let wires = Wires::of(near, near);
-    let mut floor = SystemFloor::new(*rt, near, near, Some(wires), LIMITS);
+    let mut floor = SystemFloor::new(*rt, near, near, Some(wires), LIMITS, None);
     brings(&mut floor, Turn::Opened(1, 9))
 }
 
 #[test]
 fn standard_tells_the_peer_of_a_socket(rt: HostRuntime) -> Result<(), Fail> {
     assert!(rt; tells_peer(&rt)?);
+    Ok(())
+}
+
+/// Idle turns that wait, unless a delivery works.
+const SLOW: Limits = Limits {
+    wait: 200,
+    ..LIMITS
+};
+
+// Whether a hundred idle turns, between which a delivery works, take a few seconds at most.
+fn hastens(rt: &HostRuntime) -> io::Result<bool> {
+    let motion = Motion::new();
+    let writer = Vec::new(rt.alloc());
+    let mut floor = SystemFloor::new(*rt, b"".as_slice(), writer, None, SLOW, Some(&motion));
+    let start = Instant::now(rt)?;
+    let idle = begins(rt, &mut floor) && (0..100u32).all(|_| is_idle(&motion, &mut floor));
+    Ok(idle && start.elapsed(rt)?.as_secs() < 10)
+}
+
+fn begins(rt: &HostRuntime, floor: &mut SystemFloor<'_, &[u8], Vec<u8>>) -> bool {
+    match place(rt, b"127.0.0.1", 0) {
+        Ok(place) => floor.begin(&place, 0).is_ok(),
+        Err(NoMemory) => false,
+    }
+}
+
+// Whether a turn is idle behind a delivery that worked.
+fn is_idle(motion: &Motion, floor: &mut SystemFloor<'_, &[u8], Vec<u8>>) -> bool {
+    motion.note_work();
+    floor.turn(&mut [0u8; 64]) == Ok(Turn::Idle) && !motion.take_move()
+}
+
+#[test]
+fn a_floor_does_not_wait_while_deliveries_work(rt: HostRuntime) -> Result<(), Fail> {
+    assert!(rt; hastens(&rt)?);
     Ok(())
 }
 

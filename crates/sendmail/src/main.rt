@@ -90,7 +90,7 @@ fn run(rt: &HostRuntime, words: &Seq<Text>) -> Outcome {
         return Outcome::Usage(u32::MAX);
     }
     let wires = Wires::of(&rt.stdin(), &rt.stdout());
-    let mut floor = SystemFloor::new(*rt, rt.stdin(), rt.stdout(), Some(wires), LIMITS);
+    let mut floor = SystemFloor::new(*rt, rt.stdin(), rt.stdout(), Some(wires), LIMITS, None);
     let outcome = sendmail(
         rt.alloc(),
         words,

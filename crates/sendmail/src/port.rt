@@ -118,6 +118,11 @@ impl Port {
         self.parting.len()
     }
 
+    /// The next turn doesn't wait.
+    pub fn hasten(&mut self) {
+        self.wait = 0;
+    }
+
     /// Waits a little for something to come, unless the turn before had something.
     pub fn turn(&mut self, rt: &HostRuntime, buf: &mut [u8]) -> io::Result<Turn>
         requires { 64 ≤ length buf.old }

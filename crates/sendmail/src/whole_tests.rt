@@ -75,7 +75,7 @@ fn words(rt: &HostRuntime) -> Result<Seq<Text>, NoMemory>
 // Serves a session from one pipe to another, and gives the run's status.
 fn serve(rt: &HostRuntime, reader: PipeReader, writer: PipeWriter) -> Result<u8, NoMemory> {
     let wires = Wires::of(&reader, &writer);
-    let mut floor = SystemFloor::new(*rt, reader, writer, Some(wires), LIMITS);
+    let mut floor = SystemFloor::new(*rt, reader, writer, Some(wires), LIMITS, None);
     let outcome = sendmail(
         rt.alloc(),
         &words(rt)?,
