@@ -10,3 +10,5 @@ mod FinishLemmas
 mod HandLemmas
 mod LawLemmas
 mod Examples
+mod PeerLemmas
+mod PeerExamples

@@ -1,7 +1,8 @@
 -- The peers of a network mailer (Sendmail Installation and Operation Guide, M: Define Mailer, its
 -- field A with TCP and FILE, and lists of hosts by colons; hosts(5); that colons within brackets
--- cut no host, and that a port which is no number of at most 65,535 is 25, are own).
-use Rattle.std.specs.Prelude.{◌≡◌, ℕ, zero, suc, ◌+◌, ◌*◌, ◌-◌, List, [], ◌∷◌, ◌++◌, Option, Some, None, Bool, true, false, ◌==◌, ◌&&◌, nat_le, not, length, fold, take, drop, codes, if◌then◌else◌, option_to_list, slice_get, unwrap_or, refl}
+-- cut no host, that a port which is no number of at most 65,535 is 25, and that FILE with no path
+-- has no peer, are own).
+use Rattle.std.specs.Prelude.{◌≡◌, ℕ, ◌+◌, ◌*◌, ◌-◌, List, [], ◌∷◌, Option, Some, None, Bool, true, false, ◌==◌, ◌&&◌, nat_le, not, length, fold, codes, if◌then◌else◌, option_to_list, slice_get, unwrap_or, refl}
 use Rattle.std.specs.List.{flat_map, list_all}
 use Rattle.std.specs.Option.{option_map}
 use Rattle.mail_base.specs.Notes.{is_digit}
@@ -75,10 +76,15 @@ abbrev pub word_at : Mailer → Macros → ℕ → Option (List ℕ)
 word_at mailer macros place =
     option_map (λ word. expanded word macros) (slice_get mailer.args place)
 
--- with FILE a socket of this machine, and else the hosts of the second word, at the port of the
+-- the socket of this machine at a path, if there is one
+abbrev pub socket_at : List ℕ → List Peer
+socket_at [] = []
+socket_at (byte ∷ path) = Path (byte ∷ path) ∷ []
+
+-- with FILE the socket at the second word, and else the hosts of that word, at the port of the
 -- third. Names that aren't known are passed over
 abbrev pub peers_by : Loaded → Bool → List ℕ → Option (List ℕ) → List Peer
-peers_by maps true second third = Path second ∷ []
+peers_by maps true second third = socket_at second
 peers_by maps false second third = peers_in maps (port_of third) (hosts_in second)
 
 abbrev pub is_local : Mailer → Bool
@@ -96,6 +102,6 @@ example : (hosts_in (codes "a:[::1]:b") ≡ codes "a" ∷ codes "[::1]" ∷ code
     × (address_of no_maps (codes "[192.0.2.7]") ≡ Some (codes "192.0.2.7"))
     × (peers_in no_maps (port_of (Some (codes "2525"))) (hosts_in (codes "far:[192.0.2.7]"))
     ≡ Host (codes "192.0.2.7") 2525 ∷ [])
-    × (port_of (Some (codes "65536")) ≡ 25)
+    × (port_of (Some (codes "65536")) ≡ 25) × (peers_by no_maps true [] None ≡ [])
 unfolding no_maps
-example = (refl, refl, refl, refl)
+example = (refl, refl, refl, refl, refl)

@@ -9,6 +9,7 @@ mod ending;
 mod handing;
 mod law;
 mod letter;
+mod peers;
 mod putting;
 mod results;
 mod runner;
