@@ -1,13 +1,11 @@
 -- The rows of a claim: those that are still tried, each routed, in batches that have no row in common.
-use Rattle.std.proofs.Common.{◌≡◌, ◌≢◌, ◌⊎◌, inl, inr, ⊎_elim, ℕ, zero, suc, ◌+◌, ◌<◌, ◌≤◌, List, [], ◌∷◌, ◌++◌, length, take, get_or, Bool, true, false, ◌||◌, Option, Some, None, Result, Ok, Err, if◌then◌else◌, refl, sym, ◌∙◌, ap, subst, arith, ne_eqb, reverse, Contains, append_assoc, length-append}
-use Rattle.std.specs.Prelude.{All, IfOk, OnOk, fold, nat_eq}
+use Rattle.std.proofs.Common.{◌≡◌, ◌≢◌, ℕ, suc, ◌+◌, ◌<◌, ◌≤◌, List, [], ◌∷◌, ◌++◌, length, take, get_or, Bool, true, false, ◌||◌, if◌then◌else◌, refl, sym, ◌∙◌, ap, subst, arith, ne_eqb, append_assoc, length-append}
+use Rattle.std.specs.Prelude.{All, fold, nat_eq}
 use Rattle.std.specs.List.{AllZip, list_any}
-use Rattle.std.proofs.lemmas.Bool.{cond-true, cond-false}
-use Rattle.std.proofs.lemmas.List.{append-nil, take_more, length-take-le, reverse-reverse}
+use Rattle.std.proofs.lemmas.List.{append-nil, take_more, length-take-le}
 use Rattle.std.proofs.lemmas.List.Elements.{All-append, All-cons, All-nil, All-head, All-tail}
 use Rattle.std.proofs.lemmas.Slice.Zip.{all_zipped_more}
 use Rattle.mail_base.specs.declared.config.Config.{Config}
-use Rattle.mail_base.specs.declared.control.Control.{Control}
 use Rattle.mail_base.specs.declared.control.Row.{Row}
 use Rattle.mail_base.specs.States.{is_queued}
 use Rattle.map_tables.specs.Answers.{Loaded}
@@ -16,11 +14,10 @@ use Rattle.addr_route.specs.Routes.{Routes}
 use Rattle.queue_table.specs.Soundness.{IsTried}
 use Rattle.queue_run.specs.declared.batch.Batch.{Batch}
 use Rattle.queue_run.specs.declared.batch.Routed.{Routed}
-use Rattle.queue_run.specs.Batches.{Waiting, added, batches_of, begun, is_among, joined, takes, waiting_at, waiting_from}
+use Rattle.queue_run.specs.Batches.{Waiting, added, batches_of, begun, is_among, joined, takes, user_of, waiting_at, waiting_from}
 use Rattle.mail_base.specs.declared.control.Entry.{Entry}
 use Rattle.spool_store.specs.declared.held.Held.{Held}
 use Rattle.queue_run.specs.Claims.{AreRouted, IsRouted, claim_macros}
-use Rattle.queue_run.specs.Holders.{Holder}
 use Rattle.queue_run.specs.Ready.{AreAllApart, AreApart, IsUntried}
 
 -- ---- the rows that are still tried
@@ -104,30 +101,40 @@ module _ (config : Config) (maps : Loaded) (macros : Macros) (P : ℕ → Type 0
   zipped_have (w ∷ waiting) (r ∷ rows) so each =
       All-cons (λ (r : Routed). P r.place) r rows (subst P (sym so.0.place) (All-head (λ (w : Waiting). P w.place) w waiting each)) (zipped_have waiting rows so.1 (All-tail (λ (w : Waiting). P w.place) w waiting each))
 
-joined_some : (config : Config) (row : Routed) (batches : List Batch) → All (λ (b : Batch). 0 < length b.places) batches → All (λ (b : Batch). 0 < length b.places) (joined config row batches)
-joined_some config row [] all = All-cons (λ (b : Batch). 0 < length b.places) (begun row) [] (omega arith) (All-nil (λ (b : Batch). 0 < length b.places))
-joined_some config row (b ∷ bs) all = by (takes config row b) (joined_some config row bs (All-tail (λ (b : Batch). 0 < length b.places) b bs all))
+-- a batch has rows, and each has its user
+record HasRows (b : Batch) : Type 0 where
+  some : 0 < length b.places
+  users : length b.users ≡ length b.places
+
+joined_some : (config : Config) (row : Routed) (batches : List Batch) → All HasRows batches → All HasRows (joined config row batches)
+joined_some config row [] all = All-cons HasRows (begun row) [] (record { some = omega arith; users = refl }) (All-nil HasRows)
+joined_some config row (b ∷ bs) all = by (takes config row b) (joined_some config row bs (All-tail HasRows b bs all))
   where
-    long : (xs : List ℕ) (x : ℕ) → 0 < length (xs ++ x ∷ [])
-    long xs x = let e = length-append xs (x ∷ []) in omega (arith, e)
+    longer : HasRows b → HasRows (added row b)
+    longer h =
+        let e = length-append b.places (row.place ∷ []) in
+        let f = length-append b.users (user_of row.resolved ∷ []) in
+        let same = h.users in
+        record { some = omega (arith, e); users = omega (arith, e, f, same) }
 
-    by : (t : Bool) → All (λ (b : Batch). 0 < length b.places) (joined config row bs) → All (λ (b : Batch). 0 < length b.places) (if t then added row b ∷ bs else b ∷ joined config row bs)
-    by true rest = All-cons (λ (b : Batch). 0 < length b.places) (added row b) bs (long b.places row.place) (All-tail (λ (b : Batch). 0 < length b.places) b bs all)
-    by false rest = All-cons (λ (b : Batch). 0 < length b.places) b (joined config row bs) (All-head (λ (b : Batch). 0 < length b.places) b bs all) rest
+    by : (t : Bool) → All HasRows (joined config row bs) → All HasRows (if t then added row b ∷ bs else b ∷ joined config row bs)
+    by true rest = All-cons HasRows (added row b) bs (longer (All-head HasRows b bs all)) (All-tail HasRows b bs all)
+    by false rest = All-cons HasRows b (joined config row bs) (All-head HasRows b bs all) rest
 
-folded_some : (config : Config) (rows : List Routed) (batches : List Batch) → All (λ (b : Batch). 0 < length b.places) batches → All (λ (b : Batch). 0 < length b.places) (fold (λ batches row. joined config row batches) batches rows)
+folded_some : (config : Config) (rows : List Routed) (batches : List Batch) → All HasRows batches → All HasRows (fold (λ batches row. joined config row batches) batches rows)
 folded_some config [] batches all = all
 folded_some config (row ∷ rows) batches all = folded_some config rows (joined config row batches) (joined_some config row batches all)
 
-untried_each : (rows : List Row) (batches : List Batch) → All (λ (b : Batch). 0 < length b.places) batches → EachHas (IsTried rows) batches → All (IsUntried rows) batches
+untried_each : (rows : List Row) (batches : List Batch) → All HasRows batches → EachHas (IsTried rows) batches → All (IsUntried rows) batches
 untried_each rows [] some each = All-nil (IsUntried rows)
 untried_each rows (b ∷ bs) some each =
-    All-cons (IsUntried rows) b bs (record { some = All-head (λ (b : Batch). 0 < length b.places) b bs some; each = All-head (λ (b : Batch). All (IsTried rows) b.places) b bs each })
-    (untried_each rows bs (All-tail (λ (b : Batch). 0 < length b.places) b bs some) (All-tail (λ (b : Batch). All (IsTried rows) b.places) b bs each))
+    let h = All-head HasRows b bs some in
+    All-cons (IsUntried rows) b bs (record { some = h.some; users = h.users; each = All-head (λ (b : Batch). All (IsTried rows) b.places) b bs each })
+    (untried_each rows bs (All-tail HasRows b bs some) (All-tail (λ (b : Batch). All (IsTried rows) b.places) b bs each))
 
 pub claimed_untried : (config : Config) (maps : Loaded) (macros : Macros) (all : List Row) (rows : List Routed) → AllZip (IsRouted config maps macros) (waiting_from 0 all) rows → All (IsUntried all) (batches_of config rows)
 claimed_untried config maps macros all rows so =
-    untried_each all (batches_of config rows) (folded_some config rows [] (All-nil (λ (b : Batch). 0 < length b.places)))
+    untried_each all (batches_of config rows) (folded_some config rows [] (All-nil HasRows))
     (folded_have (IsTried all) config rows [] (All-nil (λ (b : Batch). All (IsTried all) b.places)) (zipped_have config maps macros (IsTried all) (waiting_from 0 all) rows so (waiting_tried [] all)))
 
 -- ---- batches have no row in common

@@ -91,7 +91,7 @@ module _ (G : Ground) (T : Table) (old new : Kept) (before : Runner) (s s' : Spo
         child = at_rest_running before.running (λ (run : Running). IsRunningAt sp run.child) (rests G T before Leaves kind tt);
         children = λ other ne runs. runs;
       })
-      refl refl
+      refl refl refl
 
   -- the entry is finished
   pub exit_finishes : (r : Result Did RunStop) → kind_in G T (holder_of before) ≡ Finishes → HoldsTable old T → IsWhole G.config old
@@ -129,7 +129,7 @@ module _ (G : Ground) (T : Table) (old new : Kept) (before : Runner) (s s' : Spo
         child = at_rest_running before.running (λ (run : Running). IsRunningAt sp run.child) (rests G T before Finishes kind tt);
         children = λ other ne runs. runs;
       })
-      calm refl
+      calm refl refl
   exit_finishes (Err cause) kind holds whole moves frame later calm rose held agrees stays same entries ok err =
       steps_of G T old new before before (bench s sp d) (bench s' sp d) (Err cause) (Closes true) (frees T (Files before.id ∷ Frees before.id ∷ []) true)
       (stepped_kind G T old new before before (bench s sp d) (bench s' sp d) Finishes (Closes true) kind) tt (λ files e stands. tt)
@@ -144,7 +144,7 @@ module _ (G : Ground) (T : Table) (old new : Kept) (before : Runner) (s s' : Spo
         spawner_faults = omega arith;
         dialer_faults = omega arith;
       })
-      (ap (λ q. Some (By q)) (sym err)) (subst (λ q. Rattle.queue_run.specs.Working.HasSpoolCause (bench s sp d) (bench s' sp d) (Err q)) (sym err) rose) refl
+      (ap (λ q. Some (By q)) (sym err)) (subst (λ q. Rattle.queue_run.specs.Working.HasSpoolCause (bench s sp d) (bench s' sp d) (Err q)) (sym err) rose) refl refl
     where
       left : (well : Bool) (f : FileMap) → StandsFor (store old).dirs T f → LeavesFiles asked_in (store old).dirs T (Files before.id ∷ Frees before.id ∷ []) well f
       left true f p = p

@@ -1,9 +1,8 @@
 -- What each step does: at most one command, each deed of its holder.
-use Rattle.std.proofs.Common.{◌≡◌, ℕ, ℤ, ◌≤◌, List, [], ◌∷◌, ◌++◌, length, Bool, true, false, not, Option, Some, None, if◌then◌else◌, refl, sym, ◌∙◌, ap, subst, arith}
+use Rattle.std.proofs.Common.{◌≡◌, ℕ, ℤ, ◌≤◌, List, [], ◌∷◌, length, Bool, true, false, not, Some, if◌then◌else◌, refl, sym, ◌∙◌, ap, arith}
 use Rattle.std.specs.Prelude.{All}
 use Rattle.std.specs.List.{flat_map}
-use Rattle.std.proofs.lemmas.List.Elements.{All-append, All-cons, All-nil}
-use Rattle.std.proofs.lemmas.Grind.{flat_map-append}
+use Rattle.std.proofs.lemmas.List.Elements.{All-cons, All-nil}
 use Rattle.mail_base.specs.declared.config.Config.{Config}
 use Rattle.mail_base.specs.declared.mailer.Mailer.{Mailer}
 use Rattle.mail_base.specs.declared.message.Back.{Back}
@@ -14,14 +13,13 @@ use Rattle.spawn_edge.specs.declared.event.Start.{Start}
 use Rattle.spool_store.specs.Entries.{Table}
 use Rattle.queue_table.specs.Commands.{Command, changed_by}
 use Rattle.queue_run.specs.declared.batch.Batch.{Batch}
-use Rattle.queue_run.specs.declared.runner.Did.{Did}
 use Rattle.queue_run.specs.declared.runner.RunStop.{RunStop}
 use Rattle.queue_run.specs.declared.runner.RunStop.TheVariants as stop
-use Rattle.queue_run.specs.Deeds.{Asks, Deed, Failed, Files, Frees, Given, IsOf, Launch, Missed, Polls, Starts as Launches, Talks as Delivers, asked_in}
+use Rattle.queue_run.specs.Deeds.{Asks, Deed, Files, Frees, Given, IsOf, Launch, Polls, Starts as Launches, Talk, Talks as Delivers, asked_in}
 use Rattle.queue_run.specs.Holders.{Attempt, Holder}
 use Rattle.queue_run.specs.Kinds.{Buries, Finishes, Kind, Leaves, Returns, Settles, Starts, Talks, Waits, Warns}
 use Rattle.queue_run.specs.Results.{alike}
-use Rattle.queue_run.specs.Steps.{Begins, By, Closes, Dies, Ends, Exits, Gives, Halt, Lacks, LetsGo, Loses, Luck, Misses, Outgrows, Records, Stepped, StillRuns, Tells, acted, asks, buries, fails, finishes, halts, is_large, lacks, lacks_ids, leaves, misses, outgrows, record_of, records, returns, sends, settles, starts, talks, waits, warns, where_large}
+use Rattle.queue_run.specs.Steps.{Begins, By, Closes, Dies, Ends, Exits, Gives, Lacks, LetsGo, Loses, Luck, Misses, Outgrows, Records, Stepped, StillRuns, Tells, acted, asks, buries, fails, finishes, halts, is_large, lacks, lacks_ids, leaves, misses, record_of, records, returns, sends, settles, starts, talks, waits, warns, where_large}
 
 -- deeds that a step may have
 pub record AreMine (id : ℕ) (ds : List Deed) : Type 0 where
@@ -138,3 +136,28 @@ module _ (config : Config) (moment : ℕ) (T : Table) (h : Holder) where
       let rest : Asks (record_of config moment h.id r.places (alike (ended_with other) r.places)) ∷ [] ≡ more = cc e in
       sym rest ∙ ap (λ q. Asks (record_of config moment h.id r.places (alike (ended_with q) r.places)) ∷ []) same'
   polled_at_once r luck id child status more e = cc e
+
+  -- so is a delivery
+  not_lacking : {A : Type 0} (cause : RunStop) (d : Deed) (more : List Deed) → (lacks true T h cause).deeds ≡ d ∷ more → A
+  not_lacking stop.NoMemory d more e = cc e
+  not_lacking stop.SpoolFault d more e = cc e
+  not_lacking cause d more e = cc e
+
+  where_done : {A : Type 0} (b : Bool) (x : Stepped) (d : Deed) (more : List Deed) → (x.deeds ≡ d ∷ more → A) → (where_large b T h x).deeds ≡ d ∷ more → A
+  where_done true x d more go e = go e
+  where_done false x d more go e = cc e
+
+  pub talked_at_once : (batch : Batch) (mailer : Mailer) (luck : Luck) (id : ℕ) (places : List ℕ) (talk : Talk) (more : List Deed) → (talks config moment T h batch mailer luck).deeds ≡ Delivers id places talk ∷ more
+      → more ≡ Asks (record_of config moment h.id batch.places talk.results) ∷ []
+  talked_at_once batch mailer (Outgrows letter failed) id places talk more e =
+      where_done (is_large mailer letter) (records config moment T h batch [] (alike Rattle.queue_run.specs.Results.too_large batch.places) failed) (Delivers id places talk) more (λ e. cc e) e
+  talked_at_once batch mailer (Ends letter other failed) id places talk more e =
+      where_done (not (is_large mailer letter)) (records config moment T h batch (Delivers h.id batch.places other ∷ []) other.results failed) (Delivers id places talk) more recorded e
+    where
+      recorded : Delivers h.id batch.places other ∷ Asks (record_of config moment h.id batch.places other.results) ∷ [] ≡ Delivers id places talk ∷ more → more ≡ Asks (record_of config moment h.id batch.places talk.results) ∷ []
+      recorded e =
+          let same : other ≡ talk = cc e in
+          let rest : Asks (record_of config moment h.id batch.places other.results) ∷ [] ≡ more = cc e in
+          sym rest ∙ ap (λ (q : Talk). Asks (record_of config moment h.id batch.places q.results) ∷ []) same
+  talked_at_once batch mailer (Lacks cause) id places talk more e = not_lacking cause (Delivers id places talk) more e
+  talked_at_once batch mailer luck id places talk more e = cc e

@@ -5,7 +5,9 @@ mod StepLemmas
 mod PutLemmas
 mod WaitLemmas
 mod SettleLemmas
+mod LetterLemmas
 mod StartLemmas
+mod TalkLemmas
 mod FinishLemmas
 mod HandLemmas
 mod LawLemmas

@@ -113,7 +113,7 @@ pub still_untried : (old : Bool) (places : List ℕ) (results : List Result1) (r
 still_untried old places results rows [] apart untried = All-nil (IsUntried (with_results old places results rows))
 still_untried old places results rows (b ∷ bs) apart untried =
     All-cons (IsUntried (with_results old places results rows)) b bs
-    (let u = All-head (IsUntried rows) b bs untried in record { some = u.some; each = still_untried_batch old places results rows b.places (All-head (AreApart places) b bs apart) u.each })
+    (let u = All-head (IsUntried rows) b bs untried in record { some = u.some; users = u.users; each = still_untried_batch old places results rows b.places (All-head (AreApart places) b bs apart) u.each })
     (still_untried old places results rows bs (All-tail (AreApart places) b bs apart) (All-tail (IsUntried rows) b bs untried))
 
 -- ---- readiness

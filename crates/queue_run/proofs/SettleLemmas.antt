@@ -35,7 +35,7 @@ use Rattle.queue_run.specs.Meant.{Ground, IsMeant}
 use Rattle.queue_run.specs.Ready.{AreAllApart, AreApart, IsReady, IsUntried}
 use Rattle.queue_run.specs.Results.{alike}
 use Rattle.queue_run.specs.Steps.{By, Luck, Records, acted, asks, halts, record_of, records, without_first}
-use Rattle.queue_run.specs.Working.{Bench, HasChild, HasSpawnerCause, IsRead, IsWhole, KeepsChildren, Steps, bench, kind_in, stepped_on}
+use Rattle.queue_run.specs.Working.{Bench, HasChild, HasDialerCause, HasSpawnerCause, IsRead, IsWhole, KeepsChildren, Steps, bench, kind_in, stepped_on}
 use Rattle.queue_run.specs.inner.Puts.{IsPutAs, IsPutOrNot, Put}
 use Rattle.queue_run.proofs.PutLemmas.{turned}
 use Rattle.queue_run.proofs.ReadyLemmas.{at_rest_running, ready_recorded}
@@ -85,17 +85,18 @@ module _ (G : Ground) (T : Table) (old new : Kept) (before now : Runner) (a b : 
       → ((failed : Bool) → IsMeant G before.id (control_at before.id T.entries) (kind_in G T (holder_of before)) (luck failed))
       → ((failed : Bool) (files : FileMap) → a.spool.told ≡ Some files → StandsFor (store old).dirs T files → IsRead T before.id (luck failed))
       → ((failed : Bool) → HasSpawnerCause a.spawner.faults b.spawner.faults (luck failed))
+      → ((failed : Bool) → HasDialerCause a.dialer b.dialer (luck failed))
       → flat_map asked_in ds ≡ [] → G.moment ≡ moment → IsWithout before now batch
       → HoldsTable old T → IsWhole G.config old → Reads a.spool m → m.faults ≡ a.spool.faults
       → IsPutAs old new before.id batch.places results moment ready.held.entry.control r m b.spool
       → Others G T old new before now a b ds → KeepsChildren a.spawner b.spawner before
       → Steps G T old new before now a b r
-  exit_recorded luck ds batch results moment r m ready acts meant read spawner quiet at w holds whole reads same put others children =
+  exit_recorded luck ds batch results moment r m ready acts meant read spawner dialer quiet at w holds whole reads same put others children =
       let is = turned before.rest.items now.rest.items batch w.split in
       let untried = subst (All (IsUntried ready.held.entry.control.rows)) is ready.untried in
       let apart = subst AreAllApart is ready.apart in
       steps_asked G T old new before now a b luck ds (without_first (holder_of before)) (record_of G.config G.moment before.id batch.places results) did.Recorded r m
-      acts meant read spawner quiet refl refl holds whole reads same
+      acts meant read spawner dialer quiet refl refl holds whole reads same
       (subst (λ q. Put old new q did.Recorded r m b.spool)
       (ap (λ q. Record q before.id batch.places results moment) whole.terms
       ∙ ap (λ q. Record (terms_of G.config) before.id batch.places results q) (sym at)) put.put)
@@ -114,7 +115,7 @@ module _ (G : Ground) (T : Table) (old new : Kept) (before now : Runner) (s s' :
       → Reads s s' → s'.faults ≡ s.faults → Steps G T old new before now (bench s sp d) (bench s' sp d) (Err stop.NoMemory)
   exit_memory k kind acts reads same =
       steps_early G T old new before now (bench s sp d) (bench s' sp d) k stop.NoMemory kind acts reads (omega (arith, same))
-      (record { spawner = gains_none sp.told; dialer = gains_none d.told; spawner_faults = omega arith; dialer_faults = omega arith }) same refl
+      (record { spawner = gains_none sp.told; dialer = gains_none d.told; spawner_faults = omega arith; dialer_faults = omega arith }) same refl refl
 
   settled_put : (batch : Batch) (one : Result1) (moment : ℕ) (r : Result Did RunStop) (ready : IsReady old before)
       → kind_in G T (holder_of before) ≡ Settles batch one → G.moment ≡ moment → IsWithout before now batch → HoldsTable old T → IsWhole G.config old
@@ -123,7 +124,7 @@ module _ (G : Ground) (T : Table) (old new : Kept) (before now : Runner) (s s' :
   settled_put batch one moment r ready kind at w holds whole put =
       exit_recorded G T old new before now (bench s sp d) (bench s' sp d) Records [] batch (alike one batch.places) moment r s ready
       (λ failed. stepped_kind G T old new before now (bench s sp d) (bench s' sp d) (Settles batch one) (Records failed) kind)
-      (λ failed. tt) (λ failed files e stands. tt) (λ failed. refl) refl at w holds whole (reads_itself s) refl put
+      (λ failed. tt) (λ failed files e stands. tt) (λ failed. refl) (λ failed. refl) refl at w holds whole (reads_itself s) refl put
       (record { spawner = gains_none sp.told; dialer = gains_none d.told; spawner_faults = omega arith; dialer_faults = omega arith })
       (λ other ne runs. runs)
 

@@ -1,32 +1,21 @@
 -- The exits of a start.
-use Rattle.std.proofs.Common.{◌≡◌, ◌≢◌, ◌⊎◌, ⊎_elim, inl, inr, ℕ, ◌≤◌, List, [], ◌∷◌, ◌++◌, length, map, drop, Bool, true, false, not, Option, Some, None, Result, Ok, Err, if◌then◌else◌, refl, sym, ◌∙◌, ap, subst, arith, reverse, option_map, nat_eq, eqb, ne_eqb, eq-eqb, Contains}
-use Rattle.std.specs.Prelude.{All, IfErr, IfOk, IfSome, OnErr, OnOk}
-use Rattle.std.specs.List.{AllZip, flat_map}
-use Rattle.std.proofs.lemmas.Bool.{cond-true, cond-false, cases_eq}
-use Rattle.std.proofs.lemmas.List.Elements.{All-head, All-tail}
-use Rattle.mail_base.specs.Histories.{Gains, HasCause, Rose}
-use Rattle.mail_base.specs.declared.control.Control.{Control}
+use Rattle.std.proofs.Common.{◌≡◌, ℕ, List, [], ◌∷◌, ◌++◌, length, drop, Bool, true, false, not, Option, Some, None, Result, Ok, Err, if◌then◌else◌, refl, sym, ◌∙◌, ap, subst, arith, reverse, option_map, nat_eq}
+use Rattle.std.specs.Prelude.{All, IfSome}
+use Rattle.std.proofs.lemmas.List.Elements.{All-tail}
+use Rattle.mail_base.specs.Histories.{Gains}
 use Rattle.mail_base.specs.declared.mailer.Mailer.{Mailer}
-use Rattle.mail_base.specs.declared.outcome.Result1.{Result1}
 use Rattle.link_edge.specs.Dials.{DialSeen}
 use Rattle.mailer_pipe.specs.Starts.{Asked, Begins as BeginsAs, start_of}
 use Rattle.mailer_pipe.specs.declared.fault.PipeFault.TheVariants as pipe
-use Rattle.spawn_edge.specs.Children.{start_events}
 use Rattle.spawn_edge.specs.Spawned.{IsRunningAt, Spawned}
 use Rattle.spawn_edge.specs.declared.event.SpawnEvent.{SpawnEvent}
 use Rattle.spawn_edge.specs.declared.event.SpawnEvent.TheVariants.{Began, Unbegun}
 use Rattle.spawn_edge.specs.declared.event.Start.{Start}
 use Rattle.spawn_edge.proofs.Running.{begun_runs}
-use Rattle.spool_disk.specs.Disk.{FileMap}
-use Rattle.spool_disk.specs.Spooled.{Reads, Spooled}
-use Rattle.spool_store.specs.Entries.{Stored, Table}
-use Rattle.spool_store.specs.Settled.{StandsFor}
-use Rattle.spool_store.specs.Stores.{HasId, IsHeld}
-use Rattle.spool_store.specs.declared.held.Held.{Held}
+use Rattle.spool_disk.specs.Spooled.{Spooled}
+use Rattle.spool_store.specs.Entries.{Table}
 use Rattle.spool_store.proofs.OpenLemmas.{reads_told}
-use Rattle.spool_store.proofs.Standing.{contains_cases, contains_head, contains_tail}
 use Rattle.queue_table.specs.Calls.{HoldsTable, Tallies, store}
-use Rattle.queue_table.specs.Commands.{control_at}
 use Rattle.queue_table.specs.Reserves.{IsReserved}
 use Rattle.queue_table.specs.declared.table.Table.{Table as Kept}
 use Rattle.queue_run.specs.declared.batch.Batch.{Batch}
@@ -37,115 +26,27 @@ use Rattle.queue_run.specs.declared.runner.RunStop.{RunStop}
 use Rattle.queue_run.specs.declared.runner.RunStop.TheVariants as stop
 use Rattle.queue_run.specs.declared.runner.Runner.{Runner}
 use Rattle.queue_run.specs.declared.runner.Running.{Running}
-use Rattle.queue_run.specs.Deeds.{Deed, Failed, Given, Launch, Missed, Starts as Launches, begun_as}
+use Rattle.queue_run.specs.Deeds.{Failed, Given, Launch, Missed, Starts as Launches, begun_as}
 use Rattle.queue_run.specs.Holders.{Attempt, Holder, attempt_of, holder_of}
 use Rattle.queue_run.specs.Kinds.{Kind, Starts}
-use Rattle.queue_run.specs.Meant.{Ground, IsLetter, IsLetterOf, IsMeant, IsStartOf, host_of}
+use Rattle.queue_run.specs.Meant.{Ground, IsStartOf}
 use Rattle.queue_run.specs.Ready.{AreAllApart, AreApart, IsAttempt, IsReady, IsUntried}
-use Rattle.queue_run.specs.Results.{alike, device_fault, too_large}
-use Rattle.queue_run.specs.Steps.{Begins, By, Lacks, Luck, Misses, Outgrows, acted, does, fails, halts, is_large, records, running_for, where_large, where_small}
-use Rattle.queue_run.specs.Working.{Bench, HasChild, IsBodyOf, IsRead, IsWhole, KeepsChildren, Steps, bench, kind_in, stepped_on}
-use Rattle.queue_run.specs.inner.Handed.{HasHandFault}
-use Rattle.queue_run.specs.inner.Puts.{IsPutAs, IsPutOrNot}
+use Rattle.queue_run.specs.Results.{alike, device_fault}
+use Rattle.queue_run.specs.Steps.{Begins, Misses, does, fails, is_large, records, running_for, where_large}
+use Rattle.queue_run.specs.Working.{IsWhole, Steps, bench, kind_in}
+use Rattle.queue_run.specs.inner.Puts.{IsPutAs}
+use Rattle.queue_run.proofs.LetterLemmas.{IsHandedFor, meant_as}
 use Rattle.queue_run.proofs.PutLemmas.{alike_long, turned}
 use Rattle.queue_run.proofs.SettleLemmas.{IsWithout, exit_memory, exit_recorded}
-use Rattle.queue_run.proofs.StepLemmas.{reads_itself, steps_early, steps_of, stepped_kind, worked_quiet}
+use Rattle.queue_run.proofs.StepLemmas.{steps_of, stepped_kind, worked_quiet}
 use Rattle.queue_run.proofs.WaitLemmas.{gains_none, runs_on}
-
--- ---- the control of an entry of the table
-
-pub record FoundIn (hs : List Held) (ss : List Stored) (id : ℕ) : Type 0 where
-  pub held : Held
-  pub among : Contains hs held
-  pub is : held.entry.id ≡ id
-  pub at : control_at id ss ≡ Some held.entry.control
-
-found_in : (hs : List Held) (ss : List Stored) (id : ℕ) (k : Held) → AllZip IsHeld hs ss → Contains hs k → k.entry.id ≡ id → FoundIn hs ss id
-found_in [] ss id k z among is = let lt = among.1 in absurd (omega (arith, lt))
-found_in (h ∷ hs) [] id k z among is = absurd z
-found_in (h ∷ hs) (s ∷ ss) id k z among is = ⊎_elim
-    (λ (e : s.id ≡ id). record {
-      held = h;
-      among = contains_head h hs;
-      is = z.0.id ∙ e;
-      at = ap (λ (b : Bool). if b then Some s.control else control_at id ss) (eq-eqb s.id id e) ∙ ap (λ c. Some c) (sym z.0.control);
-    })
-    (λ (ne : s.id ≢ id). ⊎_elim
-    (λ (same : h ≡ k). absurd (ne (sym z.0.id ∙ ap (λ (q : Held). q.entry.id) same ∙ is)))
-    (λ (later : Contains hs k).
-    let f = found_in hs ss id k z.1 later is in record {
-      held = f.held;
-      among = contains_tail h f.held hs f.among;
-      is = f.is;
-      at = ap (λ (b : Bool). if b then Some s.control else control_at id ss) (ne_eqb s.id id ne) ∙ f.at;
-    })
-    (contains_cases h k hs among))
-    (cases_eq s.id id)
-
-pub found : (old : Kept) (T : Table) (r : Runner) → HoldsTable old T → IsReady old r → FoundIn (store old).entries T.entries r.id
-found old T r holds ready = found_in (store old).entries T.entries r.id ready.held holds.entries ready.among ready.is
-
--- ---- what is known when a letter was made
-
-pub record IsHandedFor (G : Ground) (T : Table) (old : Kept) (before : Runner) (k : Kind) (s m : Spooled) (letter : Letter) : Type 0 where
-  pub meant : IsLetterOf G before.id (control_at before.id T.entries) k letter
-  pub read : (files : FileMap) → s.told ≡ Some files → StandsFor (store old).dirs T files → IsBodyOf T before.id letter.body
-  pub reads : Reads s m
-  pub same : m.faults ≡ s.faults
-
-pub handed_start : (G : Ground) (T : Table) (old : Kept) (before : Runner) (batch : Batch) (mailer : Mailer) (s m : Spooled) (letter : Letter) → HoldsTable old T → IsReady old before
-    → ((h : Held) → Contains (store old).entries h → h.entry.id ≡ before.id → IsLetter G before.id h.entry.control mailer (host_of batch.resolved) letter)
-    → ((files : FileMap) (entries : Table) → s.told ≡ Some files → StandsFor (store old).dirs entries files → IsBodyOf entries before.id letter.body)
-    → Reads s m → m.faults ≡ s.faults → IsHandedFor G T old before (Starts batch mailer) s m letter
-handed_start G T old before batch mailer s m letter holds ready is body reads same =
-    let f = found old T before holds ready in record {
-      meant = subst (λ q. IsLetterOf G before.id q (Starts batch mailer) letter) (sym f.at) (is f.held f.among f.is);
-      read = λ files e stands. body files T e stands;
-      reads = reads;
-      same = same;
-    }
 
 module _ (G : Ground) (T : Table) (old new : Kept) (before now : Runner) (batch : Batch) (mailer : Mailer) (s m s' : Spooled) (sp sp' : Spawned) (d : DialSeen) where
   abbrev K : Kind
   K = Starts batch mailer
 
-  -- the letter can't be made
-  pub exit_unhanded : (e : RunStop) → kind_in G T (holder_of before) ≡ K → Reads s m → s.faults ≤ m.faults → HasHandFault s.faults m.faults (Err e)
-      → Steps G T old old before now (bench s sp d) (bench m sp d) (Err e)
-  exit_unhanded stop.SpoolFault kind reads later fault =
-      steps_early G T old old before now (bench s sp d) (bench m sp d) K stop.SpoolFault kind refl reads later
-      (record { spawner = gains_none sp.told; dialer = gains_none d.told; spawner_faults = omega arith; dialer_faults = omega arith }) fault refl
-  exit_unhanded stop.NoMemory kind reads later fault = exit_memory G T old old before now s m sp d K kind refl reads fault
-  exit_unhanded stop.IdsSpent kind reads later fault = absurd fault
-  exit_unhanded stop.FilesFault kind reads later fault = absurd fault
-
-  meant_as : (letter : Letter) → kind_in G T (holder_of before) ≡ K → IsLetterOf G before.id (control_at before.id T.entries) K letter → IsLetterOf G before.id (control_at before.id T.entries) (kind_in G T (holder_of before)) letter
-  meant_as letter kind h = subst (λ q. IsLetterOf G before.id (control_at before.id T.entries) q letter) (sym kind) h
-
   start_as : (letter : Letter) (start : Start) → kind_in G T (holder_of before) ≡ K → start ≡ start_of mailer letter.macros batch.users letter.text → IsStartOf (kind_in G T (holder_of before)) letter start
   start_as letter start kind h = subst (λ q. IsStartOf q letter start) (sym kind) h
-
-  outgrown_put : (letter : Letter) (moment : ℕ) (r : Result Did RunStop) (ready : IsReady old before) → kind_in G T (holder_of before) ≡ K → is_large mailer letter ≡ true
-      → IsHandedFor G T old before K s m letter → G.moment ≡ moment → IsWithout before now batch → HoldsTable old T → IsWhole G.config old
-      → IsPutAs old new before.id batch.places (alike too_large batch.places) moment ready.held.entry.control r m s'
-      → Steps G T old new before now (bench s sp d) (bench s' sp d) r
-  outgrown_put letter moment r ready kind large handed at w holds whole put =
-      exit_recorded G T old new before now (bench s sp d) (bench s' sp d) (λ failed. Outgrows letter failed) [] batch (alike too_large batch.places) moment r m ready
-      (λ failed. stepped_kind G T old new before now (bench s sp d) (bench s' sp d) K (Outgrows letter failed) kind
-      ∙ ap (λ q. where_large q T (holder_of before) (records G.config G.moment T (holder_of before) batch [] (alike too_large batch.places) failed)) large)
-      (λ failed. meant_as letter kind handed.meant) (λ failed files e stands. handed.read files e stands) (λ failed. refl) refl at w holds whole handed.reads handed.same put
-      (record { spawner = gains_none sp.told; dialer = gains_none d.told; spawner_faults = omega arith; dialer_faults = omega arith })
-      (λ other ne runs. runs)
-
-  -- the text is too large
-  pub exit_outgrown : (letter : Letter) (moment : ℕ) (r : Result Did RunStop) (ready : IsReady old before) → kind_in G T (holder_of before) ≡ K → is_large mailer letter ≡ true
-      → IsHandedFor G T old before K s m letter → G.moment ≡ moment → IsWithout before now batch → HoldsTable old T → IsWhole G.config old
-      → IsPutOrNot old new before.id batch.places too_large moment ready.held.entry.control r m s' → (r ≡ Err stop.NoMemory → s' ≡ m)
-      → Steps G T old new before now (bench s sp d) (bench s' sp d) r
-  exit_outgrown letter moment r ready kind large handed at w holds whole put none = ⊎_elim
-      (λ (e : r ≡ Err stop.NoMemory). subst (λ q. Steps G T old new before now (bench s sp d) (bench s' sp d) q) (sym e)
-      (exit_memory G T old new before now s s' sp d K kind refl (subst (λ (q : Spooled). Reads s q) (sym (none e)) handed.reads) (ap (λ (q : Spooled). q.faults) (none e) ∙ handed.same)))
-      (λ p. outgrown_put letter moment r ready kind large handed at w holds whole p) put
 
   -- a program was started
   pub exit_begun : (letter : Letter) (child : ℕ) (run : Running) (ready : IsReady old before) → kind_in G T (holder_of before) ≡ K → is_large mailer letter ≡ false
@@ -163,7 +64,7 @@ module _ (G : Ground) (T : Table) (old new : Kept) (before now : Runner) (batch 
       (does T (running_for (holder_of before) child batch.places) (Launches before.id batch.places start (Given child sp.missed) ∷ []) did.Began)
       (stepped_kind G T old old before now (bench s sp d) (bench m sp' d) K (Begins letter start child sp.missed) kind
       ∙ ap (λ q. where_large (not q) T (holder_of before) (does T (running_for (holder_of before) child batch.places) (Launches before.id batch.places start (Given child sp.missed) ∷ []) did.Began)) small)
-      (meant_as letter kind handed.meant, start_as letter start kind refl)
+      (meant_as G T before K letter kind handed.meant, start_as letter start kind refl)
       (λ files e stands. handed.read files e stands)
       (worked_quiet G T old old before now (bench s sp d) (bench m sp' d) (Launches before.id batch.places start (Given child sp.missed) ∷ []) true refl handed.reads (let q = handed.same in omega (arith, q))
       (record { spawner = asked.told; dialer = gains_none d.told; spawner_faults = asked.cause.later; dialer_faults = omega arith }))
@@ -197,7 +98,7 @@ module _ (G : Ground) (T : Table) (old new : Kept) (before now : Runner) (batch 
         child = subst (λ q. IfSome q (λ (x : Running). IsRunningAt sp' x.child)) (sym running) (subst (IsRunningAt sp') (sym is_child) (begun_now sp.told sp'.told start child sp.missed asked.told));
         children = λ other ne runs. runs_on sp sp' (Began start child sp.missed) other asked.told refl runs;
       })
-      handed.same asked.calm
+      handed.same asked.calm refl
     where
       begun_now : (a b : Option (List SpawnEvent)) (start : Start) (child missed : ℕ) → Gains a b (Began start child missed ∷ []) → IfSome b (λ history. Rattle.spawn_edge.specs.Children.is_running child history ≡ true)
       begun_now None None start child missed told = tt
@@ -231,7 +132,7 @@ module _ (G : Ground) (T : Table) (old new : Kept) (before now : Runner) (batch 
       (λ failed. stepped_kind G T old new before now (bench s sp d) (bench s' sp' d) K (Misses letter start launch failed) kind
       ∙ ap (λ q. where_large (not q) T (holder_of before) (fails G.config G.moment T (holder_of before) batch start launch failed)) small
       ∙ failed_as (nat_eq sp'.missed 0) start failed)
-      (λ failed. (meant_as letter kind handed.meant, start_as letter start kind refl)) (λ failed files e stands. handed.read files e stands) (λ failed. asked.cause.failed) refl at w holds whole handed.reads handed.same put
+      (λ failed. (meant_as G T before K letter kind handed.meant, start_as letter start kind refl)) (λ failed files e stands. handed.read files e stands) (λ failed. asked.cause.failed) (λ failed. refl) refl at w holds whole handed.reads handed.same put
       (record {
         spawner = subst (Gains sp.told sp'.told) (sym (launched (nat_eq sp'.missed 0) start sp.missed) ∙ sym (Rattle.std.proofs.Common.append-nil (begun_as start launch))) asked.told;
         dialer = gains_none d.told;

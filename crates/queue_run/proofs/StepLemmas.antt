@@ -32,7 +32,7 @@ use Rattle.queue_run.specs.Kinds.{Kind}
 use Rattle.queue_run.specs.Meant.{Ground, IsMeant}
 use Rattle.queue_run.specs.Ready.{IsReady}
 use Rattle.queue_run.specs.Steps.{By, Halt, Lacks, Luck, Stepped, acted, asks, halts}
-use Rattle.queue_run.specs.Working.{Bench, Comes, ComesTo, HasChild, HasSpawnerCause, HasSpoolCause, IsHolder, IsRead, IsWhole, KeepsChildren, KeepsOthersReady, Steps, Worked, holds_on, is_fault, is_well, kind_in, stepped_on}
+use Rattle.queue_run.specs.Working.{Bench, Comes, ComesTo, HasChild, HasDialerCause, HasSpawnerCause, HasSpoolCause, IsHolder, IsRead, IsWhole, KeepsChildren, KeepsOthersReady, Steps, Worked, holds_on, is_fault, is_well, kind_in, stepped_on}
 use Rattle.queue_run.specs.inner.Puts.{Put}
 use Rattle.queue_run.proofs.ReadyLemmas.{others_stay}
 
@@ -154,9 +154,9 @@ module _ (G : Ground) (T : Table) (old new : Kept) (before now : Runner) (a b : 
       → IsMeant G before.id (control_at before.id T.entries) (kind_in G T (holder_of before)) luck
       → ((files : FileMap) → a.spool.told ≡ Some files → StandsFor (store old).dirs T files → IsRead T before.id luck)
       → Worked (store old).dirs T a b x.deeds (is_well r) → Comes G.config old new before a b x now r
-      → HasSpoolCause a b r → HasSpawnerCause a.spawner.faults b.spawner.faults luck
+      → HasSpoolCause a b r → HasSpawnerCause a.spawner.faults b.spawner.faults luck → HasDialerCause a.dialer b.dialer luck
       → Steps G T old new before now a b r
-  steps_of r luck x is meant read worked comes spool spawner = record {
+  steps_of r luck x is meant read worked comes spool spawner dialer = record {
     luck = luck;
     meant = meant;
     read = read;
@@ -164,6 +164,7 @@ module _ (G : Ground) (T : Table) (old new : Kept) (before now : Runner) (a b : 
     comes = subst (λ (y : Stepped). Comes G.config old new before a b y now r) (sym is) comes;
     spool_cause = spool;
     spawner_cause = spawner;
+    dialer_cause = dialer;
   }
 
   -- by its kind
@@ -209,11 +210,11 @@ module _ (G : Ground) (T : Table) (old new : Kept) (before now : Runner) (a b : 
   -- the run ends before anything is asked
   pub steps_early : (k : Kind) (cause : RunStop) → kind_in G T (holder_of before) ≡ k
       → acted G.config G.moment T (holder_of before) k (Lacks cause) ≡ halts T (holder_of before) (By cause)
-      → Reads a.spool b.spool → a.spool.faults ≤ b.spool.faults → Others [] → HasSpoolCause a b (Err cause) → b.spawner.faults ≡ a.spawner.faults
+      → Reads a.spool b.spool → a.spool.faults ≤ b.spool.faults → Others [] → HasSpoolCause a b (Err cause) → b.spawner.faults ≡ a.spawner.faults → b.dialer ≡ a.dialer
       → Steps G T old new before now a b (Err cause)
-  steps_early k cause kind acts reads later others spool spawner =
+  steps_early k cause kind acts reads later others spool spawner dialer =
       steps_of (Err cause) (Lacks cause) (halts T (holder_of before) (By cause)) (stepped_kind k (Lacks cause) kind ∙ acts)
-      tt (λ files e stands. tt) (worked_quiet [] (not (is_fault cause)) refl reads later others) refl spool spawner
+      tt (λ files e stands. tt) (worked_quiet [] (not (is_fault cause)) refl reads later others) refl spool spawner dialer
 
   -- a command was asked, behind other deeds
   pub steps_asked : (luck : Bool → Luck) (ds : List Deed) (next : Holder) (c : Command) (d : Did) (r : Result Did RunStop) (m : Spooled)
@@ -221,11 +222,12 @@ module _ (G : Ground) (T : Table) (old new : Kept) (before now : Runner) (a b : 
       → ((failed : Bool) → IsMeant G before.id (control_at before.id T.entries) (kind_in G T (holder_of before)) (luck failed))
       → ((failed : Bool) (files : FileMap) → a.spool.told ≡ Some files → StandsFor (store old).dirs T files → IsRead T before.id (luck failed))
       → ((failed : Bool) → HasSpawnerCause a.spawner.faults b.spawner.faults (luck failed))
+      → ((failed : Bool) → HasDialerCause a.dialer b.dialer (luck failed))
       → flat_map asked_in ds ≡ [] → holds_on d ≡ true → changed_by c ≡ Some before.id
       → HoldsTable old T → IsWhole G.config old → Reads a.spool m → m.faults ≡ a.spool.faults → Put old new c d r m b.spool → Others ds
       → OnOk r (IsReady new now) → HasChild b.spawner now → KeepsChildren a.spawner b.spawner before → ((h : Option Holder) → h ≡ Some next → IsHolder d now h)
       → Steps G T old new before now a b r
-  steps_asked luck ds next c d (Ok answer) m stepped meant read spawner quiet held changes holds whole reads same put others ready child children holder =
+  steps_asked luck ds next c d (Ok answer) m stepped meant read spawner dialer quiet held changes holds whole reads same put others ready child children holder =
       steps_of (Ok answer) (luck false) (asks T next ds c d false) (stepped false) (meant false) (read false)
       (worked_asked ds c d (Ok answer) m true quiet (λ e. tt) holds reads (omega (arith, same)) put others)
       (record {
@@ -241,8 +243,8 @@ module _ (G : Ground) (T : Table) (old new : Kept) (before now : Runner) (a b : 
         child = child;
         children = children;
       })
-      (put.calm ∙ same) (spawner false)
-  steps_asked luck ds next c d (Err cause) m stepped meant read spawner quiet held changes holds whole reads same put others ready child children holder =
+      (put.calm ∙ same) (spawner false) (dialer false)
+  steps_asked luck ds next c d (Err cause) m stepped meant read spawner dialer quiet held changes holds whole reads same put others ready child children holder =
       steps_of (Err cause) (luck true) (asks T next ds c d true) (stepped true) (meant true) (read true)
       (worked_asked ds c d (Err cause) m (not (is_fault cause)) quiet (fault_well (Err cause) put.err) holds reads (omega (arith, same)) put others)
-      (ap (λ q. Some (By q)) (sym put.err)) (fault_cause cause put.err (rose_more a.spool.faults m.faults b.spool.faults same put.cause)) (spawner true)
+      (ap (λ q. Some (By q)) (sym put.err)) (fault_cause cause put.err (rose_more a.spool.faults m.faults b.spool.faults same put.cause)) (spawner true) (dialer true)

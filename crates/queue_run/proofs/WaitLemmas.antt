@@ -33,7 +33,7 @@ use Rattle.queue_run.specs.Meant.{Ground, IsMeant}
 use Rattle.queue_run.specs.Ready.{IsAttempt, IsReady}
 use Rattle.queue_run.specs.Results.{alike}
 use Rattle.queue_run.specs.Steps.{Luck, StillRuns, acted, asks, at_rest, does, record_of}
-use Rattle.queue_run.specs.Working.{Bench, HasChild, HasSpawnerCause, IsRead, IsWhole, KeepsChildren, Steps, bench, kind_in, stepped_on}
+use Rattle.queue_run.specs.Working.{Bench, HasChild, HasDialerCause, HasSpawnerCause, IsRead, IsWhole, KeepsChildren, Steps, bench, kind_in, stepped_on}
 use Rattle.queue_run.specs.inner.Puts.{Put}
 use Rattle.queue_run.proofs.ReadyLemmas.{ready_recorded}
 use Rattle.queue_run.proofs.StepLemmas.{reads_itself, steps_asked, steps_of, stepped_kind, worked_quiet}
@@ -96,7 +96,7 @@ module _ (G : Ground) (T : Table) (old new : Kept) (before : Runner) (run : Runn
         child = subst (λ q. IfSome q (λ (x : Running). IsRunningAt sp' x.child)) (sym is) (runs_on sp sp' (Polled run.child polls.Runs) run.child told refl (some_of before.running (λ (x : Running). IsRunningAt sp x.child) run is child));
         children = λ other ne runs. runs_on sp sp' (Polled run.child polls.Runs) other told refl runs;
       })
-      refl same
+      refl same refl
 
   -- its end is recorded
   pub exit_ends : (poll : Poll) (one : Result1) (results : List Result1) (moment : ℕ) (r : Result Did RunStop) (luck : Bool → Luck) → IsOver poll
@@ -104,14 +104,14 @@ module _ (G : Ground) (T : Table) (old new : Kept) (before : Runner) (run : Runn
       ≡ asks T (at_rest (holder_of before)) (Polls before.id run.child poll ∷ []) (record_of G.config G.moment before.id run.reserved.rows (alike one run.reserved.rows)) did.Recorded failed)
       → ((failed : Bool) → IsMeant G before.id (control_at before.id T.entries) (kind_in G T (holder_of before)) (luck failed))
       → ((failed : Bool) → IsRead T before.id (luck failed))
-      → ((failed : Bool) → HasSpawnerCause sp.faults sp'.faults (luck failed)) → sp.faults ≤ sp'.faults
+      → ((failed : Bool) → HasSpawnerCause sp.faults sp'.faults (luck failed)) → ((failed : Bool) → HasDialerCause d d (luck failed)) → sp.faults ≤ sp'.faults
       → G.moment ≡ moment → results ≡ alike one run.reserved.rows
       → before.running ≡ Some run → IsReady old before → HoldsTable old T → IsWhole G.config old
       → Gains sp.told sp'.told (Polled run.child poll ∷ [])
       → Put old new (Record old.terms run.reserved.room.id run.reserved.rows results moment) did.Recorded r s s'
       → OnOk r ((store new).entries ≡ map (recontrolled run.reserved.room.id (recorded old.terms run.reserved.rows results moment run.reserved.room.control)) (store old).entries)
       → Steps G T old new before (record before { running = None }) (bench s sp d) (bench s' sp' d) r
-  exit_ends poll one results moment r luck over acts meant read spawner later at same is ready holds whole told put entries =
+  exit_ends poll one results moment r luck over acts meant read spawner dialer later at same is ready holds whole told put entries =
       let a = some_of before.running (IsAttempt old ready.held.entry (reverse before.rest.items)) run is ready.running in
       let own : run.reserved.room.id ≡ before.id = a.own ∙ ready.is in
       let now : Runner = record before { running = None } in
@@ -123,7 +123,7 @@ module _ (G : Ground) (T : Table) (old new : Kept) (before : Runner) (run : Runn
       steps_asked G T old new before now (bench s sp d) (bench s' sp' d) luck (Polls before.id run.child poll ∷ []) (at_rest (holder_of before))
       (record_of G.config G.moment before.id run.reserved.rows (alike one run.reserved.rows)) did.Recorded r s
       (λ failed. stepped_kind G T old new before now (bench s sp d) (bench s' sp' d) (Waits (attempt_of run)) (luck failed) (waits_kind is) ∙ acts failed)
-      meant (λ failed files e stands. read failed) spawner
+      meant (λ failed files e stands. read failed) spawner dialer
       refl refl refl holds whole (reads_itself s) refl p
       (record { spawner = told; dialer = gains_none d.told; spawner_faults = later; dialer_faults = omega arith })
       (on_ok r ((store new).entries ≡ map (recontrolled run.reserved.room.id (recorded old.terms run.reserved.rows results moment run.reserved.room.control)) (store old).entries) (IsReady new now)

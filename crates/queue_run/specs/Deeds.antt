@@ -1,5 +1,5 @@
 -- What a runner does, in order, and what of it table and devices see (own).
-use Rattle.std.specs.Prelude.{◌≡◌, ℕ, List, [], ◌∷◌, Option, Some, None, refl}
+use Rattle.std.specs.Prelude.{◌≡◌, ℕ, List, [], ◌∷◌, Option, Some, None, Bool, refl}
 use Rattle.std.specs.List.{flat_map}
 use Rattle.mail_base.specs.declared.outcome.Result1.{Result1}
 use Rattle.link_edge.specs.declared.dial_event.DialEvent.{DialEvent}
@@ -18,9 +18,13 @@ pub data Launch : Type 0 where
   Failed : (missed : ℕ) → Launch
   Missed : Launch
 
--- a whole delivery to peers: what a dialer tells of it, and what came of each row
+-- a whole delivery to peers: how many dials were missed before it, what a dialer tells of it, how
+-- many are missed then, whether one of its calls failed, and what came of each row
 pub record Talk : Type 0 where
+  pub missed : ℕ
   pub events : List DialEvent
+  pub missed_after : ℕ
+  pub fault : Bool
   pub results : List Result1
 
 -- an entry is claimed, its rows routed so; it is let go; a command is asked; an entry's control

@@ -8,5 +8,6 @@ pub mod Peers
 pub mod Deeds
 pub mod Kinds
 pub mod Steps
+pub mod Handovers
 pub mod Meant
 pub mod Working

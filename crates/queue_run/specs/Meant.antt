@@ -23,6 +23,7 @@ use Rattle.spawn_edge.specs.declared.event.Start.{Start}
 use Rattle.queue_run.specs.declared.batch.Batch.{Batch}
 use Rattle.queue_run.specs.Claims.{claim_macros}
 use Rattle.queue_run.specs.Deeds.{Talk}
+use Rattle.queue_run.specs.Handovers.{IsHandover}
 use Rattle.queue_run.specs.Kinds.{Kind, Waits, Settles, Starts, Talks, Buries, Returns, Warns, Finishes, Leaves, host_macros}
 use Rattle.queue_run.specs.declared.letter.Letter.{Letter}
 use Rattle.queue_run.specs.Steps.{Luck, StillRuns, Exits, Loses, Records, Outgrows, Begins, Misses, Ends, Gives, Dies, Tells, Closes, LetsGo, Lacks}
@@ -73,6 +74,12 @@ IsStartOf (Starts batch mailer) letter start =
     start ≡ start_of mailer letter.macros batch.users letter.text
 IsStartOf kind letter start = Unit {0}
 
+-- of one that is delivered to peers, the delivery
+abbrev pub IsTalkOf : Ground → Option Control → Kind → Letter → Talk → Type 0
+IsTalkOf ground (Some control) (Talks batch mailer peers) letter talk =
+    IsHandover ground.config control batch mailer peers letter talk
+IsTalkOf ground found kind letter talk = Unit {0}
+
 -- what the data of a step is, of an entry of that control
 abbrev pub IsMeant : Ground → ℕ → Option Control → Kind → Luck → Type 0
 IsMeant ground id found kind StillRuns = Unit {0}
@@ -84,7 +91,8 @@ IsMeant ground id found kind (Begins letter start child missed) =
     IsLetterOf ground id found kind letter × IsStartOf kind letter start
 IsMeant ground id found kind (Misses letter start launch failed) =
     IsLetterOf ground id found kind letter × IsStartOf kind letter start
-IsMeant ground id found kind (Ends letter talk failed) = IsLetterOf ground id found kind letter
+IsMeant ground id found kind (Ends letter talk failed) =
+    IsLetterOf ground id found kind letter × IsTalkOf ground found kind letter talk
 IsMeant ground id found kind (Gives body bounce failed) = Unit {0}
 IsMeant ground id found kind (Dies failed) = Unit {0}
 IsMeant ground id found kind (Tells warning failed) = Unit {0}

@@ -12,9 +12,10 @@ use Rattle.queue_run.specs.declared.runner.Runner.{Runner}
 use Rattle.queue_run.specs.declared.runner.Running.{Running}
 use Rattle.queue_run.specs.Batches.{is_among}
 
--- a batch has rows, and they are still tried
+-- a batch has rows, each with a user, and they are still tried
 pub record IsUntried (rows : List Row) (batch : Batch) : Type 0 where
   pub some : 0 < length batch.places
+  pub users : length batch.users ≡ length batch.places
   pub each : All (IsTried rows) batch.places
 
 -- two batches have no row in common

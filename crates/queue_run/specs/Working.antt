@@ -7,6 +7,7 @@ use Rattle.mail_base.specs.declared.config.Config.{Config}
 use Rattle.mail_base.specs.declared.control.Control.{Control}
 use Rattle.map_tables.specs.Answers.{Loaded}
 use Rattle.link_edge.specs.Dials.{DialSeen}
+use Rattle.mailer_smtp.specs.Deliveries.{Counts}
 use Rattle.spawn_edge.specs.Spawned.{IsRunningAt, Spawned}
 use Rattle.spool_disk.specs.Disk.{FileMap}
 use Rattle.spool_disk.specs.Spooled.{Spooled}
@@ -25,7 +26,7 @@ use Rattle.queue_run.specs.declared.runner.RunStop.{RunStop}
 use Rattle.queue_run.specs.declared.runner.RunStop.TheVariants as stop
 use Rattle.queue_run.specs.declared.runner.Runner.{Runner}
 use Rattle.queue_run.specs.declared.runner.Running.{Running}
-use Rattle.queue_run.specs.Deeds.{Deed, asked_in, born_in, dialled_in}
+use Rattle.queue_run.specs.Deeds.{Deed, Talk, asked_in, born_in, dialled_in}
 use Rattle.queue_run.specs.Holders.{Holder, holder_of}
 use Rattle.queue_run.specs.Kinds.{Kind, kind_of}
 use Rattle.queue_run.specs.Meant.{Ground, IsMeant}
@@ -139,6 +140,17 @@ HasSpawnerCause before now (Misses letter start launch failed) = Rose before now
 HasSpawnerCause before now (Loses failed) = Rose before now
 HasSpawnerCause before now luck = now ≡ before
 
+-- a dialer's counts before and after a delivery
+pub record IsCounted (before now : DialSeen) (talk : Talk) : Type 0 where
+  pub missed : talk.missed ≡ before.missed
+  pub after : talk.missed_after ≡ now.missed
+  pub faults : Counts before.faults now.faults talk.fault
+
+-- the dialer's counts go as a delivery says, and where there is none it is as before
+abbrev pub HasDialerCause : DialSeen → DialSeen → Luck → Type 0
+HasDialerCause before now (Ends letter talk failed) = IsCounted before now talk
+HasDialerCause before now luck = now ≡ before
+
 -- the body that was read is that of the entry in the table
 abbrev pub IsBodyOf : Table → ℕ → List ℕ → Type 0
 IsBodyOf table id body =
@@ -174,3 +186,4 @@ pub record Steps (ground : Ground) (table : Table) (old new : Kept) (before afte
       (stepped_on ground table (holder_of before) luck) after result
   pub spool_cause : HasSpoolCause a b result
   pub spawner_cause : HasSpawnerCause a.spawner.faults b.spawner.faults luck
+  pub dialer_cause : HasDialerCause a.dialer b.dialer luck

@@ -3,13 +3,15 @@
 ghost use Rattle.std.specs.Prelude.{◌≡◌, ◌≤◌, ◌++◌, ◌∷◌, [], All, List, ℕ, ℤ, length};
 ghost use Rattle.std.specs.List.{flat_map};
 ghost use Rattle.mail_base.specs.declared.config.Config.{Config};
-ghost use Rattle.map_tables.specs.Answers.{Loaded};
+ghost use Rattle.mail_base.specs.declared.mailer.Mailer.{Mailer};
+ghost use Rattle.link_edge.specs.declared.peer.Peer.{Peer};
 ghost use Rattle.mailer_pipe.specs.Ends.{ended_with};
 ghost use Rattle.spawn_edge.specs.declared.event.Poll.TheVariants.{Over};
 ghost use Rattle.spool_store.specs.Entries.{Table};
-ghost use Rattle.queue_run.specs.Deeds.{Asks, Deed, IsOf, Polls, Talk, Talks, asked_in};
+ghost use Rattle.queue_run.specs.declared.batch.Batch.{Batch};
+ghost use Rattle.queue_run.specs.Deeds.{Asks, Deed, IsOf, Polls, Talk, Talks as Delivers, asked_in};
 ghost use Rattle.queue_run.specs.Holders.{Attempt, Holder};
-ghost use Rattle.queue_run.specs.Kinds.{Kind, Waits};
+ghost use Rattle.queue_run.specs.Kinds.{Kind, Talks, Waits};
 ghost use Rattle.queue_run.specs.Results.{alike};
 ghost use Rattle.queue_run.specs.Steps.{Luck, acted, record_of};
 
@@ -33,4 +35,10 @@ pub fn an_end_is_recorded_at_once()
         → (acted config moment table h (Waits r) luck).deeds ≡ Polls id child (Over status) ∷ more
         → more ≡ Asks (record_of config moment h.id r.places (alike (ended_with status) r.places))
         ∷ [] }
+    ensures talked { (config : Config) (moment : ℕ) (table : Table) (h : Holder) (batch : Batch)
+        (mailer : Mailer) (peers : List Peer) (luck : Luck) (id : ℕ) (places : List ℕ)
+        (talk : Talk) (more : List Deed)
+        → (acted config moment table h (Talks batch mailer peers) luck).deeds
+        ≡ Delivers id places talk ∷ more
+        → more ≡ Asks (record_of config moment h.id batch.places talk.results) ∷ [] }
 {}

@@ -16,6 +16,7 @@ mod runner;
 mod settling;
 mod splitting;
 mod starting;
+mod talking;
 mod waiting;
 
 pub use batch::{Batch, Routed};

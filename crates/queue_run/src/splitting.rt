@@ -163,7 +163,8 @@ fn most_of(mailer: &Mailer) -> u64
     1
 }
 
-fn has_flag(mailer: &Mailer, flag: u8) -> bool
+// Whether a mailer has a flag.
+pub(crate) fn has_flag(mailer: &Mailer, flag: u8) -> bool
     ensures { result ≡ has_flag flag mailer.now }
 {
     mailer.flags.bytes().contains(&flag)

@@ -1,25 +1,24 @@
 -- The exits of a start.
-use Rattle.std.proofs.Common.{◌≡◌, ◌∙◌, Some, Ok, Err, ap, sym, subst, refl, reverse, rules}
-use Rattle.std.specs.Prelude.{IfSome, false, slice_get}
-use Rattle.link_edge.specs.Dials.{DialSeen}
+use Rattle.std.proofs.Common.{◌≡◌, ◌∙◌, Some, Err, ap, sym, subst, refl, reverse, rules}
+use Rattle.std.specs.Prelude.{IfSome, false}
 use Rattle.mailer_pipe.specs.Starts.{Begins, start_of}
 use Rattle.spool_store.proofs.OpenLemmas.{reads_told}
 use Rattle.spool_store.specs.Stores.{Agrees}
 use Rattle.queue_table.specs.Calls.{store}
-use Rattle.queue_run.specs.declared.batch.Batch.{Batch}
 use Rattle.queue_run.specs.declared.runner.Runner.{Runner}
 use Rattle.queue_run.specs.declared.runner.Running.{Running}
 use Rattle.queue_run.specs.declared.runner.RunStop.TheVariants.{NoMemory}
 use Rattle.queue_run.specs.Kinds.{Starts}
 use Rattle.queue_run.specs.Meant.{IsLetter, ground_of}
-use Rattle.queue_run.specs.Results.{alike, device_fault, too_large}
+use Rattle.queue_run.specs.Results.{alike, device_fault}
 use Rattle.queue_run.specs.Working.{Steps, bench, kind_in}
 use Rattle.queue_run.specs.Holders.{holder_of}
 use Rattle.queue_run.specs.inner.Puts.{IsPutOrNot}
 use Rattle.queue_run.proofs.PutLemmas.{can_reserve, put_alike_as, turned}
 use Rattle.queue_run.proofs.SettleLemmas.{exit_memory, first_is, rests}
 use Rattle.queue_run.proofs.StepLemmas.{reads_itself}
-use Rattle.queue_run.proofs.StartLemmas.{exit_begun, exit_outgrown, exit_starved, exit_unbegun, exit_unhanded, handed_start}
+use Rattle.queue_run.proofs.LetterLemmas.{exit_outgrown, exit_unhanded, handed_for, starts_lettered}
+use Rattle.queue_run.proofs.StartLemmas.{exit_begun, exit_starved, exit_unbegun}
 use Rattle.queue_run.proofs.runner.Runner.start.Goals as goal
 
 pub reserve-requires : goal.reserve-requires
@@ -46,7 +45,7 @@ returns-in_err-letter g c = record {
       let now : Runner = record { id = before.id; rest = c.pop.new.self; running = before.running } in
       let e : c.from_residual-in_err-letter.result ≡ Err c.in_err-letter.field-0.0 = search rules in
       subst (λ q. Steps (ground_of c.args.config.now c.args.maps.now c.args.moment) entries c.args.table.now c.args.table.now before now (bench s sp dialer) (bench m sp dialer) q) (sym e)
-      (exit_unhanded (ground_of c.args.config.now c.args.maps.now c.args.moment) entries c.args.table.now c.args.table.now before now batch c.args.mailer.now s m m sp sp dialer c.in_err-letter.field-0.0 kind c.hand.ensures.reads c.hand.ensures.later c.in_err-letter.ensures.fault);
+      (exit_unhanded (ground_of c.args.config.now c.args.maps.now c.args.moment) entries c.args.table.now c.args.table.now before now (Starts batch c.args.mailer.now) batch c.args.mailer.now (starts_lettered (ground_of c.args.config.now c.args.maps.now c.args.moment) entries before batch c.args.mailer.now) s m m sp dialer c.in_err-letter.field-0.0 kind c.hand.ensures.reads c.hand.ensures.later c.in_err-letter.ensures.fault);
 }
 
 pub put_alike-requires-clause-agrees : goal.put_alike-requires-clause-agrees
@@ -71,10 +70,10 @@ returns-then-is_large g c = record {
       let letter = c.in_ok-letter.letter in
       let same : batch ≡ mine = first_is before.rest.items c.pop.new.self.items mine batch c.in-Some.ensures.items first in
       let kind' : kind_in G entries (holder_of before) ≡ Starts mine mailer = subst (λ q. kind_in G entries (holder_of before) ≡ Starts q mailer) same kind in
-      let handed = handed_start G entries c.args.table.now before mine mailer s m letter holds ready
+      let handed = handed_for G entries c.args.table.now before (Starts mine mailer) mine mailer s m letter (starts_lettered G entries before mine mailer) holds ready
       (λ h among own. subst (λ q. IsLetter G before.id h.entry.control mailer q letter) c.in_ok-host.ensures (c.in_ok-letter.ensures.is h among own))
       c.in_ok-letter.ensures.body c.hand.ensures.reads c.in_ok-letter.ensures.fault in
-      exit_outgrown G entries c.args.table.now c.put_alike.new.table before now mine mailer s m s' sp sp dialer letter c.args.moment c.put_alike.result ready kind' (sym c.is_large.ensures ∙ c.if-is_large.true) handed refl
+      exit_outgrown G entries c.args.table.now c.put_alike.new.table before now (Starts mine mailer) mine mailer (starts_lettered G entries before mine mailer) s m s' sp dialer letter c.args.moment c.put_alike.result ready kind' (sym c.is_large.ensures ∙ c.if-is_large.true) handed refl
       (record { id = refl; split = c.in-Some.ensures.items; running = rests G entries before (Starts mine mailer) kind' tt }) holds whole
       (subst (λ q. IsPutOrNot c.args.table.now c.put_alike.new.table before.id mine.places q c.args.moment ready.held.entry.control c.put_alike.result m s') c.too_large-one.ensures
       (c.put_alike.ensures.put ready.held ready.among ready.is))
@@ -124,7 +123,7 @@ returns-in-Ok g c = record {
       let known = c.in_ok-reserved.ensures in
       let same : batch ≡ mine = first_is before.rest.items c.pop.new.self.items mine batch c.in-Some.ensures.items first in
       let kind' : kind_in G entries (holder_of before) ≡ Starts mine mailer = subst (λ q. kind_in G entries (holder_of before) ≡ Starts q mailer) same kind in
-      let handed = handed_start G entries c.args.table.now before mine mailer s m letter holds ready
+      let handed = handed_for G entries c.args.table.now before (Starts mine mailer) mine mailer s m letter (starts_lettered G entries before mine mailer) holds ready
       (λ h among own. subst (λ q. IsLetter G before.id h.entry.control mailer q letter) c.in_ok-host.ensures (c.in_ok-letter.ensures.is h among own))
       c.in_ok-letter.ensures.body c.hand.ensures.reads c.in_ok-letter.ensures.fault in
       let results : c.in_ok-outcomes.outcomes.results ≡ alike device_fault mine.places = c.in_ok-outcomes.ensures ∙ ap (λ q. alike q c.items.result.now) c.device_fault.ensures ∙ ap (alike device_fault) c.items.ensures in
@@ -155,7 +154,7 @@ returns-in-Err-DeviceFault g c = record {
       let known = c.in_ok-reserved.ensures in
       let same : batch ≡ mine = first_is before.rest.items c.pop.new.self.items mine batch c.in-Some.ensures.items first in
       let kind' : kind_in G entries (holder_of before) ≡ Starts mine mailer = subst (λ q. kind_in G entries (holder_of before) ≡ Starts q mailer) same kind in
-      let handed = handed_start G entries c.args.table.now before mine mailer s m letter holds ready
+      let handed = handed_for G entries c.args.table.now before (Starts mine mailer) mine mailer s m letter (starts_lettered G entries before mine mailer) holds ready
       (λ h among own. subst (λ q. IsLetter G before.id h.entry.control mailer q letter) c.in_ok-host.ensures (c.in_ok-letter.ensures.is h among own))
       c.in_ok-letter.ensures.body c.hand.ensures.reads c.in_ok-letter.ensures.fault in
       let results : c.in_ok-outcomes.outcomes.results ≡ alike device_fault mine.places = c.in_ok-outcomes.ensures ∙ ap (λ q. alike q c.items.result.now) c.device_fault.ensures ∙ ap (alike device_fault) c.items.ensures in
@@ -182,7 +181,7 @@ returns g c = record {
       let letter = c.in_ok-letter.letter in
       let same : batch ≡ mine = first_is before.rest.items c.pop.new.self.items mine batch c.in-Some.ensures.items first in
       let kind' : kind_in G entries (holder_of before) ≡ Starts mine mailer = subst (λ q. kind_in G entries (holder_of before) ≡ Starts q mailer) same kind in
-      let handed = handed_start G entries c.args.table.now before mine mailer s m letter holds ready
+      let handed = handed_for G entries c.args.table.now before (Starts mine mailer) mine mailer s m letter (starts_lettered G entries before mine mailer) holds ready
       (λ h among own. subst (λ q. IsLetter G before.id h.entry.control mailer q letter) c.in_ok-host.ensures (c.in_ok-letter.ensures.is h among own))
       c.in_ok-letter.ensures.body c.hand.ensures.reads c.in_ok-letter.ensures.fault in
       let now : Runner = record { id = before.id; rest = c.pop.new.self; running = before.running } in

@@ -81,7 +81,7 @@ returns-in-Ok-Some g c = record {
       subst (λ q. Steps (ground_of config maps c.args.moment) entries c.args.table.now c.put.new.table before q (bench s sp d) (bench s' sp' d) c.put.result)
       (λ i. record { id = before.id; rest = before.rest; running = sym c.take.ensures.after i })
       (exit_ends (ground_of config maps c.args.moment) entries c.args.table.now c.put.new.table before run s s' sp sp' d (polls.Over status) (ended_with status) _ c.args.moment c.put.result (λ failed. Exits status failed) tt
-      (λ failed. refl) (λ failed. tt) (λ failed. tt) (λ failed. c.in-Ok-Some.ensures.calm) c.finished.ensures.cause.later refl (c.fill_ended.ensures run.reserved.rows a.each ∙ ap (λ q. alike (ended_with q) run.reserved.rows) (to_z-of_z w32 status fits)) is c.requires.ready holds whole told c.put.ensures.put c.put.ensures.entries);
+      (λ failed. refl) (λ failed. tt) (λ failed. tt) (λ failed. c.in-Ok-Some.ensures.calm) (λ failed. refl) c.finished.ensures.cause.later refl (c.fill_ended.ensures run.reserved.rows a.each ∙ ap (λ q. alike (ended_with q) run.reserved.rows) (to_z-of_z w32 status fits)) is c.requires.ready holds whole told c.put.ensures.put c.put.ensures.entries);
 }
 
 pub returns-in-Err : goal.returns-in-Err
@@ -99,5 +99,5 @@ returns-in-Err g c = record {
       subst (λ q. Steps (ground_of config maps c.args.moment) entries c.args.table.now c.put-in-Err.new.table before q (bench s sp d) (bench s' sp' d) c.put-in-Err.result)
       (λ i. record { id = before.id; rest = before.rest; running = sym c.take.ensures.after i })
       (exit_ends (ground_of config maps c.args.moment) entries c.args.table.now c.put-in-Err.new.table before run s s' sp sp' d polls.Lost device_fault _ c.args.moment c.put-in-Err.result (λ failed. Loses failed) tt
-      (λ failed. refl) (λ failed. tt) (λ failed. tt) (λ failed. c.in-Err.ensures.cause.failed) c.finished.ensures.cause.later refl (c.fill_lost.ensures run.reserved.rows a.each) is c.requires.ready holds whole told c.put-in-Err.ensures.put c.put-in-Err.ensures.entries);
+      (λ failed. refl) (λ failed. tt) (λ failed. tt) (λ failed. c.in-Err.ensures.cause.failed) (λ failed. refl) c.finished.ensures.cause.later refl (c.fill_lost.ensures run.reserved.rows a.each) is c.requires.ready holds whole told c.put-in-Err.ensures.put c.put-in-Err.ensures.entries);
 }
