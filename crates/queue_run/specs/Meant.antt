@@ -11,7 +11,8 @@ use Rattle.mail_base.specs.declared.message.Back.{Back}
 use Rattle.mail_base.specs.declared.route.Resolved.{Resolved}
 use Rattle.mail_base.specs.declared.route.Resolved.TheVariants.{Goes, Refuses}
 use Rattle.map_tables.specs.Answers.{Loaded}
-use Rattle.ruleset_run.specs.Sites.{Macros}
+use Rattle.ruleset_run.specs.Sites.{Macros, site_of}
+use Rattle.header_rewrite.specs.Rewriting.{AreRewritten}
 use Rattle.addr_route.specs.Senders.{Sends}
 use Rattle.mail_header.specs.Dated.{IsDated}
 use Rattle.mail_header.specs.Fields.{IsDate, date_told}
@@ -56,8 +57,8 @@ pub record IsLetter (ground : Ground) (id : ℕ) (control : Control) (mailer : M
   pub macros : IsDated ground.moment
       (letter_macros (host_macros ground.config id control host) letter.date letter.sender)
       letter.macros
-  pub headers : letter.headers
-      ≡ added_of ground.config.headers mailer letter.macros control.headers
+  pub headers : AreRewritten (site_of ground.config ground.maps) letter.macros mailer
+      (added_of ground.config.headers mailer letter.macros control.headers) letter.headers
   pub text : letter.text ≡ outgoing_of mailer letter.macros letter.headers letter.body
 
 -- of a batch that is tried, the letter to it

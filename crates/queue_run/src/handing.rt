@@ -15,6 +15,7 @@ ghost use Rattle.queue_run.specs.inner.Handed.{HasHandFault, stop_of};
 use crate::claiming::claim_macros;
 use crate::{Letter, RunStop};
 use addr_route::sender_for;
+use header_rewrite::rewritten;
 use mail_base::{
     Config, Control, Id, Macros, Mailer, NoMemory, Resolved, StoreFault, Text, TryCopy,
 };
@@ -91,6 +92,7 @@ fn letter(
     let macros = letter_macros(alloc, macros, &date, &sender)?;
     let macros = dated(alloc, macros, moment)?;
     let headers = added(config, mailer, &macros, &control.headers)?;
+    let headers = rewritten(config, maps, &macros, mailer, &headers)?;
     let text = outgoing(mailer, &macros, &headers, &body)?;
     Ok(Letter {
         body,

@@ -11,7 +11,7 @@ pub struct Letter {
     pub date: Text,
     /// What templates see.
     pub macros: Macros,
-    /// The headers, with those that the configuration adds.
+    /// The headers, with those that the configuration adds, and addresses as the mailer shows them.
     pub headers: Seq<Text>,
     /// The whole text.
     pub text: Text,
