@@ -14,3 +14,4 @@ mod LawLemmas
 mod Examples
 mod PeerLemmas
 mod PeerExamples
+mod TalkExamples

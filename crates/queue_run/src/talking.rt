@@ -1,4 +1,5 @@
-ghost use Rattle.std.specs.Prelude.{◌≡◌, ◌<◌, Contains, IfOk, Some, false, length, slice_get};
+ghost use Rattle.std.specs.Prelude.{◌≡◌, ◌<◌, Contains, IfOk, OnErr, Some, false, length, slice_get};
+ghost use Rattle.mailer_smtp.specs.Deliveries.{Delivered};
 ghost use Rattle.spawn_edge.specs.Spawned.{Spawned};
 ghost use Rattle.spool_store.specs.Entries.{Table as Entries};
 ghost use Rattle.spool_store.specs.Stores.{HasId};
@@ -67,17 +68,7 @@ impl Runner {
         }
         let reserved = reserve(table, &self.id, &batch.places)?;
         let mail = mail_for(alloc, table, config, &self.id, batch.users, letter)?;
-        let mut outcomes = Outcomes {
-            results: Seq::new(alloc),
-        };
-        deliver(
-            alloc,
-            dialer,
-            peers,
-            speech_of(mailer),
-            &mail,
-            &mut outcomes,
-        )?;
+        let outcomes = hand_over(alloc, dialer, mailer, peers, &mail)?;
         put(table, spool, reserved, &outcomes, moment)
     }
 }
@@ -104,6 +95,27 @@ fn mail_for(
         message: letter.text,
         eight,
     })
+}
+
+// Hands a letter over to peers, and says what became of each of its users. It takes its memory
+// before it dials.
+fn hand_over<N: Dialer>(
+    alloc: Global,
+    dialer: &mut N,
+    mailer: &Mailer,
+    peers: &Seq<Peer>,
+    mail: &Mail,
+) -> Result<Outcomes, NoMemory>
+    ensures delivered { IfOk result (λ outcomes. Delivered (spec.speech_of mailer.now) mail.now
+        peers.now (N.seen dialer.old) (N.seen dialer.new) outcomes.results) }
+    ensures each { IfOk result (λ outcomes. length outcomes.results ≡ length mail.now.users) }
+    ensures none { OnErr result (N.seen dialer.new ≡ N.seen dialer.old) }
+{
+    let mut outcomes = Outcomes {
+        results: Seq::new(alloc),
+    };
+    deliver(alloc, dialer, peers, speech_of(mailer), mail, &mut outcomes)?;
+    Ok(outcomes)
 }
 
 // The protocol that a mailer speaks.

@@ -2,8 +2,6 @@
 use Rattle.std.proofs.Common.{◌≡◌, ◌∙◌, Err, ap, sym, subst, refl, length, reverse, rules}
 use Rattle.std.specs.Prelude.{IfSome, false}
 use Rattle.std.proofs.lemmas.Result.{err_from_is_err_and}
-use Rattle.mailer_smtp.specs.Deliveries.{Delivered}
-use Rattle.mailer_smtp.specs.declared.kit.Speech.{Speech}
 use Rattle.mailer_smtp.specs.declared.letter.Letter.{Letter as Mail}
 use Rattle.spool_store.proofs.OpenLemmas.{reads_told}
 use Rattle.spool_store.specs.Stores.{Agrees}
@@ -116,8 +114,8 @@ returns-in_err-mail g c = record {
       (exit_memory G entries c.args.table.now c.args.table.now before now s m spawner d (Talks batch c.args.mailer.now c.args.peers.now) kind refl c.hand.ensures.reads c.in_ok-letter.ensures.fault);
 }
 
-pub returns-in_err-deliver : goal.returns-in_err-deliver
-returns-in_err-deliver g c = record {
+pub returns-in_err-outcomes : goal.returns-in_err-outcomes
+returns-in_err-outcomes g c = record {
   steps = λ entries spawner batch whole holds first kind.
       let G = ground_of c.args.config.now c.args.maps.now c.args.moment in
       let s = g.D.Spool.seen c.args.spool.now in
@@ -125,10 +123,10 @@ returns-in_err-deliver g c = record {
       let d = g.N.Dialer.seen c.args.dialer.now in
       let before = c.args.self.now in
       let now : Runner = record { id = before.id; rest = c.pop.new.self; running = before.running } in
-      let p = err_from_is_err_and c.from_residual-in_err-deliver.result c.from_residual-in_err-deliver.ensures.1 in
-      let e : c.from_residual-in_err-deliver.result ≡ Err NoMemory = p.1 ∙ ap (λ q. Err q) p.2 in
-      let same : g.N.Dialer.seen c.deliver.new.dialer ≡ d = c.in_err-deliver.ensures.dialer in
-      subst (λ q. Steps G entries c.args.table.now c.args.table.now before now (bench s spawner d) (bench m spawner q) c.from_residual-in_err-deliver.result) (sym same)
+      let p = err_from_is_err_and c.from_residual-in_err-outcomes.result c.from_residual-in_err-outcomes.ensures.1 in
+      let e : c.from_residual-in_err-outcomes.result ≡ Err NoMemory = p.1 ∙ ap (λ q. Err q) p.2 in
+      let same : g.N.Dialer.seen c.hand_over.new.dialer ≡ d = c.in_err-outcomes.ensures.none in
+      subst (λ q. Steps G entries c.args.table.now c.args.table.now before now (bench s spawner d) (bench m spawner q) c.from_residual-in_err-outcomes.result) (sym same)
       (subst (λ q. Steps G entries c.args.table.now c.args.table.now before now (bench s spawner d) (bench m spawner d) q) (sym e)
       (exit_memory G entries c.args.table.now c.args.table.now before now s m spawner d (Talks batch c.args.mailer.now c.args.peers.now) kind refl c.hand.ensures.reads c.in_ok-letter.ensures.fault));
 }
@@ -140,7 +138,7 @@ pub put-requires-clause-each : goal.put-requires-clause-each
 put-requires-clause-each g c =
     let ready = c.requires.ready in
     let mine = c.in-Some.batch in
-    c.in_ok-deliver.ensures.each
+    c.in_ok-outcomes.ensures.each
     ∙ ap (λ (q : Mail). length q.users) (c.in_ok-mail.ensures.is ready.held ready.among ready.is)
     ∙ first_users c.args.table.now c.args.self.now ready mine (reverse c.pop.new.self.items) (turned c.args.self.now.rest.items c.pop.new.self.items mine c.in-Some.ensures.items)
     ∙ ap length (sym c.in_ok-reserved.ensures.rows)
@@ -153,7 +151,7 @@ returns g c = record {
       let m = g.D.Spool.seen c.hand.new.spool in
       let s' = g.D.Spool.seen c.put.new.spool in
       let d = g.N.Dialer.seen c.args.dialer.now in
-      let d' = g.N.Dialer.seen c.deliver.new.dialer in
+      let d' = g.N.Dialer.seen c.hand_over.new.dialer in
       let before = c.args.self.now in
       let now : Runner = record { id = before.id; rest = c.pop.new.self; running = before.running } in
       let mine = c.in-Some.batch in
@@ -162,7 +160,7 @@ returns g c = record {
       let ready = c.requires.ready in
       let letter = c.in_ok-letter.letter in
       let mail = c.in_ok-mail.mail in
-      let results = c.deliver.new.outcomes.results in
+      let results = c.in_ok-outcomes.outcomes.results in
       let r = c.in_ok-reserved.reserved in
       let known = c.in_ok-reserved.ensures in
       let same : batch ≡ mine = first_is before.rest.items c.pop.new.self.items mine batch c.in-Some.ensures.items first in
@@ -173,7 +171,7 @@ returns g c = record {
       exit_talked G entries c.args.table.now c.put.new.table before now mine mailer peers s m s' spawner d d' letter mail results c.args.moment c.put.result ready kind' (sym c.is_large.ensures ∙ c.if-is_large.false) handed refl
       (record { id = refl; split = c.in-Some.ensures.items; running = rests G entries before (Talks mine mailer peers) kind' tt }) holds whole
       c.in_ok-mail.ensures.is
-      (subst (λ (q : Speech). Delivered q mail peers d d' results) c.speech_of.ensures c.in_ok-deliver.ensures.delivered)
-      c.in_ok-deliver.ensures.each
+      c.in_ok-outcomes.ensures.delivered
+      c.in_ok-outcomes.ensures.each
       (put_as c.args.table.now c.put.new.table before.id mine.places results c.args.moment ready.held.entry.control c.put.result m s' r known.id known.rows (known.control ready.held ready.among ready.is) c.put.ensures.put c.put.ensures.entries);
 }
