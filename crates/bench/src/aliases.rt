@@ -5,10 +5,10 @@
 //! of its names as the third word says. It tells how many rows came, how many times the file was
 //! read, or how many names were found.
 
+use crate::configured::{config_of, no_files};
 use crate::number::FIRST;
 use alias_expand::{Aliases, Homes, expand};
 use anyhow::{Result, bail, ensure};
-use cf_reader::read;
 use mail_base::{Config, NoMemory, Seq, Text};
 use mail_edge::SureFiles;
 use map_tables::Maps;
@@ -113,25 +113,10 @@ fn found(alloc: Global, aliases: &Aliases, lines: u32, rounds: u32) -> Result<u3
     Ok(found)
 }
 
-fn no_files(alloc: Global) -> Result<SureFiles> {
-    match SureFiles::new(Seq::new(alloc)) {
-        Some(files) => Ok(files),
-        None => bail!("a large file"),
-    }
-}
-
-fn config_of(alloc: Global) -> Result<Config> {
-    let text = Text::of(alloc, CONFIG)?;
-    match read(alloc, &text, &mut no_files(alloc)?) {
-        Ok(config) => Ok(config),
-        Err(_) => bail!("no configuration"),
-    }
-}
-
 /// How many rows the first of the aliases comes to, so many times.
 fn expanded(alloc: Global, text: &Text, rounds: u32) -> Result<String> {
     let aliases = aliases_of(alloc, text)?;
-    let config = config_of(alloc)?;
+    let config = config_of(alloc, CONFIG)?;
     let maps = Maps::load(alloc, &config, &Seq::new(alloc), &Text::new(alloc))?;
     let rows = rows_often(alloc, &aliases, &config, &maps, rounds)?;
     Ok(format!(in alloc; "{rows} rows")?)

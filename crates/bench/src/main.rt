@@ -1,22 +1,25 @@
 //! Does one thing over much input, so that its time can be measured. The first word says what:
 //! `lines`, `headers`, `body`, `receipt`, `tokens`, `control`, `conf`, `kept`, `maps`, `matches`,
-//! `rules`, `classes`, `aliases`, `parts`, `table`, `idle`, `woken`, `spool`, `commits` or
-//! `opening`. The second says over what, as each module tells, and the third how many times it is
-//! done, once where it is left out. The scripts in `bench/` measure it.
+//! `rules`, `classes`, `aliases`, `rewriting`, `outgoing`, `parts`, `table`, `idle`, `woken`,
+//! `spool`, `commits` or `opening`. The second says over what, as each module tells, and the third
+//! how many times it is done, once where it is left out. The scripts in `bench/` measure it.
 #![tactic(auto)]
 
 mod aliases;
 mod classes;
 mod conf;
+mod configured;
 mod control;
 mod gather;
 mod lines;
 mod maps;
 mod matches;
 mod number;
+mod outgoing;
 mod parts;
 mod queue;
 mod receipt;
+mod rewriting;
 mod rules;
 mod spool;
 mod table;
@@ -67,6 +70,8 @@ fn measured<R: rt::Files + Alloc<A = Global>>(
         "maps" => maps::answer(alloc, over, rounds),
         "matches" => matches::answer(alloc, over, rounds),
         "rules" => rules::answer(alloc, over, rounds),
+        "rewriting" => rewriting::answer(alloc, over, rounds),
+        "outgoing" => outgoing::answer(alloc, over, rounds),
         _ => measured_of_queue(alloc, what, over, rounds),
     }
 }
