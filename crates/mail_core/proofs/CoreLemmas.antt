@@ -1,17 +1,21 @@
 -- What the core does is a step of the machine.
-use Rattle.std.proofs.Common.{◌≡◌, ℕ, ◌<◌, ◌^◌, List, [], ◌∷◌, ◌++◌, length, Bool, true, false, Option, Some, None, Result, Ok, Err, refl, sym, ◌∙◌, ap, subst, arith}
-use Rattle.std.specs.Prelude.{is_ok, ◌≢◌, All, nat_eq, nat_le, ◌||◌, not, if◌then◌else◌}
-use Rattle.std.specs.List.{list_any}
+use Rattle.std.proofs.Common.{◌≡◌, ℕ, ◌<◌, ◌^◌, List, [], ◌∷◌, ◌++◌, length, get_or, set, Bool, true, false, Option, Some, None, Result, Ok, Err, refl, sym, ◌∙◌, ap, subst, arith}
+use Rattle.std.specs.Prelude.{is_ok, remove, ◌≢◌, All, nat_eq, nat_le, ◌||◌, if◌then◌else◌}
+use Rattle.std.specs.List.{AllZip, list_any}
 use Rattle.std.specs.Option.{is_some}
 use Rattle.std.proofs.lemmas.Bool.{cond-true, cond-false, false≢true, eq-eqb}
 use Rattle.std.proofs.lemmas.List.Elements.{All-nil, All-cons}
+use Rattle.std.proofs.lemmas.Slice.Zip.{all_zipped_more}
 use Rattle.mail_base.specs.Histories.{Gains}
 use Rattle.mail_base.proofs.Gaining.{gains_none}
+use Rattle.mail_base.specs.declared.config.Config.{Config}
+use Rattle.map_tables.specs.Answers.{Loaded}
 use Rattle.mail_edge.specs.Seen.{ClockSeen}
 use Rattle.link_edge.specs.Heard.{Heard}
 use Rattle.link_edge.specs.declared.event.Event.{Event}
 use Rattle.link_edge.specs.declared.event.Event.TheVariants.{Opens, Brings, Stops}
 use Rattle.spool_disk.specs.Spooled.{Spooled}
+use Rattle.queue_table.specs.Calls.{Tallies}
 use Rattle.smtp_lines.specs.Reader.{Reader, Stands as Reads, awaited, empty_stream, fresh}
 use Rattle.smtp_receive.specs.Sessions.{Stands as Speaks}
 use Rattle.smtp_receive.specs.declared.session.Session.{Session}
@@ -27,17 +31,19 @@ use Rattle.mail_core.specs.declared.serving.CoreStop.{CoreStop}
 use Rattle.mail_core.specs.Sites.{Site}
 use Rattle.mail_core.specs.Effects.{Effect, Takes, Ticks, Sends, HangsUp, heard_of, readings_of, commands_of}
 use Rattle.mail_core.specs.Events.{IsTaken, Turns}
-use Rattle.mail_core.specs.inner.Handling.{IsTakenUp, IsOpened, Steps, is_hosted}
+use Rattle.mail_core.specs.inner.Handling.{Behaves, HasAt, IsOpened, IsPlaceOf, IsReady, Steps}
 use Rattle.mail_core.specs.Causes.{EndsSo, HasCause, ending_by, ending_of, is_well}
 use Rattle.mail_core.specs.inner.Going.{Feeds, way_after, is_onward}
 use Rattle.mail_core.specs.Guests.{Guest, newcomer, with_bytes, guest_of, is_here, without, with_guest}
-use Rattle.mail_core.specs.Machine.{Ending, Stopped, Opening, Replied, Dropped, Choices, Way, GoesOn, Leaves, Over, By, Did, all_answered, State, Step, still, most_guests, turned_away, welcomed, opened, brought, pieced, handled, Turn, at_moment, moment_by, stepped, taken}
+use Rattle.mail_core.specs.Machine.{AreOpen, Ending, Stopped, Opening, Replied, Dropped, Choices, Way, GoesOn, Leaves, Over, By, Did, all_answered, State, Step, still, most_guests, turned_away, welcomed, opened, brought, pieced, handled, Turn, at_moment, moment_by, stepped, taken}
 use Rattle.mail_core.specs.Judges.{JudgeSeen}
 use Rattle.mail_core.specs.Meant.{ArePieceMeant, IsEventMeant}
 use Rattle.mail_core.specs.Seen.{Seen, seen, Ran}
-use Rattle.mail_core.specs.Standing.{Stores, IsAlone, Hosts, Keeps, Stands}
+use Rattle.mail_core.specs.Standing.{IsStanding, Keeps, Serves, Stands, Stores}
+use Rattle.mail_core.proofs.CallerLemmas.{IsFoundAt, as_many, found_at, here_as, open_more, open_with, open_without, removed_set, without_none}
 use Rattle.mail_core.proofs.GoingLemmas.{cause_since, way_onward}
 use Rattle.mail_core.proofs.LineLemmas.{onward_alive}
+use Rattle.mail_core.proofs.JudgeLemmas.{asked_none}
 use Rattle.mail_core.proofs.RanLemmas.{ran_join, ran_quiet, ran_none, ran_floor}
 
 -- ---- a new session
@@ -67,97 +73,113 @@ peer_line (b ∷ bytes) h = peer_more (nat_eq b 10) b bytes refl h (λ k. peer_l
     peer_more true b bytes is h go = absurd (false≢true (sym h))
     peer_more false b bytes is h go = All-cons (λ c. c ≢ 10) b bytes (λ e. false≢true (sym is ∙ eq-eqb b 10 e)) (go h)
 
--- ---- one session
+-- ---- callers
 
-pub hosts_some : (site : Site) (o : Option Caller) (caller : Caller) (guests : List Guest) → o ≡ Some caller → Hosts site o guests → IsAlone site caller guests
-hosts_some site o caller guests e h = subst (λ q. Hosts site q guests) e h
+module _ (site : Site) (m : State) (core : Core) (st : Stands site core m) where
+  -- other callers that stand for other sessions
+  pub stands_with : (other : Core) (guests : List Guest) → AllZip (Keeps site) other.callers.items guests → AreOpen guests → Stands site (record core { callers = other.callers }) (record m { guests = guests })
+  stands_with other guests callers are = record {
+    intake = st.intake;
+    host = st.host;
+    full = st.full;
+    latest = st.latest;
+    callers = callers;
+    guests = are;
+    on = st.on;
+  }
 
-pub hosts_none : (site : Site) (o : Option Caller) (guests : List Guest) → o ≡ None → Hosts site o guests → guests ≡ []
-hosts_none site o guests e h = subst (λ q. Hosts site q guests) e h
+  -- the same callers, wherever they are kept
+  pub stands_as : (other : Core) → other ≡ record core { callers = other.callers } → other.callers.items ≡ core.callers.items → Stands site other m
+  stands_as other is same = subst (λ q. Stands site q m) (sym is) (stands_with other m.guests (subst (λ q. AllZip (Keeps site) q m.guests) (sym same) st.callers) st.guests)
 
--- the one session is there, or another
-here_is : (guests : List Guest) (g : Guest) (session : ℕ) (t : Bool) → guests ≡ g ∷ [] → nat_eq g.number session ≡ t → is_here session guests ≡ t
-here_is guests g session true e is = ap (is_here session) e ∙ ap (λ b. b || false) is
-here_is guests g session false e is = ap (is_here session) e ∙ ap (λ b. b || false) is
+  -- the session whose caller is at a place
+  pub found_there : (session place : ℕ) → HasAt session core.callers.items place → IsFoundAt site session core.callers.items m.guests place
+  found_there session place at = found_at site session core.callers.items m.guests place st.callers st.guests.apart at.within at.is
 
-pub guest_is : (guests : List Guest) (g : Guest) (session : ℕ) → guests ≡ g ∷ [] → nat_eq g.number session ≡ true → guest_of session guests ≡ Some g
-guest_is guests g session e is = ap (guest_of session) e ∙ ap (λ (b : Bool). if b then Some g else None) is
+  -- its caller is that of the place
+  pub kept_there : (session place : ℕ) (at : HasAt session core.callers.items place) (caller : Caller) → caller ≡ get_or core.callers.items place caller → Keeps site caller (found_there session place at).guest
+  kept_there session place at caller is = let f = found_there session place at in subst (λ q. Keeps site q f.guest) (sym is) (f.keeps caller)
 
-pub guest_none : (guests : List Guest) (g : Guest) (session : ℕ) → guests ≡ g ∷ [] → nat_eq g.number session ≡ false → guest_of session guests ≡ None
-guest_none guests g session e is = ap (guest_of session) e ∙ ap (λ (b : Bool). if b then Some g else None) is
+  -- whether a session is there
+  pub is_there : (session : ℕ) (o : Option ℕ) → IsPlaceOf session core.callers.items o → is_here session m.guests ≡ is_some o
+  is_there session None at = here_as site session core.callers.items m.guests st.callers ∙ at
+  is_there session (Some place) at = let f = found_there session place at in f.here
 
--- one is there that has another number
-pub full_at : (site : Site) (o : Option Caller) (guests : List Guest) (session : ℕ) → true ≡ is_some o → false ≡ is_hosted session o → Hosts site o guests → (g : Guest) × (guests ≡ g ∷ []) × (nat_eq g.number session ≡ false)
-full_at site None guests session some other h = absurd (false≢true (sym some))
-full_at site (Some caller) guests session some other h = (h.guest, h.alone, ap (λ n. nat_eq n session) (sym h.keeps.talks.number) ∙ sym other)
+  -- whether as many are there as may be
+  pub is_crowded : nat_le most_guests (length core.callers.items) ≡ nat_le most_guests (length m.guests)
+  is_crowded = ap (nat_le most_guests) (sym (as_many site core.callers.items m.guests st.callers))
 
--- none is there
-pub empty_at : (site : Site) (o : Option Caller) (guests : List Guest) → false ≡ is_some o → Hosts site o guests → guests ≡ []
-empty_at site None guests none h = h
-empty_at site (Some caller) guests none h = absurd (false≢true none)
+-- the caller at a place is ready to be answered
+pub ready_there : (core : Core) (config : Config) (maps : Loaded) (r : IsStanding core config maps) (session place : ℕ) (caller : Caller) → HasAt session core.callers.items place → caller ≡ get_or core.callers.items place caller → IsReady core.intake caller config maps
+ready_there core config maps r session place caller at is =
+    let f = found_there r.site r.state core r.stands session place at in
+    let k = kept_there r.site r.state core r.stands session place at caller is in
+    record { site = r.site; under = r.under; table = r.state.table; guest = f.guest; serves = r.stands.intake; talks = k.talks }
+
+-- a caller more, for a session that is new
+pub stands_more : (site : Site) (m : State) (core other : Core) (session : ℕ) (peer : List ℕ) (caller : Caller) → Stands site core m → nat_le most_guests (length m.guests) ≡ false → is_here session m.guests ≡ false → Keeps site caller (newcomer site.config session peer)
+    → other.callers.items ≡ core.callers.items ++ caller ∷ [] → Stands site (record core { callers = other.callers }) (record m { guests = m.guests ++ newcomer site.config session peer ∷ [] })
+stands_more site m core other session peer caller st room new keeps is =
+    let x = newcomer site.config session peer in
+    stands_with site m core st other (m.guests ++ x ∷ [])
+    (subst (λ q. AllZip (Keeps site) q (m.guests ++ x ∷ [])) (sym is) (all_zipped_more (Keeps site) core.callers.items m.guests caller x st.callers keeps))
+    (open_more m.guests x room new st.guests)
 
 -- ---- openings
 
 module _ (site : Site) (m : State) (session : ℕ) (peer : List ℕ) (core : Core) where
   -- one of a session that is open
-  pub opens_here : (f : Heard) (g : Guest) → m.guests ≡ g ∷ [] → nat_eq g.number session ≡ true → Stands site core m → IsOpened site m session peer f f core
-  opens_here f g alone is stands =
-      let step = cond-true (is_here session m.guests) (still m) _ (here_is m.guests g session true alone is) in record {
+  pub opens_here : (f : Heard) → is_here session m.guests ≡ true → Stands site core m → IsOpened site m session peer f f core
+  opens_here f here stands =
+      let step = cond-true (is_here session m.guests) (still m) _ here in record {
         choice = Dropped;
         told = subst (λ (s : Step). Gains f.told f.told (heard_of s.effects)) (sym step) (gains_none f.told);
         stands = subst (λ (s : Step). Stands site core s.state) (sym step) stands;
       }
 
-  full : (guests : List Guest) (g : Guest) → guests ≡ g ∷ [] → nat_le most_guests (length guests) ≡ true
-  unfolding most_guests
-  full guests g e = ap (λ q. nat_le 1 (length q)) e
-
   -- one more than may be open
-  pub opens_full : (f now : Heard) (g : Guest) (text : List ℕ) (whole : Bool) → m.guests ≡ g ∷ [] → nat_eq g.number session ≡ false → text ≡ too_many_sessions_text → Gains f.told now.told (heard_of (Sends session text whole ∷ HangsUp session ∷ [])) → Stands site core m
+  pub opens_full : (f now : Heard) (text : List ℕ) (whole : Bool) → is_here session m.guests ≡ false → nat_le most_guests (length m.guests) ≡ true → text ≡ too_many_sessions_text → Gains f.told now.told (heard_of (Sends session text whole ∷ HangsUp session ∷ [])) → Stands site core m
       → IsOpened site m session peer f now core
-  opens_full f now g text whole alone is text_is told stands =
-      let step = cond-false (is_here session m.guests) _ _ (here_is m.guests g session false alone is) ∙ cond-true (nat_le most_guests (length m.guests)) (turned_away m session (Replied whole)) _ (full m.guests g alone) in record {
+  opens_full f now text whole new full text_is told stands =
+      let step = cond-false (is_here session m.guests) _ _ new ∙ cond-true (nat_le most_guests (length m.guests)) (turned_away m session (Replied whole)) _ full in record {
         choice = Replied whole;
         told = subst (λ (s : Step). Gains f.told now.told (heard_of s.effects)) (sym step) (subst (λ t. Gains f.told now.told (heard_of (Sends session t whole ∷ HangsUp session ∷ []))) text_is told);
         stands = subst (λ (s : Step). Stands site core s.state) (sym step) stands;
       }
 
-  free : (guests : List Guest) → guests ≡ [] → nat_le most_guests (length guests) ≡ false
-  unfolding most_guests
-  free guests e = ap (λ q. nat_le 1 (length q)) e
+  module _ (new : is_here session m.guests ≡ false) (free : nat_le most_guests (length m.guests) ≡ false) where
+    -- a new session
+    new_is : (choice : Opening) → opened site m session peer choice ≡ welcomed site m session peer choice
+    new_is choice = cond-false (is_here session m.guests) (still m) _ new ∙ cond-false (nat_le most_guests (length m.guests)) (turned_away m session choice) _ free
 
-  -- a new session
-  new_is : (choice : Opening) → m.guests ≡ [] → opened site m session peer choice ≡ welcomed site m session peer choice
-  new_is choice none = cond-false (is_here session m.guests) (still m) _ (ap (is_here session) none) ∙ cond-false (nat_le most_guests (length m.guests)) (turned_away m session choice) _ (free m.guests none)
+    -- a session whose greeting was sent is a new one
+    pub opens_new : (f now : Heard) (text : List ℕ) → text ≡ greeting_text (shown_host site.host) → Gains f.told now.told (heard_of (Sends session text true ∷ []))
+        → Stands site core (record m { guests = m.guests ++ newcomer site.config session peer ∷ [] }) → IsOpened site m session peer f now core
+    opens_new f now text text_is told stands =
+        let step = new_is (Replied true) in record {
+          choice = Replied true;
+          told = subst (λ (s : Step). Gains f.told now.told (heard_of s.effects)) (sym step) (subst (λ t. Gains f.told now.told (heard_of (Sends session t true ∷ []))) text_is told);
+          stands = subst (λ (s : Step). Stands site core s.state) (sym step) stands;
+        }
 
-  -- a session whose greeting was sent is a new one
-  pub opens_new : (f now : Heard) (text : List ℕ) → m.guests ≡ [] → text ≡ greeting_text (shown_host site.host) → Gains f.told now.told (heard_of (Sends session text true ∷ []))
-      → Stands site core (record m { guests = m.guests ++ newcomer site.config session peer ∷ [] }) → IsOpened site m session peer f now core
-  opens_new f now text none text_is told stands =
-      let step = new_is (Replied true) none in record {
-        choice = Replied true;
-        told = subst (λ (s : Step). Gains f.told now.told (heard_of s.effects)) (sym step) (subst (λ t. Gains f.told now.told (heard_of (Sends session t true ∷ []))) text_is told);
-        stands = subst (λ (s : Step). Stands site core s.state) (sym step) stands;
-      }
+    -- a session whose greeting wasn't sent whole is hung up
+    pub opens_unsent : (f now : Heard) (text : List ℕ) → text ≡ greeting_text (shown_host site.host) → Gains f.told now.told (heard_of (Sends session text false ∷ HangsUp session ∷ []))
+        → Stands site core m → IsOpened site m session peer f now core
+    opens_unsent f now text text_is told stands =
+        let step = new_is (Replied false) in record {
+          choice = Replied false;
+          told = subst (λ (s : Step). Gains f.told now.told (heard_of s.effects)) (sym step) (subst (λ t. Gains f.told now.told (heard_of (Sends session t false ∷ HangsUp session ∷ []))) text_is told);
+          stands = subst (λ (s : Step). Stands site core s.state) (sym step) stands;
+        }
 
-  -- a session whose greeting wasn't sent whole is hung up
-  pub opens_unsent : (f now : Heard) (text : List ℕ) → m.guests ≡ [] → text ≡ greeting_text (shown_host site.host) → Gains f.told now.told (heard_of (Sends session text false ∷ HangsUp session ∷ []))
-      → Stands site core m → IsOpened site m session peer f now core
-  opens_unsent f now text none text_is told stands =
-      let step = new_is (Replied false) none in record {
-        choice = Replied false;
-        told = subst (λ (s : Step). Gains f.told now.told (heard_of s.effects)) (sym step) (subst (λ t. Gains f.told now.told (heard_of (Sends session t false ∷ HangsUp session ∷ []))) text_is told);
-        stands = subst (λ (s : Step). Stands site core s.state) (sym step) stands;
-      }
-
-  -- a session that gets no greeting is hung up
-  pub opens_lacking : (f now : Heard) → m.guests ≡ [] → Gains f.told now.told (heard_of (HangsUp session ∷ [])) → Stands site core m → IsOpened site m session peer f now core
-  opens_lacking f now none told stands =
-      let step = new_is Dropped none in record {
-        choice = Dropped;
-        told = subst (λ (s : Step). Gains f.told now.told (heard_of s.effects)) (sym step) told;
-        stands = subst (λ (s : Step). Stands site core s.state) (sym step) stands;
-      }
+    -- a session that gets no greeting is hung up
+    pub opens_lacking : (f now : Heard) → Gains f.told now.told (heard_of (HangsUp session ∷ [])) → Stands site core m → IsOpened site m session peer f now core
+    opens_lacking f now told stands =
+        let step = new_is Dropped in record {
+          choice = Dropped;
+          told = subst (λ (s : Step). Gains f.told now.told (heard_of s.effects)) (sym step) told;
+          stands = subst (λ (s : Step). Stands site core s.state) (sym step) stands;
+        }
 
 -- ---- pieces
 
@@ -178,6 +200,9 @@ over_act (Err stop) ending e = let same : ending_by stop ≡ ending = cc e in ap
 onward_act : (fed : Result Next CoreStop) → is_onward fed ≡ true → act_of fed ≡ Ok Went
 onward_act (Ok next) on = refl
 onward_act (Err stop) on = absurd (false≢true on)
+
+pub over_none : (stop : CoreStop) → ending_of (act_of (Err stop)) ≡ None → ⊥
+over_none stop e = cc e
 
 left_way : (fed : Result Next CoreStop) → is_onward fed ≡ false → ending_of (act_of fed) ≡ None → way_after fed ≡ Leaves
 left_way (Ok Continue) off e = absurd (false≢true (sym off))
@@ -204,13 +229,6 @@ brought_table m (Over finish) d = refl
 brought_over : (m : State) (way : Way) (d : Did) (ending : Ending) → way ≡ Over (By ending) → (brought m way d).state.over ≡ Some (By ending)
 brought_over m way d ending e = ap (λ w. (brought m w d).state.over) e
 
--- taken out, the one session leaves none
-pub without_one : (number : ℕ) (guests : List Guest) (g : Guest) → guests ≡ g ∷ [] → nat_eq g.number number ≡ true → without number guests ≡ []
-without_one number guests g e is = ap (without number) e ∙ ap (λ (b : Bool). if not b then g ∷ [] else []) is
-
-put_one : (guests : List Guest) (g now : Guest) → guests ≡ g ∷ [] → nat_eq g.number now.number ≡ true → with_guest now guests ≡ now ∷ []
-put_one guests g now e is = ap (with_guest now) e ∙ ap (λ (b : Bool). (if b then now else g) ∷ []) is
-
 module _ (j : JudgeSeen) (site : Site) (m : State) (session : ℕ) (piece : List ℕ) (core : Core) where
   -- one of a session that isn't open
   pub piece_dropped : (f : Heard) (s : Spooled) (k : ClockSeen) → guest_of session m.guests ≡ None → Stands site core m → Steps j site m (Brings session piece) (seen f s k) (seen f s k) core (Ok Went)
@@ -224,17 +242,17 @@ module _ (j : JudgeSeen) (site : Site) (m : State) (session : ℕ) (piece : List
       }
 
 module _ (j : JudgeSeen) (site : Site) (m : State) (session : ℕ) (piece : List ℕ) (a b : Seen) (core : Core) where
-  module _ (g : Guest) (intake : Intake) (caller : Caller) (fed : Result Next CoreStop) (is : guest_of session m.guests ≡ Some g) (alone : m.guests ≡ g ∷ []) (h : Feeds j site m.latest m.table g piece a b intake caller fed) where
+  module _ (g : Guest) (intake : Intake) (caller : Caller) (fed : Result Next CoreStop) (is : guest_of session m.guests ≡ Some g) (number : g.number ≡ session) (h : Feeds j site m.latest m.table g piece a b intake caller fed) where
     abbrev did : Did
     did = all_answered site m.latest m.table (with_bytes g piece) h.choices
 
     step_is : pieced site m piece h.choices (guest_of session m.guests) ≡ brought m (way_after fed) did
     step_is = ap (λ o. pieced site m piece h.choices o) is ∙ ap (λ w. brought m w did) h.way
 
-    same_number : nat_eq g.number did.guest.number ≡ true
-    same_number = eq-eqb g.number did.guest.number (sym h.number)
+    its_number : did.guest.number ≡ session
+    its_number = h.number ∙ number
 
-    pub piece_steps : ((ending_of (act_of fed) ≡ None) → Stands site core (brought m (way_after fed) did).state) → Steps j site m (Brings session piece) a b core (act_of fed)
+    piece_steps : ((ending_of (act_of fed) ≡ None) → Stands site core (brought m (way_after fed) did).state) → Steps j site m (Brings session piece) a b core (act_of fed)
     piece_steps stands = record {
       choices = h.choices;
       meant = subst (ArePieceMeant j site m piece h.choices) (sym is) h.meant;
@@ -250,37 +268,59 @@ module _ (j : JudgeSeen) (site : Site) (m : State) (session : ℕ) (piece : List
           });
     }
 
+    -- the core is as it was, but for its intake and its callers
+    pub record IsAfter (old : Core) (callers : List Caller) : Type 0 where
+      pub intake_is : core.intake ≡ intake
+      pub host_is : core.host ≡ old.host
+      pub full_is : core.full ≡ old.full
+      pub callers_are : core.callers.items ≡ callers
+
+    feed_stands : (old : Core) (callers : List Caller) (guests : List Guest) → Stands site old m → IsAfter old callers → intake.moment ≡ m.latest → Serves site intake did.table → AllZip (Keeps site) callers guests → AreOpen guests
+        → Stands site core (record m { table = did.table; guests = guests })
+    feed_stands old callers guests st after moment serves are may = record {
+      intake = subst (λ i. Serves site i did.table) (sym after.intake_is) serves;
+      host = after.host_is ∙ st.host;
+      full = after.full_is ∙ st.full;
+      latest = ap (λ (i : Intake). i.moment) after.intake_is ∙ moment;
+      callers = subst (λ q. AllZip (Keeps site) q guests) (sym after.callers_are) are;
+      guests = may;
+      on = st.on;
+    }
+
     -- the session goes on
-    pub piece_goes : (other : Core) → is_onward fed ≡ true → Stands site other (record m { guests = [] }) → core ≡ record other { intake = intake; caller = Some caller } → intake.moment ≡ m.latest
+    pub piece_goes : (old : Core) (place : ℕ) → is_onward fed ≡ true → Stands site old m → IsFoundAt site session old.callers.items m.guests place → IsAfter old (set old.callers.items place caller) → intake.moment ≡ m.latest
         → Steps j site m (Brings session piece) a b core (Ok Went)
-    piece_goes other on old core_is moment =
+    piece_goes old place on st found after moment =
         subst (Steps j site m (Brings session piece) a b core) (onward_act fed on)
         (piece_steps (λ e.
         subst (λ w. Stands site core (brought m w did).state) (sym (way_onward fed on))
-        (subst (λ c. Stands site c (record m { table = did.table; guests = with_guest did.guest m.guests })) (sym core_is) (record {
-          intake = h.serves (onward_alive fed on);
-          host = old.host;
-          full = old.full;
-          latest = moment;
-          callers = record { guest = did.guest; alone = put_one m.guests g did.guest alone same_number; keeps = h.keeps on };
-          on = old.on;
-        }))))
+        (feed_stands old (set old.callers.items place caller) (with_guest did.guest m.guests) st after moment (h.serves (onward_alive fed on))
+        (found.goes caller did.guest its_number (h.keeps on)) (open_with did.guest m.guests st.guests))))
 
-    -- the session is over, or the run
-    pub piece_leaves : (other : Core) → is_onward fed ≡ false → Stands site other (record m { guests = [] }) → core ≡ record other { intake = intake } → intake.moment ≡ m.latest
+    -- the session is over
+    pub piece_leaves : (old : Core) (place : ℕ) → is_onward fed ≡ false → Stands site old m → IsFoundAt site session old.callers.items m.guests place → IsAfter old (remove (set old.callers.items place caller) place) → intake.moment ≡ m.latest
         → Steps j site m (Brings session piece) a b core (act_of fed)
-    piece_leaves other off old core_is moment = piece_steps (λ e.
+    piece_leaves old place off st found after moment = piece_steps (λ e.
         subst (λ w. Stands site core (brought m w did).state) (sym (left_way fed off e))
-        (subst (λ c. Stands site c (record m { table = did.table; guests = without did.guest.number m.guests })) (sym core_is) (record {
-          intake = h.serves (going_alive fed e);
-          host = old.host;
-          full = old.full;
-          latest = moment;
-          callers = subst (Hosts site other.caller) (sym (without_one did.guest.number m.guests g alone same_number)) old.callers;
-          on = old.on;
-        })))
+        (subst (λ n. Stands site core (record m { table = did.table; guests = without n m.guests })) (sym its_number)
+        (feed_stands old (remove (set old.callers.items place caller) place) (without session m.guests) st after moment (h.serves (going_alive fed e))
+        (subst (λ q. AllZip (Keeps site) q (without session m.guests)) (sym (removed_set old.callers.items place caller)) found.leaves) (open_without session m.guests st.guests))))
+
+    -- the run is over
+    pub piece_ends : ((ending_of (act_of fed) ≡ None) → ⊥) → Steps j site m (Brings session piece) a b core (act_of fed)
+    piece_ends over = piece_steps (λ e. absurd (over e))
 
 -- ---- what a turn asks for
+
+-- a step that asks nothing of judge and spool keeps what each step does
+pub behaves_floor : {T : Type 0} (j : JudgeSeen) (f g : Heard) (s : Spooled) (old new : Intake) (done : T) → g.faults ≡ f.faults → g.begun ≡ f.begun → new ≡ old → Tallies old.table s → Behaves j j f g s s new.table (Ok done)
+behaves_floor j f g s old new done own begun same tallies = record {
+  asked = asked_none j;
+  own = own;
+  begun = begun;
+  calm = λ well. refl;
+  tallied = λ well. subst (λ (i : Intake). Tallies i.table s) (sym same) tallies;
+}
 
 -- effects of the floor alone
 abbrev IsQuiet : Step → Type 0
@@ -341,27 +381,18 @@ stop_steps j site m f s k core = record {
   ended = stopped_so m (seen f s k) (seen f s k);
 }
 
-here_by : (t : Bool) (g h : Guest) → (if t then Some g else None) ≡ Some h → t ≡ true
-here_by true g h e = refl
-here_by false g h e = absurd (cc e)
+-- a session that isn't there leaves all as it is
+pub closed_none : (site : Site) (m : State) (session : ℕ) (core : Core) → Stands site core m → IsPlaceOf session core.callers.items None → Stands site core (record m { guests = without session m.guests })
+closed_none site m session core st at =
+    subst (λ q. Stands site core (record m { guests = q })) (sym (without_none session m.guests (is_there site m core st session None at))) st
 
-away_by : (t : Bool) (g : Guest) → (if t then Some g else None) ≡ None → t ≡ false
-away_by true g e = absurd (cc e)
-away_by false g e = refl
-
--- a session that isn't there leaves none
-stays_all : (site : Site) (o : Option Caller) (guests : List Guest) (session : ℕ) → Hosts site o guests → guest_of session guests ≡ None → without session guests ≡ guests
-stays_all site None guests session h none = ap (without session) h ∙ sym h
-stays_all site (Some caller) guests session h none =
-    let off = away_by (nat_eq h.guest.number session) h.guest (sym (ap (guest_of session) h.alone) ∙ none) in
-    ap (without session) h.alone ∙ ap (λ (b : Bool). if not b then h.guest ∷ [] else []) off ∙ sym h.alone
-
--- a session that was taken out is gone
-pub closed_stands : (site : Site) (m : State) (session : ℕ) (o : Option Caller) (core : Core) → IsTakenUp site m session o core → Stands site core (record m { guests = without session m.guests })
-closed_stands site m session None core h = subst (λ q. Stands site core (record m { guests = q })) (sym (stays_all site core.caller m.guests session h.1.callers h.0)) h.1
-closed_stands site m session (Some caller) core h =
-    let here = here_by (nat_eq h.guest.number session) h.guest h.guest (sym (ap (guest_of session) h.alone) ∙ h.is) in
-    subst (λ q. Stands site core (record m { guests = q })) (sym (without_one session m.guests h.guest h.alone here)) h.stands
+-- one that was let go is gone
+pub closed_at : (site : Site) (m : State) (session place : ℕ) (core other : Core) → Stands site core m → HasAt session core.callers.items place → other ≡ record core { callers = other.callers } → other.callers.items ≡ remove core.callers.items place
+    → Stands site other (record m { guests = without session m.guests })
+closed_at site m session place core other st at is gone =
+    let found = found_there site m core st session place at in
+    subst (λ q. Stands site q (record m { guests = without session m.guests })) (sym is)
+    (stands_with site m core st other (without session m.guests) (subst (λ q. AllZip (Keeps site) q (without session m.guests)) (sym gone) found.leaves) (open_without session m.guests st.guests))
 
 -- ---- a whole event
 
@@ -377,6 +408,7 @@ at_stands site m core intake reading st is range = record {
   full = st.full;
   latest = ap (λ (i : Intake). i.moment) is ∙ ap (λ n. moment_by n reading) st.latest;
   callers = st.callers;
+  guests = st.guests;
   on = st.on;
 }
 

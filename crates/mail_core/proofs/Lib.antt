@@ -6,6 +6,7 @@ pub mod MachineLemmas
 pub mod RunLemmas
 pub mod SpeechLemmas
 pub mod AnswerLemmas
+pub mod CallerLemmas
 pub mod CoreLemmas
 pub mod FormLemmas
 pub mod GoingLemmas
@@ -20,4 +21,6 @@ pub mod SpokenLemmas
 pub mod StreamLemmas
 pub mod TurnLemmas
 pub mod LifeLemmas
+pub mod ManyLemmas
+pub mod BoundLemmas
 pub mod ReplyExamples

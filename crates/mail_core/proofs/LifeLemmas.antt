@@ -13,7 +13,7 @@ use Rattle.mail_core.specs.Sites.{Site}
 use Rattle.mail_core.specs.Effects.{HangsUp}
 use Rattle.mail_core.specs.Guests.{Guest, grants_of, guest_of, has_number, is_here, newcomer, with_bytes, with_guest, without, lines_heard}
 use Rattle.mail_core.specs.Machine.{Opening, Replied, Dropped, Choice, Choices, Way, GoesOn, Leaves, Over, Did, State, Step, Turn, all_answered, at_moment, brought, handled, most_guests, opened, pieced, run, stepped, still, taken, turned_away, welcomed}
-use Rattle.mail_core.specs.Told.{Converses, IsInTurn, NeverOpens, Welcomes, hangs_up, turns_away, greets, brought_in, brought_of, opening_of, opens_none, replies_of, said_to}
+use Rattle.mail_core.specs.Told.{Converses, IsInTurn, NeverOpens, Welcomes, hangs_up, turns_away, greets, brought_in, brought_of, is_of_others, opening_of, opens_none, replies_of, said_to}
 use Rattle.mail_core.proofs.SpokenLemmas.{found_number, pushed_other, skipped, changed_other, changed_own, gone, left_other, left_own}
 use Rattle.mail_core.proofs.StreamLemmas.{none_is, reads_more, some_is}
 use Rattle.mail_core.proofs.ToldLemmas.{IsTold, closing_other, piece_all, said_more, said_once, speech_other}
@@ -117,10 +117,10 @@ module _ (site : Site) (s : ℕ) where
     lives : Lives (guest_of s m.guests) (guest_of s step.state.guests) (brought_in s event) (said_to s step.effects)
 
   -- nothing is done for the session
-  record IsApart (m : State) (step : Step) : Type 0 where
-    said : said_to s step.effects ≡ []
-    quiet : brought_of s step.effects ≡ []
-    guest : guest_of s step.state.guests ≡ guest_of s m.guests
+  pub record IsApart (m : State) (step : Step) : Type 0 where
+    pub said : said_to s step.effects ≡ []
+    pub quiet : brought_of s step.effects ≡ []
+    pub guest : guest_of s step.state.guests ≡ guest_of s m.guests
 
   apart_handles : (m : State) (event : Event) (step : Step) → brought_in s event ≡ [] → IsApart m step → Handles m event step
   apart_handles m event step none a = record { quiet = a.quiet; lives = lives_as (guest_of s m.guests) (guest_of s step.state.guests) (brought_in s event) (said_to s step.effects) a.guest none a.said }
@@ -191,6 +191,13 @@ module _ (site : Site) (s : ℕ) where
   other_bytes : (n : ℕ) (bytes : List ℕ) → nat_eq n s ≡ false → brought_in s (Brings n bytes) ≡ []
   other_bytes n bytes other = cond-false (nat_eq n s) bytes [] other
 
+  piece_apart : (m : State) (n : ℕ) (bytes : List ℕ) (choices : List Choice) (g : Guest) → guest_of n m.guests ≡ Some g → nat_eq n s ≡ false → IsApart m (pieced site m bytes choices (Some g))
+  piece_apart m n bytes choices g found other =
+      let d = all_answered site m.latest m.table (with_bytes g bytes) choices in
+      let t : IsTold site m.latest (with_bytes g bytes) d = piece_all site m.latest m.table (with_bytes g bytes) choices in
+      let apart : nat_eq g.number s ≡ false = ap (λ k. nat_eq k s) (found_number n m.guests g found) ∙ other in
+      brought_apart m d.way d (ap (λ k. nat_eq k s) t.number ∙ apart) (t.apart s apart) (piece_quiet site m.latest s m.table (with_bytes g bytes) choices)
+
   piece_lives : (m : State) (n : ℕ) (bytes : List ℕ) (choices : List Choice) (g : Guest) → guest_of n m.guests ≡ Some g → Handles m (Brings n bytes) (pieced site m bytes choices (Some g))
   piece_lives m n bytes choices g found =
       let d = all_answered site m.latest m.table (with_bytes g bytes) choices in
@@ -209,9 +216,7 @@ module _ (site : Site) (s : ℕ) where
             (λ turn. subst (λ q. Converses site g q (said_to s step.effects) (guest_of s step.state.guests)) (sym (own_bytes n bytes is))
             (own_lives m g bytes d.way d refl here (t.number ∙ number ∙ same) told (piece_settled site m.latest m.table (with_bytes g bytes) choices (first_fed g bytes turn))));
       })
-      (λ other.
-      let apart : nat_eq g.number s ≡ false = ap (λ k. nat_eq k s) number ∙ other in
-      apart_handles m (Brings n bytes) (brought m d.way d) (other_bytes n bytes other) (brought_apart m d.way d (ap (λ k. nat_eq k s) t.number ∙ apart) (t.apart s apart) quiet))
+      (λ other. apart_handles m (Brings n bytes) (brought m d.way d) (other_bytes n bytes other) (piece_apart m n bytes choices g found other))
       (cases_Bool (nat_eq n s))
 
   -- a piece of a session that isn't there
@@ -228,12 +233,29 @@ module _ (site : Site) (s : ℕ) where
   pieced_lives m n bytes choices None found = none_lives m n bytes found
   pieced_lives m n bytes choices (Some g) found = piece_lives m n bytes choices g found
 
+  close_apart : (m : State) (n : ℕ) → nat_eq n s ≡ false → IsApart m (still (record m { guests = without n m.guests }))
+  close_apart m n other = record { said = refl; quiet = refl; guest = left_other s n m.guests other }
+
   closes_lives : (m : State) (n : ℕ) → Handles m (Closes n) (still (record m { guests = without n m.guests }))
   closes_lives m n =
       ⊎_elim
       (λ is. record { quiet = refl; lives = lives_over (guest_of s m.guests) (guest_of s (without n m.guests)) (ap (λ k. guest_of s (without k m.guests)) (eqb-true n s is) ∙ left_own s m.guests) })
-      (λ other. apart_handles m (Closes n) (still (record m { guests = without n m.guests })) refl (record { said = refl; quiet = refl; guest = left_other s n m.guests other }))
+      (λ other. apart_handles m (Closes n) (still (record m { guests = without n m.guests })) refl (close_apart m n other))
       (cases_Bool (nat_eq n s))
+
+  -- ---- what other sessions do
+
+  pieced_apart : (m : State) (n : ℕ) (bytes : List ℕ) (choices : List Choice) (o : Option Guest) → guest_of n m.guests ≡ o → nat_eq n s ≡ false → IsApart m (pieced site m bytes choices o)
+  pieced_apart m n bytes choices None found other = same_apart m m refl
+  pieced_apart m n bytes choices (Some g) found other = piece_apart m n bytes choices g found other
+
+  -- an event of another session does nothing for this one
+  pub handled_apart : (m : State) (event : Event) (choices : Choices event) → is_of_others s event ≡ true → IsApart m (handled site m event choices)
+  handled_apart m (Opens n peer) choice other = opened_apart m n peer choice (not-true (nat_eq n s) other)
+  handled_apart m (Brings n bytes) choices other = pieced_apart m n bytes choices (guest_of n m.guests) refl (not-true (nat_eq n s) other)
+  handled_apart m (Closes n) choices other = close_apart m n (not-true (nat_eq n s) other)
+  handled_apart m Rests choices other = same_apart m m refl
+  handled_apart m Stops choices other = record { said = refl; quiet = refl; guest = refl }
 
   -- ---- a turn, and a run
 

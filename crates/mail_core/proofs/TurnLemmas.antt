@@ -1,6 +1,7 @@
 -- The lines of a session that were answered stand first in what it sent, and what came of it is what was taken.
 use Rattle.std.proofs.Common.{◌≡◌, ℕ, List, [], ◌∷◌, ◌++◌, Bool, true, false, Option, Some, None, refl, sym, ◌∙◌, ap, subst, ⊎_elim}
 use Rattle.std.specs.Prelude.{is_some, fold, length, slice_get, if◌then◌else◌}
+use Rattle.std.specs.List.{flat_map}
 use Rattle.std.proofs.lemmas.Bool.{cases_Bool}
 use Rattle.std.proofs.lemmas.Grind.{flat_map-append}
 use Rattle.std.proofs.lemmas.List.{append-nil}
@@ -15,11 +16,11 @@ use Rattle.smtp_receive.specs.Judging.{Said, Unasked}
 use Rattle.smtp_receive.specs.Replies.{text_of, refusal_text, grant_text, hello_text, extended_text, closing_text, stored_text, shown_host, out_of_memory_text}
 use Rattle.spool_store.specs.Entries.{Table}
 use Rattle.mail_core.specs.Sites.{Site}
-use Rattle.mail_core.specs.Effects.{Effect, Commits, Sends, HangsUp, speech}
+use Rattle.mail_core.specs.Effects.{Effect, Takes, Ticks, Commits, Sends, HangsUp, events_of, speech, taken_in}
 use Rattle.mail_core.specs.Guests.{Guest, grants_of, is_passed, next_line, with_line, lines_heard}
 use Rattle.mail_core.specs.Machine.{Choice, Normal, OutOfMemory, Disconnects, SpoolFails, JudgeFails, SpoolFault, IdsSpent, FilesFault, Finish, By, Cut, Way, GoesOn, Leaves, Over, Did, answer_by, limit_of, question_here, does, says, closes, is_over, commits, replies, fails, heard_line, heard_where, id_by, is_answered, by_choice, goes_on, answered, settled_by, fresh_start, all_answered}
 use Rattle.mail_core.specs.Messages.{Made, accept_of, is_spent}
-use Rattle.mail_core.specs.Told.{IsInTurn, brought_by, brought_of}
+use Rattle.mail_core.specs.Told.{IsInTurn, brought_by, brought_in, brought_of}
 use Rattle.mail_core.proofs.WayLemmas.{goes_keeps}
 use Rattle.mail_core.proofs.AnswerLemmas.{answer_kept, grants_more, lines_more}
 use Rattle.mail_core.proofs.FeedLemmas.{how_many_heard}
@@ -79,12 +80,25 @@ turn_of g f none = record { last = f.last; rest = f.rest; reads = f.reads; none 
 pub brought_more : (s : ℕ) (one other : List Effect) → brought_of s (one ++ other) ≡ brought_of s one ++ brought_of s other
 brought_more s one other = flat_map-append (brought_by s) one other
 
-brings_none : (s : ℕ) (effects more : List Effect) → brought_of s more ≡ [] → brought_of s (effects ++ more) ≡ brought_of s effects
-brings_none s effects more none = brought_more s effects more ∙ ap (λ q. brought_of s effects ++ q) none ∙ append-nil (brought_of s effects)
+-- what effects bring of a session came with the turns that they take
+brought_taken : (s : ℕ) (effects : List Effect) → brought_of s effects ≡ flat_map (brought_in s) (events_of effects)
+brought_taken s [] = refl
+brought_taken s (Takes event ∷ effects) = ap (λ q. brought_in s event ++ q) (brought_taken s effects)
+brought_taken s (Ticks reading ∷ effects) = brought_taken s effects
+brought_taken s (Commits command ∷ effects) = brought_taken s effects
+brought_taken s (Sends number text whole ∷ effects) = brought_taken s effects
+brought_taken s (HangsUp number ∷ effects) = brought_taken s effects
 
-speech_brings : (s n : ℕ) (text : List ℕ) (whole : Bool) → brought_of s (speech n text whole) ≡ []
-speech_brings s n text true = refl
-speech_brings s n text false = refl
+-- effects that take no turn bring nothing
+pub brought_none : (s : ℕ) (effects : List Effect) → events_of effects ≡ [] → brought_of s effects ≡ []
+brought_none s effects none = brought_taken s effects ∙ ap (flat_map (brought_in s)) none
+
+takes_none : (effects more : List Effect) → events_of more ≡ [] → events_of (effects ++ more) ≡ events_of effects
+takes_none effects more none = flat_map-append taken_in effects more ∙ ap (λ q. events_of effects ++ q) none ∙ append-nil (events_of effects)
+
+speech_takes : (n : ℕ) (text : List ℕ) (whole : Bool) → events_of (speech n text whole) ≡ []
+speech_takes n text true = refl
+speech_takes n text false = refl
 
 -- the same session, or one with this line answered
 data Goes (g now : Guest) (line : Option Line) : Type 0 where
@@ -93,30 +107,30 @@ data Goes (g now : Guest) (line : Option Line) : Type 0 where
 
 record Moves (d e : Did) (line : Option Line) : Type 0 where
   guest : Goes d.guest e.guest line
-  quiet : (s : ℕ) → brought_of s e.effects ≡ brought_of s d.effects
+  quiet : events_of e.effects ≡ events_of d.effects
 
 -- no line was answered
 record Idles (d e : Did) : Type 0 where
   same : e.guest ≡ d.guest
-  quiet : (s : ℕ) → brought_of s e.effects ≡ brought_of s d.effects
+  quiet : events_of e.effects ≡ events_of d.effects
 
-idles_does : (d : Did) (effects : List Effect) (way : Way) → ((s : ℕ) → brought_of s effects ≡ []) → Idles d (does d effects way)
-idles_does d effects way none = record { same = refl; quiet = λ s. brings_none s d.effects effects (none s) }
+idles_does : (d : Did) (effects : List Effect) (way : Way) → events_of effects ≡ [] → Idles d (does d effects way)
+idles_does d effects way none = record { same = refl; quiet = takes_none d.effects effects none }
 
 idles_still : (d : Did) → Idles d d
-idles_still d = record { same = refl; quiet = λ s. refl }
+idles_still d = record { same = refl; quiet = refl }
 
 idles_join : (d e x : Did) → Idles d e → Idles e x → Idles d x
-idles_join d e x h k = record { same = k.same ∙ h.same; quiet = λ s. k.quiet s ∙ h.quiet s }
+idles_join d e x h k = record { same = k.same ∙ h.same; quiet = k.quiet ∙ h.quiet }
 
 idles_says : (d : Did) (text : List ℕ) (whole : Bool) → Idles d (says d text whole)
-idles_says d text whole = record { same = refl; quiet = λ s. brings_none s d.effects (speech d.guest.number text whole) (speech_brings s d.guest.number text whole) }
+idles_says d text whole = record { same = refl; quiet = takes_none d.effects (speech d.guest.number text whole) (speech_takes d.guest.number text whole) }
 
 idles_closes : (d : Did) (text : List ℕ) (whole : Bool) → Idles d (closes d text whole)
-idles_closes d text whole = record { same = refl; quiet = λ s. brings_none s d.effects (Sends d.guest.number text whole ∷ HangsUp d.guest.number ∷ []) refl }
+idles_closes d text whole = record { same = refl; quiet = takes_none d.effects (Sends d.guest.number text whole ∷ HangsUp d.guest.number ∷ []) refl }
 
 idles_over : (d : Did) (finish : Finish) → Idles d (is_over d finish)
-idles_over d finish = idles_does d [] (Over finish) (λ s. refl)
+idles_over d finish = idles_does d [] (Over finish) refl
 
 -- of that one session the lines that were answered stand first
 pub record IsKept (g : Guest) (d : Did) : Type 0 where
@@ -138,7 +152,7 @@ not_left h = cc h
 
 module _ (site : Site) (moment : ℕ) where
   idles_commits : (d : Did) (message : Message) (made : Made) → Idles d (commits site moment d message made)
-  idles_commits d message made = record { same = refl; quiet = λ s. brings_none s d.effects (Commits (accept_of site moment message made) ∷ []) refl }
+  idles_commits d message made = record { same = refl; quiet = takes_none d.effects (Commits (accept_of site moment message made) ∷ []) refl }
 
   idles_accepts : (spent : Bool) (d : Did) (message : Message) (made : Made) (whole : Bool) → Idles d (if spent then is_over d (By IdsSpent) else says (commits site moment d message made) (stored_text d.table.next) whole)
   idles_accepts true d message made whole = idles_over d (By IdsSpent)
@@ -177,7 +191,7 @@ module _ (site : Site) (moment : ℕ) where
   idles_judged d false = idles_over d Cut
 
   idles_drops : (d : Did) (may : Bool) → Idles d (if may then does d (HangsUp d.guest.number ∷ []) Leaves else is_over d Cut)
-  idles_drops d true = record { same = refl; quiet = λ s. brings_none s d.effects (HangsUp d.guest.number ∷ []) refl }
+  idles_drops d true = record { same = refl; quiet = takes_none d.effects (HangsUp d.guest.number ∷ []) refl }
   idles_drops d false = idles_over d Cut
 
   moves_idle : (d e : Did) (line : Option Line) → Idles d e → Moves d e line
@@ -205,25 +219,28 @@ module _ (site : Site) (moment : ℕ) where
   moves_choice d (SpoolFails made) None = moves_idle d (is_over d Cut) None (idles_over d Cut)
   moves_choice d JudgeFails None = moves_idle d (is_over d Cut) None (idles_over d Cut)
 
-  -- ---- what is done for a piece brings nothing
+  -- ---- what is done for a piece takes no turn, and brings nothing
 
-  quiet_all : (s : ℕ) (d : Did) (choices : List Choice) → brought_of s d.effects ≡ [] → brought_of s (fold (answered site moment) d choices).effects ≡ []
-  quiet_all s d [] h = h
-  quiet_all s d (choice ∷ choices) h =
+  quiet_all : (d : Did) (choices : List Choice) → events_of d.effects ≡ [] → events_of (fold (answered site moment) d choices).effects ≡ []
+  quiet_all d [] h = h
+  quiet_all d (choice ∷ choices) h =
       let e = by_choice site moment d choice (next_line d.guest) in
       let m = moves_choice d choice (next_line d.guest) in
-      quiet_all s (goes_on d.way d e) choices (goes_keeps (λ (x : Did). brought_of s x.effects ≡ []) d.way d e h (m.quiet s ∙ h))
+      quiet_all (goes_on d.way d e) choices (goes_keeps (λ (x : Did). events_of x.effects ≡ []) d.way d e h (m.quiet ∙ h))
 
-  quiet_settled : (s : ℕ) (way : Way) (line : Option Line) (d : Did) → brought_of s d.effects ≡ [] → brought_of s (settled_by way line d).effects ≡ []
-  quiet_settled s GoesOn (Some line) d h = let i = idles_over d Cut in i.quiet s ∙ h
-  quiet_settled s GoesOn None d h = h
-  quiet_settled s Leaves line d h = h
-  quiet_settled s (Over finish) line d h = h
+  quiet_settled : (way : Way) (line : Option Line) (d : Did) → events_of d.effects ≡ [] → events_of (settled_by way line d).effects ≡ []
+  quiet_settled GoesOn (Some line) d h = let i = idles_over d Cut in i.quiet ∙ h
+  quiet_settled GoesOn None d h = h
+  quiet_settled Leaves line d h = h
+  quiet_settled (Over finish) line d h = h
+
+  pub piece_takes_none : (table : Table) (g : Guest) (choices : List Choice) → events_of (all_answered site moment table g choices).effects ≡ []
+  piece_takes_none table g choices =
+      let d = fold (answered site moment) (fresh_start table g) choices in
+      quiet_settled d.way (next_line d.guest) d (quiet_all (fresh_start table g) choices refl)
 
   pub piece_quiet : (s : ℕ) (table : Table) (g : Guest) (choices : List Choice) → brought_of s (all_answered site moment table g choices).effects ≡ []
-  piece_quiet s table g choices =
-      let d = fold (answered site moment) (fresh_start table g) choices in
-      quiet_settled s d.way (next_line d.guest) d (quiet_all s (fresh_start table g) choices refl)
+  piece_quiet s table g choices = brought_none s (all_answered site moment table g choices).effects (piece_takes_none table g choices)
 
   -- ---- a piece
 

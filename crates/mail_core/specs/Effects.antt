@@ -40,6 +40,14 @@ commanded (Commits command) = command ∷ []
 commanded (Sends session text whole) = []
 commanded (HangsUp session) = []
 
+-- the event of the turn that it takes
+abbrev pub taken_in : Effect → List Event
+taken_in (Takes event) = event ∷ []
+taken_in (Ticks reading) = []
+taken_in (Commits command) = []
+taken_in (Sends session text whole) = []
+taken_in (HangsUp session) = []
+
 abbrev pub heard_of : List Effect → List FloorEvent
 heard_of effects = flat_map heard effects
 
@@ -48,6 +56,9 @@ readings_of effects = flat_map read effects
 
 abbrev pub commands_of : List Effect → List Command
 commands_of effects = flat_map commanded effects
+
+abbrev pub events_of : List Effect → List Event
+events_of effects = flat_map taken_in effects
 
 -- a text is sent to a session, which is hung up where that fails
 abbrev pub speech : ℕ → List ℕ → Bool → List Effect

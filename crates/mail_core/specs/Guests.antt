@@ -1,6 +1,6 @@
 -- The open sessions: all bytes that each has sent, and its lines so far (RFC 5321 sections 2.3.8
 -- and 3.3).
-use Rattle.std.specs.Prelude.{ℕ, nat_eq, nat_lt, List, [], ◌∷◌, ◌++◌, length, map, filter, slice_get, Option, Bool, not, if◌then◌else◌}
+use Rattle.std.specs.Prelude.{◌≡◌, ℕ, nat_eq, nat_lt, List, [], ◌∷◌, ◌++◌, length, map, filter, slice_get, Option, Bool, false, not, if◌then◌else◌}
 use Rattle.std.specs.List.{flat_map, find, list_any}
 use Rattle.mail_base.specs.declared.config.Config.{Config}
 use Rattle.smtp_lines.specs.declared.line.Line.{Line}
@@ -79,6 +79,11 @@ guest_of session guests = find (has_number session) guests
 
 abbrev pub is_here : ℕ → List Guest → Bool
 is_here session guests = list_any (has_number session) guests
+
+-- no two sessions have one number
+abbrev pub AreApart : List Guest → Type 0
+AreApart [] = Unit {0}
+AreApart (g ∷ guests) = (is_here g.number guests ≡ false) × AreApart guests
 
 -- the sessions without that one
 abbrev pub without : ℕ → List Guest → List Guest

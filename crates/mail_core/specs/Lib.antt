@@ -8,6 +8,7 @@ pub mod Meant
 pub mod Seen
 pub mod Causes
 pub mod Standing
+pub mod Bounds
 pub mod Events
 pub mod Runs
 pub mod Told

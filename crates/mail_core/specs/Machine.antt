@@ -1,7 +1,7 @@
 -- The machine: what sessions, table and clock come to at each event. What it can't know are the
 -- choices at an event: whether a text could be sent, where memory was wanting, what the judge said,
 -- and that the spool failed, or files that the judge reads (own; the replies are those of RFC 5321).
-use Rattle.std.specs.Prelude.{ℕ, nat_le, List, [], ◌∷◌, ◌++◌, length, fold, max, min, Option, Some, None, is_some, Bool, true, false, not, ◌&&◌, if◌then◌else◌}
+use Rattle.std.specs.Prelude.{ℕ, ◌≤◌, nat_le, List, [], ◌∷◌, ◌++◌, length, fold, max, min, Option, Some, None, is_some, Bool, true, false, not, ◌&&◌, if◌then◌else◌}
 use Rattle.link_edge.specs.declared.event.Event.{Event}
 use Rattle.link_edge.specs.declared.event.Event.TheVariants.{Opens, Brings, Closes, Rests, Stops}
 use Rattle.smtp_lines.specs.declared.line.Line.{Line}
@@ -16,7 +16,7 @@ use Rattle.smtp_receive.specs.Sessions.{answer_of, question_of}
 use Rattle.spool_store.specs.Entries.{Table}
 use Rattle.queue_table.specs.Commands.{after}
 use Rattle.mail_core.specs.Effects.{Effect, Takes, Ticks, Commits, Sends, HangsUp, speech}
-use Rattle.mail_core.specs.Guests.{Guest, newcomer, next_line, is_passed, has_bytes_left, with_bytes, with_line, guest_of, is_here, without, with_guest}
+use Rattle.mail_core.specs.Guests.{Guest, newcomer, next_line, is_passed, has_bytes_left, with_bytes, with_line, guest_of, is_here, AreApart, without, with_guest}
 use Rattle.mail_core.specs.Sites.{Site}
 use Rattle.mail_core.specs.Messages.{Made, accept_of, is_spent}
 
@@ -250,7 +250,12 @@ cut m = record { state = record m { over = Some Cut }; effects = [] }
 
 -- the most sessions that are open at once
 unfoldable pub most_guests : ℕ
-most_guests = 1
+most_guests = 64
+
+-- sessions that may be open together: they are no more than that, and no two have one number
+pub record AreOpen (guests : List Guest) : Type 0 where
+  pub few : length guests ≤ most_guests
+  pub apart : AreApart guests
 
 -- a session more than may be open gets 421 and is hung up; its text is kept, so want of memory
 -- doesn't come between

@@ -1,5 +1,6 @@
 -- What the core keeps, and what of the machine it stands for.
-use Rattle.std.specs.Prelude.{◌≡◌, ◌≢◌, ◌<◌, ◌^◌, List, [], ◌∷◌, ◌++◌, All, Option, Some, None, false}
+use Rattle.std.specs.Prelude.{◌≡◌, ◌≢◌, ◌<◌, ◌^◌, [], ◌++◌, All, None, false}
+use Rattle.std.specs.List.{AllZip}
 use Rattle.mail_base.specs.declared.config.Config.{Config}
 use Rattle.map_tables.specs.Answers.{Loaded}
 use Rattle.smtp_lines.specs.Reader.{Reader, Stream, awaited, Stands as Reads}
@@ -15,7 +16,7 @@ use Rattle.mail_core.specs.declared.intake.Intake.{Intake}
 use Rattle.mail_core.specs.declared.serving.Core.{Core}
 use Rattle.mail_core.specs.Guests.{Guest, grants_of, lines_heard}
 use Rattle.mail_core.specs.Sites.{IsUnder, Site, terms_at}
-use Rattle.mail_core.specs.Machine.{State}
+use Rattle.mail_core.specs.Machine.{AreOpen, State}
 
 -- what is kept of a table has its entries and first free id, and no call on it failed; it is of
 -- the site's directories, where each group has its own
@@ -55,24 +56,15 @@ pub record Keeps (site : Site) (caller : Caller) (g : Guest) : Type 0 where
   pub follows : Follows caller.lines g
   pub left : caller.lines.left ≡ []
 
--- the one session that is open
-pub record IsAlone (site : Site) (caller : Caller) (guests : List Guest) : Type 0 where
-  pub guest : Guest
-  pub alone : guests ≡ guest ∷ []
-  pub keeps : Keeps site caller guest
-
--- the callers stand for the open sessions
-abbrev pub Hosts : Site → Option Caller → List Guest → Type 0
-Hosts site None guests = guests ≡ []
-Hosts site (Some caller) guests = IsAlone site caller guests
-
 -- a core stands for a state of the machine in which the run goes on
 pub record Stands (site : Site) (core : Core) (m : State) : Type 0 where
   pub intake : Serves site core.intake m.table
   pub host : core.host ≡ site.host
   pub full : core.full ≡ too_many_sessions_text
   pub latest : core.intake.moment ≡ m.latest
-  pub callers : Hosts site core.caller m.guests
+  -- each caller stands for the session at its place
+  pub callers : AllZip (Keeps site) core.callers.items m.guests
+  pub guests : AreOpen m.guests
   pub on : m.over ≡ None
 
 -- the message table of a core

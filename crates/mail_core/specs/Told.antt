@@ -43,6 +43,20 @@ NeverOpens session [] = Unit {0}
 NeverOpens session (turn ∷ turns) =
     (opens_none session turn.event ≡ true) × NeverOpens session turns
 
+-- an event is of another session, or of none
+abbrev pub is_of_others : ℕ → Event → Bool
+is_of_others session (Opens number peer) = not (nat_eq number session)
+is_of_others session (Brings number bytes) = not (nat_eq number session)
+is_of_others session (Closes number) = not (nat_eq number session)
+is_of_others session Rests = true
+is_of_others session Stops = true
+
+-- and so is each of these turns
+abbrev pub AreOfOthers : ℕ → List Turn → Type 0
+AreOfOthers session [] = Unit {0}
+AreOfOthers session (turn ∷ turns) =
+    (is_of_others session turn.event ≡ true) × AreOfOthers session turns
+
 -- the turn that opens a session of a peer
 abbrev pub opening_of : ℕ → List ℕ → ℕ → Opening → Turn
 opening_of session peer reading choice =
@@ -90,7 +104,7 @@ pub record Converses (site : Site) (g : Guest) (bytes : List ℕ) (texts : List 
       → (other ≡ now) × (now.received ≡ g.received ++ bytes) × IsInTurn now
 
 -- what a session that was opened is sent: nothing, where memory was wanting or the run was over;
--- 421 alone, where another one was open; or its greeting, and then what its dialogue replies
+-- 421 alone, where as many were open as may be; or its greeting, and then what its dialogue replies
 pub data Welcomes (site : Site) (session : ℕ) (peer bytes : List ℕ) (texts : List (List ℕ))
     (found : Option Guest) : Type 0 where
   hangs_up : texts ≡ [] → found ≡ None → Welcomes site session peer bytes texts found

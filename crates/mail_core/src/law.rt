@@ -1,14 +1,17 @@
-ghost use Rattle.std.specs.Prelude.{◌≡◌, ◌++◌, ◌∷◌, [], List, ℕ, Some, None};
+ghost use Rattle.std.specs.Prelude.{◌≡◌, ◌≤◌, ◌++◌, ◌∷◌, [], List, ℕ, Bool, Some, None, false, length};
 ghost use Rattle.mail_core.specs.Sites.{Site};
 ghost use Rattle.queue_table.specs.Soundness.{IsSound};
 ghost use Rattle.spool_store.specs.Entries.{Table};
-ghost use Rattle.mail_core.specs.Guests.{Guest, guest_of};
+ghost use Rattle.link_edge.specs.declared.event.Event.TheVariants.{Opens};
+ghost use Rattle.smtp_receive.specs.Replies.{too_many_sessions_text};
+ghost use Rattle.mail_core.specs.Effects.{Effect, HangsUp, Sends, Takes, Ticks, events_of};
+ghost use Rattle.mail_core.specs.Guests.{Guest, guest_of, is_here};
 ghost use Rattle.mail_core.specs.Judges.{untold};
 ghost use Rattle.mail_core.specs.Meant.{IsRunMeant};
-ghost use Rattle.mail_core.specs.Machine.{Choice, Opening, State, Turn, all_answered, run};
+ghost use Rattle.mail_core.specs.Machine.{AreOpen, Choice, Opening, Replied, State, Turn, all_answered, at_moment, followed, most_guests, run, stepped};
 ghost use Rattle.mail_core.specs.Runs.{AreAcked, StaysSound};
 ghost use Rattle.mail_core.specs.Seen.{table_after};
-ghost use Rattle.mail_core.specs.Told.{Converses, IsInTurn, NeverOpens, Welcomes, brought_of, opening_of, replies_of, said_to};
+ghost use Rattle.mail_core.specs.Told.{AreOfOthers, Converses, IsInTurn, NeverOpens, Welcomes, brought_of, opening_of, replies_of, said_to};
 
 /// A final 250 is said only where its message is in the table: whatever the turns and the choices
 /// of a run are, where these say what a judge may say and what the configuration does, each one
@@ -67,7 +70,7 @@ pub fn open_sessions_are_sent_their_replies()
 {}
 
 /// What a session is sent from its opening on, in any turns that don't open it again: its greeting,
-/// and then the same; or 421 alone, where another one was open; or nothing, where memory was
+/// and then the same; or 421 alone, where as many were open as may be; or nothing, where memory was
 /// wanting or the run was over.
 pub fn opened_sessions_are_sent_their_replies()
     ensures { (site : Site) (m : State) (peer : List ℕ) (reading : ℕ) (choice : Opening)
@@ -86,4 +89,45 @@ pub fn sessions_that_are_not_open_are_sent_nothing()
         → guest_of session m.guests ≡ None
         → (guest_of session (run site m turns).state.guests ≡ None)
         × (said_to session (run site m turns).effects ≡ []) }
+{}
+
+/// What other sessions do changes nothing of a session, and says nothing to it, whatever is left
+/// open. So what it is sent hangs on its own bytes, on what the judge says of its lines, and on the
+/// ids of its messages.
+pub fn other_sessions_change_nothing()
+    ensures { (site : Site) (m : State) (turns : List Turn) (session : ℕ) → AreOfOthers session turns
+        → (guest_of session (run site m turns).state.guests ≡ guest_of session m.guests)
+        × (said_to session (run site m turns).effects ≡ []) }
+{}
+
+/// Each turn is answered before the next one is taken. What is done at some turns stands before all
+/// that is done at later ones; and what is done at one is that it is taken, that the clock is read,
+/// and then its answer, in which no turn is taken.
+pub fn each_turn_is_answered_before_the_next()
+    ensures joins { (site : Site) (m : State) (first later : List Turn)
+        → run site m (first ++ later)
+        ≡ followed (run site m first) (run site (run site m first).state later) }
+    ensures alone { (site : Site) (m : State) (turn : Turn) → m.over ≡ None
+        → (answer : List Effect)
+        × ((stepped site m turn).effects ≡ Takes turn.event ∷ Ticks turn.reading ∷ answer)
+        × (events_of answer ≡ []) }
+{}
+
+/// Where as many sessions are open as may be, one more is told 421 4.3.2 and hung up. Nothing else
+/// is done, and nothing changes but the greatest reading of the clock.
+pub fn one_session_more_is_turned_away()
+    ensures { (site : Site) (m : State) (session : ℕ) (peer : List ℕ) (reading : ℕ) (whole : Bool)
+        → m.over ≡ None → is_here session m.guests ≡ false → most_guests ≤ length m.guests
+        → stepped site m (opening_of session peer reading (Replied whole))
+        ≡ record {
+          state = at_moment m reading;
+          effects = Takes (Opens session peer) ∷ Ticks reading
+              ∷ Sends session too_many_sessions_text whole ∷ HangsUp session ∷ [];
+        } }
+{}
+
+/// No more sessions are ever open than may be, and no two of them have one number.
+pub fn sessions_stay_few()
+    ensures { (site : Site) (m : State) (turns : List Turn)
+        → AreOpen m.guests → AreOpen (run site m turns).state.guests }
 {}

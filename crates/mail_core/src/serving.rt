@@ -1,6 +1,5 @@
-ghost use Rattle.std.specs.Prelude.{◌≡◌, ◌≢◌, ◌∷◌, [], Bool, true, IfOk, IfSome, All, Option};
+ghost use Rattle.std.specs.Prelude.{◌≡◌, ◌≢◌, ◌∷◌, ◌<◌, [], Bool, true, IfOk, All, length, nat_le, remove, vec_capacity, vec_len};
 ghost use Rattle.mail_base.specs.Histories.{Gains};
-ghost use Rattle.mail_base.specs.declared.config.Config.{Config as Configuration};
 ghost use Rattle.mail_edge.specs.Seen.{ClockSeen};
 ghost use Rattle.link_edge.specs.Heard.{Heard, IsSoundAt};
 ghost use Rattle.link_edge.specs.Turns.{Fits};
@@ -9,15 +8,14 @@ ghost use Rattle.smtp_receive.specs.Replies.{greeting_text, shown_host};
 ghost use Rattle.spool_disk.specs.Disk.{FileMap};
 ghost use Rattle.mail_core.specs.Effects.{Sends, HangsUp, heard_of};
 ghost use Rattle.mail_core.specs.Events.{IsTaken, IsHeardAt, Turns, event_of};
-ghost use Rattle.mail_core.specs.inner.Handling.{IsTakenUp, IsOpened, Steps, IsReady, is_hosted};
+ghost use Rattle.mail_core.specs.inner.Handling.{Behaves, HasAt, IsOpened, IsPlaceOf, Steps};
 ghost use Rattle.mail_core.specs.Causes.{is_judge_fault, is_well};
 ghost use Rattle.mail_core.specs.Judges.{IsAsked, judge_seen};
-ghost use Rattle.mail_core.specs.Guests.{newcomer};
+ghost use Rattle.mail_core.specs.Guests.{newcomer, without};
 ghost use Rattle.mail_core.specs.declared.serving.CoreStop.TheVariants.{SpoolFault as SpoolStop};
-ghost use Rattle.mail_core.specs.Machine.{State, beginning};
+ghost use Rattle.mail_core.specs.Machine.{State, beginning, most_guests};
 ghost use Rattle.mail_core.specs.Seen.{seen};
 ghost use Rattle.mail_core.specs.Sites.{IsUnder, Site};
-ghost use Rattle.map_tables.specs.Answers.{Loaded};
 ghost use Rattle.mail_core.specs.Standing.{IsStanding, IsTallied, Keeps, Stands, Stores, table_of};
 ghost use Rattle.spool_store.specs.Entries.{Table as Entries};
 
@@ -62,13 +60,16 @@ pub enum Act {
     Ended,
 }
 
-/// The sessions that are open, one at most, and the message table.
+/// The most sessions that are open at once.
+const MOST_SESSIONS: usize = 64;
+
+/// The sessions that are open, at most 64, in the order of their openings, and the message table.
 pub struct Core {
     alloc: Global,
     host: Text,
     /// The text of 421.
     full: Text,
-    caller: Option<Caller>,
+    callers: Vec<Caller>,
     intake: Intake,
 }
 
@@ -79,7 +80,7 @@ impl Drop for Core {
             alloc: _,
             host: _,
             full: _,
-            caller: _,
+            callers: _,
             intake: _,
         } = self;
     }
@@ -98,14 +99,14 @@ impl Core {
             alloc,
             host,
             full: too_many_sessions(alloc)?,
-            caller: None,
+            callers: Vec::new(alloc),
             intake: Intake::new(alloc, table)?,
         })
     }
 
     /// One event of the machine. Its turn was taken and the clock read before the call. Session
-    /// numbers are never used twice by a floor that tells. A second session is told 421 4.3.2 and
-    /// hung up while one is open, a piece of a session that isn't open is dropped, and an idle turn
+    /// numbers are never used twice by a floor that tells. While 64 sessions are open, one more is
+    /// told 421 4.3.2 and hung up; a piece of a session that isn't open is dropped, and an idle turn
     /// changes nothing.
     ///
     /// Want of memory is answered by 452 4.3.1, or ends the session. After `Ended` and an error
@@ -168,15 +169,10 @@ impl Core {
             (seen (F.seen floor.old) (D.seen spool.old) clock)
             (seen (F.seen floor.new) (D.seen spool.new) clock)
             self.new result }
-        ensures asked { IsAsked (judge_seen (J.seen judge.old) (J.answers judge.old))
-            (judge_seen (J.seen judge.new) (J.answers judge.new)) (is_judge_fault result) }
+        ensures behaves { Behaves (judge_seen (J.seen judge.old) (J.answers judge.old))
+            (judge_seen (J.seen judge.new) (J.answers judge.new)) (F.seen floor.old)
+            (F.seen floor.new) (D.seen spool.old) (D.seen spool.new) (table_of self.new) result }
         ensures fixed { J.fixed judge.new ≡ J.fixed judge.old }
-        ensures own { (F.seen floor.new).faults ≡ (F.seen floor.old).faults }
-        ensures begun { (F.seen floor.new).begun ≡ (F.seen floor.old).begun }
-        ensures calm { is_well result ≡ true
-            → (D.seen spool.new).faults ≡ (D.seen spool.old).faults }
-        ensures tallied { is_well result ≡ true
-            → IsTallied self.new (D.seen spool.new) }
     {
         match turn {
             Turn::Opened(session, count) => {
@@ -193,7 +189,7 @@ impl Core {
                 &buf[..count],
             ),
             Turn::Closed(session) => {
-                let _caller = self.take(session);
+                self.close(session);
                 Ok(Act::Went)
             }
             Turn::Idle => Ok(Act::Went),
@@ -201,7 +197,7 @@ impl Core {
         }
     }
 
-    // Greets a new session, or turns it away where one is open.
+    // Greets a new session, or turns it away where as many are open as may be.
     fn open<F: Floor>(&mut self, floor: &mut F, session: u64, peer: &[u8])
         requires sound { IsSoundAt (F.seen floor.old) session }
         requires line { All (λ b. b ≢ 10) peer.now }
@@ -211,21 +207,29 @@ impl Core {
         ensures own { (F.seen floor.new).faults ≡ (F.seen floor.old).faults }
         ensures begun { (F.seen floor.new).begun ≡ (F.seen floor.old).begun }
     {
-        if self.hosts(session) {
+        if self.place_of(session).is_some() {
             return;
         }
-        if self.caller.is_some() {
+        if self.is_full() {
             self.turn_away(floor, session);
             return;
         }
         match self.caller_of(session, peer) {
             Ok((caller, greeting)) => {
                 if say(floor, session, &greeting) {
-                    self.caller = Some(caller);
+                    self.callers.push_reserved(caller);
                 }
             }
             Err(_no_memory) => floor.hang_up(session),
         }
+    }
+
+    // Whether as many sessions are open as may be.
+    #[tactic(auto, unfolding(crate::specs::Machine::most_guests))]
+    fn is_full(&self) -> bool
+        ensures { result ≡ nat_le most_guests (length self.now.callers.items) }
+    {
+        self.callers.len() >= MOST_SESSIONS
     }
 
     // Says 421 to a session more than may be open, and hangs it up. It takes no memory.
@@ -240,16 +244,20 @@ impl Core {
         let _told = part(floor, session, &self.full);
     }
 
-    // A session of which nothing has come, and its greeting.
-    fn caller_of(&self, session: u64, peer: &[u8]) -> Result<(Caller, Text), NoMemory>
+    // A session of which nothing has come, and its greeting, and room for it among the others.
+    fn caller_of(&mut self, session: u64, peer: &[u8]) -> Result<(Caller, Text), NoMemory>
         requires line { All (λ b. b ≢ 10) peer.now }
         ensures keeps { IfOk result
-            (λ pair. (site : Site) → self.now.host ≡ site.host
+            (λ pair. (site : Site) → self.old.host ≡ site.host
             → Keeps site pair.0 (newcomer site.config session peer.now)) }
         ensures greeting { IfOk result
-            (λ pair. (site : Site) → self.now.host ≡ site.host
+            (λ pair. (site : Site) → self.old.host ≡ site.host
             → pair.1 ≡ greeting_text (shown_host site.host)) }
+        ensures room { IfOk result (λ _. vec_len self.new.callers < vec_capacity self.new.callers) }
+        ensures same { self.new ≡ record self.old { callers = self.new.callers } }
+        ensures callers { self.new.callers.items ≡ self.old.callers.items }
     {
+        self.callers.reserve(1)?;
         let peer = Text::of(self.alloc, peer)?;
         let caller = Caller {
             number: session,
@@ -260,29 +268,36 @@ impl Core {
         Ok((caller, greeting))
     }
 
-    // Takes out the session of that number.
-    fn take(&mut self, session: u64) -> Option<Caller>
-        ensures taken { (site : Site) (m : State) → Stands site self.old m
-            → IsTakenUp site m session result self.new }
-        ensures ready { (config : Configuration) (maps : Loaded) → IsStanding self.old config maps
-            → IfSome result (λ caller. IsReady self.new.intake caller config maps) }
-        ensures number { IfSome result (λ caller. caller.number ≡ session) }
-        ensures intake { self.new.intake ≡ self.old.intake }
+    // Where the session of that number is, if it is open. There are too few for an index.
+    fn place_of(&self, session: u64) -> Option<usize>
+        ensures { IsPlaceOf session self.now.callers.items result }
     {
-        if !self.hosts(session) {
-            return None;
+        for (place, caller) in self.callers.iter().enumerate() {
+            if caller.number == session {
+                return Some(place);
+            }
         }
-        self.caller.take()
+        None
     }
 
-    // Whether the session of that number is open.
-    fn hosts(&self, session: u64) -> bool
-        ensures { result ≡ is_hosted session self.now.caller }
+    // Lets go of the session of that number, if it is open.
+    fn close(&mut self, session: u64)
+        ensures closes { (site : Site) (m : State) → Stands site self.old m
+            → Stands site self.new (record m { guests = without session m.guests }) }
+        ensures intake { self.new.intake ≡ self.old.intake }
     {
-        match &self.caller {
-            Some(caller) => caller.number == session,
-            None => false,
+        if let Some(place) = self.place_of(session) {
+            self.leave(place);
         }
+    }
+
+    // Lets go of the session at a place.
+    fn leave(&mut self, place: usize)
+        requires { place < length self.old.callers.items }
+        ensures callers { self.new.callers.items ≡ remove self.old.callers.items place }
+        ensures same { self.new ≡ record self.old { callers = self.new.callers } }
+    {
+        let _caller = self.callers.remove(place);
     }
 
     // Takes a piece of a session's bytes; one of a session that isn't open is dropped.
@@ -305,24 +320,20 @@ impl Core {
             (seen (F.seen floor.old) (D.seen spool.old) clock)
             (seen (F.seen floor.new) (D.seen spool.new) clock)
             self.new result }
-        ensures asked { IsAsked (judge_seen (J.seen judge.old) (J.answers judge.old))
-            (judge_seen (J.seen judge.new) (J.answers judge.new)) (is_judge_fault result) }
+        ensures behaves { Behaves (judge_seen (J.seen judge.old) (J.answers judge.old))
+            (judge_seen (J.seen judge.new) (J.answers judge.new)) (F.seen floor.old)
+            (F.seen floor.new) (D.seen spool.old) (D.seen spool.new) (table_of self.new) result }
         ensures fixed { J.fixed judge.new ≡ J.fixed judge.old }
-        ensures own { (F.seen floor.new).faults ≡ (F.seen floor.old).faults }
-        ensures begun { (F.seen floor.new).begun ≡ (F.seen floor.old).begun }
-        ensures calm { is_well result ≡ true
-            → (D.seen spool.new).faults ≡ (D.seen spool.old).faults }
-        ensures tallied { is_well result ≡ true
-            → IsTallied self.new (D.seen spool.new) }
     {
-        let Some(mut caller) = self.take(session) else {
+        let Some(place) = self.place_of(session) else {
             return Ok(Act::Went);
         };
+        let caller = &mut self.callers[place];
         let next = self
             .intake
-            .feed(floor, spool, config, maps, judge, &mut caller, piece)?;
-        if next.stays_open() {
-            self.caller = Some(caller);
+            .feed(floor, spool, config, maps, judge, caller, piece)?;
+        if !next.stays_open() {
+            self.leave(place);
             return Ok(Act::Went);
         }
         Ok(Act::Went)

@@ -1,10 +1,7 @@
-use Rattle.std.proofs.Common.{refl, subst, sym}
+use Rattle.std.proofs.Common.{refl}
 use Rattle.link_edge.specs.declared.event.Event.TheVariants.{Closes, Rests}
-use Rattle.queue_table.specs.Calls.{Tallies}
-use Rattle.mail_core.specs.declared.intake.Intake.{Intake}
 use Rattle.mail_core.specs.Judges.{judge_seen}
-use Rattle.mail_core.proofs.JudgeLemmas.{asked_none}
-use Rattle.mail_core.proofs.CoreLemmas.{opened_steps, quiet_steps, closed_stands, stop_steps}
+use Rattle.mail_core.proofs.CoreLemmas.{behaves_floor, opened_steps, quiet_steps, stop_steps}
 use Rattle.mail_core.proofs.serving.Core.handle.Goals as goal
 
 pub returns-in-Opened-clause-steps : goal.returns-in-Opened-clause-steps
@@ -16,7 +13,7 @@ returns-in-Piece-clause-steps g c = λ site m clock under st. rw c.in-Piece.is (
 
 pub returns-in-Closed-clause-steps : goal.returns-in-Closed-clause-steps
 returns-in-Closed-clause-steps g c = λ site m clock under st.
-    rw c.in-Closed.is (quiet_steps _ site m (Closes c.in-Closed.session) tt _ _ clock _ tt refl (closed_stands site m c.in-Closed.session c.take-caller.result _ (c.take-caller.ensures.taken site m st)))
+    rw c.in-Closed.is (quiet_steps _ site m (Closes c.in-Closed.session) tt _ _ clock _ tt refl (c.close.ensures.closes site m st))
 
 pub returns-in-Idle-clause-steps : goal.returns-in-Idle-clause-steps
 returns-in-Idle-clause-steps g c = λ site m clock under st. rw c.in-Idle.is (quiet_steps _ site m Rests tt _ _ clock _ tt refl st)
@@ -24,21 +21,15 @@ returns-in-Idle-clause-steps g c = λ site m clock under st. rw c.in-Idle.is (qu
 pub returns-in-Stop-clause-steps : goal.returns-in-Stop-clause-steps
 returns-in-Stop-clause-steps g c = λ site m clock under st. rw c.in-Stop.is (stop_steps _ site m _ _ clock _)
 
--- the store is as it was
-pub returns-in-Opened-clause-tallied : goal.returns-in-Opened-clause-tallied
-returns-in-Opened-clause-tallied g c = λ well. subst (λ (i : Intake). Tallies i.table (g.D.Spool.seen c.args.spool.now)) (sym c.open.ensures.intake) c.requires.tallied
+-- judge and spool are as they were, but at a piece
+pub returns-in-Opened-clause-behaves : goal.returns-in-Opened-clause-behaves
+returns-in-Opened-clause-behaves g c = behaves_floor (judge_seen (g.J.Judge.seen c.args.judge.now) (g.J.Judge.answers c.args.judge.now)) _ _ _ c.args.self.now.intake _ _ c.open.ensures.own c.open.ensures.begun c.open.ensures.intake c.requires.tallied
 
-pub returns-in-Closed-clause-tallied : goal.returns-in-Closed-clause-tallied
-returns-in-Closed-clause-tallied g c = λ well. subst (λ (i : Intake). Tallies i.table (g.D.Spool.seen c.args.spool.now)) (sym c.take-caller.ensures.intake) c.requires.tallied
+pub returns-in-Closed-clause-behaves : goal.returns-in-Closed-clause-behaves
+returns-in-Closed-clause-behaves g c = behaves_floor (judge_seen (g.J.Judge.seen c.args.judge.now) (g.J.Judge.answers c.args.judge.now)) _ _ _ c.args.self.now.intake _ _ refl refl c.close.ensures.intake c.requires.tallied
 
-pub returns-in-Opened-clause-asked : goal.returns-in-Opened-clause-asked
-returns-in-Opened-clause-asked g c = asked_none (judge_seen (g.J.Judge.seen c.args.judge.now) (g.J.Judge.answers c.args.judge.now))
+pub returns-in-Idle-clause-behaves : goal.returns-in-Idle-clause-behaves
+returns-in-Idle-clause-behaves g c = behaves_floor (judge_seen (g.J.Judge.seen c.args.judge.now) (g.J.Judge.answers c.args.judge.now)) _ _ _ c.args.self.now.intake _ _ refl refl refl c.requires.tallied
 
-pub returns-in-Closed-clause-asked : goal.returns-in-Closed-clause-asked
-returns-in-Closed-clause-asked g c = asked_none (judge_seen (g.J.Judge.seen c.args.judge.now) (g.J.Judge.answers c.args.judge.now))
-
-pub returns-in-Idle-clause-asked : goal.returns-in-Idle-clause-asked
-returns-in-Idle-clause-asked g c = asked_none (judge_seen (g.J.Judge.seen c.args.judge.now) (g.J.Judge.answers c.args.judge.now))
-
-pub returns-in-Stop-clause-asked : goal.returns-in-Stop-clause-asked
-returns-in-Stop-clause-asked g c = asked_none (judge_seen (g.J.Judge.seen c.args.judge.now) (g.J.Judge.answers c.args.judge.now))
+pub returns-in-Stop-clause-behaves : goal.returns-in-Stop-clause-behaves
+returns-in-Stop-clause-behaves g c = behaves_floor (judge_seen (g.J.Judge.seen c.args.judge.now) (g.J.Judge.answers c.args.judge.now)) _ _ _ c.args.self.now.intake _ _ refl refl refl c.requires.tallied

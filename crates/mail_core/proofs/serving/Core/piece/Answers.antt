@@ -1,49 +1,53 @@
-use Rattle.std.proofs.Common.{refl, sym, ◌∙◌, Ok, Err, subst}
+use Rattle.std.proofs.Common.{refl, sym, ◌∙◌, ap, None, Ok, Err, subst}
 use Rattle.std.proofs.lemmas.Result.{err_from_is_err_and}
-use Rattle.queue_table.specs.Calls.{Tallies}
-use Rattle.mail_core.specs.declared.intake.Intake.{Intake}
+use Rattle.mail_core.specs.declared.serving.Core.{Core}
 use Rattle.mail_core.specs.Judges.{judge_seen}
 use Rattle.mail_core.specs.inner.Going.{Feeds}
 use Rattle.mail_core.specs.Seen.{seen}
-use Rattle.mail_core.proofs.JudgeLemmas.{asked_none}
-use Rattle.mail_core.proofs.CoreLemmas.{piece_dropped, piece_goes, piece_leaves}
+use Rattle.mail_core.proofs.CallerLemmas.{none_found}
+use Rattle.mail_core.proofs.CoreLemmas.{found_there, is_there, kept_there, over_none, piece_dropped, piece_ends, piece_goes, piece_leaves, ready_there}
 use Rattle.mail_core.proofs.serving.Core.piece.Goals as goal
 
 pub returns-in_default-clause-steps : goal.returns-in_default-clause-steps
 returns-in_default-clause-steps g c = λ site m clock under st.
-    let t = c.in_default.ensures.taken site m st in
-    piece_dropped _ site m c.args.session c.args.piece.now _ _ _ clock t.0 t.1
+    piece_dropped _ site m c.args.session c.args.piece.now c.args.self.now _ _ clock (none_found c.args.session m.guests (is_there site m c.args.self.now st c.args.session None c.in_default.ensures)) st
+
+pub feed-requires-clause-ready : goal.feed-requires-clause-ready
+feed-requires-clause-ready g c = ready_there c.args.self.now c.args.config.now c.args.maps.now c.requires.standing c.args.session c.in-Some.place _ c.in-Some.ensures c.index_mut-caller.ensures.value
 
 -- the run ended
 pub returns-in_err-next-clause-steps : goal.returns-in_err-next-clause-steps
 returns-in_err-next-clause-steps g c = λ site m clock under st.
-    let t = c.in-Some.ensures.taken site m st in
-    let h = subst (λ n. Feeds (judge_seen (g.J.Judge.seen c.args.judge.now) (g.J.Judge.answers c.args.judge.now)) site n m.table t.guest c.args.piece.now (seen (g.F.Floor.seen c.args.floor.now) (g.D.Spool.seen c.args.spool.now) clock) (seen (g.F.Floor.seen c.feed.new.floor) (g.D.Spool.seen c.feed.new.spool) clock) c.feed.new.self c.feed.new.caller (Err c.in_err-next.field-0.0)) t.stands.latest
-    (c.in_err-next.ensures.feeds site m.table t.guest clock under t.stands.intake t.keeps) in
+    let t = found_there site m c.args.self.now st c.args.session c.in-Some.place c.in-Some.ensures in
+    let k = kept_there site m c.args.self.now st c.args.session c.in-Some.place c.in-Some.ensures c.index_mut-caller.result.now c.index_mut-caller.ensures.value in
+    let h = subst (λ n. Feeds (judge_seen (g.J.Judge.seen c.args.judge.now) (g.J.Judge.answers c.args.judge.now)) site n m.table t.guest c.args.piece.now (seen (g.F.Floor.seen c.args.floor.now) (g.D.Spool.seen c.args.spool.now) clock) (seen (g.F.Floor.seen c.feed.new.floor) (g.D.Spool.seen c.feed.new.spool) clock) c.feed.new.self c.feed.new.caller (Err c.in_err-next.field-0.0)) st.latest
+    (c.in_err-next.ensures.feeds site m.table t.guest clock under st.intake k) in
     let p = err_from_is_err_and c.from_residual.result c.from_residual.ensures.1 in
-    rw (p.1, p.2) (piece_leaves _ site m c.args.session c.args.piece.now _ _ _ t.guest c.feed.new.self c.feed.new.caller (Err c.in_err-next.field-0.0) t.is t.alone h c.take.new.self refl t.stands refl (c.feed.ensures.moment ∙ t.stands.latest))
+    rw (p.1, p.2) (piece_ends _ site m c.args.session c.args.piece.now _ _ _ t.guest c.feed.new.self c.feed.new.caller (Err c.in_err-next.field-0.0) t.is t.number h (over_none c.in_err-next.field-0.0))
 
-pub returns-then-stays_open-clause-steps : goal.returns-then-stays_open-clause-steps
-returns-then-stays_open-clause-steps g c = λ site m clock under st.
-    let t = c.in-Some.ensures.taken site m st in
-    let h = subst (λ n. Feeds (judge_seen (g.J.Judge.seen c.args.judge.now) (g.J.Judge.answers c.args.judge.now)) site n m.table t.guest c.args.piece.now (seen (g.F.Floor.seen c.args.floor.now) (g.D.Spool.seen c.args.spool.now) clock) (seen (g.F.Floor.seen c.feed.new.floor) (g.D.Spool.seen c.feed.new.spool) clock) c.feed.new.self c.feed.new.caller (Ok c.in_ok-next.next)) t.stands.latest
-    (c.in_ok-next.ensures.feeds site m.table t.guest clock under t.stands.intake t.keeps) in
-    piece_goes _ site m c.args.session c.args.piece.now _ _ _ t.guest c.feed.new.self c.feed.new.caller (Ok c.in_ok-next.next) t.is t.alone h c.take.new.self (sym c.stays_open.ensures ∙ c.if-stays_open.true) t.stands refl (c.feed.ensures.moment ∙ t.stands.latest)
+-- the session is over
+pub returns-then-not-stays_open-clause-steps : goal.returns-then-not-stays_open-clause-steps
+returns-then-not-stays_open-clause-steps g c = λ site m clock under st.
+    let t = found_there site m c.args.self.now st c.args.session c.in-Some.place c.in-Some.ensures in
+    let k = kept_there site m c.args.self.now st c.args.session c.in-Some.place c.in-Some.ensures c.index_mut-caller.result.now c.index_mut-caller.ensures.value in
+    let h = subst (λ n. Feeds (judge_seen (g.J.Judge.seen c.args.judge.now) (g.J.Judge.answers c.args.judge.now)) site n m.table t.guest c.args.piece.now (seen (g.F.Floor.seen c.args.floor.now) (g.D.Spool.seen c.args.spool.now) clock) (seen (g.F.Floor.seen c.feed.new.floor) (g.D.Spool.seen c.feed.new.spool) clock) c.feed.new.self c.feed.new.caller (Ok c.in_ok-next.next)) st.latest
+    (c.in_ok-next.ensures.feeds site m.table t.guest clock under st.intake k) in
+    piece_leaves _ site m c.args.session c.args.piece.now _ _ c.leave.new.self t.guest c.feed.new.self c.feed.new.caller (Ok c.in_ok-next.next) t.is t.number h c.args.self.now c.in-Some.place (sym c.stays_open.ensures ∙ c.if-not-stays_open.true) st t
+    (record {
+      intake_is = ap (λ (q : Core). q.intake) c.leave.ensures.same;
+      host_is = ap (λ (q : Core). q.host) c.leave.ensures.same;
+      full_is = ap (λ (q : Core). q.full) c.leave.ensures.same;
+      callers_are = c.leave.ensures.callers;
+    })
+    (c.feed.ensures.moment ∙ st.latest)
 
+-- it goes on
 pub returns-clause-steps : goal.returns-clause-steps
 returns-clause-steps g c = λ site m clock under st.
-    let t = c.in-Some.ensures.taken site m st in
-    let h = subst (λ n. Feeds (judge_seen (g.J.Judge.seen c.args.judge.now) (g.J.Judge.answers c.args.judge.now)) site n m.table t.guest c.args.piece.now (seen (g.F.Floor.seen c.args.floor.now) (g.D.Spool.seen c.args.spool.now) clock) (seen (g.F.Floor.seen c.feed.new.floor) (g.D.Spool.seen c.feed.new.spool) clock) c.feed.new.self c.feed.new.caller (Ok c.in_ok-next.next)) t.stands.latest
-    (c.in_ok-next.ensures.feeds site m.table t.guest clock under t.stands.intake t.keeps) in
-    piece_leaves _ site m c.args.session c.args.piece.now _ _ _ t.guest c.feed.new.self c.feed.new.caller (Ok c.in_ok-next.next) t.is t.alone h c.take.new.self (sym c.stays_open.ensures ∙ c.if-stays_open.false) t.stands refl (c.feed.ensures.moment ∙ t.stands.latest)
-
--- the store is as it was
-pub returns-in_default-clause-tallied : goal.returns-in_default-clause-tallied
-returns-in_default-clause-tallied g c = λ well. subst (λ (i : Intake). Tallies i.table (g.D.Spool.seen c.args.spool.now)) (sym c.in_default.ensures.intake) c.requires.tallied
-
-pub feed-requires-clause-tallied : goal.feed-requires-clause-tallied
-feed-requires-clause-tallied g c = subst (λ (i : Intake). Tallies i.table (g.D.Spool.seen c.args.spool.now)) (sym c.in-Some.ensures.intake) c.requires.tallied
-
--- the judge was asked by the piece alone
-pub returns-in_default-clause-asked : goal.returns-in_default-clause-asked
-returns-in_default-clause-asked g c = asked_none (judge_seen (g.J.Judge.seen c.args.judge.now) (g.J.Judge.answers c.args.judge.now))
+    let t = found_there site m c.args.self.now st c.args.session c.in-Some.place c.in-Some.ensures in
+    let k = kept_there site m c.args.self.now st c.args.session c.in-Some.place c.in-Some.ensures c.index_mut-caller.result.now c.index_mut-caller.ensures.value in
+    let h = subst (λ n. Feeds (judge_seen (g.J.Judge.seen c.args.judge.now) (g.J.Judge.answers c.args.judge.now)) site n m.table t.guest c.args.piece.now (seen (g.F.Floor.seen c.args.floor.now) (g.D.Spool.seen c.args.spool.now) clock) (seen (g.F.Floor.seen c.feed.new.floor) (g.D.Spool.seen c.feed.new.spool) clock) c.feed.new.self c.feed.new.caller (Ok c.in_ok-next.next)) st.latest
+    (c.in_ok-next.ensures.feeds site m.table t.guest clock under st.intake k) in
+    piece_goes _ site m c.args.session c.args.piece.now _ _ _ t.guest c.feed.new.self c.feed.new.caller (Ok c.in_ok-next.next) t.is t.number h c.args.self.now c.in-Some.place (sym c.stays_open.ensures ∙ c.if-not-stays_open.false) st t
+    (record { intake_is = refl; host_is = refl; full_is = refl; callers_are = refl })
+    (c.feed.ensures.moment ∙ st.latest)

@@ -18,10 +18,10 @@ returns g c = record {
   turns = λ site m before clock read under st taken.
       turns_of _ site m _ c.args.reading before _ _ clock read _ _ _ st.on taken
       (c.handle.ensures.steps site (at_moment m c.args.reading) read under (at_stands site m c.args.self.now c.at.new.self c.args.reading st c.at.ensures.moment c.at.ensures.range));
-  asked = c.handle.ensures.asked;
+  asked = c.handle.ensures.behaves.asked;
   fixed = c.handle.ensures.fixed;
-  own = c.handle.ensures.own;
-  begun = c.handle.ensures.begun;
-  calm = c.handle.ensures.calm;
-  tallied = c.handle.ensures.tallied;
+  own = c.handle.ensures.behaves.own;
+  begun = c.handle.ensures.behaves.begun;
+  calm = c.handle.ensures.behaves.calm;
+  tallied = c.handle.ensures.behaves.tallied;
 }

@@ -1,0 +1,155 @@
+-- Many sessions in one run: what other sessions do, the order of turns, and how many are open.
+use Rattle.std.proofs.Common.{◌≡◌, ◌≤◌, ℕ, List, [], ◌∷◌, ◌++◌, length, Bool, true, false, Option, Some, None, if◌then◌else◌, refl, sym, ◌∙◌, ap, subst, append_assoc, ⊎_elim}
+use Rattle.std.specs.Prelude.{is_some, nat_le}
+use Rattle.std.proofs.lemmas.Bool.{cases_Bool, cond-true, cond-false, le-leb}
+use Rattle.link_edge.specs.declared.event.Event.{Event}
+use Rattle.link_edge.specs.declared.event.Event.TheVariants.{Opens, Brings, Closes, Rests, Stops}
+use Rattle.smtp_receive.specs.Replies.{too_many_sessions_text}
+use Rattle.mail_core.specs.Effects.{Effect, HangsUp, Sends, Takes, Ticks, events_of}
+use Rattle.mail_core.specs.Guests.{Guest, guest_of, is_here, newcomer, with_bytes}
+use Rattle.mail_core.specs.Machine.{AreOpen, Choice, Choices, Did, Dropped, GoesOn, Leaves, Opening, Over, Replied, State, Step, Turn, Way, all_answered, at_moment, brought, followed, handled, most_guests, opened, pieced, run, stepped, still, taken, turned_away, welcomed}
+use Rattle.mail_core.specs.Sites.{Site}
+use Rattle.mail_core.specs.Told.{AreOfOthers, is_of_others, opening_of, said_to}
+use Rattle.mail_core.proofs.CallerLemmas.{open_more, open_with, open_without}
+use Rattle.mail_core.proofs.LifeLemmas.{handled_apart}
+use Rattle.mail_core.proofs.ToldLemmas.{said_more}
+use Rattle.mail_core.proofs.TurnLemmas.{piece_takes_none}
+
+module _ (site : Site) where
+  -- ---- what other sessions do
+
+  -- nothing is said to a session, and it is as it was
+  abbrev IsLeftOut : ℕ → State → Step → Type 0
+  IsLeftOut s m step = (guest_of s step.state.guests ≡ guest_of s m.guests) × (said_to s step.effects ≡ [])
+
+  stepped_apart : (s : ℕ) (m : State) (turn : Turn) → is_of_others s turn.event ≡ true → IsLeftOut s m (stepped site m turn)
+  stepped_apart s m turn other =
+      let a = handled_apart site s (at_moment m turn.reading) turn.event turn.choices other in
+      ⊎_elim
+      (λ over. subst (IsLeftOut s m) (sym (cond-true (is_some m.over) (still m) (taken turn (handled site (at_moment m turn.reading) turn.event turn.choices)) over)) (refl, refl))
+      (λ on. subst (IsLeftOut s m) (sym (cond-false (is_some m.over) (still m) (taken turn (handled site (at_moment m turn.reading) turn.event turn.choices)) on)) (a.guest, a.said))
+      (cases_Bool (is_some m.over))
+
+  pub run_apart : (s : ℕ) (m : State) (turns : List Turn) → AreOfOthers s turns → (guest_of s (run site m turns).state.guests ≡ guest_of s m.guests) × (said_to s (run site m turns).effects ≡ [])
+  run_apart s m [] others = (refl, refl)
+  run_apart s m (turn ∷ turns) others =
+      let now = stepped site m turn in
+      let first = stepped_apart s m turn others.0 in
+      let later = run_apart s now.state turns others.1 in
+      (later.0 ∙ first.0, said_more s now.effects (run site now.state turns).effects ∙ ap (λ q. q ++ said_to s (run site now.state turns).effects) first.1 ∙ later.1)
+
+  -- ---- the order of turns
+
+  pub run_joins : (m : State) (first later : List Turn) → run site m (first ++ later) ≡ followed (run site m first) (run site (run site m first).state later)
+  run_joins m [] later = refl
+  run_joins m (turn ∷ first) later =
+      let now = stepped site m turn in
+      let middle = run site now.state first in
+      let last = run site middle.state later in
+      ap (λ (q : Step). followed now q) (run_joins now.state first later)
+      ∙ ap (λ q. record { state = last.state; effects = q }) (sym (append_assoc now.effects middle.effects last.effects))
+
+  takes_if : (b : Bool) (x y : Step) → events_of x.effects ≡ [] → events_of y.effects ≡ [] → events_of (if b then x else y).effects ≡ []
+  takes_if true x y h k = h
+  takes_if false x y h k = k
+
+  away_takes : (m : State) (s : ℕ) (choice : Opening) → events_of (turned_away m s choice).effects ≡ []
+  away_takes m s (Replied whole) = refl
+  away_takes m s Dropped = refl
+
+  welcome_takes : (m : State) (s : ℕ) (peer : List ℕ) (choice : Opening) → events_of (welcomed site m s peer choice).effects ≡ []
+  welcome_takes m s peer (Replied true) = refl
+  welcome_takes m s peer (Replied false) = refl
+  welcome_takes m s peer Dropped = refl
+
+  brought_takes : (m : State) (way : Way) (d : Did) → events_of d.effects ≡ [] → events_of (brought m way d).effects ≡ []
+  brought_takes m GoesOn d h = h
+  brought_takes m Leaves d h = h
+  brought_takes m (Over finish) d h = h
+
+  pieced_takes : (m : State) (bytes : List ℕ) (choices : List Choice) (o : Option Guest) → events_of (pieced site m bytes choices o).effects ≡ []
+  pieced_takes m bytes choices None = refl
+  pieced_takes m bytes choices (Some g) =
+      let d = all_answered site m.latest m.table (with_bytes g bytes) choices in
+      brought_takes m d.way d (piece_takes_none site m.latest m.table (with_bytes g bytes) choices)
+
+  -- no turn is taken in the answer to one
+  handled_takes : (m : State) (event : Event) (choices : Choices event) → events_of (handled site m event choices).effects ≡ []
+  handled_takes m (Opens s peer) choice =
+      takes_if (is_here s m.guests) (still m) _ refl
+      (takes_if (nat_le most_guests (length m.guests)) (turned_away m s choice) (welcomed site m s peer choice) (away_takes m s choice) (welcome_takes m s peer choice))
+  handled_takes m (Brings s bytes) choices = pieced_takes m bytes choices (guest_of s m.guests)
+  handled_takes m (Closes s) choices = refl
+  handled_takes m Rests choices = refl
+  handled_takes m Stops choices = refl
+
+  pub turn_alone : (m : State) (turn : Turn) → m.over ≡ None → (answer : List Effect) × ((stepped site m turn).effects ≡ Takes turn.event ∷ Ticks turn.reading ∷ answer) × (events_of answer ≡ [])
+  turn_alone m turn on =
+      let inner = handled site (at_moment m turn.reading) turn.event turn.choices in
+      (inner.effects, ap (λ (q : Step). q.effects) (cond-false (is_some m.over) (still m) (taken turn inner) (ap is_some on)), handled_takes (at_moment m turn.reading) turn.event turn.choices)
+
+  -- ---- one more than may be open
+
+  pub turned_so : (m : State) (s : ℕ) (peer : List ℕ) (reading : ℕ) (whole : Bool) → m.over ≡ None → is_here s m.guests ≡ false → most_guests ≤ length m.guests
+      → stepped site m (opening_of s peer reading (Replied whole)) ≡ record { state = at_moment m reading; effects = Takes (Opens s peer) ∷ Ticks reading ∷ Sends s too_many_sessions_text whole ∷ HangsUp s ∷ [] }
+  turned_so m s peer reading whole on new full =
+      let turn = opening_of s peer reading (Replied whole) in
+      let now = at_moment m reading in
+      cond-false (is_some m.over) (still m) (taken turn (opened site now s peer (Replied whole))) (ap is_some on)
+      ∙ ap (taken turn)
+      (cond-false (is_here s m.guests) (still now) _ new
+      ∙ cond-true (nat_le most_guests (length m.guests)) (turned_away now s (Replied whole)) (welcomed site now s peer (Replied whole)) (le-leb most_guests (length m.guests) full))
+
+  -- ---- how many are open
+
+  abbrev StaysOpen : Step → Type 0
+  StaysOpen step = AreOpen step.state.guests
+
+  away_open : (m : State) (s : ℕ) (choice : Opening) → AreOpen m.guests → StaysOpen (turned_away m s choice)
+  away_open m s (Replied whole) h = h
+  away_open m s Dropped h = h
+
+  welcome_open : (m : State) (s : ℕ) (peer : List ℕ) (choice : Opening) → nat_le most_guests (length m.guests) ≡ false → is_here s m.guests ≡ false → AreOpen m.guests → StaysOpen (welcomed site m s peer choice)
+  welcome_open m s peer (Replied true) room new h = open_more m.guests (newcomer site.config s peer) room new h
+  welcome_open m s peer (Replied false) room new h = h
+  welcome_open m s peer Dropped room new h = h
+
+  opened_open : (m : State) (s : ℕ) (peer : List ℕ) (choice : Opening) → AreOpen m.guests → StaysOpen (opened site m s peer choice)
+  opened_open m s peer choice h =
+      let crowd = if nat_le most_guests (length m.guests) then turned_away m s choice else welcomed site m s peer choice in
+      ⊎_elim
+      (λ here. subst StaysOpen (sym (cond-true (is_here s m.guests) (still m) crowd here)) h)
+      (λ new. subst StaysOpen (sym (cond-false (is_here s m.guests) (still m) crowd new))
+      (⊎_elim
+      (λ full. subst StaysOpen (sym (cond-true (nat_le most_guests (length m.guests)) (turned_away m s choice) (welcomed site m s peer choice) full)) (away_open m s choice h))
+      (λ room. subst StaysOpen (sym (cond-false (nat_le most_guests (length m.guests)) (turned_away m s choice) (welcomed site m s peer choice) room)) (welcome_open m s peer choice room new h))
+      (cases_Bool (nat_le most_guests (length m.guests)))))
+      (cases_Bool (is_here s m.guests))
+
+  brought_open : (m : State) (way : Way) (d : Did) → AreOpen m.guests → StaysOpen (brought m way d)
+  brought_open m GoesOn d h = open_with d.guest m.guests h
+  brought_open m Leaves d h = open_without d.guest.number m.guests h
+  brought_open m (Over finish) d h = open_without d.guest.number m.guests h
+
+  pieced_open : (m : State) (bytes : List ℕ) (choices : List Choice) (o : Option Guest) → AreOpen m.guests → StaysOpen (pieced site m bytes choices o)
+  pieced_open m bytes choices None h = h
+  pieced_open m bytes choices (Some g) h = let d = all_answered site m.latest m.table (with_bytes g bytes) choices in brought_open m d.way d h
+
+  handled_open : (m : State) (event : Event) (choices : Choices event) → AreOpen m.guests → StaysOpen (handled site m event choices)
+  handled_open m (Opens s peer) choice h = opened_open m s peer choice h
+  handled_open m (Brings s bytes) choices h = pieced_open m bytes choices (guest_of s m.guests) h
+  handled_open m (Closes s) choices h = open_without s m.guests h
+  handled_open m Rests choices h = h
+  handled_open m Stops choices h = h
+
+  stepped_open : (m : State) (turn : Turn) → AreOpen m.guests → StaysOpen (stepped site m turn)
+  stepped_open m turn h =
+      let now = taken turn (handled site (at_moment m turn.reading) turn.event turn.choices) in
+      ⊎_elim
+      (λ over. subst StaysOpen (sym (cond-true (is_some m.over) (still m) now over)) h)
+      (λ on. subst StaysOpen (sym (cond-false (is_some m.over) (still m) now on)) (handled_open (at_moment m turn.reading) turn.event turn.choices h))
+      (cases_Bool (is_some m.over))
+
+  pub run_open : (m : State) (turns : List Turn) → AreOpen m.guests → AreOpen (run site m turns).state.guests
+  run_open m [] h = h
+  run_open m (turn ∷ turns) h = run_open (stepped site m turn).state turns (stepped_open m turn h)
