@@ -95,7 +95,7 @@ module _ (config : Config) (moment : ℕ) (T : Table) (h : Holder) where
   sends_mine backs c failed own = if_mine (lacks_ids T backs) (halts T h (By stop.IdsSpent)) (asks T h [] c Rattle.queue_run.specs.declared.runner.Did.TheVariants.Gave failed) (mine_none h.id) (mine_one h.id (Asks c) own (omega arith))
 
   returns_mine : (luck : Luck) → Mine (returns config moment T h luck)
-  returns_mine (Gives body bounce failed) = sends_mine (bounce ∷ []) (Rattle.queue_table.specs.Commands.Command.Return (Rattle.queue_table.specs.Directories.terms_of config) h.id (bounce ∷ []) moment) failed refl
+  returns_mine (Gives body rows bounce failed) = sends_mine (bounce ∷ []) (Rattle.queue_table.specs.Commands.Command.Return (Rattle.queue_table.specs.Directories.terms_of config) h.id (bounce ∷ []) moment) failed refl
   returns_mine (Lacks cause) = misses_mine true cause
   returns_mine luck = mine_none h.id
 
@@ -105,7 +105,7 @@ module _ (config : Config) (moment : ℕ) (T : Table) (h : Holder) where
   buries_mine luck = mine_none h.id
 
   warns_mine : (luck : Luck) → Mine (warns config moment T h luck)
-  warns_mine (Tells warning failed) = sends_mine (warning ∷ []) (Rattle.queue_table.specs.Commands.Command.Warn (Rattle.queue_table.specs.Directories.terms_of config) h.id (warning ∷ []) moment) failed refl
+  warns_mine (Tells rows warning failed) = sends_mine (warning ∷ []) (Rattle.queue_table.specs.Commands.Command.Warn (Rattle.queue_table.specs.Directories.terms_of config) h.id (warning ∷ []) moment) failed refl
   warns_mine (Lacks cause) = misses_mine false cause
   warns_mine luck = mine_none h.id
 

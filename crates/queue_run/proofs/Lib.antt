@@ -6,6 +6,11 @@ mod PutLemmas
 mod WaitLemmas
 mod SettleLemmas
 mod LetterLemmas
+mod AskingLemmas
+mod BackLemmas
+mod SendLemmas
+mod ReturnLemmas
+mod DrawnLemmas
 mod StartLemmas
 mod TalkLemmas
 mod FinishLemmas

@@ -9,5 +9,6 @@ pub mod Deeds
 pub mod Kinds
 pub mod Steps
 pub mod Handovers
+pub mod Backs
 pub mod Meant
 pub mod Working

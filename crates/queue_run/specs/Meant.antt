@@ -18,10 +18,12 @@ use Rattle.mail_header.specs.Dated.{IsDated}
 use Rattle.mail_header.specs.Fields.{IsDate, date_told}
 use Rattle.mail_header.specs.Made.{added_of}
 use Rattle.mail_header.specs.Outgoing.{outgoing_of}
+use Rattle.dsn_bounce.specs.Returned.{IsBounce, IsWarning}
 use Rattle.mailer_pipe.specs.Arguments.{literal}
 use Rattle.mailer_pipe.specs.Starts.{start_of}
 use Rattle.spawn_edge.specs.declared.event.Start.{Start}
 use Rattle.queue_run.specs.declared.batch.Batch.{Batch}
+use Rattle.queue_run.specs.Backs.{AreSentTo, Drawer, untold}
 use Rattle.queue_run.specs.Claims.{claim_macros}
 use Rattle.queue_run.specs.Deeds.{Talk}
 use Rattle.queue_run.specs.Handovers.{IsHandover}
@@ -34,14 +36,21 @@ abbrev pub host_of : Resolved → List ℕ
 host_of (Goes triple) = triple.host
 host_of (Refuses error) = []
 
--- what a step stands on beside the table: the configuration and its maps, and the moment
-pub record Ground : Type 0 where
+-- what a step stands on beside the table: the configuration and its maps, the moment, and what draws
+-- the rows of receivers
+pub record Ground : Type 1 where
   pub config : Config
   pub maps : Loaded
   pub moment : ℕ
+  pub drawer : Drawer
 
+abbrev pub ground_by : Config → Loaded → ℕ → Drawer → Ground
+ground_by config maps moment d =
+    record { config = config; maps = maps; moment = moment; drawer = d }
+
+-- that of a step which draws none
 abbrev pub ground_of : Config → Loaded → ℕ → Ground
-ground_of config maps moment = record { config = config; maps = maps; moment = moment }
+ground_of config maps moment = ground_by config maps moment untold
 
 -- macros with the date of the message and the sender for the mailer
 abbrev pub letter_macros : Macros → List ℕ → List ℕ → Macros
@@ -81,6 +90,20 @@ IsTalkOf ground (Some control) (Talks batch mailer peers) letter talk =
     IsHandover ground.config control batch mailer peers letter talk
 IsTalkOf ground found kind letter talk = Unit {0}
 
+-- of one whose failed rows are given back, the bounce
+abbrev pub IsBounceOf : Ground → Kind → Option Control → List ℕ → List Draw → Back → Type 0
+IsBounceOf ground Returns (Some control) body rows back =
+    IsBounce ground.config control body ground.moment back.message
+    × AreSentTo ground.drawer ground.config ground.maps control rows back.cuts
+IsBounceOf ground kind found body rows back = Unit {0}
+
+-- of one whose sender is warned, the warning
+abbrev pub IsWarningOf : Ground → Kind → Option Control → List Draw → Back → Type 0
+IsWarningOf ground Warns (Some control) rows back =
+    IsWarning ground.config control ground.moment back.message
+    × AreSentTo ground.drawer ground.config ground.maps control rows back.cuts
+IsWarningOf ground kind found rows back = Unit {0}
+
 -- what the data of a step is, of an entry of that control
 abbrev pub IsMeant : Ground → ℕ → Option Control → Kind → Luck → Type 0
 IsMeant ground id found kind StillRuns = Unit {0}
@@ -94,9 +117,11 @@ IsMeant ground id found kind (Misses letter start launch failed) =
     IsLetterOf ground id found kind letter × IsStartOf kind letter start
 IsMeant ground id found kind (Ends letter talk failed) =
     IsLetterOf ground id found kind letter × IsTalkOf ground found kind letter talk
-IsMeant ground id found kind (Gives body bounce failed) = Unit {0}
+IsMeant ground id found kind (Gives body rows bounce failed) =
+    IsBounceOf ground kind found body rows bounce
 IsMeant ground id found kind (Dies failed) = Unit {0}
-IsMeant ground id found kind (Tells warning failed) = Unit {0}
+IsMeant ground id found kind (Tells rows warning failed) =
+    IsWarningOf ground kind found rows warning
 IsMeant ground id found kind (Closes failed) = Unit {0}
 IsMeant ground id found kind LetsGo = Unit {0}
 IsMeant ground id found kind (Lacks cause) = Unit {0}

@@ -3,6 +3,7 @@
 use Rattle.std.specs.Prelude.{◌≡◌, ℕ, ◌+◌, ℤ, List, [], ◌∷◌, ◌++◌, length, drop, Option, Some, None, Bool, true, false, not, ◌&&◌, nat_lt, nat_eq, sum_by, if◌then◌else◌}
 use Rattle.mail_base.specs.declared.config.Config.{Config}
 use Rattle.mail_base.specs.declared.id.TheConstants.Id.{MOST}
+use Rattle.mail_base.specs.declared.draw.Draw.{Draw}
 use Rattle.mail_base.specs.declared.mailer.Mailer.{Mailer}
 use Rattle.mail_base.specs.declared.message.Back.{Back}
 use Rattle.mail_base.specs.declared.outcome.Result1.{Result1}
@@ -46,11 +47,11 @@ pub data Luck : Type 0 where
   Begins : (letter : Letter) (start : Start) (child missed : ℕ) → Luck
   Misses : (letter : Letter) (start : Start) (launch : Launch) (failed : Bool) → Luck
   Ends : (letter : Letter) (talk : Talk) (failed : Bool) → Luck
-  -- at the end: failed rows are given back by a bounce, or are dead; a warning is sent; the entry is
-  -- finished; it is let go
-  Gives : (body : List ℕ) (bounce : Back) (failed : Bool) → Luck
+  -- at the end: failed rows are given back by a bounce to the rows that were drawn for its receiver,
+  -- or are dead; a warning is sent to such rows; the entry is finished; it is let go
+  Gives : (body : List ℕ) (rows : List Draw) (bounce : Back) (failed : Bool) → Luck
   Dies : (failed : Bool) → Luck
-  Tells : (warning : Back) (failed : Bool) → Luck
+  Tells : (rows : List Draw) (warning : Back) (failed : Bool) → Luck
   Closes : (failed : Bool) → Luck
   LetsGo : Luck
   -- before a device is asked, memory is wanting, or what is read fails
@@ -223,7 +224,7 @@ misses true table h stop.SpoolFault = halts table h (By stop.SpoolFault)
 misses reads table h cause = unfit table h
 
 abbrev pub returns : Config → ℕ → Table → Holder → Luck → Stepped
-returns config moment table h (Gives body bounce failed) =
+returns config moment table h (Gives body rows bounce failed) =
     sends table h (bounce ∷ []) (Return (terms_of config) h.id (bounce ∷ []) moment) failed
 returns config moment table h (Lacks cause) = misses true table h cause
 returns config moment table h luck = unfit table h
@@ -235,7 +236,7 @@ buries config moment table h (Lacks cause) = lacks false table h cause
 buries config moment table h luck = unfit table h
 
 abbrev pub warns : Config → ℕ → Table → Holder → Luck → Stepped
-warns config moment table h (Tells warning failed) =
+warns config moment table h (Tells rows warning failed) =
     sends table h (warning ∷ []) (Warn (terms_of config) h.id (warning ∷ []) moment) failed
 warns config moment table h (Lacks cause) = misses false table h cause
 warns config moment table h luck = unfit table h

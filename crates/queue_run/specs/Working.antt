@@ -161,7 +161,7 @@ IsRead table id (Outgrows letter failed) = IsBodyOf table id letter.body
 IsRead table id (Begins letter start child missed) = IsBodyOf table id letter.body
 IsRead table id (Misses letter start launch failed) = IsBodyOf table id letter.body
 IsRead table id (Ends letter talk failed) = IsBodyOf table id letter.body
-IsRead table id (Gives body bounce failed) = IsBodyOf table id body
+IsRead table id (Gives body rows bounce failed) = IsBodyOf table id body
 IsRead table id luck = Unit {0}
 
 abbrev pub kind_in : Ground → Table → Holder → Kind

@@ -1,3 +1,4 @@
 pub mod Courses
 pub mod Puts
 pub mod Handed
+pub mod Sendings

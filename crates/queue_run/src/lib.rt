@@ -2,6 +2,7 @@
 //! first thing that is to be done for it. `specs/Steps.antt` says what a step is.
 #![tactic(auto)]
 
+mod backs;
 mod batch;
 mod claiming;
 mod course;
@@ -13,6 +14,7 @@ mod peers;
 mod putting;
 mod results;
 mod runner;
+mod sending;
 mod settling;
 mod splitting;
 mod starting;
