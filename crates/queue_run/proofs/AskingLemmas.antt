@@ -29,10 +29,10 @@ are_held : (hs : List Held) → AllZip IsHeld hs (map stored_by hs)
 are_held [] = tt
 are_held (h ∷ hs) = (record { id = refl; dir = refl; control = refl }, are_held hs)
 
-abbrev table_by : Kept → Table
+abbrev pub table_by : Kept → Table
 table_by kept = record { entries = map stored_by (store kept).entries; next = (store kept).next }
 
-holds_by : (kept : Kept) → HoldsTable kept (table_by kept)
+pub holds_by : (kept : Kept) → HoldsTable kept (table_by kept)
 holds_by kept = record { entries = are_held (store kept).entries; next = refl }
 
 abbrev entry_by : (kept : Kept) (r : Runner) → IsReady kept r → HasEntry (table_by kept) r.id

@@ -1,7 +1,7 @@
 -- Steps of entries, one after the other: three rows of which one is sent, one is tried on and one
 -- fails; a record that is lost; a row that is deferred; a double bounce; a warning; a delivery to a
 -- peer.
-use Rattle.std.proofs.Common.{◌≡◌, ℕ, ℤ, pos, List, [], ◌∷◌, map, Bool, true, false, Option, Some, None, refl, codes}
+use Rattle.std.proofs.Common.{◌≡◌, ℕ, ℤ, pos, List, [], ◌∷◌, map, Bool, true, false, Some, None, refl, codes}
 use Rattle.mail_base.specs.Configs.{initial}
 use Rattle.mail_base.specs.declared.config.Config.{Config}
 use Rattle.mail_base.specs.declared.control.Control.{Control}
@@ -9,13 +9,10 @@ use Rattle.mail_base.specs.declared.control.Row.{Row}
 use Rattle.mail_base.specs.declared.control.State.{State}
 use Rattle.mail_base.specs.declared.control.State.TheVariants.{Queued, Sent, Failed, Dead}
 use Rattle.mail_base.specs.declared.mailer.Mailer.{Mailer}
-use Rattle.mail_base.specs.declared.message.Back.{Back}
-use Rattle.mail_base.specs.declared.outcome.Result1.TheVariants.{Sent as WasSent}
 use Rattle.mail_base.specs.declared.route.Resolved.TheVariants.{Goes}
 use Rattle.link_edge.specs.declared.peer.Peer.{Peer}
 use Rattle.map_tables.specs.Answers.{Loaded}
 use Rattle.mailer_pipe.specs.Ends.{note_of}
-use Rattle.spawn_edge.specs.declared.event.Poll.TheVariants.{Over}
 use Rattle.spawn_edge.specs.declared.event.Start.{Start}
 use Rattle.spool_store.specs.Entries.{Stored, Table}
 use Rattle.queue_run.specs.declared.batch.Batch.{Batch}
@@ -26,8 +23,8 @@ use Rattle.queue_run.specs.declared.runner.RunStop.TheVariants as stop
 use Rattle.queue_run.specs.Claims.{holder_for}
 use Rattle.queue_run.specs.Deeds.{Asks, Files, Frees, Given, Polls, Starts as Launches, Talk}
 use Rattle.queue_run.specs.Holders.{Holder}
-use Rattle.queue_run.specs.Kinds.{Buries, Finishes, Leaves, Returns, Starts, Talks, Waits, Warns, kind_of}
-use Rattle.queue_run.specs.Steps.{Begins, By, Closes, Dies, Ends, Exits, Stepped, StillRuns, Tells, acted, records, stepped}
+use Rattle.queue_run.specs.Kinds.{Buries, Finishes, Leaves, Returns, Starts, Talks, Warns, kind_of}
+use Rattle.queue_run.specs.Steps.{Begins, By, Closes, Dies, Ends, Exits, StillRuns, acted, records, stepped}
 
 -- ---- an entry with three rows at the mailer local
 

@@ -1,11 +1,11 @@
 -- The exits of a finish, and of an entry that is let go.
-use Rattle.std.proofs.Common.{◌≡◌, ◌≢◌, ◌⊎◌, ⊎_elim, inl, ℕ, ◌≤◌, List, [], ◌∷◌, map, Bool, true, false, Option, Some, None, Result, Ok, Err, if◌then◌else◌, refl, sym, ◌∙◌, ap, subst, arith, reverse, eqb, Contains}
+use Rattle.std.proofs.Common.{◌≡◌, ◌⊎◌, ⊎_elim, inl, ℕ, ◌≤◌, List, [], ◌∷◌, map, Bool, true, false, Option, Some, None, Result, Ok, Err, if◌then◌else◌, refl, sym, ◌∙◌, ap, subst, arith, reverse, eqb, Contains}
 use Rattle.std.specs.Prelude.{All, IfSome, OnErr, OnOk}
 use Rattle.mail_base.specs.Histories.{Rose}
 use Rattle.link_edge.specs.Dials.{DialSeen}
 use Rattle.spawn_edge.specs.Spawned.{IsRunningAt, Spawned}
 use Rattle.spool_disk.specs.Disk.{FileMap}
-use Rattle.spool_disk.specs.Spooled.{Reads, Spooled}
+use Rattle.spool_disk.specs.Spooled.{Spooled}
 use Rattle.spool_store.specs.Entries.{Table}
 use Rattle.spool_store.specs.Moves.{Moves}
 use Rattle.spool_store.specs.Settled.{StandsFor}
@@ -24,9 +24,9 @@ use Rattle.queue_run.specs.declared.runner.RunStop.{RunStop}
 use Rattle.queue_run.specs.declared.runner.RunStop.TheVariants as stop
 use Rattle.queue_run.specs.declared.runner.Runner.{Runner}
 use Rattle.queue_run.specs.declared.runner.Running.{Running}
-use Rattle.queue_run.specs.Deeds.{Deed, Files, Frees, asked_in}
+use Rattle.queue_run.specs.Deeds.{Files, Frees, asked_in}
 use Rattle.queue_run.specs.Holders.{holder_of}
-use Rattle.queue_run.specs.Kinds.{Finishes, Kind, Leaves}
+use Rattle.queue_run.specs.Kinds.{Finishes, Leaves}
 use Rattle.queue_run.specs.Meant.{Ground}
 use Rattle.queue_run.specs.Ready.{IsAttempt, IsReady, IsUntried}
 use Rattle.queue_run.specs.Steps.{By, Closes, LetsGo, frees}

@@ -1,5 +1,5 @@
 -- The body that is read for an entry.
-use Rattle.std.proofs.Common.{◌≡◌, ℕ, List, Option, Some, sym, subst, Contains}
+use Rattle.std.proofs.Common.{◌≡◌, ℕ, List, Some, sym, subst, Contains}
 use Rattle.std.specs.Prelude.{IfSome}
 use Rattle.mail_base.specs.States.{NeedsBody}
 use Rattle.spool_disk.specs.Disk.{FileMap}

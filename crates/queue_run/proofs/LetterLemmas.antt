@@ -1,5 +1,5 @@
 -- What is known when a letter was made for a batch, and the exits where it isn't handed to anybody.
-use Rattle.std.proofs.Common.{◌≡◌, ◌≢◌, ◌⊎◌, ⊎_elim, ℕ, ◌≤◌, List, [], ◌∷◌, Bool, true, Some, Result, Err, if◌then◌else◌, refl, sym, ◌∙◌, ap, subst, arith, ne_eqb, eq-eqb, Contains}
+use Rattle.std.proofs.Common.{◌≡◌, ◌≢◌, ⊎_elim, ℕ, ◌≤◌, List, [], ◌∷◌, Bool, true, Some, Result, Err, if◌then◌else◌, refl, sym, ◌∙◌, ap, subst, arith, ne_eqb, eq-eqb, Contains}
 use Rattle.std.specs.List.{AllZip}
 use Rattle.std.proofs.lemmas.Bool.{cases_eq}
 use Rattle.mail_base.specs.declared.control.Control.{Control}

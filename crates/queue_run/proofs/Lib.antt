@@ -14,6 +14,9 @@ mod DrawnLemmas
 mod StartLemmas
 mod TalkLemmas
 mod FinishLemmas
+mod AimLemmas
+mod AttemptLemmas
+mod DrawLemmas
 mod HandLemmas
 mod LawLemmas
 mod Examples

@@ -1,11 +1,11 @@
 -- Results for each row of a batch, and commands that are put.
-use Rattle.std.proofs.Common.{◌≡◌, ℕ, zero, suc, ◌+◌, ◌<◌, List, [], ◌∷◌, ◌++◌, length, map, take, set, Bool, true, false, not, Result, Ok, Err, IfOk, refl, sym, ◌∙◌, ap, subst, arith, reverse, Contains, OnOk}
+use Rattle.std.proofs.Common.{◌≡◌, ℕ, zero, suc, ◌+◌, ◌<◌, List, [], ◌∷◌, ◌++◌, length, map, take, set, true, false, not, Result, Ok, Err, IfOk, refl, sym, ◌∙◌, ap, subst, arith, reverse, Contains, OnOk}
 use Rattle.std.specs.Prelude.{All, IfErr}
 use Rattle.std.specs.List.{list_all}
 use Rattle.std.specs.List.Sorted.{IsStrictlySortedBy}
 use Rattle.std.specs.Ordering.{nat_cmp}
 use Rattle.std.proofs.lemmas.Bool.{and_left, and_right}
-use Rattle.std.proofs.lemmas.List.{map-append, take_more, length-set, take_more_set, reverse-append}
+use Rattle.std.proofs.lemmas.List.{map-append, take_more, take_more_set, reverse-append}
 use Rattle.std.proofs.lemmas.List.Elements.{All-head}
 use Rattle.mail_base.specs.States.{is_open, is_queued}
 use Rattle.mail_base.specs.declared.control.Row.{Row}

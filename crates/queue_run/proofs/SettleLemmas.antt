@@ -1,9 +1,9 @@
 -- The exits of a batch that needs no attempt, and of every record of a batch.
-use Rattle.std.proofs.Common.{◌≡◌, ◌≢◌, ◌⊎◌, ⊎_elim, ℕ, ◌≤◌, List, [], ◌∷◌, ◌++◌, length, map, drop, Bool, true, false, Option, Some, None, Result, Ok, Err, refl, sym, ◌∙◌, ap, subst, arith, reverse, option_map}
-use Rattle.std.specs.Prelude.{slice_get, All, IfErr, IfOk, IfSome, OnErr, OnOk}
+use Rattle.std.proofs.Common.{◌≡◌, ⊎_elim, ℕ, List, [], ◌∷◌, ◌++◌, map, drop, Bool, Option, Some, None, Result, Err, refl, sym, ◌∙◌, ap, subst, arith, reverse, option_map}
+use Rattle.std.specs.Prelude.{slice_get, All}
 use Rattle.std.specs.List.{flat_map}
-use Rattle.std.proofs.lemmas.List.Elements.{All-head, All-tail}
-use Rattle.mail_base.specs.Histories.{Gains, Rose}
+use Rattle.std.proofs.lemmas.List.Elements.{All-tail}
+use Rattle.mail_base.specs.Histories.{Gains}
 use Rattle.mail_base.specs.declared.config.Config.{Config}
 use Rattle.mail_base.specs.declared.control.Control.{Control}
 use Rattle.mail_base.specs.declared.outcome.Result1.{Result1}
@@ -28,14 +28,14 @@ use Rattle.queue_run.specs.declared.runner.RunStop.{RunStop}
 use Rattle.queue_run.specs.declared.runner.RunStop.TheVariants as stop
 use Rattle.queue_run.specs.declared.runner.Runner.{Runner}
 use Rattle.queue_run.specs.declared.runner.Running.{Running}
-use Rattle.queue_run.specs.Deeds.{Deed, asked_in, born_in, dialled_in}
-use Rattle.queue_run.specs.Holders.{Attempt, Holder, attempt_of, holder_of}
-use Rattle.queue_run.specs.Kinds.{Kind, Settles, Starts, Talks, Waits, kind_by}
+use Rattle.queue_run.specs.Deeds.{Deed, asked_in}
+use Rattle.queue_run.specs.Holders.{Holder, attempt_of, holder_of}
+use Rattle.queue_run.specs.Kinds.{Kind, Settles, Waits, kind_by}
 use Rattle.queue_run.specs.Meant.{Ground, IsMeant}
-use Rattle.queue_run.specs.Ready.{AreAllApart, AreApart, IsReady, IsUntried}
+use Rattle.queue_run.specs.Ready.{AreAllApart, IsReady, IsUntried}
 use Rattle.queue_run.specs.Results.{alike}
 use Rattle.queue_run.specs.Steps.{By, Luck, Records, acted, asks, halts, record_of, records, without_first}
-use Rattle.queue_run.specs.Working.{Bench, HasChild, HasDialerCause, HasSpawnerCause, IsRead, IsWhole, KeepsChildren, Steps, bench, kind_in, stepped_on}
+use Rattle.queue_run.specs.Working.{Bench, HasDialerCause, HasSpawnerCause, IsRead, IsWhole, KeepsChildren, Steps, bench, kind_in, stepped_on}
 use Rattle.queue_run.specs.inner.Puts.{IsPutAs, IsPutOrNot, Put}
 use Rattle.queue_run.proofs.PutLemmas.{turned}
 use Rattle.queue_run.proofs.ReadyLemmas.{at_rest_running, ready_recorded}

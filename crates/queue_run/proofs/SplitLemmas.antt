@@ -1,6 +1,6 @@
 -- Rows that join batches, and the index of batches by where they go.
-use Rattle.std.proofs.Common.{◌≡◌, ◌≢◌, ◌⊎◌, inl, inr, ⊎_elim, ℕ, zero, suc, ◌+◌, ◌<◌, ◌≤◌, List, [], ◌∷◌, ◌++◌, length, get_or, set, Bool, true, false, Option, Some, None, Result, Ok, Err, OnOk, if◌then◌else◌, length-append, refl, sym, ◌∙◌, ap, subst, arith}
-use Rattle.std.specs.Prelude.{bytes_eq, fold, nat_lt, slice_get, ◌&&◌, not}
+use Rattle.std.proofs.Common.{◌≡◌, ◌≢◌, ◌⊎◌, inl, inr, ⊎_elim, ℕ, zero, suc, ◌<◌, ◌≤◌, List, [], ◌∷◌, ◌++◌, length, get_or, set, Bool, true, false, Option, Some, None, Result, Ok, Err, OnOk, if◌then◌else◌, length-append, refl, sym, ◌∙◌, ap, subst, arith}
+use Rattle.std.specs.Prelude.{bytes_eq, nat_lt, slice_get, ◌&&◌}
 use Rattle.std.specs.Map.{lookup}
 use Rattle.std.proofs.lemmas.Bool.{cond-true, cond-false, ltb-false, le-ltb, and_parts, and_from, and_right}
 use Rattle.std.proofs.lemmas.Grind.{fold-append}
@@ -12,7 +12,7 @@ use Rattle.queue_run.specs.declared.batch.Batch.{Batch}
 use Rattle.queue_run.specs.declared.batch.Routed.{Routed}
 use Rattle.queue_run.specs.declared.course.Course.{Course}
 use Rattle.queue_run.specs.Batches.{added, batches_of, begun, course_of, goes_by, has_room, joined, most_at, same, takes}
-use Rattle.queue_run.specs.inner.Courses.{AreFull, AreFullBut, IsIndexed, IsOpenAt, IsOpenBy, IsPlaceAt, IsPlaceFor, begun_index}
+use Rattle.queue_run.specs.inner.Courses.{AreFull, IsIndexed, IsOpenAt, IsOpenBy, IsPlaceAt, IsPlaceFor, begun_index}
 
 -- ---- a row more
 

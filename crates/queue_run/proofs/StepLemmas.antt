@@ -1,28 +1,25 @@
 -- Steps by what was done: nothing, other things than commands, or a command behind them.
-use Rattle.std.proofs.Common.{◌≡◌, ◌≢◌, ◌⊎◌, inl, inr, ⊎_elim, ℕ, ◌≤◌, List, [], ◌∷◌, ◌++◌, Bool, true, false, Option, Some, None, Result, Ok, Err, not, refl, sym, ◌∙◌, ap, subst, arith, append-nil}
-use Rattle.std.specs.Prelude.{IfErr, IfOk, IfSome, OnErr, OnOk}
+use Rattle.std.proofs.Common.{◌≡◌, inl, inr, ⊎_elim, ℕ, ◌≤◌, List, [], ◌∷◌, ◌++◌, Bool, true, false, Option, Some, None, Result, Ok, Err, not, refl, sym, ◌∙◌, ap, subst, arith, append-nil}
+use Rattle.std.specs.Prelude.{IfErr, OnErr, OnOk}
 use Rattle.std.specs.List.{flat_map}
 use Rattle.std.proofs.lemmas.Grind.{flat_map-append}
 use Rattle.mail_base.specs.Histories.{Gains, Rose}
 use Rattle.mail_base.specs.declared.config.Config.{Config}
-use Rattle.link_edge.specs.declared.dial_event.DialEvent.{DialEvent}
-use Rattle.spawn_edge.specs.declared.event.SpawnEvent.{SpawnEvent}
 use Rattle.spool_disk.specs.Disk.{FileMap}
 use Rattle.spool_disk.specs.Spooled.{Leads, Reads, Rests, Spooled}
 use Rattle.spool_store.specs.Entries.{Table}
 use Rattle.spool_store.specs.Moves.{Becomes, Moves}
 use Rattle.spool_store.specs.Parts.{IsEitherTable}
 use Rattle.spool_store.specs.Settled.{IsSettled, StandsFor}
-use Rattle.spool_store.specs.Stores.{Agrees, KeepsOthers}
-use Rattle.spool_store.proofs.MovesLemmas.{moves_join, moves_none, moves_weaker}
-use Rattle.queue_table.specs.Asked.{AllStop, AreStoppable, IsFront, IsStoppable, LacksLast, Leaves, table_by}
+use Rattle.spool_store.specs.Stores.{KeepsOthers}
+use Rattle.spool_store.proofs.MovesLemmas.{moves_join, moves_weaker}
+use Rattle.queue_table.specs.Asked.{AllStop, AreStoppable, IsFront, LacksLast, Leaves, table_by}
 use Rattle.queue_table.specs.Calls.{AreDirs, HoldsTable, LeadsTo, MayStop, Stays, store}
 use Rattle.queue_table.specs.Commands.{Command, after, applied, changed_by, control_at}
 use Rattle.queue_table.specs.declared.table.Table.{Table as Kept}
 use Rattle.queue_table.proofs.AskedLemmas.{table_last}
 use Rattle.queue_table.proofs.LowLemmas.{stops_may}
 use Rattle.queue_run.specs.declared.runner.Did.{Did}
-use Rattle.queue_run.specs.declared.runner.Did.TheVariants as did
 use Rattle.queue_run.specs.declared.runner.RunStop.{RunStop}
 use Rattle.queue_run.specs.declared.runner.RunStop.TheVariants as stop
 use Rattle.queue_run.specs.declared.runner.Runner.{Runner}
@@ -31,8 +28,8 @@ use Rattle.queue_run.specs.Holders.{Holder, holder_of}
 use Rattle.queue_run.specs.Kinds.{Kind}
 use Rattle.queue_run.specs.Meant.{Ground, IsMeant}
 use Rattle.queue_run.specs.Ready.{IsReady}
-use Rattle.queue_run.specs.Steps.{By, Halt, Lacks, Luck, Stepped, acted, asks, halts}
-use Rattle.queue_run.specs.Working.{Bench, Comes, ComesTo, HasChild, HasDialerCause, HasSpawnerCause, HasSpoolCause, IsHolder, IsRead, IsWhole, KeepsChildren, KeepsOthersReady, Steps, Worked, holds_on, is_fault, is_well, kind_in, stepped_on}
+use Rattle.queue_run.specs.Steps.{By, Lacks, Luck, Stepped, acted, asks, halts}
+use Rattle.queue_run.specs.Working.{Bench, Comes, HasChild, HasDialerCause, HasSpawnerCause, HasSpoolCause, IsHolder, IsRead, IsWhole, KeepsChildren, Steps, Worked, holds_on, is_fault, is_well, kind_in, stepped_on}
 use Rattle.queue_run.specs.inner.Puts.{Put}
 use Rattle.queue_run.proofs.ReadyLemmas.{others_stay}
 

@@ -1,7 +1,7 @@
 -- The exits of a poll.
 use Rattle.std.proofs.Common.{◌≡◌, ◌≢◌, ◌⊎◌, inl, inr, ℕ, ◌≤◌, List, [], ◌∷◌, ◌++◌, length, map, Bool, true, false, Option, Some, None, Result, Ok, Err, refl, sym, ◌∙◌, ap, subst, arith, ne_eqb, reverse, option_map}
-use Rattle.std.specs.Prelude.{IfErr, IfOk, IfSome, OnErr, OnOk}
-use Rattle.mail_base.specs.Histories.{Gains, Rose}
+use Rattle.std.specs.Prelude.{IfSome, OnOk}
+use Rattle.mail_base.specs.Histories.{Gains}
 use Rattle.mail_base.specs.declared.outcome.Result1.{Result1}
 use Rattle.link_edge.specs.Dials.{DialSeen}
 use Rattle.spawn_edge.specs.Children.{ends, is_running}
@@ -11,10 +11,9 @@ use Rattle.spawn_edge.specs.declared.event.Poll.{Poll}
 use Rattle.spawn_edge.specs.declared.event.Poll.TheVariants as polls
 use Rattle.spawn_edge.specs.declared.event.SpawnEvent.{SpawnEvent}
 use Rattle.spawn_edge.specs.declared.event.SpawnEvent.TheVariants.{Polled}
-use Rattle.spool_disk.specs.Spooled.{Reads, Spooled}
+use Rattle.spool_disk.specs.Spooled.{Spooled}
 use Rattle.spool_store.specs.Entries.{Table}
 use Rattle.spool_store.specs.Stores.{recontrolled}
-use Rattle.spool_store.specs.declared.held.Held.{Held}
 use Rattle.queue_table.specs.Calls.{HoldsTable, Tallies, store}
 use Rattle.queue_table.specs.Commands.{control_at}
 use Rattle.queue_table.specs.Commands.Command.{Record}
@@ -32,8 +31,8 @@ use Rattle.queue_run.specs.Kinds.{Waits, kind_by}
 use Rattle.queue_run.specs.Meant.{Ground, IsMeant}
 use Rattle.queue_run.specs.Ready.{IsAttempt, IsReady}
 use Rattle.queue_run.specs.Results.{alike}
-use Rattle.queue_run.specs.Steps.{Luck, StillRuns, acted, asks, at_rest, does, record_of}
-use Rattle.queue_run.specs.Working.{Bench, HasChild, HasDialerCause, HasSpawnerCause, IsRead, IsWhole, KeepsChildren, Steps, bench, kind_in, stepped_on}
+use Rattle.queue_run.specs.Steps.{Luck, StillRuns, acted, asks, at_rest, record_of}
+use Rattle.queue_run.specs.Working.{HasChild, HasDialerCause, HasSpawnerCause, IsRead, IsWhole, Steps, bench, kind_in}
 use Rattle.queue_run.specs.inner.Puts.{Put}
 use Rattle.queue_run.proofs.ReadyLemmas.{ready_recorded}
 use Rattle.queue_run.proofs.StepLemmas.{reads_itself, steps_asked, steps_of, stepped_kind, worked_quiet}

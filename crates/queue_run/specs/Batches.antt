@@ -1,7 +1,7 @@
 -- The batches in which rows are tried (Sendmail Installation and Operation Guide, M: Define Mailer,
 -- its flag m and its field r).
-use Rattle.std.specs.Prelude.{◌≡◌, ℕ, ◌+◌, nat_eq, nat_lt, List, [], ◌∷◌, ◌++◌, fold, length, map, Option, Some, None, Bool, true, false, ◌&&◌, bytes_eq, codes, if◌then◌else◌, refl, All}
-use Rattle.std.specs.List.{AllZip, list_any}
+use Rattle.std.specs.Prelude.{◌≡◌, ℕ, ◌+◌, nat_eq, nat_lt, List, [], ◌∷◌, ◌++◌, fold, length, map, Option, Some, None, Bool, false, ◌&&◌, bytes_eq, codes, if◌then◌else◌, refl}
+use Rattle.std.specs.List.{list_any}
 use Rattle.mail_base.specs.Catalogs.{value_like}
 use Rattle.mail_base.specs.Configs.{initial}
 use Rattle.mail_base.specs.States.{is_queued}

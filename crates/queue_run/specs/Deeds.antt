@@ -1,5 +1,5 @@
 -- What a runner does, in order, and what of it table and devices see (own).
-use Rattle.std.specs.Prelude.{◌≡◌, ℕ, List, [], ◌∷◌, Option, Some, None, Bool, refl}
+use Rattle.std.specs.Prelude.{◌≡◌, ℕ, List, [], ◌∷◌, Some, Bool, refl}
 use Rattle.std.specs.List.{flat_map}
 use Rattle.mail_base.specs.declared.outcome.Result1.{Result1}
 use Rattle.link_edge.specs.declared.dial_event.DialEvent.{DialEvent}
@@ -9,7 +9,6 @@ use Rattle.spawn_edge.specs.declared.event.SpawnEvent.TheVariants.{Began, Unbegu
 use Rattle.spawn_edge.specs.declared.event.Start.{Start}
 use Rattle.queue_table.specs.Commands.{Command, changed_by}
 use Rattle.queue_run.specs.declared.batch.Routed.{Routed}
-use Rattle.queue_run.specs.Holders.{Holder}
 
 -- what came of a start: a child, with how many starts were missed before it; a failure that is
 -- told, with the same; or one that is missed itself

@@ -1,7 +1,7 @@
 -- Which step is the next one of a holder (Sendmail Installation and Operation Guide,
 -- Timeout.queuewarn, for when a warning is due; that a warning is sent for no message of a class
 -- below 0 is the guide's, Precedence; the rest is own).
-use Rattle.std.specs.Prelude.{◌≡◌, ℕ, ◌+◌, pos, List, [], ◌∷◌, Option, Some, None, Bool, true, false, not, ◌&&◌, ◌||◌, nat_le, bytes_eq, int_le, codes, if◌then◌else◌, refl}
+use Rattle.std.specs.Prelude.{ℕ, ◌+◌, pos, List, [], ◌∷◌, Option, Some, None, Bool, true, false, not, ◌&&◌, nat_le, bytes_eq, int_le, codes, if◌then◌else◌}
 use Rattle.std.specs.List.{list_all}
 use Rattle.mail_base.specs.Catalogs.{value_like, with_value}
 use Rattle.mail_base.specs.Drawing.{null_sender}

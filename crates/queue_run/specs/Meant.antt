@@ -1,7 +1,7 @@
 -- What the data of a step is: the text that a mailer is handed, the start of a program, the letter
 -- to peers, and the messages that are sent for an entry (Sendmail Installation and Operation Guide,
 -- M: Define Mailer, and macros a, b, d, f, g, h, i and t).
-use Rattle.std.specs.Prelude.{◌≡◌, ℕ, List, [], ◌∷◌, Option, Some, None, Bool, true, false, length, codes}
+use Rattle.std.specs.Prelude.{◌≡◌, ℕ, List, [], Option, Some, codes}
 use Rattle.mail_base.specs.Catalogs.{with_value}
 use Rattle.mail_base.specs.declared.config.Config.{Config}
 use Rattle.mail_base.specs.declared.control.Control.{Control}
@@ -22,12 +22,11 @@ use Rattle.dsn_bounce.specs.Returned.{IsBounce, IsWarning}
 use Rattle.mailer_pipe.specs.Arguments.{literal}
 use Rattle.mailer_pipe.specs.Starts.{start_of}
 use Rattle.spawn_edge.specs.declared.event.Start.{Start}
-use Rattle.queue_run.specs.declared.batch.Batch.{Batch}
 use Rattle.queue_run.specs.Backs.{AreSentTo, Drawer, untold}
 use Rattle.queue_run.specs.Claims.{claim_macros}
 use Rattle.queue_run.specs.Deeds.{Talk}
 use Rattle.queue_run.specs.Handovers.{IsHandover}
-use Rattle.queue_run.specs.Kinds.{Kind, Waits, Settles, Starts, Talks, Buries, Returns, Warns, Finishes, Leaves, host_macros}
+use Rattle.queue_run.specs.Kinds.{Kind, Starts, Talks, Returns, Warns, host_macros}
 use Rattle.queue_run.specs.declared.letter.Letter.{Letter}
 use Rattle.queue_run.specs.Steps.{Luck, StillRuns, Exits, Loses, Records, Outgrows, Begins, Misses, Ends, Gives, Dies, Tells, Closes, LetsGo, Lacks}
 

@@ -1,6 +1,6 @@
 -- One step of a runner (own; the order of what a runner does is that of the Sendmail Installation
 -- and Operation Guide, "The Queue": rows are tried, failed ones are returned, senders are warned).
-use Rattle.std.specs.Prelude.{◌≡◌, ℕ, ◌+◌, ℤ, List, [], ◌∷◌, ◌++◌, length, drop, Option, Some, None, Bool, true, false, not, ◌&&◌, nat_lt, nat_eq, sum_by, if◌then◌else◌}
+use Rattle.std.specs.Prelude.{ℕ, ◌+◌, ℤ, List, [], ◌∷◌, ◌++◌, length, drop, Option, Some, None, Bool, true, false, not, ◌&&◌, nat_lt, nat_eq, sum_by, if◌then◌else◌}
 use Rattle.mail_base.specs.declared.config.Config.{Config}
 use Rattle.mail_base.specs.declared.id.TheConstants.Id.{MOST}
 use Rattle.mail_base.specs.declared.draw.Draw.{Draw}
@@ -9,7 +9,6 @@ use Rattle.mail_base.specs.declared.message.Back.{Back}
 use Rattle.mail_base.specs.declared.outcome.Result1.{Result1}
 use Rattle.map_tables.specs.Answers.{Loaded}
 use Rattle.mailer_pipe.specs.Ends.{ended_with}
-use Rattle.spawn_edge.specs.declared.event.Poll.{Poll}
 use Rattle.spawn_edge.specs.declared.event.Poll.TheVariants as polls
 use Rattle.spawn_edge.specs.declared.event.Start.{Start}
 use Rattle.spool_store.specs.Entries.{Table}
@@ -22,7 +21,7 @@ use Rattle.queue_run.specs.declared.runner.Did.{Did}
 use Rattle.queue_run.specs.declared.runner.Did.TheVariants as did
 use Rattle.queue_run.specs.declared.runner.RunStop.{RunStop}
 use Rattle.queue_run.specs.declared.runner.RunStop.TheVariants as stop
-use Rattle.queue_run.specs.Deeds.{Deed, Asks, Files, Frees, Launch, Given, Failed, Missed, Polls, Starts as Launches, Talks as Delivers, Talk}
+use Rattle.queue_run.specs.Deeds.{Deed, Asks, Files, Frees, Launch, Given, Polls, Starts as Launches, Talks as Delivers, Talk}
 use Rattle.queue_run.specs.Holders.{Attempt, Holder}
 use Rattle.queue_run.specs.Kinds.{Kind, Waits, Settles, Starts, Talks, Buries, Returns, Warns, Finishes, Leaves, kind_of}
 use Rattle.queue_run.specs.Results.{alike, device_fault, too_large}

@@ -1,11 +1,9 @@
 -- What a step does to table and devices (own).
-use Rattle.std.specs.Prelude.{◌≡◌, ◌≢◌, ℕ, ◌<◌, ◌≤◌, ◌^◌, List, [], ◌∷◌, Option, Some, None, IfSome, Bool, true, false, not, Contains, Result, Ok, Err}
+use Rattle.std.specs.Prelude.{◌≡◌, ◌≢◌, ℕ, ◌≤◌, List, Option, Some, None, IfSome, Bool, true, false, not, Contains, Result, Ok, Err}
 use Rattle.std.specs.List.{flat_map}
 use Rattle.mail_base.specs.Histories.{Gains, Rose}
 use Rattle.mail_base.specs.States.{NeedsBody}
 use Rattle.mail_base.specs.declared.config.Config.{Config}
-use Rattle.mail_base.specs.declared.control.Control.{Control}
-use Rattle.map_tables.specs.Answers.{Loaded}
 use Rattle.link_edge.specs.Dials.{DialSeen}
 use Rattle.mailer_smtp.specs.Deliveries.{Counts}
 use Rattle.spawn_edge.specs.Spawned.{IsRunningAt, Spawned}
@@ -31,7 +29,7 @@ use Rattle.queue_run.specs.Holders.{Holder, holder_of}
 use Rattle.queue_run.specs.Kinds.{Kind, kind_of}
 use Rattle.queue_run.specs.Meant.{Ground, IsMeant}
 use Rattle.queue_run.specs.Ready.{IsReady}
-use Rattle.queue_run.specs.Steps.{By, Gives, Luck, Outgrows, Begins, Misses, Ends, StillRuns, Exits, Loses, Records, Dies, Tells, Closes, LetsGo, Lacks, Stepped, stepped}
+use Rattle.queue_run.specs.Steps.{By, Gives, Luck, Outgrows, Begins, Misses, Ends, Loses, Stepped, stepped}
 
 -- all that is seen of the devices of a step
 pub record Bench : Type 1 where

@@ -2,3 +2,4 @@ pub mod Courses
 pub mod Puts
 pub mod Handed
 pub mod Sendings
+pub mod Attempts

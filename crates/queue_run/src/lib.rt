@@ -2,6 +2,7 @@
 //! first thing that is to be done for it. `specs/Steps.antt` says what a step is.
 #![tactic(auto)]
 
+mod attempting;
 mod backs;
 mod batch;
 mod claiming;
@@ -18,6 +19,7 @@ mod sending;
 mod settling;
 mod splitting;
 mod starting;
+mod stepping;
 mod talking;
 mod waiting;
 

@@ -1,5 +1,5 @@
 -- A row more.
-use Rattle.std.proofs.Common.{◌++◌, take, sym, subst, ap, arith, ◌∙◌}
+use Rattle.std.proofs.Common.{◌++◌, take, sym, subst, ap, ◌∙◌}
 use Rattle.std.specs.List.{AllZip}
 use Rattle.queue_run.specs.Batches.{waiting_at, waiting_from}
 use Rattle.queue_run.specs.Claims.{IsRouted}

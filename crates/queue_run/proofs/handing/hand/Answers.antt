@@ -1,8 +1,6 @@
 -- The body that was read, and the letter made of it.
-use Rattle.std.proofs.Common.{◌≡◌, ◌∙◌, sym, ap, subst, Contains, Some, IfSome}
+use Rattle.std.proofs.Common.{◌∙◌, sym, subst, Contains}
 use Rattle.spool_store.specs.Keepers.{seen}
-use Rattle.spool_store.specs.Settled.{StandsFor}
-use Rattle.spool_store.specs.Stores.{Agrees}
 use Rattle.queue_run.specs.Meant.{IsLetter, ground_of}
 use Rattle.queue_run.proofs.HandLemmas.{body_read}
 use Rattle.queue_run.proofs.handing.hand.Goals as goal

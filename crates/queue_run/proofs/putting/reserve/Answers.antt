@@ -1,6 +1,4 @@
 -- A store holds one entry of an id.
-use Rattle.std.proofs.Common.{◌≡◌, ◌∙◌, sym, ap, IfOk}
-use Rattle.queue_table.specs.Calls.{store}
 use Rattle.queue_run.proofs.PutLemmas.{reserved_control}
 use Rattle.queue_run.proofs.putting.reserve.Goals as goal
 

@@ -1,7 +1,7 @@
 -- The rows so far have their result.
 use Rattle.std.proofs.Common.{◌≡◌, ℕ, List, take, length}
 use Rattle.mailer_pipe.specs.Ends.{ended_with}
-use Rattle.queue_run.specs.Results.{alike, device_fault}
+use Rattle.queue_run.specs.Results.{alike}
 use Rattle.queue_run.proofs.results.fill_ended.Given as goal
 
 abbrev pub invariant-loop-place : goal.invariant-loop-place

@@ -1,8 +1,8 @@
 -- The routes of the rows, and their batches.
-use Rattle.std.proofs.Common.{◌≡◌, ◌∙◌, All, None, reverse, ap, sym, subst, Contains}
+use Rattle.std.proofs.Common.{◌≡◌, All, None, reverse, sym, subst, Contains}
 use Rattle.spool_store.specs.Keepers.{seen}
 use Rattle.queue_run.specs.Batches.{batches_of}
-use Rattle.queue_run.specs.Claims.{AreRouted, claim_macros}
+use Rattle.queue_run.specs.Claims.{claim_macros}
 use Rattle.queue_run.specs.Ready.{AreAllApart, IsUntried}
 use Rattle.queue_run.proofs.ClaimLemmas.{claimed_apart, claimed_routes, claimed_untried}
 use Rattle.queue_run.proofs.runner.Runner.claim.Goals as goal

@@ -1,5 +1,5 @@
 -- A finish that went well, and one that failed.
-use Rattle.std.proofs.Common.{◌≡◌, Ok, Err, ap, refl}
+use Rattle.std.proofs.Common.{Ok, Err, ap, refl}
 use Rattle.spool_store.specs.Stores.{StoreSeen}
 use Rattle.queue_run.specs.declared.runner.Did.TheVariants as did
 use Rattle.queue_run.specs.declared.runner.RunStop.TheVariants as stop

@@ -1,6 +1,5 @@
 -- A batch that needs no attempt.
-use Rattle.std.proofs.Common.{◌≡◌, ◌∙◌, Some, ap, sym, subst, refl, reverse}
-use Rattle.std.specs.Prelude.{slice_get}
+use Rattle.std.proofs.Common.{◌≡◌, ap, subst, refl, reverse}
 use Rattle.queue_run.specs.declared.runner.Runner.{Runner}
 use Rattle.queue_run.specs.Kinds.{Settles}
 use Rattle.queue_run.specs.Meant.{ground_of}

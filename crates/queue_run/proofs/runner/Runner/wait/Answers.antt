@@ -1,5 +1,5 @@
 -- A child that still runs, that ended, or that was lost.
-use Rattle.std.proofs.Common.{FitsSigned, rules, w32, ◌≡◌, ◌∙◌, [], ◌∷◌, Some, None, Ok, ap, sym, refl, subst, length, reverse}
+use Rattle.std.proofs.Common.{FitsSigned, rules, w32, ◌∙◌, [], ◌∷◌, Ok, ap, sym, refl, subst, length, reverse}
 use Rattle.std.proofs.lemmas.Int.{to_z-of_z}
 use Rattle.mail_base.specs.Histories.{Gains}
 use Rattle.spawn_edge.specs.Children.{poll_of}

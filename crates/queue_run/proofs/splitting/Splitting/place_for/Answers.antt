@@ -1,5 +1,5 @@
 -- By where the row goes.
-use Rattle.std.proofs.Common.{sym, subst, ap, ◌∙◌, Some, None}
+use Rattle.std.proofs.Common.{sym, subst, ◌∙◌}
 use Rattle.queue_run.specs.inner.Courses.{IsPlaceFor}
 use Rattle.queue_run.proofs.SplitLemmas.{alone_full}
 use Rattle.queue_run.proofs.splitting.Splitting.place_for.Goals as goal

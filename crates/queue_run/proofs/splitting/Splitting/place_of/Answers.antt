@@ -1,5 +1,5 @@
 -- By the index.
-use Rattle.std.proofs.Common.{sym, Some, None}
+use Rattle.std.proofs.Common.{sym, None}
 use Rattle.queue_run.proofs.SplitLemmas.{open_there}
 use Rattle.queue_run.proofs.splitting.Splitting.place_of.Goals as goal
 
