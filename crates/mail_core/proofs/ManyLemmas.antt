@@ -2,16 +2,18 @@
 use Rattle.std.proofs.Common.{◌≡◌, ◌≤◌, ℕ, List, [], ◌∷◌, ◌++◌, length, Bool, true, false, Option, Some, None, if◌then◌else◌, refl, sym, ◌∙◌, ap, subst, append_assoc, ⊎_elim}
 use Rattle.std.specs.Prelude.{is_some, nat_le}
 use Rattle.std.proofs.lemmas.Bool.{cases_Bool, cond-true, cond-false, le-leb}
+use Rattle.std.proofs.lemmas.List.{append_cancel_left}
 use Rattle.link_edge.specs.declared.event.Event.{Event}
 use Rattle.link_edge.specs.declared.event.Event.TheVariants.{Opens, Brings, Closes, Rests, Stops}
-use Rattle.smtp_receive.specs.Replies.{too_many_sessions_text}
+use Rattle.smtp_receive.specs.Dialogue.{replies_to}
+use Rattle.smtp_receive.specs.Replies.{shown_host, too_many_sessions_text}
 use Rattle.mail_core.specs.Effects.{Effect, HangsUp, Sends, Takes, Ticks, events_of}
 use Rattle.mail_core.specs.Guests.{Guest, guest_of, is_here, newcomer, with_bytes}
 use Rattle.mail_core.specs.Machine.{AreOpen, Choice, Choices, Did, Dropped, GoesOn, Leaves, Opening, Over, Replied, State, Step, Turn, Way, all_answered, at_moment, brought, followed, handled, most_guests, opened, pieced, run, stepped, still, taken, turned_away, welcomed}
 use Rattle.mail_core.specs.Sites.{Site}
-use Rattle.mail_core.specs.Told.{AreOfOthers, is_of_others, opening_of, said_to}
+use Rattle.mail_core.specs.Told.{AreOfOthers, Converses, IsInTurn, NeverOpens, is_of_others, opening_of, replies_of, said_to}
 use Rattle.mail_core.proofs.CallerLemmas.{open_more, open_with, open_without}
-use Rattle.mail_core.proofs.LifeLemmas.{handled_apart}
+use Rattle.mail_core.proofs.LifeLemmas.{handled_apart, run_converses}
 use Rattle.mail_core.proofs.ToldLemmas.{said_more}
 use Rattle.mail_core.proofs.TurnLemmas.{piece_takes_none}
 
@@ -37,6 +39,25 @@ module _ (site : Site) where
       let first = stepped_apart s m turn others.0 in
       let later = run_apart s now.state turns others.1 in
       (later.0 ∙ first.0, said_more s now.effects (run site now.state turns).effects ∙ ap (λ q. q ++ said_to s (run site now.state turns).effects) first.1 ∙ later.1)
+
+  -- ---- one session in two runs
+
+  -- what a session that is still open was sent are the replies to its lines
+  sent_so : (s : ℕ) (g now : Guest) (bytes : List ℕ) (texts : List (List ℕ)) (found : Option Guest) → Converses site g bytes texts found → found ≡ Some now → replies_to g.config (shown_host site.host) g.peer now.heard ≡ replies_of site g ++ texts
+  sent_so s g now bytes texts found c is =
+      let same = c.still now is in
+      ap (λ q. replies_to q (shown_host site.host) g.peer now.heard) (sym c.config)
+      ∙ ap (λ q. replies_to c.now.config (shown_host site.host) q now.heard) (sym c.peer)
+      ∙ ap (λ (q : Guest). replies_to c.now.config (shown_host site.host) c.now.peer q.heard) same.0
+      ∙ c.replies
+
+  pub sent_alike : (s : ℕ) (m alone : State) (turns own : List Turn) (g now other : Guest) → NeverOpens s turns → NeverOpens s own → IsInTurn g → guest_of s m.guests ≡ Some g → guest_of s alone.guests ≡ Some g
+      → guest_of s (run site m turns).state.guests ≡ Some now → guest_of s (run site alone own).state.guests ≡ Some other → now.heard ≡ other.heard → said_to s (run site m turns).effects ≡ said_to s (run site alone own).effects
+  sent_alike s m alone turns own g now other never nor turn here there is are same =
+      let one = sent_so s g now _ _ _ (run_converses site s m turns g never here turn) is in
+      let two = sent_so s g other _ _ _ (run_converses site s alone own g nor there turn) are in
+      append_cancel_left (replies_of site g) (said_to s (run site m turns).effects) (said_to s (run site alone own).effects)
+      (sym one ∙ ap (λ q. replies_to g.config (shown_host site.host) g.peer q) same ∙ two)
 
   -- ---- the order of turns
 

@@ -1,11 +1,8 @@
 -- What is made of a message that is taken in, and groups of one line.
-use Rattle.std.proofs.Common.{◌≡◌, ℕ, ◌+◌, ◌<◌, ◌≤◌, List, [], ◌∷◌, ◌++◌, length, take, get_or, Option, None, Result, Ok, Err, sym, ◌∙◌, ap, subst, arith}
-use Rattle.std.specs.Prelude.{All, IfOk}
-use Rattle.std.proofs.lemmas.List.{take_more}
-use Rattle.std.proofs.lemmas.List.Elements.{All-append, All-cons, All-nil}
-use Rattle.std.proofs.lemmas.Slice.Zip.{AllZip-long, all_zipped_more}
+use Rattle.std.proofs.Common.{◌≡◌, ℕ, ◌+◌, ◌<◌, ◌≤◌, List, [], ◌∷◌, length, Option, None, Result, Ok, Err, sym, ◌∙◌, ap, subst, arith}
+use Rattle.std.specs.Prelude.{IfOk}
+use Rattle.std.proofs.lemmas.Slice.Zip.{AllZip-long}
 use Rattle.mail_base.specs.Drawing.{AreRows}
-use Rattle.mail_base.specs.Texts.{IsLine}
 use Rattle.mail_base.specs.declared.config.Config.{Config}
 use Rattle.mail_base.specs.declared.draw.Draw.{Draw}
 use Rattle.mail_base.specs.declared.fault.StoreFault.{StoreFault}
@@ -16,7 +13,6 @@ use Rattle.mail_header.specs.Made.{received_of}
 use Rattle.map_tables.specs.Answers.{Loaded}
 use Rattle.ruleset_run.specs.Sites.{Macros}
 use Rattle.queue_plan.specs.Groups.{Groups, mailer_of}
-use Rattle.queue_plan.specs.Parts.{IsPart, parts_of}
 use Rattle.queue_plan.specs.Rows.{distinct}
 use Rattle.queue_plan.proofs.CountLemmas.{parts_filled}
 use Rattle.queue_plan.proofs.FitLemmas.{first_part}

@@ -131,3 +131,16 @@ pub fn sessions_stay_few()
     ensures { (site : Site) (m : State) (turns : List Turn)
         → AreOpen m.guests → AreOpen (run site m turns).state.guests }
 {}
+
+/// A session is sent what it would be sent alone. In two runs in which it was as now, and in which
+/// the same lines of it were answered, with the same word of the judge, the same want of memory and
+/// the same ids, it was sent the same: whatever other sessions did, and however its bytes were cut.
+pub fn a_session_is_sent_what_it_would_be_sent_alone()
+    ensures { (site : Site) (m alone : State) (turns own : List Turn) (session : ℕ) (g now other : Guest)
+        → NeverOpens session turns → NeverOpens session own → IsInTurn g
+        → guest_of session m.guests ≡ Some g → guest_of session alone.guests ≡ Some g
+        → guest_of session (run site m turns).state.guests ≡ Some now
+        → guest_of session (run site alone own).state.guests ≡ Some other
+        → now.heard ≡ other.heard
+        → said_to session (run site m turns).effects ≡ said_to session (run site alone own).effects }
+{}
