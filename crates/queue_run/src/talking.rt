@@ -67,13 +67,14 @@ impl Runner {
             return put_alike(alloc, table, spool, &self.id, &batch.places, &one, moment);
         }
         let reserved = reserve(table, &self.id, &batch.places)?;
-        let mail = mail_for(alloc, table, config, &self.id, batch.users, letter)?;
+        let users = batch.into_users();
+        let mail = mail_for(alloc, table, config, &self.id, users, letter)?;
         let outcomes = hand_over(alloc, dialer, mailer, peers, &mail)?;
         put(table, spool, reserved, &outcomes, moment)
     }
 }
 
-// What is handed over for these users of an entry. Of the letter the text and the sender are kept.
+// What is handed over of a letter for these users of its entry.
 fn mail_for(
     alloc: Global,
     table: &Table,
@@ -88,13 +89,7 @@ fn mail_for(
 {
     let eight = table.queue().entry(id).control.eight;
     let host = host_name(alloc, &config.macros)?;
-    Ok(Mail {
-        host,
-        sender: letter.sender,
-        users,
-        message: letter.text,
-        eight,
-    })
+    Ok(letter.into_mail(host, users, eight))
 }
 
 // Hands a letter over to peers, and says what became of each of its users. It takes its memory

@@ -8,12 +8,5 @@ pub returns : goal.returns
 returns c = record {
   is = λ h among own.
       let at = c.entry.ensures.is h (subst (λ q. Contains (seen q).entries h) (sym c.queue.ensures) among) own in
-      let eight = ap (λ (q : Entry). q.control.eight) at in
-      λ i. record {
-        host = c.in_ok-host.ensures i;
-        sender = c.args.letter.sender;
-        users = c.args.users;
-        message = c.args.letter.text;
-        eight = eight i;
-      };
+      c.into_mail.ensures c.args.config.now h.entry.control c.in_ok-host.ensures (ap (λ (q : Entry). q.control.eight) at);
 }

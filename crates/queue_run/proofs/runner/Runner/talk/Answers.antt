@@ -11,6 +11,7 @@ use Rattle.queue_run.specs.declared.runner.RunStop.TheVariants.{NoMemory}
 use Rattle.queue_run.specs.Kinds.{Talks}
 use Rattle.queue_run.specs.Meant.{IsLetter, ground_of}
 use Rattle.queue_run.specs.Working.{Steps, bench, kind_in}
+use Rattle.queue_run.specs.Handovers.{mail_of}
 use Rattle.queue_run.specs.Holders.{holder_of}
 use Rattle.queue_run.specs.inner.Puts.{IsPutOrNot}
 use Rattle.queue_run.proofs.LetterLemmas.{exit_outgrown, exit_unhanded, handed_for, talks_lettered}
@@ -140,6 +141,7 @@ put-requires-clause-each g c =
     let mine = c.in-Some.batch in
     c.in_ok-outcomes.ensures.each
     ∙ ap (λ (q : Mail). length q.users) (c.in_ok-mail.ensures.is ready.held ready.among ready.is)
+    ∙ ap length c.into_users-users.ensures
     ∙ first_users c.args.table.now c.args.self.now ready mine (reverse c.pop.new.self.items) (turned c.args.self.now.rest.items c.pop.new.self.items mine c.in-Some.ensures.items)
     ∙ ap length (sym c.in_ok-reserved.ensures.rows)
 
@@ -170,7 +172,7 @@ returns g c = record {
       c.in_ok-letter.ensures.body c.hand.ensures.reads c.in_ok-letter.ensures.fault in
       exit_talked G entries c.args.table.now c.put.new.table before now mine mailer peers s m s' spawner d d' letter mail results c.args.moment c.put.result ready kind' (sym c.is_large.ensures ∙ c.if-is_large.false) handed refl
       (record { id = refl; split = c.in-Some.ensures.items; running = rests G entries before (Talks mine mailer peers) kind' tt }) holds whole
-      c.in_ok-mail.ensures.is
+      (λ h among own. c.in_ok-mail.ensures.is h among own ∙ ap (λ q. mail_of c.args.config.now h.entry.control q letter) c.into_users-users.ensures)
       c.in_ok-outcomes.ensures.delivered
       c.in_ok-outcomes.ensures.each
       (put_as c.args.table.now c.put.new.table before.id mine.places results c.args.moment ready.held.entry.control c.put.result m s' r known.id known.rows (known.control ready.held ready.among ready.is) c.put.ensures.put c.put.ensures.entries);
