@@ -95,7 +95,8 @@ pub fn sessions_that_are_not_open_are_sent_nothing()
 /// open. So what it is sent hangs on its own bytes, on what the judge says of its lines, and on the
 /// ids of its messages.
 pub fn other_sessions_change_nothing()
-    ensures { (site : Site) (m : State) (turns : List Turn) (session : ℕ) → AreOfOthers session turns
+    ensures { (site : Site) (m : State) (turns : List Turn) (session : ℕ)
+        → AreOfOthers session turns
         → (guest_of session (run site m turns).state.guests ≡ guest_of session m.guests)
         × (said_to session (run site m turns).effects ≡ []) }
 {}
@@ -136,11 +137,13 @@ pub fn sessions_stay_few()
 /// the same lines of it were answered, with the same word of the judge, the same want of memory and
 /// the same ids, it was sent the same: whatever other sessions did, and however its bytes were cut.
 pub fn a_session_is_sent_what_it_would_be_sent_alone()
-    ensures { (site : Site) (m alone : State) (turns own : List Turn) (session : ℕ) (g now other : Guest)
+    ensures { (site : Site) (m alone : State) (turns own : List Turn) (session : ℕ)
+        (g now other : Guest)
         → NeverOpens session turns → NeverOpens session own → IsInTurn g
         → guest_of session m.guests ≡ Some g → guest_of session alone.guests ≡ Some g
         → guest_of session (run site m turns).state.guests ≡ Some now
         → guest_of session (run site alone own).state.guests ≡ Some other
         → now.heard ≡ other.heard
-        → said_to session (run site m turns).effects ≡ said_to session (run site alone own).effects }
+        → said_to session (run site m turns).effects
+        ≡ said_to session (run site alone own).effects }
 {}

@@ -106,8 +106,8 @@ impl Core {
 
     /// One event of the machine. Its turn was taken and the clock read before the call. Session
     /// numbers are never used twice by a floor that tells. While 64 sessions are open, one more is
-    /// told 421 4.3.2 and hung up; a piece of a session that isn't open is dropped, and an idle turn
-    /// changes nothing.
+    /// told 421 4.3.2 and hung up. A piece of a session that isn't open is dropped, and an idle
+    /// turn changes nothing.
     ///
     /// Want of memory is answered by 452 4.3.1, or ends the session. After `Ended` and an error
     /// nothing more is done. A fault of the spool ends the run with it: its count stays with every

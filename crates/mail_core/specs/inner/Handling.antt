@@ -51,9 +51,9 @@ pub record Steps (j : JudgeSeen) (site : Site) (m : State) (event : Event) (a b 
   pub ended : (ending : Ending) → ending_of went ≡ Some ending
       → EndsSo ending event (handled site m event choices).state a b
 
--- what each step keeps, whatever it does: what the judge says; the floor's own count, and how it was
--- begun; and, unless a fault of the spool ended the run, the spool's count and what the table has of
--- its files
+-- what each step keeps, whatever it does: what the judge says; the floor's own count, and how it
+-- was begun; and, unless a fault of the spool ended the run, the spool's count and what the table
+-- has of its files
 pub record Behaves {T : Type 0} (j k : JudgeSeen) (f g : Heard) (s t : Spooled) (kept : Kept)
     (went : Result T CoreStop) : Type 0 where
   pub asked : IsAsked j k (is_judge_fault went)
