@@ -10,7 +10,6 @@ mod AskingLemmas
 mod BackLemmas
 mod SendLemmas
 mod ReturnLemmas
-mod DrawnLemmas
 mod StartLemmas
 mod TalkLemmas
 mod FinishLemmas
