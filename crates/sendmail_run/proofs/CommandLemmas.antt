@@ -8,7 +8,7 @@ use Rattle.std.proofs.lemmas.Grind.{flat_map-append}
 use Rattle.std.proofs.lemmas.List.{append-nil, append_assoc}
 use Rattle.std.proofs.lemmas.Slice.Eq.{bytes_eq-Decides, starts_is}
 use Rattle.sendmail_run.specs.declared.command_line.Job.{Job}
-use Rattle.sendmail_run.specs.declared.command_line.Job.TheVariants.{Test, Session}
+use Rattle.sendmail_run.specs.declared.command_line.Job.TheVariants.{Test, Session, List as Listing}
 use Rattle.sendmail_run.specs.declared.command_line.Mode.{Mode}
 use Rattle.sendmail_run.specs.declared.command_line.Saying.{Saying}
 use Rattle.sendmail_run.specs.declared.command_line.WordFault.{WordFault}
@@ -27,17 +27,20 @@ some job = Some job
 word_says : (job : Job) → job_said (word_of job) ≡ Some job
 word_says Test = refl
 word_says Session = refl
+word_says Listing = refl
 
 some_of : (a b : Job) → some a ≡ some b → a ≡ b
 some_of a b e = cc e
 
-says_of : (word : List ℕ) (job : Job) (test session : Bool) → bytes_eq word (word_of Test) ≡ test → bytes_eq word (word_of Session) ≡ session → cond test (some Test) (cond session (some Session) None) ≡ some job → word ≡ word_of job
-says_of word job true session t s e = (bytes_eq-Decides word (word_of Test)).0 t ∙ ap word_of (some_of Test job e)
-says_of word job false true t s e = (bytes_eq-Decides word (word_of Session)).0 s ∙ ap word_of (some_of Session job e)
-says_of word job false false t s e = absurd (cc e)
+says_of : (word : List ℕ) (job : Job) (test session listing : Bool) → bytes_eq word (word_of Test) ≡ test → bytes_eq word (word_of Session) ≡ session → bytes_eq word (word_of Listing) ≡ listing
+    → cond test (some Test) (cond session (some Session) (cond listing (some Listing) None)) ≡ some job → word ≡ word_of job
+says_of word job true session listing t s l e = (bytes_eq-Decides word (word_of Test)).0 t ∙ ap word_of (some_of Test job e)
+says_of word job false true listing t s l e = (bytes_eq-Decides word (word_of Session)).0 s ∙ ap word_of (some_of Session job e)
+says_of word job false false true t s l e = (bytes_eq-Decides word (word_of Listing)).0 l ∙ ap word_of (some_of Listing job e)
+says_of word job false false false t s l e = absurd (cc e)
 
 said_word : (word : List ℕ) (job : Job) → job_said word ≡ Some job → word ≡ word_of job
-said_word word job e = says_of word job (bytes_eq word (word_of Test)) (bytes_eq word (word_of Session)) refl refl e
+said_word word job e = says_of word job (bytes_eq word (word_of Test)) (bytes_eq word (word_of Session)) (bytes_eq word (word_of Listing)) refl refl refl e
 
 -- ---- the forms of a word
 

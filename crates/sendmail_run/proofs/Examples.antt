@@ -1,7 +1,7 @@
 -- Worked examples of the definitions.
 use Rattle.std.specs.Prelude.{[], ◌∷◌, codes, refl}
 use Rattle.std.proofs.Common.{inl, inr}
-use Rattle.sendmail_run.specs.declared.command_line.Job.TheVariants.{Test, Session}
+use Rattle.sendmail_run.specs.declared.command_line.Job.TheVariants.{Test, Session, List as Listing}
 use Rattle.sendmail_run.specs.CommandLines.{Does, Joined, Apart, IsCommandLine, IsRefusedAt}
 use Rattle.sendmail_run.proofs.CommandLemmas.{is_refused}
 
@@ -18,6 +18,12 @@ a_file_of_its_own_word = record { flags = Apart (codes "-bt") ∷ Does Test ∷ 
 
 session_mode : IsCommandLine (codes "-bs" ∷ codes "-Cx" ∷ []) (record { file = codes "x"; job = Session })
 session_mode = record { flags = Does Session ∷ Joined 120 [] ∷ []; written = refl; job = refl; file = inl refl }
+
+listing : IsCommandLine (codes "-C" ∷ codes "-bt" ∷ codes "-bp" ∷ []) (record { file = codes "-bt"; job = Listing })
+listing = record { flags = Apart (codes "-bt") ∷ Does Listing ∷ []; written = refl; job = refl; file = inl refl }
+
+two_listings : IsRefusedAt (codes "-bp" ∷ codes "-bp" ∷ []) 1
+two_listings = is_refused (codes "-bp" ∷ codes "-bp" ∷ []) 1 refl
 
 no_such_mode : IsRefusedAt (codes "-bt" ∷ codes "-bd" ∷ []) 1
 no_such_mode = is_refused (codes "-bt" ∷ codes "-bd" ∷ []) 1 refl

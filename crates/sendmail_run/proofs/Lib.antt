@@ -1,7 +1,11 @@
 mod CommandLemmas
+mod CompleteLemmas
 mod EndedLemmas
 mod Examples
 mod KeepLemmas
+mod ListLemmas
+mod ListingLemmas
+mod LooksLemmas
 mod OpeningLemmas
 mod PrintingLemmas
 mod ProgramLemmas

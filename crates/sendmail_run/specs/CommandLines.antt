@@ -1,9 +1,9 @@
 -- Command lines (Sendmail Installation and Operation Guide, "Command Line Flags"), as far as their
--- modes are built: `-bt` and `-bs`, with `-C file` or `-Cfile`.
+-- modes are built: `-bt`, `-bs` and `-bp`, with `-C file` or `-Cfile`.
 use Rattle.std.specs.Prelude.{◌≡◌, ◌≤◌, ℕ, List, [], ◌∷◌, ◌++◌, length, codes, Result, Ok, Err, ◌⊎◌}
 use Rattle.std.specs.List.{flat_map}
 use Rattle.sendmail_run.specs.declared.command_line.Job.{Job}
-use Rattle.sendmail_run.specs.declared.command_line.Job.TheVariants.{Test, Session}
+use Rattle.sendmail_run.specs.declared.command_line.Job.TheVariants.{Test, Session, List as Listing}
 use Rattle.sendmail_run.specs.declared.command_line.Mode.{Mode}
 use Rattle.sendmail_run.specs.declared.command_line.WordFault.{WordFault}
 use Rattle.sendmail_run.specs.declared.command_line.WordFault.TheVariants as faults
@@ -19,6 +19,7 @@ pub data Flag : Type 0 where
 abbrev pub word_of : Job → List ℕ
 word_of Test = codes "-bt"
 word_of Session = codes "-bs"
+word_of Listing = codes "-bp"
 
 -- the words of an option
 abbrev pub spelling : Flag → List (List ℕ)

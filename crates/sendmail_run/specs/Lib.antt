@@ -8,5 +8,6 @@ pub mod Serving
 pub mod Beginning
 pub mod MapFiles
 pub mod AliasFiles
+pub mod Listings
 pub mod Runs
 pub mod inner

@@ -13,6 +13,8 @@ use Rattle.sendmail_run.specs.declared.fault.MapsFault.{MapsFault}
 use Rattle.sendmail_run.specs.declared.fault.MapsFault.TheVariants as maps_faults
 use Rattle.sendmail_run.specs.declared.address_test.TestEnd.{TestEnd}
 use Rattle.sendmail_run.specs.declared.address_test.TestEnd.TheVariants as test_ends
+use Rattle.sendmail_run.specs.declared.list_mode.ListEnd.{ListEnd}
+use Rattle.sendmail_run.specs.declared.list_mode.ListEnd.TheVariants as list_ends
 use Rattle.sendmail_run.specs.declared.session_mode.SessionEnd.{SessionEnd}
 use Rattle.sendmail_run.specs.declared.session_mode.SessionEnd.TheVariants as session_ends
 use Rattle.sendmail_run.specs.declared.outcome.Outcome.{Outcome}
@@ -50,6 +52,13 @@ of_test test_ends.ReadFault = ReadFault
 of_test test_ends.WriteFault = WriteFault
 of_test test_ends.InputLarge = InputLarge
 of_test test_ends.NoMemory = NoMemory
+
+-- the end of the mode that lists the queue
+abbrev pub of_list : ListEnd → Outcome
+of_list list_ends.Done = Done
+of_list list_ends.WriteFault = WriteFault
+of_list list_ends.SpoolFault = SpoolFault
+of_list list_ends.NoMemory = NoMemory
 
 -- a turn that could not be served whole
 abbrev pub of_stop : CoreStop → Outcome

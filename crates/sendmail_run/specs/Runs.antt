@@ -5,24 +5,27 @@ use Rattle.mail_base.specs.declared.config.Config.{Config}
 use Rattle.mail_base.specs.Histories.{Rose}
 use Rattle.mail_edge.specs.Seen.{FileMap}
 use Rattle.map_tables.specs.Answers.{Loaded}
+use Rattle.queue_table.specs.Directories.{all_dirs, terms_of}
 use Rattle.sendmail_run.specs.declared.address_test.TestEnd.{TestEnd}
 use Rattle.sendmail_run.specs.declared.aliases.Names.{Names}
 use Rattle.sendmail_run.specs.declared.command_line.Job.{Job}
-use Rattle.sendmail_run.specs.declared.command_line.Job.TheVariants.{Test, Session}
+use Rattle.sendmail_run.specs.declared.command_line.Job.TheVariants.{Test, Session, List as Listing}
 use Rattle.sendmail_run.specs.declared.command_line.Mode.{Mode}
 use Rattle.sendmail_run.specs.declared.command_line.WordFault.{WordFault}
 use Rattle.sendmail_run.specs.declared.fault.AliasesFault.{AliasesFault}
 use Rattle.sendmail_run.specs.declared.fault.ConfigFault.{ConfigFault}
 use Rattle.sendmail_run.specs.declared.fault.MapsFault.{MapsFault}
+use Rattle.sendmail_run.specs.declared.list_mode.ListEnd.{ListEnd}
 use Rattle.sendmail_run.specs.declared.outcome.Outcome.{Outcome}
 use Rattle.sendmail_run.specs.declared.outcome.Outcome.TheVariants as ends
 use Rattle.sendmail_run.specs.declared.session_mode.SessionEnd.{SessionEnd}
 use Rattle.sendmail_run.specs.AliasFiles.{LoadsNames, first_fault}
 use Rattle.sendmail_run.specs.Beginning.{Begins, said_by}
 use Rattle.sendmail_run.specs.CommandLines.{Fails, IsCommandLine}
+use Rattle.sendmail_run.specs.Listings.{Lists}
 use Rattle.sendmail_run.specs.Devices.{Streams, World, core_of, streams_of}
 use Rattle.sendmail_run.specs.MapFiles.{Loads, first_missing}
-use Rattle.sendmail_run.specs.Outcomes.{of_aliases, of_config, of_maps, of_session, of_test, of_words}
+use Rattle.sendmail_run.specs.Outcomes.{of_aliases, of_config, of_list, of_maps, of_session, of_test, of_words}
 use Rattle.sendmail_run.specs.Printing.{basis}
 use Rattle.sendmail_run.specs.Rises.{Counts}
 use Rattle.sendmail_run.specs.Serving.{IsLeftAlone, Serves, grounds_of, judge_by, session_site}
@@ -59,18 +62,19 @@ pub record EndsAtFile (words : List (List ℕ)) (before after : World)
   pub begins : Begins mode.file before.files after.files (Err fault)
   pub untouched : IsUntouched before after
 
--- the words were taken, the file that they name is a configuration, and the files of its maps gave
--- none
-pub record EndsAtMaps (words : List (List ℕ)) (before after : World)
-    (outcome : Outcome) : Type 0 where
-  pub mode : Mode
-  pub said : IsCommandLine words mode
-  pub config : Config
-  pub begins : Begins mode.file before.files after.files (Ok config)
+-- the files of maps gave none, and nothing was taken, written or served
+pub record EndsAtMaps (config : Config) (before after : World) (outcome : Outcome) : Type 0 where
   pub fault : MapsFault
   pub told : outcome ≡ of_maps fault
   pub loads : Loads config before.files after.files (Err fault)
   pub untouched : IsUntouched before after
+
+-- the files of maps gave these, and with them the work was done
+pub record HasMaps (config : Config) (before after : World) (Work : Loaded → Type 0)
+    : Type 0 where
+  pub maps : Loaded
+  pub loads : Loads config before.files after.files (Ok maps)
+  pub work : Work maps
 
 -- address test mode did its work with these maps, and left floor, spool and clock alone
 pub record HasTested (config : Config) (maps : Loaded) (before after : World)
@@ -100,29 +104,38 @@ pub record HasServed (config : Config) (maps : Loaded) (before after : World)
       (session_site config maps) (core_of before) (core_of after) how
   pub idle : IsIdle (streams_of before) (streams_of after)
 
--- how the work of a mode ends
-abbrev pub Works : Job → Config → Loaded → World → World → Outcome → Type 0
-Works Test config maps before after outcome = HasTested config maps before after outcome
-Works Session config maps before after outcome =
-    EndsAtAliases config before after outcome ⊎ HasServed config maps before after outcome
+-- the queue was listed, and input, floor and clock left alone
+pub record HasListed (config : Config) (before after : World) (outcome : Outcome) : Type 0 where
+  pub how : ListEnd
+  pub told : outcome ≡ of_list how
+  pub lists : Lists (all_dirs (terms_of config)) before.spool after.spool before.output
+      after.output how
+  pub input : after.input ≡ before.input
+  pub floor : after.floor ≡ before.floor
+  pub clock : after.clock ≡ before.clock
 
--- the words were taken, the file that they name is a configuration, the files of its maps gave
--- them, and the mode's work was done
+-- how the work of a mode ends
+abbrev pub Works : Job → Config → World → World → Outcome → Type 0
+Works Test config before after outcome = EndsAtMaps config before after outcome
+    ⊎ HasMaps config before after (λ maps. HasTested config maps before after outcome)
+Works Session config before after outcome = EndsAtMaps config before after outcome
+    ⊎ HasMaps config before after (λ maps. EndsAtAliases config before after outcome
+    ⊎ HasServed config maps before after outcome)
+Works Listing config before after outcome = HasListed config before after outcome
+
+-- the words were taken, the file that they name is a configuration, and the mode's work was done
 pub record EndsAtWork (words : List (List ℕ)) (before after : World)
     (outcome : Outcome) : Type 0 where
   pub mode : Mode
   pub said : IsCommandLine words mode
   pub config : Config
   pub begins : Begins mode.file before.files after.files (Ok config)
-  pub maps : Loaded
-  pub loads : Loads config before.files after.files (Ok maps)
-  pub works : Works mode.job config maps before after outcome
+  pub works : Works mode.job config before after outcome
 
 -- a run ends at the first of its steps that refuses, or with its mode's work
 abbrev pub Ends : List (List ℕ) → World → World → Outcome → Type 0
 Ends words before after outcome = EndsAtWords words before after outcome
-    ⊎ EndsAtFile words before after outcome ⊎ EndsAtMaps words before after outcome
-    ⊎ EndsAtWork words before after outcome
+    ⊎ EndsAtFile words before after outcome ⊎ EndsAtWork words before after outcome
 
 -- ---- what stays
 
@@ -144,14 +157,17 @@ pub record IsShort (left : Option (List ℕ)) : Type 0 where
   pub told : left ≡ Some bytes
   pub few : length bytes < 2 ^ 32
 
--- what a mode wants, under a configuration over files: address test mode a short input, and session
--- mode that each alias file is taken, and any queue
+-- what a mode wants, under a configuration over files: address test mode that no file of its maps is
+-- missing, and a short input; session mode that none is missing and that each alias file is taken;
+-- and the listing nothing. Each takes any queue.
 abbrev pub Finds : Job → FileMap → Config → World → Type 0
-Finds Test map config before = IsShort before.input.left
-Finds Session map config before = first_fault map config.options.alias_files ≡ None
+Finds Test map config before = (first_missing map config ≡ None) × IsShort before.input.left
+Finds Session map config before =
+    (first_missing map config ≡ None) × (first_fault map config.options.alias_files ≡ None)
+Finds Listing map config before = Unit {0}
 
--- the words say this mode, they, the file and its lines are all taken, of files that are told, no
--- file of its maps is missing, and the mode finds what it wants
+-- the words say this mode, they, the file and its lines are all taken, of files that are told, and
+-- the mode finds what it wants
 pub record IsReady (words : List (List ℕ)) (before : World) (job : Job) : Type 0 where
   pub mode : Mode
   pub said : IsCommandLine words mode
@@ -160,7 +176,6 @@ pub record IsReady (words : List (List ℕ)) (before : World) (job : Job) : Type
   pub told : before.files.map ≡ Some map
   pub config : Config
   pub read : said_by map mode.file ≡ Some (Ok config)
-  pub all_there : first_missing map config ≡ None
   pub finds : Finds job map config before
 
 -- no device of a mode failed; a send may have
@@ -169,6 +184,8 @@ NoneFailed Test before after = ¬ (Rose before.input.faults after.input.faults)
     × ¬ (Rose before.output.faults after.output.faults)
 NoneFailed Session before after = ¬ (Rose before.floor.faults after.floor.faults)
     × ¬ (Rose before.spool.faults after.spool.faults)
+NoneFailed Listing before after = ¬ (Rose before.spool.faults after.spool.faults)
+    × ¬ (Rose before.output.faults after.output.faults)
 
 -- neither the files nor a device of the mode failed
 pub record IsSound (job : Job) (before after : World) : Type 0 where
@@ -181,6 +198,7 @@ abbrev pub IsWhole : Job → Outcome → Type 0
 IsWhole Test outcome = (outcome ≡ ends.Done) ⊎ (outcome ≡ ends.NoMemory)
 IsWhole Session outcome = (outcome ≡ ends.Done) ⊎ (outcome ≡ ends.NoMemory)
     ⊎ (outcome ≡ ends.IdsSpent) ⊎ (outcome ≡ ends.TurnsSpent (2 ^ 60))
+IsWhole Listing outcome = (outcome ≡ ends.Done) ⊎ (outcome ≡ ends.NoMemory)
 
 -- a run that is ready for its mode, and in which no device of it fails, does the mode's whole work
 abbrev pub Completes : List (List ℕ) → World → World → Outcome → Type 0

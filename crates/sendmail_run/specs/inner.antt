@@ -3,3 +3,4 @@ pub mod Taking
 pub mod Opened
 pub mod Words
 pub mod AliasLoading
+pub mod Listing

@@ -17,6 +17,8 @@ pub enum Job {
     Test,
     /// `-bs`: serves one SMTP session on standard input and output.
     Session,
+    /// `-bp`: prints the listing of the queue.
+    List,
 }
 
 /// What a command line says.
@@ -86,6 +88,7 @@ fn job_of(word: &[u8]) -> Option<Job>
     match word {
         b"-bt" => Some(Job::Test),
         b"-bs" => Some(Job::Session),
+        b"-bp" => Some(Job::List),
         _ => None,
     }
 }

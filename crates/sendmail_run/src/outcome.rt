@@ -4,6 +4,7 @@ ghost use Rattle.sendmail_run.specs.Outcomes as spec;
 use crate::address_test::TestEnd;
 use crate::command_line::WordFault;
 use crate::fault::{AliasesFault, ConfigFault, MapsFault};
+use crate::list_mode::ListEnd;
 use crate::session_mode::SessionEnd;
 use cf_reader::Fault;
 use mail_base::Text;
@@ -12,8 +13,8 @@ use mail_core::CoreStop;
 /// How a run ends.
 #[derive(Drop)]
 pub enum Outcome {
-    /// The input came to its end, or to the line `/quit`; or the floor told that nothing comes any
-    /// more.
+    /// The input came to its end, or to the line `/quit`; the listing was written; or the floor told
+    /// that nothing comes any more.
     Done,
     /// The words are refused at this place, counted from 0; a word that is missing stands at their
     /// number.
@@ -40,7 +41,8 @@ pub enum Outcome {
     /// So many turns of the floor were served, which are all that a run takes, and none of them
     /// ended it.
     TurnsSpent(u64),
-    /// A call of the spool failed: the queue could not be opened, or a message could not be kept.
+    /// A call of the spool failed: the queue could not be opened, a body of it could not be read, or
+    /// a message could not be kept.
     SpoolFault,
     /// A message came that needs an id above 999,999,999,999.
     IdsSpent,
@@ -124,6 +126,18 @@ impl Outcome {
             TestEnd::WriteFault => Outcome::WriteFault,
             TestEnd::InputLarge => Outcome::InputLarge,
             TestEnd::NoMemory => Outcome::NoMemory,
+        }
+    }
+
+    /// That of a run that lists the queue.
+    pub(crate) fn of_list(how: ListEnd) -> Outcome
+        ensures { result ≡ spec.of_list how }
+    {
+        match how {
+            ListEnd::Done => Outcome::Done,
+            ListEnd::WriteFault => Outcome::WriteFault,
+            ListEnd::SpoolFault => Outcome::SpoolFault,
+            ListEnd::NoMemory => Outcome::NoMemory,
         }
     }
 

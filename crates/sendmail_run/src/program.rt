@@ -12,6 +12,7 @@ use crate::address_test::address_test;
 use crate::aliases::load_names;
 use crate::command_line::{Job, words};
 use crate::fault::ConfigFault;
+use crate::list_mode::list_mode;
 use crate::maps::load_maps;
 use crate::outcome::Outcome;
 use crate::session_mode::session_mode;
@@ -19,16 +20,17 @@ use cf_reader::{CfFault, read};
 use link_edge::Floor;
 use mail_base::{Config, EdgeFault, Seq, Text};
 use mail_edge::{Clock, Files, Sink, Source};
-use map_tables::Maps;
 use spool_disk::Spool;
 use std::alloc::Global;
 
 /// The whole program, over its words without the program's name, and its devices.
 ///
 /// The steps are taken in this order, and the first refusal ends the run: the words, the
-/// configuration file, its lines, the files of maps in the order of K lines, the host table, and
-/// then in address test mode the lines of input, and in session mode the alias files with the lines
-/// of each, the file of homes and the steps of [`session_mode`].
+/// configuration file, its lines, and then the work of the mode. Address test mode and session mode
+/// read the files of maps in the order of K lines and the host table; the former then answers the
+/// lines of input, the latter reads the alias files with the lines of each and the file of homes,
+/// and takes the steps of [`session_mode`]. The listing of the queue reads no more files, and takes
+/// the steps of [`list_mode`].
 pub fn sendmail<F: Files, D: Spool, L: Floor, C: Clock, I: Source, O: Sink>(
     alloc: Global,
     arguments: &Seq<Text>,
@@ -97,21 +99,62 @@ fn run<F: Files, D: Spool, L: Floor, C: Clock, I: Source, O: Sink>(
         Ok(config) => config,
         Err(fault) => return Outcome::of_config(fault),
     };
-    let maps = match load_maps(alloc, &config, files) {
-        Ok(maps) => maps,
-        Err(fault) => return Outcome::of_maps(fault),
-    };
-    match mode.job {
-        Job::Test => Outcome::of_test(address_test(alloc, &mut config, &maps, input, output)),
-        Job::Session => session(alloc, &config, &maps, files, spool, floor, clock),
+    work(
+        alloc,
+        mode.job,
+        &mut config,
+        files,
+        spool,
+        floor,
+        clock,
+        input,
+        output,
+    )
+}
+
+// The work of a mode under its configuration, with the files that it reads before.
+fn work<F: Files, D: Spool, L: Floor, C: Clock, I: Source, O: Sink>(
+    alloc: Global,
+    job: Job,
+    config: &mut Config,
+    files: &mut F,
+    spool: &mut D,
+    floor: &mut L,
+    clock: &mut C,
+    input: &mut I,
+    output: &mut O,
+) -> Outcome
+    requires { (C.seen clock.old).readings ≤ 2 ^ 63 }
+    ensures works { Works job config.old
+        (world (F.seen files.old) (I.seen input.old) (O.seen output.old)
+        (L.seen floor.old) (D.seen spool.old) (C.seen clock.old))
+        (world (F.seen files.new) (I.seen input.new) (O.seen output.new)
+        (L.seen floor.new) (D.seen spool.new) (C.seen clock.new))
+        result }
+    ensures stays { Stays
+        (world (F.seen files.old) (I.seen input.old) (O.seen output.old)
+        (L.seen floor.old) (D.seen spool.old) (C.seen clock.old))
+        (world (F.seen files.new) (I.seen input.new) (O.seen output.new)
+        (L.seen floor.new) (D.seen spool.new) (C.seen clock.new))
+        result }
+{
+    match job {
+        Job::Test => {
+            let maps = match load_maps(alloc, config, files) {
+                Ok(maps) => maps,
+                Err(fault) => return Outcome::of_maps(fault),
+            };
+            Outcome::of_test(address_test(alloc, config, &maps, input, output))
+        }
+        Job::Session => session(alloc, config, files, spool, floor, clock),
+        Job::List => Outcome::of_list(list_mode(alloc, config, spool, output)),
     }
 }
 
-// Session mode, with the files of aliases and homes that it reads before it opens the queue.
+// Session mode, with the files of maps, aliases and homes that it reads before it opens the queue.
 fn session<F: Files, D: Spool, L: Floor, C: Clock>(
     alloc: Global,
     config: &Config,
-    maps: &Maps,
     files: &mut F,
     spool: &mut D,
     floor: &mut L,
@@ -119,7 +162,7 @@ fn session<F: Files, D: Spool, L: Floor, C: Clock>(
 ) -> Outcome
     requires { (C.seen clock.old).readings ≤ 2 ^ 63 }
     ensures works { (input : SourceSeen) (output : SinkSeen)
-        → Works Session config.now maps.now
+        → Works Session config.now
         (world (F.seen files.old) input output (L.seen floor.old) (D.seen spool.old)
         (C.seen clock.old))
         (world (F.seen files.new) input output (L.seen floor.new) (D.seen spool.new)
@@ -133,11 +176,15 @@ fn session<F: Files, D: Spool, L: Floor, C: Clock>(
         (C.seen clock.new))
         result }
 {
+    let maps = match load_maps(alloc, config, files) {
+        Ok(maps) => maps,
+        Err(fault) => return Outcome::of_maps(fault),
+    };
     let names = match load_names(alloc, config, files) {
         Ok(names) => names,
         Err(fault) => return Outcome::of_aliases(fault),
     };
-    Outcome::of_session(session_mode(alloc, config, maps, &names, files, spool, floor, clock))
+    Outcome::of_session(session_mode(alloc, config, &maps, &names, files, spool, floor, clock))
 }
 
 // The configuration that the file of that name gives.

@@ -5,7 +5,7 @@ use Rattle.std.specs.Prelude.{◌≡◌, ℕ, ◌+◌, List, [], ◌∷◌, leng
 use Rattle.std.specs.Option.{is_some, unwrap_or}
 use Rattle.std.specs.List.{starts_with}
 use Rattle.sendmail_run.specs.declared.command_line.Job.{Job}
-use Rattle.sendmail_run.specs.declared.command_line.Job.TheVariants.{Test, Session}
+use Rattle.sendmail_run.specs.declared.command_line.Job.TheVariants.{Test, Session, List as Listing}
 use Rattle.sendmail_run.specs.declared.command_line.Mode.{Mode}
 use Rattle.sendmail_run.specs.declared.command_line.Saying.{Saying}
 use Rattle.sendmail_run.specs.declared.command_line.WordFault.{WordFault}
@@ -17,6 +17,7 @@ abbrev pub job_said : List ℕ → Option Job
 job_said word =
     if bytes_eq word (word_of Test) then Some Test
     else if bytes_eq word (word_of Session) then Some Session
+    else if bytes_eq word (word_of Listing) then Some Listing
     else None
 
 abbrev pub whole : Option Job → Option (List ℕ) → ℕ → Result Mode ℕ

@@ -1,5 +1,5 @@
 use Rattle.sendmail_run.specs.Devices.{world}
-use Rattle.sendmail_run.proofs.ProgramLemmas.{completes}
+use Rattle.sendmail_run.proofs.CompleteLemmas.{completes}
 use Rattle.sendmail_run.proofs.program.sendmail.Goals as goal
 
 pub returns-clause-ends : goal.returns-clause-ends

@@ -1,0 +1,45 @@
+-- Each mode ends with its work.
+use Rattle.sendmail_run.specs.declared.command_line.Job.TheVariants.{Test, Session, List as Listing}
+use Rattle.sendmail_run.specs.declared.outcome.Outcome.TheVariants.{ReadFault, SpoolFault, WriteFault}
+use Rattle.sendmail_run.specs.Devices.{world}
+use Rattle.sendmail_run.specs.Outcomes.{of_list, of_test}
+use Rattle.sendmail_run.proofs.ProgramLemmas.{as_said, counts, stays_at_maps, stays_listed, stays_tested, works_listed, works_tested, works_untested}
+use Rattle.sendmail_run.proofs.program.work.Goals as goal
+
+pub returns-in-Err-clause-works : goal.returns-in-Err-clause-works
+returns-in-Err-clause-works g c =
+    as_said c.args.job Test c.args.config.now (world (g.F.Files.seen c.args.files.now) (g.I.Source.seen c.args.input.now) (g.O.Sink.seen c.args.output.now) (g.L.Floor.seen c.args.floor.now) (g.D.Spool.seen c.args.spool.now) (g.C.Clock.seen c.args.clock.now)) (world (g.F.Files.seen c.load_maps.new.files) (g.I.Source.seen c.args.input.now) (g.O.Sink.seen c.args.output.now) (g.L.Floor.seen c.args.floor.now) (g.D.Spool.seen c.args.spool.now) (g.C.Clock.seen c.args.clock.now)) c.of_maps.result c.in-Test.is (works_untested (g.F.Files.seen c.args.files.now) (g.F.Files.seen c.load_maps.new.files) (g.I.Source.seen c.args.input.now) (g.O.Sink.seen c.args.output.now) (g.L.Floor.seen c.args.floor.now) (g.D.Spool.seen c.args.spool.now) (g.C.Clock.seen c.args.clock.now)
+    c.args.config.now c.in-Err.fault c.of_maps.result c.of_maps.ensures c.in-Err.ensures.told c.in-Err.ensures.asks)
+
+pub returns-in-Err-clause-stays : goal.returns-in-Err-clause-stays
+returns-in-Err-clause-stays g c =
+    stays_at_maps (g.F.Files.seen c.args.files.now) (g.F.Files.seen c.load_maps.new.files) (g.I.Source.seen c.args.input.now) (g.O.Sink.seen c.args.output.now) (g.L.Floor.seen c.args.floor.now) (g.D.Spool.seen c.args.spool.now) (g.C.Clock.seen c.args.clock.now)
+    c.in-Err.fault c.of_maps.result c.of_maps.ensures c.in-Err.ensures.asks
+
+pub returns-in-Ok-clause-works : goal.returns-in-Ok-clause-works
+returns-in-Ok-clause-works g c =
+    as_said c.args.job Test c.args.config.now (world (g.F.Files.seen c.args.files.now) (g.I.Source.seen c.args.input.now) (g.O.Sink.seen c.args.output.now) (g.L.Floor.seen c.args.floor.now) (g.D.Spool.seen c.args.spool.now) (g.C.Clock.seen c.args.clock.now)) (world (g.F.Files.seen c.load_maps.new.files) (g.I.Source.seen c.address_test.new.input) (g.O.Sink.seen c.address_test.new.output) (g.L.Floor.seen c.args.floor.now) (g.D.Spool.seen c.args.spool.now) (g.C.Clock.seen c.args.clock.now)) c.of_test.result c.in-Test.is (works_tested (g.F.Files.seen c.args.files.now) (g.F.Files.seen c.load_maps.new.files) (g.I.Source.seen c.args.input.now) (g.I.Source.seen c.address_test.new.input) (g.O.Sink.seen c.args.output.now) (g.O.Sink.seen c.address_test.new.output) (g.L.Floor.seen c.args.floor.now) (g.D.Spool.seen c.args.spool.now) (g.C.Clock.seen c.args.clock.now)
+    c.args.config.now c.in-Ok.maps c.address_test.result c.of_test.result c.of_test.ensures c.in-Ok.ensures.told c.address_test.ensures.tests)
+
+pub returns-in-Ok-clause-stays : goal.returns-in-Ok-clause-stays
+returns-in-Ok-clause-stays g c =
+    stays_tested (g.F.Files.seen c.args.files.now) (g.F.Files.seen c.load_maps.new.files) (g.I.Source.seen c.args.input.now) (g.I.Source.seen c.address_test.new.input) (g.O.Sink.seen c.args.output.now) (g.O.Sink.seen c.address_test.new.output) (g.L.Floor.seen c.args.floor.now) (g.D.Spool.seen c.args.spool.now) (g.C.Clock.seen c.args.clock.now) c.of_test.result c.in-Ok.ensures.asks
+    (counts ReadFault c.of_test.result (of_test c.address_test.result) (g.I.Source.seen c.args.input.now).faults (g.I.Source.seen c.address_test.new.input).faults c.of_test.ensures c.address_test.ensures.input c.address_test.ensures.read)
+    (counts WriteFault c.of_test.result (of_test c.address_test.result) (g.O.Sink.seen c.args.output.now).faults (g.O.Sink.seen c.address_test.new.output).faults c.of_test.ensures c.address_test.ensures.output c.address_test.ensures.written)
+
+pub returns-in-Session-clause-works : goal.returns-in-Session-clause-works
+returns-in-Session-clause-works g c =
+    as_said c.args.job Session c.args.config.now (world (g.F.Files.seen c.args.files.now) (g.I.Source.seen c.args.input.now) (g.O.Sink.seen c.args.output.now) (g.L.Floor.seen c.args.floor.now) (g.D.Spool.seen c.args.spool.now) (g.C.Clock.seen c.args.clock.now)) (world (g.F.Files.seen c.session.new.files) (g.I.Source.seen c.args.input.now) (g.O.Sink.seen c.args.output.now) (g.L.Floor.seen c.session.new.floor) (g.D.Spool.seen c.session.new.spool) (g.C.Clock.seen c.session.new.clock)) c.session.result c.in-Session.is (c.session.ensures.works (g.I.Source.seen c.args.input.now) (g.O.Sink.seen c.args.output.now))
+
+pub returns-in-Session-clause-stays : goal.returns-in-Session-clause-stays
+returns-in-Session-clause-stays g c = c.session.ensures.stays (g.I.Source.seen c.args.input.now) (g.O.Sink.seen c.args.output.now)
+
+pub returns-in-List-clause-works : goal.returns-in-List-clause-works
+returns-in-List-clause-works g c =
+    as_said c.args.job Listing c.args.config.now (world (g.F.Files.seen c.args.files.now) (g.I.Source.seen c.args.input.now) (g.O.Sink.seen c.args.output.now) (g.L.Floor.seen c.args.floor.now) (g.D.Spool.seen c.args.spool.now) (g.C.Clock.seen c.args.clock.now)) (world (g.F.Files.seen c.args.files.now) (g.I.Source.seen c.args.input.now) (g.O.Sink.seen c.list_mode.new.output) (g.L.Floor.seen c.args.floor.now) (g.D.Spool.seen c.list_mode.new.spool) (g.C.Clock.seen c.args.clock.now)) c.of_list.result c.in-List.is (works_listed (g.F.Files.seen c.args.files.now) (g.I.Source.seen c.args.input.now) (g.O.Sink.seen c.args.output.now) (g.O.Sink.seen c.list_mode.new.output) (g.L.Floor.seen c.args.floor.now) (g.D.Spool.seen c.args.spool.now) (g.D.Spool.seen c.list_mode.new.spool) (g.C.Clock.seen c.args.clock.now) c.args.config.now c.list_mode.result c.of_list.result c.of_list.ensures c.list_mode.ensures.lists)
+
+pub returns-in-List-clause-stays : goal.returns-in-List-clause-stays
+returns-in-List-clause-stays g c =
+    stays_listed (g.F.Files.seen c.args.files.now) (g.I.Source.seen c.args.input.now) (g.O.Sink.seen c.args.output.now) (g.O.Sink.seen c.list_mode.new.output) (g.L.Floor.seen c.args.floor.now) (g.D.Spool.seen c.args.spool.now) (g.D.Spool.seen c.list_mode.new.spool) (g.C.Clock.seen c.args.clock.now) c.of_list.result
+    (counts WriteFault c.of_list.result (of_list c.list_mode.result) (g.O.Sink.seen c.args.output.now).faults (g.O.Sink.seen c.list_mode.new.output).faults c.of_list.ensures c.list_mode.ensures.output c.list_mode.ensures.written)
+    (counts SpoolFault c.of_list.result (of_list c.list_mode.result) (g.D.Spool.seen c.args.spool.now).faults (g.D.Spool.seen c.list_mode.new.spool).faults c.of_list.ensures c.list_mode.ensures.spool c.list_mode.ensures.opened)
