@@ -3,8 +3,9 @@
 # its example, each such run must end with status 71 and no answer, or with the whole answer, where a list that is
 # collected asked for room by a hint and then asks for less, or one stays that could be smaller; and the first that lacks nothing with the answer. In
 # session mode, on one message, each must end so with nothing in the queue, or with status 0, replies that are in
-# place and, where the message got its 250, the message whole in the queue. It fails otherwise. Build the program
-# first, by `make run`. This is no part of the gate.
+# place and, where the message got its 250, the message whole in the queue. A listing of that queue must end with status
+# 71 and no word, or with the whole listing. It fails otherwise. Build the program first, by `make run`. This is no part
+# of the gate.
 set -euo pipefail
 . "$(dirname "$0")/session.sh"
 cd data
@@ -41,6 +42,7 @@ cc -shared -fPIC -O1 -o "$work/fail.so" "$work/fail.c" -ldl
 # Runs the program in a mode with its allocation of that number failing. It ends with status 1 where there is none.
 run() {
     rm -f "$work/failed" /var/spool/mqueue/*
+    [ ! -d "$work/queue" ] || cp "$work/queue/"* /var/spool/mqueue/
     status=0
     FAIL_AT=$1 FAIL_MARK=$work/failed LD_PRELOAD="$work/fail.so" "$program" "$2" "$3" \
         < "$work/asked" > "$work/answers" 2> "$work/errors" || status=$?
@@ -92,3 +94,14 @@ while run "$at" -bs "-C$work/local.cf"; do
 done
 cmp "$work/answers" "$work/whole"
 echo "-bs: $((at - 1)) allocations, each failed in turn, with status 71 and no word, or status 0 and replies in place"
+
+cp -r /var/spool/mqueue "$work/queue"
+printf '%s\n' 'w000000000001 mqueue 7 30022 <bob@c.example>' '  Q <ann@mx.example>' 'Total requests: 1' > "$work/listing"
+at=1
+while run "$at" -bp "-C$work/local.cf"; do
+    is_silent || { [ "$status" = 0 ] && cmp -s "$work/answers" "$work/listing"; } ||
+        { echo "-bp, allocation $at: status $status"; cat "$work/answers"; exit 1; }
+    at=$((at + 1))
+done
+cmp "$work/answers" "$work/listing"
+echo "-bp: $((at - 1)) allocations, each failed in turn, with status 71 and no word, or the whole listing"

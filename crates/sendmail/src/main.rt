@@ -1,6 +1,8 @@
 //! `sendmail`: the real devices around the proved program.
 #![tactic(auto)]
 
+ghost use Rattle.std.specs.Prelude.{◌<◌, ◌^◌, length};
+
 // The tests of the devices stand here, since no other crate can import a program.
 
 mod clock;
@@ -21,10 +23,13 @@ mod port;
 mod queue_dirs;
 #[cfg(test)]
 mod queue_tests;
+mod queue_view;
 mod standard;
 mod stream;
 #[cfg(test)]
 mod tests;
+#[cfg(test)]
+mod view_tests;
 mod waiting;
 #[cfg(test)]
 mod whole_tests;
@@ -36,19 +41,22 @@ use crate::floor::SystemFloor;
 use crate::limits::LIMITS;
 use crate::notice::tell;
 use crate::queue_dirs::QueueDirs;
+use crate::queue_view::QueueView;
 use crate::standard::Wires;
 use crate::stream::{InputStream, OutputStream};
 use crate::words::{Asked, read_words};
 use mail_base::{Seq, Text};
-use sendmail_run::{Outcome, sendmail};
+use sendmail_run::{Job, Outcome, sendmail};
+use spool_disk::Spool;
 use std::io::Write;
 use std::process::ExitCode;
 
-const HELP: &[u8] = b"usage: sendmail -bt|-bs [-C file]
+const HELP: &[u8] = b"usage: sendmail -bt|-bs|-bp [-C file]
        sendmail --help|--version
 
   -bt      address test mode: answers each line of standard input
   -bs      serves one SMTP session on standard input and output
+  -bp      prints what is in the queue
   -C file  reads this configuration instead of /etc/mail/sendmail.cf
 
 In address test mode a line of input is the name of a ruleset, or more of them
@@ -57,6 +65,7 @@ with commas, and an address, or a command; the line /quit ends.
 The messages of -bs are put into the directory of the queue group mqueue, which
 is that of QueueDirectory, by default /var/spool/mqueue. Those of all groups
 must be there; mail that is in them stays, and ids go on behind the greatest.
+-bp changes nothing in them, and may run beside a process that serves them.
 
 The exit status is 0 when the work is done. Each other end has a line on
 standard error:
@@ -89,13 +98,33 @@ fn run(rt: &HostRuntime, words: &Seq<Text>) -> Outcome {
     if words.len() > MOST_WORDS {
         return Outcome::Usage(u32::MAX);
     }
+    if is_listing(rt, words) {
+        run_over(rt, words, &mut QueueView::new(rt.alloc(), b""))
+    } else {
+        run_over(rt, words, &mut QueueDirs::new(rt.alloc(), b""))
+    }
+}
+
+// Whether the words ask for the listing of the queue.
+fn is_listing(rt: &HostRuntime, words: &Seq<Text>) -> bool
+    requires { length words.now < 2 ^ 32 }
+{
+    match sendmail_run::words(rt.alloc(), words) {
+        Ok(mode) => mode.job == Job::List,
+        Err(_) => false,
+    }
+}
+
+fn run_over<D: Spool>(rt: &HostRuntime, words: &Seq<Text>, spool: &mut D) -> Outcome
+    requires { length words.now < 2 ^ 32 }
+{
     let wires = Wires::of(&rt.stdin(), &rt.stdout());
     let mut floor = SystemFloor::new(*rt, rt.stdin(), rt.stdout(), Some(wires), LIMITS, None);
     let outcome = sendmail(
         rt.alloc(),
         words,
         &mut DiskFiles::new(rt),
-        &mut QueueDirs::new(rt.alloc(), b""),
+        spool,
         &mut floor,
         &mut SystemClock::new(*rt),
         &mut InputStream::new(rt.stdin()),

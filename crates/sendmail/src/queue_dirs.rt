@@ -1,9 +1,8 @@
 // Queue directories on a disk. They tell nothing but how often they failed.
-ghost use Rattle.std.specs.Prelude.{◌≡◌, IfOk, None, false};
-ghost use Rattle.mail_base.specs.Causes.{HasEdgeCause, has_failed};
+ghost use Rattle.std.specs.Prelude.{◌≡◌, IfOk, None};
 ghost use Rattle.spool_disk.specs.Listings.{IsAscending};
 
-use crate::counting::counted;
+use crate::counting::{counted, counted_edge};
 use crate::descriptor::Descriptor;
 use crate::directory::names_in;
 use crate::path::{Path, dir_path, path_of};
@@ -52,22 +51,6 @@ impl<'a> QueueDirs<'a> {
     #[cfg(test)]
     pub fn faults(&self) -> u64 {
         self.faults
-    }
-
-    // Counts a fault where a call that gives memory failed.
-    fn counted<T: Drop>(&mut self, answer: Result<T, EdgeFault>) -> Result<T, EdgeFault>
-        ensures same { result ≡ answer }
-        ensures cause { HasEdgeCause self.old.faults self.new.faults result }
-        ensures calm { has_failed result ≡ false → self.new.faults ≡ self.old.faults }
-    {
-        match answer {
-            Ok(value) => Ok(value),
-            Err(EdgeFault::NoMemory) => Err(EdgeFault::NoMemory),
-            Err(EdgeFault::Failed) => {
-                self.faults = self.faults.saturating_add(1);
-                Err(EdgeFault::Failed)
-            }
-        }
     }
 
     // The place of a directory among those that are held.
@@ -155,12 +138,12 @@ impl Spool for QueueDirs<'_> {
 
     fn list(&mut self, alloc: Global, dir: &Text) -> Result<Seq<Text>, EdgeFault> {
         let names = self.listed(alloc, dir);
-        self.counted(names)
+        counted_edge(&mut self.faults, names)
     }
 
     fn read(&mut self, alloc: Global, dir: &Text, name: &Text) -> Result<Option<Text>, EdgeFault> {
         let bytes = self.found(alloc, dir, name);
-        self.counted(bytes)
+        counted_edge(&mut self.faults, bytes)
     }
 
     fn write_new(&mut self, dir: &Text, name: &Text, bytes: &Text) -> Result<(), Failed> {
@@ -195,8 +178,8 @@ fn locked(prefix: &[u8], dir: &Text) -> Result<Held, EdgeFault> {
     })
 }
 
-// The bytes of a file, or `None` where it isn't there.
-fn read_file(alloc: Global, path: &Path) -> Result<Option<Text>, EdgeFault> {
+/// The bytes of a file, or `None` where it isn't there.
+pub fn read_file(alloc: Global, path: &Path) -> Result<Option<Text>, EdgeFault> {
     match Descriptor::to_read(path)? {
         Some(file) => Ok(Some(read_whole(alloc, &file)?)),
         None => Ok(None),

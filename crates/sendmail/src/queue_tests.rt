@@ -11,7 +11,7 @@ use std::{fs, io};
 
 /// What is asked of a spool, and what it has to answer.
 #[derive(Clone, Copy)]
-enum Step {
+pub enum Step {
     /// A file is written with these bytes.
     Writes(&'static [u8], &'static [u8]),
     /// A file gets another name.
@@ -31,12 +31,12 @@ enum Step {
 }
 
 /// The answer of a spool to a step: whether it is so, or a fault.
-type Answer = Result<bool, EdgeFault>;
+pub type Answer = Result<bool, EdgeFault>;
 
 const FAULT: Answer = Err(EdgeFault::Failed);
 
-// The place of the first step that isn't answered so, if there is one.
-fn wrong_step(
+/// The place of the first step that isn't answered so, if there is one.
+pub fn wrong_step(
     rt: &HostRuntime,
     spool: &mut QueueDirs<'_>,
     steps: &[Step],
@@ -111,8 +111,8 @@ fn lists(spool: &mut QueueDirs<'_>, wanted: &[u8]) -> Answer {
     Ok(are_names(names.items(), wanted))
 }
 
-// Whether these are the names, each with a blank behind it.
-fn are_names(names: &[Text], wanted: &[u8]) -> bool {
+/// Whether these are the names, each with a blank behind it.
+pub fn are_names(names: &[Text], wanted: &[u8]) -> bool {
     let mut rest = wanted;
     for name in names {
         match rest.strip_prefix(name.bytes()) {

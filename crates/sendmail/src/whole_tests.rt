@@ -7,6 +7,7 @@ use crate::floor::SystemFloor;
 use crate::limits::LIMITS;
 use crate::queue_dirs::QueueDirs;
 use crate::queue_tests::make_empty;
+use crate::queue_view::QueueView;
 use crate::standard::Wires;
 use crate::stream::{InputStream, OutputStream};
 use mail_base::{NoMemory, Seq, Text};
@@ -42,6 +43,10 @@ const REPLIES: &[u8] = b"220 localhost ESMTP ready\r\n\
     250 2.0.0 w000000000001 Message accepted for delivery\r\n\
     221 2.0.0 localhost closing connection\r\n";
 
+const LISTING: &[u8] = b"w000000000001 mqueue 7 30022 <bob@c.example>\n\
+    \x20 Q <ann@mx.example>\n\
+    Total requests: 1\n";
+
 /// The control text before the moment of the message, and behind it.
 const BEFORE: &[u8] = b"V1\nv1\ngmqueue\nT";
 
@@ -62,12 +67,12 @@ fn make_site(rt: &HostRuntime) -> io::Result<()> {
     fs::write(rt, "/tmp/sendmail-whole/sendmail.cf", CONFIG)
 }
 
-// The command line.
-fn words(rt: &HostRuntime) -> Result<Seq<Text>, NoMemory>
+// The command line of a mode.
+fn words(rt: &HostRuntime, mode: &[u8]) -> Result<Seq<Text>, NoMemory>
     ensures { IfOk result (λ words. length words < 2 ^ 32) }
 {
     let mut words = Seq::new(rt.alloc());
-    words.push(Text::of(rt.alloc(), b"-bs")?)?;
+    words.push(Text::of(rt.alloc(), mode)?)?;
     words.push(Text::of(rt.alloc(), b"-C/tmp/sendmail-whole/sendmail.cf")?)?;
     Ok(words)
 }
@@ -78,7 +83,7 @@ fn serve(rt: &HostRuntime, reader: PipeReader, writer: PipeWriter) -> Result<u8,
     let mut floor = SystemFloor::new(*rt, reader, writer, Some(wires), LIMITS, None);
     let outcome = sendmail(
         rt.alloc(),
-        &words(rt)?,
+        &words(rt, b"-bs")?,
         &mut DiskFiles::new(rt),
         &mut QueueDirs::new(rt.alloc(), ROOT.as_bytes()),
         &mut floor,
@@ -97,6 +102,30 @@ fn converse(rt: &HostRuntime, asked: &[u8], wanted: &[u8]) -> Result<(u8, bool),
     far_writer.write_all(asked)?;
     drop(far_writer);
     let status = serve(rt, reader, writer)?;
+    Ok((status, is_rest(rt, &mut far_reader, wanted)?))
+}
+
+// Lists the queue to a pipe, and gives the run's status.
+fn list(rt: &HostRuntime, writer: PipeWriter) -> Result<u8, NoMemory> {
+    let nobody = Vec::new(rt.alloc());
+    let mut floor = SystemFloor::new(*rt, b"".as_slice(), nobody, None, LIMITS, None);
+    let outcome = sendmail(
+        rt.alloc(),
+        &words(rt, b"-bp")?,
+        &mut DiskFiles::new(rt),
+        &mut QueueView::new(rt.alloc(), ROOT.as_bytes()),
+        &mut floor,
+        &mut SystemClock::new(*rt),
+        &mut InputStream::new(b"".as_slice()),
+        &mut OutputStream::new(writer),
+    );
+    Ok(outcome.status())
+}
+
+// How a listing of the queue ends, and whether it is this.
+fn shown(rt: &HostRuntime, wanted: &[u8]) -> Result<(u8, bool), Fail> {
+    let (mut far_reader, writer) = io::pipe(rt)?;
+    let status = list(rt, writer)?;
     Ok((status, is_rest(rt, &mut far_reader, wanted)?))
 }
 
@@ -135,11 +164,13 @@ fn is_kept(rt: &HostRuntime, since: u64, until: u64) -> io::Result<bool> {
 }
 
 #[test]
-fn a_message_is_in_the_queue_on_the_disk(rt: HostRuntime) -> Result<(), Fail> {
+fn a_message_is_in_the_queue_on_the_disk_and_is_listed(rt: HostRuntime) -> Result<(), Fail> {
     make_site(&rt)?;
     let mut clock = SystemClock::new(rt);
     let since = clock.now();
     assert_eq!(rt; converse(&rt, ASKED, REPLIES)?, (0, true));
+    assert!(rt; is_kept(&rt, since, clock.now())?);
+    assert_eq!(rt; shown(&rt, LISTING)?, (0, true));
     assert!(rt; is_kept(&rt, since, clock.now())?);
     fs::remove_dir_all(&rt, ROOT)?;
     Ok(())
