@@ -18,6 +18,10 @@ session=$!
     done
     printf 'QUIT\r\n'
 } > "$work/said" &
+for _ in $(seq 100); do
+    [ -s "$work/replies" ] && break
+    sleep 0.05
+done
 
 # Lists the queue, and says how many entries are shown.
 list() {

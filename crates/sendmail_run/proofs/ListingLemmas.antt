@@ -1,9 +1,9 @@
 -- The listing that code makes is that of the table which the files stand for.
-use Rattle.std.proofs.Common.{Bor, ◌≡◌, ◌⊎◌, inl, inr, ⊎_elim, ℕ, ℤ, ◌<ℤ◌, ◌<◌, ◌≤◌, List, [], ◌∷◌, ◌++◌, ◌+◌, length, map, take, filter, Bool, true, false, not, cond, ◌||◌, Option, Some, None, Result, Ok, Err, refl, sym, ◌∙◌, ap, subst, arith, Less, Equal, Greater}
-use Rattle.std.specs.Prelude.{IfOk, IfSome, All, Contains, ◌&&◌}
+use Rattle.std.proofs.Common.{Bor, ◌≡◌, ◌⊎◌, inl, inr, ℕ, ℤ, ◌<ℤ◌, ◌<◌, List, [], ◌∷◌, ◌++◌, ◌+◌, length, map, take, filter, Bool, true, false, not, cond, ◌||◌, Some, refl, sym, ◌∙◌, ap, subst, arith, Less, Equal, Greater}
+use Rattle.std.specs.Prelude.{All, Contains, ◌&&◌}
 use Rattle.std.specs.List.{AllPairs, AllZip, flat_map, slice_index_or, list_all, list_any}
 use Rattle.std.specs.List.Sorted.{IsPermutation, IsSortedBy}
-use Rattle.std.specs.Ordering.{MatchOrdering, int_cmp, is_lt, nat_cmp, ordering_then, on}
+use Rattle.std.specs.Ordering.{MatchOrdering, int_cmp, is_lt, nat_cmp, ordering_then}
 use Rattle.std.specs.declared.cmp.Ordering.{Ordering}
 use Rattle.std.specs.Cmp.{IsTotalOrder, int_cmp_total, nat_cmp_total, on_total, then_total}
 use Rattle.std.proofs.lemmas.Cmp.{int_ranked, ranked}
@@ -13,7 +13,7 @@ use Rattle.std.proofs.lemmas.List.{append-nil, append_assoc, get_or-map, length-
 use Rattle.std.proofs.lemmas.List.Elements.{All-contains, All-contains_itself, All-filter}
 use Rattle.std.proofs.lemmas.List.Sorted.{All-permutation, IsPermutation-map, ranks_by, sorted_far}
 use Rattle.mail_base.specs.Names.{name_of}
-use Rattle.mail_base.specs.States.{NeedsBody, is_dead, is_finished, is_open as row_open, needs_body}
+use Rattle.mail_base.specs.States.{is_dead, is_finished, is_open as row_open}
 use Rattle.mail_base.specs.declared.control.Control.{Control}
 use Rattle.mail_base.specs.declared.control.Row.{Row}
 use Rattle.mail_base.specs.declared.control.Stray.{Stray}
@@ -26,7 +26,6 @@ use Rattle.spool_store.specs.Settled.{HasFiles, StandsFor}
 use Rattle.spool_store.specs.Stores.{IsHeld}
 use Rattle.spool_store.specs.declared.held.Held.{Held}
 use Rattle.spool_store.proofs.Standing.{contains_head, contains_tail}
-use Rattle.queue_table.specs.Order.{IsBefore}
 use Rattle.sendmail_run.specs.Listings.{IsListing, MayFollow, entry_lines, is_listed, path_of, strange_line, total_line}
 use Rattle.sendmail_run.specs.inner.Listing.{GoesOn, held_lines, is_open, stored_by}
 

@@ -22,7 +22,6 @@ use Rattle.spool_store.specs.Tidying.{IsTidied, IsTidiedAt, IsTidiedBody}
 use Rattle.spool_store.specs.declared.held.Held.{Held}
 use Rattle.spool_store.specs.declared.queue.Queue.{Queue}
 use Rattle.spool_store.proofs.MovesLemmas.{moves_none}
-use Rattle.queue_table.specs.Calls.{Tallies}
 use Rattle.queue_table.specs.Directories.{all_dirs, terms_of}
 use Rattle.queue_table.specs.declared.table.Table.{Table as Kept}
 use Rattle.queue_table.specs.declared.terms.Terms.{Terms}

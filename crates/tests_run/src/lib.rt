@@ -22,6 +22,8 @@ mod names;
 #[cfg(test)]
 mod plans;
 #[cfg(test)]
+mod queued;
+#[cfg(test)]
 mod returns;
 #[cfg(test)]
 mod rows;

@@ -196,6 +196,7 @@ fn words_say_a_mode_and_a_file(rt: HostRuntime) -> Result<(), Fail> {
         (b"-bs", Job::Session, DEFAULT_FILE),
         (b"-bs -Cx", Job::Session, b"x"),
         (b"-C -bt -bs", Job::Session, b"-bt"),
+        (b"-bp", Job::List, DEFAULT_FILE),
     ] {
         let mode = said(rt.alloc(), line)?;
         assert_eq!(rt; mode.job, job);

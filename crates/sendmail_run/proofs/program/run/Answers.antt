@@ -1,4 +1,3 @@
-use Rattle.std.specs.Prelude.{Err}
 use Rattle.sendmail_run.specs.declared.outcome.Outcome.TheVariants.{FilesFault}
 use Rattle.sendmail_run.specs.Outcomes.{of_config}
 use Rattle.sendmail_run.proofs.ProgramLemmas.{counts, ends_at_words, ends_at_file, ends_at_work, stays_at_words, stays_at_file, stays_at_work}

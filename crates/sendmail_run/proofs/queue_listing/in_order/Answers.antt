@@ -1,10 +1,9 @@
 -- They are sorted by their priorities and ids.
-use Rattle.std.proofs.Common.{◌≡◌, rules, List, ℕ, ℤ, subst, filter, map}
+use Rattle.std.proofs.Common.{◌≡◌, rules, List, subst, map}
 use Rattle.std.specs.List.Sorted.{IsPermutation}
 use Rattle.std.proofs.lemmas.Fn.{always_returns_same}
 use Rattle.std.proofs.lemmas.List.Sorted.{IsPermutation-map}
 use Rattle.spool_store.specs.declared.held.Held.{Held}
-use Rattle.sendmail_run.specs.inner.Listing.{is_open}
 use Rattle.sendmail_run.proofs.ListingLemmas.{at_now, goes_on, key_of}
 use Rattle.sendmail_run.proofs.queue_listing.in_order.Goals as goal
 

@@ -1,5 +1,5 @@
 -- What is shown is the listing of each table that the files stand for.
-use Rattle.std.proofs.Common.{Bor, All, Contains, ◌≡◌, ◌∙◌, List, ℕ, map, sym, ap, subst, arith}
+use Rattle.std.proofs.Common.{Bor, All, Contains, ◌∙◌, List, map, sym, ap, subst, arith}
 use Rattle.std.specs.List.{AllZip}
 use Rattle.std.proofs.lemmas.List.{length-map}
 use Rattle.mail_base.specs.declared.control.Stray.{Stray}
