@@ -143,8 +143,9 @@ impl Waiting {
         }
     }
 
-    // Whether nobody holds an entry, and its lane has room.
-    fn is_free(&self, held: &Held) -> bool
+    /// Whether nobody holds an entry, and its group has a place for another holder: what a run over
+    /// a list may claim, whatever the time. It takes no memory.
+    pub fn is_free(&self, held: &Held) -> bool
         ensures { result ≡ is_free self.now held.now }
     {
         if is_held(self.holders.items(), held.entry.id) {
