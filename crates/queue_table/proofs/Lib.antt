@@ -4,7 +4,7 @@ mod PlanLemmas
 mod OrderLemmas
 mod PriorityLemmas
 mod EntryLemmas
-mod GoingLemmas
+pub mod GoingLemmas
 pub mod SoundLemmas
 pub mod StayLemmas
 pub mod LowLemmas
