@@ -31,6 +31,7 @@ use Rattle.queue_run.specs.Meant.{Ground}
 use Rattle.queue_run.specs.Ready.{IsAttempt, IsReady, IsUntried}
 use Rattle.queue_run.specs.Steps.{By, Closes, LetsGo, frees}
 use Rattle.queue_run.specs.Working.{Bench, HasChild, IsWhole, KeepsOthersReady, Steps, bench, kind_in}
+use Rattle.queue_run.proofs.OwnLemmas.{own_same}
 use Rattle.queue_run.proofs.ReadyLemmas.{at_rest_running}
 use Rattle.queue_run.proofs.SettleLemmas.{rests}
 use Rattle.queue_run.proofs.StepLemmas.{reads_itself, steps_of, stepped_kind, whole_stays, worked_quiet}
@@ -90,6 +91,7 @@ module _ (G : Ground) (T : Table) (old new : Kept) (before : Runner) (s s' : Spo
         others = λ other ne r. r;
         child = at_rest_running before.running (λ (run : Running). IsRunningAt sp run.child) (rests G T before Leaves kind tt);
         children = λ other ne runs. runs;
+        own = own_same sp before;
       })
       refl refl refl
 
@@ -128,6 +130,7 @@ module _ (G : Ground) (T : Table) (old new : Kept) (before : Runner) (s s' : Spo
         others = λ other ne r. ready_finishes old new before.id other entries r;
         child = at_rest_running before.running (λ (run : Running). IsRunningAt sp run.child) (rests G T before Finishes kind tt);
         children = λ other ne runs. runs;
+        own = own_same sp before;
       })
       calm refl refl
   exit_finishes (Err cause) kind holds whole moves frame later calm rose held agrees stays same entries ok err =

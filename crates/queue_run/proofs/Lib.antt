@@ -1,9 +1,10 @@
-mod ClaimLemmas
+pub mod ClaimLemmas
 mod SplitLemmas
-mod ReadyLemmas
+pub mod ReadyLemmas
 mod StepLemmas
 mod PutLemmas
 mod WaitLemmas
+mod OwnLemmas
 mod SettleLemmas
 mod LetterLemmas
 mod AskingLemmas

@@ -39,6 +39,7 @@ use Rattle.queue_run.specs.Working.{HasDialerCause, HasSpawnerCause, IsRead, IsW
 use Rattle.queue_run.specs.inner.Handed.{stop_of}
 use Rattle.queue_run.specs.inner.Puts.{Put}
 use Rattle.queue_run.proofs.FinishLemmas.{rose_of}
+use Rattle.queue_run.proofs.OwnLemmas.{own_rest}
 use Rattle.queue_run.proofs.ReadyLemmas.{at_rest_running}
 use Rattle.queue_run.proofs.SettleLemmas.{exit_memory}
 use Rattle.queue_run.proofs.LetterLemmas.{found}
@@ -143,6 +144,7 @@ module _ (G : Ground) (T : Table) (old new : Kept) (before : Runner) (s m s' : S
       (Rattle.queue_run.proofs.WaitLemmas.on_ok r (HoldsTable new (after T c)) (IsReady new before) (λ h. ready_at_rest new (after T c) before h x.stays x.rest x.running) held)
       (at_rest_running before.running (λ (run : Running). IsRunningAt sp run.child) x.running)
       (λ other ne runs. runs)
+      (own_rest sp before before x.running)
       (λ h e. e)
 
   spent : Sending → lacks_ids T backs ≡ true → s' ≡ m → Steps G T old new before before (bench s sp d) (bench s' sp d) (Err stop.IdsSpent)

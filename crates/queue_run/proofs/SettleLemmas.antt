@@ -38,6 +38,7 @@ use Rattle.queue_run.specs.Steps.{By, Luck, Records, acted, asks, halts, record_
 use Rattle.queue_run.specs.Working.{Bench, HasDialerCause, HasSpawnerCause, IsRead, IsWhole, KeepsChildren, Steps, bench, kind_in, stepped_on}
 use Rattle.queue_run.specs.inner.Puts.{IsPutAs, IsPutOrNot, Put}
 use Rattle.queue_run.proofs.PutLemmas.{turned}
+use Rattle.queue_run.proofs.OwnLemmas.{own_rest}
 use Rattle.queue_run.proofs.ReadyLemmas.{at_rest_running, ready_recorded}
 use Rattle.queue_run.proofs.StepLemmas.{Others, reads_itself, steps_asked, steps_early, stepped_kind}
 use Rattle.queue_run.proofs.WaitLemmas.{gains_none, on_ok}
@@ -107,6 +108,7 @@ module _ (G : Ground) (T : Table) (old new : Kept) (before now : Runner) (a b : 
       (All-tail (IsUntried ready.held.entry.control.rows) batch (reverse now.rest.items) untried) apart.1 apart.0) put.entries)
       (at_rest_running now.running (λ (run : Running). Rattle.spawn_edge.specs.Spawned.IsRunningAt b.spawner run.child) w.running)
       children
+      (own_rest a.spawner before now w.running)
       (λ h e. e ∙ ap (λ (q : Holder). Some q) (without_holder before now batch w))
 
 module _ (G : Ground) (T : Table) (old new : Kept) (before now : Runner) (s s' : Spooled) (sp : Spawned) (d : DialSeen) where

@@ -36,6 +36,7 @@ use Rattle.queue_run.specs.Steps.{Begins, Misses, does, fails, is_large, records
 use Rattle.queue_run.specs.Working.{IsWhole, Steps, bench, kind_in}
 use Rattle.queue_run.specs.inner.Puts.{IsPutAs}
 use Rattle.queue_run.proofs.LetterLemmas.{IsHandedFor, meant_as}
+use Rattle.queue_run.proofs.OwnLemmas.{own_begun}
 use Rattle.queue_run.proofs.PutLemmas.{alike_long, turned}
 use Rattle.queue_run.proofs.SettleLemmas.{IsWithout, exit_memory, exit_recorded}
 use Rattle.queue_run.proofs.StepLemmas.{steps_of, stepped_kind, worked_quiet}
@@ -97,6 +98,7 @@ module _ (G : Ground) (T : Table) (old new : Kept) (before now : Runner) (batch 
         others = λ other ne r. r;
         child = subst (λ q. IfSome q (λ (x : Running). IsRunningAt sp' x.child)) (sym running) (subst (IsRunningAt sp') (sym is_child) (begun_now sp.told sp'.told start child sp.missed asked.told));
         children = λ other ne runs. runs_on sp sp' (Began start child sp.missed) other asked.told refl runs;
+        own = own_begun sp before now run child running is_child asked.once;
       })
       handed.same asked.calm refl
     where

@@ -29,7 +29,7 @@ use Rattle.queue_run.specs.Kinds.{Kind}
 use Rattle.queue_run.specs.Meant.{Ground, IsMeant}
 use Rattle.queue_run.specs.Ready.{IsReady}
 use Rattle.queue_run.specs.Steps.{By, Lacks, Luck, Stepped, acted, asks, halts}
-use Rattle.queue_run.specs.Working.{Bench, Comes, HasChild, HasDialerCause, HasSpawnerCause, HasSpoolCause, IsHolder, IsRead, IsWhole, KeepsChildren, Steps, Worked, holds_on, is_fault, is_well, kind_in, stepped_on}
+use Rattle.queue_run.specs.Working.{Bench, Comes, HasChild, HasDialerCause, HasOwnChild, HasSpawnerCause, HasSpoolCause, IsHolder, IsRead, IsWhole, KeepsChildren, Steps, Worked, holds_on, is_fault, is_well, kind_in, stepped_on}
 use Rattle.queue_run.specs.inner.Puts.{Put}
 use Rattle.queue_run.proofs.ReadyLemmas.{others_stay}
 
@@ -222,9 +222,9 @@ module _ (G : Ground) (T : Table) (old new : Kept) (before now : Runner) (a b : 
       → ((failed : Bool) → HasDialerCause a.dialer b.dialer (luck failed))
       → flat_map asked_in ds ≡ [] → holds_on d ≡ true → changed_by c ≡ Some before.id
       → HoldsTable old T → IsWhole G.config old → Reads a.spool m → m.faults ≡ a.spool.faults → Put old new c d r m b.spool → Others ds
-      → OnOk r (IsReady new now) → HasChild b.spawner now → KeepsChildren a.spawner b.spawner before → ((h : Option Holder) → h ≡ Some next → IsHolder d now h)
+      → OnOk r (IsReady new now) → HasChild b.spawner now → KeepsChildren a.spawner b.spawner before → HasOwnChild a.spawner before now → ((h : Option Holder) → h ≡ Some next → IsHolder d now h)
       → Steps G T old new before now a b r
-  steps_asked luck ds next c d (Ok answer) m stepped meant read spawner dialer quiet held changes holds whole reads same put others ready child children holder =
+  steps_asked luck ds next c d (Ok answer) m stepped meant read spawner dialer quiet held changes holds whole reads same put others ready child children own holder =
       steps_of (Ok answer) (luck false) (asks T next ds c d false) (stepped false) (meant false) (read false)
       (worked_asked ds c d (Ok answer) m true quiet (λ e. tt) holds reads (omega (arith, same)) put others)
       (record {
@@ -239,9 +239,10 @@ module _ (G : Ground) (T : Table) (old new : Kept) (before now : Runner) (a b : 
         others = others_stay old new T c before.id holds (put.holds T holds) changes;
         child = child;
         children = children;
+        own = own;
       })
       (put.calm ∙ same) (spawner false) (dialer false)
-  steps_asked luck ds next c d (Err cause) m stepped meant read spawner dialer quiet held changes holds whole reads same put others ready child children holder =
+  steps_asked luck ds next c d (Err cause) m stepped meant read spawner dialer quiet held changes holds whole reads same put others ready child children own holder =
       steps_of (Err cause) (luck true) (asks T next ds c d true) (stepped true) (meant true) (read true)
       (worked_asked ds c d (Err cause) m (not (is_fault cause)) quiet (fault_well (Err cause) put.err) holds reads (omega (arith, same)) put others)
       (ap (λ q. Some (By q)) (sym put.err)) (fault_cause cause put.err (rose_more a.spool.faults m.faults b.spool.faults same put.cause)) (spawner true) (dialer true)

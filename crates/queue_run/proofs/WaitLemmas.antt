@@ -35,6 +35,7 @@ use Rattle.queue_run.specs.Steps.{Luck, StillRuns, acted, asks, at_rest, record_
 use Rattle.queue_run.specs.Working.{HasChild, HasDialerCause, HasSpawnerCause, IsRead, IsWhole, Steps, bench, kind_in}
 use Rattle.queue_run.specs.inner.Puts.{Put}
 use Rattle.queue_run.proofs.ReadyLemmas.{ready_recorded}
+use Rattle.queue_run.proofs.OwnLemmas.{own_rest, own_same}
 use Rattle.queue_run.proofs.StepLemmas.{reads_itself, steps_asked, steps_of, stepped_kind, worked_quiet}
 
 pub on_ok : {T E : Type 0} (r : Result T E) (P Q : Type 0) → (P → Q) → OnOk r P → OnOk r Q
@@ -94,6 +95,7 @@ module _ (G : Ground) (T : Table) (old new : Kept) (before : Runner) (run : Runn
         others = λ other ne r. r;
         child = subst (λ q. IfSome q (λ (x : Running). IsRunningAt sp' x.child)) (sym is) (runs_on sp sp' (Polled run.child polls.Runs) run.child told refl (some_of before.running (λ (x : Running). IsRunningAt sp x.child) run is child));
         children = λ other ne runs. runs_on sp sp' (Polled run.child polls.Runs) other told refl runs;
+        own = own_same sp before;
       })
       refl same refl
 
@@ -132,4 +134,5 @@ module _ (G : Ground) (T : Table) (old new : Kept) (before : Runner) (run : Runn
       refl refl ready.untried ready.apart a.apart) entries)
       tt
       (λ other ne runs. runs_on sp sp' (Polled run.child poll) other told (other_end other run.child poll over (some_of before.running (λ (x : Running). x.child ≢ other) run is ne)) runs)
+      (own_rest sp before now refl)
       (λ h e. e)

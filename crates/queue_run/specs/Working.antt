@@ -6,6 +6,7 @@ use Rattle.mail_base.specs.States.{NeedsBody}
 use Rattle.mail_base.specs.declared.config.Config.{Config}
 use Rattle.link_edge.specs.Dials.{DialSeen}
 use Rattle.mailer_smtp.specs.Deliveries.{Counts}
+use Rattle.spawn_edge.specs.Children.{is_running}
 use Rattle.spawn_edge.specs.Spawned.{IsRunningAt, Spawned}
 use Rattle.spool_disk.specs.Disk.{FileMap}
 use Rattle.spool_disk.specs.Spooled.{Spooled}
@@ -94,6 +95,13 @@ KeepsChildren a b r =
     (child : ℕ) → IfSome r.running (λ (run : Running). run.child ≢ child) → IsRunningAt a child
     → IsRunningAt b child
 
+-- where a spawner tells, no child that ran before, of another runner, is the one that runs now
+abbrev pub HasOwnChild : Spawned → Runner → Runner → Type 0
+HasOwnChild a before now =
+    IfSome a.told (λ history. (child : ℕ) → is_running child history ≡ true
+    → IfSome before.running (λ (run : Running). run.child ≢ child)
+    → IfSome now.running (λ (run : Running). run.child ≢ child))
+
 -- ---- a step
 
 -- a step that goes on
@@ -110,6 +118,7 @@ pub record ComesTo (config : Config) (old new : Kept) (before : Runner) (a b : B
   pub others : KeepsOthersReady old new before.id
   pub child : HasChild b.spawner runner
   pub children : KeepsChildren a.spawner b.spawner before
+  pub own : HasOwnChild a.spawner before runner
 
 abbrev pub Comes : Config → Kept → Kept → Runner → Bench → Bench → Stepped → Runner
     → Result Did RunStop → Type 0

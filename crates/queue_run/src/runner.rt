@@ -1,4 +1,4 @@
-ghost use Rattle.std.specs.Prelude.{◌≡◌};
+ghost use Rattle.std.specs.Prelude.{◌≡◌, is_some};
 ghost use Rattle.mail_base.specs.declared.fault.StoreFault.TheVariants as store;
 ghost use Rattle.mail_base.specs.declared.fault.JudgeFault.TheVariants as judge;
 ghost use Rattle.queue_run.specs.declared.runner.RunStop.TheVariants.{NoMemory as Memory, SpoolFault as Broke};
@@ -71,7 +71,9 @@ impl Runner {
     }
 
     /// Whether a child delivers a batch of it. It takes no memory.
-    pub fn is_running(&self) -> bool {
+    pub fn is_running(&self) -> bool
+        ensures { result ≡ is_some self.now.running }
+    {
         self.running.is_some()
     }
 }
