@@ -12,7 +12,7 @@ use Rattle.smtp_receive.specs.Replies.{text_of, refusal_text, grant_text, shown_
 use Rattle.smtp_receive.proofs.DialogueLemmas.{dialogue_more}
 use Rattle.mail_core.specs.Sites.{Site}
 use Rattle.mail_core.specs.Guests.{Guest, grant_in, grants_of, with_line, line_in, lines_heard}
-use Rattle.mail_core.specs.Machine.{Did, says, closes, limit_of, replies, is_answered}
+use Rattle.mail_core.specs.Machine.{closes, Did, is_answered, limit_of, replies, says}
 use Rattle.mail_core.specs.Meant.{IsMadeAt}
 use Rattle.mail_core.specs.Messages.{Made}
 use Rattle.spool_store.specs.Entries.{Table}

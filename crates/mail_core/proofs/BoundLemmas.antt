@@ -16,7 +16,8 @@ use Rattle.mail_core.specs.declared.caller.Caller.{Caller}
 use Rattle.mail_core.specs.declared.serving.Core.{Core}
 use Rattle.mail_core.specs.Bounds.{AreSmall, IsSmall}
 use Rattle.mail_core.specs.Guests.{Guest}
-use Rattle.mail_core.specs.Machine.{State, most_guests}
+use Rattle.mail_core.specs.States.{State}
+use Rattle.mail_core.specs.Machine.{most_guests}
 use Rattle.mail_core.specs.Sites.{Site}
 use Rattle.mail_core.specs.Standing.{Keeps, Stands, Talks}
 use Rattle.mail_core.proofs.CallerLemmas.{as_many}

@@ -1,6 +1,6 @@
 -- What the core does is a step of the machine.
-use Rattle.std.proofs.Common.{◌≡◌, ℕ, ◌<◌, ◌^◌, List, [], ◌∷◌, ◌++◌, length, get_or, set, Bool, true, false, Option, Some, None, Result, Ok, Err, refl, sym, ◌∙◌, ap, subst, arith}
-use Rattle.std.specs.Prelude.{is_ok, remove, ◌≢◌, All, nat_eq, nat_le, ◌||◌, if◌then◌else◌}
+use Rattle.std.proofs.Common.{◌≡◌, ℕ, ◌<◌, ◌^◌, List, [], ◌∷◌, ◌++◌, length, get_or, set, Bool, true, false, Option, Some, None, Result, Ok, Err, map, refl, sym, ◌∙◌, ap, subst, arith}
+use Rattle.std.specs.Prelude.{IfOk, is_ok, remove, ◌≢◌, All, nat_eq, nat_le, ◌||◌, if◌then◌else◌}
 use Rattle.std.specs.List.{AllZip, list_any}
 use Rattle.std.specs.Option.{is_some}
 use Rattle.std.proofs.lemmas.Bool.{cond-true, cond-false, false≢true, eq-eqb}
@@ -10,41 +10,48 @@ use Rattle.mail_base.specs.Histories.{Gains}
 use Rattle.mail_base.proofs.Gaining.{gains_none}
 use Rattle.mail_base.specs.declared.config.Config.{Config}
 use Rattle.map_tables.specs.Answers.{Loaded}
-use Rattle.mail_edge.specs.Seen.{ClockSeen}
+use Rattle.mail_core.specs.Seen.{Beside, Seen, seen, Ran}
 use Rattle.link_edge.specs.Heard.{Heard}
 use Rattle.link_edge.specs.declared.event.Event.{Event}
-use Rattle.link_edge.specs.declared.event.Event.TheVariants.{Opens, Brings, Stops}
+use Rattle.link_edge.specs.declared.event.Event.TheVariants.{Opens, Brings}
 use Rattle.spool_disk.specs.Spooled.{Spooled}
+use Rattle.spool_store.specs.Entries.{Table}
 use Rattle.queue_table.specs.Calls.{Tallies}
+use Rattle.queue_table.specs.declared.table.Table.{Table as Kept}
 use Rattle.smtp_lines.specs.Reader.{Reader, Stands as Reads, awaited, empty_stream, fresh}
 use Rattle.smtp_receive.specs.Sessions.{Stands as Speaks}
 use Rattle.smtp_receive.specs.declared.session.Session.{Session}
-use Rattle.smtp_receive.specs.Replies.{greeting_text, shown_host, too_many_sessions_text}
+use Rattle.smtp_receive.specs.Replies.{greeting_text, out_of_memory_text, shown_host, too_many_sessions_text}
 use Rattle.mail_core.specs.declared.caller.Caller.{Caller}
 use Rattle.mail_core.specs.declared.next.Next.{Next}
 use Rattle.mail_core.specs.declared.next.Next.TheVariants.{Continue, BeginData, Closed}
 use Rattle.mail_core.specs.declared.intake.Intake.{Intake}
 use Rattle.mail_core.specs.declared.serving.Core.{Core}
-use Rattle.mail_core.specs.declared.serving.Act.{Act}
-use Rattle.mail_core.specs.declared.serving.Act.TheVariants.{Went, Ended}
+use Rattle.mail_core.specs.declared.act.Act.{Act}
+use Rattle.mail_core.specs.declared.act.Act.TheVariants.{Went}
 use Rattle.mail_core.specs.declared.serving.CoreStop.{CoreStop}
-use Rattle.mail_core.specs.Sites.{Site}
-use Rattle.mail_core.specs.Effects.{Effect, Takes, Ticks, Sends, HangsUp, heard_of, readings_of, commands_of}
-use Rattle.mail_core.specs.Events.{IsTaken, Turns}
+use Rattle.mail_core.specs.Beginning.{Start, beginning}
+use Rattle.mail_core.specs.Sites.{IsUnder, Site}
+use Rattle.queue_table.specs.Directories.{terms_of}
+use Rattle.queue_run.specs.Working.{IsWhole}
+use Rattle.mail_core.proofs.MessageLemmas.{dirs_are}
+use Rattle.mail_core.specs.Effects.{Effect, Sends, HangsUp, born_of, commands_of, dialled_of, heard_of, readings_of}
 use Rattle.mail_core.specs.inner.Handling.{Behaves, HasAt, IsOpened, IsPlaceOf, IsReady, Steps}
 use Rattle.mail_core.specs.Causes.{EndsSo, HasCause, ending_by, ending_of, is_well}
 use Rattle.mail_core.specs.inner.Going.{Feeds, way_after, is_onward}
 use Rattle.mail_core.specs.Guests.{Guest, newcomer, with_bytes, guest_of, is_here, without, with_guest}
-use Rattle.mail_core.specs.Machine.{AreOpen, Ending, Stopped, Opening, Replied, Dropped, Choices, Way, GoesOn, Leaves, Over, By, Did, all_answered, State, Step, still, most_guests, turned_away, welcomed, opened, brought, pieced, handled, Turn, at_moment, moment_by, stepped, taken}
+use Rattle.mail_core.specs.Machine.{AreOpen, Opening, Replied, Dropped, Choices, Way, GoesOn, Leaves, Over, Did, all_answered, most_guests, turned_away, welcomed, opened, brought, pieced, handled, at_moment, last_moment, moment_by}
+use Rattle.mail_core.specs.States.{Ending, By, Seat, State, Step, still}
 use Rattle.mail_core.specs.Judges.{JudgeSeen}
 use Rattle.mail_core.specs.Meant.{ArePieceMeant, IsEventMeant}
-use Rattle.mail_core.specs.Seen.{Seen, seen, Ran}
+use Rattle.mail_core.specs.Crews.{IsCrew, IsListOf, IsWaiting}
+use Rattle.mail_core.specs.declared.crew.Crew.{Crew}
 use Rattle.mail_core.specs.Standing.{IsStanding, Keeps, Serves, Stands, Stores}
 use Rattle.mail_core.proofs.CallerLemmas.{IsFoundAt, as_many, found_at, here_as, open_more, open_with, open_without, removed_set, without_none}
-use Rattle.mail_core.proofs.GoingLemmas.{cause_since, way_onward}
+use Rattle.mail_core.proofs.GoingLemmas.{way_onward}
 use Rattle.mail_core.proofs.LineLemmas.{onward_alive}
 use Rattle.mail_core.proofs.JudgeLemmas.{asked_none}
-use Rattle.mail_core.proofs.RanLemmas.{ran_join, ran_quiet, ran_none, ran_floor}
+use Rattle.mail_core.proofs.RanLemmas.{AreOfFloor, ran_floor, ran_none}
 
 -- ---- a new session
 
@@ -75,6 +82,14 @@ peer_line (b ∷ bytes) h = peer_more (nat_eq b 10) b bytes refl h (λ k. peer_l
 
 -- ---- callers
 
+-- a crew stands for each state of the same seats and list
+pub crew_as : (site : Site) (crew : Crew) (m n : State) → n.seats ≡ m.seats → n.list ≡ m.list → IsCrew site crew m → IsCrew site crew n
+crew_as site crew m n seats list is = record {
+  runners = is.runners ∙ ap (map (λ (seat : Seat). seat.holder)) (sym seats);
+  waiting = subst (IsWaiting site crew.waiting) (sym seats) is.waiting;
+  list = subst (IsListOf site.plan crew.list) (sym list) is.list;
+}
+
 module _ (site : Site) (m : State) (core : Core) (st : Stands site core m) where
   -- other callers that stand for other sessions
   pub stands_with : (other : Core) (guests : List Guest) → AllZip (Keeps site) other.callers.items guests → AreOpen guests → Stands site (record core { callers = other.callers }) (record m { guests = guests })
@@ -85,6 +100,8 @@ module _ (site : Site) (m : State) (core : Core) (st : Stands site core m) where
     latest = st.latest;
     callers = callers;
     guests = are;
+    crew = crew_as site core.crew m (record m { guests = guests }) refl refl st.crew;
+    stopping = st.stopping;
     on = st.on;
   }
 
@@ -231,7 +248,7 @@ brought_over m way d ending e = ap (λ w. (brought m w d).state.over) e
 
 module _ (j : JudgeSeen) (site : Site) (m : State) (session : ℕ) (piece : List ℕ) (core : Core) where
   -- one of a session that isn't open
-  pub piece_dropped : (f : Heard) (s : Spooled) (k : ClockSeen) → guest_of session m.guests ≡ None → Stands site core m → Steps j site m (Brings session piece) (seen f s k) (seen f s k) core (Ok Went)
+  pub piece_dropped : (f : Heard) (s : Spooled) (k : Beside) → guest_of session m.guests ≡ None → Stands site core m → Steps j site m (Brings session piece) (seen f s k) (seen f s k) core (Ok Went)
   piece_dropped f s k none stands =
       let step = ap (λ o. pieced site m piece [] o) none in record {
         choices = [];
@@ -262,9 +279,9 @@ module _ (j : JudgeSeen) (site : Site) (m : State) (session : ℕ) (piece : List
       stands = λ e. subst (λ (q : Step). Stands site core q.state) (sym step_is) (stands e);
       ended = λ ending e.
           let over = over_act fed ending e in
-          subst (λ (q : Step). EndsSo ending (Brings session piece) q.state a b) (sym step_is) (record {
+          subst (λ (q : Step). EndsSo ending q.state a b) (sym step_is) (record {
             over = brought_over m (way_after fed) did ending over;
-            cause = subst (λ t. HasCause ending (Brings session piece) t a b) (sym (brought_table m (way_after fed) did)) (h.cause ending over (Brings session piece));
+            cause = subst (λ t. HasCause ending t a b) (sym (brought_table m (way_after fed) did)) (h.cause ending over);
           });
     }
 
@@ -274,6 +291,8 @@ module _ (j : JudgeSeen) (site : Site) (m : State) (session : ℕ) (piece : List
       pub host_is : core.host ≡ old.host
       pub full_is : core.full ≡ old.full
       pub callers_are : core.callers.items ≡ callers
+      pub crew_is : (now : State) → now.seats ≡ m.seats → now.list ≡ m.list → IsCrew site old.crew m → IsCrew site core.crew now
+      pub stopping_is : core.stopping ≡ old.stopping
 
     feed_stands : (old : Core) (callers : List Caller) (guests : List Guest) → Stands site old m → IsAfter old callers → intake.moment ≡ m.latest → Serves site intake did.table → AllZip (Keeps site) callers guests → AreOpen guests
         → Stands site core (record m { table = did.table; guests = guests })
@@ -284,6 +303,8 @@ module _ (j : JudgeSeen) (site : Site) (m : State) (session : ℕ) (piece : List
       latest = ap (λ (i : Intake). i.moment) after.intake_is ∙ moment;
       callers = subst (λ q. AllZip (Keeps site) q guests) (sym after.callers_are) are;
       guests = may;
+      crew = after.crew_is (record m { table = did.table; guests = guests }) refl refl st.crew;
+      stopping = after.stopping_is ∙ st.stopping;
       on = st.on;
     }
 
@@ -323,42 +344,48 @@ behaves_floor j f g s old new done own begun same tallies = record {
 }
 
 -- effects of the floor alone
-abbrev IsQuiet : Step → Type 0
-IsQuiet s = (commands_of s.effects ≡ []) × (readings_of s.effects ≡ [])
+pub record IsQuiet (s : Step) : Type 0 where
+  pub floor : AreOfFloor s.effects
+  pub unread : readings_of s.effects ≡ []
+
+pub no_deed : (effects : List Effect) → commands_of effects ≡ [] → born_of effects ≡ [] → dialled_of effects ≡ [] → AreOfFloor effects
+no_deed effects commands born dialled = record { commands = commands; born = born; dialled = dialled }
+
+still_quiet : (m : State) → IsQuiet (still m)
+still_quiet m = record { floor = no_deed [] refl refl refl; unread = refl }
 
 quiet_if : (b : Bool) (x y : Step) → IsQuiet x → IsQuiet y → IsQuiet (if b then x else y)
 quiet_if true x y h k = h
 quiet_if false x y h k = k
 
 away_quiet : (m : State) (session : ℕ) (choice : Opening) → IsQuiet (turned_away m session choice)
-away_quiet m session (Replied true) = (refl, refl)
-away_quiet m session (Replied false) = (refl, refl)
-away_quiet m session Dropped = (refl, refl)
+away_quiet m session (Replied whole) = record { floor = no_deed (turned_away m session (Replied whole)).effects refl refl refl; unread = refl }
+away_quiet m session Dropped = record { floor = no_deed [] refl refl refl; unread = refl }
 
 welcomed_quiet : (site : Site) (m : State) (session : ℕ) (peer : List ℕ) (choice : Opening) → IsQuiet (welcomed site m session peer choice)
-welcomed_quiet site m session peer (Replied true) = (refl, refl)
-welcomed_quiet site m session peer (Replied false) = (refl, refl)
-welcomed_quiet site m session peer Dropped = (refl, refl)
+welcomed_quiet site m session peer (Replied true) = record { floor = no_deed (welcomed site m session peer (Replied true)).effects refl refl refl; unread = refl }
+welcomed_quiet site m session peer (Replied false) = record { floor = no_deed (welcomed site m session peer (Replied false)).effects refl refl refl; unread = refl }
+welcomed_quiet site m session peer Dropped = record { floor = no_deed (welcomed site m session peer Dropped).effects refl refl refl; unread = refl }
 
 opened_quiet : (site : Site) (m : State) (session : ℕ) (peer : List ℕ) (choice : Opening) → IsQuiet (opened site m session peer choice)
 opened_quiet site m session peer choice =
-    quiet_if (is_here session m.guests) (still m) _ (refl, refl)
+    quiet_if (is_here session m.guests) (still m) _ (still_quiet m)
     (quiet_if (nat_le most_guests (length m.guests)) (turned_away m session choice) (welcomed site m session peer choice) (away_quiet m session choice) (welcomed_quiet site m session peer choice))
 
 -- an opening
-pub opened_steps : (j : JudgeSeen) (site : Site) (m : State) (session : ℕ) (peer : List ℕ) (f now : Heard) (s : Spooled) (k : ClockSeen) (core : Core) → IsOpened site m session peer f now core → now.faults ≡ f.faults → Steps j site m (Opens session peer) (seen f s k) (seen now s k) core (Ok Went)
+pub opened_steps : (j : JudgeSeen) (site : Site) (m : State) (session : ℕ) (peer : List ℕ) (f now : Heard) (s : Spooled) (k : Beside) (core : Core) → IsOpened site m session peer f now core → now.faults ≡ f.faults → Steps j site m (Opens session peer) (seen f s k) (seen now s k) core (Ok Went)
 opened_steps j site m session peer f now s k core h own =
     let step = opened site m session peer h.choice in
     let quiet = opened_quiet site m session peer h.choice in record {
       choices = h.choice;
       meant = tt;
-      ran = ran_floor site.dirs m.table f now s k step.effects quiet.0 quiet.1 h.told own;
+      ran = ran_floor site.dirs m.table f now s k step.effects quiet.floor quiet.unread h.told own;
       stands = λ e. h.stands;
       ended = λ ending e. absurd (cc e);
     }
 
 -- nothing is asked of the devices, and the run goes on
-pub quiet_steps : (j : JudgeSeen) (site : Site) (m : State) (event : Event) (choices : Choices event) (f : Heard) (s : Spooled) (k : ClockSeen) (core : Core) → IsEventMeant j site m event choices → (handled site m event choices).effects ≡ [] → Stands site core (handled site m event choices).state
+pub quiet_steps : (j : JudgeSeen) (site : Site) (m : State) (event : Event) (choices : Choices event) (f : Heard) (s : Spooled) (k : Beside) (core : Core) → IsEventMeant j site m event choices → (handled site m event choices).effects ≡ [] → Stands site core (handled site m event choices).state
     → Steps j site m event (seen f s k) (seen f s k) core (Ok Went)
 quiet_steps j site m event choices f s k core meant none stands = record {
   choices = choices;
@@ -366,19 +393,6 @@ quiet_steps j site m event choices f s k core meant none stands = record {
   ran = subst (λ effects. Ran site.dirs m.table (seen f s k) (seen f s k) effects true) (sym none) (ran_none site.dirs m.table f s k);
   stands = λ e. stands;
   ended = λ ending e. absurd (cc e);
-}
-
-stopped_so : (m : State) (a b : Seen) (ending : Ending) → Some Stopped ≡ Some ending → EndsSo ending Stops (record m { over = Some (By Stopped) }) a b
-stopped_so m a b ending e = let same : Stopped ≡ ending = cc e in subst (λ q. EndsSo q Stops (record m { over = Some (By Stopped) }) a b) same (record { over = refl; cause = refl })
-
--- the floor told Stop
-pub stop_steps : (j : JudgeSeen) (site : Site) (m : State) (f : Heard) (s : Spooled) (k : ClockSeen) (core : Core) → Steps j site m Stops (seen f s k) (seen f s k) core (Ok Ended)
-stop_steps j site m f s k core = record {
-  choices = tt;
-  meant = tt;
-  ran = ran_none site.dirs m.table f s k;
-  stands = λ e. absurd (cc e);
-  ended = stopped_so m (seen f s k) (seen f s k);
 }
 
 -- a session that isn't there leaves all as it is
@@ -409,27 +423,70 @@ at_stands site m core intake reading st is range = record {
   latest = ap (λ (i : Intake). i.moment) is ∙ ap (λ n. moment_by n reading) st.latest;
   callers = st.callers;
   guests = st.guests;
+  crew = crew_as site core.crew m (at_moment m reading) refl refl st.crew;
+  stopping = st.stopping;
   on = st.on;
 }
 
--- steps of the machine at the moment that the clock told are the turn of an event
-pub turns_of : (j : JudgeSeen) (site : Site) (m : State) (event : Event) (reading : ℕ) (before f : Heard) (s : Spooled) (clock read : ClockSeen) (b : Seen) (core : Core) (went : Result Act CoreStop) → m.over ≡ None → IsTaken before f clock read event reading
-    → Steps j site (at_moment m reading) event (seen f s read) b core went → Turns j site m event reading (seen before s clock) b core went
-turns_of j site m event reading before f s clock read b core went on taken_is h =
-    let turn : Turn = record { event = event; reading = reading; choices = h.choices } in
-    let inner = handled site (at_moment m reading) event h.choices in
-    let first : List Effect = Takes event ∷ Ticks reading ∷ [] in
-    let is : stepped site m turn ≡ taken turn inner = cond-false (is_some m.over) (still m) (taken turn inner) (ap is_some on) in record {
-      choices = h.choices;
-      meant = h.meant;
-      ran = subst (λ (q : Step). Ran site.dirs m.table (seen before s clock) b q.effects (is_well went)) (sym is)
-          (ran_join site.dirs m.table (seen before s clock) (seen f s read) b first inner.effects (is_well went)
-          (ran_quiet site.dirs m.table before f s clock read first refl taken_is.told taken_is.faults taken_is.clock_told taken_is.readings) h.ran);
-      stands = λ e. subst (λ (q : Step). Stands site core q.state) (sym is) (h.stands e);
-      ended = λ ending e.
-          let so = h.ended ending e in
-          subst (λ (q : Step). EndsSo ending event q.state (seen before s clock) b) (sym is) (record {
-            over = so.over;
-            cause = cause_since ending event inner.state.table (seen before s clock) (seen f s read) b (omega arith) so.cause;
-          });
-    }
+-- a Stop came
+pub stop_stands : (site : Site) (m : State) (core : Core) → Stands site core m → Stands site (record core { stopping = true }) (record m { stopping = true })
+stop_stands site m core st = record {
+  intake = st.intake;
+  host = st.host;
+  full = st.full;
+  latest = st.latest;
+  callers = st.callers;
+  guests = st.guests;
+  crew = crew_as site core.crew m (record m { stopping = true }) refl refl st.crew;
+  stopping = refl;
+  on = st.on;
+}
+
+-- its table is whole, and of the configuration
+pub whole_of : (site : Site) (m : State) (core : Core) (config : Config) (maps : Loaded) → IsUnder site config maps → Stands site core m → IsWhole config core.intake.table
+whole_of site m core config maps under st = record {
+  whole = st.intake.stores.whole;
+  terms = st.intake.stores.terms ∙ ap terms_of under.config_is;
+  groups = dirs_are site core.intake.table m.table st.intake.stores;
+}
+
+-- a core with no session, in which nobody holds an entry
+pub begun_stands : (site : Site) (start : Start) (core : Core) → Serves site core.intake start.table → core.host ≡ site.host → core.full ≡ too_many_sessions_text → core.intake.moment ≡ (beginning start).latest → core.callers.items ≡ []
+    → IsCrew site core.crew (beginning start) → core.stopping ≡ false → Stands site core (beginning start)
+begun_stands site start core serves host full latest none crew stopping = record {
+  intake = serves;
+  host = host;
+  full = full;
+  latest = latest;
+  callers = subst (λ q. AllZip (Keeps site) q []) (sym none) tt;
+  guests = record { few = omega arith; apart = tt };
+  crew = crew;
+  stopping = stopping;
+  on = refl;
+}
+
+-- a new intake serves what its table has
+pub intake_serves : (site : Site) (intake : Intake) (table : Table) (kept : Kept) → intake.table ≡ kept → intake.short ≡ out_of_memory_text → intake.moment ≡ 0 → Stores site kept table → Serves site intake table
+intake_serves site intake table kept is short moment stores = record {
+  stores = subst (λ (k : Kept). Stores site k table) (sym is) stores;
+  short = short;
+  range = subst (λ n. n < 2 ^ 64) (sym moment) (omega arith);
+}
+
+-- and so it does at another moment
+pub intake_at : (site : Site) (old new : Intake) (table : Table) (reading : ℕ) → new ≡ record old { moment = moment_by old.moment reading } → new.moment < 2 ^ 64 → Serves site old table → Serves site new table
+intake_at site old new table reading is range serves = record {
+  stores = subst (λ (i : Intake). Stores site i.table table) (sym is) serves.stores;
+  short = ap (λ (i : Intake). i.short) is ∙ serves.short;
+  range = range;
+}
+
+-- no reading is the first moment
+pub begun_at : 0 ≡ moment_by 0 0
+unfolding last_moment
+begun_at = refl
+
+-- what is known of an answer says more of it
+pub ok_more : {T E : Type 0} (r : Result T E) (P Q : T → Type 0) → ((x : T) → P x → Q x) → IfOk r P → IfOk r Q
+ok_more (Ok x) P Q f h = f x h
+ok_more (Err e) P Q f h = tt

@@ -2,7 +2,7 @@
 use Rattle.std.proofs.Common.{◌≡◌, ℕ, List, [], ◌∷◌, ◌++◌, length, slice_get, Bool, true, false, Option, Some, None, refl, sym, ◌∙◌, ap, subst, append_assoc}
 use Rattle.std.specs.Prelude.{◌&&◌, codes, not, is_none, is_some, map, reverse, fold, if◌then◌else◌}
 use Rattle.std.specs.List.{flat_map}
-use Rattle.std.proofs.lemmas.Bool.{and_parts, cond-false}
+use Rattle.std.proofs.lemmas.Bool.{and_parts, cond-false, cond-true}
 use Rattle.std.proofs.lemmas.Grind.{flat_map-append}
 use Rattle.std.proofs.lemmas.List.{append-nil, map-append}
 use Rattle.std.proofs.lemmas.List.Sums.{fold_push}
@@ -20,11 +20,15 @@ use Rattle.smtp_receive.specs.Replies.{text_of, refusal_text, grant_text, hello_
 use Rattle.spool_store.specs.Entries.{Table}
 use Rattle.queue_table.specs.Commands.{after}
 use Rattle.mail_core.specs.Sites.{Site}
-use Rattle.mail_core.specs.Effects.{Effect, Takes, Ticks, Commits, Sends, HangsUp, speech}
+use Rattle.mail_core.specs.Effects.{Effect, Takes, Ticks, Does, Sends, HangsUp, speech}
 use Rattle.mail_core.specs.Guests.{Guest, grant_in, guest_of, is_passed, next_line, with_bytes}
-use Rattle.mail_core.specs.Machine.{Choice, Normal, OutOfMemory, Way, GoesOn, Leaves, Did, way_of, replies, by_choice, heard_line, id_by, is_answered, heard_where, answered, settled, settled_by, fresh_start, all_answered, State, Step, still, Turn, at_moment, beginning, brought, moment_by, pieced, stepped, taken, followed, run}
+use Rattle.mail_core.specs.Machine.{came, fits, Choice, Normal, OutOfMemory, Way, GoesOn, Leaves, Did, way_of, replies, by_choice, heard_line, id_by, is_answered, heard_where, answered, settled, settled_by, fresh_start, all_answered, Turn, at_moment, brought, moment_by, pieced, turned, run}
+use Rattle.mail_core.specs.States.{State, Step, cut, headed, still, followed}
+use Rattle.mail_core.specs.Beginning.{beginning, served}
 use Rattle.mail_core.specs.Messages.{Made, accept_of, is_spent, start}
-use Rattle.mail_core.proofs.MachineLemmas.{run_more}
+use Rattle.mail_core.proofs.FollowLemmas.{run_more}
+use Rattle.mail_core.specs.Plans.{OfFloor, awaits}
+use Rattle.queue_run.specs.Deeds.{Asks}
 
 -- a message in one part, with no header in front
 abbrev pub in_one : Made
@@ -74,7 +78,7 @@ module _ (site : Site) (moment : ℕ) where
   effects_by limit session table Extends whole = speech session (extended_text (shown_host site.host) limit) whole
   effects_by limit session table Grants whole = speech session grant_text whole
   effects_by limit session table Closes whole = Sends session (closing_text (shown_host site.host)) whole ∷ HangsUp session ∷ []
-  effects_by limit session table (Gives message) whole = Commits (accept_of site moment (message_of message) in_one) ∷ speech session (stored_text table.next) whole
+  effects_by limit session table (Gives message) whole = Does (Asks (accept_of site moment (message_of message) in_one)) ∷ speech session (stored_text table.next) whole
   effects_by limit session table Passes whole = []
 
   -- the table after an answer, where a message is accepted
@@ -142,7 +146,7 @@ module _ (site : Site) (moment : ℕ) where
     replied (Gives message) whole left =
         cond-false (is_spent now in_one) _ _ left
         ∙ ap (λ q. so_far (after now (accept_of site moment (message_of message) in_one)) guest heard c.may q (way_of whole))
-        (append_assoc effects (Commits (accept_of site moment (message_of message) in_one) ∷ []) (speech guest.number (stored_text now.next) whole))
+        (append_assoc effects (Does (Asks (accept_of site moment (message_of message) in_one)) ∷ []) (speech guest.number (stored_text now.next) whole))
     replied Passes whole left = ap (λ q. so_far now guest heard c.may q GoesOn) (sym (append-nil effects))
 
     heard_more : (h : Heard) → exchanges guest.config guest.peer (heard ++ h ∷ []) ≡ with_heard guest.config guest.peer before h
@@ -197,20 +201,29 @@ module _ (site : Site) (moment : ℕ) where
         ∙ ap (λ o. settled_by GoesOn o (so_far now guest heard c.may effects GoesOn))
         (ap (λ q. line_at (length heard) guest.received (grants_by q)) c.known ∙ none)
 
+-- the state in which a run over the first table begins
+abbrev pub first_state : State
+first_state = beginning (served start)
+
+-- a turn is taken, and then this is done
+abbrev pub taken : Turn → Step → Step
+taken turn step = headed (came turn.origin turn.event) step
+
 -- a piece of the session of a number
 abbrev pub piece : ℕ → List ℕ → ℕ → List Choice → Turn
-piece session bytes reading choices = record { event = Brings session bytes; reading = reading; choices = choices }
+piece session bytes reading choices = record { event = Brings session bytes; origin = OfFloor reading; choices = choices }
 
 -- a turn that brings a piece
-pub piece_turn : (site : Site) (m : State) (session : ℕ) (g : Guest) (bytes : List ℕ) (reading : ℕ) (choices : List Choice) (d : Did) → m.over ≡ None → guest_of session m.guests ≡ Some g
-    → all_answered site (at_moment m reading).latest m.table (with_bytes g bytes) choices ≡ d → stepped site m (piece session bytes reading choices) ≡ taken (piece session bytes reading choices) (brought (at_moment m reading) d.way d)
-piece_turn site m session g bytes reading choices d on is all =
+pub piece_turn : (site : Site) (m : State) (session : ℕ) (g : Guest) (bytes : List ℕ) (reading : ℕ) (choices : List Choice) (d : Did) → m.over ≡ None → awaits site.plan m.stopping (Brings session bytes) ≡ true → guest_of session m.guests ≡ Some g
+    → all_answered site (at_moment m reading).latest m.table (with_bytes g bytes) choices ≡ d → turned site m (piece session bytes reading choices) ≡ taken (piece session bytes reading choices) (brought (at_moment m reading) d.way d)
+piece_turn site m session g bytes reading choices d on waits is all =
     cond-false (is_some m.over) (still m) _ (ap is_some on)
+    ∙ cond-true (fits site m (piece session bytes reading choices)) _ (cut m) waits
     ∙ ap (λ o. taken (piece session bytes reading choices) (pieced site (at_moment m reading) bytes choices o)) is
     ∙ ap (λ (q : Did). taken (piece session bytes reading choices) (brought (at_moment m reading) q.way q)) all
 
 -- a run, turn by turn
-pub run_first : (site : Site) (m : State) (turn : Turn) (turns : List Turn) (now later : Step) → stepped site m turn ≡ now → run site now.state turns ≡ later → run site m (turn ∷ turns) ≡ followed now later
+pub run_first : (site : Site) (m : State) (turn : Turn) (turns : List Turn) (now later : Step) → turned site m turn ≡ now → run site now.state turns ≡ later → run site m (turn ∷ turns) ≡ followed now later
 run_first site m turn turns now later first rest =
     ap (λ (s : Step). followed s (run site s.state turns)) first ∙ ap (λ (s : Step). followed now s) rest
 
@@ -225,7 +238,7 @@ are_within place grants received (b ∷ bytes) = is_none (line_at place (receive
 abbrev pub answers_in : Effect → List Effect
 answers_in (Takes event) = []
 answers_in (Ticks reading) = []
-answers_in (Commits command) = Commits command ∷ []
+answers_in (Does deed) = Does deed ∷ []
 answers_in (Sends session text whole) = Sends session text whole ∷ []
 answers_in (HangsUp session) = HangsUp session ∷ []
 
@@ -241,13 +254,13 @@ none_is (Some line) is = absurd (cc is)
 abbrev pub one : ℕ → Event
 one b = Brings 1 (b ∷ [])
 
-module _ (site : Site) (config : Config) (peer : List ℕ) (reading : ℕ) (latest : ℕ) (same : moment_by latest reading ≡ latest) where
+module _ (site : Site) (config : Config) (peer : List ℕ) (reading : ℕ) (latest : ℕ) (same : moment_by latest reading ≡ latest) (serves : (event : Event) → awaits site.plan false event ≡ true) where
   abbrev pub caller : List ℕ → List Heard → Guest
   caller bytes heard = record { number = 1; config = config; peer = peer; received = bytes; heard = heard }
 
   -- a session alone, between its bytes
   abbrev pub alone : Table → List ℕ → List Heard → State
-  alone table bytes heard = record { table = table; guests = caller bytes heard ∷ []; latest = latest; over = None }
+  alone table bytes heard = record { table = table; guests = caller bytes heard ∷ []; seats = []; list = []; latest = latest; stopping = false; over = None }
 
   abbrev pub byte_turn : ℕ → List Choice → Turn
   byte_turn b choices = piece 1 (b ∷ []) reading choices
@@ -257,7 +270,7 @@ module _ (site : Site) (config : Config) (peer : List ℕ) (reading : ℕ) (late
     pub turns : List Turn
     pub events : map (λ (t : Turn). t.event) turns ≡ Opens 1 peer ∷ map one bytes
     pub done : List Effect
-    pub is : run site (beginning start) turns ≡ record { state = alone table bytes heard; effects = done }
+    pub is : run site first_state turns ≡ record { state = alone table bytes heard; effects = done }
     pub answers : answers_of done ≡ effects
     pub known : exchanges config peer heard ≡ before
 
@@ -267,14 +280,14 @@ module _ (site : Site) (config : Config) (peer : List ℕ) (reading : ℕ) (late
 
     -- one byte more
     turn_more : (choices : List Choice) (d : Did) → all_answered site latest table (caller now heard) choices ≡ d
-        → run site (beginning start) (t.turns ++ byte_turn b choices ∷ []) ≡ followed (record { state = alone table bytes heard; effects = t.done }) (taken (byte_turn b choices) (brought (alone table bytes heard) d.way d))
+        → run site first_state (t.turns ++ byte_turn b choices ∷ []) ≡ followed (record { state = alone table bytes heard; effects = t.done }) (taken (byte_turn b choices) (brought (alone table bytes heard) d.way d))
     turn_more choices d all =
         let m = alone table bytes heard in
         let at : at_moment m reading ≡ m = ap (λ n. record m { latest = n }) same in
-        run_more site (beginning start) t.turns (byte_turn b choices)
-        ∙ ap (λ (s : Step). followed s (stepped site s.state (byte_turn b choices))) t.is
+        run_more site first_state t.turns (byte_turn b choices)
+        ∙ ap (λ (s : Step). followed s (turned site s.state (byte_turn b choices))) t.is
         ∙ ap (λ (s : Step). followed (record { state = m; effects = t.done }) s)
-        (piece_turn site m 1 (caller bytes heard) (b ∷ []) reading choices d refl refl (ap (λ n. all_answered site n table (caller now heard) choices) same ∙ all)
+        (piece_turn site m 1 (caller bytes heard) (b ∷ []) reading choices d refl (serves (Brings 1 (b ∷ []))) refl (ap (λ n. all_answered site n table (caller now heard) choices) same ∙ all)
         ∙ ap (λ q. taken (byte_turn b choices) (brought q d.way d)) at)
 
     events_more : (choices : List Choice) → map (λ (q : Turn). q.event) (t.turns ++ byte_turn b choices ∷ []) ≡ Opens 1 peer ∷ map one now
@@ -315,7 +328,7 @@ module _ (site : Site) (config : Config) (peer : List ℕ) (reading : ℕ) (late
 
     -- it completes the last one, which ends the session
     pub talks_last : (line : Line) (said : Said) (answer : Answer) → line_at (length heard) now (grants_by before) ≡ Some line → is_spent table in_one ≡ false → answer_to config peer before said line ≡ answer → way_by site latest answer true ≡ Leaves
-        → (turns : List Turn) × (map (λ (q : Turn). q.event) turns ≡ Opens 1 peer ∷ map one now) × (answers_of (run site (beginning start) turns).effects ≡ effects ++ answers_of (effects_by site latest (message_limit config.options) 1 table answer true))
+        → (turns : List Turn) × (map (λ (q : Turn). q.event) turns ≡ Opens 1 peer ∷ map one now) × (answers_of (run site first_state turns).effects ≡ effects ++ answers_of (effects_by site latest (message_limit config.options) 1 table answer true))
     talks_last line said answer next left is off =
         let c = comes_said site latest table (caller now heard) [] table heard before [] line (comes_none site latest table (caller now heard) before t.known) next said answer true left is in
         let went = subst (λ w. Comes site latest table (caller now heard) (Normal said in_one true ∷ []) (table_by site latest table answer) (heard ++ heard_by line said false (id_by table answer) ∷ []) (by_said line said answer ∷ before) (effects_by site latest (message_limit config.options) 1 table answer true) w) off c in (

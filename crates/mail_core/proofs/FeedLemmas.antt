@@ -9,7 +9,7 @@ use Rattle.std.proofs.lemmas.Option.{slice_get_past}
 use Rattle.mail_base.specs.Histories.{Gains}
 use Rattle.mail_base.specs.declared.config.Config.{Config}
 use Rattle.map_tables.specs.Answers.{Loaded}
-use Rattle.mail_edge.specs.Seen.{ClockSeen}
+use Rattle.mail_core.specs.Seen.{Beside, Seen, seen, Ran}
 use Rattle.link_edge.specs.Heard.{Heard as FloorHeard}
 use Rattle.smtp_lines.specs.declared.line.Line.{Line}
 use Rattle.smtp_lines.specs.declared.line.Mode.TheVariants.{Commands}
@@ -32,12 +32,12 @@ use Rattle.mail_core.specs.declared.intake.Intake.{Intake}
 use Rattle.mail_core.specs.Sites.{Site}
 use Rattle.mail_core.specs.Effects.{HangsUp, heard_of}
 use Rattle.mail_core.specs.Causes.{HasCause, is_well}
-use Rattle.mail_core.specs.inner.Going.{Does, Hears, AnswersLine, AnswersLines, Feeds, granted_by, is_granted, is_onward, reached, way_after}
+use Rattle.mail_core.specs.inner.Going.{LeadsTo, Hears, AnswersLine, AnswersLines, Feeds, granted_by, is_granted, is_onward, reached, way_after}
 use Rattle.mail_core.specs.Guests.{Guest, bytes_left, has_bytes_left, grants_of, lines_of, next_line, with_bytes, line_in, lines_heard}
-use Rattle.mail_core.specs.Machine.{Choice, Disconnects, Way, GoesOn, Leaves, Over, Cut, Did, answered, by_choice, does, fresh_start, goes_on, is_over, settled, settled_by}
+use Rattle.mail_core.specs.Machine.{Choice, Disconnects, Way, GoesOn, Leaves, Over, Did, answered, by_choice, does, fresh_start, goes_on, is_over, settled, settled_by}
+use Rattle.mail_core.specs.States.{Cut}
 use Rattle.mail_core.specs.Judges.{JudgeSeen}
 use Rattle.mail_core.specs.Meant.{AreMeant}
-use Rattle.mail_core.specs.Seen.{Seen, seen, Ran}
 use Rattle.mail_core.specs.Standing.{Serves, Talks, Follows, Keeps}
 use Rattle.mail_core.specs.inner.Handling.{IsReady}
 use Rattle.mail_core.proofs.JudgeLemmas.{IsAlike, are_since, drops_meant, meant_join, meant_next}
@@ -93,9 +93,9 @@ none_next g all =
 
 -- ---- how it went
 
-does_onward : (site : Site) (d e : Did) (a b : Seen) (fed : Result Next CoreStop) → is_onward fed ≡ true → Does site d e a b fed → Does site d e a b (Ok Continue)
+does_onward : (site : Site) (d e : Did) (a b : Seen) (fed : Result Next CoreStop) → is_onward fed ≡ true → LeadsTo site d e a b fed → LeadsTo site d e a b (Ok Continue)
 does_onward site d e a b (Ok Continue) on h = h
-does_onward site d e a b (Ok BeginData) on h = record { more = h.more; effects = h.effects; table = h.table; number = h.number; ran = h.ran; way = h.way; cause = λ ending over event. absurd (cc over) }
+does_onward site d e a b (Ok BeginData) on h = record { more = h.more; effects = h.effects; table = h.table; number = h.number; ran = h.ran; way = h.way; cause = λ ending over. absurd (cc over) }
 does_onward site d e a b (Ok Closed) on h = absurd (cc on)
 does_onward site d e a b (Err stop) on h = absurd (cc on)
 
@@ -112,7 +112,7 @@ module _ (j : JudgeSeen) (site : Site) (moment : ℕ) (d : Did) where
       ∙ ap (λ o. by_choice site moment e choice o) next
 
   -- no line was answered
-  pub answers_none : (f : FloorHeard) (s : Spooled) (k : ClockSeen) (intake : Intake) (caller : Caller) → d.way ≡ GoesOn → Serves site intake d.table → Talks site caller d.guest
+  pub answers_none : (f : FloorHeard) (s : Spooled) (k : Beside) (intake : Intake) (caller : Caller) → d.way ≡ GoesOn → Serves site intake d.table → Talks site caller d.guest
       → AnswersLines j site moment d [] (seen f s k) (seen f s k) intake caller (Ok Continue)
   answers_none f s k intake caller way serves talks = record {
     choices = [];
@@ -168,7 +168,7 @@ module _ (j : JudgeSeen) (site : Site) (moment : ℕ) (d : Did) where
         let goes : reached site moment d (h.choices ++ k.choice ∷ []) ≡ x = reached_more h.choices k.choice line way next in record {
           choices = h.choices ++ k.choice ∷ [];
           meant = meant_join site moment j d h.choices (k.choice ∷ []) h.meant (meant_next site moment j i e k.choice line alike next k.meant);
-          does = subst (λ q. Does site d q a c fed) (sym goes) (does_join site d e x a b c fed (does_onward site d e a b last on h.does) k.does);
+          does = subst (λ q. LeadsTo site d q a c fed) (sym goes) (does_join site d e x a b c fed (does_onward site d e a b last on h.does) k.does);
           alive = λ live. subst (λ q. Serves site after q.table) (sym goes) (k.alive live);
           hears = λ go. subst (λ q. Hears site d q (done ++ line ∷ []) after new fed) (sym goes) (hears_more e x quiet hears (k.hears go));
         }
@@ -373,7 +373,7 @@ module _ (j : JudgeSeen) (site : Site) (moment : ℕ) (table : Table) (g : Guest
   start = fresh_start table (with_bytes g bytes)
 
   feeds_of : (a b : Seen) (intake : Intake) (caller : Caller) (fed : Result Next CoreStop) (choices : List Choice) → AreMeant j site moment start choices → settled (reached site moment start choices) ≡ reached site moment start choices
-      → Does site start (reached site moment start choices) a b fed
+      → LeadsTo site start (reached site moment start choices) a b fed
       → (is_ok fed ≡ true → Serves site intake (reached site moment start choices).table) → (is_onward fed ≡ true → Keeps site caller (reached site moment start choices).guest)
       → Feeds j site moment table g bytes a b intake caller fed
   feeds_of a b intake caller fed choices meant same h serves keeps = record {
@@ -384,14 +384,14 @@ module _ (j : JudgeSeen) (site : Site) (moment : ℕ) (table : Table) (g : Guest
     number = ap (λ (x : Did). x.guest.number) same ∙ h.number;
     serves = λ on. subst (λ (x : Did). Serves site intake x.table) (sym same) (serves on);
     keeps = λ on. subst (λ (x : Did). Keeps site caller x.guest) (sym same) (keeps on);
-    cause = λ ending over event. subst (λ (x : Did). HasCause ending event x.table a b) (sym same) (h.cause ending over event);
+    cause = λ ending over. subst (λ (x : Did). HasCause ending x.table a b) (sym same) (h.cause ending over);
   }
 
   -- by some choices, a piece has come to these lines, which are to be answered
   pub record Pends (a b : Seen) (intake : Intake) (caller : Caller) (lines : List Line) : Type 0 where
     pub choices : List Choice
     pub meant : AreMeant j site moment start choices
-    pub does : Does site start (reached site moment start choices) a b (Ok Continue)
+    pub does : LeadsTo site start (reached site moment start choices) a b (Ok Continue)
     pub serves : Serves site intake (reached site moment start choices).table
     pub talks : Talks site caller (reached site moment start choices).guest
     pub pending : Pending caller.lines (reached site moment start choices).guest lines
@@ -402,13 +402,13 @@ module _ (j : JudgeSeen) (site : Site) (moment : ℕ) (table : Table) (g : Guest
     pub before : Did
     pub choices : List Choice
     pub meant : AreMeant j site moment start choices
-    pub does : Does site start (reached site moment start choices) a b fed
+    pub does : LeadsTo site start (reached site moment start choices) a b fed
     pub pending : Pending reader before.guest lines
     pub alive : is_ok fed ≡ true → Serves site intake (reached site moment start choices).table
     pub hears : is_onward fed ≡ true → Hears site before (reached site moment start choices) lines intake caller fed
 
   -- a piece was taken
-  pub pends_start : (old new : Caller) (before : Intake) (f : FloorHeard) (s : Spooled) (k : ClockSeen) (lines : List Line) → new.number ≡ old.number → new.session ≡ old.session
+  pub pends_start : (old new : Caller) (before : Intake) (f : FloorHeard) (s : Spooled) (k : Beside) (lines : List Line) → new.number ≡ old.number → new.session ≡ old.session
       → Serves site before table → Keeps site old g → ((s : Stream) → Reads old.lines s → Reads new.lines (given old.lines.under.may_turn (received s bytes) lines))
       → new.lines.under.may_turn ≡ asked_after old.lines.under.may_turn lines
       → Pends (seen f s k) (seen f s k) before new lines
@@ -439,7 +439,7 @@ module _ (j : JudgeSeen) (site : Site) (moment : ℕ) (table : Table) (g : Guest
         before = e;
         choices = p.choices ++ k.choices;
         meant = meant_join site moment j start p.choices k.choices p.meant (are_since site moment j judge e k.choices alike k.meant);
-        does = subst (λ q. Does site start q a c fed) (sym is) (does_join site start e x a b c fed p.does k.does);
+        does = subst (λ q. LeadsTo site start q a c fed) (sym is) (does_join site start e x a b c fed p.does k.does);
         pending = p.pending;
         alive = λ live. subst (λ q. Serves site after q.table) (sym is) (k.alive live);
         hears = λ on. subst (λ q. Hears site e q lines after new fed) (sym is) (k.hears on);
@@ -492,8 +492,8 @@ module _ (j : JudgeSeen) (site : Site) (moment : ℕ) (table : Table) (g : Guest
             only = only_more turned.lines next.lines ended.guest more turned_follows stands turns;
           }
 
-  feeds_dropped : (a : Seen) (f h : FloorHeard) (s : Spooled) (k : ClockSeen) (intake : Intake) (caller : Caller) (fed : Result Next CoreStop) (session : ℕ) (choices : List Choice) → AreMeant j site moment start choices
-      → Does site start (reached site moment start choices) a (seen f s k) (Ok Continue) → (reached site moment start choices).may_disconnect ≡ true → session ≡ (reached site moment start choices).guest.number
+  feeds_dropped : (a : Seen) (f h : FloorHeard) (s : Spooled) (k : Beside) (intake : Intake) (caller : Caller) (fed : Result Next CoreStop) (session : ℕ) (choices : List Choice) → AreMeant j site moment start choices
+      → LeadsTo site start (reached site moment start choices) a (seen f s k) (Ok Continue) → (reached site moment start choices).may_disconnect ≡ true → session ≡ (reached site moment start choices).guest.number
       → Gains f.told h.told (heard_of (HangsUp session ∷ [])) → h.faults ≡ f.faults → fed ≡ (Ok Closed) → Serves site intake (reached site moment start choices).table
       → Feeds j site moment table g bytes a (seen h s k) intake caller fed
   feeds_dropped a f h s k intake caller fed session choices meant done may number told own is serves =
@@ -504,19 +504,19 @@ module _ (j : JudgeSeen) (site : Site) (moment : ℕ) (table : Table) (g : Guest
       subst (Feeds j site moment table g bytes a (seen h s k) intake caller) (sym is)
       (feeds_of a (seen h s k) intake caller (Ok Closed) (choices ++ Disconnects ∷ []) (meant_join site moment j start choices (Disconnects ∷ []) meant (drops_meant site moment j e))
       (subst (λ q. settled q ≡ q) (sym drops) refl)
-      (subst (λ q. Does site start q a (seen h s k) (Ok Closed)) (sym drops) (does_join site start e x a (seen f s k) (seen h s k) (Ok Closed) done last))
+      (subst (λ q. LeadsTo site start q a (seen h s k) (Ok Closed)) (sym drops) (does_join site start e x a (seen f s k) (seen h s k) (Ok Closed) done last))
       (λ live. subst (λ (q : Did). Serves site intake q.table) (sym drops) serves)
       (λ on. absurd (cc on)))
 
   -- there was no memory for the piece
-  pub feeds_none : (f h : FloorHeard) (s : Spooled) (k : ClockSeen) (intake : Intake) (old caller : Caller) (fed : Result Next CoreStop) (session : ℕ) → Keeps site old g → session ≡ old.number
+  pub feeds_none : (f h : FloorHeard) (s : Spooled) (k : Beside) (intake : Intake) (old caller : Caller) (fed : Result Next CoreStop) (session : ℕ) → Keeps site old g → session ≡ old.number
       → Gains f.told h.told (heard_of (HangsUp session ∷ [])) → h.faults ≡ f.faults → fed ≡ (Ok Closed) → Serves site intake table
       → Feeds j site moment table g bytes (seen f s k) (seen h s k) intake caller fed
   feeds_none f h s k intake old caller fed session keeps same told own is serves =
       feeds_dropped (seen f s k) f h s k intake caller fed session [] tt (does_none site start f s k start refl refl refl refl) refl (same ∙ keeps.talks.number) told own is serves
 
   -- there was none for what follows a line that asks
-  pub feeds_lost : (a : Seen) (f h : FloorHeard) (s : Spooled) (k : ClockSeen) (reader : Reader) (lines : List Line) (intake : Intake) (caller last : Caller) (went fed : Result Next CoreStop) (session : ℕ) → Batch a (seen f s k) reader lines intake caller went
+  pub feeds_lost : (a : Seen) (f h : FloorHeard) (s : Spooled) (k : Beside) (reader : Reader) (lines : List Line) (intake : Intake) (caller last : Caller) (went fed : Result Next CoreStop) (session : ℕ) → Batch a (seen f s k) reader lines intake caller went
       → is_onward went ≡ true → asked_after false lines ≡ true → reader.left ≢ [] → session ≡ caller.number
       → Gains f.told h.told (heard_of (HangsUp session ∷ [])) → h.faults ≡ f.faults → fed ≡ (Ok Closed)
       → Feeds j site moment table g bytes a (seen h s k) intake last fed

@@ -12,8 +12,13 @@ use Rattle.smtp_receive.specs.Replies.{greeting_text, shown_host, too_many_sessi
 use Rattle.mail_core.specs.Sites.{Site}
 use Rattle.mail_core.specs.Effects.{HangsUp}
 use Rattle.mail_core.specs.Guests.{Guest, grants_of, guest_of, has_number, is_here, newcomer, with_bytes, with_guest, without, lines_heard}
-use Rattle.mail_core.specs.Machine.{Opening, Replied, Dropped, Choice, Choices, Way, GoesOn, Leaves, Over, Did, State, Step, Turn, all_answered, at_moment, brought, handled, most_guests, opened, pieced, run, stepped, still, taken, turned_away, welcomed}
+use Rattle.mail_core.specs.Machine.{all_answered, at_moment, brought, came, Choice, Choices, Did, Dropped, fits, GoesOn, handled, Leaves, most_guests, opened, Opening, Over, pieced, Replied, run, Turn, turned, turned_away, Way, welcomed}
+use Rattle.mail_core.specs.States.{State, Step, cut, headed, still}
 use Rattle.mail_core.specs.Told.{Converses, IsInTurn, NeverOpens, Welcomes, hangs_up, turns_away, greets, brought_in, brought_of, is_of_others, opening_of, opens_none, replies_of, said_to}
+use Rattle.mail_core.specs.Plans.{OfFloor, OfRun, Origin, awaits, comes_from, is_own, reading_of}
+use Rattle.std.proofs.lemmas.Bool.{and_parts}
+use Rattle.mail_core.proofs.QuietLemmas.{rest_quiet, stop_quiet}
+use Rattle.mail_core.proofs.TurnedLemmas.{turned_has}
 use Rattle.mail_core.proofs.SpokenLemmas.{found_number, pushed_other, skipped, changed_other, changed_own, gone, left_other, left_own}
 use Rattle.mail_core.proofs.StreamLemmas.{none_is, reads_more, some_is}
 use Rattle.mail_core.proofs.ToldLemmas.{IsTold, closing_other, piece_all, said_more, said_once, speech_other}
@@ -254,8 +259,8 @@ module _ (site : Site) (s : ℕ) where
   handled_apart m (Opens n peer) choice other = opened_apart m n peer choice (not-true (nat_eq n s) other)
   handled_apart m (Brings n bytes) choices other = pieced_apart m n bytes choices (guest_of n m.guests) refl (not-true (nat_eq n s) other)
   handled_apart m (Closes n) choices other = close_apart m n (not-true (nat_eq n s) other)
-  handled_apart m Rests choices other = same_apart m m refl
-  handled_apart m Stops choices other = record { said = refl; quiet = refl; guest = refl }
+  handled_apart m Rests choice other = let q = rest_quiet site m choice s in record { said = q.said; quiet = q.brought; guest = ap (guest_of s) q.guests }
+  handled_apart m Stops luck other = let q = stop_quiet site m luck s in record { said = q.said; quiet = q.brought; guest = ap (guest_of s) q.guests }
 
   -- ---- a turn, and a run
 
@@ -263,26 +268,47 @@ module _ (site : Site) (s : ℕ) where
   handled_lives m (Opens n peer) choice none = apart_handles m (Opens n peer) (opened site m n peer choice) refl (opened_apart m n peer choice (not-true (nat_eq n s) none))
   handled_lives m (Brings n bytes) choices none = pieced_lives m n bytes choices (guest_of n m.guests) refl
   handled_lives m (Closes n) choices none = closes_lives m n
-  handled_lives m Rests choices none = apart_handles m Rests (still m) refl (same_apart m m refl)
-  handled_lives m Stops choices none = apart_handles m Stops _ refl (record { said = refl; quiet = refl; guest = refl })
+  handled_lives m Rests choice none =
+      let q = rest_quiet site m choice s in
+      apart_handles m Rests (handled site m Rests choice) refl (record { said = q.said; quiet = q.brought; guest = ap (guest_of s) q.guests })
+  handled_lives m Stops luck none =
+      let q = stop_quiet site m luck s in
+      apart_handles m Stops (handled site m Stops luck) refl (record { said = q.said; quiet = q.brought; guest = ap (guest_of s) q.guests })
 
-  taken_lives : (m : State) (turn : Turn) (step : Step) → Handles m turn.event step → StepLives m (taken turn step)
-  taken_lives m turn step h =
-      subst (λ q. Lives (guest_of s m.guests) (guest_of s step.state.guests) q (said_to s step.effects)) (sym (ap (λ q. brought_in s turn.event ++ q) h.quiet ∙ append-nil (brought_in s turn.event))) h.lives
+  -- a turn that the run makes itself brings nothing
+  own_brings : (event : Event) → is_own event ≡ true → brought_in s event ≡ []
+  own_brings (Opens n peer) own = refl
+  own_brings (Brings n bytes) own = cc own
+  own_brings (Closes n) own = refl
+  own_brings Rests own = refl
+  own_brings Stops own = refl
 
-  stepped_lives : (m : State) (turn : Turn) → opens_none s turn.event ≡ true → StepLives m (stepped site m turn)
-  stepped_lives m turn none =
-      let now = at_moment m turn.reading in
-      either_lives m (is_some m.over) (still m) (taken turn (handled site now turn.event turn.choices)) (lives_same (guest_of s m.guests))
-      (taken_lives now turn (handled site now turn.event turn.choices) (handled_lives now turn.event turn.choices none))
+  came_lives : (m : State) (origin : Origin) (event : Event) (step : Step) → comes_from origin event ≡ true → Handles m event step → StepLives m (headed (came origin event) step)
+  came_lives m (OfFloor reading) event step comes h =
+      subst (λ q. Lives (guest_of s m.guests) (guest_of s step.state.guests) q (said_to s step.effects)) (sym (ap (λ q. brought_in s event ++ q) h.quiet ∙ append-nil (brought_in s event))) h.lives
+  came_lives m (OfRun reading) event step comes h =
+      subst (λ q. Lives (guest_of s m.guests) (guest_of s step.state.guests) q (said_to s step.effects)) (own_brings event comes ∙ sym h.quiet) h.lives
+
+  fitting_lives : (m : State) (turn : Turn) (b : Bool) → fits site m turn ≡ b → opens_none s turn.event ≡ true
+      → StepLives m (if b then headed (came turn.origin turn.event) (handled site (at_moment m (reading_of turn.origin)) turn.event turn.choices) else cut m)
+  fitting_lives m turn true fit none =
+      let now = at_moment m (reading_of turn.origin) in
+      let both = and_parts (comes_from turn.origin turn.event) (awaits site.plan m.stopping turn.event) fit in
+      came_lives now turn.origin turn.event (handled site now turn.event turn.choices) both.0 (handled_lives now turn.event turn.choices none)
+  fitting_lives m turn false fit none = lives_same (guest_of s m.guests)
+
+  turned_lives : (m : State) (turn : Turn) → opens_none s turn.event ≡ true → StepLives m (turned site m turn)
+  turned_lives m turn none =
+      let now = headed (came turn.origin turn.event) (handled site (at_moment m (reading_of turn.origin)) turn.event turn.choices) in
+      either_lives m (is_some m.over) (still m) (if fits site m turn then now else cut m) (lives_same (guest_of s m.guests)) (fitting_lives m turn (fits site m turn) refl none)
 
   run_lives : (m : State) (turns : List Turn) → NeverOpens s turns → StepLives m (run site m turns)
   run_lives m [] never = lives_same (guest_of s m.guests)
   run_lives m (turn ∷ turns) never =
-      let now = stepped site m turn in
+      let now = turned site m turn in
       let later = run site now.state turns in
       let joined = lives_join (guest_of s m.guests) (guest_of s now.state.guests) (guest_of s later.state.guests) (brought_of s now.effects) (brought_of s later.effects) (said_to s now.effects) (said_to s later.effects)
-      (stepped_lives m turn never.0) (run_lives now.state turns never.1) in
+      (turned_lives m turn never.0) (run_lives now.state turns never.1) in
       subst (λ q. Lives (guest_of s m.guests) (guest_of s later.state.guests) q (said_to s (now.effects ++ later.effects))) (sym (brought_more s now.effects later.effects))
       (subst (λ q. Lives (guest_of s m.guests) (guest_of s later.state.guests) (brought_of s now.effects ++ brought_of s later.effects) q) (sym (said_more s now.effects later.effects)) joined)
 
@@ -337,11 +363,12 @@ module _ (site : Site) (s : ℕ) where
       subst (Begins peer) (sym (cond-false (is_here s m.guests) (still m) crowd (none_here s m.guests none)))
       (either_begins peer (nat_le most_guests (length m.guests)) (turned_away m s choice) (welcomed site m s peer choice) (away_begins m peer choice none) (welcome_begins m peer choice none))
 
-  stepped_begins : (m : State) (peer : List ℕ) (reading : ℕ) (choice : Opening) → guest_of s m.guests ≡ None → Begins peer (stepped site m (opening_of s peer reading choice))
-  stepped_begins m peer reading choice none =
+  turned_begins : (m : State) (peer : List ℕ) (reading : ℕ) (choice : Opening) → guest_of s m.guests ≡ None → Begins peer (turned site m (opening_of s peer reading choice))
+  turned_begins m peer reading choice none =
       let now = at_moment m reading in
       let b = opened_begins now peer choice none in
-      either_begins peer (is_some m.over) (still m) (taken (opening_of s peer reading choice) (opened site now s peer choice))
+      turned_has (Begins peer) site m (opening_of s peer reading choice)
+      (record { quiet = refl; opens = left_out none refl })
       (record { quiet = refl; opens = left_out none refl })
       (record { quiet = b.quiet; opens = b.opens })
 
@@ -372,9 +399,9 @@ module _ (site : Site) (s : ℕ) where
   pub run_welcomes : (m : State) (peer : List ℕ) (reading : ℕ) (choice : Opening) (turns : List Turn) → guest_of s m.guests ≡ None → NeverOpens s turns
       → Welcomes site s peer (brought_of s (run site m (opening_of s peer reading choice ∷ turns)).effects) (said_to s (run site m (opening_of s peer reading choice ∷ turns)).effects) (guest_of s (run site m (opening_of s peer reading choice ∷ turns)).state.guests)
   run_welcomes m peer reading choice turns none never =
-      let now = stepped site m (opening_of s peer reading choice) in
+      let now = turned site m (opening_of s peer reading choice) in
       let later = run site now.state turns in
-      let b = stepped_begins m peer reading choice none in
+      let b = turned_begins m peer reading choice none in
       let w = welcomes_by peer (guest_of s now.state.guests) (guest_of s later.state.guests) (brought_of s later.effects) (said_to s now.effects) (said_to s later.effects) b.opens (run_lives now.state turns never) in
       subst (λ q. Welcomes site s peer q (said_to s (now.effects ++ later.effects)) (guest_of s later.state.guests)) (sym (brought_more s now.effects later.effects ∙ ap (λ q. q ++ brought_of s later.effects) b.quiet))
       (subst (λ q. Welcomes site s peer (brought_of s later.effects) q (guest_of s later.state.guests)) (sym (said_more s now.effects later.effects)) w)

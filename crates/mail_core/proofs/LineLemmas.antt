@@ -6,7 +6,7 @@ use Rattle.mail_base.specs.Answering.{is_calm}
 use Rattle.mail_base.specs.Histories.{Gains}
 use Rattle.mail_base.specs.declared.config.Config.{Config}
 use Rattle.map_tables.specs.Answers.{Loaded}
-use Rattle.mail_edge.specs.Seen.{ClockSeen}
+use Rattle.mail_core.specs.Seen.{Beside, Seen, seen}
 use Rattle.link_edge.specs.Heard.{Heard as FloorHeard}
 use Rattle.smtp_lines.specs.declared.line.Line.{Line}
 use Rattle.smtp_lines.specs.declared.line.Line.TheVariants.{DataEnd}
@@ -36,15 +36,15 @@ use Rattle.mail_core.specs.Sites.{IsUnder, Site}
 use Rattle.mail_core.specs.Effects.{Sends, HangsUp, heard_of, speech}
 use Rattle.mail_core.specs.Judges.{JudgeSeen, Says}
 use Rattle.mail_core.specs.Meant.{IsMadeAt, IsMeant, IsSaidAt}
-use Rattle.mail_core.specs.inner.Going.{IsMessageMeant, said_in, heard_chosen, id_chosen, way_after, Does, Hears, AnswersLine, AnswersMessage, IsAnswered, message_by, is_onward, is_granted, is_short}
+use Rattle.mail_core.specs.inner.Going.{IsMessageMeant, said_in, heard_chosen, id_chosen, way_after, LeadsTo, Hears, AnswersLine, AnswersMessage, IsAnswered, message_by, is_onward, is_granted, is_short}
 use Rattle.mail_core.specs.Guests.{grants_of, has_bytes_left, is_passed, with_line, lines_heard}
-use Rattle.mail_core.specs.Machine.{Choice, Normal, OutOfMemory, Disconnects, SpoolFails, JudgeFails, GoesOn, Cut, Did, answer_by, limit_of, question_here, is_over, says, closes, fails, replies, by_choice, heard_line, heard_where, id_by, is_answered, accepts, commits, By, IdsSpent, SpoolFault, fresh_start}
+use Rattle.mail_core.specs.Machine.{Choice, Normal, OutOfMemory, Disconnects, SpoolFails, JudgeFails, GoesOn, Did, answer_by, limit_of, question_here, is_over, says, closes, fails, replies, by_choice, heard_line, heard_where, id_by, is_answered, accepts, commits, fresh_start}
+use Rattle.mail_core.specs.States.{Cut, By, IdsSpent, SpoolFault}
 use Rattle.mail_core.specs.Messages.{is_spent}
-use Rattle.mail_core.specs.Seen.{Seen, seen}
 use Rattle.mail_core.specs.Standing.{Serves, Talks}
 use Rattle.mail_core.specs.inner.Handling.{IsReady}
 use Rattle.mail_core.proofs.AnswerLemmas.{IsReply, IsBye, IsSilent, answer_kept, lines_more, grants_more, unmade}
-use Rattle.mail_core.proofs.GoingLemmas.{does_chosen, chosen_table, IsSpoken, does_says, does_closes, does_none, does_heard, does_judged}
+use Rattle.mail_core.proofs.GoingLemmas.{quiet_side, does_chosen, chosen_table, IsSpoken, does_says, does_closes, does_none, does_heard, does_judged}
 
 -- where the session goes on, so does the run
 pub onward_alive : (fed : Result Next CoreStop) → is_onward fed ≡ true → is_ok fed ≡ true
@@ -86,7 +86,7 @@ module _ (j : JudgeSeen) (site : Site) (moment : ℕ) (d : Did) (line : Line) (s
   normal_is x whole on is =
       ap (λ y. heard_where (is_answered d.table unmade answer) y line said false given) is ∙ ap (λ b. heard_where b x line said false given) on
 
-  module _ (f g : FloorHeard) (s : Spooled) (k : ClockSeen) where
+  module _ (f g : FloorHeard) (s : Spooled) (k : Beside) where
     -- a reply was said, and the session goes on
     pub line_said : (text : List ℕ) (grant : Bool) (fed : Result Next CoreStop) → IsSaidAt j d line said → IsReply site moment d answer text grant → IsSpoken fed → (is_onward fed ≡ true → is_granted fed ≡ grant)
         → Gains f.told g.told (heard_of (speech d.guest.number text (is_onward fed))) → g.faults ≡ f.faults → Serves site intake d.table → Talks site caller (with_line d.guest line said false given)
@@ -96,7 +96,7 @@ module _ (j : JudgeSeen) (site : Site) (moment : ℕ) (d : Did) (line : Line) (s
         let is = normal_is (says d text whole) whole (r.answered d.table unmade) (r.says_it unmade whole) in record {
           choice = Normal said unmade whole;
           meant = (is_said, r.meant d.table unmade);
-          does = subst (λ x. Does site d x (seen f s k) (seen g s k) fed) (sym is) (does_heard site d (says d text whole) (seen f s k) (seen g s k) fed line said false given (does_says site d f g s k text fed spoken told own));
+          does = subst (λ x. LeadsTo site d x (seen f s k) (seen g s k) fed) (sym is) (does_heard site d (says d text whole) (seen f s k) (seen g s k) fed line said false given (does_says site d f g s k text fed spoken told own));
           alive = λ live. subst (λ x. Serves site intake x.table) (sym is) serves;
           hears = λ on. subst (λ x. Hears site d x (line ∷ []) intake caller fed) (sym is) (hears_line false given (says d text whole) fed refl (r.grant_is ∙ sym (grants on)) serves talks);
         }
@@ -108,25 +108,25 @@ module _ (j : JudgeSeen) (site : Site) (moment : ℕ) (d : Did) (line : Line) (s
         let is = normal_is (closes d text whole) whole (bye.answered d.table unmade) (bye.closes_it unmade whole) in record {
           choice = Normal said unmade whole;
           meant = (is_said, bye.meant d.table unmade);
-          does = subst (λ x. Does site d x (seen f s k) (seen g s k) (Ok Closed)) (sym is) (does_heard site d (closes d text whole) (seen f s k) (seen g s k) (Ok Closed) line said false given (does_closes site d f g s k text whole told own));
+          does = subst (λ x. LeadsTo site d x (seen f s k) (seen g s k) (Ok Closed)) (sym is) (does_heard site d (closes d text whole) (seen f s k) (seen g s k) (Ok Closed) line said false given (does_closes site d f g s k text whole told own));
           alive = λ live. subst (λ x. Serves site intake x.table) (sym is) serves;
           hears = λ on. absurd (cc on);
         }
 
   -- nothing is said to a line of data
-  pub line_taken : (f : FloorHeard) (s : Spooled) (k : ClockSeen) → d.way ≡ GoesOn → IsSaidAt j d line said → IsSilent site moment d answer → Serves site intake d.table → Talks site caller (with_line d.guest line said false given)
+  pub line_taken : (f : FloorHeard) (s : Spooled) (k : Beside) → d.way ≡ GoesOn → IsSaidAt j d line said → IsSilent site moment d answer → Serves site intake d.table → Talks site caller (with_line d.guest line said false given)
       → AnswersLine j site moment d line (seen f s k) (seen f s k) intake caller (Ok Continue)
   line_taken f s k way is_said silent serves talks =
       let is = normal_is d true (silent.answered d.table unmade) (silent.says_none unmade true) in record {
         choice = Normal said unmade true;
         meant = (is_said, silent.meant d.table unmade);
-        does = subst (λ x. Does site d x (seen f s k) (seen f s k) (Ok Continue)) (sym is) (does_heard site d d (seen f s k) (seen f s k) (Ok Continue) line said false given (does_none site d f s k d refl refl refl way));
+        does = subst (λ x. LeadsTo site d x (seen f s k) (seen f s k) (Ok Continue)) (sym is) (does_heard site d d (seen f s k) (seen f s k) (Ok Continue) line said false given (does_none site d f s k d refl refl refl way));
         alive = λ live. subst (λ x. Serves site intake x.table) (sym is) serves;
         hears = λ on. subst (λ x. Hears site d x (line ∷ []) intake caller (Ok Continue)) (sym is) (hears_line false given d (Ok Continue) refl silent.grant_is serves talks);
       }
 
 -- 452 4.3.1 was said
-pub line_lacked : (j : JudgeSeen) (site : Site) (moment : ℕ) (d : Did) (line : Line) (intake : Intake) (caller : Caller) (f g : FloorHeard) (s : Spooled) (k : ClockSeen) (fed : Result Next CoreStop) → is_passed d.guest line ≡ false → IsSpoken fed → (is_onward fed ≡ true → is_granted fed ≡ false)
+pub line_lacked : (j : JudgeSeen) (site : Site) (moment : ℕ) (d : Did) (line : Line) (intake : Intake) (caller : Caller) (f g : FloorHeard) (s : Spooled) (k : Beside) (fed : Result Next CoreStop) → is_passed d.guest line ≡ false → IsSpoken fed → (is_onward fed ≡ true → is_granted fed ≡ false)
     → Gains f.told g.told (heard_of (speech d.guest.number out_of_memory_text (is_onward fed))) → g.faults ≡ f.faults → Serves site intake d.table → Talks site caller (with_line d.guest line Unasked true None)
     → AnswersLine j site moment d line (seen f s k) (seen g s k) intake caller fed
 line_lacked j site moment d line intake caller f g s k fed kept spoken grants told own serves talks =
@@ -134,7 +134,7 @@ line_lacked j site moment d line intake caller f g s k fed kept spoken grants to
     let is = short_is site moment d line whole kept in record {
       choice = OutOfMemory whole;
       meant = tt;
-      does = subst (λ x. Does site d x (seen f s k) (seen g s k) fed) (sym is) (does_heard site d (says d out_of_memory_text whole) (seen f s k) (seen g s k) fed line Unasked true None (does_says site d f g s k out_of_memory_text fed spoken told own));
+      does = subst (λ x. LeadsTo site d x (seen f s k) (seen g s k) fed) (sym is) (does_heard site d (says d out_of_memory_text whole) (seen f s k) (seen g s k) fed line Unasked true None (does_says site d f g s k out_of_memory_text fed spoken told own));
       alive = λ live. subst (λ x. Serves site intake x.table) (sym is) serves;
       hears = λ on. subst (λ x. Hears site d x (line ∷ []) intake caller fed) (sym is)
           (hears_line j site moment d line Unasked intake caller true None (says d out_of_memory_text whole) fed refl (ap is_grant (lacking d.guest.config d.guest.peer (exchanges d.guest.config d.guest.peer d.guest.heard) line Unasked kept) ∙ sym (grants on)) serves talks);
@@ -149,12 +149,12 @@ pub fault_calm : (e : JudgeFault) → e ≡ judged.FilesFault → is_calm {A = D
 fault_calm e is calm = ap (λ (q : JudgeFault). is_calm {A = Done} (Err q)) (sym is) ∙ calm
 
 -- the judge failed at a line that asks it
-pub line_judged : (j : JudgeSeen) (site : Site) (moment : ℕ) (d : Did) (line : Line) (intake : Intake) (caller : Caller) (f : FloorHeard) (s : Spooled) (k : ClockSeen)
+pub line_judged : (j : JudgeSeen) (site : Site) (moment : ℕ) (d : Did) (line : Line) (intake : Intake) (caller : Caller) (f : FloorHeard) (s : Spooled) (k : Beside)
     → (question_here d line ≡ None → false ≡ true) → AnswersLine j site moment d line (seen f s k) (seen f s k) intake caller (Err stops.FilesFault)
 line_judged j site moment d line intake caller f s k never = record {
   choice = JudgeFails;
   meant = tt;
-  does = subst (λ e. Does site d e (seen f s k) (seen f s k) (Err stops.FilesFault)) (sym (cond-true (is_some (question_here d line)) _ _ (is_asked (question_here d line) never))) (does_judged site d f s k);
+  does = subst (λ e. LeadsTo site d e (seen f s k) (seen f s k) (Err stops.FilesFault)) (sym (cond-true (is_some (question_here d line)) _ _ (is_asked (question_here d line) never))) (does_judged site d f s k);
   alive = λ live. absurd (cc live);
   hears = λ on. absurd (cc on);
 }
@@ -310,7 +310,7 @@ module _ (site : Site) (moment : ℕ) (d : Did) (line : Line) (message : Message
       let is = chosen gives m.choice m.answers calm in record {
         choice = m.choice;
         meant = meant_line j m.choice gives none m.meant;
-        does = subst (λ e. Does site d e a b fed) (sym is) (does_chosen site d x a b fed line d.table m.choice m.does);
+        does = subst (λ e. LeadsTo site d e a b fed) (sym is) (does_chosen site d x a b fed line d.table m.choice m.does);
         alive = λ live. subst (Serves site intake) (sym (ap (λ (e : Did). e.table) is ∙ chosen_table d.table m.choice x line)) (m.serves live);
         hears = λ on. subst (λ e. Hears site d e (line ∷ []) intake new fed) (sym (is ∙ chosen_on m.choice fed m.answers calm m.does.way on ∙ ap (λ q. heard_line x line q (is_short m.choice) id) (said_unasked m.choice m.meant)))
             (hears_line j site moment d line Unasked intake new (is_short m.choice) id x fed m.guest (no_grant Unasked (is_short m.choice) gives ∙ sym m.granted) (m.serves (onward_alive fed on)) (talks_on (is_short m.choice) id old new none formed ends (talks id) number (m.caller on)));
@@ -319,9 +319,9 @@ module _ (site : Site) (moment : ℕ) (d : Did) (line : Line) (message : Message
 -- ---- what an intake is ready for stays so
 
 -- a session that goes on after a line is ready for the next
-pub ready_by : (j : JudgeSeen) (config : Config) (maps : Loaded) (old new : Intake) (before after : Caller) (line : Line) (a b : (k : ClockSeen) → Seen) (fed : Result Next CoreStop) → IsReady old before config maps
-    → ((site : Site) (d : Did) (k : ClockSeen) → IsUnder site config maps → d.way ≡ GoesOn → Serves site old d.table → Talks site before d.guest → AnswersLine j site old.moment d line (a k) (b k) new after fed) → is_onward fed ≡ true → IsReady new after config maps
+pub ready_by : (j : JudgeSeen) (config : Config) (maps : Loaded) (old new : Intake) (before after : Caller) (line : Line) (a b : (k : Beside) → Seen) (fed : Result Next CoreStop) → IsReady old before config maps
+    → ((site : Site) (d : Did) (k : Beside) → IsUnder site config maps → d.way ≡ GoesOn → Serves site old d.table → Talks site before d.guest → AnswersLine j site old.moment d line (a k) (b k) new after fed) → is_onward fed ≡ true → IsReady new after config maps
 ready_by j config maps old new before after line a b fed r answers on =
-    let h = answers r.site (fresh_start r.table r.guest) (record { told = None; readings = 0 }) r.under refl r.serves r.talks in
+    let h = answers r.site (fresh_start r.table r.guest) quiet_side r.under refl r.serves r.talks in
     let e = by_choice r.site old.moment (fresh_start r.table r.guest) h.choice (Some line) in
     let stays = (h.hears on).stays in record { site = r.site; under = r.under; table = e.table; guest = e.guest; serves = stays.serves; talks = stays.talks }

@@ -1,5 +1,5 @@
 -- Many sessions in one run: what other sessions do, the order of turns, and how many are open.
-use Rattle.std.proofs.Common.{◌≡◌, ◌≤◌, ℕ, List, [], ◌∷◌, ◌++◌, length, Bool, true, false, Option, Some, None, if◌then◌else◌, refl, sym, ◌∙◌, ap, subst, append_assoc, ⊎_elim}
+use Rattle.std.proofs.Common.{◌≡◌, ◌⊎◌, inl, inr, ◌≤◌, ℕ, List, [], ◌∷◌, ◌++◌, length, Bool, true, false, Option, Some, None, if◌then◌else◌, refl, sym, ◌∙◌, ap, subst, ⊎_elim}
 use Rattle.std.specs.Prelude.{is_some, nat_le}
 use Rattle.std.proofs.lemmas.Bool.{cases_Bool, cond-true, cond-false, le-leb}
 use Rattle.std.proofs.lemmas.List.{append_cancel_left}
@@ -9,10 +9,15 @@ use Rattle.smtp_receive.specs.Dialogue.{replies_to}
 use Rattle.smtp_receive.specs.Replies.{shown_host, too_many_sessions_text}
 use Rattle.mail_core.specs.Effects.{Effect, HangsUp, Sends, Takes, Ticks, events_of}
 use Rattle.mail_core.specs.Guests.{Guest, guest_of, is_here, newcomer, with_bytes}
-use Rattle.mail_core.specs.Machine.{AreOpen, Choice, Choices, Did, Dropped, GoesOn, Leaves, Opening, Over, Replied, State, Step, Turn, Way, all_answered, at_moment, brought, followed, handled, most_guests, opened, pieced, run, stepped, still, taken, turned_away, welcomed}
+use Rattle.mail_core.specs.Machine.{all_answered, AreOpen, at_moment, brought, came, Choice, Choices, Did, Dropped, fits, GoesOn, handled, Leaves, most_guests, opened, Opening, Over, pieced, Replied, run, Turn, turned, turned_away, Way, welcomed}
+use Rattle.mail_core.specs.States.{State, Step, cut, headed, still}
 use Rattle.mail_core.specs.Sites.{Site}
 use Rattle.mail_core.specs.Told.{AreOfOthers, Converses, IsInTurn, NeverOpens, is_of_others, opening_of, replies_of, said_to}
-use Rattle.mail_core.proofs.CallerLemmas.{open_more, open_with, open_without}
+use Rattle.mail_core.specs.Answering.{IsAnswer}
+use Rattle.mail_core.specs.Plans.{OfFloor, OfRun, Origin, awaits, reading_of}
+use Rattle.mail_core.proofs.OpenLemmas.{open_more, open_with, open_without}
+use Rattle.mail_core.proofs.QuietLemmas.{rest_quiet, stop_quiet}
+use Rattle.mail_core.proofs.TurnedLemmas.{turned_has}
 use Rattle.mail_core.proofs.LifeLemmas.{handled_apart, run_converses}
 use Rattle.mail_core.proofs.ToldLemmas.{said_more}
 use Rattle.mail_core.proofs.TurnLemmas.{piece_takes_none}
@@ -24,19 +29,21 @@ module _ (site : Site) where
   abbrev IsLeftOut : ℕ → State → Step → Type 0
   IsLeftOut s m step = (guest_of s step.state.guests ≡ guest_of s m.guests) × (said_to s step.effects ≡ [])
 
-  stepped_apart : (s : ℕ) (m : State) (turn : Turn) → is_of_others s turn.event ≡ true → IsLeftOut s m (stepped site m turn)
-  stepped_apart s m turn other =
-      let a = handled_apart site s (at_moment m turn.reading) turn.event turn.choices other in
-      ⊎_elim
-      (λ over. subst (IsLeftOut s m) (sym (cond-true (is_some m.over) (still m) (taken turn (handled site (at_moment m turn.reading) turn.event turn.choices)) over)) (refl, refl))
-      (λ on. subst (IsLeftOut s m) (sym (cond-false (is_some m.over) (still m) (taken turn (handled site (at_moment m turn.reading) turn.event turn.choices)) on)) (a.guest, a.said))
-      (cases_Bool (is_some m.over))
+  came_said : (s : ℕ) (origin : Origin) (event : Event) (effects : List Effect) → said_to s effects ≡ [] → said_to s (came origin event ++ effects) ≡ []
+  came_said s (OfFloor reading) event effects h = h
+  came_said s (OfRun reading) event effects h = h
+
+  turned_apart : (s : ℕ) (m : State) (turn : Turn) → is_of_others s turn.event ≡ true → IsLeftOut s m (turned site m turn)
+  turned_apart s m turn other =
+      let now = at_moment m (reading_of turn.origin) in
+      let a = handled_apart site s now turn.event turn.choices other in
+      turned_has (IsLeftOut s m) site m turn (refl, refl) (refl, refl) (a.guest, came_said s turn.origin turn.event (handled site now turn.event turn.choices).effects a.said)
 
   pub run_apart : (s : ℕ) (m : State) (turns : List Turn) → AreOfOthers s turns → (guest_of s (run site m turns).state.guests ≡ guest_of s m.guests) × (said_to s (run site m turns).effects ≡ [])
   run_apart s m [] others = (refl, refl)
   run_apart s m (turn ∷ turns) others =
-      let now = stepped site m turn in
-      let first = stepped_apart s m turn others.0 in
+      let now = turned site m turn in
+      let first = turned_apart s m turn others.0 in
       let later = run_apart s now.state turns others.1 in
       (later.0 ∙ first.0, said_more s now.effects (run site now.state turns).effects ∙ ap (λ q. q ++ said_to s (run site now.state turns).effects) first.1 ∙ later.1)
 
@@ -60,15 +67,6 @@ module _ (site : Site) where
       (sym one ∙ ap (λ q. replies_to g.config (shown_host site.host) g.peer q) same ∙ two)
 
   -- ---- the order of turns
-
-  pub run_joins : (m : State) (first later : List Turn) → run site m (first ++ later) ≡ followed (run site m first) (run site (run site m first).state later)
-  run_joins m [] later = refl
-  run_joins m (turn ∷ first) later =
-      let now = stepped site m turn in
-      let middle = run site now.state first in
-      let last = run site middle.state later in
-      ap (λ (q : Step). followed now q) (run_joins now.state first later)
-      ∙ ap (λ q. record { state = last.state; effects = q }) (sym (append_assoc now.effects middle.effects last.effects))
 
   takes_if : (b : Bool) (x y : Step) → events_of x.effects ≡ [] → events_of y.effects ≡ [] → events_of (if b then x else y).effects ≡ []
   takes_if true x y h k = h
@@ -101,23 +99,26 @@ module _ (site : Site) where
       (takes_if (nat_le most_guests (length m.guests)) (turned_away m s choice) (welcomed site m s peer choice) (away_takes m s choice) (welcome_takes m s peer choice))
   handled_takes m (Brings s bytes) choices = pieced_takes m bytes choices (guest_of s m.guests)
   handled_takes m (Closes s) choices = refl
-  handled_takes m Rests choices = refl
-  handled_takes m Stops choices = refl
+  handled_takes m Rests choice = let q = rest_quiet site m choice 0 in q.takes
+  handled_takes m Stops luck = let q = stop_quiet site m luck 0 in q.takes
 
-  pub turn_alone : (m : State) (turn : Turn) → m.over ≡ None → (answer : List Effect) × ((stepped site m turn).effects ≡ Takes turn.event ∷ Ticks turn.reading ∷ answer) × (events_of answer ≡ [])
-  turn_alone m turn on =
-      let inner = handled site (at_moment m turn.reading) turn.event turn.choices in
-      (inner.effects, ap (λ (q : Step). q.effects) (cond-false (is_some m.over) (still m) (taken turn inner) (ap is_some on)), handled_takes (at_moment m turn.reading) turn.event turn.choices)
+  pub turn_alone : (m : State) (turn : Turn) → ((turned site m turn).effects ≡ []) ⊎ IsAnswer turn (turned site m turn).effects
+  turn_alone m turn =
+      let now = at_moment m (reading_of turn.origin) in
+      let step = handled site now turn.event turn.choices in
+      turned_has (λ (q : Step). (q.effects ≡ []) ⊎ IsAnswer turn q.effects) site m turn (inl refl) (inl refl) (inr (record { rest = step.effects; whole = refl; none = handled_takes now turn.event turn.choices }))
 
   -- ---- one more than may be open
 
-  pub turned_so : (m : State) (s : ℕ) (peer : List ℕ) (reading : ℕ) (whole : Bool) → m.over ≡ None → is_here s m.guests ≡ false → most_guests ≤ length m.guests
-      → stepped site m (opening_of s peer reading (Replied whole)) ≡ record { state = at_moment m reading; effects = Takes (Opens s peer) ∷ Ticks reading ∷ Sends s too_many_sessions_text whole ∷ HangsUp s ∷ [] }
-  turned_so m s peer reading whole on new full =
+  pub turned_so : (m : State) (s : ℕ) (peer : List ℕ) (reading : ℕ) (whole : Bool) → m.over ≡ None → awaits site.plan m.stopping (Opens s peer) ≡ true → is_here s m.guests ≡ false → most_guests ≤ length m.guests
+      → turned site m (opening_of s peer reading (Replied whole)) ≡ record { state = at_moment m reading; effects = Takes (Opens s peer) ∷ Ticks reading ∷ Sends s too_many_sessions_text whole ∷ HangsUp s ∷ [] }
+  turned_so m s peer reading whole on awaited new full =
       let turn = opening_of s peer reading (Replied whole) in
       let now = at_moment m reading in
-      cond-false (is_some m.over) (still m) (taken turn (opened site now s peer (Replied whole))) (ap is_some on)
-      ∙ ap (taken turn)
+      let seen = came (OfFloor reading) (Opens s peer) in
+      cond-false (is_some m.over) (still m) (if fits site m turn then headed seen (opened site now s peer (Replied whole)) else cut m) (ap is_some on)
+      ∙ cond-true (fits site m turn) (headed seen (opened site now s peer (Replied whole))) (cut m) awaited
+      ∙ ap (headed seen)
       (cond-false (is_here s m.guests) (still now) _ new
       ∙ cond-true (nat_le most_guests (length m.guests)) (turned_away now s (Replied whole)) (welcomed site now s peer (Replied whole)) (le-leb most_guests (length m.guests) full))
 
@@ -160,17 +161,12 @@ module _ (site : Site) where
   handled_open m (Opens s peer) choice h = opened_open m s peer choice h
   handled_open m (Brings s bytes) choices h = pieced_open m bytes choices (guest_of s m.guests) h
   handled_open m (Closes s) choices h = open_without s m.guests h
-  handled_open m Rests choices h = h
-  handled_open m Stops choices h = h
+  handled_open m Rests choice h = let q = rest_quiet site m choice 0 in subst AreOpen (sym q.guests) h
+  handled_open m Stops luck h = let q = stop_quiet site m luck 0 in subst AreOpen (sym q.guests) h
 
-  stepped_open : (m : State) (turn : Turn) → AreOpen m.guests → StaysOpen (stepped site m turn)
-  stepped_open m turn h =
-      let now = taken turn (handled site (at_moment m turn.reading) turn.event turn.choices) in
-      ⊎_elim
-      (λ over. subst StaysOpen (sym (cond-true (is_some m.over) (still m) now over)) h)
-      (λ on. subst StaysOpen (sym (cond-false (is_some m.over) (still m) now on)) (handled_open (at_moment m turn.reading) turn.event turn.choices h))
-      (cases_Bool (is_some m.over))
+  turned_open : (m : State) (turn : Turn) → AreOpen m.guests → StaysOpen (turned site m turn)
+  turned_open m turn h = turned_has StaysOpen site m turn h h (handled_open (at_moment m (reading_of turn.origin)) turn.event turn.choices h)
 
   pub run_open : (m : State) (turns : List Turn) → AreOpen m.guests → AreOpen (run site m turns).state.guests
   run_open m [] h = h
-  run_open m (turn ∷ turns) h = run_open (stepped site m turn).state turns (stepped_open m turn h)
+  run_open m (turn ∷ turns) h = run_open (turned site m turn).state turns (turned_open m turn h)

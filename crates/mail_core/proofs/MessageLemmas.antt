@@ -5,7 +5,8 @@ use Rattle.std.proofs.lemmas.List.{length-map}
 use Rattle.std.proofs.lemmas.Bool.{cond-true, cond-false, false≢true, lt-ltb, le-ltb}
 use Rattle.mail_base.specs.Histories.{Gains, Rose}
 use Rattle.mail_base.specs.declared.config.Config.{Config}
-use Rattle.mail_edge.specs.Seen.{ClockSeen}
+use Rattle.mail_core.specs.Seen.{Beside, IsSparing, seen}
+use Rattle.mail_core.proofs.RanLemmas.{IsEither}
 use Rattle.link_edge.specs.Heard.{Heard as FloorHeard}
 use Rattle.mail_base.specs.Limits.{most_rows}
 use Rattle.mail_base.specs.declared.message.Cut.{Cut}
@@ -36,11 +37,11 @@ use Rattle.mail_core.specs.declared.serving.CoreStop.TheVariants as stops
 use Rattle.mail_core.specs.declared.intake.Intake.{Intake}
 use Rattle.mail_core.specs.Sites.{IsUnder, Site, terms_at}
 use Rattle.mail_core.specs.Effects.{heard_of, speech}
-use Rattle.mail_core.specs.inner.Going.{Does, AnswersMessage, IsReset, is_onward, is_granted}
-use Rattle.mail_core.specs.Machine.{IdsSpent, Normal, OutOfMemory, SpoolFails, GoesOn, By, Did, says, is_over, commits, accepts}
+use Rattle.mail_core.specs.inner.Going.{LeadsTo, AnswersMessage, IsReset, is_onward, is_granted}
+use Rattle.mail_core.specs.States.{IdsSpent, By}
+use Rattle.mail_core.specs.Machine.{Normal, OutOfMemory, SpoolFails, GoesOn, Did, says, is_over, commits, accepts}
 use Rattle.mail_core.specs.Meant.{IsMadeAt}
 use Rattle.mail_core.specs.Messages.{IsTakenIn, Made, accept_of, headed, ids_for, is_spent, last_id}
-use Rattle.mail_core.specs.Seen.{IsEither, IsSparing, seen}
 use Rattle.mail_core.specs.Standing.{Serves, Stores}
 use Rattle.mail_core.proofs.SparingLemmas.{sparing_call}
 use Rattle.mail_core.proofs.GoingLemmas.{IsSpoken, does_says, does_spent, does_failed, does_accepts, accepts_guest, fails_guest}
@@ -161,14 +162,14 @@ taken_at site config maps moment next table message made under same t =
 
 -- ---- the exits of accept
 
-module _ (site : Site) (moment : ℕ) (d : Did) (message : Message) (old new : Caller) (k : ClockSeen) where
+module _ (site : Site) (moment : ℕ) (d : Did) (message : Message) (old new : Caller) (k : Beside) where
   -- an id is wanting
   pub message_spent : (f : FloorHeard) (s : Spooled) (intake : Intake) (made : Made) → is_spent d.table made ≡ true → last_id + 1 < d.table.next + most_rows → IsMadeAt site moment d.table (Gives (mail_of message)) made → AnswersMessage site moment d message (seen f s k) (seen f s k) intake old new (Err stops.IdsSpent)
   message_spent f s intake made spent wanting meant = record {
     choice = SpoolFails made;
     answers = λ e. cc e;
     meant = meant;
-    does = subst (λ e. Does site d e (seen f s k) (seen f s k) (Err stops.IdsSpent)) (sym (cond-true (is_spent d.table made) _ _ spent)) (does_spent site d f s k wanting);
+    does = subst (λ e. LeadsTo site d e (seen f s k) (seen f s k) (Err stops.IdsSpent)) (sym (cond-true (is_spent d.table made) _ _ spent)) (does_spent site d f s k wanting);
     guest = fails_guest site moment d message made;
     serves = λ on. absurd (cc on);
     caller = λ on. absurd (cc on);

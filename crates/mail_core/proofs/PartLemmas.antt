@@ -30,7 +30,7 @@ some_distinct [] some = absurd (omega (arith, some))
 some_distinct (row ∷ rows) some = omega arith
 
 -- the parts of rows are one at least, each with a row
-cuts_of_rows : (config : Config) (maps : Loaded) (macros : Macros) (rows : List Draw) (cuts : List Cut) → 1 ≤ length rows → AreParts config maps macros (distinct rows) cuts → AreCuts cuts
+pub cuts_of_rows : (config : Config) (maps : Loaded) (macros : Macros) (rows : List Draw) (cuts : List Cut) → 1 ≤ length rows → AreParts config maps macros (distinct rows) cuts → AreCuts cuts
 cuts_of_rows config maps macros rows cuts some p =
     let long = AllZip-long (λ (row : Draw) (group : List ℕ). Groups config maps macros row.address (mailer_of row.resolved) group) (distinct rows) p.groups p.grouped in
     subst AreCuts (sym p.are) (record { some = first_part config (distinct rows) p.groups long (some_distinct rows some); each = parts_filled config (distinct rows) p.groups })

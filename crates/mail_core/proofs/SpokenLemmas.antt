@@ -1,16 +1,20 @@
 -- What is said to a session in a run are the replies of its dialogue.
 use Rattle.std.proofs.Common.{◌≡◌, ℕ, List, [], ◌∷◌, ◌++◌, Bool, true, false, not, Option, Some, None, refl, sym, ◌∙◌, ap, subst, append_assoc, ⊎_elim}
-use Rattle.std.specs.Prelude.{length, is_some, nat_le, nat_eq, if◌then◌else◌}
+use Rattle.std.specs.Prelude.{length, nat_le, nat_eq, if◌then◌else◌}
 use Rattle.std.proofs.lemmas.Bool.{cases_Bool, cond-true, cond-false, eq-eqb, eqb-true, not-true}
 use Rattle.std.proofs.lemmas.List.{append-nil}
 use Rattle.link_edge.specs.declared.event.Event.{Event}
 use Rattle.link_edge.specs.declared.event.Event.TheVariants.{Opens, Brings, Closes, Rests, Stops}
 use Rattle.smtp_receive.specs.Replies.{greeting_text, shown_host, too_many_sessions_text}
 use Rattle.mail_core.specs.Sites.{Site}
-use Rattle.mail_core.specs.Effects.{Effect, Takes, Ticks}
+use Rattle.mail_core.specs.Effects.{Effect}
 use Rattle.mail_core.specs.Guests.{Guest, guest_of, has_number, is_here, newcomer, with_bytes, with_guest, without}
-use Rattle.mail_core.specs.Machine.{Opening, Replied, Dropped, Choice, Choices, Way, GoesOn, Leaves, Over, Did, State, Step, Turn, all_answered, at_moment, brought, handled, most_guests, opened, pieced, run, stepped, still, taken, turned_away, welcomed}
+use Rattle.mail_core.specs.Machine.{all_answered, at_moment, brought, came, Choice, Choices, Did, Dropped, GoesOn, handled, Leaves, most_guests, opened, Opening, Over, pieced, Replied, run, Turn, turned, turned_away, Way, welcomed}
+use Rattle.mail_core.specs.States.{State, Step, still}
 use Rattle.mail_core.specs.Told.{NeverOpens, opens_none, replies_of, said_to}
+use Rattle.mail_core.specs.Plans.{OfFloor, OfRun, Origin, reading_of}
+use Rattle.mail_core.proofs.QuietLemmas.{rest_quiet, stop_quiet}
+use Rattle.mail_core.proofs.TurnedLemmas.{turned_has}
 use Rattle.mail_core.proofs.ToldLemmas.{IsTold, closing_other, piece_all, said_more, speech_other}
 
 -- ---- the sessions of a list
@@ -189,28 +193,30 @@ module _ (site : Site) (s : ℕ) where
   handled_passes m (Opens n peer) choice none = opened_passes m n peer choice (not-true (nat_eq n s) none)
   handled_passes m (Brings n bytes) choices none = pieced_passes m n bytes choices (guest_of n m.guests) refl
   handled_passes m (Closes n) choices none = closes_passes m n
-  handled_passes m Rests choices none = still_passes m
-  handled_passes m Stops choices none = passes_quiet (guest_of s m.guests) [] refl
+  handled_passes m Rests choice none = let q = rest_quiet site m choice s in passes_as (guest_of s m.guests) _ _ (ap (guest_of s) q.guests) q.said
+  handled_passes m Stops luck none = let q = stop_quiet site m luck s in passes_as (guest_of s m.guests) _ _ (ap (guest_of s) q.guests) q.said
 
-  -- a turn and a reading say nothing
-  passes_taken : (a b : Option Guest) (event : Event) (reading : ℕ) (effects : List Effect) → Passes a b effects → Passes a b (Takes event ∷ Ticks reading ∷ effects)
-  passes_taken None None event reading effects p = tt
-  passes_taken None (Some now) event reading effects p = p
-  passes_taken (Some g) None event reading effects p = tt
-  passes_taken (Some g) (Some now) event reading effects p = p
+  -- what is seen of a turn says nothing
+  passes_came : (a b : Option Guest) (origin : Origin) (event : Event) (effects : List Effect) → Passes a b effects → Passes a b (came origin event ++ effects)
+  passes_came None None origin event effects p = tt
+  passes_came None (Some now) origin event effects p = p
+  passes_came (Some g) None origin event effects p = tt
+  passes_came (Some g) (Some now) (OfFloor reading) event effects p = p
+  passes_came (Some g) (Some now) (OfRun reading) event effects p = p
 
-  stepped_passes : (m : State) (turn : Turn) → opens_none s turn.event ≡ true → StepPasses m (stepped site m turn)
-  stepped_passes m turn none =
-      either_passes m (is_some m.over) (still m) (taken turn (handled site (at_moment m turn.reading) turn.event turn.choices)) (still_passes m)
-      (passes_taken (guest_of s m.guests) (guest_of s (handled site (at_moment m turn.reading) turn.event turn.choices).state.guests) turn.event turn.reading (handled site (at_moment m turn.reading) turn.event turn.choices).effects
-      (handled_passes (at_moment m turn.reading) turn.event turn.choices none))
+  turned_passes : (m : State) (turn : Turn) → opens_none s turn.event ≡ true → StepPasses m (turned site m turn)
+  turned_passes m turn none =
+      let now = at_moment m (reading_of turn.origin) in
+      let step = handled site now turn.event turn.choices in
+      turned_has (StepPasses m) site m turn (still_passes m) (passes_quiet (guest_of s m.guests) [] refl)
+      (passes_came (guest_of s m.guests) (guest_of s step.state.guests) turn.origin turn.event step.effects (handled_passes now turn.event turn.choices none))
 
   run_passes : (m : State) (turns : List Turn) → NeverOpens s turns → StepPasses m (run site m turns)
   run_passes m [] never = still_passes m
   run_passes m (turn ∷ turns) never =
-      let now = stepped site m turn in
+      let now = turned site m turn in
       let later = run site now.state turns in
-      passes_join (guest_of s m.guests) (guest_of s now.state.guests) (guest_of s later.state.guests) now.effects later.effects (stepped_passes m turn never.0) (run_passes now.state turns never.1)
+      passes_join (guest_of s m.guests) (guest_of s now.state.guests) (guest_of s later.state.guests) now.effects later.effects (turned_passes m turn never.0) (run_passes now.state turns never.1)
 
   -- what a run says to a session that stays open are the replies to its lines
   pub run_told : (m : State) (turns : List Turn) (g now : Guest) → NeverOpens s turns → guest_of s m.guests ≡ Some g → guest_of s (run site m turns).state.guests ≡ Some now

@@ -14,9 +14,11 @@ use Rattle.smtp_receive.proofs.DialogueLemmas.{replies_more}
 use Rattle.smtp_receive.proofs.KeepLemmas.{lacking}
 use Rattle.spool_store.specs.Entries.{Table}
 use Rattle.mail_core.specs.Sites.{Site}
-use Rattle.mail_core.specs.Effects.{Effect, Commits, Sends, HangsUp, speech}
+use Rattle.queue_run.specs.Deeds.{Asks}
+use Rattle.mail_core.specs.Effects.{Does, Effect, HangsUp, Sends, speech}
 use Rattle.mail_core.specs.Guests.{Guest, is_passed, next_line, with_line}
-use Rattle.mail_core.specs.Machine.{Choice, Normal, OutOfMemory, Disconnects, SpoolFails, JudgeFails, SpoolFault, IdsSpent, FilesFault, Finish, By, Cut, Way, GoesOn, Leaves, Over, Did, answer_by, limit_of, question_here, does, says, closes, is_over, commits, replies, fails, heard_line, heard_where, id_by, is_answered, by_choice, answered, settled_by, fresh_start, all_answered}
+use Rattle.mail_core.specs.Machine.{all_answered, answer_by, answered, by_choice, Choice, closes, commits, Did, Disconnects, does, fails, fresh_start, GoesOn, heard_line, heard_where, id_by, is_answered, is_over, JudgeFails, Leaves, limit_of, Normal, OutOfMemory, Over, question_here, replies, says, settled_by, SpoolFails, Way}
+use Rattle.mail_core.specs.States.{By, Cut, FilesFault, Finish, IdsSpent, SpoolFault}
 use Rattle.mail_core.proofs.WayLemmas.{goes_keeps}
 use Rattle.mail_core.specs.Messages.{Made, accept_of, is_spent}
 use Rattle.mail_core.specs.Told.{said_to, replies_of}
@@ -78,7 +80,7 @@ adds_closes d text whole = record {
 
 module _ (site : Site) (moment : ℕ) where
   commits_none : (s : ℕ) (d : Did) (message : Message) (made : Made) → said_to s (commits site moment d message made).effects ≡ said_to s d.effects
-  commits_none s d message made = said_more s d.effects (Commits (accept_of site moment message made) ∷ []) ∙ append-nil (said_to s d.effects)
+  commits_none s d message made = said_more s d.effects (Does (Asks (accept_of site moment message made)) ∷ []) ∙ append-nil (said_to s d.effects)
 
   adds_stored : (d : Did) (message : Message) (made : Made) (text : List ℕ) (whole : Bool) → Adds d (says (commits site moment d message made) text whole) (text ∷ [])
   adds_stored d message made text whole =

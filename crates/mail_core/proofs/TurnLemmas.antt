@@ -1,5 +1,5 @@
 -- The lines of a session that were answered stand first in what it sent, and what came of it is what was taken.
-use Rattle.std.proofs.Common.{◌≡◌, ℕ, List, [], ◌∷◌, ◌++◌, Bool, true, false, Option, Some, None, refl, sym, ◌∙◌, ap, subst, ⊎_elim}
+use Rattle.std.proofs.Common.{◌≡◌, ℕ, suc, map, List, [], ◌∷◌, ◌++◌, Bool, true, false, Option, Some, None, refl, sym, ◌∙◌, ap, subst, ⊎_elim}
 use Rattle.std.specs.Prelude.{is_some, fold, length, slice_get, if◌then◌else◌}
 use Rattle.std.specs.List.{flat_map}
 use Rattle.std.proofs.lemmas.Bool.{cases_Bool}
@@ -11,22 +11,27 @@ use Rattle.smtp_lines.specs.declared.line.Mode.TheVariants.{Commands}
 use Rattle.smtp_lines.specs.Stream.{Reads, asks, granted_mode, line_of, mode_after, reading_of}
 use Rattle.mail_base.specs.declared.message.Message.{Message}
 use Rattle.smtp_receive.specs.Mails.{message_of}
-use Rattle.smtp_receive.specs.Dialogue.{Answer, Says, Refuses, Greets, Extends, Grants, Closes as Ends, Gives, Takes as Passes, is_grant}
+use Rattle.smtp_receive.specs.Dialogue.{Answer, Heard, Says, Refuses, Greets, Extends, Grants, Closes as Ends, Gives, Takes as Passes, is_grant}
 use Rattle.smtp_receive.specs.Judging.{Said, Unasked}
 use Rattle.smtp_receive.specs.Replies.{text_of, refusal_text, grant_text, hello_text, extended_text, closing_text, stored_text, shown_host, out_of_memory_text}
 use Rattle.spool_store.specs.Entries.{Table}
 use Rattle.mail_core.specs.Sites.{Site}
-use Rattle.mail_core.specs.Effects.{Effect, Takes, Ticks, Commits, Sends, HangsUp, events_of, speech, taken_in}
-use Rattle.mail_core.specs.Guests.{Guest, grants_of, is_passed, next_line, with_line, lines_heard}
-use Rattle.mail_core.specs.Machine.{Choice, Normal, OutOfMemory, Disconnects, SpoolFails, JudgeFails, SpoolFault, IdsSpent, FilesFault, Finish, By, Cut, Way, GoesOn, Leaves, Over, Did, answer_by, limit_of, question_here, does, says, closes, is_over, commits, replies, fails, heard_line, heard_where, id_by, is_answered, by_choice, goes_on, answered, settled_by, fresh_start, all_answered}
+use Rattle.queue_run.specs.Deeds.{Asks}
+use Rattle.mail_core.specs.Effects.{Does, Effect, Takes, Ticks, Sends, HangsUp, events_of, speech, taken_in}
+use Rattle.mail_core.specs.Guests.{Guest, line_in, grants_of, is_passed, next_line, with_line, lines_heard}
+use Rattle.mail_core.specs.Machine.{all_answered, answer_by, answered, by_choice, Choice, closes, commits, Did, Disconnects, does, fails, fresh_start, goes_on, GoesOn, heard_line, heard_where, id_by, is_answered, is_over, JudgeFails, Leaves, limit_of, Normal, OutOfMemory, Over, question_here, replies, says, settled_by, SpoolFails, Way}
+use Rattle.mail_core.specs.States.{By, Cut, FilesFault, Finish, IdsSpent, SpoolFault}
 use Rattle.mail_core.specs.Messages.{Made, accept_of, is_spent}
 use Rattle.mail_core.specs.Told.{IsInTurn, brought_by, brought_in, brought_of}
 use Rattle.mail_core.proofs.WayLemmas.{goes_keeps}
 use Rattle.mail_core.proofs.AnswerLemmas.{answer_kept, grants_more, lines_more}
-use Rattle.mail_core.proofs.FeedLemmas.{how_many_heard}
 use Rattle.mail_core.proofs.StreamLemmas.{IsNext, next_reads, none_left, reads_asked, reads_plain}
 
 -- ---- lines that stand first
+
+how_many_heard : (heard : List Heard) → length (map line_in heard) ≡ length heard
+how_many_heard [] = refl
+how_many_heard (h ∷ heard) = ap suc (how_many_heard heard)
 
 -- the lines that were answered stand first in what the session sent
 pub record AreFirst (g : Guest) : Type 0 where
@@ -85,7 +90,7 @@ brought_taken : (s : ℕ) (effects : List Effect) → brought_of s effects ≡ f
 brought_taken s [] = refl
 brought_taken s (Takes event ∷ effects) = ap (λ q. brought_in s event ++ q) (brought_taken s effects)
 brought_taken s (Ticks reading ∷ effects) = brought_taken s effects
-brought_taken s (Commits command ∷ effects) = brought_taken s effects
+brought_taken s (Does deed ∷ effects) = brought_taken s effects
 brought_taken s (Sends number text whole ∷ effects) = brought_taken s effects
 brought_taken s (HangsUp number ∷ effects) = brought_taken s effects
 
@@ -152,7 +157,7 @@ not_left h = cc h
 
 module _ (site : Site) (moment : ℕ) where
   idles_commits : (d : Did) (message : Message) (made : Made) → Idles d (commits site moment d message made)
-  idles_commits d message made = record { same = refl; quiet = takes_none d.effects (Commits (accept_of site moment message made) ∷ []) refl }
+  idles_commits d message made = record { same = refl; quiet = takes_none d.effects (Does (Asks (accept_of site moment message made)) ∷ []) refl }
 
   idles_accepts : (spent : Bool) (d : Did) (message : Message) (made : Made) (whole : Bool) → Idles d (if spent then is_over d (By IdsSpent) else says (commits site moment d message made) (stored_text d.table.next) whole)
   idles_accepts true d message made whole = idles_over d (By IdsSpent)

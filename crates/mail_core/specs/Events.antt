@@ -1,5 +1,5 @@
--- What an event comes to (own).
-use Rattle.std.specs.Prelude.{◌≡◌, ℕ, ◌+◌, ◌≤◌, List, [], ◌∷◌, take, None, Some, IfSome, Result}
+-- What a turn comes to (own).
+use Rattle.std.specs.Prelude.{◌≡◌, ℕ, ◌+◌, ◌≤◌, List, [], ◌∷◌, take, None, Some, IfSome, Result, is_ok}
 use Rattle.mail_base.specs.Histories.{Gains}
 use Rattle.mail_edge.specs.Seen.{ClockSeen}
 use Rattle.link_edge.specs.Heard.{Heard, IsSoundAt}
@@ -9,16 +9,20 @@ use Rattle.link_edge.specs.declared.event.Event.TheVariants.{Opens, Brings, Clos
 use Rattle.link_edge.specs.declared.event.FloorEvent.TheVariants.{Took}
 use Rattle.link_edge.specs.declared.turn.Turn.{Turn}
 use Rattle.link_edge.specs.declared.turn.Turn.TheVariants.{Opened, Piece, Closed, Idle, Stop}
+use Rattle.spool_disk.specs.Disk.{FileMap}
+use Rattle.spool_store.specs.Settled.{StandsFor}
+use Rattle.mail_core.specs.declared.act.Act.{Act}
 use Rattle.mail_core.specs.declared.serving.Core.{Core}
-use Rattle.mail_core.specs.declared.serving.Act.{Act}
 use Rattle.mail_core.specs.declared.serving.CoreStop.{CoreStop}
-use Rattle.mail_core.specs.Sites.{Site}
 use Rattle.mail_core.specs.Causes.{EndsSo, ending_of, is_well}
-use Rattle.mail_core.specs.Machine.{Choices, Ending, State, Step, at_moment, stepped}
 use Rattle.mail_core.specs.Judges.{JudgeSeen}
-use Rattle.mail_core.specs.Meant.{IsEventMeant}
-use Rattle.mail_core.specs.Seen.{Seen, Ran}
+use Rattle.mail_core.specs.Machine.{Choices, at_moment, turned}
+use Rattle.mail_core.specs.Meant.{IsEventMeant, IsEventRead}
+use Rattle.mail_core.specs.Plans.{Origin, OfFloor, OfRun, reading_of}
+use Rattle.mail_core.specs.Seen.{Seen, RanBy}
+use Rattle.mail_core.specs.Sites.{Site}
 use Rattle.mail_core.specs.Standing.{Stands}
+use Rattle.mail_core.specs.States.{Ending, State, Step}
 
 -- the event of a turn, with its bytes
 abbrev pub event_of : Turn → List ℕ → Event
@@ -28,32 +32,43 @@ event_of (Closed session) buf = Closes session
 event_of Idle buf = Rests
 event_of Stop buf = Stops
 
--- a turn of the floor was taken, with its event, and then the clock was read
-pub record IsTaken (before now : Heard) (clock read : ClockSeen) (event : Event)
-    (reading : ℕ) : Type 0 where
+-- a floor told this turn
+pub record IsTold (before now : Heard) (event : Event) : Type 0 where
   pub told : Gains before.told now.told (Took event ∷ [])
   pub follows : IfSome before.told (λ history. Follows history (Took event))
   pub faults : before.faults ≤ now.faults
-  pub clock_told : Gains clock.told read.told (reading ∷ [])
+
+-- or the run made it, and the floor wasn't asked
+abbrev pub ComesOf : Origin → Heard → Heard → Event → Type 0
+ComesOf (OfFloor reading) before now event = IsTold before now event
+ComesOf (OfRun reading) before now event = now ≡ before
+
+-- a turn with its event came, and then the clock was read
+pub record IsTaken (origin : Origin) (before now : Heard) (clock read : ClockSeen) (event : Event)
+    : Type 0 where
+  pub comes : ComesOf origin before now event
+  pub clock_told : Gains clock.told read.told (reading_of origin ∷ [])
   pub readings : read.readings ≡ clock.readings + 1
 
--- the step of the machine at an event, by some choices
-abbrev pub step_of : Site → State → (event : Event) → ℕ → Choices event → Step
-step_of site m event reading choices =
-    stepped site m (record { event = event; reading = reading; choices = choices })
+-- the step of the machine at a turn, by some choices
+abbrev pub step_of : Site → State → (event : Event) → Origin → Choices event → Step
+step_of site m event origin choices =
+    turned site m (record { event = event; origin = origin; choices = choices })
 
--- by some choices, which are as the configuration means them, the machine's step is what happened
--- from a to b; the core stands for its state
--- where the run goes on, and else it ended the run so
-pub record Turns (j : JudgeSeen) (site : Site) (m : State) (event : Event) (reading : ℕ) (a b : Seen) (core : Core)
-    (went : Result Act CoreStop) : Type 0 where
+-- by some choices, which are as the configuration means them and of what the table has, the
+-- machine's step is what happened from a to b; the core stands for its state where the run goes on,
+-- and else it ended the run so
+pub record Turns (j : JudgeSeen) (site : Site) (m : State) (event : Event) (origin : Origin)
+    (a b : Seen) (core : Core) (went : Result Act CoreStop) : Type 0 where
   pub choices : Choices event
-  pub meant : IsEventMeant j site (at_moment m reading) event choices
-  pub ran : Ran site.dirs m.table a b
-      (step_of site m event reading choices).effects (is_well went)
-  pub stands : ending_of went ≡ None → Stands site core (step_of site m event reading choices).state
+  pub meant : IsEventMeant j site (at_moment m (reading_of origin)) event choices
+  pub read : (files : FileMap) → a.spool.told ≡ Some files → StandsFor site.dirs m.table files
+      → IsEventRead m event choices
+  pub ran : RanBy site.dirs m.table a b (step_of site m event origin choices).effects
+      (is_well went) (is_ok went)
+  pub stands : ending_of went ≡ None → Stands site core (step_of site m event origin choices).state
   pub ended : (ending : Ending) → ending_of went ≡ Some ending
-      → EndsSo ending event (step_of site m event reading choices).state a b
+      → EndsSo ending (step_of site m event origin choices).state a b
 
 -- the session of an opening or a piece is open, where the floor tells
 abbrev pub IsHeardAt : Heard → Turn → Type 0

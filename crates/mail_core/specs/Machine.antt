@@ -1,6 +1,7 @@
--- The machine: what sessions, table and clock come to at each event. What it can't know are the
--- choices at an event: whether a text could be sent, where memory was wanting, what the judge said,
--- and that the spool failed, or files that the judge reads (own; the replies are those of RFC 5321).
+-- The machine: what sessions, runners, table and clock come to at each event. What it can't know
+-- are the choices at an event: whether a text could be sent, where memory was wanting, what the
+-- judge said, how the step of a runner went, and that the spool failed, or files that the judge
+-- reads (own; the replies are those of RFC 5321).
 use Rattle.std.specs.Prelude.{ℕ, ◌≤◌, nat_le, List, [], ◌∷◌, ◌++◌, length, fold, max, min, Option, Some, None, is_some, Bool, true, false, not, ◌&&◌, if◌then◌else◌}
 use Rattle.link_edge.specs.declared.event.Event.{Event}
 use Rattle.link_edge.specs.declared.event.Event.TheVariants.{Opens, Brings, Closes, Rests, Stops}
@@ -15,10 +16,15 @@ use Rattle.smtp_receive.specs.Replies.{text_of, refusal_text, grant_text, hello_
 use Rattle.smtp_receive.specs.Sessions.{answer_of, question_of}
 use Rattle.spool_store.specs.Entries.{Table}
 use Rattle.queue_table.specs.Commands.{after}
-use Rattle.mail_core.specs.Effects.{Effect, Takes, Ticks, Commits, Sends, HangsUp, speech}
+use Rattle.queue_run.specs.Deeds.{Asks}
+use Rattle.queue_run.specs.Steps.{Luck}
+use Rattle.mail_core.specs.Effects.{Effect, Takes, Ticks, Sends, HangsUp, Does, speech}
 use Rattle.mail_core.specs.Guests.{Guest, newcomer, next_line, is_passed, has_bytes_left, with_bytes, with_line, guest_of, is_here, AreApart, without, with_guest}
-use Rattle.mail_core.specs.Sites.{Site}
+use Rattle.mail_core.specs.Idling.{Idling, ends_list, idle, stopped}
 use Rattle.mail_core.specs.Messages.{Made, accept_of, is_spent}
+use Rattle.mail_core.specs.Plans.{Origin, OfFloor, OfRun, awaits, comes_from, reading_of}
+use Rattle.mail_core.specs.Sites.{Site}
+use Rattle.mail_core.specs.States.{By, Cut, FilesFault, Finish, IdsSpent, SpoolFault, State, Step, cut, followed, headed, still}
 
 -- what is left open at an opening: its greeting, or its 421, is sent whole or not; or the session
 -- ends for want of memory
@@ -37,27 +43,14 @@ pub data Choice : Type 0 where
   SpoolFails : (made : Made) → Choice
   JudgeFails : Choice
 
--- what is left open at an event: at an opening, and at each line that a piece completes; nothing
--- else is
+-- what is left open at an event: at an opening, at each line that a piece completes, at a turn in
+-- which nothing came, and at the step of a child's holder behind a Stop, if there is one
 abbrev pub Choices : Event → Type 0
 Choices (Opens session peer) = Opening
 Choices (Brings session bytes) = List Choice
 Choices (Closes session) = Unit {0}
-Choices Rests = Unit {0}
-Choices Stops = Unit {0}
-
--- why a run ended: the floor told Stop; the spool failed; a message needs an id and none is left;
--- files failed that the judge reads
-pub data Ending : Type 0 where
-  Stopped : Ending
-  SpoolFault : Ending
-  IdsSpent : Ending
-  FilesFault : Ending
-
--- how a run is over: it ended so, or it is cut where a choice is missing
-pub data Finish : Type 0 where
-  By : (ending : Ending) → Finish
-  Cut : Finish
+Choices Rests = Idling
+Choices Stops = Option Luck
 
 -- how a session goes on: it does, it is over, or the whole run is
 pub data Way : Type 0 where
@@ -107,7 +100,7 @@ question_here d line = question_of d.guest.config d.guest.peer d.guest.heard lin
 abbrev pub commits : Site → ℕ → Did → Message → Made → Did
 commits site moment d message made = record d {
   table = after d.table (accept_of site moment message made);
-  effects = d.effects ++ Commits (accept_of site moment message made) ∷ [];
+  effects = d.effects ++ Does (Asks (accept_of site moment message made)) ∷ [];
 }
 
 -- a message is accepted, and then its 250 said, with the id of its first part; where an id is
@@ -228,26 +221,6 @@ abbrev pub all_answered : Site → ℕ → Table → Guest → List Choice → D
 all_answered site moment table guest choices =
     settled (fold (answered site moment) (fresh_start table guest) choices)
 
--- the table, the open sessions, the greatest reading of the clock so far, and how the run is over,
--- once it is
-pub record State : Type 0 where
-  pub table : Table
-  pub guests : List Guest
-  pub latest : ℕ
-  pub over : Option Finish
-
--- a state, and what was done to come to it
-pub record Step : Type 0 where
-  pub state : State
-  pub effects : List Effect
-
-abbrev pub still : State → Step
-still m = record { state = m; effects = [] }
-
--- a choice is missing: the run is cut here
-abbrev pub cut : State → Step
-cut m = record { state = record m { over = Some Cut }; effects = [] }
-
 -- the most sessions that are open at once
 unfoldable pub most_guests : ℕ
 most_guests = 64
@@ -318,13 +291,14 @@ handled site m (Opens session peer) choice = opened site m session peer choice
 handled site m (Brings session bytes) choices =
     pieced site m bytes choices (guest_of session m.guests)
 handled site m (Closes session) none = still (record m { guests = without session m.guests })
-handled site m Rests none = still m
-handled site m Stops none = still (record m { over = Some (By Stopped) })
+handled site m Rests choice = ends_list site (idle site m choice)
+handled site m Stops luck = stopped site (record m { stopping = true }) luck
 
--- a turn of the floor with its event, the clock's reading at it, and what was left open in it
+-- a turn: its event, where it came from with the clock's reading at it, and what was left open in
+-- it
 pub record Turn : Type 0 where
   pub event : Event
-  pub reading : ℕ
+  pub origin : Origin
   pub choices : Choices event
 
 -- the beginning of the year 3000: a later reading counts as that
@@ -339,24 +313,26 @@ moment_by latest reading = max latest (min reading last_moment)
 abbrev pub at_moment : State → ℕ → State
 at_moment m reading = record m { latest = moment_by m.latest reading }
 
-abbrev pub taken : Turn → Step → Step
-taken turn step = record step { effects = Takes turn.event ∷ Ticks turn.reading ∷ step.effects }
+-- what is seen of a turn itself
+abbrev pub came : Origin → Event → List Effect
+came (OfFloor reading) event = Takes event ∷ Ticks reading ∷ []
+came (OfRun reading) event = Ticks reading ∷ []
 
--- one event; after the run is over there is none
-abbrev pub stepped : Site → State → Turn → Step
-stepped site m turn =
+-- a turn may come then
+abbrev pub fits : Site → State → Turn → Bool
+fits site m turn =
+    comes_from turn.origin turn.event && awaits site.plan m.stopping turn.event
+
+-- one turn; after the run is over there is none
+abbrev pub turned : Site → State → Turn → Step
+turned site m turn =
     if is_some m.over then still m
-    else taken turn (handled site (at_moment m turn.reading) turn.event turn.choices)
-
--- what comes after a step
-abbrev pub followed : Step → Step → Step
-followed first later = record later { effects = first.effects ++ later.effects }
+    else if fits site m turn
+    then headed (came turn.origin turn.event)
+    (handled site (at_moment m (reading_of turn.origin)) turn.event turn.choices)
+    else cut m
 
 -- a whole run
 abbrev pub run : Site → State → List Turn → Step
 run site m [] = still m
-run site m (turn ∷ turns) = let now = stepped site m turn in followed now (run site now.state turns)
-
--- the state in which a run begins over a table
-abbrev pub beginning : Table → State
-beginning table = record { table = table; guests = []; latest = 0; over = None }
+run site m (turn ∷ turns) = let now = turned site m turn in followed now (run site now.state turns)

@@ -1,7 +1,7 @@
--- What is said of the lines of a run is what its judge says, and the headers Received and the parts
--- of messages are those of the configuration (own; Sendmail Installation and Operation Guide, H:
--- Define Header, and "Queue Groups").
-use Rattle.std.specs.Prelude.{◌≡◌, ℕ, ◌≤◌, List, [], ◌∷◌, Option, None, Some}
+-- What is said of the lines of a run is what its judge says, and the headers Received, the parts of
+-- messages and the steps of runners are those of the configuration (own; Sendmail Installation and
+-- Operation Guide, H: Define Header, and "Queue Groups").
+use Rattle.std.specs.Prelude.{◌≡◌, ℕ, ◌≤◌, List, [], ◌∷◌, Option, None, Some, true}
 use Rattle.link_edge.specs.declared.event.Event.{Event}
 use Rattle.link_edge.specs.declared.event.Event.TheVariants.{Opens, Brings, Closes, Rests, Stops}
 use Rattle.smtp_lines.specs.declared.line.Line.{Line}
@@ -11,9 +11,12 @@ use Rattle.smtp_receive.specs.Mails.{message_of}
 use Rattle.spool_store.specs.Entries.{Table}
 use Rattle.mail_core.specs.Guests.{Guest, guest_of, next_line, with_bytes}
 use Rattle.mail_core.specs.Judges.{JudgeSeen, Says}
-use Rattle.mail_core.specs.Machine.{Choice, Normal, OutOfMemory, Disconnects, SpoolFails, JudgeFails, Choices, Did, State, Turn, answer_by, answered, at_moment, fresh_start, question_here, stepped}
+use Rattle.mail_core.specs.Machine.{Choice, Normal, OutOfMemory, Disconnects, SpoolFails, JudgeFails, Choices, Did, Turn, answer_by, answered, at_moment, fresh_start, question_here, turned}
 use Rattle.mail_core.specs.Messages.{IsTakenIn, Made, last_id}
+use Rattle.mail_core.specs.Plans.{reading_of}
+use Rattle.mail_core.specs.Resting.{IsRestMeant, IsRestRead, IsStopMeant, IsStopRead}
 use Rattle.mail_core.specs.Sites.{Site}
+use Rattle.mail_core.specs.States.{State}
 
 -- what a judge says of the path of a line, if it is put to it
 abbrev pub IsSaidAt : JudgeSeen → Did → Line → Said → Type 0
@@ -68,13 +71,27 @@ IsEventMeant j site m (Opens session peer) choice = Unit {0}
 IsEventMeant j site m (Brings session bytes) choices =
     ArePieceMeant j site m bytes choices (guest_of session m.guests)
 IsEventMeant j site m (Closes session) none = Unit {0}
-IsEventMeant j site m Rests none = Unit {0}
-IsEventMeant j site m Stops none = Unit {0}
+IsEventMeant j site m Rests choice = IsRestMeant j site m choice
+IsEventMeant j site m Stops luck = IsStopMeant j site (record m { stopping = true }) luck
 
--- all that was said in a run is what the judge says, and all that was made of its messages is what
--- the configuration says
+-- all that was said in a run is what the judge says, and all that was made of its messages, and by
+-- its runners, is what the configuration says
 abbrev pub IsRunMeant : JudgeSeen → Site → State → List Turn → Type 0
 IsRunMeant j site m [] = Unit {0}
 IsRunMeant j site m (turn ∷ turns) =
-    IsEventMeant j site (at_moment m turn.reading) turn.event turn.choices
-    × IsRunMeant j site (stepped site m turn).state turns
+    IsEventMeant j site (at_moment m (reading_of turn.origin)) turn.event turn.choices
+    × IsRunMeant j site (turned site m turn).state turns
+
+-- what the steps of an event read is what the table has
+abbrev pub IsEventRead : State → (event : Event) → Choices event → Type 0
+IsEventRead m (Opens session peer) choice = Unit {0}
+IsEventRead m (Brings session bytes) choices = Unit {0}
+IsEventRead m (Closes session) none = Unit {0}
+IsEventRead m Rests choice = IsRestRead m choice
+IsEventRead m Stops luck = IsStopRead m luck
+
+-- and so do those of a run
+abbrev pub AreRead : Site → State → List Turn → Type 0
+AreRead site m [] = Unit {0}
+AreRead site m (turn ∷ turns) =
+    IsEventRead m turn.event turn.choices × AreRead site (turned site m turn).state turns

@@ -1,56 +1,46 @@
--- What is seen of floor, spool and clock, and what a list of effects makes of it (own).
-use Rattle.std.specs.Prelude.{◌≡◌, ℕ, ◌+◌, ◌≤◌, List, [], ◌∷◌, ◌++◌, length, Bool, true, false}
+-- What is seen of the devices of a run, and what a list of effects makes of it (own).
+use Rattle.std.specs.Prelude.{◌≡◌, ℕ, ◌+◌, ◌≤◌, List, length, Bool, true, false}
 use Rattle.mail_base.specs.Histories.{Gains}
 use Rattle.mail_edge.specs.Seen.{ClockSeen}
+use Rattle.link_edge.specs.Dials.{DialSeen}
 use Rattle.link_edge.specs.Heard.{Heard}
+use Rattle.spawn_edge.specs.Spawned.{Spawned}
 use Rattle.spool_disk.specs.Disk.{FileMap}
 use Rattle.spool_disk.specs.Spooled.{Spooled}
 use Rattle.spool_store.specs.Entries.{Table}
 use Rattle.spool_store.specs.Moves.{Moves}
-use Rattle.spool_store.specs.Parts.{IsEitherTable}
 use Rattle.spool_store.specs.Queue.{Spot, IsStrange}
 use Rattle.spool_store.specs.Settled.{StandsFor}
 use Rattle.spool_store.specs.Stores.{KeepsOthers}
-use Rattle.queue_table.specs.Commands.{Command, after, applied}
-use Rattle.mail_core.specs.Effects.{Effect, Commits, heard_of, readings_of, commands_of}
+use Rattle.queue_table.specs.Asked.{AreStoppable, IsFront, Leaves}
+use Rattle.mail_core.specs.Effects.{Effect, born_of, commanded, dialled_of, heard_of, readings_of}
 
--- all that is seen of the three
+-- what runners work with beside the spool
+pub record Hands : Type 0 where
+  pub spawner : Spawned
+  pub dialer : DialSeen
+
+abbrev pub hands : Spawned → DialSeen → Hands
+hands spawner dialer = record { spawner = spawner; dialer = dialer }
+
+-- what sessions leave alone: the clock, and the hands of runners
+pub record Beside : Type 0 where
+  pub clock : ClockSeen
+  pub hands : Hands
+
+abbrev pub beside : ClockSeen → Hands → Beside
+beside clock hands = record { clock = clock; hands = hands }
+
+-- all that is seen
 pub record Seen : Type 1 where
   pub floor : Heard
   pub spool : Spooled
   pub clock : ClockSeen
+  pub hands : Hands
 
-abbrev pub seen : Heard → Spooled → ClockSeen → Seen
-seen floor spool clock = record { floor = floor; spool = spool; clock = clock }
-
--- the table after some effects
-abbrev pub table_after : Table → List Effect → Table
-table_after table effects = applied table (commands_of effects)
-
--- the files stand for the table before a command or after it
-abbrev pub IsEither : List (List ℕ) → Table → Command → FileMap → Type 0
-IsEither dirs table command files = IsEitherTable dirs table (after table command) files
-
--- the files stand for the table after a front of the effects
-pub record IsPart (dirs : List (List ℕ)) (table : Table) (effects : List Effect)
-    (files : FileMap) : Type 0 where
-  pub done : List Effect
-  pub rest : List Effect
-  pub whole : effects ≡ done ++ rest
-  pub stands : StandsFor dirs (table_after table done) files
-
--- the last effect is a command that failed, and the files stand for the table before it or after it
-pub record LacksLast (dirs : List (List ℕ)) (table : Table) (effects : List Effect)
-    (files : FileMap) : Type 0 where
-  pub done : List Effect
-  pub command : Command
-  pub whole : effects ≡ done ++ Commits command ∷ []
-  pub stands : IsEither dirs (table_after table done) command files
-
--- the files that effects leave: they stand for the table after them, but where the spool failed
-abbrev pub Leaves : List (List ℕ) → Table → List Effect → Bool → FileMap → Type 0
-Leaves dirs table effects true = StandsFor dirs (table_after table effects)
-Leaves dirs table effects false = LacksLast dirs table effects
+abbrev pub seen : Heard → Spooled → Beside → Seen
+seen floor spool beside =
+    record { floor = floor; spool = spool; clock = beside.clock; hands = beside.hands }
 
 -- what no call touches stays: files that are none of the queue's, and strange ones with the bodies
 -- of their ids; and these are strange still
@@ -67,15 +57,25 @@ abbrev pub IsSparing : List (List ℕ) → Spooled → Spooled → Bool → Type
 IsSparing dirs a b well =
     (f : FileMap) → Moves a b (λ g. g ≡ f) (SparesBy dirs well f) (KeepsOthers dirs f)
 
--- these effects lead from a to b: what floor and clock tell, what becomes of files that stood for
--- the table, and what a stop since a may leave; no count falls
-pub record Ran (dirs : List (List ℕ)) (table : Table) (a b : Seen) (effects : List Effect)
-    (well : Bool) : Type 0 where
+-- these effects lead from a to b: what floor, clock, spawner and dialer tell; what becomes of files
+-- that stood for the table, and what a stop since a may leave, unless an entry has the last
+-- revision; no count falls. Strange files stay strange where the run goes on
+pub record RanBy (dirs : List (List ℕ)) (table : Table) (a b : Seen) (effects : List Effect)
+    (well on : Bool) : Type 0 where
   pub floor : Gains a.floor.told b.floor.told (heard_of effects)
   pub clock : Gains a.clock.told b.clock.told (readings_of effects)
   pub readings : b.clock.readings ≡ a.clock.readings + length (readings_of effects)
-  pub spool : Moves a.spool b.spool (StandsFor dirs table) (Leaves dirs table effects well)
-      (IsPart dirs table effects)
-  pub frame : IsSparing dirs a.spool b.spool well
+  pub spawner : Gains a.hands.spawner.told b.hands.spawner.told (born_of effects)
+  pub dialer : Gains a.hands.dialer.told b.hands.dialer.told (dialled_of effects)
+  pub spool : AreStoppable commanded table effects
+      → Moves a.spool b.spool (StandsFor dirs table) (Leaves commanded dirs table effects well)
+      (IsFront commanded dirs table effects)
+  pub frame : IsSparing dirs a.spool b.spool on
   pub floor_faults : a.floor.faults ≤ b.floor.faults
   pub spool_faults : a.spool.faults ≤ b.spool.faults
+  pub spawner_faults : a.hands.spawner.faults ≤ b.hands.spawner.faults
+  pub dialer_faults : a.hands.dialer.faults ≤ b.hands.dialer.faults
+
+-- the same, where the run goes on unless the spool failed
+abbrev pub Ran : List (List ℕ) → Table → Seen → Seen → List Effect → Bool → Type 0
+Ran dirs table a b effects well = RanBy dirs table a b effects well well

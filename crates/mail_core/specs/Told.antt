@@ -9,17 +9,18 @@ use Rattle.smtp_lines.specs.Stream.{Reads, has_end}
 use Rattle.smtp_lines.specs.declared.line.Mode.{Mode}
 use Rattle.smtp_lines.specs.declared.line.Mode.TheVariants.{Commands}
 use Rattle.mail_core.specs.Sites.{Site}
-use Rattle.mail_core.specs.Effects.{Effect, Takes, Ticks, Commits, Sends, HangsUp}
+use Rattle.mail_core.specs.Effects.{Effect, Takes, Ticks, Sends, HangsUp, Does}
 use Rattle.mail_core.specs.Guests.{Guest, grants_of, newcomer, lines_heard}
 use Rattle.mail_core.specs.Machine.{Opening, Turn}
+use Rattle.mail_core.specs.Plans.{OfFloor}
 
 -- the text that an effect says to a session, if it says one
 abbrev pub said_by : ℕ → Effect → List (List ℕ)
 said_by session (Takes event) = []
 said_by session (Ticks reading) = []
-said_by session (Commits command) = []
 said_by session (Sends number text whole) = if nat_eq number session then text ∷ [] else []
 said_by session (HangsUp number) = []
+said_by session (Does deed) = []
 
 -- the texts that were said to a session, in turn
 abbrev pub said_to : ℕ → List Effect → List (List ℕ)
@@ -57,10 +58,10 @@ AreOfOthers session [] = Unit {0}
 AreOfOthers session (turn ∷ turns) =
     (is_of_others session turn.event ≡ true) × AreOfOthers session turns
 
--- the turn that opens a session of a peer
+-- the turn of the floor that opens a session of a peer
 abbrev pub opening_of : ℕ → List ℕ → ℕ → Opening → Turn
 opening_of session peer reading choice =
-    record { event = Opens session peer; reading = reading; choices = choice }
+    record { event = Opens session peer; origin = OfFloor reading; choices = choice }
 
 -- the bytes that an event brings of a session
 abbrev pub brought_in : ℕ → Event → List ℕ
@@ -73,9 +74,9 @@ brought_in session Stops = []
 abbrev pub brought_by : ℕ → Effect → List ℕ
 brought_by session (Takes event) = brought_in session event
 brought_by session (Ticks reading) = []
-brought_by session (Commits command) = []
 brought_by session (Sends number text whole) = []
 brought_by session (HangsUp number) = []
+brought_by session (Does deed) = []
 
 -- all that came of a session, as far as it was taken: after the run is over nothing is
 abbrev pub brought_of : ℕ → List Effect → List ℕ

@@ -1,5 +1,5 @@
 ghost use Rattle.mail_core.specs.Bounds.{AreSmall};
-ghost use Rattle.mail_core.specs.Machine.{State};
+ghost use Rattle.mail_core.specs.States.{State};
 ghost use Rattle.mail_core.specs.Sites.{Site};
 ghost use Rattle.mail_core.specs.Standing.{Stands};
 ghost use Rattle.mail_core.specs.declared.serving.Core.{Core as TheCore};

@@ -1,7 +1,6 @@
 ghost use Rattle.std.specs.Prelude.{◌≡◌, ◌<◌, All, ◌⊎◌, ◌++◌, ◌∷◌, ◌^◌, [], List, ℕ, Bool, Option, None, IfOk, IfSome, IsErrOf, true, false};
 ghost use Rattle.mail_base.specs.Histories.{Gains};
 ghost use Rattle.mail_base.specs.declared.fault.StoreFault.TheVariants.{IdsSpent as NoIdLeft, SpoolFault as SpoolBroke};
-ghost use Rattle.mail_edge.specs.Seen.{ClockSeen};
 ghost use Rattle.link_edge.specs.Heard.{IsSoundAt};
 ghost use Rattle.smtp_lines.specs.declared.line.Line.{Line as AnyLine};
 ghost use Rattle.smtp_lines.specs.declared.line.Line.TheVariants.{DataEnd};
@@ -17,7 +16,7 @@ ghost use Rattle.mail_core.specs.Sites.{IsUnder, Site};
 ghost use Rattle.mail_core.specs.Effects.{heard_of, speech, Sends, HangsUp};
 ghost use Rattle.mail_core.specs.inner.Going.{AnswersLine, AnswersLines, AnswersMessage, Feeds, is_onward, stays_open};
 ghost use Rattle.mail_core.specs.Causes.{is_judge_fault, is_well};
-ghost use Rattle.mail_core.specs.Judges.{IsAsked, judge_seen};
+ghost use Rattle.mail_core.specs.Judges.{IsAsked, judging};
 ghost use Rattle.mail_core.specs.Guests.{Guest, lines_of, lines_heard};
 ghost use Rattle.mail_core.specs.Machine as machine;
 ghost use Rattle.mail_core.specs.Machine.{moment_by};
@@ -27,7 +26,7 @@ ghost use Rattle.mail_base.specs.Drawing.{AreRows};
 ghost use Rattle.mail_base.specs.Texts.{IsHeader};
 ghost use Rattle.mail_base.specs.declared.message.Cut.{Cut as CutSeen};
 ghost use Rattle.queue_plan.specs.Parts.{IsPart};
-ghost use Rattle.mail_core.specs.Seen.{seen};
+ghost use Rattle.mail_core.specs.Seen.{Beside, seen};
 ghost use Rattle.mail_core.specs.Standing.{Keeps, Serves, Talks};
 ghost use Rattle.mail_core.specs.inner.Handling.{IsReady};
 
@@ -196,11 +195,12 @@ impl Intake {
             → AreValid self.old.table.terms (headed first message) self.old.moment cuts }
         requires rows { AreRows message.rows }
         requires tallied { Tallies self.old.table (D.seen spool.old) }
-        ensures accepts { (site : Site) (d : machine.Did) (clock : ClockSeen)
-            → IsUnder site config.now maps.now → d.way ≡ machine.GoesOn → Serves site self.old d.table
+        ensures accepts { (site : Site) (d : machine.Did) (side : Beside)
+            → IsUnder site config.now maps.now → d.way ≡ machine.GoesOn
+            → Serves site self.old d.table
             → caller.old.number ≡ d.guest.number → AnswersMessage site self.old.moment d message
-            (seen (F.seen floor.old) (D.seen spool.old) clock)
-            (seen (F.seen floor.new) (D.seen spool.new) clock)
+            (seen (F.seen floor.old) (D.seen spool.old) side)
+            (seen (F.seen floor.new) (D.seen spool.new) side)
             self.new caller.old caller.new result }
         ensures own { (F.seen floor.new).faults ≡ (F.seen floor.old).faults }
         ensures begun { (F.seen floor.new).begun ≡ (F.seen floor.old).begun }
@@ -241,15 +241,17 @@ impl Intake {
         requires sound { IsSoundAt (F.seen floor.old) caller.old.number }
         requires ready { IsReady self.old caller.old config.now maps.now }
         requires tallied { Tallies self.old.table (D.seen spool.old) }
-        ensures answers { (site : Site) (d : machine.Did) (clock : ClockSeen)
-            → IsUnder site config.now maps.now → d.way ≡ machine.GoesOn → Serves site self.old d.table → Talks site caller.old d.guest
-            → AnswersLine (judge_seen (J.seen judge.old) (J.answers judge.old)) site self.old.moment d line.now
-            (seen (F.seen floor.old) (D.seen spool.old) clock)
-            (seen (F.seen floor.new) (D.seen spool.new) clock)
+        ensures answers { (site : Site) (d : machine.Did) (side : Beside)
+            → IsUnder site config.now maps.now → d.way ≡ machine.GoesOn
+            → Serves site self.old d.table → Talks site caller.old d.guest
+            → AnswersLine (judging (J.seen judge.old) (J.answers judge.old)) site
+            self.old.moment d line.now
+            (seen (F.seen floor.old) (D.seen spool.old) side)
+            (seen (F.seen floor.new) (D.seen spool.new) side)
             self.new caller.new result }
         ensures ready { is_onward result ≡ true → IsReady self.new caller.new config.now maps.now }
-        ensures asked { IsAsked (judge_seen (J.seen judge.old) (J.answers judge.old))
-            (judge_seen (J.seen judge.new) (J.answers judge.new)) (is_judge_fault result) }
+        ensures asked { IsAsked (judging (J.seen judge.old) (J.answers judge.old))
+            (judging (J.seen judge.new) (J.answers judge.new)) (is_judge_fault result) }
         ensures fixed { J.fixed judge.new ≡ J.fixed judge.old }
         ensures own { (F.seen floor.new).faults ≡ (F.seen floor.old).faults }
         ensures begun { (F.seen floor.new).begun ≡ (F.seen floor.old).begun }
@@ -290,17 +292,19 @@ impl Intake {
         requires sound { IsSoundAt (F.seen floor.old) caller.old.number }
         requires ready { IsReady self.old caller.old config.now maps.now }
         requires tallied { Tallies self.old.table (D.seen spool.old) }
-        ensures answers { (site : Site) (d : machine.Did) (clock : ClockSeen)
-            → IsUnder site config.now maps.now → d.way ≡ machine.GoesOn → Serves site self.old d.table → Talks site caller.old d.guest
+        ensures answers { (site : Site) (d : machine.Did) (side : Beside)
+            → IsUnder site config.now maps.now → d.way ≡ machine.GoesOn
+            → Serves site self.old d.table → Talks site caller.old d.guest
             → OnlyLastAsks lines.now
             → StandsFirst (lines_heard d.guest ++ lines.now) (lines_of d.guest)
-            → AnswersLines (judge_seen (J.seen judge.old) (J.answers judge.old)) site self.old.moment d lines.now
-            (seen (F.seen floor.old) (D.seen spool.old) clock)
-            (seen (F.seen floor.new) (D.seen spool.new) clock)
+            → AnswersLines (judging (J.seen judge.old) (J.answers judge.old)) site
+            self.old.moment d lines.now
+            (seen (F.seen floor.old) (D.seen spool.old) side)
+            (seen (F.seen floor.new) (D.seen spool.new) side)
             self.new caller.new result }
         ensures ready { is_onward result ≡ true → IsReady self.new caller.new config.now maps.now }
-        ensures asked { IsAsked (judge_seen (J.seen judge.old) (J.answers judge.old))
-            (judge_seen (J.seen judge.new) (J.answers judge.new)) (is_judge_fault result) }
+        ensures asked { IsAsked (judging (J.seen judge.old) (J.answers judge.old))
+            (judging (J.seen judge.new) (J.answers judge.new)) (is_judge_fault result) }
         ensures fixed { J.fixed judge.new ≡ J.fixed judge.old }
         ensures own { (F.seen floor.new).faults ≡ (F.seen floor.old).faults }
         ensures begun { (F.seen floor.new).begun ≡ (F.seen floor.old).begun }
@@ -338,14 +342,16 @@ impl Intake {
         requires sound { IsSoundAt (F.seen floor.old) caller.old.number }
         requires ready { IsReady self.old caller.old config.now maps.now }
         requires tallied { Tallies self.old.table (D.seen spool.old) }
-        ensures feeds { (site : Site) (table : Entries) (g : Guest) (clock : ClockSeen)
-            → IsUnder site config.now maps.now → Serves site self.old table → Keeps site caller.old g
-            → Feeds (judge_seen (J.seen judge.old) (J.answers judge.old)) site self.old.moment table g piece.now
-            (seen (F.seen floor.old) (D.seen spool.old) clock)
-            (seen (F.seen floor.new) (D.seen spool.new) clock)
+        ensures feeds { (site : Site) (table : Entries) (g : Guest) (side : Beside)
+            → IsUnder site config.now maps.now → Serves site self.old table
+            → Keeps site caller.old g
+            → Feeds (judging (J.seen judge.old) (J.answers judge.old)) site self.old.moment
+            table g piece.now
+            (seen (F.seen floor.old) (D.seen spool.old) side)
+            (seen (F.seen floor.new) (D.seen spool.new) side)
             self.new caller.new result }
-        ensures asked { IsAsked (judge_seen (J.seen judge.old) (J.answers judge.old))
-            (judge_seen (J.seen judge.new) (J.answers judge.new)) (is_judge_fault result) }
+        ensures asked { IsAsked (judging (J.seen judge.old) (J.answers judge.old))
+            (judging (J.seen judge.new) (J.answers judge.new)) (is_judge_fault result) }
         ensures fixed { J.fixed judge.new ≡ J.fixed judge.old }
         ensures own { (F.seen floor.new).faults ≡ (F.seen floor.old).faults }
         ensures begun { (F.seen floor.new).begun ≡ (F.seen floor.old).begun }

@@ -1,33 +1,41 @@
-ghost use Rattle.std.specs.Prelude.{◌≡◌, ◌≢◌, ◌∷◌, ◌<◌, [], Bool, true, IfOk, All, length, nat_le, remove, vec_capacity, vec_len};
+ghost use Rattle.std.specs.Prelude.{◌≡◌, ◌≢◌, ◌∷◌, ◌<◌, [], Bool, false, true, IfOk, All, None, Some, is_ok, length, nat_le, remove, vec_capacity, vec_len};
 ghost use Rattle.mail_base.specs.Histories.{Gains};
 ghost use Rattle.mail_edge.specs.Seen.{ClockSeen};
 ghost use Rattle.link_edge.specs.Heard.{Heard, IsSoundAt};
 ghost use Rattle.link_edge.specs.Turns.{Fits};
-ghost use Rattle.link_edge.specs.declared.event.Event.TheVariants.{Brings};
+ghost use Rattle.link_edge.specs.declared.event.Event.TheVariants.{Brings, Rests, Stops};
 ghost use Rattle.smtp_receive.specs.Replies.{greeting_text, shown_host};
+ghost use Rattle.spawn_edge.specs.Spawned.{Spawned};
 ghost use Rattle.spool_disk.specs.Disk.{FileMap};
-ghost use Rattle.mail_core.specs.Effects.{Sends, HangsUp, heard_of};
-ghost use Rattle.mail_core.specs.Events.{IsTaken, IsHeardAt, Turns, event_of};
-ghost use Rattle.mail_core.specs.inner.Handling.{Behaves, HasAt, IsOpened, IsPlaceOf, Steps};
-ghost use Rattle.mail_core.specs.Causes.{is_judge_fault, is_well};
-ghost use Rattle.mail_core.specs.Judges.{IsAsked, judge_seen};
+ghost use Rattle.queue_table.specs.Calls.{Tallies};
+ghost use Rattle.queue_run.specs.Backs.{drawer};
+ghost use Rattle.mail_core.specs.Causes.{IsDrawn, is_judge_fault, is_well, lifted, stop_of};
+ghost use Rattle.mail_core.specs.Crews.{IsManned};
+ghost use Rattle.mail_core.specs.Effects.{HangsUp, Sends, heard_of};
+ghost use Rattle.mail_core.specs.Events.{IsHeardAt, IsTaken, Turns, event_of};
 ghost use Rattle.mail_core.specs.Guests.{newcomer, without};
-ghost use Rattle.mail_core.specs.declared.serving.CoreStop.TheVariants.{SpoolFault as SpoolStop};
-ghost use Rattle.mail_core.specs.Machine.{State, beginning, most_guests};
-ghost use Rattle.mail_core.specs.Seen.{seen};
+ghost use Rattle.mail_core.specs.Judges.{IsAsked, drawing, judging};
+ghost use Rattle.mail_core.specs.Machine.{most_guests};
+ghost use Rattle.mail_core.specs.Plans.{OfFloor, Origin, awaits, is_own, reading_of};
+ghost use Rattle.mail_core.specs.Seen.{Beside, Hands, beside, hands, seen};
 ghost use Rattle.mail_core.specs.Sites.{IsUnder, Site};
-ghost use Rattle.mail_core.specs.Standing.{IsStanding, IsTallied, Keeps, Stands, Stores, table_of};
-ghost use Rattle.spool_store.specs.Entries.{Table as Entries};
+ghost use Rattle.mail_core.specs.Standing.{IsStanding, Keeps, MayGoOn, Stands, table_of};
+ghost use Rattle.mail_core.specs.States.{State};
+ghost use Rattle.mail_core.specs.declared.serving.CoreStop.TheVariants.{SpoolFault as SpoolStop};
+ghost use Rattle.mail_core.specs.inner.Handling.{Behaves, HasAt, IsOpened, IsPlaceOf, Steps};
 
+use crate::act::Act;
 use crate::caller::Caller;
+use crate::crew::Crew;
 use crate::intake::{Intake, part};
 use crate::speech::say;
-use link_edge::{Floor, Turn};
-use mail_base::{Config, NoMemory, Text};
+use link_edge::{Dialer, Floor, Turn};
+use mail_base::{Config, Draws, NoMemory, Text};
 use map_tables::Maps;
-use queue_table::Table;
+use queue_run::RunStop;
 use smtp_lines::Lines;
-use smtp_receive::{Judge, Session, too_many_sessions};
+use smtp_receive::{Judge, Session};
+use spawn_edge::Spawner;
 use spool_disk::Spool;
 use spool_store::SpoolFault;
 use std::alloc::Global;
@@ -41,6 +49,8 @@ pub enum CoreStop {
     IdsSpent,
     /// Files failed that the judge reads.
     FilesFault,
+    /// There was no memory for a runner.
+    NoMemory,
 }
 
 impl From<SpoolFault> for CoreStop {
@@ -51,26 +61,45 @@ impl From<SpoolFault> for CoreStop {
     }
 }
 
-/// How an event went.
-#[derive(Clone, Copy, Debug, PartialEq, Eq)]
-pub enum Act {
-    /// The run goes on.
-    Went,
-    /// It ended, since the floor told `Stop`.
-    Ended,
+impl CoreStop {
+    // The error that a runner's is.
+    fn of_runner(stop: RunStop) -> CoreStop
+        ensures { result ≡ stop_of stop }
+    {
+        match stop {
+            RunStop::SpoolFault => CoreStop::SpoolFault,
+            RunStop::IdsSpent => CoreStop::IdsSpent,
+            RunStop::FilesFault => CoreStop::FilesFault,
+            RunStop::NoMemory => CoreStop::NoMemory,
+        }
+    }
+}
+
+// A turn of the crew, as the core's.
+fn turn_of(went: Result<Act, RunStop>) -> Result<Act, CoreStop>
+    ensures { result ≡ lifted went }
+{
+    match went {
+        Ok(act) => Ok(act),
+        Err(stop) => Err(CoreStop::of_runner(stop)),
+    }
 }
 
 /// The most sessions that are open at once.
 const MOST_SESSIONS: usize = 64;
 
-/// The sessions that are open, at most 64, in the order of their openings, and the message table.
+/// The sessions that are open, at most 64, in the order of their openings; the message table; and
+/// those who hold its entries.
 pub struct Core {
-    alloc: Global,
-    host: Text,
+    pub(crate) alloc: Global,
+    pub(crate) host: Text,
     /// The text of 421.
-    full: Text,
-    callers: Vec<Caller>,
-    intake: Intake,
+    pub(crate) full: Text,
+    pub(crate) callers: Vec<Caller>,
+    pub(crate) intake: Intake,
+    pub(crate) crew: Crew,
+    /// Whether a Stop came.
+    pub(crate) stopping: bool,
 }
 
 // Written out, since a caller's proof goes through the parts of a derived drop at each way out.
@@ -82,36 +111,28 @@ impl Drop for Core {
             full: _,
             callers: _,
             intake: _,
+            crew: _,
+            stopping: _,
         } = self;
     }
 }
 
 impl Core {
-    /// A core with no session, over a table. In replies it names this host.
-    pub fn new(alloc: Global, host: Text, table: Table) -> Result<Core, NoMemory>
-        ensures stands { IfOk result
-            (λ core. (site : Site) (entries : Entries) → site.host ≡ host
-            → Stores site table entries
-            → Stands site core (beginning entries)) }
-        ensures table { IfOk result (λ core. table_of core ≡ table) }
+    /// Whether a Stop came: then each turn is one. It takes no memory.
+    pub fn is_stopping(&self) -> bool
+        ensures { result ≡ self.now.stopping }
     {
-        Ok(Core {
-            alloc,
-            host,
-            full: too_many_sessions(alloc)?,
-            callers: Vec::new(alloc),
-            intake: Intake::new(alloc, table)?,
-        })
+        self.stopping
     }
 
-    /// One event of the machine. Its turn was taken and the clock read before the call. Session
-    /// numbers are never used twice by a floor that tells. While 64 sessions are open, one more is
-    /// told 421 4.3.2 and hung up. A piece of a session that isn't open is dropped, and an idle
-    /// turn changes nothing.
+    /// A turn of a session: it opens, brings a piece, or closes. The turn was taken and the clock
+    /// read before the call. Session numbers are never used twice by a floor that tells. While 64
+    /// sessions are open, one more is told 421 4.3.2 and hung up. A piece of a session that isn't
+    /// open is dropped.
     ///
-    /// Want of memory is answered by 452 4.3.1, or ends the session. After `Ended` and an error
-    /// nothing more is done. A fault of the spool ends the run with it: its count stays with every
-    /// other answer, and the floor's own with each.
+    /// Want of memory is answered by 452 4.3.1, or ends the session. After an error nothing more is
+    /// done. A fault of the spool ends the run with it: its count stays with every other answer,
+    /// and the floor's own with each.
     pub fn turn<F: Floor, D: Spool, J: Judge>(
         &mut self,
         floor: &mut F,
@@ -125,30 +146,135 @@ impl Core {
     ) -> Result<Act, CoreStop>
         requires fits { Fits turn buf.now }
         requires sound { IsHeardAt (F.seen floor.old) turn }
+        requires session { is_own (event_of turn buf.now) ≡ false }
         requires standing { IsStanding self.old config.now maps.now }
-        requires tallied { IsTallied self.old (D.seen spool.old) }
+        requires tallied { Tallies (table_of self.old) (D.seen spool.old) }
         ensures turns { (site : Site) (m : State) (before : Heard) (clock read : ClockSeen)
-            → IsUnder site config.now maps.now → Stands site self.old m
-            → IsTaken before (F.seen floor.old) clock read (event_of turn buf.now) reading
-            → Turns (judge_seen (J.seen judge.old) (J.answers judge.old)) site m (event_of turn buf.now) reading
-            (seen before (D.seen spool.old) clock)
-            (seen (F.seen floor.new) (D.seen spool.new) read)
+            (hands : Hands) → IsUnder site config.now maps.now → Stands site self.old m
+            → awaits site.plan m.stopping (event_of turn buf.now) ≡ true
+            → IsTaken (OfFloor reading) before (F.seen floor.old) clock read (event_of turn buf.now)
+            → Turns (judging (J.seen judge.old) (J.answers judge.old)) site m
+            (event_of turn buf.now) (OfFloor reading)
+            (seen before (D.seen spool.old) (beside clock hands))
+            (seen (F.seen floor.new) (D.seen spool.new) (beside read hands))
             self.new result }
-        ensures asked { IsAsked (judge_seen (J.seen judge.old) (J.answers judge.old))
-            (judge_seen (J.seen judge.new) (J.answers judge.new)) (is_judge_fault result) }
+        ensures asked { IsAsked (judging (J.seen judge.old) (J.answers judge.old))
+            (judging (J.seen judge.new) (J.answers judge.new)) (is_judge_fault result) }
         ensures fixed { J.fixed judge.new ≡ J.fixed judge.old }
         ensures own { (F.seen floor.new).faults ≡ (F.seen floor.old).faults }
         ensures begun { (F.seen floor.new).begun ≡ (F.seen floor.old).begun }
         ensures calm { is_well result ≡ true
             → (D.seen spool.new).faults ≡ (D.seen spool.old).faults }
-        ensures tallied { is_well result ≡ true
-            → IsTallied self.new (D.seen spool.new) }
+        ensures able { (spawner : Spawned) → is_ok result ≡ true
+            → MayGoOn self.old (D.seen spool.old) spawner
+            → MayGoOn self.new (D.seen spool.new) spawner }
     {
         self.intake.at(reading);
         self.handle(floor, spool, config, maps, judge, turn, buf)
     }
 
-    // What a turn asks for.
+    /// A turn in which nothing came: the next entry that may be claimed is claimed, and its first
+    /// step taken; or else the first of those who hold entries takes a step, and stands behind the
+    /// others then, unless its entry was let go. The clock was read before the call.
+    ///
+    /// It ends where nobody holds an entry and nothing is left of the list of a run over the queue.
+    /// Of the causes for which it fails, `NoMemory` also comes where there is none for a claim.
+    pub fn rest<D: Spool, S: Spawner, N: Dialer, W: Draws>(
+        &mut self,
+        spool: &mut D,
+        spawner: &mut S,
+        dialer: &mut N,
+        config: &Config,
+        maps: &Maps,
+        draws: &mut W,
+        reading: u64,
+    ) -> Result<Act, CoreStop>
+        requires standing { IsStanding self.old config.now maps.now }
+        requires able { MayGoOn self.old (D.seen spool.old) (S.seen spawner.old) }
+        ensures turns { (site : Site) (m : State) (origin : Origin) (before now : Heard)
+            (clock read : ClockSeen) → IsUnder site config.now maps.now → Stands site self.old m
+            → awaits site.plan m.stopping Rests ≡ true → reading_of origin ≡ reading
+            → IsTaken origin before now clock read Rests
+            → Turns (drawing (W.seen draws.old) (W.answers draws.old)) site m Rests origin
+            (seen before (D.seen spool.old)
+            (beside clock (hands (S.seen spawner.old) (N.seen dialer.old))))
+            (seen now (D.seen spool.new)
+            (beside read (hands (S.seen spawner.new) (N.seen dialer.new))))
+            self.new result }
+        ensures drawn { IsDrawn (drawer (W.seen draws.old) (W.answers draws.old))
+            (drawer (W.seen draws.new) (W.answers draws.new)) (is_judge_fault result) }
+        ensures fixed { W.fixed draws.new ≡ W.fixed draws.old }
+        ensures calm { is_well result ≡ true
+            → (D.seen spool.new).faults ≡ (D.seen spool.old).faults }
+        ensures able { is_ok result ≡ true
+            → MayGoOn self.new (D.seen spool.new) (S.seen spawner.new) }
+    {
+        self.intake.at(reading);
+        turn_of(
+            self.crew.rest(
+                self.alloc,
+                &mut self.intake.table,
+                spool,
+                spawner,
+                dialer,
+                draws,
+                config,
+                maps,
+                self.intake.moment,
+            ),
+        )
+    }
+
+    /// A Stop, and each turn behind it: the first of those whose child runs takes a step. It ends
+    /// where no child runs any more. The clock was read before the call.
+    pub fn stop<D: Spool, S: Spawner, N: Dialer, W: Draws>(
+        &mut self,
+        spool: &mut D,
+        spawner: &mut S,
+        dialer: &mut N,
+        config: &Config,
+        maps: &Maps,
+        draws: &mut W,
+        reading: u64,
+    ) -> Result<Act, CoreStop>
+        requires standing { IsStanding self.old config.now maps.now }
+        requires able { MayGoOn self.old (D.seen spool.old) (S.seen spawner.old) }
+        ensures turns { (site : Site) (m : State) (origin : Origin) (before now : Heard)
+            (clock read : ClockSeen) → IsUnder site config.now maps.now → Stands site self.old m
+            → awaits site.plan m.stopping Stops ≡ true → reading_of origin ≡ reading
+            → IsTaken origin before now clock read Stops
+            → Turns (drawing (W.seen draws.old) (W.answers draws.old)) site m Stops origin
+            (seen before (D.seen spool.old)
+            (beside clock (hands (S.seen spawner.old) (N.seen dialer.old))))
+            (seen now (D.seen spool.new)
+            (beside read (hands (S.seen spawner.new) (N.seen dialer.new))))
+            self.new result }
+        ensures drawn { IsDrawn (drawer (W.seen draws.old) (W.answers draws.old))
+            (drawer (W.seen draws.new) (W.answers draws.new)) (is_judge_fault result) }
+        ensures fixed { W.fixed draws.new ≡ W.fixed draws.old }
+        ensures calm { is_well result ≡ true
+            → (D.seen spool.new).faults ≡ (D.seen spool.old).faults }
+        ensures able { is_ok result ≡ true
+            → MayGoOn self.new (D.seen spool.new) (S.seen spawner.new) }
+    {
+        self.intake.at(reading);
+        self.stopping = true;
+        turn_of(
+            self.crew.stop(
+                self.alloc,
+                &mut self.intake.table,
+                spool,
+                spawner,
+                dialer,
+                draws,
+                config,
+                maps,
+                self.intake.moment,
+            ),
+        )
+    }
+
+    // What a turn of a session asks for.
     fn handle<F: Floor, D: Spool, J: Judge>(
         &mut self,
         floor: &mut F,
@@ -161,18 +287,23 @@ impl Core {
     ) -> Result<Act, CoreStop>
         requires fits { Fits turn buf.now }
         requires sound { IsHeardAt (F.seen floor.old) turn }
+        requires session { is_own (event_of turn buf.now) ≡ false }
         requires standing { IsStanding self.old config.now maps.now }
-        requires tallied { IsTallied self.old (D.seen spool.old) }
-        ensures steps { (site : Site) (m : State) (clock : ClockSeen) → IsUnder site config.now maps.now
+        requires tallied { Tallies (table_of self.old) (D.seen spool.old) }
+        ensures steps { (site : Site) (m : State) (side : Beside) → IsUnder site config.now maps.now
             → Stands site self.old m
-            → Steps (judge_seen (J.seen judge.old) (J.answers judge.old)) site m (event_of turn buf.now)
-            (seen (F.seen floor.old) (D.seen spool.old) clock)
-            (seen (F.seen floor.new) (D.seen spool.new) clock)
+            → Steps (judging (J.seen judge.old) (J.answers judge.old)) site m
+            (event_of turn buf.now)
+            (seen (F.seen floor.old) (D.seen spool.old) side)
+            (seen (F.seen floor.new) (D.seen spool.new) side)
             self.new result }
-        ensures behaves { Behaves (judge_seen (J.seen judge.old) (J.answers judge.old))
-            (judge_seen (J.seen judge.new) (J.answers judge.new)) (F.seen floor.old)
+        ensures behaves { Behaves (judging (J.seen judge.old) (J.answers judge.old))
+            (judging (J.seen judge.new) (J.answers judge.new)) (F.seen floor.old)
             (F.seen floor.new) (D.seen spool.old) (D.seen spool.new) (table_of self.new) result }
         ensures fixed { J.fixed judge.new ≡ J.fixed judge.old }
+        ensures manned { (spawner : Spawned) → is_ok result ≡ true
+            → IsManned (table_of self.old) spawner self.old.crew
+            → IsManned (table_of self.new) spawner self.new.crew }
     {
         match turn {
             Turn::Opened(session, count) => {
@@ -192,8 +323,8 @@ impl Core {
                 self.close(session);
                 Ok(Act::Went)
             }
-            Turn::Idle => Ok(Act::Went),
-            Turn::Stop => Ok(Act::Ended),
+            Turn::Idle => unreachable!(),
+            Turn::Stop => unreachable!(),
         }
     }
 
@@ -204,6 +335,7 @@ impl Core {
         ensures opens { (site : Site) (m : State) → Stands site self.old m
             → IsOpened site m session peer.now (F.seen floor.old) (F.seen floor.new) self.new }
         ensures intake { self.new.intake ≡ self.old.intake }
+        ensures crew { self.new.crew ≡ self.old.crew }
         ensures own { (F.seen floor.new).faults ≡ (F.seen floor.old).faults }
         ensures begun { (F.seen floor.new).begun ≡ (F.seen floor.old).begun }
     {
@@ -285,6 +417,7 @@ impl Core {
         ensures closes { (site : Site) (m : State) → Stands site self.old m
             → Stands site self.new (record m { guests = without session m.guests }) }
         ensures intake { self.new.intake ≡ self.old.intake }
+        ensures crew { self.new.crew ≡ self.old.crew }
     {
         if let Some(place) = self.place_of(session) {
             self.leave(place);
@@ -313,17 +446,21 @@ impl Core {
     ) -> Result<Act, CoreStop>
         requires sound { IsSoundAt (F.seen floor.old) session }
         requires standing { IsStanding self.old config.now maps.now }
-        requires tallied { IsTallied self.old (D.seen spool.old) }
-        ensures steps { (site : Site) (m : State) (clock : ClockSeen) → IsUnder site config.now maps.now
+        requires tallied { Tallies (table_of self.old) (D.seen spool.old) }
+        ensures steps { (site : Site) (m : State) (side : Beside) → IsUnder site config.now maps.now
             → Stands site self.old m
-            → Steps (judge_seen (J.seen judge.old) (J.answers judge.old)) site m (Brings session piece.now)
-            (seen (F.seen floor.old) (D.seen spool.old) clock)
-            (seen (F.seen floor.new) (D.seen spool.new) clock)
+            → Steps (judging (J.seen judge.old) (J.answers judge.old)) site m
+            (Brings session piece.now)
+            (seen (F.seen floor.old) (D.seen spool.old) side)
+            (seen (F.seen floor.new) (D.seen spool.new) side)
             self.new result }
-        ensures behaves { Behaves (judge_seen (J.seen judge.old) (J.answers judge.old))
-            (judge_seen (J.seen judge.new) (J.answers judge.new)) (F.seen floor.old)
+        ensures behaves { Behaves (judging (J.seen judge.old) (J.answers judge.old))
+            (judging (J.seen judge.new) (J.answers judge.new)) (F.seen floor.old)
             (F.seen floor.new) (D.seen spool.old) (D.seen spool.new) (table_of self.new) result }
         ensures fixed { J.fixed judge.new ≡ J.fixed judge.old }
+        ensures manned { (spawner : Spawned) → is_ok result ≡ true
+            → IsManned (table_of self.old) spawner self.old.crew
+            → IsManned (table_of self.new) spawner self.new.crew }
     {
         let Some(place) = self.place_of(session) else {
             return Ok(Act::Went);
@@ -332,6 +469,7 @@ impl Core {
         let next = self
             .intake
             .feed(floor, spool, config, maps, judge, caller, piece)?;
+        self.crew.wake();
         if !next.stays_open() {
             self.leave(place);
             return Ok(Act::Went);

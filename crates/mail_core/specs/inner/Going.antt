@@ -2,7 +2,6 @@
 -- steps. It need not be believed: only private contracts cite it.
 use Rattle.std.specs.Prelude.{Result, Ok, Err, is_ok, ◌≡◌, ℕ, List, [], ◌∷◌, ◌++◌, fold, Bool, true, false, not, Option, Some, None, ◌≢◌, if◌then◌else◌}
 use Rattle.mail_base.specs.declared.config.Config.{Config}
-use Rattle.link_edge.specs.declared.event.Event.{Event}
 use Rattle.smtp_lines.specs.declared.line.Line.{Line}
 use Rattle.smtp_lines.specs.declared.line.Line.TheVariants.{DataEnd}
 use Rattle.mail_base.specs.declared.message.Message.{Message}
@@ -18,15 +17,16 @@ use Rattle.mail_core.specs.declared.next.Next.TheVariants.{Continue, BeginData, 
 use Rattle.mail_core.specs.declared.serving.CoreStop.{CoreStop}
 use Rattle.mail_core.specs.declared.caller.Caller.{Caller}
 use Rattle.mail_core.specs.declared.intake.Intake.{Intake}
-use Rattle.mail_core.specs.Effects.{Effect}
+use Rattle.mail_core.specs.Effects.{Effect, table_after}
 use Rattle.mail_core.specs.Guests.{Guest, grants_of, has_bytes_left, with_bytes, lines_heard}
 use Rattle.mail_core.specs.Sites.{Site}
 use Rattle.mail_core.specs.Judges.{JudgeSeen}
 use Rattle.mail_core.specs.Meant.{AreMeant, IsMadeAt, IsMeant}
 use Rattle.mail_core.specs.Messages.{is_spent}
 use Rattle.mail_core.specs.Causes.{HasCause, ending_by, is_well}
-use Rattle.mail_core.specs.Machine.{Ending, Choice, Normal, OutOfMemory, Disconnects, SpoolFails, JudgeFails, Way, GoesOn, Leaves, Over, By, Cut, Did, is_over, says, accepts, fails, fresh_start, by_choice, heard_line, heard_where, answered, all_answered}
-use Rattle.mail_core.specs.Seen.{Seen, Ran, table_after}
+use Rattle.mail_core.specs.States.{Ending, By, Cut}
+use Rattle.mail_core.specs.Machine.{Choice, Normal, OutOfMemory, Disconnects, SpoolFails, JudgeFails, Way, GoesOn, Leaves, Over, Did, is_over, says, accepts, fails, fresh_start, by_choice, heard_line, heard_where, answered, all_answered}
+use Rattle.mail_core.specs.Seen.{Seen, Ran}
 use Rattle.mail_core.specs.Standing.{Serves, Talks, Keeps}
 
 -- whether a session stays open
@@ -58,15 +58,16 @@ is_granted (Ok next) = begins_data next
 is_granted (Err stop) = false
 
 -- from what was done so far to what is done then, with the effects between
-pub record Does (site : Site) (d e : Did) (a b : Seen) (fed : Result Next CoreStop) : Type 0 where
+pub record LeadsTo (site : Site) (d e : Did) (a b : Seen) (fed : Result Next CoreStop)
+    : Type 0 where
   pub more : List Effect
   pub effects : e.effects ≡ d.effects ++ more
   pub table : e.table ≡ table_after d.table more
   pub number : e.guest.number ≡ d.guest.number
   pub ran : Ran site.dirs d.table a b more (is_well fed)
   pub way : e.way ≡ way_after fed
-  pub cause : (ending : Ending) → way_after fed ≡ Over (By ending) → (event : Event)
-      → HasCause ending event e.table a b
+  pub cause : (ending : Ending) → way_after fed ≡ Over (By ending)
+      → HasCause ending e.table a b
 
 -- what is kept where the session goes on
 pub record Stays (site : Site) (d e : Did) (intake : Intake) (caller : Caller) : Type 0 where
@@ -89,11 +90,12 @@ pub record Hears (site : Site) (d e : Did) (lines : List Line) (intake : Intake)
   pub may_disconnect : asked_after false lines ≡ true → e.may_disconnect ≡ has_bytes_left e.guest
 
 -- by a choice, a line was answered
-pub record AnswersLine (j : JudgeSeen) (site : Site) (moment : ℕ) (d : Did) (line : Line) (a b : Seen)
+pub record AnswersLine (j : JudgeSeen) (site : Site) (moment : ℕ) (d : Did) (line : Line)
+    (a b : Seen)
     (intake : Intake) (caller : Caller) (fed : Result Next CoreStop) : Type 0 where
   pub choice : Choice
   pub meant : IsMeant j site moment d choice (Some line)
-  pub does : Does site d (by_choice site moment d choice (Some line)) a b fed
+  pub does : LeadsTo site d (by_choice site moment d choice (Some line)) a b fed
   pub alive : is_ok fed ≡ true
       → Serves site intake (by_choice site moment d choice (Some line)).table
   pub hears : is_onward fed ≡ true
@@ -105,7 +107,8 @@ message_by site moment d message (Normal said made whole) =
     accepts site moment d message made whole
 message_by site moment d message (OutOfMemory whole) = says d out_of_memory_text whole
 message_by site moment d message Disconnects = is_over d Cut
-message_by site moment d message (SpoolFails made) = fails site moment d (Gives (mail_of message)) made
+message_by site moment d message (SpoolFails made) =
+    fails site moment d (Gives (mail_of message)) made
 message_by site moment d message JudgeFails = is_over d Cut
 
 -- at a message nothing is put to the judge, and what is made of it is what the configuration says
@@ -171,7 +174,7 @@ pub record AnswersMessage (site : Site) (moment : ℕ) (d : Did) (message : Mess
   pub choice : Choice
   pub answers : choice ≢ Disconnects
   pub meant : IsMessageMeant site moment d message choice
-  pub does : Does site d (message_by site moment d message choice) a b fed
+  pub does : LeadsTo site d (message_by site moment d message choice) a b fed
   pub guest : (message_by site moment d message choice).guest ≡ d.guest
   pub serves : is_ok fed ≡ true → Serves site intake (message_by site moment d message choice).table
   pub caller : is_onward fed ≡ true → IsAnswered (is_short choice) old new
@@ -183,17 +186,19 @@ reached site moment d choices = fold (answered site moment) d choices
 
 -- by some choices, these lines were answered, or the first of them up to where the session or the
 -- run ended
-pub record AnswersLines (j : JudgeSeen) (site : Site) (moment : ℕ) (d : Did) (lines : List Line) (a b : Seen)
+pub record AnswersLines (j : JudgeSeen) (site : Site) (moment : ℕ) (d : Did) (lines : List Line)
+    (a b : Seen)
     (intake : Intake) (caller : Caller) (fed : Result Next CoreStop) : Type 0 where
   pub choices : List Choice
   pub meant : AreMeant j site moment d choices
-  pub does : Does site d (reached site moment d choices) a b fed
+  pub does : LeadsTo site d (reached site moment d choices) a b fed
   pub alive : is_ok fed ≡ true → Serves site intake (reached site moment d choices).table
   pub hears : is_onward fed ≡ true
       → Hears site d (reached site moment d choices) lines intake caller fed
 
 -- by some choices, this is what came of a piece
-pub record Feeds (j : JudgeSeen) (site : Site) (moment : ℕ) (table : Table) (g : Guest) (bytes : List ℕ)
+pub record Feeds (j : JudgeSeen) (site : Site) (moment : ℕ) (table : Table) (g : Guest)
+    (bytes : List ℕ)
     (a b : Seen) (intake : Intake) (caller : Caller) (fed : Result Next CoreStop) : Type 0 where
   pub choices : List Choice
   pub meant : AreMeant j site moment (fresh_start table (with_bytes g bytes)) choices
@@ -205,6 +210,6 @@ pub record Feeds (j : JudgeSeen) (site : Site) (moment : ℕ) (table : Table) (g
       → Serves site intake (all_answered site moment table (with_bytes g bytes) choices).table
   pub keeps : is_onward fed ≡ true
       → Keeps site caller (all_answered site moment table (with_bytes g bytes) choices).guest
-  pub cause : (ending : Ending) → way_after fed ≡ Over (By ending) → (event : Event)
-      → HasCause ending event
+  pub cause : (ending : Ending) → way_after fed ≡ Over (By ending)
+      → HasCause ending
       (all_answered site moment table (with_bytes g bytes) choices).table a b

@@ -6,10 +6,11 @@ use Rattle.mail_core.specs.declared.serving.Core.{Core}
 use Rattle.mail_core.specs.Sites.{IsUnder, Site}
 use Rattle.mail_core.specs.declared.caller.Caller.{Caller}
 use Rattle.mail_core.specs.Guests.{Guest}
-use Rattle.mail_core.specs.Machine.{State, Choices, Ending, handled, Opening, opened}
+use Rattle.mail_core.specs.States.{State, Ending}
+use Rattle.mail_core.specs.Machine.{Choices, handled, Opening, opened}
 use Rattle.mail_core.specs.Standing.{Stands, Serves, Talks}
 use Rattle.link_edge.specs.declared.event.Event.{Event}
-use Rattle.mail_core.specs.declared.serving.Act.{Act}
+use Rattle.mail_core.specs.declared.act.Act.{Act}
 use Rattle.mail_core.specs.declared.serving.CoreStop.{CoreStop}
 use Rattle.mail_core.specs.Causes.{EndsSo, ending_of, is_judge_fault, is_well}
 use Rattle.mail_core.specs.Judges.{IsAsked, JudgeSeen}
@@ -42,14 +43,15 @@ IsPlaceOf session callers (Some place) = HasAt session callers place
 
 -- by some choices, what the machine does at an event, beside the turn itself, is what happened from
 -- a to b; the core stands for its state where the run goes on, and else it ended the run so
-pub record Steps (j : JudgeSeen) (site : Site) (m : State) (event : Event) (a b : Seen) (core : Core)
+pub record Steps (j : JudgeSeen) (site : Site) (m : State) (event : Event) (a b : Seen)
+    (core : Core)
     (went : Result Act CoreStop) : Type 0 where
   pub choices : Choices event
   pub meant : IsEventMeant j site m event choices
   pub ran : Ran site.dirs m.table a b (handled site m event choices).effects (is_well went)
   pub stands : ending_of went ≡ None → Stands site core (handled site m event choices).state
   pub ended : (ending : Ending) → ending_of went ≡ Some ending
-      → EndsSo ending event (handled site m event choices).state a b
+      → EndsSo ending (handled site m event choices).state a b
 
 -- what each step keeps, whatever it does: what the judge says; the floor's own count, and how it
 -- was begun; and, unless a fault of the spool ended the run, the spool's count and what the table

@@ -1,8 +1,9 @@
-use Rattle.mail_core.proofs.ManyLemmas.{run_joins, turn_alone}
+use Rattle.mail_core.proofs.FollowLemmas.{run_joins}
+use Rattle.mail_core.proofs.ManyLemmas.{turn_alone}
 use Rattle.mail_core.proofs.law.each_turn_is_answered_before_the_next.Goals as goal
 
 pub returns : goal.returns
 returns c = record {
-  joins = λ site m first later. run_joins site m first later;
-  alone = λ site m turn on. turn_alone site m turn on;
+  follows = λ site m some more. run_joins site m some more;
+  alone = λ site m turn. turn_alone site m turn;
 }

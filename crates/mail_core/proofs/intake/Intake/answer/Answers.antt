@@ -9,7 +9,7 @@ use Rattle.mail_core.specs.declared.next.Next.TheVariants.{Continue, BeginData}
 use Rattle.mail_core.specs.Effects.{Sends, HangsUp, heard_of}
 use Rattle.mail_core.specs.inner.Going.{AnswersLine}
 use Rattle.mail_core.specs.Guests.{is_passed}
-use Rattle.mail_core.specs.Judges.{IsAsked, judge_seen}
+use Rattle.mail_core.specs.Judges.{IsAsked, judging}
 use Rattle.mail_core.specs.Machine.{answer_by, fresh_start, limit_of}
 use Rattle.mail_core.specs.Seen.{seen}
 use Rattle.mail_core.proofs.AnswerLemmas.{reply_is, grant_is, bye_is, taken_is, message_is}
@@ -27,7 +27,7 @@ pub accept-requires-clause-valid : goal.accept-requires-clause-valid
 accept-requires-clause-valid g c =
     let r = c.requires.ready in
     let d = fresh_start r.table r.guest in
-    let a = answers_at (judge_seen (g.J.Judge.seen c.args.judge.now) (g.J.Judge.answers c.args.judge.now)) r.site c.args.config.now c.args.maps.now d c.args.line.now c.args.caller.now c.line.new.self _ r.under r.talks c.in-Ok-Message.ensures.answered in
+    let a = answers_at (judging (g.J.Judge.seen c.args.judge.now) (g.J.Judge.answers c.args.judge.now)) r.site c.args.config.now c.args.maps.now d c.args.line.now c.args.caller.now c.line.new.self _ r.under r.talks c.in-Ok-Message.ensures.answered in
     λ first cuts header parts. valid_parts c.args.self.now.table.terms c.args.self.now.moment first c.in-Ok-Message.message r.guest.peer cuts r.serves.range r.talks.peer c.has_class.ensures header
     (given_formed r.guest.config r.guest.peer r.guest.heard a.said c.args.line.now (mail_of c.in-Ok-Message.message) r.talks.formed
     (message_is _ _ _ (mail_of c.in-Ok-Message.message) (ap deed_of (sym c.in-Ok-Message.field-0-is) ∙ a.did_is))) parts
@@ -36,13 +36,13 @@ pub accept-requires-clause-rows : goal.accept-requires-clause-rows
 accept-requires-clause-rows g c =
     let r = c.requires.ready in
     let d = fresh_start r.table r.guest in
-    let a = answers_at (judge_seen (g.J.Judge.seen c.args.judge.now) (g.J.Judge.answers c.args.judge.now)) r.site c.args.config.now c.args.maps.now d c.args.line.now c.args.caller.now c.line.new.self _ r.under r.talks c.in-Ok-Message.ensures.answered in
+    let a = answers_at (judging (g.J.Judge.seen c.args.judge.now) (g.J.Judge.answers c.args.judge.now)) r.site c.args.config.now c.args.maps.now d c.args.line.now c.args.caller.now c.line.new.self _ r.under r.talks c.in-Ok-Message.ensures.answered in
     let form = given_formed r.guest.config r.guest.peer r.guest.heard a.said c.args.line.now (mail_of c.in-Ok-Message.message) r.talks.formed
     (message_is _ _ _ (mail_of c.in-Ok-Message.message) (ap deed_of (sym c.in-Ok-Message.field-0-is) ∙ a.did_is)) in form.rows_form
 
 pub returns-in-Ok-Reply-clause-answers : goal.returns-in-Ok-Reply-clause-answers
 returns-in-Ok-Reply-clause-answers g c = λ site d clock under way serves talks.
-    let j = judge_seen (g.J.Judge.seen c.args.judge.now) (g.J.Judge.answers c.args.judge.now) in
+    let j = judging (g.J.Judge.seen c.args.judge.now) (g.J.Judge.answers c.args.judge.now) in
     let a = answers_at j site c.args.config.now c.args.maps.now d c.args.line.now c.args.caller.now c.line.new.self _ under talks c.in-Ok-Reply.ensures.answered in
     line_said j site c.args.self.now.moment d c.args.line.now a.said c.args.self.now _ _ _ _ clock c.in-Ok-Reply.text false (Ok c.reply.result) a.is_said
     (reply_is site c.args.self.now.moment d (answer_by d a.said c.args.line.now) c.in-Ok-Reply.text (ap deed_of (sym c.in-Ok-Reply.field-0-is) ∙ a.did_is))
@@ -55,7 +55,7 @@ returns-in-Ok-Reply-clause-ready g c = ready_by _ _ _ _ _ _ _ _ _ _ _ c.requires
 
 pub returns-in-Ok-Granted-clause-answers : goal.returns-in-Ok-Granted-clause-answers
 returns-in-Ok-Granted-clause-answers g c = λ site d clock under way serves talks.
-    let j = judge_seen (g.J.Judge.seen c.args.judge.now) (g.J.Judge.answers c.args.judge.now) in
+    let j = judging (g.J.Judge.seen c.args.judge.now) (g.J.Judge.answers c.args.judge.now) in
     let a = answers_at j site c.args.config.now c.args.maps.now d c.args.line.now c.args.caller.now c.line.new.self _ under talks c.in-Ok-Granted.ensures.answered in
     line_said j site c.args.self.now.moment d c.args.line.now a.said c.args.self.now _ _ _ _ clock c.in-Ok-Granted.text true (Ok c.grant.result) a.is_said
     (grant_is site c.args.self.now.moment d (answer_by d a.said c.args.line.now) c.in-Ok-Granted.text (ap deed_of (sym c.in-Ok-Granted.field-0-is) ∙ a.did_is))
@@ -68,7 +68,7 @@ returns-in-Ok-Granted-clause-ready g c = ready_by _ _ _ _ _ _ _ _ _ _ _ c.requir
 
 pub returns-in-Ok-Bye-clause-answers : goal.returns-in-Ok-Bye-clause-answers
 returns-in-Ok-Bye-clause-answers g c = λ site d clock under way serves talks.
-    let j = judge_seen (g.J.Judge.seen c.args.judge.now) (g.J.Judge.answers c.args.judge.now) in
+    let j = judging (g.J.Judge.seen c.args.judge.now) (g.J.Judge.answers c.args.judge.now) in
     let a = answers_at j site c.args.config.now c.args.maps.now d c.args.line.now c.args.caller.now c.line.new.self _ under talks c.in-Ok-Bye.ensures.answered in
     subst (λ n. AnswersLine j site c.args.self.now.moment d c.args.line.now (seen (g.F.Floor.seen c.args.floor.now) (g.D.Spool.seen c.args.spool.now) clock) (seen (g.F.Floor.seen c.part.new.floor) (g.D.Spool.seen c.args.spool.now) clock) c.args.self.now (record c.args.caller.now { session = c.line.new.self }) (Ok n)) (sym c.part.ensures.next)
     (line_closed j site c.args.self.now.moment d c.args.line.now a.said c.args.self.now (record c.args.caller.now { session = c.line.new.self }) _ _ _ clock c.in-Ok-Bye.text c.part.ensures.told.0 a.is_said
@@ -77,7 +77,7 @@ returns-in-Ok-Bye-clause-answers g c = λ site d clock under way serves talks.
 
 pub returns-in-Ok-Taken-clause-answers : goal.returns-in-Ok-Taken-clause-answers
 returns-in-Ok-Taken-clause-answers g c = λ site d clock under way serves talks.
-    let j = judge_seen (g.J.Judge.seen c.args.judge.now) (g.J.Judge.answers c.args.judge.now) in
+    let j = judging (g.J.Judge.seen c.args.judge.now) (g.J.Judge.answers c.args.judge.now) in
     let a = answers_at j site c.args.config.now c.args.maps.now d c.args.line.now c.args.caller.now c.line.new.self _ under talks c.in-Ok-Taken.ensures.answered in
     line_taken j site c.args.self.now.moment d c.args.line.now a.said c.args.self.now _ _ _ clock way a.is_said
     (taken_is site c.args.self.now.moment d (answer_by d a.said c.args.line.now) (ap deed_of (sym c.in-Ok-Taken.field-0-is) ∙ a.did_is)) serves
@@ -88,7 +88,7 @@ returns-in-Ok-Taken-clause-ready g c = ready_by _ _ _ _ _ _ _ _ _ _ _ c.requires
 
 pub returns-in-Ok-Message-clause-answers : goal.returns-in-Ok-Message-clause-answers
 returns-in-Ok-Message-clause-answers g c = λ site d clock under way serves talks.
-    let j = judge_seen (g.J.Judge.seen c.args.judge.now) (g.J.Judge.answers c.args.judge.now) in
+    let j = judging (g.J.Judge.seen c.args.judge.now) (g.J.Judge.answers c.args.judge.now) in
     let a = answers_at j site c.args.config.now c.args.maps.now d c.args.line.now c.args.caller.now c.line.new.self _ under talks c.in-Ok-Message.ensures.answered in
     let gives = message_is _ (limit_of d) (answer_by d a.said c.args.line.now) (mail_of c.in-Ok-Message.message) (ap deed_of (sym c.in-Ok-Message.field-0-is) ∙ a.did_is) in
     let ends = gift_at_end d.guest.config d.guest.peer (exchanges d.guest.config d.guest.peer d.guest.heard) a.said c.args.line.now (mail_of c.in-Ok-Message.message) gives in
@@ -128,5 +128,5 @@ returns-in-Err-NoMemory-clause-ready g c = ready_by _ _ _ _ _ _ _ _ _ _ _ c.requ
 pub returns-in-Ok-Message-clause-asked : goal.returns-in-Ok-Message-clause-asked
 returns-in-Ok-Message-clause-asked g c =
     let calm = c.in-Ok-Message.ensures.calm refl in
-    subst (λ b. IsAsked (judge_seen (g.J.Judge.seen c.args.judge.now) (g.J.Judge.answers c.args.judge.now)) (judge_seen (g.J.Judge.seen c.line.new.judge) (g.J.Judge.answers c.line.new.judge)) b) (sym c.accept.ensures.unjudged)
+    subst (λ b. IsAsked (judging (g.J.Judge.seen c.args.judge.now) (g.J.Judge.answers c.args.judge.now)) (judging (g.J.Judge.seen c.line.new.judge) (g.J.Judge.answers c.line.new.judge)) b) (sym c.accept.ensures.unjudged)
     (record { steady = c.in-Ok-Message.ensures.steady; later = omega (arith, calm); rose = λ e. absurd (cc e); calm = λ e. calm })

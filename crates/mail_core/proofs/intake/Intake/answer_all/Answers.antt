@@ -4,7 +4,7 @@ use Rattle.mail_core.specs.inner.Going.{stays_open}
 use Rattle.link_edge.specs.Heard.{IsSoundAt}
 use Rattle.mail_core.specs.declared.next.Next.{Next}
 use Rattle.mail_core.specs.Causes.{is_judge_fault}
-use Rattle.mail_core.specs.Judges.{judge_seen}
+use Rattle.mail_core.specs.Judges.{judging}
 use Rattle.mail_core.proofs.JudgeLemmas.{asked_join, asked_none}
 use Rattle.mail_core.proofs.FeedLemmas.{answers_none, answers_next, answers_cut, answers_all}
 use Rattle.mail_core.proofs.intake.Intake.answer_all.Goals as goal
@@ -17,7 +17,7 @@ loop-line-init g c = record {
   moment = refl;
   number = refl;
   reader = refl;
-  asked = asked_none (judge_seen (g.J.Judge.seen c.args.judge.now) (g.J.Judge.answers c.args.judge.now));
+  asked = asked_none (judging (g.J.Judge.seen c.args.judge.now) (g.J.Judge.answers c.args.judge.now));
   fixed = refl;
   own = refl;
   begun = refl;

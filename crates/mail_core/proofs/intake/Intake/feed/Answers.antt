@@ -7,7 +7,7 @@ use Rattle.mail_core.specs.inner.Going.{is_granted, stays_open}
 use Rattle.link_edge.specs.Heard.{IsSoundAt}
 use Rattle.mail_core.specs.declared.next.Next.{Next}
 use Rattle.mail_core.specs.Causes.{is_judge_fault}
-use Rattle.mail_core.specs.Judges.{judge_seen}
+use Rattle.mail_core.specs.Judges.{judging}
 use Rattle.mail_core.proofs.JudgeLemmas.{asked_join, asked_none}
 use Rattle.mail_core.proofs.FeedLemmas.{pends_start, pends_more, batch_of, feeds_none, feeds_cut, feeds_lost, feeds_all, ready_lines, turned_left, turned_lines}
 use Rattle.mail_core.proofs.intake.Intake.feed.Goals as goal
@@ -29,7 +29,7 @@ answers-init g c =
       all = k.all;
       ready = ready_lines c.args.self.now c.args.config.now c.args.maps.now c.args.caller.now _ refl refl c.requires.ready;
       moment = refl;
-      asked = asked_none (judge_seen (g.J.Judge.seen c.args.judge.now) (g.J.Judge.answers c.args.judge.now));
+      asked = asked_none (judging (g.J.Judge.seen c.args.judge.now) (g.J.Judge.answers c.args.judge.now));
       fixed = refl;
       own = refl;
       begun = refl;
@@ -131,7 +131,7 @@ returns-clause-calm g c = λ well. c.answer_all-2.ensures.calm well ∙ c.answer
 
 -- the judge was asked in turn
 pub returns-in_default-clause-asked : goal.returns-in_default-clause-asked
-returns-in_default-clause-asked g c = asked_none (judge_seen (g.J.Judge.seen c.args.judge.now) (g.J.Judge.answers c.args.judge.now))
+returns-in_default-clause-asked g c = asked_none (judging (g.J.Judge.seen c.args.judge.now) (g.J.Judge.answers c.args.judge.now))
 
 pub returns-in_err-next-clause-asked : goal.returns-in_err-next-clause-asked
 returns-in_err-next-clause-asked g c =

@@ -1,8 +1,10 @@
 use Rattle.std.proofs.Common.{subst, sym}
 use Rattle.queue_table.specs.Calls.{Tallies}
+use Rattle.mail_core.specs.Crews.{IsManned}
 use Rattle.mail_core.specs.declared.intake.Intake.{Intake}
 use Rattle.mail_core.specs.Machine.{at_moment}
-use Rattle.mail_core.proofs.CoreLemmas.{at_stands, turns_of}
+use Rattle.mail_core.proofs.CoreLemmas.{at_stands}
+use Rattle.mail_core.proofs.EventLemmas.{turns_of, went_well}
 use Rattle.mail_core.proofs.serving.Core.turn.Goals as goal
 
 pub handle-requires-clause-standing : goal.handle-requires-clause-standing
@@ -15,13 +17,16 @@ handle-requires-clause-tallied g c = subst (λ (i : Intake). Tallies i.table (g.
 
 pub returns : goal.returns
 returns g c = record {
-  turns = λ site m before clock read under st taken.
-      turns_of _ site m _ c.args.reading before _ _ clock read _ _ _ st.on taken
-      (c.handle.ensures.steps site (at_moment m c.args.reading) read under (at_stands site m c.args.self.now c.at.new.self c.args.reading st c.at.ensures.moment c.at.ensures.range));
+  turns = λ site m before clock read hands under st waits taken.
+      turns_of _ site m _ c.args.reading before _ _ clock read hands _ _ _ st.on c.requires.session waits taken
+      (c.handle.ensures.steps site (at_moment m c.args.reading) (record { clock = read; hands = hands }) under (at_stands site m c.args.self.now c.at.new.self c.args.reading st c.at.ensures.moment c.at.ensures.range));
   asked = c.handle.ensures.behaves.asked;
   fixed = c.handle.ensures.fixed;
   own = c.handle.ensures.behaves.own;
   begun = c.handle.ensures.behaves.begun;
   calm = c.handle.ensures.behaves.calm;
-  tallied = c.handle.ensures.behaves.tallied;
+  able = λ spawner on able. record {
+    tallied = c.handle.ensures.behaves.tallied (went_well c.handle.result on);
+    manned = c.handle.ensures.manned spawner on (subst (λ (i : Intake). IsManned i.table spawner c.args.self.now.crew) (sym c.at.ensures.moment) able.manned);
+  };
 }

@@ -1,15 +1,13 @@
--- Each step of the machine does effects that lead from its table to the next, and says the final
--- 250 of messages that it put in alone.
+-- What is done for sessions leads from a table to the next, asks for messages alone, and says the
+-- final 250 of messages that it put in.
 use Rattle.std.proofs.Common.{◌≡◌, ℕ, List, [], ◌∷◌, ◌++◌, Bool, true, false, Option, Some, None, ◌+◌, ◌<◌, ◌≤◌, map, arith, refl, sym, ◌∙◌, ap, subst, append_assoc}
-use Rattle.std.specs.Prelude.{All, ◌||◌, Contains, if◌then◌else◌, nat_le, length, max, fold, is_some}
+use Rattle.std.specs.Prelude.{All, ◌||◌, if◌then◌else◌, nat_le, length, max, fold, is_some}
 use Rattle.std.specs.List.{list_any}
 use Rattle.std.proofs.lemmas.List.{append-nil}
 use Rattle.std.proofs.Math.Seq.{drop-append_seam}
-use Rattle.std.proofs.lemmas.List.Elements.{All-cons, All-contains, All-head, All-nil, All-tail, Contains-append_left, Contains-append_right}
+use Rattle.std.proofs.lemmas.List.Elements.{All-cons, All-contains, All-head, All-nil, All-tail, Contains-append_right}
 use Rattle.std.proofs.lemmas.Bool.{ltb-false}
 use Rattle.mail_base.specs.Limits.{IsId}
-use Rattle.link_edge.specs.declared.event.Event.{Event}
-use Rattle.link_edge.specs.declared.event.Event.TheVariants.{Opens, Brings, Closes, Rests, Stops}
 use Rattle.smtp_lines.specs.declared.line.Line.{Line}
 use Rattle.mail_base.specs.declared.message.Cut.{Cut as Part}
 use Rattle.mail_base.specs.declared.message.Message.{Message}
@@ -28,20 +26,20 @@ use Rattle.mail_base.specs.declared.control.Parent.{Parent}
 use Rattle.mail_base.specs.declared.draw.Draw.{Draw}
 use Rattle.queue_table.specs.Commands.{Command, after, draft_of, drafts_of, new_row}
 use Rattle.queue_table.specs.Commands.Command.{Accept, Record, Return, Warn}
-use Rattle.queue_table.specs.Soundness.{AreCuts, CanDo, IsSound}
-use Rattle.queue_table.proofs.SoundLemmas.{command_sound}
+use Rattle.queue_table.specs.Soundness.{AreCuts, CanDo}
 use Rattle.mail_core.specs.Sites.{Site, terms_at}
-use Rattle.mail_core.specs.Effects.{Effect, Takes, Ticks, Commits, Sends, HangsUp, speech}
-use Rattle.mail_core.specs.Guests.{Guest, is_passed, guest_of, is_here, next_line, with_bytes}
-use Rattle.mail_core.specs.Machine.{SpoolFault, IdsSpent, FilesFault, Opening, Replied, Dropped, Choice, Normal, OutOfMemory, Disconnects, SpoolFails, JudgeFails, Choices, Way, GoesOn, Leaves, Over, Finish, By, Cut, Did, answer_by, limit_of, question_here, way_of, does, says, closes, is_over, commits, accepts, replies, fails, heard_line, id_by, is_answered, heard_where, by_choice, answered, settled_by, settled, fresh_start, all_answered, State, Step, still, most_guests, turned_away, welcomed, opened, brought, pieced, handled, Turn, at_moment, taken, stepped, followed, run}
+use Rattle.queue_run.specs.Deeds.{Asks, Deed}
+use Rattle.mail_core.specs.Effects.{Effect, Takes, Ticks, Sends, HangsUp, Does, speech, table_after}
+use Rattle.mail_core.specs.Guests.{Guest, is_passed, is_here, next_line, with_bytes}
+use Rattle.mail_core.specs.Machine.{Opening, Replied, Dropped, Choice, Normal, OutOfMemory, Disconnects, SpoolFails, JudgeFails, Way, GoesOn, Leaves, Over, Did, answer_by, limit_of, question_here, way_of, does, says, closes, is_over, commits, accepts, replies, fails, heard_line, id_by, is_answered, heard_where, by_choice, answered, settled_by, settled, fresh_start, all_answered, most_guests, turned_away, welcomed, opened, brought, pieced}
+use Rattle.mail_core.specs.States.{SpoolFault, IdsSpent, FilesFault, Finish, By, Cut, State, Step, still}
 use Rattle.mail_core.proofs.WayLemmas.{goes_keeps}
 use Rattle.mail_core.specs.Judges.{JudgeSeen}
-use Rattle.mail_core.specs.Meant.{AreMeant, ArePieceMeant, IsEventMeant, IsMadeAt, IsMeant, IsRunMeant}
+use Rattle.mail_core.specs.Meant.{AreMeant, ArePieceMeant, IsMadeAt, IsMeant}
 use Rattle.mail_core.specs.Messages.{Made, accept_of, headed, is_spent, last_id}
-use Rattle.mail_core.specs.Runs.{AreAcked, HasEntry, HasMessage, IsAcked, latest_by, put_by}
-use Rattle.mail_core.specs.Seen.{table_after}
+use Rattle.mail_core.specs.Acks.{AreAcked, HasMessage, IsAcked, latest_by, put_by}
 use Rattle.mail_core.proofs.PartLemmas.{cuts_taken}
-use Rattle.mail_core.proofs.RanLemmas.{table_more}
+use Rattle.mail_core.proofs.FollowLemmas.{table_more}
 
 -- ---- what effects are
 
@@ -52,26 +50,35 @@ IsAccept (Record terms id places results moment) = ⊥
 IsAccept (Return terms id bounces moment) = ⊥
 IsAccept (Warn terms id warnings moment) = ⊥
 
--- an effect asks for no other command
+-- a deed is such a command
+abbrev pub IsTakingDeed : Deed → Type 0
+IsTakingDeed (Asks command) = IsAccept command
+IsTakingDeed deed = ⊥
+
+-- an effect asks for no other command, and is of no runner
 abbrev pub IsTaking : Effect → Type 0
 IsTaking (Takes event) = Unit {0}
 IsTaking (Ticks reading) = Unit {0}
-IsTaking (Commits command) = IsAccept command
 IsTaking (Sends session text whole) = Unit {0}
 IsTaking (HangsUp session) = Unit {0}
+IsTaking (Does deed) = IsTakingDeed deed
 
 -- nor do these
 abbrev pub AreTaking : List Effect → Type 0
 AreTaking [] = Unit {0}
 AreTaking (effect ∷ effects) = IsTaking effect × AreTaking effects
 
--- a command may be asked of the table
+-- the command of a deed may be asked of the table
+abbrev pub CanBeDone : Table → Deed → Type 0
+CanBeDone table (Asks command) = CanDo table command
+CanBeDone table deed = Unit {0}
+
 abbrev pub CanBe : Table → Effect → Type 0
 CanBe table (Takes event) = Unit {0}
 CanBe table (Ticks reading) = Unit {0}
-CanBe table (Commits command) = CanDo table command
 CanBe table (Sends session text whole) = Unit {0}
 CanBe table (HangsUp session) = Unit {0}
+CanBe table (Does deed) = CanBeDone table deed
 
 -- each command may be asked of the table as it is then
 abbrev pub AreFit : Table → List Effect → Type 0
@@ -111,23 +118,9 @@ pub fit_join : (table : Table) (xs ys : List Effect) → AreFit table xs → Are
 fit_join table [] ys h k = k
 fit_join table (x ∷ xs) ys h k = (h.0, fit_join (table_after table (x ∷ [])) xs ys h.1 (subst (λ t. AreFit t ys) (table_more table (x ∷ []) xs) k))
 
--- from a sound table each front of the effects gives a sound table
-pub sound_front : (table : Table) (done rest : List Effect) → IsSound table → AreFit table (done ++ rest) → IsSound (table_after table done)
-sound_front table [] rest sound fit = sound
-sound_front table (Commits command ∷ done) rest sound fit = sound_front (after table command) done rest (command_sound table command sound fit.0) fit.1
-sound_front table (Takes event ∷ done) rest sound fit = sound_front table done rest sound fit.1
-sound_front table (Ticks reading ∷ done) rest sound fit = sound_front table done rest sound fit.1
-sound_front table (Sends session text whole ∷ done) rest sound fit = sound_front table done rest sound fit.1
-sound_front table (HangsUp session ∷ done) rest sound fit = sound_front table done rest sound fit.1
-
 pub taking_join : (xs ys : List Effect) → AreTaking xs → AreTaking ys → AreTaking (xs ++ ys)
 taking_join [] ys h k = k
 taking_join (x ∷ xs) ys h k = (h.0, taking_join xs ys h.1 k)
-
--- effects ask for no other command, and so do those at their front
-pub taking_front : (xs ys : List Effect) → AreTaking (xs ++ ys) → AreTaking xs
-taking_front [] ys h = tt
-taking_front (x ∷ xs) ys h = (h.0, taking_front xs ys h.1)
 
 pub leads_none : (F : Type 0) (table : Table) → Leads F table table []
 leads_none F table = record { table = refl; acked = λ f latest. tt; taking = tt; fits = λ f. tt }
@@ -139,31 +132,6 @@ leads_join F G H to_f to_g one two three xs ys h k = record {
   taking = taking_join xs ys h.taking k.taking;
   fits = λ f. fit_join one xs ys (h.fits (to_f f)) (subst (λ t. AreFit t ys) h.table (k.fits (to_g f)));
 }
-
--- ---- an entry stays
-
--- a message that is taken in leaves the entries that are there
-pub among_accepted : (table : Table) (command : Command) (s : Stored) → IsAccept command → Contains table.entries s → Contains (after table command).entries s
-among_accepted table (Accept terms message [] moment) s is h = h
-among_accepted table (Accept terms message (cut ∷ cuts) moment) s is h =
-    let parent = draft_of terms message moment cut in
-    Contains-append_left table.entries (stored table.next message.body parent ∷ children_of table.next (drafts_of terms message moment cuts) parent message.body None) s h
-among_accepted table (Record terms id places results moment) s is h = absurd is
-among_accepted table (Return terms id bounces moment) s is h = absurd is
-among_accepted table (Warn terms id warnings moment) s is h = absurd is
-
--- an entry is one of the table with one more
-pub entry_after : (id : ℕ) (table : Table) (command : Command) → IsAccept command → HasEntry table id → HasEntry (after table command) id
-entry_after id table command is h = record { stored = h.stored; among = among_accepted table command h.stored is h.among; id_is = h.id_is; wanted = h.wanted }
-
--- effects that ask for no other command take no entry away
-pub entry_stays : (id : ℕ) (table : Table) (effects : List Effect) → AreTaking effects → HasEntry table id → HasEntry (table_after table effects) id
-entry_stays id table [] are h = h
-entry_stays id table (Commits command ∷ effects) are h = entry_stays id (after table command) effects are.1 (entry_after id table command are.0 h)
-entry_stays id table (Takes event ∷ effects) are h = entry_stays id table effects are.1 h
-entry_stays id table (Ticks reading ∷ effects) are h = entry_stays id table effects are.1 h
-entry_stays id table (Sends session text whole ∷ effects) are h = entry_stays id table effects are.1 h
-entry_stays id table (HangsUp session ∷ effects) are h = entry_stays id table effects are.1 h
 
 -- ---- texts
 
@@ -228,7 +196,7 @@ hang_leads F table session = record { table = refl; acked = λ f latest. (tt, tt
 
 -- a message is put in, and then its 250 said
 accept_leads : (F : Type 0) (table : Table) (command : Command) (session : ℕ) (text : List ℕ) (whole : Bool) → IsAccept command → (F → CanDo table command) → (F → (w : Bool) → IsAcked (put_by table command) (after table command) (Sends session text w))
-    → Leads F table (after table command) (Commits command ∷ speech session text whole)
+    → Leads F table (after table command) (Does (Asks command) ∷ speech session text whole)
 accept_leads F table command session text true is can acked = record { table = refl; acked = λ f latest. (tt, (acked f true, tt)); taking = (is, (tt, tt)); fits = λ f. (can f, (tt, tt)) }
 accept_leads F table command session text false is can acked = record { table = refl; acked = λ f latest. (tt, (acked f false, (tt, tt))); taking = (is, (tt, (tt, tt))); fits = λ f. (can f, (tt, (tt, tt))) }
 
@@ -267,7 +235,7 @@ drops_grows F d = does_grows F d (HangsUp d.guest.number ∷ []) Leaves (hang_le
 
 commits_grows : (F : Type 0) (site : Site) (moment : ℕ) (d : Did) (message : Message) (made : Made) → (F → AreCuts made.cuts) → Grows F d (commits site moment d message made)
 commits_grows F site moment d message made some = record {
-  more = Commits (accept_of site moment message made) ∷ [];
+  more = Does (Asks (accept_of site moment message made)) ∷ [];
   effects = refl;
   leads = record { table = refl; acked = λ f latest. (tt, tt); taking = (tt, tt); fits = λ f. (some f, tt) };
   number = refl;
@@ -278,8 +246,8 @@ accepts_by : (F : Type 0) (site : Site) (moment : ℕ) (d : Did) (message : Mess
 accepts_by F site moment d message made whole true e some = over_grows F d (By IdsSpent)
 accepts_by F site moment d message made whole false e some =
     let command : Command = accept_of site moment message made in record {
-      more = Commits command ∷ speech d.guest.number (stored_text d.table.next) whole;
-      effects = append_assoc d.effects (Commits command ∷ []) (speech d.guest.number (stored_text d.table.next) whole);
+      more = Does (Asks command) ∷ speech d.guest.number (stored_text d.table.next) whole;
+      effects = append_assoc d.effects (Does (Asks command) ∷ []) (speech d.guest.number (stored_text d.table.next) whole);
       leads = accept_leads F d.table command d.guest.number (stored_text d.table.next) whole tt (λ f. some f e) (λ f w. message_of site moment d.table message made made.cuts d.guest.number w e refl (some f e));
       number = refl;
     }
@@ -385,21 +353,21 @@ all_grows j site moment table guest choices =
     let e = fold (answered site moment) d choices in
     grows_join F F F (λ f. f) (λ f. f) d e (settled e) (fold_grows j site moment d choices) (settled_grows F e.way (next_line e.guest) e)
 
-all_leads : (j : JudgeSeen) (site : Site) (moment : ℕ) (table : Table) (guest : Guest) (choices : List Choice) → Leads (AreMeant j site moment (fresh_start table guest) choices) table (all_answered site moment table guest choices).table (all_answered site moment table guest choices).effects
+pub all_leads : (j : JudgeSeen) (site : Site) (moment : ℕ) (table : Table) (guest : Guest) (choices : List Choice) → Leads (AreMeant j site moment (fresh_start table guest) choices) table (all_answered site moment table guest choices).table (all_answered site moment table guest choices).effects
 all_leads j site moment table guest choices =
     let h = all_grows j site moment table guest choices in
     subst (Leads (AreMeant j site moment (fresh_start table guest) choices) table (all_answered site moment table guest choices).table) (sym h.effects) h.leads
 
 -- ---- events
 
-abbrev Steps : Type 0 → Table → Step → Type 0
+abbrev pub Steps : Type 0 → Table → Step → Type 0
 Steps F table step = Leads F table step.state.table step.effects
 
 either_steps : (F : Type 0) (table : Table) (b : Bool) (one other : Step) → Steps F table one → Steps F table other → Steps F table (if b then one else other)
 either_steps F table true one other h k = h
 either_steps F table false one other h k = k
 
-still_steps : (F : Type 0) (m : State) → Steps F m.table (still m)
+pub still_steps : (F : Type 0) (m : State) → Steps F m.table (still m)
 still_steps F m = leads_none F m.table
 
 away_steps : (F : Type 0) (m : State) (session : ℕ) (choice : Opening) → Steps F m.table (turned_away m session choice)
@@ -414,7 +382,7 @@ welcome_steps F site m session peer (Replied true) = speech_leads F m.table sess
 welcome_steps F site m session peer (Replied false) = speech_leads F m.table session (greeting_text (shown_host site.host)) false (λ f latest. greeted site latest m.table session)
 welcome_steps F site m session peer Dropped = hang_leads F m.table session
 
-opened_steps : (F : Type 0) (site : Site) (m : State) (session : ℕ) (peer : List ℕ) (choice : Opening) → Steps F m.table (opened site m session peer choice)
+pub opened_steps : (F : Type 0) (site : Site) (m : State) (session : ℕ) (peer : List ℕ) (choice : Opening) → Steps F m.table (opened site m session peer choice)
 opened_steps F site m session peer choice =
     let crowd = if nat_le most_guests (length m.guests) then turned_away m session choice else welcomed site m session peer choice in
     either_steps F m.table (is_here session m.guests) (still m) crowd (still_steps F m)
@@ -425,44 +393,8 @@ brought_steps F m GoesOn d h = h
 brought_steps F m Leaves d h = h
 brought_steps F m (Over finish) d h = h
 
-pieced_steps : (j : JudgeSeen) (site : Site) (m : State) (bytes : List ℕ) (choices : List Choice) (guest : Option Guest) → Steps (ArePieceMeant j site m bytes choices guest) m.table (pieced site m bytes choices guest)
+pub pieced_steps : (j : JudgeSeen) (site : Site) (m : State) (bytes : List ℕ) (choices : List Choice) (guest : Option Guest) → Steps (ArePieceMeant j site m bytes choices guest) m.table (pieced site m bytes choices guest)
 pieced_steps j site m bytes choices None = still_steps (Unit {0}) m
 pieced_steps j site m bytes choices (Some guest) =
     let d = all_answered site m.latest m.table (with_bytes guest bytes) choices in
     brought_steps (ArePieceMeant j site m bytes choices (Some guest)) m d.way d (all_leads j site m.latest m.table (with_bytes guest bytes) choices)
-
-handled_steps : (j : JudgeSeen) (site : Site) (m : State) (event : Event) (choices : Choices event) → Steps (IsEventMeant j site m event choices) m.table (handled site m event choices)
-handled_steps j site m (Opens session peer) choice = opened_steps (Unit {0}) site m session peer choice
-handled_steps j site m (Brings session bytes) choices = pieced_steps j site m bytes choices (guest_of session m.guests)
-handled_steps j site m (Closes session) none = leads_none (Unit {0}) m.table
-handled_steps j site m Rests none = leads_none (Unit {0}) m.table
-handled_steps j site m Stops none = leads_none (Unit {0}) m.table
-
-taken_steps : (F : Type 0) (table : Table) (turn : Turn) (step : Step) → Steps F table step → Steps F table (taken turn step)
-taken_steps F table turn step h = record { table = h.table; acked = λ f latest. (tt, (tt, h.acked f latest)); taking = (tt, (tt, h.taking)); fits = λ f. (tt, (tt, h.fits f)) }
-
--- the effects of a step lead to its table
-stepped_leads : (j : JudgeSeen) (site : Site) (m : State) (turn : Turn) → Leads (IsEventMeant j site (at_moment m turn.reading) turn.event turn.choices) m.table (stepped site m turn).state.table (stepped site m turn).effects
-stepped_leads j site m turn =
-    let F : Type 0 = IsEventMeant j site (at_moment m turn.reading) turn.event turn.choices in
-    let step = handled site (at_moment m turn.reading) turn.event turn.choices in
-    either_steps F m.table (is_some m.over) (still m) (taken turn step) (still_steps F m)
-    (taken_steps F m.table turn step (handled_steps j site (at_moment m turn.reading) turn.event turn.choices))
-
--- the effects of a run lead to its table
-pub run_leads : (j : JudgeSeen) (site : Site) (m : State) (turns : List Turn) → Leads (IsRunMeant j site m turns) m.table (run site m turns).state.table (run site m turns).effects
-run_leads j site m [] = leads_none (Unit {0}) m.table
-run_leads j site m (turn ∷ turns) =
-    let now = stepped site m turn in
-    let later = run site now.state turns in
-    leads_join (IsEventMeant j site (at_moment m turn.reading) turn.event turn.choices) (IsRunMeant j site now.state turns) (IsRunMeant j site m (turn ∷ turns)) (λ f. f.0) (λ f. f.1) m.table now.state.table later.state.table now.effects later.effects (stepped_leads j site m turn) (run_leads j site now.state turns)
-
--- a run and one turn more
-pub run_more : (site : Site) (m : State) (turns : List Turn) (turn : Turn) → run site m (turns ++ turn ∷ []) ≡ followed (run site m turns) (stepped site (run site m turns).state turn)
-run_more site m [] turn = ap (λ q. record { state = (stepped site m turn).state; effects = q }) (append-nil (stepped site m turn).effects)
-run_more site m (first ∷ turns) turn =
-    let now = stepped site m first in
-    let later = run site now.state turns in
-    let last = stepped site later.state turn in
-    ap (λ (q : Step). followed now q) (run_more site now.state turns turn)
-    ∙ ap (λ q. record { state = last.state; effects = q }) (sym (append_assoc now.effects later.effects last.effects))
