@@ -1,13 +1,14 @@
 -- A run that is ready does the whole work of its mode.
 use Rattle.std.proofs.Common.{◌≡◌, ℕ, ◌<◌, ◌^◌, true, List, length, Option, Some, None, Result, Ok, Err, refl, sym, ◌∙◌, ap, subst, arith, length-append, inl, inr}
-use Rattle.std.specs.Prelude.{IfSome, ◌⊎◌}
+use Rattle.std.specs.Prelude.{IfSome, ◌⊎◌, is_some}
+use Rattle.std.proofs.lemmas.Bool.{false≢true}
 use Rattle.mail_base.specs.declared.config.Config.{Config}
 use Rattle.mail_base.specs.Histories.{Rose}
 use Rattle.mail_core.specs.declared.serving.CoreStop.{CoreStop}
 use Rattle.mail_core.specs.declared.serving.CoreStop.TheVariants as stops
-use Rattle.mail_core.specs.Machine.{SpoolFault}
+use Rattle.mail_core.specs.States.{SpoolFault}
 use Rattle.mail_core.specs.Causes.{is_judge_fault}
-use Rattle.mail_core.specs.declared.serving.Act.{Act}
+use Rattle.mail_core.specs.declared.act.Act.{Act}
 use Rattle.mail_core.specs.Judges.{JudgeSeen}
 use Rattle.mail_core.specs.Sites.{Site}
 use Rattle.queue_table.specs.Directories.{all_dirs, terms_of}
@@ -16,7 +17,7 @@ use Rattle.mail_edge.specs.Seen.{FilesSeen, FileMap}
 use Rattle.sendmail_run.specs.declared.address_test.TestEnd.{TestEnd}
 use Rattle.sendmail_run.specs.declared.address_test.TestEnd.TheVariants as test_ends
 use Rattle.sendmail_run.specs.declared.command_line.Job.{Job}
-use Rattle.sendmail_run.specs.declared.command_line.Job.TheVariants.{Test, Session, List as Listing}
+use Rattle.sendmail_run.specs.declared.command_line.Job.TheVariants.{Test, Session, Daemon, Run, List as Listing}
 use Rattle.sendmail_run.specs.declared.command_line.Mode.{Mode}
 use Rattle.sendmail_run.specs.declared.command_line.WordFault.{WordFault}
 use Rattle.sendmail_run.specs.declared.command_line.WordFault.TheVariants as word_faults
@@ -34,18 +35,21 @@ use Rattle.sendmail_run.specs.declared.list_mode.ListEnd.{ListEnd}
 use Rattle.sendmail_run.specs.declared.list_mode.ListEnd.TheVariants as list_ends
 use Rattle.sendmail_run.specs.declared.outcome.Outcome.{Outcome}
 use Rattle.sendmail_run.specs.declared.outcome.Outcome.TheVariants as outcomes
-use Rattle.sendmail_run.specs.declared.session_mode.SessionEnd.{SessionEnd}
-use Rattle.sendmail_run.specs.declared.session_mode.SessionEnd.TheVariants as session_ends
+use Rattle.sendmail_run.specs.declared.serving_mode.ServeEnd.{ServeEnd}
+use Rattle.sendmail_run.specs.declared.serving_mode.ServeEnd.TheVariants as serve_ends
+use Rattle.sendmail_run.specs.declared.task.Task.{Task}
+use Rattle.sendmail_run.specs.declared.task.Task.TheVariants as tasks
 use Rattle.sendmail_run.specs.AliasFiles.{GiveNames, LoadsNames, first_fault, names_by, names_of, unless_fault}
 use Rattle.sendmail_run.specs.Beginning.{Begins, Says, said_by}
 use Rattle.sendmail_run.specs.CommandLines.{Fails, IsCommandLine}
 use Rattle.sendmail_run.specs.Devices.{World, streams_of, core_of}
 use Rattle.sendmail_run.specs.Listings.{Lists}
 use Rattle.sendmail_run.specs.MapFiles.{GiveMaps, Loads, first_missing, maps_by, maps_of, unless_missing}
-use Rattle.sendmail_run.specs.Outcomes.{of_aliases, of_config, of_list, of_maps, of_session, of_test, of_words}
+use Rattle.sendmail_run.specs.Outcomes.{of_aliases, of_config, of_list, of_maps, of_serving, of_test, of_words}
 use Rattle.sendmail_run.specs.Printing.{Basis, basis}
-use Rattle.sendmail_run.specs.Runs.{Completes, Ends, EndsAtAliases, EndsAtFile, EndsAtMaps, EndsAtWords, EndsAtWork, Finds, HasServed, HasTested, IsReady, IsShort, IsSound, IsWhole, NoneFailed, Works}
-use Rattle.sendmail_run.specs.Serving.{IsServedOut, Serves, grounds_of, judge_by, session_site}
+use Rattle.sendmail_run.specs.Runs.{Completes, Ends, EndsAtAliases, EndsAtFile, EndsAtMaps, EndsAtWords, EndsAtWork, Finds, HasServed, HasTested, IsReady, IsShort, IsSound, IsWhole, NoneFailed, Works, WorksAt}
+use Rattle.sendmail_run.specs.Serving.{IsServedOut, Serves, grounds_of, judge_by, site_of}
+use Rattle.sendmail_run.specs.Tasks.{door_of, plan_of}
 use Rattle.sendmail_run.specs.Testing.{IsLarge, Tests}
 use Rattle.sendmail_run.proofs.CommandLemmas.{one_mode, not_both}
 
@@ -55,6 +59,8 @@ use Rattle.sendmail_run.proofs.CommandLemmas.{one_mode, not_both}
 whole_memory : (job : Job) → IsWhole job outcomes.NoMemory
 whole_memory Test = inr refl
 whole_memory Session = inr (inl refl)
+whole_memory (Daemon wait) = inr (inl refl)
+whole_memory (Run group) = inr (inl refl)
 whole_memory Listing = inr refl
 
 words_whole : (words : List (List ℕ)) (job : Job) (mode : Mode) (fault : WordFault) → IsCommandLine words mode → Fails fault words → IsWhole job (of_words fault)
@@ -127,31 +133,46 @@ aliases_whole config before after map (alias_faults.Refused name line) told none
 aliases_whole config before after map alias_faults.FilesFault told none sound is = absurd (sound is)
 aliases_whole config before after map alias_faults.NoMemory told none sound is = inr (inl refl)
 
-over_whole : (j : JudgeSeen) (site : Site) (before after : World) (stop : CoreStop) → j.answerer.faults ≡ before.files.faults → IsSound Session before after
-    → (is_judge_fault {T = Act} (Err stop) ≡ true → Rose j.answerer.faults after.files.faults) × IsServedOut j site (core_of before) (core_of after) (Err stop) → IsWhole Session (of_session (session_ends.Over stop))
-over_whole j site before after stops.SpoolFault same sound is = absurd (sound.own.1 (is.1.over.run.ended SpoolFault refl).cause)
-over_whole j site before after stops.IdsSpent same sound is = inr (inr (inl refl))
-over_whole j site before after stops.FilesFault same sound is = absurd (sound.files (subst (λ (n : ℕ). Rose n after.files.faults) same (is.0 refl)))
+-- ---- the modes that serve
 
-session_whole : (j : JudgeSeen) (site : Site) (before after : World) (how : SessionEnd) → j.answerer.faults ≡ before.files.faults → IsSound Session before after → Serves j after.files.faults site (core_of before) (core_of after) how → IsWhole Session (of_session how)
-session_whole j site before after session_ends.NotOpened same sound is = absurd (sound.own.1 is.1)
-session_whole j site before after session_ends.NoMemory same sound is = inr (inl refl)
-session_whole j site before after session_ends.FloorFault same sound is = absurd (sound.own.0 is.rose)
-session_whole j site before after session_ends.Stopped same sound is = inl refl
-session_whole j site before after (session_ends.Over stop) same sound is = over_whole j site before after stop same sound is
-session_whole j site before after (session_ends.TurnsSpent count) same sound is = inr (inr (inr (ap (λ (n : ℕ). outcomes.TurnsSpent n) is.0)))
+-- neither files nor spool failed, nor the floor where it was to be begun
+record IsCalm (config : Config) (task : Task) (before after : World) : Type 0 where
+  files : ¬ (Rose before.files.faults after.files.faults)
+  spool : ¬ (Rose before.spool.faults after.spool.faults)
+  floor : is_some (door_of config task) ≡ true → ¬ (Rose before.floor.faults after.floor.faults)
+
+over_whole : (j : JudgeSeen) (site : Site) (task : Task) (before after : World) (stop : CoreStop) → j.answerer.faults ≡ before.files.faults → IsCalm site.config task before after
+    → (is_judge_fault {T = Act} (Err stop) ≡ true → Rose j.answerer.faults after.files.faults) × IsServedOut j site task (core_of before) (core_of after) (Err stop) → IsWhole Session (of_serving (serve_ends.Over stop))
+over_whole j site task before after stops.SpoolFault same calm is = absurd (calm.spool (is.1.over.run.ended.ended SpoolFault refl).cause)
+over_whole j site task before after stops.IdsSpent same calm is = inr (inr (inl refl))
+over_whole j site task before after stops.FilesFault same calm is = absurd (calm.files (subst (λ (n : ℕ). Rose n after.files.faults) same (is.0 refl)))
+over_whole j site task before after stops.NoMemory same calm is = inr (inl refl)
+
+serving_whole : (j : JudgeSeen) (site : Site) (task : Task) (before after : World) (how : ServeEnd) → j.answerer.faults ≡ before.files.faults → IsCalm site.config task before after → Serves j after.files.faults site task (core_of before) (core_of after) how → IsWhole Session (of_serving how)
+serving_whole j site task before after serve_ends.NotOpened same calm is = absurd (calm.spool is.1)
+serving_whole j site task before after serve_ends.NoMemory same calm is = inr (inl refl)
+serving_whole j site task before after serve_ends.FloorFault same calm is = absurd (calm.floor is.door is.rose)
+serving_whole j site task before after serve_ends.Finished same calm is = inl refl
+serving_whole j site task before after (serve_ends.Over stop) same calm is = over_whole j site task before after stop same calm is
+serving_whole j site task before after (serve_ends.TurnsSpent count) same calm is = inr (inr (inr (ap (λ (n : ℕ). outcomes.TurnsSpent n) is.0)))
 
 -- maps that files give, where none is missing
-loads_whole : (map : FileMap) (config : Config) (before after : World) (job : Job) (outcome : Outcome) → before.files.map ≡ Some map → first_missing map config ≡ None → IsSound job before after → EndsAtMaps config before after outcome → IsWhole job outcome
-loads_whole map config before after job outcome told none sound is = subst (IsWhole job) (sym is.told) (maps_whole config before after job map is.fault told none sound.files is.loads)
+loads_whole : (map : FileMap) (config : Config) (before after : World) (job : Job) (outcome : Outcome) → before.files.map ≡ Some map → first_missing map config ≡ None → ¬ (Rose before.files.faults after.files.faults) → EndsAtMaps config before after outcome → IsWhole job outcome
+loads_whole map config before after job outcome told none sound is = subst (IsWhole job) (sym is.told) (maps_whole config before after job map is.fault told none sound is.loads)
 
 tested_whole : (config : Config) (maps : Loaded) (before after : World) (outcome : Outcome) → IsShort before.input.left → IsSound Test before after → HasTested config maps before after outcome → IsWhole Test outcome
 tested_whole config maps before after outcome short sound is = subst (λ (o : Outcome). IsWhole Test o) (sym is.told) (lines_whole (basis config maps) before after is.how short sound.own is.tests)
 
-served_whole : (map : FileMap) (config : Config) (maps : Loaded) (before after : World) (outcome : Outcome) → before.files.map ≡ Some map → first_fault map config.options.alias_files ≡ None → IsSound Session before after
-    → EndsAtAliases config before after outcome ⊎ HasServed config maps before after outcome → IsWhole Session outcome
-served_whole map config maps before after outcome told none sound (inl is) = subst (λ (o : Outcome). IsWhole Session o) (sym is.told) (aliases_whole config before after map is.fault told none sound.files is.loads)
-served_whole map config maps before after outcome told none sound (inr is) = subst (λ (o : Outcome). IsWhole Session o) (sym is.told) (session_whole (judge_by (grounds_of config maps is.names) before.files) (session_site config maps) before after is.how refl sound is.serves)
+served_whole : (map : FileMap) (config : Config) (task : Task) (maps : Loaded) (before after : World) (outcome : Outcome) → before.files.map ≡ Some map → first_fault map config.options.alias_files ≡ None → IsCalm config task before after
+    → EndsAtAliases config before after outcome ⊎ HasServed task config maps before after outcome → IsWhole Session outcome
+served_whole map config task maps before after outcome told none calm (inl is) = subst (λ (o : Outcome). IsWhole Session o) (sym is.told) (aliases_whole config before after map is.fault told none calm.files is.loads)
+served_whole map config task maps before after outcome told none calm (inr is) =
+    subst (λ (o : Outcome). IsWhole Session o) (sym is.told) (serving_whole (judge_by (grounds_of config maps is.names) before.files) (site_of config maps (plan_of task)) task before after is.how refl calm is.serves)
+
+task_whole : (map : FileMap) (config : Config) (task : Task) (before after : World) (outcome : Outcome) → before.files.map ≡ Some map → (first_missing map config ≡ None) × (first_fault map config.options.alias_files ≡ None) → IsCalm config task before after
+    → WorksAt task config before after outcome → IsWhole Session outcome
+task_whole map config task before after outcome told finds calm (inl is) = loads_whole map config before after Session outcome told finds.0 calm.files is
+task_whole map config task before after outcome told finds calm (inr is) = served_whole map config task is.maps before after outcome told finds.1 calm is.work
 
 listed_whole : (dirs : List (List ℕ)) (before after : World) (how : ListEnd) → NoneFailed Listing before after → Lists dirs before.spool after.spool before.output after.output how → IsWhole Listing (of_list how)
 listed_whole dirs before after list_ends.Done sound is = inl refl
@@ -160,10 +181,14 @@ listed_whole dirs before after list_ends.SpoolFault sound is = absurd (sound.0 i
 listed_whole dirs before after list_ends.NoMemory sound is = inr refl
 
 work_whole : (map : FileMap) (config : Config) (before after : World) (job : Job) (outcome : Outcome) → before.files.map ≡ Some map → Finds job map config before → IsSound job before after → Works job config before after outcome → IsWhole job outcome
-work_whole map config before after Test outcome told finds sound (inl is) = loads_whole map config before after Test outcome told finds.0 sound is
+work_whole map config before after Test outcome told finds sound (inl is) = loads_whole map config before after Test outcome told finds.0 sound.files is
 work_whole map config before after Test outcome told finds sound (inr is) = tested_whole config is.maps before after outcome finds.1 sound is.work
-work_whole map config before after Session outcome told finds sound (inl is) = loads_whole map config before after Session outcome told finds.0 sound is
-work_whole map config before after Session outcome told finds sound (inr is) = served_whole map config is.maps before after outcome told finds.1 sound is.work
+work_whole map config before after Session outcome told finds sound is =
+    task_whole map config tasks.Session before after outcome told finds (record { files = sound.files; spool = sound.own.1; floor = λ door. sound.own.0 }) is
+work_whole map config before after (Daemon wait) outcome told finds sound is =
+    task_whole map config (tasks.Daemon wait) before after outcome told finds (record { files = sound.files; spool = sound.own.1; floor = λ door. sound.own.0 }) is
+work_whole map config before after (Run group) outcome told finds sound is =
+    task_whole map config (tasks.Run group) before after outcome told finds (record { files = sound.files; spool = sound.own; floor = λ door. absurd (false≢true door) }) is
 work_whole map config before after Listing outcome told finds sound is = subst (λ (o : Outcome). IsWhole Listing o) (sym is.told) (listed_whole (all_dirs (terms_of config)) before after is.how sound.own is.lists)
 
 -- what a run's end says of a run that is ready

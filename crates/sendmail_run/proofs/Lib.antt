@@ -7,7 +7,11 @@ mod ListLemmas
 mod ListingLemmas
 mod LooksLemmas
 mod OpeningLemmas
+mod OptionLemmas
 mod PrintingLemmas
 mod ProgramLemmas
 mod ServingLemmas
 mod TestLemmas
+mod TurningLemmas
+mod WaitLemmas
+mod WordLemmas

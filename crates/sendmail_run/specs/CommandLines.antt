@@ -1,59 +1,117 @@
--- Command lines (Sendmail Installation and Operation Guide, "Command Line Flags"), as far as their
--- modes are built: `-bt`, `-bs` and `-bp`, with `-C file` or `-Cfile`.
-use Rattle.std.specs.Prelude.{◌≡◌, ◌≤◌, ℕ, List, [], ◌∷◌, ◌++◌, length, codes, Result, Ok, Err, ◌⊎◌}
+-- Command lines (Sendmail Installation and Operation Guide, "Command Line Flags"; the order of the
+-- refusals is our own).
+use Rattle.std.specs.Prelude.{◌≡◌, ◌≢◌, ◌≤◌, ◌^◌, ℕ, List, [], ◌∷◌, ◌++◌, length, codes, None, Some, Result, Ok, Err, ◌⊎◌, refl}
 use Rattle.std.specs.List.{flat_map}
+use Rattle.cf_values.specs.Times.{IsTime, last_unit, rest_value, time_value}
 use Rattle.sendmail_run.specs.declared.command_line.Job.{Job}
-use Rattle.sendmail_run.specs.declared.command_line.Job.TheVariants.{Test, Session, List as Listing}
+use Rattle.sendmail_run.specs.declared.command_line.Job.TheVariants.{Test, Session, Daemon, Run, List as Listing}
 use Rattle.sendmail_run.specs.declared.command_line.Mode.{Mode}
 use Rattle.sendmail_run.specs.declared.command_line.WordFault.{WordFault}
 use Rattle.sendmail_run.specs.declared.command_line.WordFault.TheVariants as faults
 
--- an option as it is written: a mode; `-C` with a name that isn't empty in the same word; `-C` with
--- the next word as the name, whatever it is
+-- a mode as it is written: `-bt`, `-bs`, `-bd`, `-bp`, `-q`, and `-qG` with a name that isn't empty
+pub data ModeWord : Type 0 where
+  Tests : ModeWord
+  Serves : ModeWord
+  Listens : ModeWord
+  Prints : ModeWord
+  Runs : ModeWord
+  RunsGroup : (first : ℕ) (others : List ℕ) → ModeWord
+
+-- a text is a time of so many seconds: a last number without a letter counts minutes (109), and
+-- 2^60 seconds are the most
+abbrev pub IsWait : List ℕ → ℕ → Type 0
+IsWait time seconds = IsTime (last_unit 109) time seconds × (seconds ≤ 2 ^ 60)
+
+-- an option as it is written: a mode; `-q` with a time in the same word; `-C` with a name that
+-- isn't empty in the same word; `-C` with the next word as the name, whatever it is
 pub data Flag : Type 0 where
-  Does : (job : Job) → Flag
+  Does : (mode : ModeWord) → Flag
+  Every : (time : List ℕ) (seconds : ℕ) (is : IsWait time seconds) → Flag
   Joined : (first : ℕ) (others : List ℕ) → Flag
   Apart : (name : List ℕ) → Flag
 
 -- the word that says a mode
-abbrev pub word_of : Job → List ℕ
-word_of Test = codes "-bt"
-word_of Session = codes "-bs"
-word_of Listing = codes "-bp"
+abbrev pub word_of : ModeWord → List ℕ
+word_of Tests = codes "-bt"
+word_of Serves = codes "-bs"
+word_of Listens = codes "-bd"
+word_of Prints = codes "-bp"
+word_of Runs = codes "-q"
+word_of (RunsGroup first others) = codes "-qG" ++ first ∷ others
+
+-- what it says: the time of a `-bd` is an option of its own
+abbrev pub job_of : ModeWord → Job
+job_of Tests = Test
+job_of Serves = Session
+job_of Listens = Daemon None
+job_of Prints = Listing
+job_of Runs = Run None
+job_of (RunsGroup first others) = Run (Some (first ∷ others))
 
 -- the words of an option
 abbrev pub spelling : Flag → List (List ℕ)
-spelling (Does job) = word_of job ∷ []
+spelling (Does mode) = word_of mode ∷ []
+spelling (Every time seconds is) = (codes "-q" ++ time) ∷ []
 spelling (Joined first others) = (codes "-C" ++ first ∷ others) ∷ []
 spelling (Apart name) = codes "-C" ∷ name ∷ []
 
 -- the mode that an option says
 abbrev pub jobs_in : Flag → List Job
-jobs_in (Does job) = job ∷ []
+jobs_in (Does mode) = job_of mode ∷ []
+jobs_in (Every time seconds is) = []
 jobs_in (Joined first others) = []
 jobs_in (Apart name) = []
 
+-- the seconds that an option says
+abbrev pub waits_in : Flag → List ℕ
+waits_in (Does mode) = []
+waits_in (Every time seconds is) = seconds ∷ []
+waits_in (Joined first others) = []
+waits_in (Apart name) = []
+
 -- the file that an option names
 abbrev pub files_in : Flag → List (List ℕ)
-files_in (Does job) = []
+files_in (Does mode) = []
+files_in (Every time seconds is) = []
 files_in (Joined first others) = (first ∷ others) ∷ []
 files_in (Apart name) = name ∷ []
+
+-- a job as its mode's word alone says it
+abbrev pub untimed : Job → Job
+untimed Test = Test
+untimed Session = Session
+untimed (Daemon wait) = Daemon None
+untimed (Run group) = Run group
+untimed Listing = Listing
+
+-- the seconds of a job, which only that of a `-bd` may have
+abbrev pub waits_of : Job → List ℕ
+waits_of Test = []
+waits_of Session = []
+waits_of (Daemon None) = []
+waits_of (Daemon (Some seconds)) = seconds ∷ []
+waits_of (Run group) = []
+waits_of Listing = []
 
 -- the one file that is named, or the default where none is
 abbrev pub IsFile : List (List ℕ) → List ℕ → Type 0
 IsFile names file = (names ≡ file ∷ []) ⊎ ((names ≡ []) × (file ≡ codes "/etc/mail/sendmail.cf"))
 
--- options in any order, of which exactly one is a mode and at most one a file
+-- options in any order, of which exactly one is a mode and at most one a file, and with the mode
+-- `-bd` at most one a time
 pub record IsCommandLine (words : List (List ℕ)) (mode : Mode) : Type 0 where
   pub flags : List Flag
   pub written : words ≡ flat_map spelling flags
-  pub job : flat_map jobs_in flags ≡ mode.job ∷ []
+  pub job : flat_map jobs_in flags ≡ untimed mode.job ∷ []
+  pub wait : flat_map waits_in flags ≡ waits_of mode.job
   pub file : IsFile (flat_map files_in flags) mode.file
 
--- words as options, of each kind at most one: a mode, and a file
+-- words as options, of each kind at most one: a mode, a time, and a file
 pub record AreOptions (flags : List Flag) (words : List (List ℕ)) : Type 0 where
   pub written : words ≡ flat_map spelling flags
   pub one_mode : length (flat_map jobs_in flags) ≤ 1
+  pub one_wait : length (flat_map waits_in flags) ≤ 1
   pub one_file : length (flat_map files_in flags) ≤ 1
 
 -- the words begin options: with more words, or with none, they are options
@@ -88,9 +146,25 @@ pub record LacksMode (words : List (List ℕ)) (place : ℕ) : Type 0 where
   pub options : AreOptions flags words
   pub none : flat_map jobs_in flags ≡ []
 
+-- 4. The words are options, of which one is a mode other than `-bd`, and the one at this place is a
+-- time.
+pub record HasStrayWait (words : List (List ℕ)) (place : ℕ) : Type 0 where
+  pub front : List Flag
+  pub time : List ℕ
+  pub seconds : ℕ
+  pub is : IsWait time seconds
+  pub later : List Flag
+  pub options : AreOptions (front ++ Every time seconds is ∷ later) words
+  pub job : Job
+  pub said : flat_map jobs_in (front ++ Every time seconds is ∷ later) ≡ job ∷ []
+  pub other : job ≢ Daemon None
+  pub at : place ≡ length (flat_map spelling front)
+
 -- the place, counted from 0, at which words are refused
 abbrev pub IsRefusedAt : List (List ℕ) → ℕ → Type 0
-IsRefusedAt words place = IsBadWord words place ⊎ (LacksFile words place ⊎ LacksMode words place)
+IsRefusedAt words place =
+    IsBadWord words place
+    ⊎ (LacksFile words place ⊎ (LacksMode words place ⊎ HasStrayWait words place))
 
 abbrev pub Fails : WordFault → List (List ℕ) → Type 0
 Fails faults.NoMemory words = Unit {0}
@@ -100,3 +174,8 @@ Fails (faults.At place) words = IsRefusedAt words place
 abbrev pub Gives : Result Mode WordFault → List (List ℕ) → Type 0
 Gives (Ok mode) words = IsCommandLine words mode
 Gives (Err fault) words = Fails fault words
+
+example : (word_of (RunsGroup 97 (codes "b")) ≡ codes "-qGab")
+    × (time_value 109 (codes "30m") ≡ Some 1800) × (time_value 109 (codes "1h30") ≡ Some 5400)
+unfolding rest_value
+example = (refl, refl, refl)

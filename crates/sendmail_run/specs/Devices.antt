@@ -2,7 +2,7 @@
 use Rattle.mail_edge.specs.Seen.{ClockSeen, FilesSeen, SinkSeen, SourceSeen}
 use Rattle.link_edge.specs.Heard.{Heard}
 use Rattle.spool_disk.specs.Spooled.{Spooled}
-use Rattle.mail_core.specs.Seen.{Seen as CoreSeen, seen as core_seen}
+use Rattle.mail_core.specs.Seen.{Beside, Hands, Seen as CoreSeen, beside, seen as core_seen}
 
 -- what is seen of each device at one moment
 pub record World : Type 1 where
@@ -12,16 +12,19 @@ pub record World : Type 1 where
   pub floor : Heard
   pub spool : Spooled
   pub clock : ClockSeen
+  -- spawner and dialer
+  pub hands : Hands
 
-abbrev pub world : FilesSeen → SourceSeen → SinkSeen → Heard → Spooled → ClockSeen → World
-world files input output floor spool clock =
+abbrev pub world : FilesSeen → SourceSeen → SinkSeen → Heard → Spooled → Beside → World
+world files input output floor spool others =
     record {
       files = files;
       input = input;
       output = output;
       floor = floor;
       spool = spool;
-      clock = clock;
+      clock = others.clock;
+      hands = others.hands;
     }
 
 -- what is seen of the input and the output
@@ -36,6 +39,6 @@ streams input output = record { input = input; output = output }
 abbrev pub streams_of : World → Streams
 streams_of w = streams w.input w.output
 
--- the devices of session mode
+-- the devices of the modes that serve
 abbrev pub core_of : World → CoreSeen
-core_of w = core_seen w.floor w.spool w.clock
+core_of w = core_seen w.floor w.spool (beside w.clock w.hands)

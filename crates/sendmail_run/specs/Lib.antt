@@ -4,6 +4,7 @@ pub mod Devices
 pub mod Outcomes
 pub mod Rises
 pub mod Testing
+pub mod Tasks
 pub mod Serving
 pub mod Beginning
 pub mod MapFiles

@@ -15,8 +15,8 @@ use Rattle.sendmail_run.specs.declared.address_test.TestEnd.{TestEnd}
 use Rattle.sendmail_run.specs.declared.address_test.TestEnd.TheVariants as test_ends
 use Rattle.sendmail_run.specs.declared.list_mode.ListEnd.{ListEnd}
 use Rattle.sendmail_run.specs.declared.list_mode.ListEnd.TheVariants as list_ends
-use Rattle.sendmail_run.specs.declared.session_mode.SessionEnd.{SessionEnd}
-use Rattle.sendmail_run.specs.declared.session_mode.SessionEnd.TheVariants as session_ends
+use Rattle.sendmail_run.specs.declared.serving_mode.ServeEnd.{ServeEnd}
+use Rattle.sendmail_run.specs.declared.serving_mode.ServeEnd.TheVariants as serve_ends
 use Rattle.sendmail_run.specs.declared.outcome.Outcome.{Outcome}
 use Rattle.sendmail_run.specs.declared.outcome.Outcome.TheVariants.{Done, Usage, NoFile, NoMemory, FilesFault, WriteFault, ReadFault, InputLarge, ConfigLine, AliasLine, FloorFault, TurnsSpent, SpoolFault, IdsSpent}
 
@@ -65,15 +65,16 @@ abbrev pub of_stop : CoreStop → Outcome
 of_stop stops.SpoolFault = SpoolFault
 of_stop stops.IdsSpent = IdsSpent
 of_stop stops.FilesFault = FilesFault
+of_stop stops.NoMemory = NoMemory
 
--- the end of session mode
-abbrev pub of_session : SessionEnd → Outcome
-of_session session_ends.NotOpened = SpoolFault
-of_session session_ends.NoMemory = NoMemory
-of_session session_ends.FloorFault = FloorFault
-of_session session_ends.Stopped = Done
-of_session (session_ends.Over stop) = of_stop stop
-of_session (session_ends.TurnsSpent count) = TurnsSpent count
+-- the end of a mode that serves
+abbrev pub of_serving : ServeEnd → Outcome
+of_serving serve_ends.NotOpened = SpoolFault
+of_serving serve_ends.NoMemory = NoMemory
+of_serving serve_ends.FloorFault = FloorFault
+of_serving serve_ends.Finished = Done
+of_serving (serve_ends.Over stop) = of_stop stop
+of_serving (serve_ends.TurnsSpent count) = TurnsSpent count
 
 -- the status that a program ends with
 abbrev pub status_of : Outcome → ℕ

@@ -1,6 +1,6 @@
 -- How a run ends, what stays as it was, and where the whole work of a mode is done (Sendmail
 -- Installation and Operation Guide, "Command Line Flags"; the outcomes are own).
-use Rattle.std.specs.Prelude.{◌≡◌, ℕ, ◌^◌, ◌<◌, List, length, Option, Some, None, Ok, Err, ◌⊎◌}
+use Rattle.std.specs.Prelude.{◌≡◌, ℕ, ◌^◌, ◌<◌, ◌≤◌, List, length, Option, Some, None, Ok, Err, ◌⊎◌}
 use Rattle.mail_base.specs.declared.config.Config.{Config}
 use Rattle.mail_base.specs.Histories.{Rose}
 use Rattle.mail_edge.specs.Seen.{FileMap}
@@ -9,7 +9,7 @@ use Rattle.queue_table.specs.Directories.{all_dirs, terms_of}
 use Rattle.sendmail_run.specs.declared.address_test.TestEnd.{TestEnd}
 use Rattle.sendmail_run.specs.declared.aliases.Names.{Names}
 use Rattle.sendmail_run.specs.declared.command_line.Job.{Job}
-use Rattle.sendmail_run.specs.declared.command_line.Job.TheVariants.{Test, Session, List as Listing}
+use Rattle.sendmail_run.specs.declared.command_line.Job.TheVariants.{Test, Session, Daemon, Run, List as Listing}
 use Rattle.sendmail_run.specs.declared.command_line.Mode.{Mode}
 use Rattle.sendmail_run.specs.declared.command_line.WordFault.{WordFault}
 use Rattle.sendmail_run.specs.declared.fault.AliasesFault.{AliasesFault}
@@ -18,17 +18,20 @@ use Rattle.sendmail_run.specs.declared.fault.MapsFault.{MapsFault}
 use Rattle.sendmail_run.specs.declared.list_mode.ListEnd.{ListEnd}
 use Rattle.sendmail_run.specs.declared.outcome.Outcome.{Outcome}
 use Rattle.sendmail_run.specs.declared.outcome.Outcome.TheVariants as ends
-use Rattle.sendmail_run.specs.declared.session_mode.SessionEnd.{SessionEnd}
+use Rattle.sendmail_run.specs.declared.serving_mode.ServeEnd.{ServeEnd}
+use Rattle.sendmail_run.specs.declared.task.Task.{Task}
+use Rattle.sendmail_run.specs.declared.task.Task.TheVariants as tasks
 use Rattle.sendmail_run.specs.AliasFiles.{LoadsNames, first_fault}
 use Rattle.sendmail_run.specs.Beginning.{Begins, said_by}
 use Rattle.sendmail_run.specs.CommandLines.{Fails, IsCommandLine}
 use Rattle.sendmail_run.specs.Listings.{Lists}
 use Rattle.sendmail_run.specs.Devices.{Streams, World, core_of, streams_of}
 use Rattle.sendmail_run.specs.MapFiles.{Loads, first_missing}
-use Rattle.sendmail_run.specs.Outcomes.{of_aliases, of_config, of_list, of_maps, of_session, of_test, of_words}
+use Rattle.sendmail_run.specs.Outcomes.{of_aliases, of_config, of_list, of_maps, of_serving, of_test, of_words}
 use Rattle.sendmail_run.specs.Printing.{basis}
 use Rattle.sendmail_run.specs.Rises.{Counts}
-use Rattle.sendmail_run.specs.Serving.{IsLeftAlone, Serves, grounds_of, judge_by, session_site}
+use Rattle.sendmail_run.specs.Serving.{IsLeftAlone, Serves, grounds_of, judge_by, site_of}
+use Rattle.sendmail_run.specs.Tasks.{plan_of}
 use Rattle.sendmail_run.specs.Testing.{Tests}
 
 -- ---- how a run ends
@@ -76,7 +79,7 @@ pub record HasMaps (config : Config) (before after : World) (Work : Loaded → T
   pub loads : Loads config before.files after.files (Ok maps)
   pub work : Work maps
 
--- address test mode did its work with these maps, and left floor, spool and clock alone
+-- address test mode did its work with these maps, and left all other devices alone
 pub record HasTested (config : Config) (maps : Loaded) (before after : World)
     (outcome : Outcome) : Type 0 where
   pub how : TestEnd
@@ -92,19 +95,25 @@ pub record EndsAtAliases (config : Config) (before after : World) (outcome : Out
   pub loads : LoadsNames config before.files after.files (Err fault)
   pub untouched : IsUntouched before after
 
--- session mode had its aliases and homes and did its work, with these maps, and left the input and
--- the output alone
-pub record HasServed (config : Config) (maps : Loaded) (before after : World)
+-- a mode that serves had its aliases and homes and did its task, with these maps, and left the
+-- input and the output alone
+pub record HasServed (task : Task) (config : Config) (maps : Loaded) (before after : World)
     (outcome : Outcome) : Type 0 where
   pub names : Names
   pub loads : LoadsNames config before.files after.files (Ok names)
-  pub how : SessionEnd
-  pub told : outcome ≡ of_session how
+  pub how : ServeEnd
+  pub told : outcome ≡ of_serving how
   pub serves : Serves (judge_by (grounds_of config maps names) before.files) after.files.faults
-      (session_site config maps) (core_of before) (core_of after) how
+      (site_of config maps (plan_of task)) task (core_of before) (core_of after) how
   pub idle : IsIdle (streams_of before) (streams_of after)
 
--- the queue was listed, and input, floor and clock left alone
+-- how a mode that serves ends, by its task
+abbrev pub WorksAt : Task → Config → World → World → Outcome → Type 0
+WorksAt task config before after outcome = EndsAtMaps config before after outcome
+    ⊎ HasMaps config before after (λ maps. EndsAtAliases config before after outcome
+    ⊎ HasServed task config maps before after outcome)
+
+-- the queue was listed, and all devices but the spool and the output left alone
 pub record HasListed (config : Config) (before after : World) (outcome : Outcome) : Type 0 where
   pub how : ListEnd
   pub told : outcome ≡ of_list how
@@ -113,14 +122,17 @@ pub record HasListed (config : Config) (before after : World) (outcome : Outcome
   pub input : after.input ≡ before.input
   pub floor : after.floor ≡ before.floor
   pub clock : after.clock ≡ before.clock
+  pub hands : after.hands ≡ before.hands
 
 -- how the work of a mode ends
 abbrev pub Works : Job → Config → World → World → Outcome → Type 0
 Works Test config before after outcome = EndsAtMaps config before after outcome
     ⊎ HasMaps config before after (λ maps. HasTested config maps before after outcome)
-Works Session config before after outcome = EndsAtMaps config before after outcome
-    ⊎ HasMaps config before after (λ maps. EndsAtAliases config before after outcome
-    ⊎ HasServed config maps before after outcome)
+Works Session config before after outcome = WorksAt tasks.Session config before after outcome
+Works (Daemon wait) config before after outcome =
+    WorksAt (tasks.Daemon wait) config before after outcome
+Works (Run group) config before after outcome =
+    WorksAt (tasks.Run group) config before after outcome
 Works Listing config before after outcome = HasListed config before after outcome
 
 -- the words were taken, the file that they name is a configuration, and the mode's work was done
@@ -140,7 +152,7 @@ Ends words before after outcome = EndsAtWords words before after outcome
 -- ---- what stays
 
 -- the files stay as they are; no count of faults falls, and one that has risen ended the run with
--- that device's fault
+-- that device's fault, but those of spawner and dialer, which end none
 pub record Stays (before after : World) (outcome : Outcome) : Type 0 where
   pub map : after.files.map ≡ before.files.map
   pub files : Counts ends.FilesFault outcome before.files.faults after.files.faults
@@ -148,6 +160,8 @@ pub record Stays (before after : World) (outcome : Outcome) : Type 0 where
   pub output : Counts ends.WriteFault outcome before.output.faults after.output.faults
   pub floor : Counts ends.FloorFault outcome before.floor.faults after.floor.faults
   pub spool : Counts ends.SpoolFault outcome before.spool.faults after.spool.faults
+  pub spawner : before.hands.spawner.faults ≤ after.hands.spawner.faults
+  pub dialer : before.hands.dialer.faults ≤ after.hands.dialer.faults
 
 -- ---- where the whole work of a mode is done
 
@@ -157,12 +171,16 @@ pub record IsShort (left : Option (List ℕ)) : Type 0 where
   pub told : left ≡ Some bytes
   pub few : length bytes < 2 ^ 32
 
--- what a mode wants, under a configuration over files: address test mode that no file of its maps is
--- missing, and a short input; session mode that none is missing and that each alias file is taken;
--- and the listing nothing. Each takes any queue.
+-- what a mode wants, under a configuration over files: address test mode that no file of its maps
+-- is missing, and a short input; the modes that serve that none is missing and that each alias file
+-- is taken; and the listing nothing. Each takes any queue.
 abbrev pub Finds : Job → FileMap → Config → World → Type 0
 Finds Test map config before = (first_missing map config ≡ None) × IsShort before.input.left
 Finds Session map config before =
+    (first_missing map config ≡ None) × (first_fault map config.options.alias_files ≡ None)
+Finds (Daemon wait) map config before =
+    (first_missing map config ≡ None) × (first_fault map config.options.alias_files ≡ None)
+Finds (Run group) map config before =
     (first_missing map config ≡ None) × (first_fault map config.options.alias_files ≡ None)
 Finds Listing map config before = Unit {0}
 
@@ -178,12 +196,16 @@ pub record IsReady (words : List (List ℕ)) (before : World) (job : Job) : Type
   pub read : said_by map mode.file ≡ Some (Ok config)
   pub finds : Finds job map config before
 
--- no device of a mode failed; a send may have
+-- no device of a mode failed; a send may have, and what a runner started or dialled. A run over the
+-- queue has no floor
 abbrev pub NoneFailed : Job → World → World → Type 0
 NoneFailed Test before after = ¬ (Rose before.input.faults after.input.faults)
     × ¬ (Rose before.output.faults after.output.faults)
 NoneFailed Session before after = ¬ (Rose before.floor.faults after.floor.faults)
     × ¬ (Rose before.spool.faults after.spool.faults)
+NoneFailed (Daemon wait) before after = ¬ (Rose before.floor.faults after.floor.faults)
+    × ¬ (Rose before.spool.faults after.spool.faults)
+NoneFailed (Run group) before after = ¬ (Rose before.spool.faults after.spool.faults)
 NoneFailed Listing before after = ¬ (Rose before.spool.faults after.spool.faults)
     × ¬ (Rose before.output.faults after.output.faults)
 
@@ -192,11 +214,15 @@ pub record IsSound (job : Job) (before after : World) : Type 0 where
   pub files : ¬ (Rose before.files.faults after.files.faults)
   pub own : NoneFailed job before after
 
--- the whole work of a mode was done, or memory ran out; in session mode 2^60 turns or the ids may
--- have been spent
+-- the whole work of a mode was done, or memory ran out; in a mode that serves 2^60 turns or the ids
+-- may have been spent
 abbrev pub IsWhole : Job → Outcome → Type 0
 IsWhole Test outcome = (outcome ≡ ends.Done) ⊎ (outcome ≡ ends.NoMemory)
 IsWhole Session outcome = (outcome ≡ ends.Done) ⊎ (outcome ≡ ends.NoMemory)
+    ⊎ (outcome ≡ ends.IdsSpent) ⊎ (outcome ≡ ends.TurnsSpent (2 ^ 60))
+IsWhole (Daemon wait) outcome = (outcome ≡ ends.Done) ⊎ (outcome ≡ ends.NoMemory)
+    ⊎ (outcome ≡ ends.IdsSpent) ⊎ (outcome ≡ ends.TurnsSpent (2 ^ 60))
+IsWhole (Run group) outcome = (outcome ≡ ends.Done) ⊎ (outcome ≡ ends.NoMemory)
     ⊎ (outcome ≡ ends.IdsSpent) ⊎ (outcome ≡ ends.TurnsSpent (2 ^ 60))
 IsWhole Listing outcome = (outcome ≡ ends.Done) ⊎ (outcome ≡ ends.NoMemory)
 

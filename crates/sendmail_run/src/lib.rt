@@ -10,11 +10,13 @@ mod input;
 mod law;
 mod list_mode;
 mod maps;
+mod opening;
 mod outcome;
 mod program;
 mod queue_listing;
-mod session_mode;
+mod serving_mode;
 mod site;
+mod task;
 mod warning;
 
 pub use cf_reader::Fault;

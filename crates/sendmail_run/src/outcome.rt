@@ -5,7 +5,7 @@ use crate::address_test::TestEnd;
 use crate::command_line::WordFault;
 use crate::fault::{AliasesFault, ConfigFault, MapsFault};
 use crate::list_mode::ListEnd;
-use crate::session_mode::SessionEnd;
+use crate::serving_mode::ServeEnd;
 use cf_reader::Fault;
 use mail_base::Text;
 use mail_core::CoreStop;
@@ -13,8 +13,8 @@ use mail_core::CoreStop;
 /// How a run ends.
 #[derive(Drop)]
 pub enum Outcome {
-    /// The input came to its end, or to the line `/quit`; the listing was written; or the floor told
-    /// that nothing comes any more.
+    /// The input came to its end, or to the line `/quit`; the listing was written; the queue was
+    /// run; or the floor told that nothing comes any more.
     Done,
     /// The words are refused at this place, counted from 0; a word that is missing stands at their
     /// number.
@@ -38,13 +38,12 @@ pub enum Outcome {
     /// The floor could not begin, or a turn of it failed; one that fails to send only ends that
     /// session.
     FloorFault,
-    /// So many turns of the floor were served, which are all that a run takes, and none of them
-    /// ended it.
+    /// So many turns were served, which are all that a run takes, and none of them ended it.
     TurnsSpent(u64),
-    /// A call of the spool failed: the queue could not be opened, a body of it could not be read, or
-    /// a message could not be kept.
+    /// A call of the spool failed: the queue could not be opened, a body of it could not be read,
+    /// or a message or what became of an entry could not be kept.
     SpoolFault,
-    /// A message came that needs an id above 999,999,999,999.
+    /// A message came, or one was to be returned, that needs an id above 999,999,999,999.
     IdsSpent,
 }
 
@@ -141,19 +140,20 @@ impl Outcome {
         }
     }
 
-    /// That of a run of session mode.
-    pub(crate) fn of_session(how: SessionEnd) -> Outcome
-        ensures { result ≡ spec.of_session how }
+    /// That of a run that opened the queue to serve it.
+    pub(crate) fn of_serving(how: ServeEnd) -> Outcome
+        ensures { result ≡ spec.of_serving how }
     {
         match how {
-            SessionEnd::NotOpened => Outcome::SpoolFault,
-            SessionEnd::NoMemory => Outcome::NoMemory,
-            SessionEnd::FloorFault => Outcome::FloorFault,
-            SessionEnd::Stopped => Outcome::Done,
-            SessionEnd::Over(CoreStop::SpoolFault) => Outcome::SpoolFault,
-            SessionEnd::Over(CoreStop::IdsSpent) => Outcome::IdsSpent,
-            SessionEnd::Over(CoreStop::FilesFault) => Outcome::FilesFault,
-            SessionEnd::TurnsSpent(count) => Outcome::TurnsSpent(count),
+            ServeEnd::NotOpened => Outcome::SpoolFault,
+            ServeEnd::NoMemory => Outcome::NoMemory,
+            ServeEnd::FloorFault => Outcome::FloorFault,
+            ServeEnd::Finished => Outcome::Done,
+            ServeEnd::Over(CoreStop::SpoolFault) => Outcome::SpoolFault,
+            ServeEnd::Over(CoreStop::IdsSpent) => Outcome::IdsSpent,
+            ServeEnd::Over(CoreStop::FilesFault) => Outcome::FilesFault,
+            ServeEnd::Over(CoreStop::NoMemory) => Outcome::NoMemory,
+            ServeEnd::TurnsSpent(count) => Outcome::TurnsSpent(count),
         }
     }
 }

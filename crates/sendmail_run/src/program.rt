@@ -1,11 +1,11 @@
-ghost use Rattle.std.specs.Prelude.{◌≡◌, ◌<◌, ◌≤◌, ◌^◌, length, IfErr, IfOk, OnOk};
+ghost use Rattle.std.specs.Prelude.{◌≡◌, ◌<◌, ◌≤◌, ◌^◌, length, IfErr, OnOk};
+ghost use Rattle.mail_core.specs.Seen.{beside, hands};
 ghost use Rattle.mail_edge.specs.Seen.{SinkSeen, SourceSeen};
 ghost use Rattle.sendmail_run.specs.Beginning.{Begins};
 ghost use Rattle.sendmail_run.specs.Devices.{world};
 ghost use Rattle.sendmail_run.specs.Outcomes.{of_config};
 ghost use Rattle.sendmail_run.specs.Rises.{RisesOnlyAt};
-ghost use Rattle.sendmail_run.specs.Runs.{Completes, Ends, Stays, Works};
-ghost use Rattle.sendmail_run.specs.declared.command_line.Job.TheVariants.{Session};
+ghost use Rattle.sendmail_run.specs.Runs.{Completes, Ends, Stays, Works, WorksAt};
 ghost use Rattle.sendmail_run.specs.declared.outcome.Outcome.TheVariants.{FilesFault};
 
 use crate::address_test::address_test;
@@ -15,28 +15,32 @@ use crate::fault::ConfigFault;
 use crate::list_mode::list_mode;
 use crate::maps::load_maps;
 use crate::outcome::Outcome;
-use crate::session_mode::session_mode;
+use crate::serving_mode::serving_mode;
+use crate::task::Task;
 use cf_reader::{CfFault, read};
-use link_edge::Floor;
+use link_edge::{Dialer, Floor};
 use mail_base::{Config, EdgeFault, Seq, Text};
 use mail_edge::{Clock, Files, Sink, Source};
+use spawn_edge::Spawner;
 use spool_disk::Spool;
 use std::alloc::Global;
 
 /// The whole program, over its words without the program's name, and its devices.
 ///
 /// The steps are taken in this order, and the first refusal ends the run: the words, the
-/// configuration file, its lines, and then the work of the mode. Address test mode and session mode
-/// read the files of maps in the order of K lines and the host table; the former then answers the
-/// lines of input, the latter reads the alias files with the lines of each and the file of homes,
-/// and takes the steps of [`session_mode`]. The listing of the queue reads no more files, and takes
-/// the steps of [`list_mode`].
-pub fn sendmail<F: Files, D: Spool, L: Floor, C: Clock, I: Source, O: Sink>(
+/// configuration file, its lines, and then the work of the mode. Address test mode and the modes
+/// that serve read the files of maps in the order of K lines and the host table; the former then
+/// answers the lines of input, the latter read the alias files with the lines of each and the file
+/// of homes, and take the steps of [`serving_mode`]. The listing of the queue reads no more files,
+/// and takes the steps of [`list_mode`].
+pub fn sendmail<F: Files, D: Spool, L: Floor, S: Spawner, N: Dialer, C: Clock, I: Source, O: Sink>(
     alloc: Global,
     arguments: &Seq<Text>,
     files: &mut F,
     spool: &mut D,
     floor: &mut L,
+    spawner: &mut S,
+    dialer: &mut N,
     clock: &mut C,
     input: &mut I,
     output: &mut O,
@@ -45,33 +49,43 @@ pub fn sendmail<F: Files, D: Spool, L: Floor, C: Clock, I: Source, O: Sink>(
     requires clock { (C.seen clock.old).readings ≤ 2 ^ 63 }
     ensures ends { Ends arguments.now
         (world (F.seen files.old) (I.seen input.old) (O.seen output.old)
-        (L.seen floor.old) (D.seen spool.old) (C.seen clock.old))
+        (L.seen floor.old) (D.seen spool.old)
+        (beside (C.seen clock.old) (hands (S.seen spawner.old) (N.seen dialer.old))))
         (world (F.seen files.new) (I.seen input.new) (O.seen output.new)
-        (L.seen floor.new) (D.seen spool.new) (C.seen clock.new))
+        (L.seen floor.new) (D.seen spool.new)
+        (beside (C.seen clock.new) (hands (S.seen spawner.new) (N.seen dialer.new))))
         result }
     ensures stays { Stays
         (world (F.seen files.old) (I.seen input.old) (O.seen output.old)
-        (L.seen floor.old) (D.seen spool.old) (C.seen clock.old))
+        (L.seen floor.old) (D.seen spool.old)
+        (beside (C.seen clock.old) (hands (S.seen spawner.old) (N.seen dialer.old))))
         (world (F.seen files.new) (I.seen input.new) (O.seen output.new)
-        (L.seen floor.new) (D.seen spool.new) (C.seen clock.new))
+        (L.seen floor.new) (D.seen spool.new)
+        (beside (C.seen clock.new) (hands (S.seen spawner.new) (N.seen dialer.new))))
         result }
     ensures complete { Completes arguments.now
         (world (F.seen files.old) (I.seen input.old) (O.seen output.old)
-        (L.seen floor.old) (D.seen spool.old) (C.seen clock.old))
+        (L.seen floor.old) (D.seen spool.old)
+        (beside (C.seen clock.old) (hands (S.seen spawner.old) (N.seen dialer.old))))
         (world (F.seen files.new) (I.seen input.new) (O.seen output.new)
-        (L.seen floor.new) (D.seen spool.new) (C.seen clock.new))
+        (L.seen floor.new) (D.seen spool.new)
+        (beside (C.seen clock.new) (hands (S.seen spawner.new) (N.seen dialer.new))))
         result }
 {
-    run(alloc, arguments, files, spool, floor, clock, input, output)
+    run(
+        alloc, arguments, files, spool, floor, spawner, dialer, clock, input, output,
+    )
 }
 
 // The same, without the clause that follows from the other two.
-fn run<F: Files, D: Spool, L: Floor, C: Clock, I: Source, O: Sink>(
+fn run<F: Files, D: Spool, L: Floor, S: Spawner, N: Dialer, C: Clock, I: Source, O: Sink>(
     alloc: Global,
     arguments: &Seq<Text>,
     files: &mut F,
     spool: &mut D,
     floor: &mut L,
+    spawner: &mut S,
+    dialer: &mut N,
     clock: &mut C,
     input: &mut I,
     output: &mut O,
@@ -80,15 +94,19 @@ fn run<F: Files, D: Spool, L: Floor, C: Clock, I: Source, O: Sink>(
     requires clock { (C.seen clock.old).readings ≤ 2 ^ 63 }
     ensures ends { Ends arguments.now
         (world (F.seen files.old) (I.seen input.old) (O.seen output.old)
-        (L.seen floor.old) (D.seen spool.old) (C.seen clock.old))
+        (L.seen floor.old) (D.seen spool.old)
+        (beside (C.seen clock.old) (hands (S.seen spawner.old) (N.seen dialer.old))))
         (world (F.seen files.new) (I.seen input.new) (O.seen output.new)
-        (L.seen floor.new) (D.seen spool.new) (C.seen clock.new))
+        (L.seen floor.new) (D.seen spool.new)
+        (beside (C.seen clock.new) (hands (S.seen spawner.new) (N.seen dialer.new))))
         result }
     ensures stays { Stays
         (world (F.seen files.old) (I.seen input.old) (O.seen output.old)
-        (L.seen floor.old) (D.seen spool.old) (C.seen clock.old))
+        (L.seen floor.old) (D.seen spool.old)
+        (beside (C.seen clock.old) (hands (S.seen spawner.old) (N.seen dialer.old))))
         (world (F.seen files.new) (I.seen input.new) (O.seen output.new)
-        (L.seen floor.new) (D.seen spool.new) (C.seen clock.new))
+        (L.seen floor.new) (D.seen spool.new)
+        (beside (C.seen clock.new) (hands (S.seen spawner.new) (N.seen dialer.new))))
         result }
 {
     let mode = match words(alloc, arguments) {
@@ -106,6 +124,8 @@ fn run<F: Files, D: Spool, L: Floor, C: Clock, I: Source, O: Sink>(
         files,
         spool,
         floor,
+        spawner,
+        dialer,
         clock,
         input,
         output,
@@ -113,13 +133,15 @@ fn run<F: Files, D: Spool, L: Floor, C: Clock, I: Source, O: Sink>(
 }
 
 // The work of a mode under its configuration, with the files that it reads before.
-fn work<F: Files, D: Spool, L: Floor, C: Clock, I: Source, O: Sink>(
+fn work<F: Files, D: Spool, L: Floor, S: Spawner, N: Dialer, C: Clock, I: Source, O: Sink>(
     alloc: Global,
     job: Job,
     config: &mut Config,
     files: &mut F,
     spool: &mut D,
     floor: &mut L,
+    spawner: &mut S,
+    dialer: &mut N,
     clock: &mut C,
     input: &mut I,
     output: &mut O,
@@ -127,15 +149,19 @@ fn work<F: Files, D: Spool, L: Floor, C: Clock, I: Source, O: Sink>(
     requires { (C.seen clock.old).readings ≤ 2 ^ 63 }
     ensures works { Works job config.old
         (world (F.seen files.old) (I.seen input.old) (O.seen output.old)
-        (L.seen floor.old) (D.seen spool.old) (C.seen clock.old))
+        (L.seen floor.old) (D.seen spool.old)
+        (beside (C.seen clock.old) (hands (S.seen spawner.old) (N.seen dialer.old))))
         (world (F.seen files.new) (I.seen input.new) (O.seen output.new)
-        (L.seen floor.new) (D.seen spool.new) (C.seen clock.new))
+        (L.seen floor.new) (D.seen spool.new)
+        (beside (C.seen clock.new) (hands (S.seen spawner.new) (N.seen dialer.new))))
         result }
     ensures stays { Stays
         (world (F.seen files.old) (I.seen input.old) (O.seen output.old)
-        (L.seen floor.old) (D.seen spool.old) (C.seen clock.old))
+        (L.seen floor.old) (D.seen spool.old)
+        (beside (C.seen clock.old) (hands (S.seen spawner.old) (N.seen dialer.old))))
         (world (F.seen files.new) (I.seen input.new) (O.seen output.new)
-        (L.seen floor.new) (D.seen spool.new) (C.seen clock.new))
+        (L.seen floor.new) (D.seen spool.new)
+        (beside (C.seen clock.new) (hands (S.seen spawner.new) (N.seen dialer.new))))
         result }
 {
     match job {
@@ -146,34 +172,55 @@ fn work<F: Files, D: Spool, L: Floor, C: Clock, I: Source, O: Sink>(
             };
             Outcome::of_test(address_test(alloc, config, &maps, input, output))
         }
-        Job::Session => session(alloc, config, files, spool, floor, clock),
+        Job::Session => {
+            let task = Task::Session;
+            served(
+                alloc, &task, config, files, spool, floor, spawner, dialer, clock,
+            )
+        }
+        Job::Daemon { wait } => {
+            let task = Task::Daemon { wait };
+            served(
+                alloc, &task, config, files, spool, floor, spawner, dialer, clock,
+            )
+        }
+        Job::Run { group } => {
+            let task = Task::Run { group };
+            served(
+                alloc, &task, config, files, spool, floor, spawner, dialer, clock,
+            )
+        }
         Job::List => Outcome::of_list(list_mode(alloc, config, spool, output)),
     }
 }
 
-// Session mode, with the files of maps, aliases and homes that it reads before it opens the queue.
-fn session<F: Files, D: Spool, L: Floor, C: Clock>(
+// A mode that serves, with the files of maps, aliases and homes that it reads before it opens the
+// queue.
+fn served<F: Files, D: Spool, L: Floor, S: Spawner, N: Dialer, C: Clock>(
     alloc: Global,
+    task: &Task,
     config: &Config,
     files: &mut F,
     spool: &mut D,
     floor: &mut L,
+    spawner: &mut S,
+    dialer: &mut N,
     clock: &mut C,
 ) -> Outcome
     requires { (C.seen clock.old).readings ≤ 2 ^ 63 }
     ensures works { (input : SourceSeen) (output : SinkSeen)
-        → Works Session config.now
+        → WorksAt task.now config.now
         (world (F.seen files.old) input output (L.seen floor.old) (D.seen spool.old)
-        (C.seen clock.old))
+        (beside (C.seen clock.old) (hands (S.seen spawner.old) (N.seen dialer.old))))
         (world (F.seen files.new) input output (L.seen floor.new) (D.seen spool.new)
-        (C.seen clock.new))
+        (beside (C.seen clock.new) (hands (S.seen spawner.new) (N.seen dialer.new))))
         result }
     ensures stays { (input : SourceSeen) (output : SinkSeen)
         → Stays
         (world (F.seen files.old) input output (L.seen floor.old) (D.seen spool.old)
-        (C.seen clock.old))
+        (beside (C.seen clock.old) (hands (S.seen spawner.old) (N.seen dialer.old))))
         (world (F.seen files.new) input output (L.seen floor.new) (D.seen spool.new)
-        (C.seen clock.new))
+        (beside (C.seen clock.new) (hands (S.seen spawner.new) (N.seen dialer.new))))
         result }
 {
     let maps = match load_maps(alloc, config, files) {
@@ -184,7 +231,9 @@ fn session<F: Files, D: Spool, L: Floor, C: Clock>(
         Ok(names) => names,
         Err(fault) => return Outcome::of_aliases(fault),
     };
-    Outcome::of_session(session_mode(alloc, config, &maps, &names, files, spool, floor, clock))
+    Outcome::of_serving(serving_mode(
+        alloc, task, config, &maps, &names, files, spool, floor, spawner, dialer, clock,
+    ))
 }
 
 // The configuration that the file of that name gives.

@@ -1,0 +1,25 @@
+use Rattle.std.proofs.Common.{rules, ◌≡◌, ℕ, Option, refl, ap}
+use Rattle.mail_edge.specs.Asking.{Asks}
+use Rattle.mail_edge.specs.Seen.{FileMap}
+use Rattle.link_edge.specs.declared.event.Event.TheVariants.{Stops}
+use Rattle.mail_core.specs.Causes.{is_judge_fault}
+use Rattle.mail_core.specs.Seen.{beside, hands, seen}
+use Rattle.sendmail_run.specs.Serving.{grounds_of}
+use Rattle.sendmail_run.proofs.ServingLemmas.{files_asked}
+use Rattle.sendmail_run.proofs.TurningLemmas.{turns_own}
+use Rattle.sendmail_run.proofs.serving_mode.stop.Goals as goal
+
+pub returns-clause-turns : goal.returns-clause-turns
+returns-clause-turns g c = λ site m origin before now clock read under stands awaited reading taken.
+    let a = seen before (g.D.Spool.seen c.args.spool.now) (beside clock (hands (g.S.Spawner.seen c.args.spawner.now) (g.N.Dialer.seen c.args.dialer.now))) in
+    let b = seen now (g.D.Spool.seen c.stop.new.spool) (beside read (hands (g.S.Spawner.seen c.stop.new.spawner) (g.N.Dialer.seen c.stop.new.dialer))) in
+    turns_own (grounds_of c.args.config.now c.args.maps.now c.args.names.now) c.new-grounds.result (g.F.Files.seen c.args.files.now) site m Stops origin a b c.stop.new.self c.stop.result c.new-grounds.ensures refl
+    (c.stop.ensures.turns site m origin before now clock read under stands awaited reading taken)
+
+pub returns-clause-asks : goal.returns-clause-asks
+returns-clause-asks g c =
+    let drawn = c.stop.ensures.drawn in
+    let kept : c.stop.new.draws.files.ghost_name ≡ _ = ap (λ (f : ℕ × Option FileMap). f.0) c.stop.ensures.fixed in
+    let asks : Asks (g.F.Files.seen c.args.files.now) (g.F.Files.seen c.stop.new.draws.files.now) (is_judge_fault c.stop.result) =
+    files_asked (g.F.Files.seen c.args.files.now) (g.F.Files.seen c.stop.new.draws.files.now) (is_judge_fault c.stop.result) (ap (λ (f : ℕ × Option FileMap). f.1) c.stop.ensures.fixed) drawn.steady.later drawn.rose drawn.calm in
+    search (rules, asks, kept)
