@@ -1,5 +1,6 @@
 -- The peers of mailers: a list with a host that isn't known, one that is, two addresses in
--- brackets and one that no bracket ends; a word that is no port; a socket; no second word; a path that is empty.
+-- brackets and one that no bracket ends; a word that is no port; a name with the dot that ends it; a
+-- socket; no second word; a path that is empty.
 use Rattle.std.proofs.Common.{◌≡◌, ℕ, List, [], ◌∷◌, None, refl, codes}
 use Rattle.mail_base.specs.declared.mailer.Mailer.{Mailer}
 use Rattle.cf_macros.specs.Expansion.{followed, value_in}
@@ -45,6 +46,10 @@ at_no_port = refl
 with_no_port : peers (codes "TCP" ∷ codes "$h" ∷ []) (codes "near") ≡ Host (codes "192.0.2.1") 25 ∷ []
 unfolding followed reading value_in
 with_no_port = refl
+
+with_its_dot : peers (codes "TCP" ∷ codes "$h" ∷ []) (codes "near.example.:far.example.:.") ≡ Host (codes "192.0.2.1") 25 ∷ []
+unfolding followed reading value_in
+with_its_dot = refl
 
 at_path : peers (codes "file" ∷ codes "/run/$h:1" ∷ codes "2525" ∷ []) (codes "lmtp") ≡ Path (codes "/run/lmtp:1") ∷ []
 unfolding followed reading value_in

@@ -8,7 +8,7 @@ use Rattle.std.proofs.Math.Bool.{and-false, true≢false}
 use Rattle.std.proofs.lemmas.List.{append-nil, append_assoc, drop_more, get_or-drop, take_more, length-drop}
 use Rattle.map_tables.specs.Answers.{Loaded}
 use Rattle.link_edge.specs.declared.peer.Peer.{Peer}
-use Rattle.queue_run.specs.Peers.{address_of, cut_at, peer_at, with_byte, without_bracket}
+use Rattle.queue_run.specs.Peers.{address_of, cut_at, peer_at, with_byte, without_last}
 
 -- ---- texts that are cut at colons
 
@@ -104,23 +104,23 @@ at_other f peers list begin place inside from within not_cut =
     ∙ byte_more inside byte host rest not_cut
     ∙ ap (λ q. behind host (cut_at inside q)) (sym (drop_more list place 0 within)))
 
--- ---- addresses in brackets
+-- ---- texts that a byte ends
 
 mapped_by : (b : Bool) (first : ℕ) (text : List ℕ) → option_map (λ q. first ∷ q) (cond b (Some text) None) ≡ cond b (Some (first ∷ text)) None
 mapped_by true first text = refl
 mapped_by false first text = refl
 
-bracket_by : (byte : ℕ) (text : List ℕ) → without_bracket (text ++ byte ∷ []) ≡ cond (byte == 93) (Some text) None
-bracket_by byte [] = refl
-bracket_by byte (first ∷ []) = mapped_by (byte == 93) first []
-bracket_by byte (first ∷ next ∷ text) = ap (option_map (λ q. first ∷ q)) (bracket_by byte (next ∷ text)) ∙ mapped_by (byte == 93) first (next ∷ text)
+last_by : (end byte : ℕ) (text : List ℕ) → without_last end (text ++ byte ∷ []) ≡ cond (byte == end) (Some text) None
+last_by end byte [] = refl
+last_by end byte (first ∷ []) = mapped_by (byte == end) first []
+last_by end byte (first ∷ next ∷ text) = ap (option_map (λ q. first ∷ q)) (last_by end byte (next ∷ text)) ∙ mapped_by (byte == end) first (next ∷ text)
 
--- a text that a bracket ends
-pub with_bracket : (text front : List ℕ) (byte : ℕ) → text ≡ front ++ byte ∷ [] → byte ≡ 93 → without_bracket text ≡ Some front
-with_bracket text front byte is bracket =
-    ap without_bracket is ∙ bracket_by byte front ∙ cond-true (byte == 93) (Some front) None (eq-eqb byte 93 bracket)
+-- a text that a byte ends
+pub with_last : (end : ℕ) (text front : List ℕ) (byte : ℕ) → text ≡ front ++ byte ∷ [] → byte ≡ end → without_last end text ≡ Some front
+with_last end text front byte is same =
+    ap (without_last end) is ∙ last_by end byte front ∙ cond-true (byte == end) (Some front) None (eq-eqb byte end same)
 
--- one that none ends
-pub lacks_bracket : (text front : List ℕ) (byte : ℕ) → text ≡ front ++ byte ∷ [] → (byte ≡ 93 → ⊥) → without_bracket text ≡ None
-lacks_bracket text front byte is other =
-    ap without_bracket is ∙ bracket_by byte front ∙ cond-false (byte == 93) (Some front) None (ne_eqb byte 93 other)
+-- one that another one ends
+pub lacks_last : (end : ℕ) (text front : List ℕ) (byte : ℕ) → text ≡ front ++ byte ∷ [] → (byte ≡ end → ⊥) → without_last end text ≡ None
+lacks_last end text front byte is other =
+    ap (without_last end) is ∙ last_by end byte front ∙ cond-false (byte == end) (Some front) None (ne_eqb byte end other)

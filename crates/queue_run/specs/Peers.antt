@@ -32,17 +32,31 @@ cut_at inside (byte ∷ bytes) =
 abbrev pub hosts_in : List ℕ → List (List ℕ)
 hosts_in text = cut_at false text
 
--- the text without its last byte, where that is a bracket
-abbrev pub without_bracket : List ℕ → Option (List ℕ)
-without_bracket [] = None
-without_bracket (byte ∷ []) = if byte == 93 then Some [] else None
-without_bracket (byte ∷ next ∷ bytes) = option_map (λ text. byte ∷ text) (without_bracket (next ∷ bytes))
+-- a text without the byte that ends it, where that is this one
+abbrev pub without_last : ℕ → List ℕ → Option (List ℕ)
+without_last end [] = None
+without_last end (byte ∷ []) = if byte == end then Some [] else None
+without_last end (byte ∷ next ∷ bytes) =
+    option_map (λ text. byte ∷ text) (without_last end (next ∷ bytes))
+
+-- the address of a name by the host table; a name that isn't there is looked for without the dot
+-- (46) that ends it, as rulesets leave one behind a name that is whole
+abbrev pub bare_address : Loaded → Option (List ℕ) → Option (List ℕ)
+bare_address maps None = None
+bare_address maps (Some name) = host_address name maps.hosts
+
+abbrev pub address_or_bare : Loaded → List ℕ → Option (List ℕ) → Option (List ℕ)
+address_or_bare maps name (Some address) = Some address
+address_or_bare maps name None = bare_address maps (without_last 46 name)
+
+abbrev pub address_named : Loaded → List ℕ → Option (List ℕ)
+address_named maps name = address_or_bare maps name (host_address name maps.hosts)
 
 -- what is dialled for a host: an address in brackets as it is, and a name by the host table
 abbrev pub address_of : Loaded → List ℕ → Option (List ℕ)
-address_of maps [] = host_address [] maps.hosts
+address_of maps [] = address_named maps []
 address_of maps (byte ∷ bytes) =
-    if byte == 91 then without_bracket bytes else host_address (byte ∷ bytes) maps.hosts
+    if byte == 91 then without_last 93 bytes else address_named maps (byte ∷ bytes)
 
 -- ---- ports
 

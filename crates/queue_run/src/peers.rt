@@ -183,22 +183,22 @@ fn address_of(alloc: Global, maps: &Maps, host: &[u8]) -> Result<Option<Text>, N
     match host.split_first() {
         Some((first, rest)) => {
             if *first == b'[' {
-                return before_bracket(alloc, rest);
+                return without_last(alloc, rest, b']');
             }
-            known_address(alloc, maps, host)
+            address_named(alloc, maps, host)
         }
-        None => known_address(alloc, maps, host),
+        None => address_named(alloc, maps, host),
     }
 }
 
-// The address before the bracket that ends a text.
-fn before_bracket(alloc: Global, text: &[u8]) -> Result<Option<Text>, NoMemory>
-    ensures { IfOk result (λ address. address ≡ spec.without_bracket text.now) }
+// A text without the byte that ends it, where that is this one.
+fn without_last(alloc: Global, text: &[u8], end: u8) -> Result<Option<Text>, NoMemory>
+    ensures { IfOk result (λ rest. rest ≡ spec.without_last end text.now) }
 {
     match text.split_last() {
-        Some((last, address)) => {
-            if *last == b']' {
-                return Ok(Some(Text::of(alloc, address)?));
+        Some((last, rest)) => {
+            if *last == end {
+                return Ok(Some(Text::of(alloc, rest)?));
             }
             Ok(None)
         }
@@ -206,12 +206,25 @@ fn before_bracket(alloc: Global, text: &[u8]) -> Result<Option<Text>, NoMemory>
     }
 }
 
+// The address of a name by the host table, or of the name without the dot that ends it.
+fn address_named(alloc: Global, maps: &Maps, name: &[u8]) -> Result<Option<Text>, NoMemory>
+    ensures { IfOk result (λ address. address ≡ spec.address_named maps.now name.now) }
+{
+    let whole = Text::of(alloc, name)?;
+    if let Some(address) = known_address(maps, &whole)? {
+        return Ok(Some(address));
+    }
+    match without_last(alloc, name, b'.')? {
+        Some(bare) => known_address(maps, &bare),
+        None => Ok(None),
+    }
+}
+
 // The address of a name by the host table.
-fn known_address(alloc: Global, maps: &Maps, name: &[u8]) -> Result<Option<Text>, NoMemory>
+fn known_address(maps: &Maps, name: &Text) -> Result<Option<Text>, NoMemory>
     ensures { IfOk result (λ address. address ≡ host_address name.now maps.now.hosts) }
 {
-    let name = Text::of(alloc, name)?;
-    match maps.host(&name) {
+    match maps.host(name) {
         Some(address) => Ok(Some(address.copy()?)),
         None => Ok(None),
     }
