@@ -1,6 +1,7 @@
 //! Items of the words that begin lines.
 
-use crate::text::{add_text, parted};
+use crate::number::seconds_of;
+use crate::text::{add_text, parted, put_word};
 use crate::{Bad, Device, Item, Play, Word, number_of};
 use mail_base::Text;
 use std::alloc::Global;
@@ -14,10 +15,14 @@ pub(crate) enum Form {
     Text(Word),
     /// An item with a name.
     Named(Word),
+    /// An item with a number.
+    Number(Word),
     Words,
     Clock,
     Fail,
-    In,
+    Stop,
+    Rest,
+    Child,
     Replies,
     Status,
     Lines,
@@ -50,6 +55,7 @@ pub(crate) fn form_of(word: &[u8]) -> Result<Form, Bad> {
         b"held" => Ok(Form::Named(Word::Held)),
         b"clock" => Ok(Form::Clock),
         b"fail" => Ok(Form::Fail),
+        b"stop" => Ok(Form::Stop),
         _ => form_of_turn(word),
     }
 }
@@ -57,14 +63,27 @@ pub(crate) fn form_of(word: &[u8]) -> Result<Form, Bad> {
 fn form_of_turn(word: &[u8]) -> Result<Form, Bad> {
     match word {
         b"session" => Ok(Form::Text(Word::Session)),
-        b"in" => Ok(Form::In),
+        b"in" => Ok(Form::Number(Word::In)),
         b"piece" => Ok(Form::Alone(Word::Piece)),
         b"close" => Ok(Form::Alone(Word::Close)),
-        b"rest" => Ok(Form::Alone(Word::Rest)),
+        b"rest" => Ok(Form::Rest),
         b"hung" => Ok(Form::Pair("up", Word::HungUp)),
         b".." => Ok(Form::Alone(Word::Any)),
         b"replies" => Ok(Form::Replies),
-        b"child" | b"peer" => Err(Bad::Reserved),
+        _ => form_of_delivery(word),
+    }
+}
+
+fn form_of_delivery(word: &[u8]) -> Result<Form, Bad> {
+    match word {
+        b"child" => Ok(Form::Child),
+        b"runs" => Ok(Form::Number(Word::Runs)),
+        b"exit" => Ok(Form::Number(Word::Exit)),
+        b"lost" => Ok(Form::Alone(Word::Lost)),
+        b"not" => Ok(Form::Pair("started", Word::NotStarted)),
+        b"peer" => Ok(Form::Text(Word::Peer)),
+        b"refused" => Ok(Form::Alone(Word::Refused)),
+        b"broken" => Ok(Form::Alone(Word::Broken)),
         _ => form_of_want(word),
     }
 }
@@ -99,10 +118,13 @@ pub(crate) fn item_of(alloc: Global, form: Form, line: u32, rest: &[u8]) -> Resu
         Form::Text(word) => named(alloc, word, line, rest),
         Form::Named(_) if rest.is_empty() => Err(Bad::Name),
         Form::Named(word) => named(alloc, word, line, rest),
+        Form::Number(word) => numbered(alloc, word, line, rest),
         Form::Words => words(alloc, line, rest),
         Form::Clock => clock(alloc, line, rest),
         Form::Fail => fail(alloc, line, rest),
-        Form::In => numbered(alloc, Word::In, line, rest),
+        Form::Stop => stop(alloc, line, rest),
+        Form::Rest => rests(alloc, line, rest),
+        Form::Child => child(alloc, line, rest),
         _ => want(alloc, form, line, rest),
     }
 }
@@ -148,11 +170,55 @@ fn words(alloc: Global, line: u32, rest: &[u8]) -> Result<Item, Bad> {
     Ok(item)
 }
 
+// A program and its words, parted by blanks; a blank in a word is written as a code.
+fn child(alloc: Global, line: u32, rest: &[u8]) -> Result<Item, Bad> {
+    let mut item = Item::new(Word::Child, line, Text::new(alloc));
+    if rest.is_empty() {
+        return Ok(item);
+    }
+    for word in rest.split(|byte| *byte == b' ') {
+        let word = text_of(alloc, word)?;
+        put_word(&mut item.name, word.bytes())?;
+    }
+    Ok(item)
+}
+
+// A first reading and a step; or, with `later` beside it, a time from the clock before.
 fn clock(alloc: Global, line: u32, rest: &[u8]) -> Result<Item, Bad> {
     let (start, step) = parted(rest, b' ').unwrap_or((rest, b"0"));
     let mut item = Item::new(Word::Clock, line, Text::new(alloc));
+    if step == b"later".as_slice() {
+        item.number = seconds_of(start).ok_or(Bad::Number)?;
+        item.beside.extend(step)?;
+        return Ok(item);
+    }
     item.number = number_of(start).ok_or(Bad::Number)?;
-    item.session = number_of(step).ok_or(Bad::Number)?;
+    item.seconds = number_of(step).ok_or(Bad::Number)?;
+    Ok(item)
+}
+
+// A call of the queue, and beside it what is left of what it does.
+fn stop(alloc: Global, line: u32, rest: &[u8]) -> Result<Item, Bad> {
+    let (number, left) = parted(rest, b' ').unwrap_or((rest, &[]));
+    if !matches!(left, b"" | b"empty" | b"half" | b"done") {
+        return Err(Bad::Name);
+    }
+    let mut item = numbered(alloc, Word::Stop, line, number)?;
+    item.beside.extend(left)?;
+    Ok(item)
+}
+
+// So many turns, or one for which a time goes by.
+fn rests(alloc: Global, line: u32, rest: &[u8]) -> Result<Item, Bad> {
+    let mut item = Item::new(Word::Rest, line, Text::new(alloc));
+    item.number = 1;
+    if rest.is_empty() {
+        return Ok(item);
+    }
+    match number_of(rest) {
+        Some(number) => item.number = number,
+        None => item.seconds = seconds_of(rest).ok_or(Bad::Number)?,
+    }
     Ok(item)
 }
 
@@ -238,11 +304,22 @@ pub(crate) fn play_of(rest: &[u8]) -> Result<Play, Bad> {
         b"cut" if behind.is_empty() => Ok(Play::Cut),
         b"stream" if behind.is_empty() => Ok(Play::Stream),
         b"failing" if behind.is_empty() => Ok(Play::Failing),
-        b"stopped" if behind.is_empty() => Ok(Play::Stopped(None)),
-        b"stopped" => Ok(Play::Stopped(Some(number_of(behind).ok_or(Bad::Number)?))),
+        b"stopped" => stopped(behind),
         b"random" => random(behind),
         _ => Err(Bad::Name),
     }
+}
+
+// Nothing, or how many calls there are, and behind it how many of them change what is there.
+fn stopped(words: &[u8]) -> Result<Play, Bad> {
+    if words.is_empty() {
+        return Ok(Play::Stopped(None, None));
+    }
+    let Some((calls, changes)) = parted(words, b' ') else {
+        return Ok(Play::Stopped(Some(number_of(words).ok_or(Bad::Number)?), None));
+    };
+    let calls = number_of(calls).ok_or(Bad::Number)?;
+    Ok(Play::Stopped(Some(calls), Some(number_of(changes).ok_or(Bad::Number)?)))
 }
 
 fn random(words: &[u8]) -> Result<Play, Bad> {

@@ -15,6 +15,20 @@ pub fn number_of(digits: &[u8]) -> Option<u64> {
     Some(number)
 }
 
+/// The seconds of a number with a unit behind it: `s`, `m`, `h`, `d` or `w`.
+pub fn seconds_of(time: &[u8]) -> Option<u64> {
+    let (unit, digits) = time.split_last()?;
+    let seconds = match *unit {
+        b's' => 1,
+        b'm' => 60,
+        b'h' => 3_600,
+        b'd' => 86_400,
+        b'w' => 604_800,
+        _ => return None,
+    };
+    number_of(digits)?.checked_mul(seconds)
+}
+
 /// Adds a number in decimal digits.
 pub fn put_number(text: &mut Text, number: u64) -> Result<(), NoMemory> {
     put_digits(text, number, 1)

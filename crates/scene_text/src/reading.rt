@@ -8,6 +8,9 @@ use mail_base::{NoMemory, Seq, Text};
 use mail_edge::Files;
 use std::alloc::Global;
 
+/// What the clock reads first where a run says nothing.
+pub const FIRST_READING: u64 = 1_767_225_600;
+
 /// The scenes of a file that is written out, over the files that stand beside it in a folder, whose
 /// name ends in a slash or is empty.
 pub fn scenes_of<F: Files>(
@@ -159,7 +162,22 @@ fn add_word<F: Files>(
         let alloc = item.name.allocator();
         item.body = beside(alloc, files, folder, item.name.bytes(), b".cf")?;
     }
-    add_item(last_run(scene)?, item)
+    let run = last_run(scene)?;
+    if item.word == Word::Clock && !item.beside.is_empty() {
+        set_later(run, &mut item);
+    }
+    add_item(run, item)
+}
+
+// Makes a clock that is later than the one that was taken over a clock of its own.
+fn set_later(run: &Run, item: &mut Item) {
+    let mut start = FIRST_READING;
+    if let Some(before) = run.items.iter().find(|other| other.word == Word::Clock) {
+        start = before.number;
+        item.seconds = before.seconds;
+    }
+    item.number = start.saturating_add(item.number);
+    item.beside.clear();
 }
 
 fn begin(scenes: &mut Vec<Scene>, line: u32, name: &[u8]) -> Result<(), Bad> {

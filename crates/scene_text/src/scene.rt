@@ -12,8 +12,9 @@ pub enum Play {
     Stream,
     /// With each call of each device failing once.
     Failing,
-    /// Stopped at each changing call of the queue, of which there are so many.
-    Stopped(Option<u64>),
+    /// Stopped at each changing call of the queue, of which there are so many, and so many of them
+    /// change what is there once the queue is opened again.
+    Stopped(Option<u64>, Option<u64>),
 }
 
 /// A run of a scene.

@@ -2,7 +2,7 @@
 
 use crate::Bad;
 use crate::number::number_of;
-use mail_base::Text;
+use mail_base::{NoMemory, Text};
 
 /// The most bytes of a text.
 const MOST_TEXT: usize = 67_108_864;
@@ -11,6 +11,23 @@ const MOST_TEXT: usize = 67_108_864;
 pub fn parted(bytes: &[u8], sign: u8) -> Option<(&[u8], &[u8])> {
     let at = bytes.iter().position(|byte| *byte == sign)?;
     Some((bytes.get(..at)?, bytes.get(at.saturating_add(1)..)?))
+}
+
+/// Adds a word of a program that is started, with a blank in front of it unless it is the first.
+/// Blanks and backslashes in it are written as codes, so that each list of words has a text of its
+/// own.
+pub fn put_word(text: &mut Text, word: &[u8]) -> Result<(), NoMemory> {
+    if !text.is_empty() {
+        text.push(b' ')?;
+    }
+    for byte in word {
+        match *byte {
+            b' ' => text.extend(b"\\x20")?,
+            b'\\' => text.extend(b"\\\\")?,
+            other => text.push(other)?,
+        }
+    }
+    Ok(())
 }
 
 /// Adds what is written, with each sign as the byte that it stands for.

@@ -9,12 +9,24 @@ pub enum Word {
     Held,
     Clock,
     Fail,
+    Stop,
     Session,
     In,
     Piece,
     Close,
     Rest,
     HungUp,
+    /// A program that is started.
+    Child,
+    /// How often it is found running.
+    Runs,
+    Exit,
+    Lost,
+    NotStarted,
+    /// A host or a socket that is dialled.
+    Peer,
+    Refused,
+    Broken,
     /// A line that is said.
     Say,
     /// A line that has to come back.
@@ -50,8 +62,8 @@ pub(crate) enum Kind {
 impl Word {
     pub(crate) fn kind(self) -> Kind {
         match self {
-            Word::Words | Word::Config | Word::Front | Word::Behind | Word::Clock | Word::Status =>
-                Kind::Single,
+            Word::Words | Word::Config | Word::Front | Word::Behind => Kind::Single,
+            Word::Clock | Word::Stop | Word::Status => Kind::Single,
             Word::File | Word::Held | Word::Fail => Kind::Named,
             Word::Listed | Word::Replies | Word::RepliesFirst | Word::RepliesAny => Kind::Replies,
             _ => self.later_kind(),
@@ -96,7 +108,10 @@ impl Word {
 
     /// Whether it is a case.
     pub fn is_case(self) -> bool {
-        matches!(self, Word::Told | Word::Listed | Word::Status) || self.kind() == Kind::Wants
+        matches!(
+            self,
+            Word::Told | Word::Listed | Word::Child | Word::Peer | Word::Status
+        ) || self.kind() == Kind::Wants
     }
 }
 
@@ -109,6 +124,8 @@ pub enum Device {
     Sends,
     Reads,
     Writes,
+    Children,
+    Peers,
 }
 
 impl Device {
@@ -121,6 +138,8 @@ impl Device {
             b"sends" => Some(Device::Sends),
             b"reads" => Some(Device::Reads),
             b"writes" => Some(Device::Writes),
+            b"children" => Some(Device::Children),
+            b"peers" => Some(Device::Peers),
             _ => None,
         }
     }
@@ -133,6 +152,8 @@ impl Device {
             Device::Sends => "sends",
             Device::Reads => "reads",
             Device::Writes => "writes",
+            Device::Children => "children",
+            Device::Peers => "peers",
         }
     }
 }

@@ -1,14 +1,11 @@
 //! The devices of a run, as its items give them.
 
 use mail_base::{NoMemory, Seq, Text};
-use mail_edge::{MemClock, MemFiles, SureFiles};
-use scene_text::{Bad, Device, Item, Run, Word, number_of, parted};
+use mail_edge::{MemFiles, SureFiles};
+use scene_text::{Bad, Device, FIRST_READING, Item, Run, Word, number_of, parted};
 use sendmail_run::DEFAULT_FILE;
 use spool_disk::File;
 use std::alloc::Global;
-
-/// What the clock reads where a run says nothing.
-const NOW: u64 = 1_767_225_600;
 
 /// The last item of a word.
 pub(crate) fn find(run: &Run, word: Word) -> Option<&Item> {
@@ -38,6 +35,21 @@ fn default_words(alloc: Global, sessions: u64) -> Result<Seq<Text>, NoMemory> {
         words.push(Text::of(alloc, b"-bs")?)?;
     } else {
         words.push(Text::of(alloc, b"-bt")?)?;
+    }
+    Ok(words)
+}
+
+/// The words of a session under the configuration of a run: its own, without its mode.
+pub(crate) fn opening_words(alloc: Global, run: &Run) -> Result<Seq<Text>, NoMemory> {
+    let mut words = Seq::new(alloc);
+    words.push(Text::of(alloc, b"-bs")?)?;
+    let mut is_name = false;
+    for word in words_of(alloc, run, 1)?.items() {
+        let is_mode = word.bytes().starts_with(b"-b") || word.bytes().starts_with(b"-q");
+        if is_name || !is_mode {
+            words.push(Text::of(alloc, word.bytes())?)?;
+        }
+        is_name = !is_name && word.bytes() == b"-C".as_slice();
     }
     Ok(words)
 }
@@ -96,18 +108,20 @@ fn add_numbers(calls: &mut Seq<u64>, numbers: &[u8]) -> Result<(), NoMemory> {
     Ok(())
 }
 
-/// Whether a run has fails.
+/// Whether a run has fails or a stop.
 pub(crate) fn has_fails(run: &Run) -> bool {
-    run.items
-        .iter()
-        .any(|item| item.word == Word::Fail && !item.beside.is_empty())
+    run.items.iter().any(|item| match item.word {
+        Word::Fail => !item.beside.is_empty(),
+        Word::Stop => true,
+        _ => false,
+    })
 }
 
-/// The clock.
-pub(crate) fn clock_of(run: &Run) -> MemClock {
+/// The first reading of the clock, and how much later each next one is.
+pub(crate) fn clock_of(run: &Run) -> (u64, u64) {
     match find(run, Word::Clock) {
-        Some(item) => MemClock::new(item.number, item.session),
-        None => MemClock::new(NOW, 0),
+        Some(item) => (item.number, item.seconds),
+        None => (FIRST_READING, 0),
     }
 }
 

@@ -2,6 +2,8 @@
 
 use crate::came::{id_of, said_to};
 use crate::judging::status_text;
+use crate::keeping::{delivers, first_lost};
+use crate::party::Party;
 use crate::playing::{Base, are_same, is_among, numbered, ran_over};
 use crate::report::{Report, Spot};
 use crate::running::{Ran, Way};
@@ -10,24 +12,27 @@ use scene_text::{Bad, Device, Run, Scene};
 use spool_disk::File;
 use std::alloc::Global;
 
-const DEVICES: [Device; 6] = [
+const DEVICES: [Device; 8] = [
     Device::Files,
     Device::Spool,
     Device::Turns,
     Device::Sends,
     Device::Reads,
     Device::Writes,
+    Device::Children,
+    Device::Peers,
 ];
 
-/// The status of a run that a fault of a device ends; that of a send ends its session alone.
+/// The status of a run that a fault of a device ends. That of a send ends its session alone, and
+/// those of children and peers end none.
 fn status_of(device: Device) -> u8 {
     match device {
         Device::Files => 72,
         Device::Spool => 75,
         Device::Turns => 69,
-        Device::Sends => 0,
         Device::Reads => 74,
         Device::Writes => 73,
+        Device::Sends | Device::Children | Device::Peers => 0,
     }
 }
 
@@ -84,7 +89,7 @@ fn compare(
     left: &Seq<File>,
     report: &mut Report,
 ) -> Result<(), NoMemory> {
-    compare_replies(alloc, spot, line, base, ran, report)?;
+    compare_replies(alloc, spot, line, base, device, ran, report)?;
     compare_kept(spot, line, base, ran, left, report)?;
     if ran.status == status_of(device) {
         return Ok(());
@@ -100,18 +105,24 @@ fn compare(
     Ok(())
 }
 
-// What comes back is what comes else, up to some place.
+// What comes back is what comes else, up to some place. Behind a fault that doesn't end the run other
+// programs and peers may be begun than else.
 fn compare_replies(
     alloc: Global,
     spot: Spot,
     line: u32,
     base: &Base,
+    device: Device,
     ran: &Ran,
     report: &mut Report,
 ) -> Result<(), NoMemory> {
-    for session in 0..base.plot.sessions.saturating_add(1) {
-        let wanted = said_to(alloc, &base.ran.came, session)?;
-        let came = said_to(alloc, &ran.came, session)?;
+    let goes_on = status_of(device) == 0;
+    for party in base.plot.counts.parties(alloc)?.items() {
+        if goes_on && !matches!(party, Party::Standard | Party::Session(_)) {
+            continue;
+        }
+        let wanted = said_to(alloc, &base.ran.came, *party)?;
+        let came = said_to(alloc, &ran.came, *party)?;
         if !wanted.bytes().starts_with(came.bytes()) {
             report.fail(spot, line, wanted.bytes(), came.bytes())?;
         }
@@ -119,7 +130,7 @@ fn compare_replies(
     Ok(())
 }
 
-// Each message that was acknowledged is there as it is else.
+// Each message that was acknowledged is there as it is else; in a run that delivers each entry is kept.
 fn compare_kept(
     spot: Spot,
     line: u32,
@@ -128,8 +139,14 @@ fn compare_kept(
     left: &Seq<File>,
     report: &mut Report,
 ) -> Result<(), NoMemory> {
+    if delivers(base) {
+        return match first_lost(base, &ran.came, left) {
+            Some(id) => report.fail(spot, line, b"each entry kept", id),
+            None => Ok(()),
+        };
+    }
     for came in ran.came.items() {
-        if let Some(id) = id_of(came.text.bytes()) {
+        if let Some(id) = id_of(came) {
             if !is_kept(base, id, left) {
                 report.fail(spot, line, came.text.bytes(), b"not its files")?;
             }

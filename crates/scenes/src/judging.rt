@@ -22,8 +22,8 @@ pub(crate) fn judge(
     report: &mut Report,
 ) -> Result<(), NoMemory> {
     judge_status(alloc, spot, run, ran, report)?;
-    for session in 0..plot.sessions.saturating_add(1) {
-        judge_replies(alloc, spot, run, plot, ran, session, report)?;
+    for party in plot.counts.parties(alloc)?.items() {
+        judge_replies(alloc, spot, run, plot, ran, *party, report)?;
     }
     judge_files(alloc, spot, run, ran, left, report)
 }

@@ -87,8 +87,8 @@ fn first_difference<'a>(wanted: &'a [u8], came: &'a [u8]) -> (u32, &'a [u8], &'a
     (0, wanted, came)
 }
 
-// The first line with its end, and what stands behind.
-fn line_of(bytes: &[u8]) -> (&[u8], &[u8]) {
+/// The first line with its end, and what stands behind.
+pub(crate) fn line_of(bytes: &[u8]) -> (&[u8], &[u8]) {
     match bytes.iter().position(|byte| *byte == b'\n') {
         Some(at) => {
             let length = at.saturating_add(1);

@@ -1,7 +1,8 @@
 //! Whether what came back is what a scene wants.
 
-use crate::came::Came;
-use crate::plot::{Due, Plot, end_of};
+use crate::came::{Came, What};
+use crate::party::{Party, end_of};
+use crate::plot::{Due, Plot};
 use crate::report::{Report, Spot};
 use crate::running::Ran;
 use mail_base::{NoMemory, Seq, Text};
@@ -18,43 +19,43 @@ pub(crate) struct Wanted {
     pub is_any: bool,
 }
 
-/// What has to come back to a session, 0 for standard output.
+/// What has to come back to a party.
 pub(crate) fn wanted_of(
     alloc: Global,
     run: &Run,
     plot: &Plot,
-    session: u64,
+    party: Party,
 ) -> Result<Wanted, NoMemory> {
     let mut wanted = Wanted {
         due: Vec::new(alloc),
         is_strict: false,
         is_any: false,
     };
-    match replies_of(run, plot, session) {
+    match replies_of(run, plot, party) {
         None => {
             wanted.is_strict = true;
-            add_due(&mut wanted.due, plot, session, usize::MAX)?;
+            add_due(&mut wanted.due, plot, party, usize::MAX)?;
+            wanted.is_any = wanted.due.is_empty() && is_unnamed(run, plot, party);
         }
         Some(item) if item.word == Word::RepliesFirst => {
             let most = item.number.min(1_000_000_000) as usize;
-            add_due(&mut wanted.due, plot, session, most)?;
+            add_due(&mut wanted.due, plot, party, most)?;
         }
         Some(item) if item.word == Word::RepliesAny => wanted.is_any = true,
-        Some(item) => add_listed(&mut wanted.due, run, item.session, session)?,
+        Some(item) => add_listed(&mut wanted.due, run, item.session, party)?,
     }
     Ok(wanted)
 }
 
-// What is said of a session's replies behind the transcript.
-fn replies_of<'a>(run: &'a Run, plot: &Plot, session: u64) -> Option<&'a Item> {
-    let usual = plot.sessions.min(1);
+// What is said of the replies to a session, or of standard output, behind the transcript.
+fn replies_of<'a>(run: &'a Run, plot: &Plot, party: Party) -> Option<&'a Item> {
+    let usual = plot.counts.sessions.min(1);
     run.items.iter().rev().find(|item| {
-        let named = if item.session == 0 {
-            usual
-        } else {
-            item.session
+        let named = match item.session {
+            0 => usual,
+            session => session,
         };
-        named == session
+        is_numbered(party, named)
             && matches!(
                 item.word,
                 Word::Replies | Word::RepliesFirst | Word::RepliesAny
@@ -62,21 +63,52 @@ fn replies_of<'a>(run: &'a Run, plot: &Plot, session: u64) -> Option<&'a Item> {
     })
 }
 
-fn add_due(due: &mut Vec<Due>, plot: &Plot, session: u64, most: usize) -> Result<(), NoMemory> {
+// Whether a party is the session of that number, where 0 is standard output.
+fn is_numbered(party: Party, number: u64) -> bool {
+    match party {
+        Party::Standard => number == 0,
+        Party::Session(session) => session == number,
+        _ => false,
+    }
+}
+
+// Whether a party is a child or a peer that may be any.
+fn is_unnamed(run: &Run, plot: &Plot, party: Party) -> bool {
+    let (word, number) = match party {
+        Party::Child(number) => (Word::Child, number),
+        Party::Peer(number) => (Word::Peer, number),
+        _ => return false,
+    };
+    let mut count = 0u64;
+    for due in plot.due.items() {
+        let Some(item) = run.items.as_slice().get(due.item) else {
+            continue;
+        };
+        if due.party == Party::Begun && item.word == word {
+            count = count.saturating_add(1);
+            if count == number {
+                return item.name.is_empty();
+            }
+        }
+    }
+    false
+}
+
+fn add_due(due: &mut Vec<Due>, plot: &Plot, party: Party, most: usize) -> Result<(), NoMemory> {
     for line in plot.due.items() {
-        if line.session == session && due.len() < most {
+        if line.party == party && due.len() < most {
             due.push(*line)?;
         }
     }
     Ok(())
 }
 
-fn add_listed(due: &mut Vec<Due>, run: &Run, named: u64, session: u64) -> Result<(), NoMemory> {
+fn add_listed(due: &mut Vec<Due>, run: &Run, named: u64, party: Party) -> Result<(), NoMemory> {
     for (place, item) in run.items.iter().enumerate() {
         if item.word == Word::Listed && item.session == named {
             due.push(Due {
                 item: place,
-                session,
+                party,
                 step: 0,
             })?;
         }
@@ -84,17 +116,17 @@ fn add_listed(due: &mut Vec<Due>, run: &Run, named: u64, session: u64) -> Result
     Ok(())
 }
 
-/// Compares what came back to a session.
+/// Compares what came back to a party.
 pub(crate) fn judge_replies(
     alloc: Global,
     spot: Spot,
     run: &Run,
     plot: &Plot,
     ran: &Ran,
-    session: u64,
+    party: Party,
     report: &mut Report,
 ) -> Result<(), NoMemory> {
-    let wanted = wanted_of(alloc, run, plot, session)?;
+    let wanted = wanted_of(alloc, run, plot, party)?;
     if wanted.is_any {
         return Ok(());
     }
@@ -103,7 +135,7 @@ pub(crate) fn judge_replies(
         .due
         .iter()
         .any(|due| word_of(run, due) == Word::HungUp);
-    let came = came_to(alloc, &ran.came, session, hangs)?;
+    let came = came_to(alloc, &ran.came, party, hangs)?;
     match first_wrong(run, &wanted, &came) {
         None => Ok(()),
         Some(wrong) => tell(alloc, spot, run, &wanted, &came, wrong, report),
@@ -121,16 +153,16 @@ fn is_line(run: &Run, due: &Due) -> bool {
     word_of(run, due) != Word::Any
 }
 
-// What came to a session, with its hang-up or without.
+// What came to a party, with its hang-up or without.
 fn came_to<'a>(
     alloc: Global,
     came: &'a Seq<Came>,
-    session: u64,
+    party: Party,
     hangs: bool,
 ) -> Result<Vec<&'a Came>, NoMemory> {
     let mut lines = Vec::new(alloc);
     for line in came.items() {
-        if line.session == session && (hangs || !line.hung) {
+        if line.party == party && (hangs || line.what != What::HungUp) {
             lines.push(line)?;
         }
     }
@@ -228,19 +260,38 @@ fn is_met(came: &[&Came], at: usize, item: &Item, due: &Due, reading: Option<Rea
         return false;
     };
     let is_read = match reading {
-        Some(reading) => due.session == 0 || reading.is_at(line.step),
+        Some(reading) => is_whole(due.party) || reading.is_at(line.step),
         None => true,
     };
     is_same(line, item, due) && is_read
 }
 
-// Whether a line is the one that is wanted.
-fn is_same(line: &Came, item: &Item, due: &Due) -> bool {
-    if item.word == Word::HungUp || line.hung {
-        return item.word == Word::HungUp && line.hung;
+// Whether all that comes to a party comes at no step of its own.
+fn is_whole(party: Party) -> bool {
+    matches!(party, Party::Standard | Party::Child(_))
+}
+
+// Whether what came is what is wanted.
+fn is_same(came: &Came, item: &Item, due: &Due) -> bool {
+    match came.what {
+        What::HungUp => item.word == Word::HungUp,
+        What::Child => item.word == Word::Child && is_begun(came, item),
+        What::Peer => item.word == Word::Peer && is_begun(came, item),
+        What::Line => is_line_of(came, item, due),
     }
-    match line.text.bytes().strip_prefix(item.name.bytes()) {
-        Some(end) => end == end_of(item, due.session),
+}
+
+// Whether a program or a peer is the one that is named, if one is.
+fn is_begun(came: &Came, item: &Item) -> bool {
+    item.name.is_empty() || item.name.bytes() == came.text.bytes()
+}
+
+fn is_line_of(came: &Came, item: &Item, due: &Due) -> bool {
+    if matches!(item.word, Word::HungUp | Word::Child | Word::Peer) {
+        return false;
+    }
+    match came.text.bytes().strip_prefix(item.name.bytes()) {
+        Some(end) => end == end_of(item, due.party),
         None => false,
     }
 }
@@ -265,7 +316,7 @@ fn tell(
         return Ok(());
     };
     let mut line = Text::new(alloc);
-    add_wanted(&mut line, item, due.session)?;
+    add_wanted(&mut line, item, due.party)?;
     if line.bytes() == text.bytes() {
         text.extend(b" in another piece")?;
     }
@@ -291,18 +342,28 @@ fn line_of(run: &Run, wanted: &Wanted) -> u32 {
 
 /// Adds a line as it came.
 pub(crate) fn add_came(text: &mut Text, came: Option<&Came>) -> Result<(), NoMemory> {
-    match came {
-        None => text.extend(b"nothing more"),
-        Some(came) if came.hung => text.extend(b"hung up"),
-        Some(came) => text.extend(came.text.bytes()),
+    let Some(came) = came else {
+        return text.extend(b"nothing more");
+    };
+    match came.what {
+        What::HungUp => return text.extend(b"hung up"),
+        What::Child => text.extend(b"child ")?,
+        What::Peer => text.extend(b"peer ")?,
+        What::Line => {}
     }
+    text.extend(came.text.bytes())
 }
 
 /// Adds a line as it is wanted.
-pub(crate) fn add_wanted(text: &mut Text, item: &Item, session: u64) -> Result<(), NoMemory> {
-    if item.word == Word::HungUp {
-        return text.extend(b"hung up");
+pub(crate) fn add_wanted(text: &mut Text, item: &Item, party: Party) -> Result<(), NoMemory> {
+    match item.word {
+        Word::HungUp => return text.extend(b"hung up"),
+        Word::Child => text.extend(b"child ")?,
+        Word::Peer => text.extend(b"peer ")?,
+        _ => {
+            text.extend(item.name.bytes())?;
+            return text.extend(end_of(item, party));
+        }
     }
-    text.extend(item.name.bytes())?;
-    text.extend(end_of(item, session))
+    text.extend(item.name.bytes())
 }

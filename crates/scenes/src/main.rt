@@ -4,12 +4,18 @@
 
 mod came;
 mod chance;
+mod children;
 mod devices;
 mod failing;
 mod files;
 mod judging;
 mod judging_files;
 mod judging_replies;
+mod keeping;
+mod manner;
+mod party;
+mod peers;
+mod place;
 mod playing;
 mod plot;
 mod report;
@@ -18,6 +24,7 @@ mod showing;
 mod source;
 mod stopped;
 mod told;
+mod watch;
 
 use crate::files::DiskFiles;
 use crate::playing::{Halt, play};

@@ -1,8 +1,8 @@
 //! A scene, played as it stands and in each of its further ways.
 
-use crate::came::{acknowledged, said_to};
+use crate::came::said_to;
 use crate::chance::Chance;
-use crate::devices::{add_all_held, has_fails};
+use crate::devices::{add_all_held, find, has_fails};
 use crate::failing::play_failing;
 use crate::judging::{judge, status_text};
 use crate::plot::{Plot, plot_of};
@@ -11,7 +11,7 @@ use crate::running::{Ran, Way, run_over};
 use crate::source::Pieces;
 use crate::stopped::play_stopped;
 use mail_base::{NoMemory, Seq, Text, TryCopy};
-use scene_text::{Bad, Device, Play, Run, Scene};
+use scene_text::{Bad, Device, Item, Play, Run, Scene, Word};
 use spool_disk::{File, MemSpool, StopSpool};
 use std::alloc::Global;
 
@@ -121,10 +121,35 @@ pub(crate) fn ran_over(
     start: &Seq<File>,
 ) -> Result<(Ran, Seq<File>), Bad> {
     let fails = way.failing(alloc, run, Device::Spool)?;
-    let mut spool = StopSpool::new(MemSpool::of(alloc, start.copy()?, fails)?, u64::MAX);
+    let stop = find(run, Word::Stop).filter(|_| way.heeds);
+    let passes = match stop {
+        Some(item) => item.number,
+        None => u64::MAX,
+    };
+    let mut spool = StopSpool::new(MemSpool::of(alloc, start.copy()?, fails)?, passes);
     let ran = run_over(alloc, run, plot, way, &mut spool)?;
-    let left = spool.spool.files()?;
+    let left = left_by(&spool, stop)?;
     Ok((ran, left))
+}
+
+// The files that a run leaves, or that its stop does.
+fn left_by(spool: &StopSpool, stop: Option<&Item>) -> Result<Seq<File>, Bad> {
+    let Some(stop) = stop else {
+        return Ok(spool.spool.files()?);
+    };
+    let images = spool.images()?;
+    let writes = images.len() > 2;
+    let place = match stop.beside.bytes() {
+        b"empty" if writes => 1,
+        b"half" if writes => 2,
+        b"empty" | b"half" => images.len(),
+        b"done" => images.len().saturating_sub(1),
+        _ => 0,
+    };
+    match images.get(place) {
+        Some(image) => Ok(image.files()?),
+        None => Err(Bad::NoImage),
+    }
 }
 
 fn play_also(
@@ -148,8 +173,12 @@ fn play_also(
             }
             Ok(play_failing(alloc, spot, scene, bases, report)?)
         }
-        Play::Stopped(calls) => {
-            Ok(play_stopped(alloc, named(spot, b"stopped"), scene, bases, calls, report)?)
+        Play::Stopped(calls, changes) => {
+            if scene.runs.iter().any(has_fails) {
+                return Err(Halt::from(Bad::Fails));
+            }
+            let spot = named(spot, b"stopped");
+            Ok(play_stopped(alloc, spot, scene, bases, (calls, changes), report)?)
         }
     }
 }
@@ -188,7 +217,7 @@ fn play_stream(
     bases: &[Base],
     report: &mut Report,
 ) -> Result<(), Halt> {
-    if !bases.iter().all(|base| base.plot.sessions == 1) {
+    if !bases.iter().all(|base| base.plot.counts.sessions == 1) {
         return Err(Halt::from(Bad::Stream));
     }
     let way = Way {
@@ -225,9 +254,9 @@ fn compare(
     report: &mut Report,
 ) -> Result<(), NoMemory> {
     compare_status(alloc, spot, line, &base.ran, ran, report)?;
-    for session in 0..base.plot.sessions.saturating_add(1) {
-        let wanted = said_to(alloc, &base.ran.came, session)?;
-        let came = said_to(alloc, &ran.came, session)?;
+    for party in base.plot.counts.parties(alloc)?.items() {
+        let wanted = said_to(alloc, &base.ran.came, *party)?;
+        let came = said_to(alloc, &ran.came, *party)?;
         if wanted.bytes() != came.bytes() {
             report.fail(spot, line, wanted.bytes(), came.bytes())?;
         }
@@ -264,15 +293,6 @@ pub(crate) fn is_among(files: &Seq<File>, file: &File) -> bool {
 /// Whether two lists have the same files.
 pub(crate) fn are_same(one: &Seq<File>, other: &Seq<File>) -> bool {
     one.len() == other.len() && one.items().iter().all(|file| is_among(other, file))
-}
-
-/// How many messages were acknowledged in a scene.
-pub(crate) fn all_acknowledged(bases: &[Base]) -> u64 {
-    let mut count = 0u64;
-    for base in bases {
-        count = count.saturating_add(acknowledged(&base.ran.came));
-    }
-    count
 }
 
 /// A text of two parts and a number.

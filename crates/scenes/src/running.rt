@@ -2,11 +2,16 @@
 
 ghost use Rattle.std.specs.Prelude.{◌<◌, ◌^◌, ◌≤◌, length};
 
-use crate::came::{Came, add_lines, came_of};
-use crate::devices::{add_failing, clock_of, files_of, words_of};
+use crate::came::{Came, add_begun, add_floor, add_lines};
+use crate::children::Children;
+use crate::devices::{add_failing, clock_of, files_of, opening_words, words_of};
+use crate::party::Party;
+use crate::peers::Peers;
+use crate::place::Place;
 use crate::plot::{Plot, cut_steps};
 use crate::source::{Cutting, Pieces};
 use crate::told::told_of;
+use crate::watch::{RunClock, Watch, Watched};
 use link_edge::{Floor, OneFloor, ScriptFloor, Step};
 use mail_base::{NoMemory, Seq, Text};
 use mail_edge::{MemFiles, MemSink, MemSource};
@@ -16,13 +21,15 @@ use spool_disk::StopSpool;
 use std::alloc::Global;
 
 /// In what a run differs from what the scene says: its pieces, whether its own fails count, one more
-/// call that fails, and whether its session is over a source and a sink.
+/// call that fails, whether its session is over a source and a sink, and whether it is a session
+/// that opens the queue alone.
 #[derive(Clone, Copy)]
 pub(crate) struct Way {
     pub pieces: Pieces,
     pub heeds: bool,
     pub fails: Option<(Device, u64)>,
     pub streams: bool,
+    pub opens: bool,
 }
 
 impl Way {
@@ -32,6 +39,7 @@ impl Way {
             heeds: true,
             fails: None,
             streams: false,
+            opens: false,
         }
     }
 
@@ -64,6 +72,8 @@ pub(crate) struct Calls {
     pub sends: u64,
     pub reads: u64,
     pub writes: u64,
+    pub children: u64,
+    pub peers: u64,
 }
 
 impl Calls {
@@ -75,6 +85,8 @@ impl Calls {
             Device::Sends => self.sends,
             Device::Reads => self.reads,
             Device::Writes => self.writes,
+            Device::Children => self.children,
+            Device::Peers => self.peers,
         }
     }
 }
@@ -120,11 +132,6 @@ pub(crate) fn run_over(
     Ok(ran)
 }
 
-// The steps in pieces.
-fn steps_of(plot: &Plot, way: Way) -> Result<Seq<Step>, NoMemory> {
-    cut_steps(&plot.steps, way.pieces)
-}
-
 fn over_floor(
     alloc: Global,
     run: &Run,
@@ -133,29 +140,21 @@ fn over_floor(
     files: &mut MemFiles,
     spool: &mut StopSpool,
 ) -> Result<Ran, Bad> {
+    let watch = Watch::new();
+    let steps = cut_steps(&plot.steps, way.pieces)?;
     let turns = way.failing(alloc, run, Device::Turns)?;
     let sends = way.failing(alloc, run, Device::Sends)?;
-    let mut floor = ScriptFloor::new(alloc, steps_of(plot, way)?, turns, sends);
-    let mut ran = over(alloc, run, plot, way, files, spool, &mut floor)?;
-    ran.calls.turns = floor.turns.calls;
-    ran.calls.sends = floor.sends.calls;
-    add_floor(alloc, plot, way, &floor, &mut ran)?;
+    let mut floor = Watched {
+        floor: ScriptFloor::new(alloc, cut_steps(&plot.steps, way.pieces)?, turns, sends),
+        steps: &steps,
+        place: Place::first(),
+        watch: &watch,
+    };
+    let mut ran = over(alloc, run, plot, way, &watch, files, spool, &mut floor)?;
+    ran.calls.turns = floor.floor.turns.calls;
+    ran.calls.sends = floor.floor.sends.calls;
+    add_floor(&mut ran.came, &steps, floor.floor.seen())?;
     Ok(ran)
-}
-
-// Adds what a floor was told.
-fn add_floor(
-    alloc: Global,
-    plot: &Plot,
-    way: Way,
-    floor: &ScriptFloor,
-    ran: &mut Ran,
-) -> Result<(), NoMemory> {
-    let steps = steps_of(plot, way)?;
-    for came in came_of(alloc, &steps, floor.seen())?.into_vec() {
-        ran.came.push(came)?;
-    }
-    Ok(())
 }
 
 // All that is said in one session, over a source and a sink.
@@ -167,11 +166,12 @@ fn over_stream(
     files: &mut MemFiles,
     spool: &mut StopSpool,
 ) -> Result<Ran, Bad> {
+    let watch = Watch::new();
     let said = said_in(alloc, plot)?;
     let source = MemSource::new(said, Seq::new(alloc));
     let mut floor = OneFloor::new(source, MemSink::new(alloc, Seq::new(alloc)));
-    let mut ran = over(alloc, run, plot, way, files, spool, &mut floor)?;
-    add_lines(&mut ran.came, 1, 0, floor.sink.seen())?;
+    let mut ran = over(alloc, run, plot, way, &watch, files, spool, &mut floor)?;
+    add_lines(&mut ran.came, Party::Session(1), 0, floor.sink.seen())?;
     Ok(ran)
 }
 
@@ -185,15 +185,54 @@ fn said_in(alloc: Global, plot: &Plot) -> Result<Text, NoMemory> {
     Ok(text)
 }
 
-// A run over any floor, with what it wrote.
+// A run over any floor, with what it started, dialled and wrote.
 fn over<L: Floor>(
     alloc: Global,
     run: &Run,
     plot: &Plot,
     way: Way,
+    watch: &Watch,
     files: &mut MemFiles,
     spool: &mut StopSpool,
     floor: &mut L,
+) -> Result<Ran, Bad> {
+    let failing = way.failing(alloc, run, Device::Children)?;
+    let mut children = Children::new(alloc, &plot.fates, watch, failing);
+    let failing = way.failing(alloc, run, Device::Peers)?;
+    let mut peers = Peers::new(alloc, &plot.manners, watch, way.pieces, failing);
+    let mut ran = between(
+        alloc,
+        run,
+        plot,
+        way,
+        watch,
+        files,
+        spool,
+        floor,
+        &mut children,
+        &mut peers,
+    )?;
+    if children.starved || peers.starved {
+        return Err(Bad::NoMemory);
+    }
+    ran.calls.children = children.script.calls;
+    ran.calls.peers = peers.script.calls;
+    add_begun(&mut ran.came, &children, &peers)?;
+    Ok(ran)
+}
+
+// A run between standard input and output.
+fn between<L: Floor>(
+    alloc: Global,
+    run: &Run,
+    plot: &Plot,
+    way: Way,
+    watch: &Watch,
+    files: &mut MemFiles,
+    spool: &mut StopSpool,
+    floor: &mut L,
+    children: &mut Children,
+    peers: &mut Peers,
 ) -> Result<Ran, Bad> {
     let mut output = MemSink::new(alloc, way.failing(alloc, run, Device::Writes)?);
     let mut input = input_of(alloc, run, plot, way)?;
@@ -201,9 +240,13 @@ fn over<L: Floor>(
         alloc,
         run,
         plot,
+        way,
+        watch,
         files,
         spool,
         floor,
+        children,
+        peers,
         &mut input,
         &mut output,
     )?;
@@ -229,7 +272,7 @@ fn input_of(
 
 fn ran_of(alloc: Global, outcome: &Outcome, output: &MemSink) -> Result<Ran, NoMemory> {
     let mut came = Seq::new(alloc);
-    add_lines(&mut came, 0, 0, output.seen())?;
+    add_lines(&mut came, Party::Standard, 0, output.seen())?;
     let told = told_of(alloc, outcome)?;
     Ok(Ran {
         status: outcome.status(),
@@ -242,6 +285,8 @@ fn ran_of(alloc: Global, outcome: &Outcome, output: &MemSink) -> Result<Ran, NoM
             sends: 0,
             reads: 0,
             writes: 0,
+            children: 0,
+            peers: 0,
         },
     })
 }
@@ -250,21 +295,33 @@ fn outcome_of<L: Floor>(
     alloc: Global,
     run: &Run,
     plot: &Plot,
+    way: Way,
+    watch: &Watch,
     files: &mut MemFiles,
     spool: &mut StopSpool,
     floor: &mut L,
+    children: &mut Children,
+    peers: &mut Peers,
     input: &mut Cutting<MemSource>,
     output: &mut MemSink,
 ) -> Result<Outcome, Bad> {
-    let words = words_of(alloc, run, plot.sessions)?;
+    let words = if way.opens {
+        opening_words(alloc, run)?
+    } else {
+        words_of(alloc, run, plot.counts.sessions)?
+    };
     if words.len() > 1000 {
         return Err(Bad::Large);
     }
-    let mut clock = clock_of(run);
-    if clock.readings > 0 {
-        return Err(Bad::Large);
-    }
+    let (start, step) = clock_of(run);
+    let mut clock = RunClock {
+        start,
+        step,
+        readings: 0,
+        rests: plot.rests.items(),
+        watch,
+    };
     Ok(sendmail(
-        alloc, &words, files, spool, floor, &mut clock, input, output,
+        alloc, &words, files, spool, floor, children, peers, &mut clock, input, output,
     ))
 }

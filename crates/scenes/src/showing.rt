@@ -1,7 +1,8 @@
 //! A scene as it was wanted and as it came, line by line.
 
-use crate::came::Came;
+use crate::came::{Came, What};
 use crate::judging_replies::{Wanted, add_came, add_wanted, wanted_of};
+use crate::party::Party;
 use crate::playing::{Base, Halt, bases_of};
 use crate::report::{Report, add_shown};
 use mail_base::{NoMemory, Seq, Text, TryCopy};
@@ -21,57 +22,74 @@ pub(crate) fn show_scene(alloc: Global, scene: &Scene, report: &mut Report) -> R
 }
 
 fn show_run(alloc: Global, run: &Run, base: &Base, report: &mut Report) -> Result<(), NoMemory> {
-    for session in 0..base.plot.sessions.saturating_add(1) {
-        show_session(alloc, run, base, session, report)?;
+    for party in base.plot.counts.parties(alloc)?.items() {
+        show_party(alloc, run, base, *party, report)?;
     }
     show_files(alloc, run, base, report)
 }
 
-fn show_session(
+fn show_party(
     alloc: Global,
     run: &Run,
     base: &Base,
-    session: u64,
+    party: Party,
     report: &mut Report,
 ) -> Result<(), NoMemory> {
-    let wanted = wanted_of(alloc, run, &base.plot, session)?;
-    let wanted = wanted_lines(alloc, run, &wanted, session)?;
-    let came = came_lines(alloc, &base.ran.came, session)?;
-    report.text.extend(b"session ")?;
-    scene_text::put_number(&mut report.text, session)?;
-    report.text.push(b'\n')?;
+    let wanted = wanted_of(alloc, run, &base.plot, party)?;
+    let wanted = wanted_lines(alloc, run, &wanted, party)?;
+    let came = came_lines(alloc, &base.ran.came, party)?;
+    if wanted.is_empty() && came.is_empty() {
+        return Ok(());
+    }
+    add_name(&mut report.text, party)?;
     differ(&mut report.text, &wanted, &came)
+}
+
+fn add_name(text: &mut Text, party: Party) -> Result<(), NoMemory> {
+    match party {
+        Party::Standard => return text.extend(b"standard input and output\n"),
+        Party::Begun => return text.extend(b"children and peers\n"),
+        Party::Session(number) => add_numbered(text, b"session ", number)?,
+        Party::Child(number) => add_numbered(text, b"child ", number)?,
+        Party::Peer(number) => add_numbered(text, b"peer ", number)?,
+    }
+    text.push(b'\n')
+}
+
+fn add_numbered(text: &mut Text, name: &[u8], number: u64) -> Result<(), NoMemory> {
+    text.extend(name)?;
+    scene_text::put_number(text, number)
 }
 
 fn wanted_lines(
     alloc: Global,
     run: &Run,
     wanted: &Wanted,
-    session: u64,
+    party: Party,
 ) -> Result<Seq<Text>, NoMemory> {
     let mut lines = Seq::new(alloc);
     for due in wanted.due.iter() {
         if let Some(item) = run.items.as_slice().get(due.item) {
-            lines.push(wanted_line(alloc, item, session)?)?;
+            lines.push(wanted_line(alloc, item, party)?)?;
         }
     }
     Ok(lines)
 }
 
-fn wanted_line(alloc: Global, item: &Item, session: u64) -> Result<Text, NoMemory> {
+fn wanted_line(alloc: Global, item: &Item, party: Party) -> Result<Text, NoMemory> {
     let mut text = Text::new(alloc);
     if item.word == Word::Any {
         text.extend(b"..")?;
     } else {
-        add_wanted(&mut text, item, session)?;
+        add_wanted(&mut text, item, party)?;
     }
     Ok(text)
 }
 
-fn came_lines(alloc: Global, came: &Seq<Came>, session: u64) -> Result<Seq<Text>, NoMemory> {
+fn came_lines(alloc: Global, came: &Seq<Came>, party: Party) -> Result<Seq<Text>, NoMemory> {
     let mut lines = Seq::new(alloc);
     for line in came.items() {
-        if line.session == session && !line.hung {
+        if line.party == party && line.what != What::HungUp {
             let mut text = Text::new(alloc);
             add_came(&mut text, Some(line))?;
             lines.push(text)?;

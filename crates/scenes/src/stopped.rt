@@ -1,7 +1,8 @@
 //! A scene stopped at each changing call of the queue, with each image of the stop opened again.
 
-use crate::came::acknowledged;
+use crate::came::{acknowledged, id_of};
 use crate::failing::play_name;
+use crate::keeping::{delivers, has_entry};
 use crate::playing::{Base, are_same, numbered, ran_over};
 use crate::plot::Plot;
 use crate::report::{Report, Spot};
@@ -15,7 +16,8 @@ use std::alloc::Global;
 /// The most changing calls of a scene.
 const MOST_CALLS: u64 = 100_000;
 
-/// The files of a queue that was opened when so many messages were acknowledged.
+/// The files of a queue that was opened when so many messages were acknowledged; or, where mail is
+/// delivered, after so many changing calls.
 #[derive(Drop)]
 struct Stage {
     files: Seq<File>,
@@ -30,57 +32,84 @@ struct Image {
     files: Seq<File>,
 }
 
-/// Plays a scene, which makes so many changing calls, stopped at each of them.
+/// Plays a scene, which makes so many changing calls, stopped at each of them. So many of them change
+/// what is there once the queue is opened again.
 pub(crate) fn play_stopped(
     alloc: Global,
     spot: Spot,
     scene: &Scene,
     bases: &[Base],
-    wanted: Option<u64>,
+    (calls, changes): (Option<u64>, Option<u64>),
     report: &mut Report,
 ) -> Result<(), Bad> {
     let mut stages = Seq::new(alloc);
     let mut images = Seq::new(alloc);
-    let calls = stop_everywhere(alloc, scene, bases, &mut stages, &mut images)?;
-    if let Some(wanted) = wanted {
-        compare_calls(alloc, spot, scene.line, wanted, calls, report)?;
-    }
+    let delivers = bases.iter().any(delivers);
+    let came = stop_everywhere(alloc, scene, bases, delivers, &mut stages, &mut images)?;
+    compare_count(alloc, spot, scene.line, b"changing calls: ", calls, came, report)?;
+    let came = changes_of(&stages);
+    compare_count(alloc, spot, scene.line, b"changes: ", changes, came, report)?;
     for image in images.items() {
-        compare(alloc, spot, scene.line, &stages, image, report)?;
+        if delivers {
+            compare_calls(alloc, spot, scene.line, bases, &stages, image, report)?;
+        } else {
+            compare(alloc, spot, scene.line, &stages, image, report)?;
+        }
     }
     Ok(())
 }
 
-fn compare_calls(
+fn compare_count(
     alloc: Global,
     spot: Spot,
     line: u32,
-    wanted: u64,
-    calls: u64,
+    of: &[u8],
+    wanted: Option<u64>,
+    came: u64,
     report: &mut Report,
 ) -> Result<(), NoMemory> {
+    let Some(wanted) = wanted else {
+        return Ok(());
+    };
     report.count(1);
-    if wanted == calls {
+    if wanted == came {
         return Ok(());
     }
-    let one = numbered(alloc, b"changing calls: ", wanted)?;
-    let other = numbered(alloc, b"", calls)?;
+    let one = numbered(alloc, of, wanted)?;
+    let other = numbered(alloc, b"", came)?;
     report.fail(spot, line, one.bytes(), other.bytes())
 }
 
+// How many stages differ from the one before.
+fn changes_of(stages: &Seq<Stage>) -> u64 {
+    let mut count = 0u64;
+    let mut before: Option<&Stage> = None;
+    for stage in stages.items() {
+        if let Some(last) = before {
+            if !are_same(&last.files, &stage.files) {
+                count = count.saturating_add(1);
+            }
+        }
+        before = Some(stage);
+    }
+    count
+}
+
 // Stops a scene at each changing call, and tells how many there are. It fills in what stands when
-// no message is acknowledged, one is, and so on, and the images.
+// no message is acknowledged, one is, and so on, or after each changing call, and the images.
 fn stop_everywhere(
     alloc: Global,
     scene: &Scene,
     bases: &[Base],
+    delivers: bool,
     stages: &mut Seq<Stage>,
     images: &mut Seq<Image>,
 ) -> Result<u64, Bad> {
     for passes in 0..MOST_CALLS {
         let mut spool = StopSpool::new(first_spool(alloc, bases)?, passes);
         let count = live(alloc, scene, bases, &mut spool)?;
-        add_stages(alloc, scene, stages, count, &spool.spool.files()?)?;
+        let most = if delivers { passes } else { count };
+        add_stages(alloc, scene, stages, most, &spool.spool.files()?)?;
         if !spool.stopped {
             return Ok(passes);
         }
@@ -96,7 +125,7 @@ fn stop_everywhere(
     Err(Bad::Large)
 }
 
-// Adds the files as those of each number of messages up to this one that has none yet.
+// Adds the files as those of each stage up to this one that has none yet.
 fn add_stages(
     alloc: Global,
     scene: &Scene,
@@ -158,20 +187,59 @@ fn unopened(alloc: Global) -> Result<Seq<File>, NoMemory> {
 fn unheeding() -> Way {
     Way {
         heeds: false,
+        opens: true,
         ..Way::as_said()
     }
 }
 
 fn quitting(alloc: Global) -> Result<Plot, NoMemory> {
-    let mut steps = Seq::new(alloc);
-    steps.push(Step::Open(Text::new(alloc)))?;
-    steps.push(Step::Say(1, Text::of(alloc, b"QUIT\r\n")?))?;
-    Ok(Plot {
-        steps,
-        input: Text::new(alloc),
-        due: Seq::new(alloc),
-        sessions: 1,
-    })
+    let mut plot = Plot::new(alloc);
+    plot.steps.push(Step::Open(Text::new(alloc)))?;
+    plot.steps.push(Step::Say(1, Text::of(alloc, b"QUIT\r\n")?))?;
+    plot.counts.sessions = 1;
+    Ok(plot)
+}
+
+// Whether an image has what there was before the call that was stopped or what there is behind it, and
+// each message that was acknowledged.
+fn compare_calls(
+    alloc: Global,
+    spot: Spot,
+    line: u32,
+    bases: &[Base],
+    stages: &Seq<Stage>,
+    image: &Image,
+    report: &mut Report,
+) -> Result<(), NoMemory> {
+    let is_right = is_stage(stages, image.passes, &image.files)
+        || is_stage(stages, image.passes.saturating_add(1), &image.files);
+    if is_right && !is_unopened(&image.files) && has_acknowledged(bases, image) {
+        return Ok(());
+    }
+    let play = play_name(alloc, image.passes)?;
+    let spot = Spot {
+        play: play.bytes(),
+        ..spot
+    };
+    let came = names_of(alloc, &image.files)?;
+    report.fail(spot, line, b"what was there before the call, or is behind it", came.bytes())
+}
+
+// Whether the messages that were acknowledged first are there.
+fn has_acknowledged(bases: &[Base], image: &Image) -> bool {
+    let mut left = image.count;
+    for base in bases {
+        for came in base.ran.came.items() {
+            let Some(id) = id_of(came) else {
+                continue;
+            };
+            if left > 0 && !has_entry(&image.files, id) {
+                return false;
+            }
+            left = left.saturating_sub(1);
+        }
+    }
+    true
 }
 
 // Whether an image has the messages that were acknowledged, and at most one more.
