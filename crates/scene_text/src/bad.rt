@@ -27,6 +27,7 @@ pub enum Bad {
     NoHeld,
     NoImage,
     Fails,
+    Stops,
     Stream,
 }
 
@@ -58,6 +59,7 @@ impl Bad {
             Bad::NoHeld => "no such file is held",
             Bad::NoImage => "a call is stopped halfway that writes no file",
             Bad::Fails => "this play is of a scene without fails and stops",
+            Bad::Stops => "this play is of a scene without stops",
             Bad::Stream => "this play is of a run with one session of an unknown peer",
         }
     }

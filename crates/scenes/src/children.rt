@@ -20,8 +20,8 @@ pub(crate) struct Started {
 }
 
 /// A spawner that starts nothing. Its children have these fates in the order in which they are
-/// started, also those of which the start fails; those behind the last end at once, in good order.
-/// The calls that are listed fail besides.
+/// started, also those of which the start fails; those behind the last can't be started. The calls
+/// that are listed fail besides.
 pub(crate) struct Children<'a> {
     fates: &'a [Fate],
     watch: &'a Watch,
@@ -62,7 +62,7 @@ impl<'a> Children<'a> {
     fn fate(&self, place: usize) -> Fate {
         match self.fates.get(place) {
             Some(fate) => *fate,
-            None => Fate::usual(),
+            None => Fate::none(),
         }
     }
 }

@@ -108,13 +108,16 @@ fn add_numbers(calls: &mut Seq<u64>, numbers: &[u8]) -> Result<(), NoMemory> {
     Ok(())
 }
 
-/// Whether a run has fails or a stop.
+/// Whether a run has fails.
 pub(crate) fn has_fails(run: &Run) -> bool {
-    run.items.iter().any(|item| match item.word {
-        Word::Fail => !item.beside.is_empty(),
-        Word::Stop => true,
-        _ => false,
-    })
+    run.items
+        .iter()
+        .any(|item| item.word == Word::Fail && !item.beside.is_empty())
+}
+
+/// Whether a run is stopped.
+pub(crate) fn has_stop(run: &Run) -> bool {
+    find(run, Word::Stop).is_some()
 }
 
 /// The first reading of the clock, and how much later each next one is.

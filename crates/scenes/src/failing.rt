@@ -139,7 +139,7 @@ fn compare_kept(
     left: &Seq<File>,
     report: &mut Report,
 ) -> Result<(), NoMemory> {
-    if delivers(base) {
+    if delivers(&base.ran) || delivers(ran) {
         return match first_lost(base, &ran.came, left) {
             Some(id) => report.fail(spot, line, b"each entry kept", id),
             None => Ok(()),

@@ -2,13 +2,15 @@
 
 use crate::came::{Came, id_of};
 use crate::judging_files::line_of;
+use crate::party::Party;
 use crate::playing::Base;
+use crate::running::Ran;
 use mail_base::Seq;
 use spool_disk::File;
 
-/// Whether programs were started or peers dialled in a run.
-pub(crate) fn delivers(base: &Base) -> bool {
-    base.plot.counts.children > 0 || base.plot.counts.peers > 0
+/// Whether programs were to be started or peers to be dialled in a run.
+pub(crate) fn delivers(ran: &Ran) -> bool {
+    ran.came.items().iter().any(|came| came.party == Party::Begun)
 }
 
 /// The id of an entry that isn't kept: one that was in the queue before, or that was acknowledged,

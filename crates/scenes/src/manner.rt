@@ -21,6 +21,14 @@ pub(crate) enum End {
 }
 
 impl Fate {
+    /// A child that can't be started.
+    pub(crate) fn none() -> Fate {
+        Fate {
+            polls: 0,
+            end: End::NotStarted,
+        }
+    }
+
     /// A child that ends at once, in good order.
     pub(crate) fn usual() -> Fate {
         Fate {

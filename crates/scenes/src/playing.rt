@@ -2,7 +2,7 @@
 
 use crate::came::said_to;
 use crate::chance::Chance;
-use crate::devices::{add_all_held, find, has_fails};
+use crate::devices::{add_all_held, find, has_fails, has_stop};
 use crate::failing::play_failing;
 use crate::judging::{judge, status_text};
 use crate::plot::{Plot, plot_of};
@@ -168,14 +168,14 @@ fn play_also(
         Play::Random(seed, times) => play_random(alloc, spot, scene, bases, (seed, times), report),
         Play::Stream => play_stream(alloc, spot, scene, bases, report),
         Play::Failing => {
-            if scene.runs.iter().any(has_fails) {
+            if scene.runs.iter().any(has_fails) || scene.runs.iter().any(has_stop) {
                 return Err(Halt::from(Bad::Fails));
             }
             Ok(play_failing(alloc, spot, scene, bases, report)?)
         }
         Play::Stopped(calls, changes) => {
-            if scene.runs.iter().any(has_fails) {
-                return Err(Halt::from(Bad::Fails));
+            if scene.runs.iter().any(has_stop) {
+                return Err(Halt::from(Bad::Stops));
             }
             let spot = named(spot, b"stopped");
             Ok(play_stopped(alloc, spot, scene, bases, (calls, changes), report)?)

@@ -44,7 +44,7 @@ pub(crate) fn play_stopped(
 ) -> Result<(), Bad> {
     let mut stages = Seq::new(alloc);
     let mut images = Seq::new(alloc);
-    let delivers = bases.iter().any(delivers);
+    let delivers = bases.iter().any(|base| delivers(&base.ran));
     let came = stop_everywhere(alloc, scene, bases, delivers, &mut stages, &mut images)?;
     compare_count(alloc, spot, scene.line, b"changing calls: ", calls, came, report)?;
     let came = changes_of(&stages);
