@@ -99,6 +99,7 @@ fn form_of_want(word: &[u8]) -> Result<Form, Bad> {
         b"count" => Ok(Form::Count),
         b"nothing" => Ok(Form::Pair("else", Word::NothingElse)),
         b"calls" => Ok(Form::Calls),
+        b"begins" => Ok(Form::Named(Word::Begins)),
         _ => Err(Bad::Unknown),
     }
 }

@@ -47,6 +47,7 @@ pub enum Word {
     Count,
     NothingElse,
     Calls,
+    Begins,
 }
 
 /// A kind of items: a scene's own take the place of those that it took over.
@@ -79,7 +80,8 @@ impl Word {
             | Word::Lines
             | Word::Count
             | Word::NothingElse
-            | Word::Calls => Kind::Wants,
+            | Word::Calls
+            | Word::Begins => Kind::Wants,
             _ => Kind::Transcript,
         }
     }

@@ -22,6 +22,7 @@ pub(crate) fn judge(
     report: &mut Report,
 ) -> Result<(), NoMemory> {
     judge_status(alloc, spot, run, ran, report)?;
+    judge_door(spot, run, ran, report)?;
     for party in plot.counts.parties(alloc)?.items() {
         judge_replies(alloc, spot, run, plot, ran, *party, report)?;
     }
@@ -52,6 +53,18 @@ fn judge_status(
     let wanted = status_text(alloc, item.number, item.name.bytes())?;
     let came = status_text(alloc, u64::from(ran.status), ran.told.bytes())?;
     report.fail(spot, item.line, wanted.bytes(), came.bytes())
+}
+
+// Where the floor was begun.
+fn judge_door(spot: Spot, run: &Run, ran: &Ran, report: &mut Report) -> Result<(), NoMemory> {
+    let Some(item) = find(run, Word::Begins) else {
+        return Ok(());
+    };
+    report.count(1);
+    if item.name.bytes() == ran.door.bytes() {
+        return Ok(());
+    }
+    report.fail(spot, item.line, item.name.bytes(), ran.door.bytes())
 }
 
 // The line of a run's first item of its own.

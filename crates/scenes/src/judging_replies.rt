@@ -19,6 +19,13 @@ pub(crate) struct Wanted {
     pub is_any: bool,
 }
 
+impl Wanted {
+    /// Whether the end of a session or a line is one of them.
+    pub(crate) fn hangs(&self, run: &Run) -> bool {
+        self.due.iter().any(|due| word_of(run, due) == Word::HungUp)
+    }
+}
+
 /// What has to come back to a party.
 pub(crate) fn wanted_of(
     alloc: Global,
@@ -131,11 +138,7 @@ pub(crate) fn judge_replies(
         return Ok(());
     }
     report.count(wanted.due.iter().filter(|due| is_line(run, due)).count());
-    let hangs = wanted
-        .due
-        .iter()
-        .any(|due| word_of(run, due) == Word::HungUp);
-    let came = came_to(alloc, &ran.came, party, hangs)?;
+    let came = came_to(alloc, &ran.came, party, wanted.hangs(run))?;
     match first_wrong(run, &wanted, &came) {
         None => Ok(()),
         Some(wrong) => tell(alloc, spot, run, &wanted, &came, wrong, report),

@@ -174,13 +174,13 @@ fn are_rows_kept(wanted: &[u8], before: &[u8], came: &[u8]) -> bool {
     row_of(wanted).is_none()
 }
 
-// Whether a row may have this state that has another one else, and had one before.
+// Whether a row may have this state that has another one else, and had one before: it stands as it
+// does else or as before, it waits, or it is still to be returned.
 fn may_be(wanted: &[u8], before: &[u8], came: &[u8]) -> bool {
     let returns = wanted.starts_with(b"eR");
-    came == wanted
-        || came == before
-        || came == b"eQ device fault\n".as_slice()
-        || (returns && (came.starts_with(b"eR") || came.starts_with(b"eF")))
+    let is_returned = returns && came.starts_with(b"eR");
+    let is_to_return = came.starts_with(b"eF") && (returns || wanted.starts_with(b"eD"));
+    came == wanted || came == before || came.starts_with(b"eQ") || is_returned || is_to_return
 }
 
 // Whether a row is open, or dead.

@@ -91,13 +91,14 @@ impl Calls {
     }
 }
 
-/// How a run went: its status, the line that is told of it, what came back, and how many calls
-/// there were.
+/// How a run went: its status, the line that is told of it, what came back, how many calls there
+/// were, and where the floor was begun.
 pub(crate) struct Ran {
     pub status: u8,
     pub told: Text,
     pub came: Seq<Came>,
     pub calls: Calls,
+    pub door: Text,
 }
 
 // Written out, since a caller's proof goes through the parts of a derived drop at each way out.
@@ -108,6 +109,7 @@ impl Drop for Ran {
             told: _,
             came: _,
             calls: _,
+            door: _,
         } = self;
     }
 }
@@ -149,10 +151,12 @@ fn over_floor(
         steps: &steps,
         place: Place::first(),
         watch: &watch,
+        door: Text::new(alloc),
     };
     let mut ran = over(alloc, run, plot, way, &watch, files, spool, &mut floor)?;
     ran.calls.turns = floor.floor.turns.calls;
     ran.calls.sends = floor.floor.sends.calls;
+    ran.door.extend(floor.door.bytes())?;
     add_floor(&mut ran.came, &steps, floor.floor.seen())?;
     Ok(ran)
 }
@@ -288,6 +292,7 @@ fn ran_of(alloc: Global, outcome: &Outcome, output: &MemSink) -> Result<Ran, NoM
             children: 0,
             peers: 0,
         },
+        door: Text::new(alloc),
     })
 }
 

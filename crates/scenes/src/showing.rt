@@ -36,8 +36,9 @@ fn show_party(
     report: &mut Report,
 ) -> Result<(), NoMemory> {
     let wanted = wanted_of(alloc, run, &base.plot, party)?;
+    let hangs = wanted.hangs(run);
     let wanted = wanted_lines(alloc, run, &wanted, party)?;
-    let came = came_lines(alloc, &base.ran.came, party)?;
+    let came = came_lines(alloc, &base.ran.came, party, hangs)?;
     if wanted.is_empty() && came.is_empty() {
         return Ok(());
     }
@@ -86,10 +87,15 @@ fn wanted_line(alloc: Global, item: &Item, party: Party) -> Result<Text, NoMemor
     Ok(text)
 }
 
-fn came_lines(alloc: Global, came: &Seq<Came>, party: Party) -> Result<Seq<Text>, NoMemory> {
+fn came_lines(
+    alloc: Global,
+    came: &Seq<Came>,
+    party: Party,
+    hangs: bool,
+) -> Result<Seq<Text>, NoMemory> {
     let mut lines = Seq::new(alloc);
     for line in came.items() {
-        if line.party == party && line.what != What::HungUp {
+        if line.party == party && (hangs || line.what != What::HungUp) {
             let mut text = Text::new(alloc);
             add_came(&mut text, Some(line))?;
             lines.push(text)?;

@@ -4,8 +4,10 @@ ghost use Rattle.std.specs.Prelude.{◌≡◌, ◌≤◌, ◌<◌, ◌^◌, leng
 
 use crate::place::Place;
 use link_edge::{Floor, Place as Door, Step, Turn};
-use mail_base::{Failed, Seq, Text};
+use mail_base::{Failed, NoMemory, Seq, Text};
 use mail_edge::Clock;
+use scene_text::put_number;
+use std::alloc::Global;
 use std::cell::Cell;
 
 /// How many steps of a floor began, at how many of them nothing came, and how many programs and
@@ -46,13 +48,34 @@ impl Watch {
     }
 }
 
-/// A floor of which others learn how far its steps are.
+/// A floor of which others learn how far its steps are. It keeps where it was begun last, for how
+/// many sessions.
 #[derive(Drop)]
 pub(crate) struct Watched<'a, L> {
     pub floor: L,
     pub steps: &'a Seq<Step>,
     pub place: Place,
     pub watch: &'a Watch,
+    pub door: Text,
+}
+
+// A place, and how many sessions are wanted there.
+fn door_of(alloc: Global, place: &Door, most: u64) -> Result<Text, NoMemory> {
+    let mut text = Text::new(alloc);
+    match place {
+        Door::Standard => text.extend(b"standard ")?,
+        Door::Port { address, port } => {
+            text.extend(b"port ")?;
+            if !address.is_empty() {
+                text.extend(address.bytes())?;
+                text.push(b' ')?;
+            }
+            put_number(&mut text, u64::from(*port))?;
+            text.push(b' ')?;
+        }
+    }
+    put_number(&mut text, most)?;
+    Ok(text)
 }
 
 impl<L> Watched<'_, L> {
@@ -74,6 +97,9 @@ impl<L: Floor> Floor for Watched<'_, L> {
     ghost seen = { λ w. L.seen w.floor };
 
     fn begin(&mut self, place: &Door, most: u64) -> Result<(), Failed> {
+        if let Ok(door) = door_of(self.door.allocator(), place, most) {
+            self.door = door;
+        }
         self.floor.begin(place, most)
     }
 
