@@ -92,7 +92,13 @@ pub(crate) fn add_floor(
             }
             FloorEvent::Unsent(_) => {}
             FloorEvent::HungUp(session) => {
-                add(came, Party::Session(*session), place.step, What::HungUp, b"")?;
+                add(
+                    came,
+                    Party::Session(*session),
+                    place.step,
+                    What::HungUp,
+                    b"",
+                )?;
             }
         }
     }
@@ -121,7 +127,12 @@ pub(crate) fn add_begun(
     }
     let _none = add_dialled(came, dialled, u64::MAX)?;
     for (place, started) in children.started.iter().enumerate() {
-        add_lines(came, Party::Child(number_at(place)), 0, started.input.bytes())?;
+        add_lines(
+            came,
+            Party::Child(number_at(place)),
+            0,
+            started.input.bytes(),
+        )?;
     }
     for (place, dialled) in peers.dialled.iter().enumerate() {
         add_talk(came, Party::Peer(number_at(place)), dialled)?;

@@ -1,5 +1,5 @@
 // Programs that a run starts, in memory.
-ghost use Rattle.std.specs.Prelude.{◌≡◌, None};
+ghost use Rattle.std.specs.Prelude.{None};
 
 use crate::manner::{End, Fate};
 use crate::watch::Watch;

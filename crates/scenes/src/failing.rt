@@ -105,8 +105,8 @@ fn compare(
     Ok(())
 }
 
-// What comes back is what comes else, up to some place. Behind a fault that doesn't end the run other
-// programs and peers may be begun than else.
+// What comes back is what comes else, up to some place. Behind a fault that doesn't end the run
+// other programs and peers may be begun than else.
 fn compare_replies(
     alloc: Global,
     spot: Spot,
@@ -130,7 +130,8 @@ fn compare_replies(
     Ok(())
 }
 
-// Each message that was acknowledged is there as it is else; in a run that delivers each entry is kept.
+// Each message that was acknowledged is there as it is else; in a run that delivers each entry is
+// kept.
 fn compare_kept(
     spot: Spot,
     line: u32,

@@ -1,4 +1,4 @@
-//! Whether a queue has kept its mail over a run in which something failed, while mail was delivered.
+//! Whether a queue has kept its mail over a run in which something failed while mail was delivered.
 
 use crate::came::{Came, id_of};
 use crate::judging_files::line_of;
@@ -10,7 +10,10 @@ use spool_disk::File;
 
 /// Whether programs were to be started or peers to be dialled in a run.
 pub(crate) fn delivers(ran: &Ran) -> bool {
-    ran.came.items().iter().any(|came| came.party == Party::Begun)
+    ran.came
+        .items()
+        .iter()
+        .any(|came| came.party == Party::Begun)
 }
 
 /// The id of an entry that isn't kept: one that was in the queue before, or that was acknowledged,
@@ -75,14 +78,14 @@ fn control_id(file: &File) -> Option<&[u8]> {
 }
 
 fn control_at<'a>(files: &'a Seq<File>, id: &[u8]) -> Option<&'a File> {
-    files.items().iter().find(|file| control_id(file) == Some(id))
-}
-
-fn body_at<'a>(files: &'a Seq<File>, id: &[u8]) -> Option<&'a File> {
     files
         .items()
         .iter()
-        .find(|file| file.name.bytes().strip_prefix(b"dfw".as_slice()) == Some(id))
+        .find(|file| control_id(file) == Some(id))
+}
+
+fn body_at<'a>(files: &'a Seq<File>, id: &[u8]) -> Option<&'a File> {
+    files.items().iter().find(|file| file.name.bytes().strip_prefix(b"dfw".as_slice()) == Some(id))
 }
 
 /// Whether an entry of that id is there.

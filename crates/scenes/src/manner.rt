@@ -38,8 +38,8 @@ impl Fate {
     }
 }
 
-/// What a peer does: whether it can't be reached, what it says, piece by piece, whether it ended the
-/// line behind that, and where the line breaks.
+/// What a peer does: whether it can't be reached, what it says, piece by piece, whether it ended
+/// the line behind that, and where the line breaks.
 pub(crate) struct Manner {
     pub refuses: bool,
     pub pieces: Seq<Text>,

@@ -1,5 +1,5 @@
 // Peers that a run dials, in memory.
-ghost use Rattle.std.specs.Prelude.{◌≡◌, ◌≤◌, ◌<◌, None, length, IfOk};
+ghost use Rattle.std.specs.Prelude.{◌≤◌, None, length};
 
 use crate::manner::{Break, Manner};
 use crate::source::Pieces;
@@ -47,8 +47,8 @@ impl Drop for Dialled {
 
 /// A dialer that dials nobody. Its peers have these manners in the order in which they are dialled,
 /// also those of which the dial fails; those behind the last can't be reached. What they say comes
-/// piece by piece, whatever is written to them, and each piece may be cut further. The calls that
-/// are listed fail besides.
+/// piece by piece, whatever is written to them, and may be cut further. The calls that are listed
+/// fail besides.
 pub(crate) struct Peers<'a> {
     manners: &'a [Manner],
     watch: &'a Watch,

@@ -20,9 +20,9 @@ use sendmail_run::{Outcome, sendmail};
 use spool_disk::StopSpool;
 use std::alloc::Global;
 
-/// In what a run differs from what the scene says: its pieces, whether its own fails count, one more
-/// call that fails, whether its session is over a source and a sink, and whether it is a session
-/// that opens the queue alone.
+/// In what a run differs from what the scene says: its pieces, whether its own fails count, one
+/// more call that fails, whether its session is over a source and a sink, and whether it is a
+/// session that opens the queue alone.
 #[derive(Clone, Copy)]
 pub(crate) struct Way {
     pub pieces: Pieces,

@@ -32,8 +32,8 @@ struct Image {
     files: Seq<File>,
 }
 
-/// Plays a scene, which makes so many changing calls, stopped at each of them. So many of them change
-/// what is there once the queue is opened again.
+/// Plays a scene, which makes so many changing calls, stopped at each of them. So many of them
+/// change what is there once the queue is opened again.
 pub(crate) fn play_stopped(
     alloc: Global,
     spot: Spot,
@@ -46,7 +46,15 @@ pub(crate) fn play_stopped(
     let mut images = Seq::new(alloc);
     let delivers = bases.iter().any(|base| delivers(&base.ran));
     let came = stop_everywhere(alloc, scene, bases, delivers, &mut stages, &mut images)?;
-    compare_count(alloc, spot, scene.line, b"changing calls: ", calls, came, report)?;
+    compare_count(
+        alloc,
+        spot,
+        scene.line,
+        b"changing calls: ",
+        calls,
+        came,
+        report,
+    )?;
     let came = changes_of(&stages);
     compare_count(alloc, spot, scene.line, b"changes: ", changes, came, report)?;
     for image in images.items() {
@@ -195,13 +203,14 @@ fn unheeding() -> Way {
 fn quitting(alloc: Global) -> Result<Plot, NoMemory> {
     let mut plot = Plot::new(alloc);
     plot.steps.push(Step::Open(Text::new(alloc)))?;
-    plot.steps.push(Step::Say(1, Text::of(alloc, b"QUIT\r\n")?))?;
+    plot.steps
+        .push(Step::Say(1, Text::of(alloc, b"QUIT\r\n")?))?;
     plot.counts.sessions = 1;
     Ok(plot)
 }
 
-// Whether an image has what there was before the call that was stopped or what there is behind it, and
-// each message that was acknowledged.
+// Whether an image has what there was before the call that was stopped or what there is behind it,
+// and each message that was acknowledged.
 fn compare_calls(
     alloc: Global,
     spot: Spot,
@@ -222,7 +231,12 @@ fn compare_calls(
         ..spot
     };
     let came = names_of(alloc, &image.files)?;
-    report.fail(spot, line, b"what was there before the call, or is behind it", came.bytes())
+    report.fail(
+        spot,
+        line,
+        b"what was there before the call, or is behind it",
+        came.bytes(),
+    )
 }
 
 // Whether the messages that were acknowledged first are there.

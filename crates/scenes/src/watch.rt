@@ -1,6 +1,6 @@
 // What the devices of a run tell each other: how far its steps are, and in which order programs and
 // peers are begun.
-ghost use Rattle.std.specs.Prelude.{◌≡◌, ◌≤◌, ◌<◌, ◌^◌, length};
+ghost use Rattle.std.specs.Prelude.{None};
 
 use crate::place::Place;
 use link_edge::{Floor, Place as Door, Step, Turn};
