@@ -97,7 +97,7 @@ class Queue:
         shutil.rmtree(self.path, ignore_errors=True)
         self.path.mkdir()
         config = folder / "queue.cf"
-        config.write_text(f"O QueueDirectory={self.path}\nMlocal, P=/bin/mail, A=mail -d $u\nS0\nR$*\t$#local $: $1\n")
+        config.write_text(f"O QueueDirectory={self.path}\nMlocal, P=/nonexistent/mail, A=mail -d $u\nS0\nR$*\t$#local $: $1\n")
         self.command = [program, "-bs", f"-C{config}"]
         self.told = {}
         self.bodies = {}

@@ -53,20 +53,20 @@ def body_of(path):
 
 
 OURS = re.compile(
-    r"V1\nv\d+\n(?:pw\d{12} \d+\n)?g(?P<group>[^\n]+)\nT\d+\nK0\nN0\nP-?\d+\nc-?\d+\n"
+    r"V1\nv\d+\n(?:pw\d{12} \d+\n)?g(?P<group>[^\n]+)\nT\d+\nK\d+\nN\d+\nP-?\d+\nc-?\d+\n"
     r"(?P<eight>B8BITMIME\n)?S(?P<sender><[^\n]*>)\n"
     r"\$r(?P<protocol>[^\n]*)\n\$s(?P<helo>[^\n]*)\n\$\{client_addr\}(?P<client>[^\n]*)\n"
-    r"(?P<rows>(?:RPFD:[^\n]+\neQ\n)+)(?P<headers>(?:H[^\n]*\n(?:[ \t][^\n]*\n)*)*)\.\n"
+    r"(?P<rows>(?:RPFD:[^\n]+\neQ[^\n]*\n)+)(?P<headers>(?:H[^\n]*\n(?:[ \t][^\n]*\n)*)*)\.\n"
 )
 
 
 def our_entry(path):
-    """An entry whose control text is of version 1 and just received: each row is primary and
-    queued, and nothing was tried."""
+    """An entry whose control text is of version 1: each row is primary and queued. It may have been
+    tried, by a mailer that isn't there."""
     text = path.read_bytes().decode("latin-1")
     found = OURS.fullmatch(text)
     if found is None:
-        raise Strange(f"{path.name} isn't of version 1, or was tried: {text[:400]!r}")
+        raise Strange(f"{path.name} isn't of version 1, or is done: {text[:400]!r}")
     return Entry(
         id=path.name[2:],
         sender=found["sender"],
