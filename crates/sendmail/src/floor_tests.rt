@@ -191,6 +191,18 @@ const SCENES: &[Scene] = &[
         ],
     },
     Scene {
+        name: "a turn is idle where sessions are busy",
+        address: b"127.0.0.1",
+        limits: Limits { busy: 1, ..LIMITS },
+        steps: &[
+            Step::Joins,
+            Step::Brings(Turn::Opened(1, 9)),
+            Step::Says(0, b"NOOP\r\n"),
+            Step::Turns(Turn::Idle),
+            Step::Brings(Turn::Piece(1, 6)),
+        ],
+    },
+    Scene {
         name: "no descriptors end nothing",
         address: b"127.0.0.1",
         limits: Limits { rest: 1, ..LIMITS },

@@ -5,6 +5,8 @@
 pub struct Limits {
     /// How long a turn waits at most for something to come.
     pub wait: i32,
+    /// How many turns in a row may bring something. The next one is idle, since runners step then.
+    pub busy: u32,
     /// How long a session may bring nothing.
     pub silence: u64,
     /// How long output may wait without a byte of it going out.
@@ -24,6 +26,7 @@ pub struct Limits {
 /// The limits of the program.
 pub const LIMITS: Limits = Limits {
     wait: 50,
+    busy: 2,
     silence: 300_000,
     stall: 60_000,
     backlog: 262_144,

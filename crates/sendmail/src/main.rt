@@ -45,27 +45,39 @@ use crate::queue_view::QueueView;
 use crate::standard::Wires;
 use crate::stream::{InputStream, OutputStream};
 use crate::words::{Asked, read_words};
+use delivery_devices::{Motion, Patience, SystemDialer, SystemSpawner};
 use mail_base::{Seq, Text};
 use sendmail_run::{Job, Outcome, sendmail};
 use spool_disk::Spool;
 use std::io::Write;
 use std::process::ExitCode;
 
-const HELP: &[u8] = b"usage: sendmail -bt|-bs|-bp [-C file]
+const HELP: &[u8] = b"usage: sendmail -bt|-bs|-bp|-q|-qGname [-C file]
+       sendmail -bd [-q30m] [-C file]
        sendmail --help|--version
 
   -bt      address test mode: answers each line of standard input
-  -bs      serves one SMTP session on standard input and output
+  -bs      serves one SMTP session on standard input and output, and delivers
+           what is in the queue while the client says nothing
+  -bd      serves SMTP sessions at the port of DaemonPortOptions, and delivers
+           what is in the queue while no client says anything
+  -q30m    with -bd: how long a message waits at least for its next try, in
+           minutes or with a unit (s, m, h, d, w); half an hour if left out. A
+           queue group may have an interval of its own
+  -q       delivers what is in the queue and is due, once
+  -qGname  the same of one queue group
   -bp      prints what is in the queue
   -C file  reads this configuration instead of /etc/mail/sendmail.cf
 
 In address test mode a line of input is the name of a ruleset, or more of them
 with commas, and an address, or a command; the line /quit ends.
 
-The messages of -bs are put into the directory of the queue group mqueue, which
-is that of QueueDirectory, by default /var/spool/mqueue. Those of all groups
-must be there; mail that is in them stays, and ids go on behind the greatest.
--bp changes nothing in them, and may run beside a process that serves them.
+A message is put into the directory of its queue group, which for the group
+mqueue is that of QueueDirectory, by default /var/spool/mqueue. Those of all
+groups must be there; mail that is in them stays, and ids go on behind the
+greatest. One process alone may have a queue, but for -bp, which changes
+nothing in it. To stop a process kill it: what it had acknowledged is kept,
+and a delivery that was under way is made again by the next one.
 
 The exit status is 0 when the work is done. Each other end has a line on
 standard error:
@@ -110,7 +122,7 @@ fn is_listing(rt: &HostRuntime, words: &Seq<Text>) -> bool
     requires { length words.now < 2 ^ 32 }
 {
     match sendmail_run::words(rt.alloc(), words) {
-        Ok(mode) => mode.job == Job::List,
+        Ok(mode) => matches!(mode.job, Job::List),
         Err(_) => false,
     }
 }
@@ -119,13 +131,23 @@ fn run_over<D: Spool>(rt: &HostRuntime, words: &Seq<Text>, spool: &mut D) -> Out
     requires { length words.now < 2 ^ 32 }
 {
     let wires = Wires::of(&rt.stdin(), &rt.stdout());
-    let mut floor = SystemFloor::new(*rt, rt.stdin(), rt.stdout(), Some(wires), LIMITS, None);
+    let motion = Motion::new();
+    let mut floor = SystemFloor::new(
+        *rt,
+        rt.stdin(),
+        rt.stdout(),
+        Some(wires),
+        LIMITS,
+        Some(&motion),
+    );
     let outcome = sendmail(
         rt.alloc(),
         words,
         &mut DiskFiles::new(rt),
         spool,
         &mut floor,
+        &mut SystemSpawner::new(*rt, &motion),
+        &mut SystemDialer::new(*rt, &motion, Patience::of_environment()),
         &mut SystemClock::new(*rt),
         &mut InputStream::new(rt.stdin()),
         &mut OutputStream::new(rt.stdout()),

@@ -52,6 +52,8 @@ pub struct Port {
     now: u64,
     /// How long the next turn waits at most.
     wait: i32,
+    /// How many turns in a row brought something.
+    busy: u32,
     /// Until when nobody is let in.
     rested: u64,
 }
@@ -72,6 +74,7 @@ impl Drop for Port {
             start: _,
             now: _,
             wait: _,
+            busy: _,
             rested: _,
         } = self;
     }
@@ -103,6 +106,7 @@ impl Port {
             most,
             now: 0,
             wait: 0,
+            busy: 0,
             rested: 0,
         })
     }
@@ -123,13 +127,18 @@ impl Port {
         self.wait = 0;
     }
 
-    /// Waits a little for something to come, unless the turn before had something.
+    /// Waits a little for something to come, unless the turn before had something. Behind several
+    /// turns that brought something one is idle, whatever waits.
     pub fn turn(&mut self, rt: &HostRuntime, buf: &mut [u8]) -> io::Result<Turn>
         requires { 64 ≤ length buf.old }
         ensures { IfOk result (λ turn. Fits turn buf.new) }
     {
         if self.most > 0 && self.closed >= self.most {
             return Ok(Turn::Stop);
+        }
+        if self.busy >= self.limits.busy {
+            self.busy = 0;
+            return Ok(Turn::Idle);
         }
         self.look(rt)?;
         if let Some(session) = self.end_overdue() {
@@ -138,9 +147,11 @@ impl Port {
         match self.serve(rt.alloc(), buf)? {
             Some(turn) => {
                 self.wait = 0;
+                self.busy = self.busy.saturating_add(1);
                 Ok(turn)
             }
             None => {
+                self.busy = 0;
                 self.wait = longer(self.wait, self.limits.wait);
                 Ok(Turn::Idle)
             }

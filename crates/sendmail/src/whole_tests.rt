@@ -10,9 +10,11 @@ use crate::queue_tests::make_empty;
 use crate::queue_view::QueueView;
 use crate::standard::Wires;
 use crate::stream::{InputStream, OutputStream};
+use delivery_devices::{Motion, PATIENCE, SystemDialer, SystemSpawner};
 use mail_base::{NoMemory, Seq, Text};
 use mail_edge::Clock;
 use sendmail_run::sendmail;
+use spool_disk::Spool;
 use std::io::{PipeReader, PipeWriter, Read, Write};
 use std::test::Fail;
 use std::{fs, io};
@@ -22,8 +24,10 @@ const ROOT: &str = "/tmp/sendmail-whole";
 
 const QUEUE: &str = "/tmp/sendmail-whole/var/spool/mqueue";
 
-/// Each address goes to a mailer.
-const CONFIG: &[u8] = b"Mlocal, P=/bin/mail, A=mail -d $u\nS0\nR$*\t$#local $: $1\n";
+/// Each address goes to a program, which writes what it gets into a file of that name.
+const CONFIG: &[u8] = b"Mkeep, P=/usr/bin/tee, F=lsn, A=tee /tmp/sendmail-whole/$u\n\
+    S0\n\
+    R$*\t$#keep $: $1\n";
 
 const ASKED: &[u8] = b"HELO c.example\r\n\
     MAIL FROM:<bob@c.example>\r\n\
@@ -46,6 +50,11 @@ const REPLIES: &[u8] = b"220 localhost ESMTP ready\r\n\
 const LISTING: &[u8] = b"w000000000001 mqueue 7 30022 <bob@c.example>\n\
     \x20 Q <ann@mx.example>\n\
     Total requests: 1\n";
+
+const NOTHING: &[u8] = b"Total requests: 0\n";
+
+/// What the program gets.
+const LETTER: &[u8] = b"Subject: hi\n\nhello\n";
 
 /// The control text before the moment of the message, and behind it.
 const BEFORE: &[u8] = b"V1\nv1\ngmqueue\nT";
@@ -80,13 +89,16 @@ fn words(rt: &HostRuntime, mode: &[u8]) -> Result<Seq<Text>, NoMemory>
 // Serves a session from one pipe to another, and gives the run's status.
 fn serve(rt: &HostRuntime, reader: PipeReader, writer: PipeWriter) -> Result<u8, NoMemory> {
     let wires = Wires::of(&reader, &writer);
-    let mut floor = SystemFloor::new(*rt, reader, writer, Some(wires), LIMITS, None);
+    let motion = Motion::new();
+    let mut floor = SystemFloor::new(*rt, reader, writer, Some(wires), LIMITS, Some(&motion));
     let outcome = sendmail(
         rt.alloc(),
         &words(rt, b"-bs")?,
         &mut DiskFiles::new(rt),
         &mut QueueDirs::new(rt.alloc(), ROOT.as_bytes()),
         &mut floor,
+        &mut SystemSpawner::new(*rt, &motion),
+        &mut SystemDialer::new(*rt, &motion, PATIENCE),
         &mut SystemClock::new(*rt),
         &mut InputStream::new(b"".as_slice()),
         &mut OutputStream::new(Vec::new(rt.alloc())),
@@ -105,16 +117,24 @@ fn converse(rt: &HostRuntime, asked: &[u8], wanted: &[u8]) -> Result<(u8, bool),
     Ok((status, is_rest(rt, &mut far_reader, wanted)?))
 }
 
-// Lists the queue to a pipe, and gives the run's status.
-fn list(rt: &HostRuntime, writer: PipeWriter) -> Result<u8, NoMemory> {
+// How a run with no session ends, over a spool and to a writer.
+fn run<D: Spool, W: Write>(
+    rt: &HostRuntime,
+    mode: &[u8],
+    spool: &mut D,
+    writer: W,
+) -> Result<u8, NoMemory> {
     let nobody = Vec::new(rt.alloc());
-    let mut floor = SystemFloor::new(*rt, b"".as_slice(), nobody, None, LIMITS, None);
+    let motion = Motion::new();
+    let mut floor = SystemFloor::new(*rt, b"".as_slice(), nobody, None, LIMITS, Some(&motion));
     let outcome = sendmail(
         rt.alloc(),
-        &words(rt, b"-bp")?,
+        &words(rt, mode)?,
         &mut DiskFiles::new(rt),
-        &mut QueueView::new(rt.alloc(), ROOT.as_bytes()),
+        spool,
         &mut floor,
+        &mut SystemSpawner::new(*rt, &motion),
+        &mut SystemDialer::new(*rt, &motion, PATIENCE),
         &mut SystemClock::new(*rt),
         &mut InputStream::new(b"".as_slice()),
         &mut OutputStream::new(writer),
@@ -122,10 +142,17 @@ fn list(rt: &HostRuntime, writer: PipeWriter) -> Result<u8, NoMemory> {
     Ok(outcome.status())
 }
 
+// Delivers what is in the queue, and gives the run's status.
+fn deliver(rt: &HostRuntime) -> Result<u8, NoMemory> {
+    let mut spool = QueueDirs::new(rt.alloc(), ROOT.as_bytes());
+    run(rt, b"-q", &mut spool, Vec::new(rt.alloc()))
+}
+
 // How a listing of the queue ends, and whether it is this.
 fn shown(rt: &HostRuntime, wanted: &[u8]) -> Result<(u8, bool), Fail> {
     let (mut far_reader, writer) = io::pipe(rt)?;
-    let status = list(rt, writer)?;
+    let mut spool = QueueView::new(rt.alloc(), ROOT.as_bytes());
+    let status = run(rt, b"-bp", &mut spool, writer)?;
     Ok((status, is_rest(rt, &mut far_reader, wanted)?))
 }
 
@@ -164,7 +191,9 @@ fn is_kept(rt: &HostRuntime, since: u64, until: u64) -> io::Result<bool> {
 }
 
 #[test]
-fn a_message_is_in_the_queue_on_the_disk_and_is_listed(rt: HostRuntime) -> Result<(), Fail> {
+fn a_message_is_in_the_queue_on_the_disk_is_listed_and_is_delivered(
+    rt: HostRuntime,
+) -> Result<(), Fail> {
     make_site(&rt)?;
     let mut clock = SystemClock::new(rt);
     let since = clock.now();
@@ -172,6 +201,10 @@ fn a_message_is_in_the_queue_on_the_disk_and_is_listed(rt: HostRuntime) -> Resul
     assert!(rt; is_kept(&rt, since, clock.now())?);
     assert_eq!(rt; shown(&rt, LISTING)?, (0, true));
     assert!(rt; is_kept(&rt, since, clock.now())?);
+    assert_eq!(rt; deliver(&rt)?, 0);
+    assert!(rt; is_file(&rt, "/tmp/sendmail-whole/ann@mx.example", LETTER)?);
+    assert_eq!(rt; shown(&rt, NOTHING)?, (0, true));
+    assert_eq!(rt; fs::read_dir(&rt, QUEUE)?.count(), 1);
     fs::remove_dir_all(&rt, ROOT)?;
     Ok(())
 }
