@@ -118,7 +118,7 @@ fn converse(rt: &HostRuntime, asked: &[u8], wanted: &[u8]) -> Result<(u8, bool),
 }
 
 // How a run with no session ends, over a spool and to a writer.
-fn run<D: Spool, W: Write>(
+fn run<D: Spool, W: Write + Drop>(
     rt: &HostRuntime,
     mode: &[u8],
     spool: &mut D,
