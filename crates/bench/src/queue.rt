@@ -7,10 +7,11 @@ ghost use Rattle.std.specs.Prelude.{◌≡◌, IfOk, length};
 
 use crate::number::number_or;
 use anyhow::{Result, bail};
-use link_edge::{ScriptFloor, Step};
+use link_edge::{ScriptDialer, ScriptFloor, Step};
 use mail_base::{Id, Kind, NoMemory, Seq, Text};
 use mail_edge::{MemClock, MemFiles, MemSink, MemSource, SureFiles};
 use sendmail_run::sendmail;
+use spawn_edge::ScriptSpawner;
 use spool_disk::{File, MemSpool};
 use spool_store::Queue;
 use std::alloc::Global;
@@ -105,6 +106,8 @@ pub(crate) fn serve(
 ) -> Result<()> {
     let words = words(alloc)?;
     let mut files = files(alloc, config)?;
+    let mut spawner = ScriptSpawner::new(alloc, Seq::new(alloc), Seq::new(alloc));
+    let mut dialer = ScriptDialer::new(alloc, Seq::new(alloc), Seq::new(alloc));
     let mut clock = MemClock::new(1_767_225_600, 0);
     let mut input = MemSource::new(Text::new(alloc), Seq::new(alloc));
     let mut output = MemSink::new(alloc, Seq::new(alloc));
@@ -114,6 +117,8 @@ pub(crate) fn serve(
         &mut files,
         spool,
         floor,
+        &mut spawner,
+        &mut dialer,
         &mut clock,
         &mut input,
         &mut output,

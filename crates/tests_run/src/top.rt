@@ -3,10 +3,11 @@
 ghost use Rattle.std.specs.Prelude.{◌<◌, ◌^◌, None, length};
 
 use crate::samples::{files_of, words_of};
-use link_edge::{FloorEvent, ScriptFloor, Step};
+use link_edge::{FloorEvent, ScriptDialer, ScriptFloor, Step};
 use mail_base::{Failed, NoMemory, Seq, Text};
 use mail_edge::{MemClock, MemFiles, MemSink, Source, SureSource};
 use sendmail_run::{DEFAULT_FILE, Job, Mode, Outcome, sendmail, words};
+use spawn_edge::ScriptSpawner;
 use spool_disk::{File, MemSpool, Spool};
 use std::alloc::Global;
 use std::test::Fail;
@@ -58,8 +59,21 @@ fn outcome_over<I: Source>(
 ) -> Outcome
     requires { length words.now < 2 ^ 32 }
 {
+    let mut spawner = ScriptSpawner::new(alloc, Seq::new(alloc), Seq::new(alloc));
+    let mut dialer = ScriptDialer::new(alloc, Seq::new(alloc), Seq::new(alloc));
     let mut clock = MemClock::new(1_767_225_600, 0);
-    sendmail(alloc, words, files, spool, floor, &mut clock, input, output)
+    sendmail(
+        alloc,
+        words,
+        files,
+        spool,
+        floor,
+        &mut spawner,
+        &mut dialer,
+        &mut clock,
+        input,
+        output,
+    )
 }
 
 // The status and the output of a run over lines.
@@ -197,6 +211,9 @@ fn words_say_a_mode_and_a_file(rt: HostRuntime) -> Result<(), Fail> {
         (b"-bs -Cx", Job::Session, b"x"),
         (b"-C -bt -bs", Job::Session, b"-bt"),
         (b"-bp", Job::List, DEFAULT_FILE),
+        (b"-bd", Job::Daemon { wait: None }, DEFAULT_FILE),
+        (b"-q30m -bd -Cx", Job::Daemon { wait: Some(1800) }, b"x"),
+        (b"-q", Job::Run { group: None }, DEFAULT_FILE),
     ] {
         let mode = said(rt.alloc(), line)?;
         assert_eq!(rt; mode.job, job);
