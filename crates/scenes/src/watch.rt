@@ -78,19 +78,18 @@ fn door_of(alloc: Global, place: &Door, most: u64) -> Result<Text, NoMemory> {
     Ok(text)
 }
 
-impl<L> Watched<'_, L> {
-    fn note(&mut self, turn: Turn) {
-        let before = self.place.step;
-        let brought = match turn {
-            Turn::Piece(_session, count) => Some(count),
-            _ => None,
-        };
-        self.place = self.place.behind(self.steps, brought);
-        let is_new = self.place.step != before;
-        let step = self.steps.get(self.place.step.saturating_sub(1));
-        let rests = is_new && matches!(step, Some(Step::Rest));
-        self.watch.take_step(self.place.step, rests);
-    }
+// Goes on behind a turn.
+fn pass(place: &mut Place, steps: &Seq<Step>, watch: &Watch, turn: Turn) {
+    let before = place.step;
+    let brought = match turn {
+        Turn::Piece(_session, count) => Some(count),
+        _ => None,
+    };
+    *place = place.behind(steps, brought);
+    let is_new = place.step != before;
+    let step = steps.get(place.step.saturating_sub(1));
+    let rests = is_new && matches!(step, Some(Step::Rest));
+    watch.take_step(place.step, rests);
 }
 
 impl<L: Floor> Floor for Watched<'_, L> {
@@ -104,9 +103,11 @@ impl<L: Floor> Floor for Watched<'_, L> {
     }
 
     fn turn(&mut self, buf: &mut [u8]) -> Result<Turn, Failed> {
-        let turn = self.floor.turn(buf)?;
-        self.note(turn);
-        Ok(turn)
+        let turn = self.floor.turn(buf);
+        if let Ok(turn) = &turn {
+            pass(&mut self.place, self.steps, self.watch, *turn);
+        }
+        turn
     }
 
     fn send(&mut self, session: u64, bytes: &Text) -> Result<(), Failed> {
