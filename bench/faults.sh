@@ -26,7 +26,7 @@ places() {
     serve -e trace="openat,$1"
     awk -v kind="$1" -v fits="$2" '
         $0 ~ "^" kind "\\(" { count++ }
-        /empty\.cf/ { own = 1 }
+        /local\.cf/ { own = 1 }
         own && $0 ~ "^" kind "\\(" && $0 ~ fits { print count }' "$work/calls"
 }
 
