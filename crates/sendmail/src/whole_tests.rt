@@ -24,7 +24,8 @@ const ROOT: &str = "/tmp/sendmail-whole";
 
 const QUEUE: &str = "/tmp/sendmail-whole/var/spool/mqueue";
 
-/// Each address goes to a program, which writes what it gets into a file of that name.
+/// Each address goes to a program, which writes what it gets into a file of that name, with the
+/// brackets, since no rule takes them away.
 const CONFIG: &[u8] = b"Mkeep, P=/usr/bin/tee, F=lsn, A=tee /tmp/sendmail-whole/$u\n\
     S0\n\
     R$*\t$#keep $: $1\n";
@@ -202,7 +203,7 @@ fn a_message_is_in_the_queue_on_the_disk_is_listed_and_is_delivered(
     assert_eq!(rt; shown(&rt, LISTING)?, (0, true));
     assert!(rt; is_kept(&rt, since, clock.now())?);
     assert_eq!(rt; deliver(&rt)?, 0);
-    assert!(rt; is_file(&rt, "/tmp/sendmail-whole/ann@mx.example", LETTER)?);
+    assert!(rt; is_file(&rt, "/tmp/sendmail-whole/<ann@mx.example>", LETTER)?);
     assert_eq!(rt; shown(&rt, NOTHING)?, (0, true));
     assert_eq!(rt; fs::read_dir(&rt, QUEUE)?.count(), 1);
     fs::remove_dir_all(&rt, ROOT)?;
