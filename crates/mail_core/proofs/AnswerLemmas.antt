@@ -6,7 +6,7 @@ use Rattle.std.proofs.lemmas.List.{append-nil, map-append, reverse-reverse}
 use Rattle.std.proofs.lemmas.Grind.{flat_map-append}
 use Rattle.smtp_lines.specs.declared.line.Line.{Line}
 use Rattle.smtp_receive.specs.Mails.{Mail, Replied, Granted, Received, Taken, Parted}
-use Rattle.smtp_receive.specs.Dialogue.{Heard, Exchange, Answer, Says, Refuses, Greets, Extends, Grants, Closes, Gives, Takes, is_grant, did_of, answer_heard, exchanges, exchange_of, dialogue}
+use Rattle.smtp_receive.specs.Dialogue.{Heard, Exchange, Answer, Says, Refuses, Greets, Extends, Grants, TakesLeave, Gives, StaysSilent, is_grant, did_of, answer_heard, exchanges, exchange_of, dialogue}
 use Rattle.smtp_receive.specs.Judging.{Said}
 use Rattle.smtp_receive.specs.Replies.{text_of, refusal_text, grant_text, shown_host}
 use Rattle.smtp_receive.proofs.DialogueLemmas.{dialogue_more}
@@ -41,9 +41,9 @@ reply_is site moment d (Refuses error) text e = record { says_it = λ made whole
 reply_is site moment d Greets text e = record { says_it = λ made whole. same_words d text _ whole (cc e); answered = λ table made. refl; grant_is = refl; meant = λ table made. tt }
 reply_is site moment d Extends text e = record { says_it = λ made whole. same_words d text _ whole (cc e); answered = λ table made. refl; grant_is = refl; meant = λ table made. tt }
 reply_is site moment d Grants text e = absurd (cc e)
-reply_is site moment d Closes text e = absurd (cc e)
+reply_is site moment d TakesLeave text e = absurd (cc e)
 reply_is site moment d (Gives message) text e = absurd (cc e)
-reply_is site moment d Takes text e = absurd (cc e)
+reply_is site moment d StaysSilent text e = absurd (cc e)
 
 -- a grant that a session gives is its answer's text, with a grant
 pub grant_is : (site : Site) (moment : ℕ) (d : Did) (answer : Answer) (text : List ℕ) → Granted text ≡ did_of (shown_host site.host) (limit_of d) answer → IsReply site moment d answer text true
@@ -52,9 +52,9 @@ grant_is site moment d (Refuses error) text e = absurd (cc e)
 grant_is site moment d Greets text e = absurd (cc e)
 grant_is site moment d Extends text e = absurd (cc e)
 grant_is site moment d Grants text e = record { says_it = λ made whole. same_words d text grant_text whole (cc e); answered = λ table made. refl; grant_is = refl; meant = λ table made. tt }
-grant_is site moment d Closes text e = absurd (cc e)
+grant_is site moment d TakesLeave text e = absurd (cc e)
 grant_is site moment d (Gives message) text e = absurd (cc e)
-grant_is site moment d Takes text e = absurd (cc e)
+grant_is site moment d StaysSilent text e = absurd (cc e)
 
 -- what a farewell comes to
 pub record IsBye (site : Site) (moment : ℕ) (d : Did) (answer : Answer) (text : List ℕ) : Type 0 where
@@ -69,9 +69,9 @@ bye_is site moment d (Refuses error) text e = absurd (cc e)
 bye_is site moment d Greets text e = absurd (cc e)
 bye_is site moment d Extends text e = absurd (cc e)
 bye_is site moment d Grants text e = absurd (cc e)
-bye_is site moment d Closes text e = record { closes_it = λ made whole. let same : text ≡ _ = cc e in ap (λ t. closes d t whole) (sym same); answered = λ table made. refl; meant = λ table made. tt }
+bye_is site moment d TakesLeave text e = record { closes_it = λ made whole. let same : text ≡ _ = cc e in ap (λ t. closes d t whole) (sym same); answered = λ table made. refl; meant = λ table made. tt }
 bye_is site moment d (Gives message) text e = absurd (cc e)
-bye_is site moment d Takes text e = absurd (cc e)
+bye_is site moment d StaysSilent text e = absurd (cc e)
 
 -- nothing is said
 pub record IsSilent (site : Site) (moment : ℕ) (d : Did) (answer : Answer) : Type 0 where
@@ -87,9 +87,9 @@ taken_is site moment d (Refuses error) e = absurd (cc e)
 taken_is site moment d Greets e = absurd (cc e)
 taken_is site moment d Extends e = absurd (cc e)
 taken_is site moment d Grants e = absurd (cc e)
-taken_is site moment d Closes e = absurd (cc e)
+taken_is site moment d TakesLeave e = absurd (cc e)
 taken_is site moment d (Gives message) e = absurd (cc e)
-taken_is site moment d Takes e = record { says_none = λ made whole. refl; answered = λ table made. refl; grant_is = refl; meant = λ table made. tt }
+taken_is site moment d StaysSilent e = record { says_none = λ made whole. refl; answered = λ table made. refl; grant_is = refl; meant = λ table made. tt }
 
 -- a message that a session gives is its answer's
 pub message_is : (host : List ℕ) (limit : ℕ) (answer : Answer) (message : Mail) → Received message ≡ did_of host limit answer → answer ≡ Gives message
@@ -98,9 +98,9 @@ message_is host limit (Refuses error) message e = absurd (cc e)
 message_is host limit Greets message e = absurd (cc e)
 message_is host limit Extends message e = absurd (cc e)
 message_is host limit Grants message e = absurd (cc e)
-message_is host limit Closes message e = absurd (cc e)
+message_is host limit TakesLeave message e = absurd (cc e)
 message_is host limit (Gives other) message e = cc e
-message_is host limit Takes message e = absurd (cc e)
+message_is host limit StaysSilent message e = absurd (cc e)
 
 -- ---- one line more
 

@@ -13,7 +13,7 @@ use Rattle.link_edge.specs.declared.event.Event.TheVariants.{Opens, Brings}
 use Rattle.smtp_lines.specs.declared.line.Line.{Line}
 use Rattle.smtp_lines.specs.Stream.{reading_of}
 use Rattle.smtp_receive.specs.Mails.{message_of}
-use Rattle.smtp_receive.specs.Dialogue.{Heard, Exchange, Answer, Says, Refuses, Greets, Extends, Grants, Closes, Gives, Takes as Passes, answer_to, exchanges, is_dropped, with_heard}
+use Rattle.smtp_receive.specs.Dialogue.{Heard, Exchange, Answer, Says, Refuses, Greets, Extends, Grants, TakesLeave, Gives, StaysSilent, answer_to, exchanges, is_dropped, with_heard}
 use Rattle.smtp_receive.specs.Judging.{Said, Unasked}
 use Rattle.smtp_receive.proofs.Examples.{message as example_message}
 use Rattle.smtp_receive.specs.Replies.{text_of, refusal_text, grant_text, hello_text, extended_text, closing_text, out_of_memory_text, stored_text, shown_host}
@@ -77,9 +77,9 @@ module _ (site : Site) (moment : ℕ) where
   effects_by limit session table Greets whole = speech session (hello_text (shown_host site.host)) whole
   effects_by limit session table Extends whole = speech session (extended_text (shown_host site.host) limit) whole
   effects_by limit session table Grants whole = speech session grant_text whole
-  effects_by limit session table Closes whole = Sends session (closing_text (shown_host site.host)) whole ∷ HangsUp session ∷ []
+  effects_by limit session table TakesLeave whole = Sends session (closing_text (shown_host site.host)) whole ∷ HangsUp session ∷ []
   effects_by limit session table (Gives message) whole = Does (Asks (accept_of site moment (message_of message) in_one)) ∷ speech session (stored_text table.next) whole
-  effects_by limit session table Passes whole = []
+  effects_by limit session table StaysSilent whole = []
 
   -- the table after an answer, where a message is accepted
   abbrev pub table_by : Table → Answer → Table
@@ -88,9 +88,9 @@ module _ (site : Site) (moment : ℕ) where
   table_by table Greets = table
   table_by table Extends = table
   table_by table Grants = table
-  table_by table Closes = table
+  table_by table TakesLeave = table
   table_by table (Gives message) = after table (accept_of site moment (message_of message) in_one)
-  table_by table Passes = table
+  table_by table StaysSilent = table
 
   -- how a session goes on after an answer, by whether it was sent whole
   abbrev pub way_by : Answer → Bool → Way
@@ -99,9 +99,9 @@ module _ (site : Site) (moment : ℕ) where
   way_by Greets whole = way_of whole
   way_by Extends whole = way_of whole
   way_by Grants whole = way_of whole
-  way_by Closes whole = Leaves
+  way_by TakesLeave whole = Leaves
   way_by (Gives message) whole = way_of whole
-  way_by Passes whole = GoesOn
+  way_by StaysSilent whole = GoesOn
 
   -- what was done so far for a session
   abbrev pub so_far : Table → Guest → List Heard → Bool → List Effect → Way → Did
@@ -142,12 +142,12 @@ module _ (site : Site) (moment : ℕ) where
     replied Greets whole left = refl
     replied Extends whole left = refl
     replied Grants whole left = refl
-    replied Closes whole left = refl
+    replied TakesLeave whole left = refl
     replied (Gives message) whole left =
         cond-false (is_spent now in_one) _ _ left
         ∙ ap (λ q. so_far (after now (accept_of site moment (message_of message) in_one)) guest heard c.may q (way_of whole))
         (append_assoc effects (Does (Asks (accept_of site moment (message_of message) in_one)) ∷ []) (speech guest.number (stored_text now.next) whole))
-    replied Passes whole left = ap (λ q. so_far now guest heard c.may q GoesOn) (sym (append-nil effects))
+    replied StaysSilent whole left = ap (λ q. so_far now guest heard c.may q GoesOn) (sym (append-nil effects))
 
     heard_more : (h : Heard) → exchanges guest.config guest.peer (heard ++ h ∷ []) ≡ with_heard guest.config guest.peer before h
     heard_more h = fold_push (with_heard guest.config guest.peer) [] heard h ∙ ap (λ b. with_heard guest.config guest.peer b h) c.known
@@ -159,8 +159,8 @@ module _ (site : Site) (moment : ℕ) where
     answered_now Greets left = refl
     answered_now Extends left = refl
     answered_now Grants left = refl
-    answered_now Closes left = refl
-    answered_now Passes left = refl
+    answered_now TakesLeave left = refl
+    answered_now StaysSilent left = refl
 
     -- a line got its answer
     pub comes_said : (said : Said) (answer : Answer) (whole : Bool) → is_spent now in_one ≡ false → answer_to guest.config guest.peer before said line ≡ answer

@@ -10,7 +10,7 @@ use Rattle.link_edge.specs.declared.event.Event.TheVariants.{Opens, Brings, Stop
 use Rattle.smtp_lines.specs.declared.line.Line.{Line}
 use Rattle.smtp_lines.specs.declared.line.Line.TheVariants.{Data, DataEnd}
 use Rattle.smtp_receive.specs.Mails.{message_of}
-use Rattle.smtp_receive.specs.Dialogue.{Heard, Exchange, Answer, Greets, Grants, Closes, Gives, Takes as Passes, answer_to}
+use Rattle.smtp_receive.specs.Dialogue.{Heard, Exchange, Answer, Greets, Grants, TakesLeave, Gives, StaysSilent, answer_to}
 use Rattle.smtp_receive.specs.Replies.{shown_host}
 use Rattle.smtp_receive.specs.Judging.{Said, Unasked}
 use Rattle.smtp_receive.proofs.Examples.{of_recipient, of_sender, peer, helo, mail, rcpt, data_line, subject, body, quit, message, begun, given, granted, taken as whole}
@@ -31,8 +31,8 @@ site = record { host = codes "localhost"; dirs = codes "/q" ∷ []; config = ini
 
 -- the answer to the latest line
 abbrev latest_answer : List Exchange → Answer
-latest_answer [] = Passes
-latest_answer (e ∷ before) = unwrap_or e.answer Passes
+latest_answer [] = StaysSilent
+latest_answer (e ∷ before) = unwrap_or e.answer StaysSilent
 
 -- the answers to MAIL and RCPT
 abbrev pub sender_ok : Answer
@@ -73,7 +73,7 @@ begins =
     let two = comes_said site 5 start guest _ start _ _ _ mail one refl of_sender sender_ok true refl refl in
     let three = comes_said site 5 start guest _ start _ _ _ rcpt two refl of_recipient recipient_ok true refl refl in
     let four = comes_more site 5 start guest _ start _ _ _ data_line three refl Grants true refl refl in
-    comes_more site 5 start guest _ start _ _ _ subject four refl Passes true refl refl
+    comes_more site 5 start guest _ start _ _ _ subject four refl StaysSilent true refl refl
 
 -- the message, with its end
 abbrev pub given_lines : List Heard
@@ -85,8 +85,8 @@ data_choices = kept ∷ kept_mail ∷ kept_rcpt ∷ kept ∷ kept ∷ kept ∷ k
 up_to_the_dot : Comes site 5 start guest data_choices start given_lines whole given_effects GoesOn
 unfolding most_recipients most_rows cut most_tokens most_command most_message most_path most_local_part most_domain shown_host last_id
 up_to_the_dot =
-    let six = comes_more site 5 start guest _ start _ _ _ (Data []) begins refl Passes true refl refl in
-    comes_more site 5 start guest _ start _ _ _ body six refl Passes true refl refl
+    let six = comes_more site 5 start guest _ start _ _ _ (Data []) begins refl StaysSilent true refl refl in
+    comes_more site 5 start guest _ start _ _ _ body six refl StaysSilent true refl refl
 
 abbrev stored_now : Table
 stored_now = after start (accept_of site 5 (message_of message) in_one)
@@ -95,12 +95,12 @@ abbrev closing : List Effect
 closing = Sends 1 (codes "221 2.0.0 localhost closing connection\r\n") true ∷ HangsUp 1 ∷ []
 
 -- the whole session, in one piece
-plain_piece : Comes site 5 start guest (data_choices ++ kept ∷ kept ∷ []) stored_now (given_lines ++ input DataEnd false (Some 1) ∷ input quit false None ∷ []) (plain quit Closes ∷ plain DataEnd (Gives message) ∷ whole)
+plain_piece : Comes site 5 start guest (data_choices ++ kept ∷ kept ∷ []) stored_now (given_lines ++ input DataEnd false (Some 1) ∷ input quit false None ∷ []) (plain quit TakesLeave ∷ plain DataEnd (Gives message) ∷ whole)
     (given_effects ++ Does (Asks (accept_of site 5 (message_of message) in_one)) ∷ Sends 1 (codes "250 2.0.0 w000000000001 Message accepted for delivery\r\n") true ∷ closing) Leaves
 unfolding most_recipients most_rows cut most_tokens digits most_command most_message most_headers most_path most_local_part most_domain shown_host last_id
 plain_piece =
     let dot = comes_more site 5 start guest _ start _ _ _ DataEnd up_to_the_dot refl (Gives message) true refl refl in
-    comes_more site 5 start guest _ stored_now _ _ _ quit dot refl Closes true refl refl
+    comes_more site 5 start guest _ stored_now _ _ _ quit dot refl TakesLeave true refl refl
 
 abbrev opens : Turn
 opens = record { event = Opens 1 peer; origin = OfFloor 5; choices = Replied true }
@@ -144,12 +144,12 @@ plain_session =
     session_by _ _ _ _ _ (stops ∷ []) (record { state = record (left_state stored_now) { stopping = true; over = Some (By Finished) }; effects = Takes Stops ∷ Ticks 5 ∷ [] }) plain_piece refl
 
 -- 452 4.3.1 at the dot: nothing is stored, the transaction is over, and the session goes on
-lacking_piece : Comes site 5 start guest (data_choices ++ OutOfMemory true ∷ kept ∷ []) start (given_lines ++ input DataEnd true None ∷ input quit false None ∷ []) (plain quit Closes ∷ lacked DataEnd ∷ whole)
+lacking_piece : Comes site 5 start guest (data_choices ++ OutOfMemory true ∷ kept ∷ []) start (given_lines ++ input DataEnd true None ∷ input quit false None ∷ []) (plain quit TakesLeave ∷ lacked DataEnd ∷ whole)
     (given_effects ++ Sends 1 (codes "452 4.3.1 Out of memory\r\n") true ∷ closing) Leaves
 unfolding most_recipients most_rows cut most_tokens most_command most_message most_path most_local_part most_domain shown_host last_id
 lacking_piece =
     let dot = comes_short site 5 start guest _ start _ _ _ DataEnd up_to_the_dot refl true refl in
-    comes_more site 5 start guest _ start _ _ _ quit dot refl Closes true refl refl
+    comes_more site 5 start guest _ start _ _ _ quit dot refl TakesLeave true refl refl
 
 memory_is_wanting_at_the_dot : run site first_state (opens ∷ piece 1 sent 5 (data_choices ++ OutOfMemory true ∷ kept ∷ []) ∷ []) ≡ record {
   state = record { table = start; guests = []; seats = []; list = []; latest = 5; stopping = false; over = None };
@@ -203,9 +203,9 @@ by_bytes_to_the_dot =
     let two = line_of _ (codes "MAIL FROM:<bob@c.example>\r") start _ _ _ one mail of_sender sender_ok refl refl refl refl refl refl in
     let three = line_of _ (codes "RCPT TO:<ann@mx.example>\r") start _ _ _ two rcpt of_recipient recipient_ok refl refl refl refl refl refl in
     let four = line_of _ (codes "DATA\r") start _ _ _ three data_line Unasked Grants refl refl refl refl refl refl in
-    let five = line_of _ (codes "Subject: hi\r") start _ _ _ four subject Unasked Passes refl refl refl refl refl refl in
-    let six = line_of _ (codes "\r") start _ _ _ five (Data []) Unasked Passes refl refl refl refl refl refl in
-    let seven = line_of _ (codes "hello\r") start _ _ _ six body Unasked Passes refl refl refl refl refl refl in
+    let five = line_of _ (codes "Subject: hi\r") start _ _ _ four subject Unasked StaysSilent refl refl refl refl refl refl in
+    let six = line_of _ (codes "\r") start _ _ _ five (Data []) Unasked StaysSilent refl refl refl refl refl refl in
+    let seven = line_of _ (codes "hello\r") start _ _ _ six body Unasked StaysSilent refl refl refl refl refl refl in
     line_of _ (codes ".\r") start _ _ _ seven DataEnd Unasked (Gives message) refl refl refl refl refl refl
 
 -- the same is sent and stored as by one piece
@@ -214,4 +214,4 @@ by_bytes : (turns : List Turn) × (map (λ (t : Turn). t.event) turns ≡ Opens 
 unfolding most_recipients most_rows cut most_tokens most_command most_message most_domain shown_host last_id most_path most_local_part
 by_bytes =
     let t = talks_within site initial peer 5 5 same_moment (λ event. refl) _ (codes "QUIT\r") stored_now _ _ _ by_bytes_to_the_dot refl in
-    talks_last site initial peer 5 5 same_moment (λ event. refl) _ stored_now _ _ _ t 10 quit Unasked Closes refl refl refl refl
+    talks_last site initial peer 5 5 same_moment (λ event. refl) _ stored_now _ _ _ t 10 quit Unasked TakesLeave refl refl refl refl

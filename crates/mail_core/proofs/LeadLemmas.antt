@@ -12,7 +12,7 @@ use Rattle.smtp_lines.specs.declared.line.Line.{Line}
 use Rattle.mail_base.specs.declared.message.Cut.{Cut as Part}
 use Rattle.mail_base.specs.declared.message.Message.{Message}
 use Rattle.smtp_receive.specs.Mails.{message_of as of_mail}
-use Rattle.smtp_receive.specs.Dialogue.{Answer, Says, Refuses, Greets, Extends, Grants, Closes as Ends, Gives, Takes as Passes, did_of}
+use Rattle.smtp_receive.specs.Dialogue.{Answer, Says, Refuses, Greets, Extends, Grants, TakesLeave, Gives, StaysSilent, did_of}
 use Rattle.smtp_receive.specs.Finals.{IsFinal, text_told}
 use Rattle.smtp_receive.specs.Judging.{Said, Unasked}
 use Rattle.smtp_receive.specs.Replies.{text_of, refusal_text, grant_text, hello_text, extended_text, closing_text, greeting_text, stored_text, shown_host, out_of_memory_text, too_many_sessions_text}
@@ -266,9 +266,9 @@ replies_grows F site moment d (Refuses error) made whole final taken = tells_gro
 replies_grows F site moment d Greets made whole final taken = tells_grows F d (hello_text (shown_host site.host)) whole (λ f. final f (hello_text (shown_host site.host)) refl)
 replies_grows F site moment d Extends made whole final taken = tells_grows F d (extended_text (shown_host site.host) (limit_of d)) whole (λ f. final f (extended_text (shown_host site.host) (limit_of d)) refl)
 replies_grows F site moment d Grants made whole final taken = tells_grows F d grant_text whole (λ f. final f grant_text refl)
-replies_grows F site moment d Ends made whole final taken = closes_grows F d (closing_text (shown_host site.host)) whole (λ f. final f (closing_text (shown_host site.host)) refl)
+replies_grows F site moment d TakesLeave made whole final taken = closes_grows F d (closing_text (shown_host site.host)) whole (λ f. final f (closing_text (shown_host site.host)) refl)
 replies_grows F site moment d (Gives mail) made whole final taken = stores_grows F site moment d (of_mail mail) made whole (λ f left. cuts_taken site.config site.maps moment (of_mail mail) d.table.next made (taken f (unspent d.table made left)))
-replies_grows F site moment d Passes made whole final taken = grows_none F d
+replies_grows F site moment d StaysSilent made whole final taken = grows_none F d
 
 lack_grows : (F : Type 0) (d : Did) (whole : Bool) → Grows F d (says d out_of_memory_text whole)
 lack_grows F d whole = tells_grows F d out_of_memory_text whole (λ f. memory_final)
@@ -286,8 +286,8 @@ fails_grows F site moment d (Refuses error) made taken = over_grows F d Cut
 fails_grows F site moment d Greets made taken = over_grows F d Cut
 fails_grows F site moment d Extends made taken = over_grows F d Cut
 fails_grows F site moment d Grants made taken = over_grows F d Cut
-fails_grows F site moment d Ends made taken = over_grows F d Cut
-fails_grows F site moment d Passes made taken = over_grows F d Cut
+fails_grows F site moment d TakesLeave made taken = over_grows F d Cut
+fails_grows F site moment d StaysSilent made taken = over_grows F d Cut
 
 line_grows : (F : Type 0) (d e : Did) (line : Line) (said : Said) (short : Bool) (id : Option ℕ) → Grows F d e → Grows F d (heard_line e line said short id)
 line_grows F d e line said short id h = record { more = h.more; effects = h.effects; leads = h.leads; number = h.number }

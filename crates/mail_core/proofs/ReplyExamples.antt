@@ -7,7 +7,7 @@ use Rattle.mail_base.specs.Limits.{most_domain, most_headers, most_local_part, m
 use Rattle.addr_tokens.specs.Reader.{cut}
 use Rattle.addr_tokens.specs.Scans.{most_tokens}
 use Rattle.smtp_lines.specs.declared.line.Line.TheVariants.{Data, DataEnd}
-use Rattle.smtp_receive.specs.Dialogue.{listed, Answer, Closes, Exchange, Gives, Grants, Greets, Heard, Takes as Passes, answer_heard, exchanges, replies_to, reply_by, reply_heard}
+use Rattle.smtp_receive.specs.Dialogue.{listed, Answer, TakesLeave, Exchange, Gives, Grants, Greets, Heard, StaysSilent, answer_heard, exchanges, replies_to, reply_by, reply_heard}
 use Rattle.smtp_receive.specs.Replies.{shown_host}
 use Rattle.smtp_receive.proofs.Examples.{of_recipient, of_sender, peer, helo, mail, rcpt, data_line, subject, body, quit, message, taken as whole, more as one_more}
 use Rattle.smtp_receive.proofs.DialogueLemmas.{replies_more}
@@ -55,9 +55,9 @@ unfolding most_message most_recipients most_rows cut most_tokens most_path most_
 to_the_dot =
     let three = more _ _ _ to_the_sender (heard_by rcpt of_recipient false None) (Some recipient_ok) refl in
     let four = more _ _ _ three (input data_line false None) (Some Grants) refl in
-    let five = more _ _ _ four (input subject false None) (Some Passes) refl in
-    let six = more _ _ _ five (input (Data []) false None) (Some Passes) refl in
-    more _ _ _ six (input body false None) (Some Passes) refl
+    let five = more _ _ _ four (input subject false None) (Some StaysSilent) refl in
+    let six = more _ _ _ five (input (Data []) false None) (Some StaysSilent) refl in
+    more _ _ _ six (input body false None) (Some StaysSilent) refl
 
 abbrev last_text : List ℕ
 last_text = codes "221 2.0.0 localhost closing connection\r\n"
@@ -67,14 +67,14 @@ replies_to_a_plain_session : replies_to initial host peer (given_lines ++ input 
 unfolding digits most_recipients most_rows cut most_tokens most_headers most_message most_path most_local_part most_domain shown_host
 replies_to_a_plain_session =
     let dot = more _ _ _ to_the_dot (input DataEnd false (Some 1)) (Some (Gives message)) refl in
-    let all = more _ _ _ dot (input quit false None) (Some Closes) refl in
+    let all = more _ _ _ dot (input quit false None) (Some TakesLeave) refl in
     all.replies
 
 replies_where_memory_is_wanting : replies_to initial host peer (given_lines ++ input DataEnd true None ∷ input quit false None ∷ []) ≡ given_texts ++ codes "452 4.3.1 Out of memory\r\n" ∷ last_text ∷ []
 unfolding most_message most_recipients most_rows cut most_tokens most_path most_local_part most_domain shown_host
 replies_where_memory_is_wanting =
     let dot = more _ _ _ to_the_dot (input DataEnd true None) None refl in
-    let all = more _ _ _ dot (input quit false None) (Some Closes) refl in
+    let all = more _ _ _ dot (input quit false None) (Some TakesLeave) refl in
     all.replies
 
 -- the reply to MAIL is the last, as the send fails

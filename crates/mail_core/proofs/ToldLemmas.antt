@@ -7,7 +7,7 @@ use Rattle.std.proofs.lemmas.List.{append-nil}
 use Rattle.smtp_lines.specs.declared.line.Line.{Line}
 use Rattle.mail_base.specs.declared.message.Message.{Message}
 use Rattle.smtp_receive.specs.Mails.{Mail, message_of}
-use Rattle.smtp_receive.specs.Dialogue.{listed, Answer, Says, Refuses, Greets, Extends, Grants, Closes as Ends, Gives, Takes as Passes, answer_heard, exchanges, reply_by}
+use Rattle.smtp_receive.specs.Dialogue.{listed, Answer, Says, Refuses, Greets, Extends, Grants, TakesLeave, Gives, StaysSilent, answer_heard, exchanges, reply_by}
 use Rattle.smtp_receive.specs.Judging.{Said, Unasked}
 use Rattle.smtp_receive.specs.Replies.{text_of, refusal_text, grant_text, hello_text, extended_text, closing_text, stored_text, shown_host, out_of_memory_text}
 use Rattle.smtp_receive.proofs.DialogueLemmas.{replies_more}
@@ -150,10 +150,10 @@ module _ (site : Site) (moment : ℕ) where
   normal_told g d line said Greets made whole is t = words_told g d line said Greets (hello_text (shown_host site.host)) whole refl is t
   normal_told g d line said Extends made whole is t = words_told g d line said Extends (extended_text (shown_host site.host) (limit_of d)) whole refl is t
   normal_told g d line said Grants made whole is t = words_told g d line said Grants grant_text whole refl is t
-  normal_told g d line said Ends made whole is t =
+  normal_told g d line said TakesLeave made whole is t =
       let text : List ℕ = closing_text (shown_host site.host) in
       told_line g d (closes d text whole) line said false None (subst (λ a. Adds d (closes d text whole) (listed (reply_by (shown_host site.host) (limit_of d) (Some a) None))) (sym is) (adds_closes d text whole)) t
-  normal_told g d line said Passes made whole is t =
+  normal_told g d line said StaysSilent made whole is t =
       told_line g d d line said false None (subst (λ a. Adds d d (listed (reply_by (shown_host site.host) (limit_of d) (Some a) None))) (sym is) (adds_still d)) t
 
   failing_told : (spent : Bool) (g : Guest) (d : Did) (message : Message) (made : Made) → IsTold g d → IsTold g (if spent then is_over d (By IdsSpent) else is_over (commits site moment d message made) (By SpoolFault))
@@ -170,8 +170,8 @@ module _ (site : Site) (moment : ℕ) where
   fails_told g d Greets made t = over_told g d Cut t
   fails_told g d Extends made t = over_told g d Cut t
   fails_told g d Grants made t = over_told g d Cut t
-  fails_told g d Ends made t = over_told g d Cut t
-  fails_told g d Passes made t = over_told g d Cut t
+  fails_told g d TakesLeave made t = over_told g d Cut t
+  fails_told g d StaysSilent made t = over_told g d Cut t
 
   short_told : (passed : Bool) (g : Guest) (d : Did) (line : Line) (whole : Bool) → is_passed d.guest line ≡ passed → IsTold g d → IsTold g (if passed then is_over d Cut else heard_line (says d out_of_memory_text whole) line Unasked true None)
   short_told true g d line whole is t = over_told g d Cut t

@@ -11,7 +11,7 @@ use Rattle.smtp_lines.specs.declared.line.Mode.TheVariants.{Commands}
 use Rattle.smtp_lines.specs.Stream.{Reads, asks, granted_mode, line_of, mode_after, reading_of}
 use Rattle.mail_base.specs.declared.message.Message.{Message}
 use Rattle.smtp_receive.specs.Mails.{message_of}
-use Rattle.smtp_receive.specs.Dialogue.{Answer, Heard, Says, Refuses, Greets, Extends, Grants, Closes as Ends, Gives, Takes as Passes, is_grant}
+use Rattle.smtp_receive.specs.Dialogue.{Answer, Heard, Says, Refuses, Greets, Extends, Grants, TakesLeave, Gives, StaysSilent, is_grant}
 use Rattle.smtp_receive.specs.Judging.{Said, Unasked}
 use Rattle.smtp_receive.specs.Replies.{text_of, refusal_text, grant_text, hello_text, extended_text, closing_text, stored_text, shown_host, out_of_memory_text}
 use Rattle.spool_store.specs.Entries.{Table}
@@ -171,9 +171,9 @@ module _ (site : Site) (moment : ℕ) where
   idles_replies d Greets made whole = idles_says d (hello_text (shown_host site.host)) whole
   idles_replies d Extends made whole = idles_says d (extended_text (shown_host site.host) (limit_of d)) whole
   idles_replies d Grants made whole = idles_says d grant_text whole
-  idles_replies d Ends made whole = idles_closes d (closing_text (shown_host site.host)) whole
+  idles_replies d TakesLeave made whole = idles_closes d (closing_text (shown_host site.host)) whole
   idles_replies d (Gives mail) made whole = idles_accepts (is_spent d.table made) d (message_of mail) made whole
-  idles_replies d Passes made whole = idles_still d
+  idles_replies d StaysSilent made whole = idles_still d
 
   idles_failing : (spent : Bool) (d : Did) (message : Message) (made : Made) → Idles d (if spent then is_over d (By IdsSpent) else is_over (commits site moment d message made) (By SpoolFault))
   idles_failing true d message made = idles_over d (By IdsSpent)
@@ -188,8 +188,8 @@ module _ (site : Site) (moment : ℕ) where
   idles_fails d Greets made = idles_over d Cut
   idles_fails d Extends made = idles_over d Cut
   idles_fails d Grants made = idles_over d Cut
-  idles_fails d Ends made = idles_over d Cut
-  idles_fails d Passes made = idles_over d Cut
+  idles_fails d TakesLeave made = idles_over d Cut
+  idles_fails d StaysSilent made = idles_over d Cut
 
   idles_judged : (d : Did) (asked : Bool) → Idles d (if asked then is_over d (By FilesFault) else is_over d Cut)
   idles_judged d true = idles_over d (By FilesFault)

@@ -9,7 +9,7 @@ use Rattle.smtp_lines.specs.declared.line.Line.{Line}
 use Rattle.smtp_lines.specs.Stream.{asks}
 use Rattle.mail_base.specs.Limits.{message_limit}
 use Rattle.mail_base.specs.declared.message.Message.{Message}
-use Rattle.smtp_receive.specs.Dialogue.{Answer, Says, Refuses, Greets, Extends, Grants, Closes as Ends, Gives, Takes as Passes}
+use Rattle.smtp_receive.specs.Dialogue.{Answer, Says, Refuses, Greets, Extends, Grants, TakesLeave, Gives, StaysSilent}
 use Rattle.smtp_receive.specs.Judging.{Question, Said, Unasked}
 use Rattle.smtp_receive.specs.Mails.{message_of}
 use Rattle.smtp_receive.specs.Replies.{text_of, refusal_text, grant_text, hello_text, extended_text, closing_text, greeting_text, stored_text, shown_host, out_of_memory_text, too_many_sessions_text}
@@ -122,10 +122,10 @@ replies site moment d Greets made whole = says d (hello_text (shown_host site.ho
 replies site moment d Extends made whole =
     says d (extended_text (shown_host site.host) (limit_of d)) whole
 replies site moment d Grants made whole = says d grant_text whole
-replies site moment d Ends made whole = closes d (closing_text (shown_host site.host)) whole
+replies site moment d TakesLeave made whole = closes d (closing_text (shown_host site.host)) whole
 replies site moment d (Gives mail) made whole =
     accepts site moment d (message_of mail) made whole
-replies site moment d Passes made whole = d
+replies site moment d StaysSilent made whole = d
 
 -- the spool fails at a message, where no id is wanting for it; nothing else is asked of it
 abbrev pub fails : Site → ℕ → Did → Answer → Made → Did
@@ -150,8 +150,8 @@ id_by table (Refuses error) = None
 id_by table Greets = None
 id_by table Extends = None
 id_by table Grants = None
-id_by table Ends = None
-id_by table Passes = None
+id_by table TakesLeave = None
+id_by table StaysSilent = None
 
 -- whether the run goes on behind an answer: a message needs ids
 abbrev pub is_answered : Table → Made → Answer → Bool
@@ -161,8 +161,8 @@ is_answered table made (Refuses error) = true
 is_answered table made Greets = true
 is_answered table made Extends = true
 is_answered table made Grants = true
-is_answered table made Ends = true
-is_answered table made Passes = true
+is_answered table made TakesLeave = true
+is_answered table made StaysSilent = true
 
 -- the line is among those that were answered, but where the run ends at it
 abbrev pub heard_where : Bool → Did → Line → Said → Bool → Option ℕ → Did

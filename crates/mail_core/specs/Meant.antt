@@ -5,7 +5,7 @@ use Rattle.std.specs.Prelude.{◌≡◌, ℕ, ◌≤◌, List, [], ◌∷◌, Op
 use Rattle.link_edge.specs.declared.event.Event.{Event}
 use Rattle.link_edge.specs.declared.event.Event.TheVariants.{Opens, Brings, Closes, Rests, Stops}
 use Rattle.smtp_lines.specs.declared.line.Line.{Line}
-use Rattle.smtp_receive.specs.Dialogue.{Answer, Says as Replies, Refuses, Greets, Extends, Grants, Closes as Ends, Gives, Takes as Passes}
+use Rattle.smtp_receive.specs.Dialogue.{Answer, Says as Replies, Refuses, Greets, Extends, Grants, TakesLeave, Gives, StaysSilent}
 use Rattle.smtp_receive.specs.Judging.{Said, Unasked}
 use Rattle.smtp_receive.specs.Mails.{message_of}
 use Rattle.spool_store.specs.Entries.{Table}
@@ -33,8 +33,8 @@ IsMadeAt site moment table (Refuses error) made = Unit {0}
 IsMadeAt site moment table Greets made = Unit {0}
 IsMadeAt site moment table Extends made = Unit {0}
 IsMadeAt site moment table Grants made = Unit {0}
-IsMadeAt site moment table Ends made = Unit {0}
-IsMadeAt site moment table Passes made = Unit {0}
+IsMadeAt site moment table TakesLeave made = Unit {0}
+IsMadeAt site moment table StaysSilent made = Unit {0}
 
 -- a choice at a line says what the judge does, and what the configuration does
 abbrev pub IsMeant : JudgeSeen → Site → ℕ → Did → Choice → Option Line → Type 0

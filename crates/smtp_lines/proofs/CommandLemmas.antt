@@ -5,14 +5,14 @@ use Rattle.std.specs.List.{list_any}
 use Rattle.std.specs.Str.{bytes_eq, str_to_ascii_lowercase, str_eq_ignore_ascii_case}
 use Rattle.std.proofs.lemmas.Bool.{cond-true, cond-false, cases_Bool}
 use Rattle.mail_base.specs.declared.command.Verb.{Verb}
-use Rattle.mail_base.specs.declared.command.Verb.TheVariants.{Helo, Ehlo, Mail, Rcpt, Data, Rset, Noop, Quit, Vrfy, Expn, Help}
+use Rattle.mail_base.specs.declared.command.Verb.TheVariants.{Helo as HeloVerb, Ehlo as EhloVerb, Mail as MailVerb, Rcpt as RcptVerb, Data as DataVerb, Rset as RsetVerb, Noop as NoopVerb, Quit as QuitVerb, Vrfy as VrfyVerb, Expn as ExpnVerb, Help as HelpVerb}
 use Rattle.mail_base.specs.declared.command.LineFault.{LineFault}
 use Rattle.mail_base.specs.declared.command.LineFault.TheVariants.{BadByte, Unknown, ArgumentNeeded, NoArgument, Syntax, PathTooLong, Parameter}
 use Rattle.smtp_lines.specs.declared.parameter.Parameters.{Parameters}
 use Rattle.smtp_lines.specs.Stream.{verb_of}
 use Rattle.smtp_lines.specs.Paths.{Parts, HasPath, is_too_long}
 use Rattle.smtp_lines.specs.Parameters.{AreGiven}
-use Rattle.smtp_lines.specs.Commands.{Order, Greet, Extend, From, To, Begin, Reset, End, Verify, is_bad_byte, name_of, IsNamed, argument_of, Says, needs_argument, stands_alone, keyword_of, IsCommand, helo, ehlo, mail, rcpt, data_, rset, noop, quit, vrfy, expn, help, HasFault, bad_byte, unknown, lacks_argument, has_argument, no_path, long_path, mail_parameter, rcpt_parameter, IsRead}
+use Rattle.smtp_lines.specs.Commands.{Order, Helo, Ehlo, Mail, Rcpt, Data, Rset, Quit, Vrfy, is_bad_byte, name_of, IsNamed, argument_of, Says, needs_argument, stands_alone, keyword_of, IsCommand, helo, ehlo, mail, rcpt, data_, rset, noop, quit, vrfy, expn, help, HasFault, bad_byte, unknown, lacks_argument, has_argument, no_path, long_path, mail_parameter, rcpt_parameter, IsRead}
 use Rattle.smtp_lines.specs.Reading.{verb_named, path_after, parameters_of, is_nothing, from_given, from_by, to_by, needed, alone, order_by, order_of}
 use Rattle.smtp_lines.proofs.ParameterLemmas.{same_lower, parameters_read, parameters_found}
 use Rattle.smtp_lines.proofs.GrammarLemmas.{path_after_found, PathRead, path_after_read}
@@ -22,30 +22,30 @@ use Rattle.smtp_lines.proofs.GrammarLemmas.{path_after_found, PathRead, path_aft
 -- the verb of a word in small letters
 abbrev verb_in : List ℕ → Option Verb
 verb_in word =
-    cond (bytes_eq word (codes "helo")) (Some Helo)
-    (cond (bytes_eq word (codes "ehlo")) (Some Ehlo)
-    (cond (bytes_eq word (codes "mail")) (Some Mail)
-    (cond (bytes_eq word (codes "rcpt")) (Some Rcpt)
-    (cond (bytes_eq word (codes "data")) (Some Data)
-    (cond (bytes_eq word (codes "rset")) (Some Rset)
-    (cond (bytes_eq word (codes "noop")) (Some Noop)
-    (cond (bytes_eq word (codes "quit")) (Some Quit)
-    (cond (bytes_eq word (codes "vrfy")) (Some Vrfy)
-    (cond (bytes_eq word (codes "expn")) (Some Expn)
-    (cond (bytes_eq word (codes "help")) (Some Help) None))))))))))
+    cond (bytes_eq word (codes "helo")) (Some HeloVerb)
+    (cond (bytes_eq word (codes "ehlo")) (Some EhloVerb)
+    (cond (bytes_eq word (codes "mail")) (Some MailVerb)
+    (cond (bytes_eq word (codes "rcpt")) (Some RcptVerb)
+    (cond (bytes_eq word (codes "data")) (Some DataVerb)
+    (cond (bytes_eq word (codes "rset")) (Some RsetVerb)
+    (cond (bytes_eq word (codes "noop")) (Some NoopVerb)
+    (cond (bytes_eq word (codes "quit")) (Some QuitVerb)
+    (cond (bytes_eq word (codes "vrfy")) (Some VrfyVerb)
+    (cond (bytes_eq word (codes "expn")) (Some ExpnVerb)
+    (cond (bytes_eq word (codes "help")) (Some HelpVerb) None))))))))))
 
 name_found : (verb : Verb) → verb_in (str_to_ascii_lowercase (name_of verb)) ≡ Some verb
-name_found Helo = refl
-name_found Ehlo = refl
-name_found Mail = refl
-name_found Rcpt = refl
-name_found Data = refl
-name_found Rset = refl
-name_found Noop = refl
-name_found Quit = refl
-name_found Vrfy = refl
-name_found Expn = refl
-name_found Help = refl
+name_found HeloVerb = refl
+name_found EhloVerb = refl
+name_found MailVerb = refl
+name_found RcptVerb = refl
+name_found DataVerb = refl
+name_found RsetVerb = refl
+name_found NoopVerb = refl
+name_found QuitVerb = refl
+name_found VrfyVerb = refl
+name_found ExpnVerb = refl
+name_found HelpVerb = refl
 
 verb_found : (word : List ℕ) (verb : Verb) → IsNamed word verb → verb_named word ≡ Some verb
 verb_found word verb named = ap verb_in (same_lower word (name_of verb) named) ∙ name_found verb
@@ -62,9 +62,9 @@ verb_if word first verb rest later e =
 
 verb_read : (word : List ℕ) (verb : Verb) → verb_named word ≡ Some verb → IsNamed word verb
 verb_read word verb e =
-    verb_if word Helo verb _ (λ e. verb_if word Ehlo verb _ (λ e. verb_if word Mail verb _ (λ e. verb_if word Rcpt verb _ (λ e. verb_if word Data verb _ (λ e.
-    verb_if word Rset verb _ (λ e. verb_if word Noop verb _ (λ e. verb_if word Quit verb _ (λ e. verb_if word Vrfy verb _ (λ e. verb_if word Expn verb _ (λ e.
-    verb_if word Help verb None (λ none. absurd (cc)) e) e) e) e) e) e) e) e) e) e) e
+    verb_if word HeloVerb verb _ (λ e. verb_if word EhloVerb verb _ (λ e. verb_if word MailVerb verb _ (λ e. verb_if word RcptVerb verb _ (λ e. verb_if word DataVerb verb _ (λ e.
+    verb_if word RsetVerb verb _ (λ e. verb_if word NoopVerb verb _ (λ e. verb_if word QuitVerb verb _ (λ e. verb_if word VrfyVerb verb _ (λ e. verb_if word ExpnVerb verb _ (λ e.
+    verb_if word HelpVerb verb None (λ none. absurd (cc)) e) e) e) e) e) e) e) e) e) e) e
 
 -- ---- what is read is found
 
@@ -82,50 +82,50 @@ module _ (line : List ℕ) where
   needed_found order argument some = cond-false (is_nothing argument) (Err ArgumentNeeded) (Ok order) (nothing_not argument some)
 
   lacking_found : (verb : Verb) → needs_argument verb ≡ true → order_by (Some verb) [] ≡ Err ArgumentNeeded
-  lacking_found Helo e = refl
-  lacking_found Ehlo e = refl
-  lacking_found Mail e = absurd (cc)
-  lacking_found Rcpt e = absurd (cc)
-  lacking_found Data e = absurd (cc)
-  lacking_found Rset e = absurd (cc)
-  lacking_found Noop e = absurd (cc)
-  lacking_found Quit e = absurd (cc)
-  lacking_found Vrfy e = refl
-  lacking_found Expn e = absurd (cc)
-  lacking_found Help e = absurd (cc)
+  lacking_found HeloVerb e = refl
+  lacking_found EhloVerb e = refl
+  lacking_found MailVerb e = absurd (cc)
+  lacking_found RcptVerb e = absurd (cc)
+  lacking_found DataVerb e = absurd (cc)
+  lacking_found RsetVerb e = absurd (cc)
+  lacking_found NoopVerb e = absurd (cc)
+  lacking_found QuitVerb e = absurd (cc)
+  lacking_found VrfyVerb e = refl
+  lacking_found ExpnVerb e = absurd (cc)
+  lacking_found HelpVerb e = absurd (cc)
 
   alone_found : (order : Order) (argument : List ℕ) → argument ≢ [] → alone order argument ≡ Err NoArgument
   alone_found order argument some = cond-false (is_nothing argument) (Ok order) (Err NoArgument) (nothing_not argument some)
 
   having_found : (verb : Verb) (argument : List ℕ) → stands_alone verb ≡ true → argument ≢ [] → order_by (Some verb) argument ≡ Err NoArgument
-  having_found Helo argument e some = absurd (cc)
-  having_found Ehlo argument e some = absurd (cc)
-  having_found Mail argument e some = absurd (cc)
-  having_found Rcpt argument e some = absurd (cc)
-  having_found Data argument e some = alone_found Begin argument some
-  having_found Rset argument e some = alone_found Reset argument some
-  having_found Noop argument e some = absurd (cc)
-  having_found Quit argument e some = alone_found End argument some
-  having_found Vrfy argument e some = absurd (cc)
-  having_found Expn argument e some = absurd (cc)
-  having_found Help argument e some = absurd (cc)
+  having_found HeloVerb argument e some = absurd (cc)
+  having_found EhloVerb argument e some = absurd (cc)
+  having_found MailVerb argument e some = absurd (cc)
+  having_found RcptVerb argument e some = absurd (cc)
+  having_found DataVerb argument e some = alone_found Data argument some
+  having_found RsetVerb argument e some = alone_found Rset argument some
+  having_found NoopVerb argument e some = absurd (cc)
+  having_found QuitVerb argument e some = alone_found Quit argument some
+  having_found VrfyVerb argument e some = absurd (cc)
+  having_found ExpnVerb argument e some = absurd (cc)
+  having_found HelpVerb argument e some = absurd (cc)
 
   keyword_is : (one other : List ℕ) → Some one ≡ Some other → one ≡ other
   keyword_is one other e = cc
 
   -- a fault of the path is that of the command
   path_fault : (verb : Verb) (keyword argument : List ℕ) (fault : LineFault) → keyword_of verb ≡ Some keyword → path_after verb keyword argument ≡ Err fault → order_by (Some verb) argument ≡ Err fault
-  path_fault Helo keyword argument fault is e = absurd (cc)
-  path_fault Ehlo keyword argument fault is e = absurd (cc)
-  path_fault Mail keyword argument fault is e = ap (λ k. from_by (path_after Mail k argument)) (keyword_is (codes "FROM:") keyword is) ∙ ap from_by e
-  path_fault Rcpt keyword argument fault is e = ap (λ k. to_by (path_after Rcpt k argument)) (keyword_is (codes "TO:") keyword is) ∙ ap to_by e
-  path_fault Data keyword argument fault is e = absurd (cc)
-  path_fault Rset keyword argument fault is e = absurd (cc)
-  path_fault Noop keyword argument fault is e = absurd (cc)
-  path_fault Quit keyword argument fault is e = absurd (cc)
-  path_fault Vrfy keyword argument fault is e = absurd (cc)
-  path_fault Expn keyword argument fault is e = absurd (cc)
-  path_fault Help keyword argument fault is e = absurd (cc)
+  path_fault HeloVerb keyword argument fault is e = absurd (cc)
+  path_fault EhloVerb keyword argument fault is e = absurd (cc)
+  path_fault MailVerb keyword argument fault is e = ap (λ k. from_by (path_after MailVerb k argument)) (keyword_is (codes "FROM:") keyword is) ∙ ap from_by e
+  path_fault RcptVerb keyword argument fault is e = ap (λ k. to_by (path_after RcptVerb k argument)) (keyword_is (codes "TO:") keyword is) ∙ ap to_by e
+  path_fault DataVerb keyword argument fault is e = absurd (cc)
+  path_fault RsetVerb keyword argument fault is e = absurd (cc)
+  path_fault NoopVerb keyword argument fault is e = absurd (cc)
+  path_fault QuitVerb keyword argument fault is e = absurd (cc)
+  path_fault VrfyVerb keyword argument fault is e = absurd (cc)
+  path_fault ExpnVerb keyword argument fault is e = absurd (cc)
+  path_fault HelpVerb keyword argument fault is e = absurd (cc)
 
   path_ok : (verb : Verb) (keyword argument path rest : List ℕ) → HasPath keyword argument path rest → is_too_long path ≡ false → path_after verb keyword argument ≡ Ok (record { front = path; back = rest })
   path_ok verb keyword argument path rest has short = path_after_found verb keyword argument path rest has ∙ cond-false (is_too_long path) (Err (PathTooLong verb)) (Ok (record { front = path; back = rest })) short
@@ -141,26 +141,26 @@ module _ (line : List ℕ) where
       (λ long. absurd (never long.1.0 long.1.1 long.1.2))
       read
 
-  no_given : (path rest : List ℕ) → ((size : Option ℕ) (eight : Bool) → AreGiven rest size eight → ⊥) → (o : Option Parameters) → parameters_of rest ≡ o → from_given path o ≡ Err (Parameter Mail)
+  no_given : (path rest : List ℕ) → ((size : Option ℕ) (eight : Bool) → AreGiven rest size eight → ⊥) → (o : Option Parameters) → parameters_of rest ≡ o → from_given path o ≡ Err (Parameter MailVerb)
   no_given path rest never None e = refl
   no_given path rest never (Some given) e = absurd (never given.size (unwrap_or given.body false) (parameters_read rest given e))
 
   command_found : (order : Order) → IsCommand line order → order_of line ≡ Ok order
-  command_found _ (helo argument says some) = said Helo argument says ∙ needed_found (Greet argument) argument some
-  command_found _ (ehlo argument says some) = said Ehlo argument says ∙ needed_found (Extend argument) argument some
+  command_found _ (helo argument says some) = said HeloVerb argument says ∙ needed_found (Helo argument) argument some
+  command_found _ (ehlo argument says some) = said EhloVerb argument says ∙ needed_found (Ehlo argument) argument some
   command_found _ (mail argument path rest size eight says has short are) =
-      said Mail argument says
-      ∙ ap from_by (path_ok Mail (codes "FROM:") argument path rest has short)
+      said MailVerb argument says
+      ∙ ap from_by (path_ok MailVerb (codes "FROM:") argument path rest has short)
       ∙ ap (from_given path) (parameters_found rest size eight are)
-      ∙ ap (λ b. Ok (From path size b)) (sym are.eight_is)
-  command_found _ (rcpt argument path says has short) = said Rcpt argument says ∙ ap to_by (path_ok Rcpt (codes "TO:") argument path [] has short)
-  command_found _ (data_ says) = said Data [] says
-  command_found _ (rset says) = said Rset [] says
-  command_found _ (noop argument says) = said Noop argument says
-  command_found _ (quit says) = said Quit [] says
-  command_found _ (vrfy argument says some) = said Vrfy argument says ∙ needed_found Verify argument some
-  command_found _ (expn argument says) = said Expn argument says
-  command_found _ (help argument says) = said Help argument says
+      ∙ ap (λ b. Ok (Mail path size b)) (sym are.eight_is)
+  command_found _ (rcpt argument path says has short) = said RcptVerb argument says ∙ ap to_by (path_ok RcptVerb (codes "TO:") argument path [] has short)
+  command_found _ (data_ says) = said DataVerb [] says
+  command_found _ (rset says) = said RsetVerb [] says
+  command_found _ (noop argument says) = said NoopVerb argument says
+  command_found _ (quit says) = said QuitVerb [] says
+  command_found _ (vrfy argument says some) = said VrfyVerb argument says ∙ needed_found Vrfy argument some
+  command_found _ (expn argument says) = said ExpnVerb argument says
+  command_found _ (help argument says) = said HelpVerb argument says
 
   unknown_found : ((verb : Verb) → IsNamed (verb_of line) verb → ⊥) → (o : Option Verb) → verb_named (verb_of line) ≡ o → order_by o (argument_of line) ≡ Err Unknown
   unknown_found never None e = refl
@@ -178,10 +178,10 @@ module _ (line : List ℕ) where
   fault_found _ (long_path verb keyword argument path rest is says has long) =
       said verb argument says ∙ path_fault verb keyword argument (PathTooLong verb) is (path_long verb keyword argument path rest has long)
   fault_found _ (mail_parameter argument path rest says has short never) =
-      said Mail argument says ∙ ap from_by (path_ok Mail (codes "FROM:") argument path rest has short) ∙ no_given path rest never (parameters_of rest) refl
+      said MailVerb argument says ∙ ap from_by (path_ok MailVerb (codes "FROM:") argument path rest has short) ∙ no_given path rest never (parameters_of rest) refl
   fault_found _ (rcpt_parameter argument path rest says has short some) =
-      said Rcpt argument says ∙ ap to_by (path_ok Rcpt (codes "TO:") argument path rest has short)
-      ∙ cond-false (is_nothing rest) (Ok (To path)) (Err (Parameter Rcpt)) (nothing_not rest some)
+      said RcptVerb argument says ∙ ap to_by (path_ok RcptVerb (codes "TO:") argument path rest has short)
+      ∙ cond-false (is_nothing rest) (Ok (Rcpt path)) (Err (Parameter RcptVerb)) (nothing_not rest some)
 
   read_found : (answer : Result Order LineFault) → IsRead line answer → order_of line ≡ answer
   read_found (Ok order) is = command_found order is
@@ -212,36 +212,36 @@ module _ (line : List ℕ) where
       (λ long. subst (HasFault line) (sym long.0) (long_path verb keyword argument long.1.0 long.1.1 is says long.1.2 long.1.3))
       read
 
-  mail_given : (argument path rest : List ℕ) → Says line Mail argument → HasPath (codes "FROM:") argument path rest → is_too_long path ≡ false → (o : Option Parameters) → parameters_of rest ≡ o → IsRead line (from_given path o)
+  mail_given : (argument path rest : List ℕ) → Says line MailVerb argument → HasPath (codes "FROM:") argument path rest → is_too_long path ≡ false → (o : Option Parameters) → parameters_of rest ≡ o → IsRead line (from_given path o)
   mail_given argument path rest says has short None e =
       mail_parameter argument path rest says has short (λ size eight are. let found = parameters_found rest size eight are in cc)
   mail_given argument path rest says has short (Some given) e =
       mail argument path rest given.size (unwrap_or given.body false) says has short (parameters_read rest given e)
 
-  mail_read : (argument : List ℕ) → Says line Mail argument → (r : Result Parts LineFault) → PathRead Mail (codes "FROM:") argument r → IsRead line (from_by r)
+  mail_read : (argument : List ℕ) → Says line MailVerb argument → (r : Result Parts LineFault) → PathRead MailVerb (codes "FROM:") argument r → IsRead line (from_by r)
   mail_read argument says (Ok parts) read = mail_given argument parts.front parts.back says read.0 read.1 (parameters_of parts.back) refl
-  mail_read argument says (Err fault) read = fault_read Mail (codes "FROM:") argument fault refl says read
+  mail_read argument says (Err fault) read = fault_read MailVerb (codes "FROM:") argument fault refl says read
 
-  rcpt_rest : (argument path rest : List ℕ) → Says line Rcpt argument → HasPath (codes "TO:") argument path rest → is_too_long path ≡ false → IsRead line (cond (is_nothing rest) (Ok (To path)) (Err (Parameter Rcpt)))
+  rcpt_rest : (argument path rest : List ℕ) → Says line RcptVerb argument → HasPath (codes "TO:") argument path rest → is_too_long path ≡ false → IsRead line (cond (is_nothing rest) (Ok (Rcpt path)) (Err (Parameter RcptVerb)))
   rcpt_rest argument path [] says has short = rcpt argument path says has short
   rcpt_rest argument path (b ∷ rest) says has short = rcpt_parameter argument path (b ∷ rest) says has short (some_not b rest)
 
-  rcpt_read : (argument : List ℕ) → Says line Rcpt argument → (r : Result Parts LineFault) → PathRead Rcpt (codes "TO:") argument r → IsRead line (to_by r)
+  rcpt_read : (argument : List ℕ) → Says line RcptVerb argument → (r : Result Parts LineFault) → PathRead RcptVerb (codes "TO:") argument r → IsRead line (to_by r)
   rcpt_read argument says (Ok parts) read = rcpt_rest argument parts.front parts.back says read.0 read.1
-  rcpt_read argument says (Err fault) read = fault_read Rcpt (codes "TO:") argument fault refl says read
+  rcpt_read argument says (Err fault) read = fault_read RcptVerb (codes "TO:") argument fault refl says read
 
   verb_order : (verb : Verb) (argument : List ℕ) → Says line verb argument → IsRead line (order_by (Some verb) argument)
-  verb_order Helo argument says = needed_read Helo Greet refl (λ a s n. helo a s n) argument says
-  verb_order Ehlo argument says = needed_read Ehlo Extend refl (λ a s n. ehlo a s n) argument says
-  verb_order Mail argument says = mail_read argument says (path_after Mail (codes "FROM:") argument) (path_after_read Mail (codes "FROM:") argument)
-  verb_order Rcpt argument says = rcpt_read argument says (path_after Rcpt (codes "TO:") argument) (path_after_read Rcpt (codes "TO:") argument)
-  verb_order Data argument says = alone_read Data Begin refl (λ s. data_ s) argument says
-  verb_order Rset argument says = alone_read Rset Reset refl (λ s. rset s) argument says
-  verb_order Noop argument says = noop argument says
-  verb_order Quit argument says = alone_read Quit End refl (λ s. quit s) argument says
-  verb_order Vrfy argument says = needed_read Vrfy (λ a. Verify) refl (λ a s n. vrfy a s n) argument says
-  verb_order Expn argument says = expn argument says
-  verb_order Help argument says = help argument says
+  verb_order HeloVerb argument says = needed_read HeloVerb Helo refl (λ a s n. helo a s n) argument says
+  verb_order EhloVerb argument says = needed_read EhloVerb Ehlo refl (λ a s n. ehlo a s n) argument says
+  verb_order MailVerb argument says = mail_read argument says (path_after MailVerb (codes "FROM:") argument) (path_after_read MailVerb (codes "FROM:") argument)
+  verb_order RcptVerb argument says = rcpt_read argument says (path_after RcptVerb (codes "TO:") argument) (path_after_read RcptVerb (codes "TO:") argument)
+  verb_order DataVerb argument says = alone_read DataVerb Data refl (λ s. data_ s) argument says
+  verb_order RsetVerb argument says = alone_read RsetVerb Rset refl (λ s. rset s) argument says
+  verb_order NoopVerb argument says = noop argument says
+  verb_order QuitVerb argument says = alone_read QuitVerb Quit refl (λ s. quit s) argument says
+  verb_order VrfyVerb argument says = needed_read VrfyVerb (λ a. Vrfy) refl (λ a s n. vrfy a s n) argument says
+  verb_order ExpnVerb argument says = expn argument says
+  verb_order HelpVerb argument says = help argument says
 
   option_read : list_any is_bad_byte line ≡ false → (o : Option Verb) → verb_named (verb_of line) ≡ o → IsRead line (order_by o (argument_of line))
   option_read clean None e = unknown clean (λ verb named. let found = verb_found (verb_of line) verb named in cc)

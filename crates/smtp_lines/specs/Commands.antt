@@ -5,7 +5,7 @@ use Rattle.std.specs.List.{list_any}
 use Rattle.std.specs.Str.{str_eq_ignore_ascii_case}
 use Rattle.mail_base.specs.Texts.{trimmed}
 use Rattle.mail_base.specs.declared.command.Verb.{Verb}
-use Rattle.mail_base.specs.declared.command.Verb.TheVariants.{Helo, Ehlo, Mail, Rcpt, Data, Rset, Noop, Quit, Vrfy, Expn, Help}
+use Rattle.mail_base.specs.declared.command.Verb.TheVariants.{Helo as HeloVerb, Ehlo as EhloVerb, Mail as MailVerb, Rcpt as RcptVerb, Data as DataVerb, Rset as RsetVerb, Noop as NoopVerb, Quit as QuitVerb, Vrfy as VrfyVerb, Expn as ExpnVerb, Help as HelpVerb}
 use Rattle.mail_base.specs.declared.command.Command.{Command}
 use Rattle.mail_base.specs.declared.command.Command.TheVariants.{Helo as AsHelo, Ehlo as AsEhlo, Mail as AsMail, Rcpt as AsRcpt, Data as AsData, Rset as AsRset, Noop as AsNoop, Quit as AsQuit, Vrfy as AsVrfy, Expn as AsExpn, Help as AsHelp}
 use Rattle.mail_base.specs.declared.command.LineFault.{LineFault}
@@ -14,37 +14,38 @@ use Rattle.smtp_lines.specs.Stream.{verb_of}
 use Rattle.smtp_lines.specs.Paths.{HasPath, is_too_long}
 use Rattle.smtp_lines.specs.Parameters.{AreGiven}
 
--- what a command line asks for: HELO, EHLO, MAIL, RCPT, DATA, RSET, NOOP, QUIT, VRFY, EXPN and HELP
--- in turn; a path is without its angles and its route
+-- what a command line asks for, by its verb: HELO and EHLO with the name that is given, MAIL with its
+-- path, size and whether the body has eight bits, RCPT with its path; a path is without its angles
+-- and its route
 pub data Order : Type 0 where
-  Greet : List ℕ → Order
-  Extend : List ℕ → Order
-  From : List ℕ → Option ℕ → Bool → Order
-  To : List ℕ → Order
-  Begin : Order
-  Reset : Order
-  Wait : Order
-  End : Order
-  Verify : Order
-  Expand : Order
-  Explain : Order
+  Helo : List ℕ → Order
+  Ehlo : List ℕ → Order
+  Mail : List ℕ → Option ℕ → Bool → Order
+  Rcpt : List ℕ → Order
+  Data : Order
+  Rset : Order
+  Noop : Order
+  Quit : Order
+  Vrfy : Order
+  Expn : Order
+  Help : Order
 
 -- a control byte that no command holds
 abbrev pub is_bad_byte : ℕ → Bool
 is_bad_byte b = (nat_lt b 32 && not (b == 9)) || b == 127
 
 abbrev pub name_of : Verb → List ℕ
-name_of Helo = codes "HELO"
-name_of Ehlo = codes "EHLO"
-name_of Mail = codes "MAIL"
-name_of Rcpt = codes "RCPT"
-name_of Data = codes "DATA"
-name_of Rset = codes "RSET"
-name_of Noop = codes "NOOP"
-name_of Quit = codes "QUIT"
-name_of Vrfy = codes "VRFY"
-name_of Expn = codes "EXPN"
-name_of Help = codes "HELP"
+name_of HeloVerb = codes "HELO"
+name_of EhloVerb = codes "EHLO"
+name_of MailVerb = codes "MAIL"
+name_of RcptVerb = codes "RCPT"
+name_of DataVerb = codes "DATA"
+name_of RsetVerb = codes "RSET"
+name_of NoopVerb = codes "NOOP"
+name_of QuitVerb = codes "QUIT"
+name_of VrfyVerb = codes "VRFY"
+name_of ExpnVerb = codes "EXPN"
+name_of HelpVerb = codes "HELP"
 
 -- a word names a verb, whatever its case
 abbrev pub IsNamed : List ℕ → Verb → Type 0
@@ -62,41 +63,41 @@ pub record Says (line : List ℕ) (verb : Verb) (argument : List ℕ) : Type 0 w
 
 -- the verbs that need an argument, and those that have none
 abbrev pub needs_argument : Verb → Bool
-needs_argument Helo = true
-needs_argument Ehlo = true
-needs_argument Vrfy = true
+needs_argument HeloVerb = true
+needs_argument EhloVerb = true
+needs_argument VrfyVerb = true
 needs_argument verb = false
 
 abbrev pub stands_alone : Verb → Bool
-stands_alone Data = true
-stands_alone Rset = true
-stands_alone Quit = true
+stands_alone DataVerb = true
+stands_alone RsetVerb = true
+stands_alone QuitVerb = true
 stands_alone verb = false
 
 -- the keyword of a verb that has a path
 abbrev pub keyword_of : Verb → Option (List ℕ)
-keyword_of Mail = Some (codes "FROM:")
-keyword_of Rcpt = Some (codes "TO:")
+keyword_of MailVerb = Some (codes "FROM:")
+keyword_of RcptVerb = Some (codes "TO:")
 keyword_of verb = None
 
 -- a line is a command
 pub data IsCommand (line : List ℕ) : Order → Type 0 where
-  helo : (argument : List ℕ) → Says line Helo argument → argument ≢ []
-      → IsCommand line (Greet argument)
-  ehlo : (argument : List ℕ) → Says line Ehlo argument → argument ≢ []
-      → IsCommand line (Extend argument)
-  mail : (argument path rest : List ℕ) (size : Option ℕ) (eight : Bool) → Says line Mail argument
+  helo : (argument : List ℕ) → Says line HeloVerb argument → argument ≢ []
+      → IsCommand line (Helo argument)
+  ehlo : (argument : List ℕ) → Says line EhloVerb argument → argument ≢ []
+      → IsCommand line (Ehlo argument)
+  mail : (argument path rest : List ℕ) (size : Option ℕ) (eight : Bool) → Says line MailVerb argument
       → HasPath (codes "FROM:") argument path rest → is_too_long path ≡ false
-      → AreGiven rest size eight → IsCommand line (From path size eight)
-  rcpt : (argument path : List ℕ) → Says line Rcpt argument → HasPath (codes "TO:") argument path []
-      → is_too_long path ≡ false → IsCommand line (To path)
-  data_ : Says line Data [] → IsCommand line Begin
-  rset : Says line Rset [] → IsCommand line Reset
-  noop : (argument : List ℕ) → Says line Noop argument → IsCommand line Wait
-  quit : Says line Quit [] → IsCommand line End
-  vrfy : (argument : List ℕ) → Says line Vrfy argument → argument ≢ [] → IsCommand line Verify
-  expn : (argument : List ℕ) → Says line Expn argument → IsCommand line Expand
-  help : (argument : List ℕ) → Says line Help argument → IsCommand line Explain
+      → AreGiven rest size eight → IsCommand line (Mail path size eight)
+  rcpt : (argument path : List ℕ) → Says line RcptVerb argument → HasPath (codes "TO:") argument path []
+      → is_too_long path ≡ false → IsCommand line (Rcpt path)
+  data_ : Says line DataVerb [] → IsCommand line Data
+  rset : Says line RsetVerb [] → IsCommand line Rset
+  noop : (argument : List ℕ) → Says line NoopVerb argument → IsCommand line Noop
+  quit : Says line QuitVerb [] → IsCommand line Quit
+  vrfy : (argument : List ℕ) → Says line VrfyVerb argument → argument ≢ [] → IsCommand line Vrfy
+  expn : (argument : List ℕ) → Says line ExpnVerb argument → IsCommand line Expn
+  help : (argument : List ℕ) → Says line HelpVerb argument → IsCommand line Help
 
 -- a line is none, and this is the first of its faults in this order: what each says of the line
 -- holds, and nothing that one before it says
@@ -114,13 +115,13 @@ pub data HasFault (line : List ℕ) : LineFault → Type 0 where
   long_path : (verb : Verb) (keyword argument path rest : List ℕ) → keyword_of verb ≡ Some keyword
       → Says line verb argument → HasPath keyword argument path rest → is_too_long path ≡ true
       → HasFault line (PathTooLong verb)
-  mail_parameter : (argument path rest : List ℕ) → Says line Mail argument
+  mail_parameter : (argument path rest : List ℕ) → Says line MailVerb argument
       → HasPath (codes "FROM:") argument path rest → is_too_long path ≡ false
       → ((size : Option ℕ) (eight : Bool) → ¬ AreGiven rest size eight)
-      → HasFault line (Parameter Mail)
-  rcpt_parameter : (argument path rest : List ℕ) → Says line Rcpt argument
+      → HasFault line (Parameter MailVerb)
+  rcpt_parameter : (argument path rest : List ℕ) → Says line RcptVerb argument
       → HasPath (codes "TO:") argument path rest → is_too_long path ≡ false → rest ≢ []
-      → HasFault line (Parameter Rcpt)
+      → HasFault line (Parameter RcptVerb)
 
 -- how a line is read: as a command, or with its first fault
 abbrev pub IsRead : List ℕ → Result Order LineFault → Type 0
@@ -129,17 +130,17 @@ IsRead line (Err fault) = HasFault line fault
 
 -- the order that a command is
 abbrev pub as_order : Command → Order
-as_order (AsHelo argument) = Greet argument.now
-as_order (AsEhlo argument) = Extend argument.now
-as_order (AsMail path size eight) = From path.now size eight
-as_order (AsRcpt path) = To path.now
-as_order AsData = Begin
-as_order AsRset = Reset
-as_order AsNoop = Wait
-as_order AsQuit = End
-as_order AsVrfy = Verify
-as_order AsExpn = Expand
-as_order AsHelp = Explain
+as_order (AsHelo argument) = Helo argument.now
+as_order (AsEhlo argument) = Ehlo argument.now
+as_order (AsMail path size eight) = Mail path.now size eight
+as_order (AsRcpt path) = Rcpt path.now
+as_order AsData = Data
+as_order AsRset = Rset
+as_order AsNoop = Noop
+as_order AsQuit = Quit
+as_order AsVrfy = Vrfy
+as_order AsExpn = Expn
+as_order AsHelp = Help
 
 -- the order that was read
 abbrev pub as_read : Result Command LineFault → Result Order LineFault

@@ -8,7 +8,7 @@ use Rattle.std.specs.Str.Parse.{digits_value}
 use Rattle.mail_base.specs.Limits.{most_path, most_local_part}
 use Rattle.mail_base.specs.Texts.{is_blank, without_blanks}
 use Rattle.mail_base.specs.declared.command.Verb.{Verb}
-use Rattle.mail_base.specs.declared.command.Verb.TheVariants.{Helo, Ehlo, Mail, Rcpt, Data, Rset, Noop, Quit, Vrfy, Expn, Help}
+use Rattle.mail_base.specs.declared.command.Verb.TheVariants.{Helo as HeloVerb, Ehlo as EhloVerb, Mail as MailVerb, Rcpt as RcptVerb, Data as DataVerb, Rset as RsetVerb, Noop as NoopVerb, Quit as QuitVerb, Vrfy as VrfyVerb, Expn as ExpnVerb, Help as HelpVerb}
 use Rattle.mail_base.specs.declared.command.LineFault.{LineFault}
 use Rattle.mail_base.specs.declared.command.LineFault.TheVariants.{BadByte, Unknown, ArgumentNeeded, NoArgument, Syntax, PathTooLong, Parameter}
 use Rattle.smtp_lines.specs.declared.parameter.Given.{Given}
@@ -17,23 +17,23 @@ use Rattle.smtp_lines.specs.declared.parameter.Parameters.{Parameters}
 use Rattle.smtp_lines.specs.Stream.{verb_of}
 use Rattle.smtp_lines.specs.Paths.{Parts, is_parted, without_route, local_part}
 use Rattle.smtp_lines.specs.Parameters.{words_of, is_some_text}
-use Rattle.smtp_lines.specs.Commands.{Order, Greet, Extend, From, To, Begin, Reset, Wait, End, Verify, Expand, Explain, is_bad_byte, argument_of}
+use Rattle.smtp_lines.specs.Commands.{Order, Helo, Ehlo, Mail, Rcpt, Data, Rset, Noop, Quit, Vrfy, Expn, Help, is_bad_byte, argument_of}
 use Rattle.smtp_lines.specs.PathEnds.{angle_parts}
 
 -- the verb of a word, whatever its case
 abbrev pub verb_named : List ℕ → Option Verb
 verb_named word =
-    if str_eq_ignore_ascii_case word (codes "HELO") then Some Helo
-    else if str_eq_ignore_ascii_case word (codes "EHLO") then Some Ehlo
-    else if str_eq_ignore_ascii_case word (codes "MAIL") then Some Mail
-    else if str_eq_ignore_ascii_case word (codes "RCPT") then Some Rcpt
-    else if str_eq_ignore_ascii_case word (codes "DATA") then Some Data
-    else if str_eq_ignore_ascii_case word (codes "RSET") then Some Rset
-    else if str_eq_ignore_ascii_case word (codes "NOOP") then Some Noop
-    else if str_eq_ignore_ascii_case word (codes "QUIT") then Some Quit
-    else if str_eq_ignore_ascii_case word (codes "VRFY") then Some Vrfy
-    else if str_eq_ignore_ascii_case word (codes "EXPN") then Some Expn
-    else if str_eq_ignore_ascii_case word (codes "HELP") then Some Help
+    if str_eq_ignore_ascii_case word (codes "HELO") then Some HeloVerb
+    else if str_eq_ignore_ascii_case word (codes "EHLO") then Some EhloVerb
+    else if str_eq_ignore_ascii_case word (codes "MAIL") then Some MailVerb
+    else if str_eq_ignore_ascii_case word (codes "RCPT") then Some RcptVerb
+    else if str_eq_ignore_ascii_case word (codes "DATA") then Some DataVerb
+    else if str_eq_ignore_ascii_case word (codes "RSET") then Some RsetVerb
+    else if str_eq_ignore_ascii_case word (codes "NOOP") then Some NoopVerb
+    else if str_eq_ignore_ascii_case word (codes "QUIT") then Some QuitVerb
+    else if str_eq_ignore_ascii_case word (codes "VRFY") then Some VrfyVerb
+    else if str_eq_ignore_ascii_case word (codes "EXPN") then Some ExpnVerb
+    else if str_eq_ignore_ascii_case word (codes "HELP") then Some HelpVerb
     else None
 
 -- how many bytes stand before the first blank
@@ -114,8 +114,8 @@ is_nothing [] = true
 is_nothing (b ∷ text) = false
 
 abbrev pub from_given : List ℕ → Option Parameters → Result Order LineFault
-from_given path None = Err (Parameter Mail)
-from_given path (Some given) = Ok (From path given.size (unwrap_or given.body false))
+from_given path None = Err (Parameter MailVerb)
+from_given path (Some given) = Ok (Mail path given.size (unwrap_or given.body false))
 
 abbrev pub from_by : Result Parts LineFault → Result Order LineFault
 from_by (Err fault) = Err fault
@@ -123,7 +123,7 @@ from_by (Ok parts) = from_given parts.front (parameters_of parts.back)
 
 abbrev pub to_by : Result Parts LineFault → Result Order LineFault
 to_by (Err fault) = Err fault
-to_by (Ok parts) = if is_nothing parts.back then Ok (To parts.front) else Err (Parameter Rcpt)
+to_by (Ok parts) = if is_nothing parts.back then Ok (Rcpt parts.front) else Err (Parameter RcptVerb)
 
 -- an order that needs an argument, and one that has none
 abbrev pub needed : Order → List ℕ → Result Order LineFault
@@ -135,17 +135,17 @@ alone order argument = if is_nothing argument then Ok order else Err NoArgument
 -- the order of a verb with its argument
 abbrev pub order_by : Option Verb → List ℕ → Result Order LineFault
 order_by None argument = Err Unknown
-order_by (Some Helo) argument = needed (Greet argument) argument
-order_by (Some Ehlo) argument = needed (Extend argument) argument
-order_by (Some Mail) argument = from_by (path_after Mail (codes "FROM:") argument)
-order_by (Some Rcpt) argument = to_by (path_after Rcpt (codes "TO:") argument)
-order_by (Some Data) argument = alone Begin argument
-order_by (Some Rset) argument = alone Reset argument
-order_by (Some Noop) argument = Ok Wait
-order_by (Some Quit) argument = alone End argument
-order_by (Some Vrfy) argument = needed Verify argument
-order_by (Some Expn) argument = Ok Expand
-order_by (Some Help) argument = Ok Explain
+order_by (Some HeloVerb) argument = needed (Helo argument) argument
+order_by (Some EhloVerb) argument = needed (Ehlo argument) argument
+order_by (Some MailVerb) argument = from_by (path_after MailVerb (codes "FROM:") argument)
+order_by (Some RcptVerb) argument = to_by (path_after RcptVerb (codes "TO:") argument)
+order_by (Some DataVerb) argument = alone Data argument
+order_by (Some RsetVerb) argument = alone Rset argument
+order_by (Some NoopVerb) argument = Ok Noop
+order_by (Some QuitVerb) argument = alone Quit argument
+order_by (Some VrfyVerb) argument = needed Vrfy argument
+order_by (Some ExpnVerb) argument = Ok Expn
+order_by (Some HelpVerb) argument = Ok Help
 
 -- what a command line asks for, or the first fault that it has
 abbrev pub order_of : List ℕ → Result Order LineFault

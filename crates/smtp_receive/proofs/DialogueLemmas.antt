@@ -2,7 +2,7 @@
 use Rattle.std.proofs.Common.{◌≡◌, ℕ, List, [], ◌∷◌, ◌++◌, Some, None, reverse, fold, refl, sym, ap, ◌∙◌, append_assoc}
 use Rattle.std.proofs.lemmas.List.{append-nil, reverse-append, reverse-reverse}
 use Rattle.mail_base.specs.declared.config.Config.{Config}
-use Rattle.smtp_receive.specs.Dialogue.{listed, Answer, Says, Refuses, Greets, Extends, Grants, Closes, Gives, Takes, Exchange, Heard, dialogue, did_of, exchange_of, exchanges, replies_from, replies_to, reply_by, reply_heard, with_heard}
+use Rattle.smtp_receive.specs.Dialogue.{listed, Answer, Says, Refuses, Greets, Extends, Grants, TakesLeave, Gives, StaysSilent, Exchange, Heard, dialogue, did_of, exchange_of, exchanges, replies_from, replies_to, reply_by, reply_heard, with_heard}
 use Rattle.smtp_receive.specs.Finals.{text_told}
 use Rattle.smtp_receive.proofs.KeepLemmas.{heard_more}
 
@@ -27,9 +27,9 @@ told_reply host limit (Refuses error) = refl
 told_reply host limit Greets = refl
 told_reply host limit Extends = refl
 told_reply host limit Grants = refl
-told_reply host limit Closes = refl
+told_reply host limit TakesLeave = refl
 told_reply host limit (Gives message) = refl
-told_reply host limit Takes = refl
+told_reply host limit StaysSilent = refl
 
 -- one line more is one exchange more of the dialogue
 pub dialogue_more : (config : Config) (peer : List ℕ) (heard : List Heard) (next : Heard)

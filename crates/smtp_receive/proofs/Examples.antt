@@ -14,7 +14,7 @@ use Rattle.addr_tokens.specs.Reader.{cut}
 use Rattle.addr_tokens.specs.Scans.{most_tokens}
 use Rattle.smtp_lines.specs.declared.line.Line.{Line}
 use Rattle.smtp_lines.specs.declared.line.Line.TheVariants.{Command, Data, DataEnd}
-use Rattle.smtp_receive.specs.Dialogue.{Answer, Says, Greets, Extends, Grants, Closes, Gives, Takes, Exchange, Heard, answer_heard, dialogue, exchanges, no_marks, reply_by, with_heard}
+use Rattle.smtp_receive.specs.Dialogue.{Answer, Says, Greets, Extends, Grants, TakesLeave, Gives, StaysSilent, Exchange, Heard, answer_heard, dialogue, exchanges, no_marks, reply_by, with_heard}
 use Rattle.smtp_receive.specs.Judging.{Said, Unasked, OfSender, OfRecipient}
 use Rattle.smtp_receive.specs.declared.judge.Verdict.TheVariants.{Rows}
 use Rattle.smtp_receive.specs.declared.reply.Reply.TheVariants.{NeedRcpt, RecipientOk, SenderOk}
@@ -95,7 +95,7 @@ given = exchange rcpt of_recipient (Some (Says RecipientOk)) ∷ exchange mail o
 
 -- the exchanges, last first, up to the header
 abbrev pub granted : List Exchange
-granted = exchange subject Unasked (Some Takes) ∷ exchange data_line Unasked (Some Grants) ∷ given
+granted = exchange subject Unasked (Some StaysSilent) ∷ exchange data_line Unasked (Some Grants) ∷ given
 
 -- the lines that were heard up to the header
 abbrev pub begun : List Heard
@@ -122,7 +122,7 @@ begins =
     more (heard helo Unasked ∷ heard mail of_sender ∷ []) (heard rcpt of_recipient) (exchange mail of_sender (Some (Says SenderOk)) ∷ greeted) (Some (Says RecipientOk)) two rcpt_is in
     let four : exchanges config peer (heard helo Unasked ∷ heard mail of_sender ∷ heard rcpt of_recipient ∷ heard data_line Unasked ∷ []) ≡ exchange data_line Unasked (Some Grants) ∷ given =
     more (heard helo Unasked ∷ heard mail of_sender ∷ heard rcpt of_recipient ∷ []) (heard data_line Unasked) given (Some Grants) three refl in
-    more (heard helo Unasked ∷ heard mail of_sender ∷ heard rcpt of_recipient ∷ heard data_line Unasked ∷ []) (heard subject Unasked) (exchange data_line Unasked (Some Grants) ∷ given) (Some Takes) four refl
+    more (heard helo Unasked ∷ heard mail of_sender ∷ heard rcpt of_recipient ∷ heard data_line Unasked ∷ []) (heard subject Unasked) (exchange data_line Unasked (Some Grants) ∷ given) (Some StaysSilent) four refl
 
 -- ---- a message is given at its end
 
@@ -150,7 +150,7 @@ message = record {
 
 -- the exchanges, last first, up to the body
 abbrev pub taken : List Exchange
-taken = exchange body Unasked (Some Takes) ∷ exchange (Data []) Unasked (Some Takes) ∷ granted
+taken = exchange body Unasked (Some StaysSilent) ∷ exchange (Data []) Unasked (Some StaysSilent) ∷ granted
 
 -- the message's end gives it
 pub ends : answer_heard config peer taken (heard DataEnd Unasked) ≡ Some (Gives message)
@@ -159,13 +159,13 @@ ends = refl
 
 plain_session : dialogue config peer (begun ++ heard (Data []) Unasked ∷ heard body Unasked ∷ heard DataEnd Unasked ∷ heard quit Unasked ∷ [])
     ≡ exchange helo Unasked (Some Greets) ∷ exchange mail of_sender (Some (Says SenderOk)) ∷ exchange rcpt of_recipient (Some (Says RecipientOk)) ∷ exchange data_line Unasked (Some Grants)
-    ∷ exchange subject Unasked (Some Takes) ∷ exchange (Data []) Unasked (Some Takes) ∷ exchange body Unasked (Some Takes) ∷ exchange DataEnd Unasked (Some (Gives message))
-    ∷ exchange quit Unasked (Some Closes) ∷ []
+    ∷ exchange subject Unasked (Some StaysSilent) ∷ exchange (Data []) Unasked (Some StaysSilent) ∷ exchange body Unasked (Some StaysSilent) ∷ exchange DataEnd Unasked (Some (Gives message))
+    ∷ exchange quit Unasked (Some TakesLeave) ∷ []
 plain_session =
-    let one = more begun (heard (Data []) Unasked) granted (Some Takes) begins refl in
-    let two = more (begun ++ heard (Data []) Unasked ∷ []) (heard body Unasked) (exchange (Data []) Unasked (Some Takes) ∷ granted) (Some Takes) one refl in
+    let one = more begun (heard (Data []) Unasked) granted (Some StaysSilent) begins refl in
+    let two = more (begun ++ heard (Data []) Unasked ∷ []) (heard body Unasked) (exchange (Data []) Unasked (Some StaysSilent) ∷ granted) (Some StaysSilent) one refl in
     let three = more (begun ++ heard (Data []) Unasked ∷ heard body Unasked ∷ []) (heard DataEnd Unasked) taken (Some (Gives message)) two ends in
-    ap reverse (more (begun ++ heard (Data []) Unasked ∷ heard body Unasked ∷ heard DataEnd Unasked ∷ []) (heard quit Unasked) (exchange DataEnd Unasked (Some (Gives message)) ∷ taken) (Some Closes) three refl)
+    ap reverse (more (begun ++ heard (Data []) Unasked ∷ heard body Unasked ∷ heard DataEnd Unasked ∷ []) (heard quit Unasked) (exchange DataEnd Unasked (Some (Gives message)) ∷ taken) (Some TakesLeave) three refl)
 
 -- ---- EHLO is answered by four lines
 
@@ -182,14 +182,14 @@ abbrev lacking : List Exchange
 lacking = exchange (Data []) Unasked None ∷ granted
 
 abbrev dropped : List Exchange
-dropped = exchange DataEnd Unasked (Some Takes) ∷ exchange body Unasked (Some Takes) ∷ lacking
+dropped = exchange DataEnd Unasked (Some StaysSilent) ∷ exchange body Unasked (Some StaysSilent) ∷ lacking
 
 memory_is_wanting : dialogue config peer (begun ++ short (Data []) ∷ short body ∷ short DataEnd ∷ heard data_line Unasked ∷ [])
     ≡ exchange helo Unasked (Some Greets) ∷ exchange mail of_sender (Some (Says SenderOk)) ∷ exchange rcpt of_recipient (Some (Says RecipientOk)) ∷ exchange data_line Unasked (Some Grants)
-    ∷ exchange subject Unasked (Some Takes) ∷ exchange (Data []) Unasked None ∷ exchange body Unasked (Some Takes) ∷ exchange DataEnd Unasked (Some Takes)
+    ∷ exchange subject Unasked (Some StaysSilent) ∷ exchange (Data []) Unasked None ∷ exchange body Unasked (Some StaysSilent) ∷ exchange DataEnd Unasked (Some StaysSilent)
     ∷ exchange data_line Unasked (Some (Says NeedRcpt)) ∷ []
 memory_is_wanting =
     let one = more begun (short (Data [])) granted None begins refl in
-    let two = more (begun ++ short (Data []) ∷ []) (short body) lacking (Some Takes) one refl in
-    let three = more (begun ++ short (Data []) ∷ short body ∷ []) (short DataEnd) (exchange body Unasked (Some Takes) ∷ lacking) (Some Takes) two refl in
+    let two = more (begun ++ short (Data []) ∷ []) (short body) lacking (Some StaysSilent) one refl in
+    let three = more (begun ++ short (Data []) ∷ short body ∷ []) (short DataEnd) (exchange body Unasked (Some StaysSilent) ∷ lacking) (Some StaysSilent) two refl in
     ap reverse (more (begun ++ short (Data []) ∷ short body ∷ short DataEnd ∷ []) (heard data_line Unasked) dropped (Some (Says NeedRcpt)) three refl)

@@ -12,13 +12,13 @@ use Rattle.mail_base.specs.declared.config.Config.{Config}
 use Rattle.mail_base.specs.declared.draw.Draw.{Draw}
 use Rattle.mail_base.specs.declared.id.Kind.TheVariants.{Qf}
 use Rattle.mail_base.specs.declared.message.Kept.{Kept}
-use Rattle.smtp_receive.specs.Mails.{Mail}
+use Rattle.smtp_receive.specs.Mails.{Mail as Mails}
 use Rattle.mail_base.specs.declared.route.RouteError.{RouteError}
 use Rattle.mail_base.proofs.FileNames.{same_number}
 use Rattle.mail_header.specs.Fields.{class_in, hops_of}
 use Rattle.mail_header.specs.Gatherings.{is_above}
 use Rattle.mail_header.specs.Lines.{headers_of, body_of, block_of, size_of}
-use Rattle.smtp_lines.specs.Commands.{Order, Greet, Extend, From, To, Begin, Reset, Wait, End, Verify, Expand, Explain}
+use Rattle.smtp_lines.specs.Commands.{Order, Helo, Ehlo, Mail, Rcpt, Data, Rset, Noop, Quit, Vrfy, Expn, Help}
 use Rattle.smtp_lines.specs.Reading.{order_of}
 use Rattle.smtp_lines.specs.declared.line.Line.{Line}
 use Rattle.smtp_lines.specs.declared.line.Line.TheVariants.{Command, TooLong, Data as DataLine, DataEnd}
@@ -26,7 +26,7 @@ use Rattle.smtp_receive.specs.declared.judge.Verdict.TheVariants.{Rows, No}
 use Rattle.smtp_receive.specs.declared.reply.Reply.{Reply}
 use Rattle.smtp_receive.specs.declared.reply.Reply.TheVariants.{NeedRcpt, SenderOk, RecipientOk, MessageTooLarge, HeaderTooLarge, TooManyHops, ResetState, Okay, CannotVerify, SeeStandard}
 use Rattle.smtp_receive.specs.Replies.{text_of, refusal_text, grant_text, greeting_text, hello_text, extended_text, closing_text, stored_text, out_of_memory_text, too_many_sessions_text}
-use Rattle.smtp_receive.specs.Dialogue.{Answer, Says, Refuses, Greets, Extends, Grants, Closes, Gives, Takes, Exchange, Heard, Standing, answer_to, command_answer, did_of, eight_in, end_answer, exchanges, is_uncut, kept_in, lines_in, mail_answer, mail_fault, message_answer, no_marks, rcpt_answer, rcpt_fault, recipient_answer, rows_in, sender_answer, sender_in, standing_in}
+use Rattle.smtp_receive.specs.Dialogue.{Answer, Says, Refuses, Greets, Extends, Grants, TakesLeave, Gives, StaysSilent, Exchange, Heard, Standing, answer_to, command_answer, did_of, eight_in, end_answer, exchanges, is_uncut, kept_in, lines_in, mail_answer, mail_fault, message_answer, no_marks, rcpt_answer, rcpt_fault, recipient_answer, rows_in, sender_answer, sender_in, standing_in}
 use Rattle.smtp_receive.specs.Judging.{Said, Unasked, OfSender, OfRecipient, IsFormedSaid, drawn_in, refusal_in}
 use Rattle.smtp_receive.specs.Sessions.{answer_of}
 use Rattle.smtp_receive.specs.Finals.{text_told, IsFinal}
@@ -101,9 +101,9 @@ did_final host limit (Refuses error) well = refusal_final error well
 did_final host limit Greets well = hello_final host
 did_final host limit Extends well = extended_final host limit
 did_final host limit Grants well = grant_final
-did_final host limit Closes well = closing_final host
+did_final host limit TakesLeave well = closing_final host
 did_final host limit (Gives message) well = tt
-did_final host limit Takes well = tt
+did_final host limit StaysSilent well = tt
 
 refusal_well : (said : Said) → IsFormedSaid said → IfSome (refusal_in said) IsRefusal
 refusal_well Unasked formed = tt
@@ -132,22 +132,22 @@ rcpt_well None rows said formed = recipient_well (refusal_in said) (nat_lt most_
 
 command_well : (config : Config) (now : Standing) (said : Said) (read : Result Order LineFault) → IsFormedSaid said → RefusesWell (command_answer config now said read)
 command_well config now said (Err fault) formed = tt
-command_well config now said (Ok (Greet argument)) formed = tt
-command_well config now said (Ok (Extend argument)) formed = tt
-command_well config now said (Ok (From path size eight)) formed =
+command_well config now said (Ok (Helo argument)) formed = tt
+command_well config now said (Ok (Ehlo argument)) formed = tt
+command_well config now said (Ok (Mail path size eight)) formed =
     mail_well (mail_fault (is_some now.sender) (message_limit config.options) size) config.options.operator_chars path said formed
-command_well config now said (Ok (To path)) formed = rcpt_well (rcpt_fault (is_some now.sender) (recipient_limit config.options) now.count path) (length now.rows) said formed
-command_well config now said (Ok Begin) formed = cond_both (now.count == 0) (Says NeedRcpt) Grants RefusesWell (λ h. tt) (λ h. tt)
-command_well config now said (Ok Reset) formed = tt
-command_well config now said (Ok Wait) formed = tt
-command_well config now said (Ok End) formed = tt
-command_well config now said (Ok Verify) formed = tt
-command_well config now said (Ok Expand) formed = tt
-command_well config now said (Ok Explain) formed = tt
+command_well config now said (Ok (Rcpt path)) formed = rcpt_well (rcpt_fault (is_some now.sender) (recipient_limit config.options) now.count path) (length now.rows) said formed
+command_well config now said (Ok Data) formed = cond_both (now.count == 0) (Says NeedRcpt) Grants RefusesWell (λ h. tt) (λ h. tt)
+command_well config now said (Ok Rset) formed = tt
+command_well config now said (Ok Noop) formed = tt
+command_well config now said (Ok Quit) formed = tt
+command_well config now said (Ok Vrfy) formed = tt
+command_well config now said (Ok Expn) formed = tt
+command_well config now said (Ok Help) formed = tt
 
 message_well : (config : Config) (kept : Kept) (sender : List ℕ) (eight : Bool) (rows : List Draw) (lines : List (List ℕ)) → RefusesWell (message_answer config kept sender eight rows lines)
 message_well config kept sender eight rows lines =
-    let message : Mail = record {
+    let message : Mails = record {
       sender = sender;
       rows = rows;
       headers = headers_of lines;

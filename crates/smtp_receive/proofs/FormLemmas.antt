@@ -10,14 +10,14 @@ use Rattle.mail_base.specs.Texts.{is_blank, IsLine, IsBracketed, IsBlank, IsHead
 use Rattle.mail_base.specs.declared.config.Config.{Config}
 use Rattle.mail_base.specs.declared.draw.Draw.{Draw}
 use Rattle.mail_base.specs.declared.message.Kept.{Kept}
-use Rattle.smtp_receive.specs.Mails.{Mail}
+use Rattle.smtp_receive.specs.Mails.{Mail as Mails}
 use Rattle.mail_base.specs.declared.options.Options.{Options}
 use Rattle.mail_base.specs.declared.command.LineFault.{LineFault}
 use Rattle.mail_header.specs.Fields.{class_in, hops_of}
 use Rattle.mail_header.specs.Headers.{is_plain, is_name_byte, is_header, is_header_by, is_continuation}
 use Rattle.mail_header.specs.Gatherings.{is_above}
 use Rattle.mail_header.specs.Lines.{belongs, block_of, goes_on, joined, headers_in, headers_of, body_of, size_of}
-use Rattle.smtp_lines.specs.Commands.{Order, Greet, Extend, From}
+use Rattle.smtp_lines.specs.Commands.{Order, Helo, Ehlo, Mail}
 use Rattle.smtp_lines.specs.Reading.{order_of}
 use Rattle.smtp_lines.specs.declared.line.Line.{Line}
 use Rattle.smtp_lines.specs.declared.line.Line.TheVariants.{Command, TooLong, Data as DataLine, DataEnd}
@@ -45,12 +45,12 @@ asked_line (DataLine text) = tt
 asked_line DataEnd = tt
 
 path_form : (order : Option Order) → IfSome order OrderLine → IfSome (path_in order) IsBracketed
-path_form (Some (From path size eight)) line = brackets_form path line
+path_form (Some (Mail path size eight)) line = brackets_form path line
 path_form _ line = tt
 
 argument_form : (order : Option Order) → IfSome order OrderLine → IfSome (argument_in order) IsLine
-argument_form (Some (Greet argument)) line = line
-argument_form (Some (Extend argument)) line = line
+argument_form (Some (Helo argument)) line = line
+argument_form (Some (Ehlo argument)) line = line
 argument_form _ line = tt
 
 -- the two protocols
@@ -58,8 +58,8 @@ abbrev IsProtocol : List ℕ → Type 0
 IsProtocol text = (text ≡ codes "SMTP") ⊎ (text ≡ codes "ESMTP")
 
 protocol_form : (order : Option Order) → IfSome (protocol_of order) IsProtocol
-protocol_form (Some (Greet argument)) = inl refl
-protocol_form (Some (Extend argument)) = inr refl
+protocol_form (Some (Helo argument)) = inl refl
+protocol_form (Some (Ehlo argument)) = inr refl
 protocol_form _ = tt
 
 sender_form : (answer : Option Answer) (order : Option Order) → IfSome order OrderLine → IfSome (sender_by answer order) IsBracketed
@@ -254,7 +254,7 @@ message_formed : (config : Config) (peer : List ℕ) (kept : Kept) (sender : Lis
 message_formed config peer kept sender eight rows lines helo protocol client sender_is rows_are =
     let P : Answer → Type 0 = AnswerFormed peer in
     let limit : ℕ = message_limit config.options in
-    let message : Mail = record {
+    let message : Mails = record {
       sender = sender;
       rows = rows;
       headers = headers_of lines;
@@ -289,7 +289,7 @@ end_formed config peer kept (Some sender) eight rows (Some lines) helo protocol 
     message_formed config peer kept sender eight rows lines helo protocol client sender_is (rows_are refl)
 
 -- a message that is given is formed
-pub given_formed : (config : Config) (peer : List ℕ) (heard : List Heard) (said : Said) (line : Line) (message : Mail) → AreFormed config peer heard → answer_of config peer heard said line ≡ Gives message
+pub given_formed : (config : Config) (peer : List ℕ) (heard : List Heard) (said : Said) (line : Line) (message : Mails) → AreFormed config peer heard → answer_of config peer heard said line ≡ Gives message
     → IsFormed message peer
 given_formed config peer heard said line message formed gives =
     let before : List Exchange = exchanges config peer heard in

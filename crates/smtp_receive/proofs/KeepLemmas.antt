@@ -13,7 +13,7 @@ use Rattle.smtp_lines.specs.Commands.{Order}
 use Rattle.smtp_lines.specs.Reading.{order_of}
 use Rattle.smtp_lines.specs.declared.line.Line.{Line}
 use Rattle.smtp_lines.specs.declared.line.Line.TheVariants.{Command, TooLong, Data as DataLine, DataEnd}
-use Rattle.smtp_receive.specs.Dialogue.{Answer, Says, Refuses, Greets, Extends, Grants, Closes, Gives, Takes, Exchange, Heard, Standing, answer_heard, answer_to, argument_in, asked, command_answer, count_in, count_of, did_of, eight_of, ends, exchange_of, exchanges, helo_by, helo_in, is_dropped, kept_in, lines_in, lines_of, or_else, order_question, path_in, protocol_by, protocol_in, protocol_of, question, rows_of, sender_in, sender_of, standing_in, transaction, with_heard, with_text}
+use Rattle.smtp_receive.specs.Dialogue.{Answer, Says, Refuses, Greets, Extends, Grants, TakesLeave, Gives, StaysSilent, Exchange, Heard, Standing, answer_heard, answer_to, argument_in, asked, command_answer, count_in, count_of, did_of, eight_of, ends, exchange_of, exchanges, helo_by, helo_in, is_dropped, kept_in, lines_in, lines_of, or_else, order_question, path_in, protocol_by, protocol_in, protocol_of, question, rows_of, sender_in, sender_of, standing_in, transaction, with_heard, with_text}
 use Rattle.smtp_receive.specs.Judging.{Question, Said, Unasked, IsSaid, drawn_in}
 use Rattle.smtp_receive.specs.Replies.{shown_host, text_of}
 use Rattle.smtp_receive.specs.Sessions.{Holds, Keeps, Stands, cleared}
@@ -108,14 +108,14 @@ keeps_change s n config host peer before text said Extends k is =
 keeps_change s n config host peer before text said Grants k begins =
     subst (λ x. Keeps x config host peer (exchange (Command text) said (Some Grants) ∷ before)) (sym begins.same)
     (record { host_is = k.host_is; kept_is = k.kept_is; sender_is = k.sender_is; eight_is = k.eight_is; rows_is = k.rows_is; count_is = k.count_is; message_is = begins.begins })
-keeps_change s n config host peer before text said Closes k is =
-    subst (λ x. Keeps x config host peer (exchange (Command text) said (Some Closes) ∷ before)) (sym is)
+keeps_change s n config host peer before text said TakesLeave k is =
+    subst (λ x. Keeps x config host peer (exchange (Command text) said (Some TakesLeave) ∷ before)) (sym is)
     (record { host_is = k.host_is; kept_is = k.kept_is; sender_is = k.sender_is; eight_is = k.eight_is; rows_is = k.rows_is; count_is = k.count_is; message_is = k.message_is })
 keeps_change s n config host peer before text said (Gives message) k is =
     subst (λ x. Keeps x config host peer (exchange (Command text) said (Some (Gives message)) ∷ before)) (sym is)
     (record { host_is = k.host_is; kept_is = k.kept_is; sender_is = k.sender_is; eight_is = k.eight_is; rows_is = k.rows_is; count_is = k.count_is; message_is = k.message_is })
-keeps_change s n config host peer before text said Takes k is =
-    subst (λ x. Keeps x config host peer (exchange (Command text) said (Some Takes) ∷ before)) (sym is)
+keeps_change s n config host peer before text said StaysSilent k is =
+    subst (λ x. Keeps x config host peer (exchange (Command text) said (Some StaysSilent) ∷ before)) (sym is)
     (record { host_is = k.host_is; kept_is = k.kept_is; sender_is = k.sender_is; eight_is = k.eight_is; rows_is = k.rows_is; count_is = k.count_is; message_is = k.message_is })
 
 -- what an answer hangs on is what a session keeps
@@ -162,7 +162,7 @@ goes_data seen Test s n config host peer before text did k did_is adds = record 
   said = Unasked;
   is_said = refl;
   did_is = did_is;
-  keeps = subst (λ x. Keeps x config host peer (exchange (DataLine text) Unasked (Some Takes) ∷ before)) (sym adds.same)
+  keeps = subst (λ x. Keeps x config host peer (exchange (DataLine text) Unasked (Some StaysSilent) ∷ before)) (sym adds.same)
       (record {
         host_is = k.host_is;
         kept_is = k.kept_is;

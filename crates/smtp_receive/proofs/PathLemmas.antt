@@ -6,11 +6,11 @@ use Rattle.std.proofs.lemmas.List.{get_or_push, length_push}
 use Rattle.std.proofs.lemmas.List.Elements.{All-nil, All-cons, All-head, All-tail, All-push, All-take, All-drop}
 use Rattle.mail_base.specs.Texts.{is_blank, IsLine, IsBracketed, without_blanks}
 use Rattle.mail_base.specs.declared.command.Verb.{Verb}
-use Rattle.mail_base.specs.declared.command.Verb.TheVariants.{Helo, Ehlo, Mail, Rcpt}
+use Rattle.mail_base.specs.declared.command.Verb.TheVariants.{Helo as HeloVerb, Ehlo as EhloVerb, Mail as MailVerb, Rcpt as RcptVerb}
 use Rattle.mail_base.specs.declared.command.LineFault.{LineFault}
 use Rattle.smtp_lines.specs.Stream.{verb_of}
 use Rattle.smtp_lines.specs.Paths.{HasPath, IsWritten, in_angles, bare, has_route, is_colon, without_route}
-use Rattle.smtp_lines.specs.Commands.{Order, Greet, Extend, From, To, is_bad_byte, argument_of, Says as HasVerb, IsCommand, helo, ehlo, mail, rcpt, data_, rset, noop, quit, vrfy, expn, help, IsRead}
+use Rattle.smtp_lines.specs.Commands.{Order, Helo, Ehlo, Mail, Rcpt, is_bad_byte, argument_of, Says as HasVerb, IsCommand, helo, ehlo, mail, rcpt, data_, rset, noop, quit, vrfy, expn, help, IsRead}
 use Rattle.smtp_lines.specs.Reading.{order_of}
 use Rattle.smtp_lines.proofs.CommandLemmas.{order_read}
 use Rattle.smtp_receive.specs.Dialogue.{bracketed}
@@ -65,17 +65,17 @@ says_line text verb argument says = subst IsLine (sym says.argument_is) (argumen
 
 -- the text of an order is of one line
 abbrev pub OrderLine : Order → Type 0
-OrderLine (Greet argument) = IsLine argument
-OrderLine (Extend argument) = IsLine argument
-OrderLine (From path size eight) = IsLine path
-OrderLine (To path) = IsLine path
+OrderLine (Helo argument) = IsLine argument
+OrderLine (Ehlo argument) = IsLine argument
+OrderLine (Mail path size eight) = IsLine path
+OrderLine (Rcpt path) = IsLine path
 OrderLine _ = Unit {0}
 
 command_line : (text : List ℕ) (order : Order) → IsCommand text order → OrderLine order
-command_line text _ (helo argument says some) = says_line text Helo argument says
-command_line text _ (ehlo argument says some) = says_line text Ehlo argument says
-command_line text _ (mail argument path rest size eight says has short given) = path_line (codes "FROM:") argument path rest has (says_line text Mail argument says)
-command_line text _ (rcpt argument path says has short) = path_line (codes "TO:") argument path [] has (says_line text Rcpt argument says)
+command_line text _ (helo argument says some) = says_line text HeloVerb argument says
+command_line text _ (ehlo argument says some) = says_line text EhloVerb argument says
+command_line text _ (mail argument path rest size eight says has short given) = path_line (codes "FROM:") argument path rest has (says_line text MailVerb argument says)
+command_line text _ (rcpt argument path says has short) = path_line (codes "TO:") argument path [] has (says_line text RcptVerb argument says)
 command_line text _ (data_ says) = tt
 command_line text _ (rset says) = tt
 command_line text _ (noop argument says) = tt

@@ -7,7 +7,7 @@ use Rattle.mail_base.specs.Limits.{message_limit, recipient_limit, most_headers,
 use Rattle.mail_base.specs.declared.command.LineFault.{LineFault}
 use Rattle.mail_base.specs.declared.command.LineFault.TheVariants.{BadByte as HasBadByte, Unknown, ArgumentNeeded as LacksArgument, NoArgument as HasArgument, Syntax, PathTooLong as HasLongPath, Parameter}
 use Rattle.mail_base.specs.declared.command.Verb.{Verb}
-use Rattle.mail_base.specs.declared.command.Verb.TheVariants.{Helo, Ehlo, Mail, Rcpt, Data, Rset, Noop, Quit, Vrfy, Expn, Help}
+use Rattle.mail_base.specs.declared.command.Verb.TheVariants.{Helo as HeloVerb, Ehlo as EhloVerb, Mail as MailVerb, Rcpt as RcptVerb, Data as DataVerb, Rset as RsetVerb, Noop as NoopVerb, Quit as QuitVerb, Vrfy as VrfyVerb, Expn as ExpnVerb, Help as HelpVerb}
 use Rattle.mail_base.specs.declared.config.Config.{Config}
 use Rattle.mail_base.specs.declared.draw.Draw.{Draw}
 use Rattle.mail_base.specs.declared.message.Kept.{Kept}
@@ -15,7 +15,7 @@ use Rattle.mail_base.specs.declared.route.RouteError.{RouteError}
 use Rattle.mail_header.specs.Fields.{class_in, hops_of}
 use Rattle.mail_header.specs.Gatherings.{is_above}
 use Rattle.mail_header.specs.Lines.{headers_of, body_of, block_of, size_of}
-use Rattle.smtp_lines.specs.Commands.{Order, Greet, Extend, From, To, Begin, Reset, Wait, End, Verify, Expand, Explain}
+use Rattle.smtp_lines.specs.Commands.{Order, Helo, Ehlo, Mail, Rcpt, Data, Rset, Noop, Quit, Vrfy, Expn, Help}
 use Rattle.smtp_lines.specs.Reading.{is_nothing, order_of}
 use Rattle.smtp_lines.specs.declared.line.Line.{Line}
 use Rattle.smtp_lines.specs.declared.line.Line.TheVariants.{Command, TooLong, Data as DataLine, DataEnd}
@@ -45,19 +45,19 @@ quiet_fits q now said RecipientOk h = absurd (false≢true (sym h))
 quiet_fits q now said reply h = tt
 
 path_quiet : (verb : Verb) (given : Bool) (reply : Reply) → accepts reply ≡ false → accepts (path_reply verb given reply) ≡ false
-path_quiet Helo given reply h = h
-path_quiet Ehlo given reply h = h
-path_quiet Mail true reply h = refl
-path_quiet Mail false reply h = h
-path_quiet Rcpt true reply h = h
-path_quiet Rcpt false reply h = refl
-path_quiet Data given reply h = h
-path_quiet Rset given reply h = h
-path_quiet Noop given reply h = h
-path_quiet Quit given reply h = h
-path_quiet Vrfy given reply h = h
-path_quiet Expn given reply h = h
-path_quiet Help given reply h = h
+path_quiet HeloVerb given reply h = h
+path_quiet EhloVerb given reply h = h
+path_quiet MailVerb true reply h = refl
+path_quiet MailVerb false reply h = h
+path_quiet RcptVerb true reply h = h
+path_quiet RcptVerb false reply h = refl
+path_quiet DataVerb given reply h = h
+path_quiet RsetVerb given reply h = h
+path_quiet NoopVerb given reply h = h
+path_quiet QuitVerb given reply h = h
+path_quiet VrfyVerb given reply h = h
+path_quiet ExpnVerb given reply h = h
+path_quiet HelpVerb given reply h = h
 
 fault_quiet : (given : Bool) (fault : LineFault) → accepts (fault_reply given fault) ≡ false
 fault_quiet given HasBadByte = refl
@@ -120,21 +120,21 @@ some_count (suc n) h = omega arith
 
 command_fits : (config : Config) (now : Standing) (kept : Kept) (said : Said) (read : Result Order LineFault) → Fits (order_question config now kept (read_in read)) now said (command_answer config now said read)
 command_fits config now kept said (Err fault) = quiet_fits None now said (fault_reply (is_some now.sender) fault) (fault_quiet (is_some now.sender) fault)
-command_fits config now kept said (Ok (Greet argument)) = tt
-command_fits config now kept said (Ok (Extend argument)) = tt
-command_fits config now kept said (Ok (From path size eight)) =
+command_fits config now kept said (Ok (Helo argument)) = tt
+command_fits config now kept said (Ok (Ehlo argument)) = tt
+command_fits config now kept said (Ok (Mail path size eight)) =
     let fault : Option Reply = mail_fault (is_some now.sender) (message_limit config.options) size in
     mail_fits (mail_question fault path kept) now said fault config.options.operator_chars path (mail_quiet (is_some now.sender) (message_limit config.options) size)
-command_fits config now kept said (Ok (To path)) =
+command_fits config now kept said (Ok (Rcpt path)) =
     let limit : ℕ = recipient_limit config.options in
     rcpt_fits (rcpt_fault (is_some now.sender) limit now.count path) path now.sender kept now said (rcpt_quiet (is_some now.sender) limit now.count path) (rcpt_given (is_some now.sender) limit now.count path)
-command_fits config now kept said (Ok Begin) = cond_both (now.count == 0) (Says NeedRcpt) Grants (Fits None now said) (λ h. tt) (λ h. some_count now.count h)
-command_fits config now kept said (Ok Reset) = tt
-command_fits config now kept said (Ok Wait) = tt
-command_fits config now kept said (Ok End) = tt
-command_fits config now kept said (Ok Verify) = tt
-command_fits config now kept said (Ok Expand) = tt
-command_fits config now kept said (Ok Explain) = tt
+command_fits config now kept said (Ok Data) = cond_both (now.count == 0) (Says NeedRcpt) Grants (Fits None now said) (λ h. tt) (λ h. some_count now.count h)
+command_fits config now kept said (Ok Rset) = tt
+command_fits config now kept said (Ok Noop) = tt
+command_fits config now kept said (Ok Quit) = tt
+command_fits config now kept said (Ok Vrfy) = tt
+command_fits config now kept said (Ok Expn) = tt
+command_fits config now kept said (Ok Help) = tt
 
 message_fits : (q : Option Question) (now : Standing) (said : Said) (config : Config) (kept : Kept) (sender : List ℕ) (eight : Bool) (rows : List Draw) (lines : List (List ℕ))
     → Fits q now said (message_answer config kept sender eight rows lines)

@@ -9,7 +9,7 @@ use Rattle.mail_base.specs.declared.config.Config.{Config}
 use Rattle.mail_base.specs.declared.fault.JudgeFault.{JudgeFault}
 use Rattle.mail_base.specs.declared.fault.NoMemory.{NoMemory}
 use Rattle.mail_base.specs.declared.route.RouteError.{RouteError}
-use Rattle.smtp_lines.specs.Commands.{Order, Begin, From, To}
+use Rattle.smtp_lines.specs.Commands.{Order, Data, Mail, Rcpt}
 use Rattle.smtp_receive.specs.Dialogue.{Says, Grants, bracketed, data_answer, did_of, is_uncut, mail_answer, mail_fault, mail_question, rcpt_answer, rcpt_fault, rcpt_question, recipient_answer, sender_answer}
 use Rattle.smtp_receive.specs.Judging.{Answers, AsksRecipient, Question, Said, Unasked, OfSender, OfRecipient, IsSaid, drawn_in, refusal_in}
 use Rattle.smtp_receive.specs.Mails.{deed_of}
@@ -45,18 +45,18 @@ data_changes (Ok d) config s n order refused begins =
     positive (suc count) h = omega arith
 
 data_did : (done : Result Did NoMemory) (seen : Answerer) (Test : Question → Said → Type 0) (s n : Session) (config : Config)
-    → IfOk done (λ did. deed_of did ≡ did_of s.host (message_limit config.options) (data_answer s.count)) → IfOk done (λ _. Changes config s n (data_answer s.count) (Some Begin) Unasked)
-    → IfOk done (Does seen Test s n config (Ok Begin))
+    → IfOk done (λ did. deed_of did ≡ did_of s.host (message_limit config.options) (data_answer s.count)) → IfOk done (λ _. Changes config s n (data_answer s.count) (Some Data) Unasked)
+    → IfOk done (Does seen Test s n config (Ok Data))
 data_did (Err e) seen Test s n config did changes = tt
 data_did (Ok d) seen Test s n config did changes = record { said = Unasked; is_said = refl; did_is = did; changes = changes }
 
 -- a DATA that was answered
 pub data_does : (r : Result Did JudgeFault) (done : Result Did NoMemory) (seen : Answerer) (Test : Question → Said → Type 0) (s n : Session) (config : Config) (read : Result Order LineFault) → r ≡ judged done
-    → read ≡ Ok Begin → IfOk done (λ did. deed_of did ≡ did_of s.host (message_limit config.options) (data_answer s.count)) → IfOk done (λ _. s.count ≡ 0 → n ≡ s)
+    → read ≡ Ok Data → IfOk done (λ did. deed_of did ≡ did_of s.host (message_limit config.options) (data_answer s.count)) → IfOk done (λ _. s.count ≡ 0 → n ≡ s)
     → IfOk done (λ _. 0 < s.count → (limit : ℕ) → BeginsMessage limit s n) → IfOk r (Does seen Test s n config read)
 data_does r done seen Test s n config read is read_is did refused begins =
     subst (λ x. IfOk r (Does seen Test s n config x)) (sym read_is)
-    (ok_of (Does seen Test s n config (Ok Begin)) r done is (data_did done seen Test s n config did (data_changes done config s n (Some Begin) refused begins)))
+    (ok_of (Does seen Test s n config (Ok Data)) r done is (data_did done seen Test s n config did (data_changes done config s n (Some Data) refused begins)))
 
 -- ---- MAIL
 
@@ -66,14 +66,14 @@ pub mail_fault_is : (fault : Option Reply) (given : Bool) (limit : ℕ) (s : Ses
 mail_fault_is fault given limit s config size is given_is limit_is = sym (is ∙ ap (λ b. mail_fault b limit size) given_is ∙ ap (λ n. mail_fault (is_some s.sender) n size) limit_is)
 
 sender_changes : (config : Config) (s n : Session) (path : List ℕ) (size : Option ℕ) (eight : Bool) (refusal : Option RouteError) (uncut : Bool)
-    → n ≡ with_sender s (sender_answer refusal uncut) (bracketed path) eight → Changes config s n (sender_answer refusal uncut) (Some (From path size eight)) (OfSender refusal)
+    → n ≡ with_sender s (sender_answer refusal uncut) (bracketed path) eight → Changes config s n (sender_answer refusal uncut) (Some (Mail path size eight)) (OfSender refusal)
 sender_changes config s n path size eight (Some error) uncut new = new
 sender_changes config s n path size eight None true new = new
 sender_changes config s n path size eight None false new = new
 
 -- a MAIL that was put to it
 pub mail_checked : {E : Type 0} (r : Result Did E) (seen : Answerer) (Test : Question → Said → Type 0) (s n : Session) (config : Config) (path : List ℕ) (size : Option ℕ) (eight : Bool)
-    → mail_fault (is_some s.sender) (message_limit config.options) size ≡ None → IfOk r (ChecksSender seen Test s n config path eight) → IfOk r (Does seen Test s n config (Ok (From path size eight)))
+    → mail_fault (is_some s.sender) (message_limit config.options) size ≡ None → IfOk r (ChecksSender seen Test s n config path eight) → IfOk r (Does seen Test s n config (Ok (Mail path size eight)))
 mail_checked (Err e) seen Test s n config path size eight fault checks = tt
 mail_checked (Ok d) seen Test s n config path size eight fault checks =
     let said : Said = OfSender checks.refusal in
@@ -81,7 +81,7 @@ mail_checked (Ok d) seen Test s n config path size eight fault checks =
       said = said;
       is_said = subst (λ f. IsSaid seen Test (mail_question f path s.kept) said) (sym fault) checks.answers;
       did_is = checks.did_is ∙ ap (λ f. did_of s.host (message_limit config.options) (mail_answer f config.options.operator_chars path said)) (sym fault);
-      changes = subst (λ f. Changes config s n (mail_answer f config.options.operator_chars path said) (Some (From path size eight)) said) (sym fault)
+      changes = subst (λ f. Changes config s n (mail_answer f config.options.operator_chars path said) (Some (Mail path size eight)) said) (sym fault)
           (sender_changes config s n path size eight checks.refusal (is_uncut config.options.operator_chars path) checks.new_is);
     }
 
@@ -113,7 +113,7 @@ recipient_said seen Test s path verdict None is given answers = absurd (false≢
 recipient_said seen Test s path verdict (Some sender) is given answers = answers sender is
 
 recipient_changes : (config : Config) (s n : Session) (path : List ℕ) (said : Said) (refusal : Option RouteError) (full : Bool)
-    → n ≡ after s (recipient_answer refusal full) None said → Changes config s n (recipient_answer refusal full) (Some (To path)) said
+    → n ≡ after s (recipient_answer refusal full) None said → Changes config s n (recipient_answer refusal full) (Some (Rcpt path)) said
 recipient_changes config s n path said (Some error) full new = new
 recipient_changes config s n path said None true new = new
 recipient_changes config s n path said None false new = new
@@ -121,7 +121,7 @@ recipient_changes config s n path said None false new = new
 -- an RCPT that was put to it
 pub rcpt_checked : {E : Type 0} (r : Result Did E) (seen : Answerer) (Test : Question → Said → Type 0) (s n : Session) (config : Config) (path : List ℕ)
     → rcpt_fault (is_some s.sender) (recipient_limit config.options) s.count path ≡ None → IfOk r (ChecksRecipient seen Test s n (message_limit config.options) path)
-    → IfOk r (Does seen Test s n config (Ok (To path)))
+    → IfOk r (Does seen Test s n config (Ok (Rcpt path)))
 rcpt_checked (Err e) seen Test s n config path fault checks = tt
 rcpt_checked (Ok d) seen Test s n config path fault checks =
     let said : Said = OfRecipient checks.verdict in
@@ -129,6 +129,6 @@ rcpt_checked (Ok d) seen Test s n config path fault checks =
       said = said;
       is_said = subst (λ f. IsSaid seen Test (rcpt_question f path s.sender s.kept) said) (sym fault) (recipient_said seen Test s path checks.verdict s.sender refl (rcpt_given (is_some s.sender) (recipient_limit config.options) s.count path fault) checks.answers);
       did_is = checks.did_is ∙ ap (λ f. did_of s.host (message_limit config.options) (rcpt_answer f (length s.rows) said)) (sym fault);
-      changes = subst (λ f. Changes config s n (rcpt_answer f (length s.rows) said) (Some (To path)) said) (sym fault)
+      changes = subst (λ f. Changes config s n (rcpt_answer f (length s.rows) said) (Some (Rcpt path)) said) (sym fault)
           (recipient_changes config s n path said (refusal_in said) (nat_lt most_rows (length s.rows + length (drawn_in said))) checks.new_is);
     }

@@ -7,12 +7,12 @@ use Rattle.mail_base.specs.declared.command.LineFault.{LineFault}
 use Rattle.mail_base.specs.declared.config.Config.{Config}
 use Rattle.mail_base.specs.declared.draw.Draw.{Draw}
 use Rattle.mail_base.specs.declared.message.Kept.{Kept}
-use Rattle.smtp_receive.specs.Mails.{Mail}
+use Rattle.smtp_receive.specs.Mails.{Mail as Mails}
 use Rattle.mail_base.specs.declared.route.RouteError.{RouteError}
-use Rattle.smtp_lines.specs.Commands.{Order, Greet, Extend, From, To, Begin, Reset, Wait, End, Verify, Expand, Explain}
+use Rattle.smtp_lines.specs.Commands.{Order, Helo, Ehlo, Mail, Rcpt, Data, Rset, Noop, Quit, Vrfy, Expn, Help}
 use Rattle.smtp_lines.specs.Reading.{order_of}
 use Rattle.smtp_lines.specs.declared.line.Line.{Line}
-use Rattle.smtp_lines.specs.declared.line.Line.TheVariants.{Command, TooLong, Data, DataEnd}
+use Rattle.smtp_lines.specs.declared.line.Line.TheVariants.{Command, TooLong, Data as DataLine, DataEnd}
 use Rattle.smtp_receive.specs.Dialogue.{Answer, Says, Grants, Exchange, Gives, Standing, answer_to, command_answer, eight_in, end_answer, is_dropped, is_uncut, kept_in, lines_in, mail_answer, mail_fault, rcpt_answer, rcpt_fault, recipient_answer, rows_in, sender_answer, sender_in, standing_in}
 use Rattle.smtp_receive.specs.Judging.{Said, drawn_in, refusal_in}
 use Rattle.smtp_receive.specs.declared.reply.Reply.{Reply}
@@ -43,35 +43,35 @@ rcpt_none None rows said = recipient_none (refusal_in said) (nat_lt most_rows (r
 
 command_none : (config : Config) (now : Standing) (said : Said) (read : Result Order LineFault) → GivesNone (command_answer config now said read)
 command_none config now said (Err fault) = tt
-command_none config now said (Ok (Greet argument)) = tt
-command_none config now said (Ok (Extend argument)) = tt
-command_none config now said (Ok (From path size eight)) = mail_none (mail_fault (is_some now.sender) (message_limit config.options) size) config.options.operator_chars path said
-command_none config now said (Ok (To path)) = rcpt_none (rcpt_fault (is_some now.sender) (recipient_limit config.options) now.count path) (length now.rows) said
-command_none config now said (Ok Begin) = cond_both (now.count == 0) (Says NeedRcpt) Grants GivesNone (λ h. tt) (λ h. tt)
-command_none config now said (Ok Reset) = tt
-command_none config now said (Ok Wait) = tt
-command_none config now said (Ok End) = tt
-command_none config now said (Ok Verify) = tt
-command_none config now said (Ok Expand) = tt
-command_none config now said (Ok Explain) = tt
+command_none config now said (Ok (Helo argument)) = tt
+command_none config now said (Ok (Ehlo argument)) = tt
+command_none config now said (Ok (Mail path size eight)) = mail_none (mail_fault (is_some now.sender) (message_limit config.options) size) config.options.operator_chars path said
+command_none config now said (Ok (Rcpt path)) = rcpt_none (rcpt_fault (is_some now.sender) (recipient_limit config.options) now.count path) (length now.rows) said
+command_none config now said (Ok Data) = cond_both (now.count == 0) (Says NeedRcpt) Grants GivesNone (λ h. tt) (λ h. tt)
+command_none config now said (Ok Rset) = tt
+command_none config now said (Ok Noop) = tt
+command_none config now said (Ok Quit) = tt
+command_none config now said (Ok Vrfy) = tt
+command_none config now said (Ok Expn) = tt
+command_none config now said (Ok Help) = tt
 
 -- a message is given at the line that ends the data
-pub gift_at_end : (config : Config) (peer : List ℕ) (before : List Exchange) (said : Said) (line : Line) (message : Mail) → answer_to config peer before said line ≡ Gives message → line ≡ DataEnd
+pub gift_at_end : (config : Config) (peer : List ℕ) (before : List Exchange) (said : Said) (line : Line) (message : Mails) → answer_to config peer before said line ≡ Gives message → line ≡ DataEnd
 gift_at_end config peer before said (Command text) message e = absurd (subst GivesNone e (command_none config (standing_in before) said (order_of text)))
 gift_at_end config peer before said TooLong message e = absurd (cc e)
-gift_at_end config peer before said (Data text) message e = absurd (cc e)
+gift_at_end config peer before said (DataLine text) message e = absurd (cc e)
 gift_at_end config peer before said DataEnd message e = refl
 
 -- what gives a message is kept of its lines
-end_kept : (config : Config) (kept : Kept) (sender : Option (List ℕ)) (eight : Bool) (rows : List Draw) (lines : Option (List (List ℕ))) (message : Mail)
+end_kept : (config : Config) (kept : Kept) (sender : Option (List ℕ)) (eight : Bool) (rows : List Draw) (lines : Option (List (List ℕ))) (message : Mails)
     → end_answer config kept sender eight rows lines ≡ Gives message → not (is_some lines) ≡ false
 end_kept config kept None eight rows lines message e = absurd (cc e)
 end_kept config kept (Some sender) eight rows None message e = absurd (cc e)
 end_kept config kept (Some sender) eight rows (Some lines) message e = refl
 
 -- a line that gives a message isn't dropped
-pub gift_kept : (config : Config) (peer : List ℕ) (before : List Exchange) (said : Said) (line : Line) (message : Mail) → answer_to config peer before said line ≡ Gives message → is_dropped before line ≡ false
+pub gift_kept : (config : Config) (peer : List ℕ) (before : List Exchange) (said : Said) (line : Line) (message : Mails) → answer_to config peer before said line ≡ Gives message → is_dropped before line ≡ false
 gift_kept config peer before said (Command text) message e = refl
 gift_kept config peer before said TooLong message e = refl
-gift_kept config peer before said (Data text) message e = absurd (cc e)
+gift_kept config peer before said (DataLine text) message e = absurd (cc e)
 gift_kept config peer before said DataEnd message e = end_kept config (kept_in peer before) (sender_in before) (eight_in before) (rows_in before) (lines_in before) message e

@@ -5,7 +5,7 @@ use Rattle.mail_base.specs.Limits.{most_headers, most_rows, message_limit, recip
 use Rattle.mail_base.specs.declared.command.LineFault.{LineFault}
 use Rattle.mail_base.specs.declared.command.LineFault.TheVariants.{BadByte as HasBadByte, Unknown, ArgumentNeeded as LacksArgument, NoArgument as HasArgument, Syntax, PathTooLong as HasLongPath, Parameter}
 use Rattle.mail_base.specs.declared.command.Verb.{Verb}
-use Rattle.mail_base.specs.declared.command.Verb.TheVariants.{Helo, Ehlo, Mail, Rcpt, Data, Rset, Noop, Quit, Vrfy, Expn, Help}
+use Rattle.mail_base.specs.declared.command.Verb.TheVariants.{Helo as HeloVerb, Ehlo as EhloVerb, Mail as MailVerb, Rcpt as RcptVerb, Data as DataVerb, Rset as RsetVerb, Noop as NoopVerb, Quit as QuitVerb, Vrfy as VrfyVerb, Expn as ExpnVerb, Help as HelpVerb}
 use Rattle.mail_base.specs.declared.config.Config.{Config}
 use Rattle.mail_base.specs.declared.draw.Draw.{Draw}
 use Rattle.mail_base.specs.declared.message.Kept.{Kept}
@@ -15,7 +15,7 @@ use Rattle.addr_tokens.specs.Reader.{cut}
 use Rattle.mail_header.specs.Fields.{class_in, hops_of}
 use Rattle.mail_header.specs.Gatherings.{is_above}
 use Rattle.mail_header.specs.Lines.{headers_of, body_of, block_of, size_of}
-use Rattle.smtp_lines.specs.Commands.{Order, Greet, Extend, From, To, Begin, Reset, Wait, End, Verify, Expand, Explain}
+use Rattle.smtp_lines.specs.Commands.{Order, Helo, Ehlo, Mail, Rcpt, Data, Rset, Noop, Quit, Vrfy, Expn, Help}
 use Rattle.smtp_lines.specs.Reading.{is_nothing, order_of}
 use Rattle.smtp_lines.specs.declared.line.Line.{Line}
 use Rattle.smtp_lines.specs.declared.line.Line.TheVariants.{Command, TooLong, Data as DataLine, DataEnd}
@@ -35,9 +35,9 @@ pub data Answer : Type 0 where
   Greets : Answer
   Extends : Answer
   Grants : Answer
-  Closes : Answer
+  TakesLeave : Answer
   Gives : Mails → Answer
-  Takes : Answer
+  StaysSilent : Answer
 
 -- a line, what the judge said of it, and its answer; none where 452 4.3.1 Out of memory came in its
 -- place
@@ -110,16 +110,16 @@ listed None = []
 listed (Some x) = x ∷ []
 
 abbrev pub path_in : Option Order → Option (List ℕ)
-path_in (Some (From path size eight)) = Some (bracketed path)
+path_in (Some (Mail path size eight)) = Some (bracketed path)
 path_in _ = None
 
 abbrev pub is_eight : Option Order → Bool
-is_eight (Some (From path size eight)) = eight
+is_eight (Some (Mail path size eight)) = eight
 is_eight _ = false
 
 abbrev pub argument_in : Option Order → Option (List ℕ)
-argument_in (Some (Greet argument)) = Some argument
-argument_in (Some (Extend argument)) = Some argument
+argument_in (Some (Helo argument)) = Some argument
+argument_in (Some (Ehlo argument)) = Some argument
 argument_in _ = None
 
 abbrev pub sender_by : Option Answer → Option Order → Option (List ℕ)
@@ -195,8 +195,8 @@ is_dropped before DataEnd = not (is_some (lines_in before))
 
 -- the protocol that a greeting begins
 abbrev pub protocol_of : Option Order → Option (List ℕ)
-protocol_of (Some (Greet argument)) = Some (codes "SMTP")
-protocol_of (Some (Extend argument)) = Some (codes "ESMTP")
+protocol_of (Some (Helo argument)) = Some (codes "SMTP")
+protocol_of (Some (Ehlo argument)) = Some (codes "ESMTP")
 protocol_of _ = None
 
 abbrev pub protocol_by : Option Answer → Option Order → Option (List ℕ)
@@ -239,17 +239,17 @@ rcpt_reply false reply = NeedMail
 
 -- the reply to a path out of the grammar or the limits
 abbrev pub path_reply : Verb → Bool → Reply → Reply
-path_reply Mail given reply = mail_reply given reply
-path_reply Rcpt given reply = rcpt_reply given reply
-path_reply Helo given reply = reply
-path_reply Ehlo given reply = reply
-path_reply Data given reply = reply
-path_reply Rset given reply = reply
-path_reply Noop given reply = reply
-path_reply Quit given reply = reply
-path_reply Vrfy given reply = reply
-path_reply Expn given reply = reply
-path_reply Help given reply = reply
+path_reply MailVerb given reply = mail_reply given reply
+path_reply RcptVerb given reply = rcpt_reply given reply
+path_reply HeloVerb given reply = reply
+path_reply EhloVerb given reply = reply
+path_reply DataVerb given reply = reply
+path_reply RsetVerb given reply = reply
+path_reply NoopVerb given reply = reply
+path_reply QuitVerb given reply = reply
+path_reply VrfyVerb given reply = reply
+path_reply ExpnVerb given reply = reply
+path_reply HelpVerb given reply = reply
 
 -- the reply to a command that has a fault
 abbrev pub fault_reply : Bool → LineFault → Reply
@@ -315,21 +315,21 @@ pub record Standing : Type 0 where
 
 -- the answer to a command without a fault
 abbrev pub order_answer : Config → Standing → Said → Order → Answer
-order_answer config now said (Greet argument) = Greets
-order_answer config now said (Extend argument) = Extends
-order_answer config now said (From path size eight) =
+order_answer config now said (Helo argument) = Greets
+order_answer config now said (Ehlo argument) = Extends
+order_answer config now said (Mail path size eight) =
     mail_answer (mail_fault (is_some now.sender) (message_limit config.options) size)
     config.options.operator_chars path said
-order_answer config now said (To path) =
+order_answer config now said (Rcpt path) =
     rcpt_answer (rcpt_fault (is_some now.sender) (recipient_limit config.options) now.count path)
     (length now.rows) said
-order_answer config now said Begin = data_answer now.count
-order_answer config now said Reset = Says ResetState
-order_answer config now said Wait = Says Okay
-order_answer config now said End = Closes
-order_answer config now said Verify = Says CannotVerify
-order_answer config now said Expand = Says NotAvailable
-order_answer config now said Explain = Says SeeStandard
+order_answer config now said Data = data_answer now.count
+order_answer config now said Rset = Says ResetState
+order_answer config now said Noop = Says Okay
+order_answer config now said Quit = TakesLeave
+order_answer config now said Vrfy = Says CannotVerify
+order_answer config now said Expn = Says NotAvailable
+order_answer config now said Help = Says SeeStandard
 
 -- the answer to a command, or to a line that has a fault
 abbrev pub command_answer : Config → Standing → Said → Result Order LineFault → Answer
@@ -348,9 +348,9 @@ rcpt_question None path (Some sender) kept = Some (AsksRecipient (bracketed path
 
 -- what the judge is asked at a command
 abbrev pub order_question : Config → Standing → Kept → Option Order → Option Question
-order_question config now kept (Some (From path size eight)) =
+order_question config now kept (Some (Mail path size eight)) =
     mail_question (mail_fault (is_some now.sender) (message_limit config.options) size) path kept
-order_question config now kept (Some (To path)) =
+order_question config now kept (Some (Rcpt path)) =
     rcpt_question
     (rcpt_fault (is_some now.sender) (recipient_limit config.options) now.count path)
     path now.sender kept
@@ -385,7 +385,7 @@ abbrev pub end_answer : Config → Kept → Option (List ℕ) → Bool → List 
     → Option (List (List ℕ)) → Answer
 end_answer config kept (Some sender) eight rows (Some lines) =
     message_answer config kept sender eight rows lines
-end_answer config kept _ eight rows _ = Takes
+end_answer config kept _ eight rows _ = StaysSilent
 
 -- ---- the dialogue
 
@@ -403,7 +403,7 @@ abbrev pub answer_to : Config → List ℕ → List Exchange → Said → Line �
 answer_to config peer before said (Command text) =
     command_answer config (standing_in before) said (order_of text)
 answer_to config peer before said TooLong = Says LineTooLong
-answer_to config peer before said (DataLine text) = Takes
+answer_to config peer before said (DataLine text) = StaysSilent
 answer_to config peer before said DataEnd =
     end_answer config (kept_in peer before) (sender_in before) (eight_in before) (rows_in before)
     (lines_in before)
@@ -440,9 +440,9 @@ did_of host limit (Refuses error) = Replied (refusal_text error)
 did_of host limit Greets = Replied (hello_text host)
 did_of host limit Extends = Replied (extended_text host limit)
 did_of host limit Grants = Granted grant_text
-did_of host limit Closes = Parted (closing_text host)
+did_of host limit TakesLeave = Parted (closing_text host)
 did_of host limit (Gives mail) = Received mail
-did_of host limit Takes = Taken
+did_of host limit StaysSilent = Taken
 
 -- the reply to a line, if it gets one: 452 4.3.1 where there was no memory for its answer; to a
 -- message its 250, where it got an id
@@ -453,9 +453,9 @@ reply_by host limit (Some (Refuses error)) id = Some (refusal_text error)
 reply_by host limit (Some Greets) id = Some (hello_text host)
 reply_by host limit (Some Extends) id = Some (extended_text host limit)
 reply_by host limit (Some Grants) id = Some grant_text
-reply_by host limit (Some Closes) id = Some (closing_text host)
+reply_by host limit (Some TakesLeave) id = Some (closing_text host)
 reply_by host limit (Some (Gives message)) id = option_map stored_text id
-reply_by host limit (Some Takes) id = None
+reply_by host limit (Some StaysSilent) id = None
 
 -- the reply to what is given to a session behind some exchanges, if it gets one
 abbrev pub reply_heard : Config → List ℕ → List ℕ → List Exchange → Heard → Option (List ℕ)

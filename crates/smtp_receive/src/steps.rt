@@ -4,7 +4,7 @@ ghost use Rattle.mail_base.specs.Limits.{message_limit, most_headers, most_messa
 ghost use Rattle.mail_base.specs.Refusals.{IsRefusal};
 ghost use Rattle.mail_base.specs.Texts.{IsLine};
 ghost use Rattle.mail_base.specs.declared.draw.Draw.{Draw as Row};
-ghost use Rattle.smtp_lines.specs.Commands.{Extend, From, Greet, To};
+ghost use Rattle.smtp_lines.specs.Commands.{Ehlo, Mail, Helo, Rcpt};
 ghost use Rattle.smtp_lines.specs.Reading.{order_of};
 ghost use Rattle.smtp_receive.specs.Dialogue.{Exchange, asked, bracketed, data_answer, did_of, is_uncut, mail_fault, rcpt_fault, read_in, recipient_answer, sender_answer, with_text};
 ghost use Rattle.smtp_receive.specs.Judging.{Answers, AsksRecipient, AsksSender, IsFormedSaid, OfRecipient, OfSender, drawn_in, refusal_in};
@@ -158,7 +158,7 @@ impl Session {
     fn helo(&mut self, argument: &[u8]) -> Result<Did, NoMemory>
         ensures did { IfOk result (λ did. deed_of did ≡ Replied (hello_text self.old.host)) }
         ensures ok { IfOk result
-            (λ _. self.new ≡ greeted self.old (Some (Greet argument.now))) }
+            (λ _. self.new ≡ greeted self.old (Some (Helo argument.now))) }
         ensures err { OnErr result (self.new ≡ self.old) }
     {
         let reply = self.with_host(b"250 ", b" Hello")?;
@@ -170,7 +170,7 @@ impl Session {
         ensures did { IfOk result (λ did. deed_of did
             ≡ Replied (extended_text self.old.host (message_limit config.now.options))) }
         ensures ok { IfOk result
-            (λ _. self.new ≡ greeted self.old (Some (Extend argument.now))) }
+            (λ _. self.new ≡ greeted self.old (Some (Ehlo argument.now))) }
         ensures err { OnErr result (self.new ≡ self.old) }
     {
         let limit = config.options.message_limit();
@@ -223,10 +223,10 @@ impl Session {
     ) -> Result<Did, JudgeFault>
         requires { IsLine path.now }
         ensures does { IfOk result (Does (J.seen judge.old) (J.answers judge.old) self.old self.new
-            config.now (Ok (From path.now size eight))) }
-        ensures unasked { question_by config.now self.old (Some (From path.now size eight)) ≡ None
+            config.now (Ok (Mail path.now size eight))) }
+        ensures unasked { question_by config.now self.old (Some (Mail path.now size eight)) ≡ None
             → judge.new ≡ judge.old }
-        ensures quiet { question_by config.now self.old (Some (From path.now size eight)) ≡ None
+        ensures quiet { question_by config.now self.old (Some (Mail path.now size eight)) ≡ None
             → is_calm result ≡ true }
         ensures err { OnErr result (self.new ≡ self.old) }
         ensures uses { Uses (J.seen judge.old) (J.seen judge.new) (J.answers judge.old)
@@ -329,10 +329,10 @@ impl Session {
     ) -> Result<Did, JudgeFault>
         requires { IsLine path.now }
         ensures does { IfOk result (Does (J.seen judge.old) (J.answers judge.old) self.old self.new
-            config.now (Ok (To path.now))) }
-        ensures unasked { question_by config.now self.old (Some (To path.now)) ≡ None
+            config.now (Ok (Rcpt path.now))) }
+        ensures unasked { question_by config.now self.old (Some (Rcpt path.now)) ≡ None
             → judge.new ≡ judge.old }
-        ensures quiet { question_by config.now self.old (Some (To path.now)) ≡ None
+        ensures quiet { question_by config.now self.old (Some (Rcpt path.now)) ≡ None
             → is_calm result ≡ true }
         ensures err { OnErr result (self.new ≡ self.old) }
         ensures uses { Uses (J.seen judge.old) (J.seen judge.new) (J.answers judge.old)

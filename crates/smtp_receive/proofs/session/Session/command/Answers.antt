@@ -1,6 +1,6 @@
 use Rattle.std.proofs.Common.{sym}
 use Rattle.mail_base.specs.Limits.{message_limit}
-use Rattle.smtp_lines.specs.Commands.{From, To}
+use Rattle.smtp_lines.specs.Commands.{Mail, Rcpt}
 use Rattle.smtp_lines.specs.Reading.{order_of}
 use Rattle.smtp_receive.proofs.PathLemmas.{order_is_line}
 use Rattle.smtp_receive.proofs.StepLemmas.{data_does}
@@ -8,10 +8,10 @@ use Rattle.smtp_receive.proofs.session.Session.command.Goals as goal
 
 pub mail-requires : goal.mail-requires
 mail-requires g c =
-    order_is_line c.args.line.now (From c.in-Ok-Mail.path.now c.in-Ok-Mail.size c.in-Ok-Mail.eight) (sym (rw c.in-Ok-Mail.field-0-is at c.in-Ok-Mail.ensures))
+    order_is_line c.args.line.now (Mail c.in-Ok-Mail.path.now c.in-Ok-Mail.size c.in-Ok-Mail.eight) (sym (rw c.in-Ok-Mail.field-0-is at c.in-Ok-Mail.ensures))
 
 pub rcpt-requires : goal.rcpt-requires
-rcpt-requires g c = order_is_line c.args.line.now (To c.in-Ok-Rcpt.path.now) (sym (rw c.in-Ok-Rcpt.field-0-is at c.in-Ok-Rcpt.ensures))
+rcpt-requires g c = order_is_line c.args.line.now (Rcpt c.in-Ok-Rcpt.path.now) (sym (rw c.in-Ok-Rcpt.field-0-is at c.in-Ok-Rcpt.ensures))
 
 pub returns-in-Ok-Data-clause-does : goal.returns-in-Ok-Data-clause-does
 returns-in-Ok-Data-clause-does g c =
