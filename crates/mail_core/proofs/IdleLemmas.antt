@@ -45,7 +45,7 @@ module _ (j : JudgeSeen) (site : Site) where
       let same : now ≡ stepped site.config site.maps m.latest m.table seat.holder luck = λ i. stepped site.config site.maps (latest i) (table i) seat.holder luck in
       goes front seat others luck now up same meant refl refl refl
 
-  found_id : (s : Stored) (id : ℕ) (entries : List Stored) → find (λ (q : Stored). eqb q.id id) entries ≡ Some s → s.id ≡ id
+  pub found_id : (s : Stored) (id : ℕ) (entries : List Stored) → find (λ (q : Stored). eqb q.id id) entries ≡ Some s → s.id ≡ id
   found_id s id [] is = cc is
   found_id s id (x ∷ xs) is = by (eqb x.id id) refl is (found_id s id xs)
     where
@@ -53,7 +53,7 @@ module _ (j : JudgeSeen) (site : Site) where
       by true e is rest = let same : x ≡ s = cc is in ap (λ (q : Stored). q.id) (sym same) ∙ eqb-true x.id id e
       by false e is rest = rest is
 
-  routed_as : (m : State) (id : ℕ) (rows : List Routed) (luck : Luck) (s : Stored) → stored_at id m.table ≡ Some s → s.id ≡ id → IsClaimMeant j site m id rows luck → AreRouted site.config site.maps s.id s.control rows
+  pub routed_as : (m : State) (id : ℕ) (rows : List Routed) (luck : Luck) (s : Stored) → stored_at id m.table ≡ Some s → s.id ≡ id → IsClaimMeant j site m id rows luck → AreRouted site.config site.maps s.id s.control rows
   routed_as m id rows luck s is same meant =
       let one : meant.stored ≡ s = cc (sym meant.is ∙ is) in
       subst (λ q. AreRouted site.config site.maps q s.control rows) (sym same) (subst (λ (q : Stored). AreRouted site.config site.maps id q.control rows) one meant.routed)

@@ -14,6 +14,8 @@ pub mod WorkLemmas
 pub mod RunsLemmas
 pub mod LastLemmas
 pub mod LawLemmas
+pub mod TriedLemmas
+pub mod EndedLemmas
 pub mod QuietLemmas
 pub mod AnswerLemmas
 pub mod StreamLemmas

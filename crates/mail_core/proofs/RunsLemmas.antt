@@ -135,7 +135,7 @@ module _ (site : Site) (first : Table) where
 
   -- ---- a claim
 
-  found_stored : (id : ℕ) (entries : List Stored) (s : Stored) → find (λ (q : Stored). eqb q.id id) entries ≡ Some s → control_at id entries ≡ Some s.control
+  pub found_stored : (id : ℕ) (entries : List Stored) (s : Stored) → find (λ (q : Stored). eqb q.id id) entries ≡ Some s → control_at id entries ≡ Some s.control
   found_stored id [] s is = cc is
   found_stored id (x ∷ entries) s is = by (eqb x.id id) is (found_stored id entries s)
     where
@@ -295,7 +295,7 @@ module _ (site : Site) (first : Table) where
   }
 
   -- what is seen of a turn itself
-  came_works : (done : List Effect) (m : State) (origin : Origin) (event : Event) → IsCome site first done m.table m.seats → Works site first done (record { state = m; effects = came origin event })
+  pub came_works : (done : List Effect) (m : State) (origin : Origin) (event : Event) → IsCome site first done m.table m.seats → Works site first done (record { state = m; effects = came origin event })
   came_works done m (OfFloor reading) event come = record {
     fit = (tt, (tt, tt));
     good = (tt, (tt, tt));

@@ -21,6 +21,7 @@ pub mod Answering
 pub mod Seen
 pub mod Runs
 pub mod Keeping
+pub mod Tried
 pub mod Counting
 pub mod Causes
 pub mod Crews

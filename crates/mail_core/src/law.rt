@@ -28,9 +28,10 @@ ghost use Rattle.mail_core.specs.Keeping.{IsHolding};
 ghost use Rattle.mail_core.specs.Lasting.{IsSentAt, Lasts};
 ghost use Rattle.mail_core.specs.Guests.{Guest, guest_of, is_here};
 ghost use Rattle.mail_core.specs.Machine.{AreOpen, Choice, Opening, Replied, Turn, all_answered, at_moment, most_guests, run, turned};
-ghost use Rattle.mail_core.specs.Plans.{awaits};
+ghost use Rattle.mail_core.specs.Plans.{Once, awaits};
 ghost use Rattle.mail_core.specs.Sites.{Site};
-ghost use Rattle.mail_core.specs.States.{Seat, State, followed};
+ghost use Rattle.mail_core.specs.States.{By, Finished, Seat, State, followed};
+ghost use Rattle.mail_core.specs.Tried.{WasTried};
 ghost use Rattle.mail_core.specs.Told.{AreOfOthers, Converses, IsInTurn, NeverOpens, Welcomes, brought_of, opening_of, replies_of, said_to};
 
 use queue_table::rows_go_on;
@@ -265,6 +266,19 @@ pub fn every_change_is_of_one_who_holds()
         → (done : List Effect) (command : Command) (later : List Effect) (id : ℕ)
         → (run site m turns).effects ≡ done ++ Does (Asks command) ∷ later
         → changed_by command ≡ Some id → IsHolding done id }
+{}
+
+/// A run over the queue that is finished has passed over no row of its list: each entry on it was
+/// claimed and let go again, and in between it was recorded of each row that was still tried at the
+/// claim what came of it, of an attempt or, where none could be made, without one. So a list ends
+/// neither with an entry that nobody claimed nor with one that was given up half-way; where a
+/// command fails, ids or memory are wanting, or a step doesn't fit, the run is over and not finished.
+pub fn a_list_that_ends_was_tried()
+    ensures { (site : Site) (m : State) (turns : List Turn) (group : Option (List ℕ)) (id : ℕ)
+        → site.plan ≡ Once group → m.seats ≡ [] → m.over ≡ None
+        → IsRunMeant untold site m turns → IsSound m.table
+        → (run site m turns).state.over ≡ Some (By Finished) → Contains m.list id
+        → WasTried site m.table (run site m turns).effects id }
 {}
 
 /// What a waiting list finds among the entries of a store is what the machine claims of the table

@@ -21,10 +21,11 @@ mod speech;
 pub use act::Act;
 pub use bound_law::what_is_held_for_sessions_is_bounded;
 pub use law::{
-    a_session_is_sent_what_it_would_be_sent_alone, acknowledged_messages_are_in_the_table,
-    each_turn_is_answered_before_the_next, every_change_is_of_one_who_holds,
-    every_delivery_is_meant, every_end_is_recorded, every_start_is_meant, every_success_is_sent,
-    holders_are_apart, no_delivered_row_is_tried_again, one_session_more_is_turned_away,
+    a_list_that_ends_was_tried, a_session_is_sent_what_it_would_be_sent_alone,
+    acknowledged_messages_are_in_the_table, each_turn_is_answered_before_the_next,
+    every_change_is_of_one_who_holds, every_delivery_is_meant, every_end_is_recorded,
+    every_start_is_meant, every_success_is_sent, holders_are_apart,
+    no_delivered_row_is_tried_again, one_session_more_is_turned_away,
     open_sessions_are_sent_their_replies, opened_sessions_are_sent_their_replies,
     other_sessions_change_nothing, revisions_stay_low, rows_only_go_on,
     sessions_are_sent_their_replies, sessions_stay_few,
