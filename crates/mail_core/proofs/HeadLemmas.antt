@@ -42,7 +42,7 @@ module _ (j : JudgeSeen) (site : Site) (start : Start) (turns : List Turn) where
       let works = begins_works j site (beginning start) turns refl sound meant in
       ticked_fit start.first start.table (run site (beginning start) turns).effects works.fit
 
-  acked_over : IsRunMeant j site (beginning start) turns → AreAcked [] start.table (run_over site start turns).effects
+  pub acked_over : IsRunMeant j site (beginning start) turns → AreAcked [] start.table (run_over site start turns).effects
   acked_over meant =
       let tells = run_tells j site (beginning start) turns in
       ticked_acked start.first start.table [] (run site (beginning start) turns).effects (tells.acked meant [])

@@ -24,7 +24,7 @@ use Rattle.mail_core.specs.Plans.{OfFloor, OfRun, Once, Plan, Serve}
 use Rattle.mail_core.specs.Sites.{Site}
 use Rattle.mail_core.specs.States.{By, Cut, Finished, Seat}
 
-abbrev site : Plan → Site
+abbrev pub site : Plan → Site
 site plan = record {
   host = codes "mx.example";
   dirs = [];
@@ -34,7 +34,7 @@ site plan = record {
 }
 
 -- an entry of one row, which was never tried
-abbrev entry : Control → RowState → ℕ → Stored
+abbrev pub entry : Control → RowState → ℕ → Stored
 entry control state id = record {
   id = id;
   dir = codes "/q";
@@ -46,13 +46,13 @@ entry control state id = record {
   body = [];
 }
 
-abbrev table : Control → RowState → Table
+abbrev pub table : Control → RowState → Table
 table control state = record { entries = entry control state 7 ∷ []; next = 8 }
 
-abbrev rests : ℕ → Rattle.mail_core.specs.Idling.Idling → Turn
+abbrev pub rests : ℕ → Rattle.mail_core.specs.Idling.Idling → Turn
 rests reading choice = record { event = Rests; origin = OfFloor reading; choices = choice }
 
-abbrev refused : RouteError → List Routed
+abbrev pub refused : RouteError → List Routed
 refused error = record { place = 0; resolved = Refuses error } ∷ []
 
 -- an entry that is due is claimed, and its holder takes the first step
@@ -70,7 +70,7 @@ unfolding last_moment
 claim_full control error = refl
 
 -- a run over a queue of one entry, which is finished, ends with the turn that lets it go
-abbrev listed : Control → Start
+abbrev pub listed : Control → Start
 listed control = record { table = table control Sent; list = 7 ∷ []; first = Some 90 }
 
 list_ends : (control : Control)

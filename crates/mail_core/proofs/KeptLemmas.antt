@@ -33,7 +33,7 @@ among_all : {X : Type 0} (n : ℕ) (xs : List X) (x : X) → Contains (drop n xs
 among_all n xs x h = subst (λ q. Contains q x) (take-append-drop n xs) (Contains-append_right (take n xs) (drop n xs) x h)
 
 -- an entry that a command put in lasts along what is done behind it
-put_lasts : (table : Table) (done : List Effect) (command : Command) (rest : List Effect) (s : Stored) → IsSound table → AreFit table (done ++ Does (Asks command) ∷ rest) → Contains (put_by (table_after table done) command) s → Lasts (table_after table (done ++ Does (Asks command) ∷ rest)) s
+pub put_lasts : (table : Table) (done : List Effect) (command : Command) (rest : List Effect) (s : Stored) → IsSound table → AreFit table (done ++ Does (Asks command) ∷ rest) → Contains (put_by (table_after table done) command) s → Lasts (table_after table (done ++ Does (Asks command) ∷ rest)) s
 put_lasts table done command rest s sound fit among =
     let parts = fit_parts table done (Does (Asks command) ∷ rest) fit in
     let T : Table = table_after table done in

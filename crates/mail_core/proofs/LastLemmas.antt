@@ -133,12 +133,12 @@ sent_comes s x e (is_there _) = e
 sent_comes s x e (went_on _ between _ goes comes) = sent_comes between x (sent_goes s between e goes) comes
 
 -- the row at a place that was sent
-record IsSentRow (rows : List Row) (place : ℕ) : Type 0 where
-  row : Row
-  there : slice_get rows place ≡ Some row
-  sent : row.state ≡ Sent
+pub record IsSentRow (rows : List Row) (place : ℕ) : Type 0 where
+  pub row : Row
+  pub there : slice_get rows place ≡ Some row
+  pub sent : row.state ≡ Sent
 
-row_sent : (old new : List Row) (place : ℕ) (row : Row) → AllZip RowCame old new → slice_get old place ≡ Some row → row.state ≡ Sent → IsSentRow new place
+pub row_sent : (old new : List Row) (place : ℕ) (row : Row) → AllZip RowCame old new → slice_get old place ≡ Some row → row.state ≡ Sent → IsSentRow new place
 row_sent [] [] place row each there sent = absurd (none-some row there)
 row_sent [] (n ∷ new) place row each there sent = absurd each
 row_sent (o ∷ old) [] place row each there sent = absurd each

@@ -85,7 +85,7 @@ module _ (site : Site) (m : State) (turns : List Turn) where
 
   -- ---- rows that were sent
 
-  tried_at : (first : Table) (done : List Effect) (effect : Effect) (later : List Effect) (id place : ℕ) → IsSound (table_after first done) → IsGood site first done effect later → IsTryOfRow effect id place → IsSentAt (table_after first done) id place → ⊥
+  pub tried_at : (first : Table) (done : List Effect) (effect : Effect) (later : List Effect) (id place : ℕ) → IsSound (table_after first done) → IsGood site first done effect later → IsTryOfRow effect id place → IsSentAt (table_after first done) id place → ⊥
   tried_at first done (Does (Starts other places start launch)) later id place sound good try sent =
       let tries = good.tries in
       sent_untried (table_after first done) id place tries.control sound sent (ap (λ q. control_at q (table_after first done).entries) (sym try.0) ∙ tries.there) (All-contains (IsTried tries.control.rows) places place tries.tried try.1)
@@ -162,7 +162,7 @@ recorded_rows old (p ∷ ps) rows place among lt = ⊎_elim
     (λ (later : Contains ps place). let long = restated_long p Sent rows in recorded_rows old ps (restated p Sent rows) place later (omega (arith, lt, long)))
     (contains_cases p place ps among)
 
-record_sent : (config : Config) (moment : ℕ) (table : Table) (id : ℕ) (places : List ℕ) (place : ℕ) → IsSound table → CanDo table (record_of config moment id places (alike WasSent places)) → Contains places place
+pub record_sent : (config : Config) (moment : ℕ) (table : Table) (id : ℕ) (places : List ℕ) (place : ℕ) → IsSound table → CanDo table (record_of config moment id places (alike WasSent places)) → Contains places place
     → IsSentAt (after table (record_of config moment id places (alike WasSent places))) id place
 record_sent config moment table id places place sound can among =
     let s = can.has.entry in
@@ -227,7 +227,7 @@ result_row old (p ∷ ps) (x ∷ xs) rows (suc at) place one up there is lt =
     let long = restated_long p (state_after old x) rows in
     result_row old ps xs (restated p (state_after old x) rows) at place one up.1 there is (omega (arith, lt, long))
 
-result_sent : (config : Config) (moment : ℕ) (table : Table) (id : ℕ) (places : List ℕ) (results : List Result1) (at place : ℕ) → IsSound table → CanDo table (record_of config moment id places results) → AreAscending places
+pub result_sent : (config : Config) (moment : ℕ) (table : Table) (id : ℕ) (places : List ℕ) (results : List Result1) (at place : ℕ) → IsSound table → CanDo table (record_of config moment id places results) → AreAscending places
     → slice_get places at ≡ Some place → slice_get results at ≡ Some WasSent → IsSentAt (after table (record_of config moment id places results)) id place
 result_sent config moment table id places results at place sound can up there is =
     let s = can.has.entry in

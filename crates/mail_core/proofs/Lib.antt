@@ -33,7 +33,10 @@ pub mod SpentLemmas
 pub mod SentLemmas
 pub mod KeptLemmas
 pub mod HeadLemmas
+pub mod HistoryLemmas
+pub mod UntoldLemmas
 pub mod IdlingExamples
+pub mod HistoryExamples
 pub mod ExampleLemmas
 pub mod Examples
 pub mod ReplyExamples

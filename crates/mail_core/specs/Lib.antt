@@ -20,6 +20,7 @@ pub mod Attempts
 pub mod Answering
 pub mod Seen
 pub mod Runs
+pub mod Histories
 pub mod Keeping
 pub mod Tried
 pub mod Counting

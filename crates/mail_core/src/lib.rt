@@ -9,6 +9,7 @@ mod bound_law;
 mod caller;
 mod crew;
 mod fixed;
+mod history_law;
 mod intake;
 mod lanes;
 mod law;
@@ -20,6 +21,10 @@ mod speech;
 
 pub use act::Act;
 pub use bound_law::what_is_held_for_sessions_is_bounded;
+pub use history_law::{
+    a_history_ends_soundly, a_history_keeps_what_was_acknowledged, a_history_means_each_start,
+    a_history_moves_rows_on, a_history_repeats_no_delivery, a_run_is_past,
+};
 pub use law::{
     a_list_that_ends_was_tried, a_session_is_sent_what_it_would_be_sent_alone,
     acknowledged_messages_are_in_the_table, each_turn_is_answered_before_the_next,
