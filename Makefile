@@ -10,9 +10,11 @@ run:
 test:
 	bash .ci/run
 
-# Writes the statement of the top call, with the definitions that it cites, from the specs.
+# Writes the statement of the top call, with the definitions that it cites, from the specs, and
+# tells each name of docs/THEOREM.md that is gone from it.
 statement:
 	python3 tools/statement.py > docs/STATEMENT.md
+	python3 tools/theorem.py
 
 # Plays all scenes with the proved program.
 scenes: crates/scenes/out/scenes
