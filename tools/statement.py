@@ -14,7 +14,6 @@ import sys
 from collections import Counter, defaultdict
 from textwrap import dedent
 
-from links import anchor
 from specs import Definition, Meaning, Repository
 
 CALL = ("sendmail_run", "program", "sendmail")
@@ -65,6 +64,11 @@ std and of the kit are theirs, and have no heading.
 
 
 # ---- names
+
+
+def anchor(heading):
+    """The name by which a heading is linked."""
+    return re.sub(r"[^\w\- ]", "", heading.lower()).replace(" ", "-")
 
 
 def last(name):

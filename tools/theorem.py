@@ -15,7 +15,7 @@ from collections import defaultdict
 from dataclasses import dataclass, field
 from pathlib import Path
 
-from links import anchor
+from statement import anchor
 
 TOP = Path(__file__).resolve().parent.parent
 THEOREM = TOP / "docs/THEOREM.md"
