@@ -6,6 +6,8 @@ function that is there for its contract. `Repository.resolve` finds the one that
 names, fields and names of std aren't taken for definitions.
 """
 
+from __future__ import annotations
+
 import re
 from dataclasses import dataclass, field
 from functools import cache, cached_property
@@ -52,7 +54,7 @@ class Meaning:
     """What a name stands for: a definition, one of its constructors, or a name of std or the kit,
     which has no definition here. `told` is its own name."""
 
-    definition: "Definition | None"
+    definition: Definition | None
     constructor: str | None
     told: str
 
@@ -74,7 +76,7 @@ class Word:
 
 @dataclass(eq=False)
 class Definition:
-    source: "Source"
+    source: Source
     name: str
     kind: str  # in specs record, data or function; in code type, trait, constant or law
     comment: list
