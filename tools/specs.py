@@ -65,13 +65,11 @@ class Meaning:
 
 @dataclass(frozen=True)
 class Word:
-    """A piece of a text: where it is a name with a meaning, that, what stands behind it by dots,
-    and which names are bound there."""
+    """A piece of a text: where it is a name with a meaning, that, and what is behind it by dots."""
 
     text: str
     meaning: Meaning | None = None
     rest: str = ""
-    bound: frozenset = frozenset()
 
 
 @dataclass(eq=False)
@@ -104,6 +102,12 @@ class Definition:
     @cached_property
     def words(self):
         return list(Scope(self).words())
+
+    @cached_property
+    def bound(self):
+        """The names that are bound in it, or are its fields."""
+        scope = Scope(self)
+        return {name for unit in scope.units() for name in scope.bound(unit)}
 
     @cached_property
     def cited(self):
@@ -344,7 +348,7 @@ class Scope:
         for number, unit in enumerate(self.units()):
             if number:
                 yield Word("\n")
-            yield from self.cut(unit, frozenset(self.bound(unit)))
+            yield from self.cut(unit, self.bound(unit))
 
     def units(self):
         """The parts of the text in which a name is bound or isn't: of a function its signature and
@@ -404,7 +408,7 @@ class Scope:
             elif self.is_label(word, before.get(at, ""), behind.get(at, "")):
                 yield Word(word)
             else:
-                yield self.meant(word, bound)
+                yield self.meant(word)
 
     def is_label(self, word, before, behind):
         """A field that is declared or set, or the name of a clause, a function or a parameter."""
@@ -415,11 +419,11 @@ class Scope:
             return clause or before == "fn" or behind == ":" and before in ("pub", ",", "(")
         return behind == ":" and word in self.definition.fields
 
-    def meant(self, word, bound):
+    def meant(self, word):
         meaning, taken = self.source.meaning(word)
         if word in self.definition.constructors:
             meaning, taken = Meaning(self.definition, word, word), 1
         if meaning is None:
             return Word(word)
         pieces = re.split(r"(\.|::)", word)
-        return Word(word, meaning, "".join(pieces[2 * taken - 1:]), bound)
+        return Word(word, meaning, "".join(pieces[2 * taken - 1:]))

@@ -39,9 +39,9 @@ speak of. Behind these stand the definitions that they cite, by crate, from the 
 end the [index](#index).
 
 Above each definition are its comment and links to all that it cites. A name means one definition:
-where two have the same, the crate stands before it, and the file where that is needed. A
-constructor is found under its type, which stands before it where another type has it too. Names of
-std and of the kit are theirs, and have no heading.
+where two have the same, or something else is called so, as what is bound or is a field, the crate
+stands before it, and the file where that is needed. A constructor is found under its type, which so
+stands before it. Names of std and of the kit are theirs, and have no heading.
 
 | Sign | Means |
 |---|---|
@@ -76,10 +76,11 @@ def last(name):
 
 
 class Names:
-    """How definitions and constructors are written, so that each name is one's."""
+    """How definitions and constructors are written, so that each name is one's: taken are the names
+    that stand for something else, as those of std and all that are bound somewhere."""
 
-    def __init__(self, shown, foreign):
-        self.foreign = foreign
+    def __init__(self, shown, taken):
+        self.taken = taken
         self.tops = Counter(it.name for it in shown)
         self.in_crate = Counter((it.crate, it.name) for it in shown)
         self.constructors = Counter(name for it in shown for name in it.constructors)
@@ -96,19 +97,16 @@ class Names:
         return name, f"{name} ({kind})", f"{name} ({kind} of {definition.crate})"
 
     def name(self, definition):
-        if self.tops[definition.name] == 1 and definition.name not in self.foreign:
+        """With its crate where the name is another's too, and its file where that is needed."""
+        if self.tops[definition.name] == 1 and definition.name not in self.taken:
             return definition.name
-        return self.full(definition)
-
-    def full(self, definition):
-        """With its crate, and its file where that is needed."""
         if self.in_crate[definition.crate, definition.name] == 1:
             return f"{definition.crate}.{definition.name}"
         module = definition.source.module.removeprefix("declared.")
         return f"{definition.crate}.{module}.{definition.name}"
 
     def constructor(self, definition, name):
-        if self.constructors[name] == 1 and name not in self.foreign and not self.tops[name]:
+        if self.constructors[name] == 1 and name not in self.taken and not self.tops[name]:
             return name
         alone = self.in_types[definition.name, name] == 1
         return f"{definition.name if alone else self.name(definition)}.{name}"
@@ -192,8 +190,10 @@ class Page:
         self.laws = [law for crate in LAWS for law in laws_of(repository, crate)]
         self.below = reached(self.clauses, self.devices, self.laws)
         shown = self.devices + self.laws + self.below
-        said = {it.meaning for one in self.clauses + shown for it in one.words if it.meaning}
-        self.names = Names(shown, {it.told for it in said if it.is_foreign})
+        whole = self.clauses + shown
+        said = {it.meaning for one in whole for it in one.words if it.meaning}
+        bound = {name for one in whole for name in one.bound}
+        self.names = Names(shown, {it.told for it in said if it.is_foreign} | bound)
         self.near = defaultdict(list)
         for definition in shown:
             self.near[definition.crate, definition.name].append(definition)
@@ -283,8 +283,6 @@ class Page:
         if word.meaning is None:
             return word.text
         shown = self.names.of(word.meaning)
-        if shown in word.bound and not word.meaning.is_foreign:
-            shown = self.names.full(word.meaning.definition)
         if definition.kind in ("type", "constant"):
             shown = shown.replace(".", "::")
         return shown + word.rest
