@@ -25,6 +25,8 @@ mod queue_dirs;
 mod queue_tests;
 mod queue_view;
 mod standard;
+#[cfg(test)]
+mod standard_tests;
 mod stream;
 #[cfg(test)]
 mod tests;

@@ -1,5 +1,5 @@
--- The aliases and homes that session mode reads before its work: the alias files in their order,
--- and then the file of homes (Sendmail Installation and Operation Guide, "The Alias Database";
+-- The aliases and homes that a run which serves reads first: the alias files in their order, and
+-- then the file of homes (Sendmail Installation and Operation Guide, "The Alias Database";
 -- aliases(5); the file of homes, and that an alias file must be there, are own).
 use Rattle.std.specs.Prelude.{◌≡◌, ℕ, List, [], ◌∷◌, Option, Some, None, option_map, slice_get, unwrap_or, IfSome, Result, Ok, Err, codes, refl}
 use Rattle.std.specs.List.{filter_map, flat_map}
