@@ -1,6 +1,6 @@
 # What the README names: `make run` and `make test`.
 
-.PHONY: run scene scenes statement test
+.PHONY: pages run scene scenes statement test
 
 # Builds the proved program and answers one line of address test mode.
 run:
@@ -15,6 +15,11 @@ test:
 statement:
 	python3 tools/statement.py > docs/STATEMENT.md
 	python3 tools/theorem.py
+
+# Writes what scripts write of the other pages: DEFINITIONS, and the crates of ARCHITECTURE.
+pages:
+	python3 tools/definitions.py > docs/DEFINITIONS.md
+	python3 tools/architecture.py
 
 # Plays all scenes with the proved program.
 scenes: crates/scenes/out/scenes
