@@ -11,6 +11,7 @@ as a proof; what is left of the whole run's time (builds, programs, rt itself) i
 gate's own output goes to standard error.
 """
 
+import datetime
 import os
 import re
 import resource
@@ -110,8 +111,9 @@ def page(crates, clock, spent, said):
         [crate, *(f"{of[kind]:.0f}" for kind in KINDS)]
         for crate, of in sorted(crates.items(), key=lambda it: -sum(it[1].values()))
     ]
+    day = datetime.date.today().strftime("%-d %B %Y")
     return (
-        f"{machine()}; commit `{commit.stdout.strip()}`, {how}: `{said.splitlines()[-1]}`.\n\n"
+        f"{machine()}; {day}; commit `{commit.stdout.strip()}`, {how}: `{said.splitlines()[-1]}`.\n\n"
         + table(["Of the gate", "Processor minutes"], rows)
         + "\nProcessor seconds of each crate:\n\n"
         + table(["Crate", *KINDS], dearest)
