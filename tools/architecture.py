@@ -158,13 +158,19 @@ def table(of, all_of):
     return "".join(out)
 
 
-def main():
+def pages():
+    """The drawing, and the table."""
     all_of = crates()
     of = product(all_of)
-    DRAWING.write_text(drawing(of))
+    return drawing(of), table(of, all_of)
+
+
+def main():
+    drawn, rows_of = pages()
+    DRAWING.write_text(drawn)
     page = PAGE.read_text()
     front, back = page.split(MARKS[0])[0], page.split(MARKS[1])[1]
-    PAGE.write_text(f"{front}{MARKS[0]}{table(of, all_of)}{MARKS[1]}{back}")
+    PAGE.write_text(f"{front}{MARKS[0]}{rows_of}{MARKS[1]}{back}")
 
 
 if __name__ == "__main__":

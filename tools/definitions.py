@@ -94,7 +94,7 @@ def row(path, under):
     return f"- `{path.stem}`{star} {about}{behind}"
 
 
-def main():
+def page():
     of = product(crates())
     height = levels(of)
     under = cited()
@@ -104,8 +104,8 @@ def main():
         files = [it for it in files if it.stem not in ("Lib", "inner") and head(it)]
         if files:
             out += ["", f"## {name}", "", *(row(it, under) for it in files)]
-    sys.stdout.write("\n".join(out) + "\n")
+    return "\n".join(out) + "\n"
 
 
 if __name__ == "__main__":
-    main()
+    sys.stdout.write(page())

@@ -1,17 +1,21 @@
 #!/usr/bin/env python3
-"""Checks that the pages of this repository are true of it, as far as a script can tell.
+"""Checks the pages of this repository, as far as a script can.
 
     python3 tools/pages.py             ends with 1 if anything below is found
     python3 tools/pages.py --words     how many words each page has, and all together
 
 It prints a line for each link whose file or heading isn't there, for each path, file name and name
-in backquotes that isn't in the tree, and for each run of words that two pages have in common.
+in backquotes that isn't in the tree, for each run of words that two pages have in common, for each
+page that a script would write otherwise, and where all together or the README have grown too long.
 """
 
 import os
 import re
 import subprocess
 import sys
+
+import architecture
+import definitions
 
 TOP = os.path.dirname(os.path.dirname(os.path.abspath(__file__)))
 LINK = re.compile(r"\[[^\]]*\]\(([^)\s]+)\)")
@@ -27,8 +31,8 @@ OWN = re.compile(r"\w_\w|[a-z][A-Z]")
 # Pages that a script writes, of which each name is taken from the tree, and those of the past.
 WRITTEN = ("docs/STATEMENT.md", "docs/DEFINITIONS.md")
 PAST = ("CHANGELOG.md",)
-# Names of the toolchain and of the kit, and others that stand nowhere in the tree.
-ELSEWHERE = os.path.join(TOP, "tools/pages.txt")
+# What pages name that stands nowhere in the tree.
+ELSEWHERE = "tools/pages.txt"
 # So many words in a row are in no two pages, and so many are in all that one reads.
 RUN, MOST, README_LINES = 14, 45_000, 160
 COUNTED = re.compile(r"README\.md|CHANGELOG\.md|docs/(?:proving/)?[A-Z]+\.md")
@@ -48,12 +52,11 @@ def read(path):
 
 
 def known():
-    """All words of the tree but its pages', the paths of its files, and the names of these."""
-    words, files = set(), tracked(":!:*.md")
-    for path in files:
+    """All words of the tree but its pages', and the paths of its files."""
+    words = set()
+    for path in tracked(":!:*.md"):
         words.update(re.findall(r"\w+", read(path)), re.findall(r"\w+", path))
-    words.update(re.findall(r"\w+", read("tools/pages.txt")))
-    return words, tracked(".")
+    return words, [*tracked("."), *read(ELSEWHERE).split()]
 
 
 def anchor(heading):
@@ -85,6 +88,7 @@ def lost_name(quoted, words, files):
     if quoted.startswith(FOLDERS):
         return not os.path.exists(f"{TOP}/{quoted.split(':')[0]}")
     if FILE.fullmatch(quoted):
+        quoted = re.sub(r"^/etc/mail/", "", quoted)
         return not any(f"/{it}".endswith(f"/{quoted}") for it in files)
     if NAME.fullmatch(quoted) and OWN.search(quoted):
         return not all(it in words for it in re.split(r"::|\.", quoted))
@@ -123,6 +127,15 @@ def twice(pages):
                 yield f"{page}:{said[place][1]}: as {other}:{line}: {' '.join(run)}"
 
 
+def behind():
+    """Each page that a script writes and that it would write otherwise."""
+    if read("docs/DEFINITIONS.md") != definitions.page():
+        yield "docs/DEFINITIONS.md lags behind the specs: make pages"
+    drawn, table = architecture.pages()
+    if read("docs/architecture.svg") != drawn or table not in read("docs/ARCHITECTURE.md"):
+        yield "docs/ARCHITECTURE.md lags behind crates.txt: make pages"
+
+
 def counts():
     return {page: len(read(page).split()) for page in tracked("*.md") if COUNTED.fullmatch(page)}
 
@@ -138,6 +151,7 @@ def main():
     pages = [it for it in tracked("*.md") if it not in WRITTEN]
     found = [it for page in pages for it in lost(page, words, files)]
     found += twice([it for it in pages if COUNTED.fullmatch(it)])
+    found += behind()
     if sum(of.values()) > MOST:
         found.append(f"the pages have {sum(of.values())} words together, more than {MOST}")
     if read("README.md").count("\n") > README_LINES:
