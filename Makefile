@@ -16,10 +16,11 @@ statement:
 	python3 tools/statement.py > docs/STATEMENT.md
 	python3 tools/theorem.py
 
-# Writes what scripts write of the other pages: DEFINITIONS, and the crates of ARCHITECTURE.
+# Writes what scripts write of other pages: DEFINITIONS, the crates of ARCHITECTURE, maps of crates.
 pages:
 	python3 tools/definitions.py > docs/DEFINITIONS.md
 	python3 tools/architecture.py
+	python3 tools/maps.py
 
 # Plays all scenes with the proved program.
 scenes: crates/scenes/out/scenes

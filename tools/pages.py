@@ -16,6 +16,7 @@ import sys
 
 import architecture
 import definitions
+import maps
 
 TOP = os.path.dirname(os.path.dirname(os.path.abspath(__file__)))
 LINK = re.compile(r"\[[^\]]*\]\(([^)\s]+)\)")
@@ -134,6 +135,9 @@ def behind():
     drawn, table = architecture.pages()
     if read("docs/architecture.svg") != drawn or table not in read("docs/ARCHITECTURE.md"):
         yield "docs/ARCHITECTURE.md lags behind crates.txt: make pages"
+    for crate in maps.crates_with_maps():
+        if (crate / "README.md").read_text() != maps.readme(crate):
+            yield f"crates/{crate.name}/README.md lags behind its folder: make pages"
 
 
 def counts():
