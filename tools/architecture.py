@@ -150,7 +150,7 @@ def table(of, all_of):
     ]
     for name in sorted(of, key=lambda it: (-height[it], list(of).index(it))):
         tests = [it[6:] for it in all_of if it.startswith("tests_") and name in all_of[it]]
-        told = "all" if name == "mail_base" else ", ".join(tests)
+        told = {"mail_base": "all", "sendmail": "its own"}.get(name, ", ".join(tests))
         out.append(
             f"| {height[name]} | [{name}](../crates/{name}/README.md) | {', '.join(near[name])} "
             f"| {', '.join(of_kit[name])} | {told} |\n"
