@@ -145,12 +145,13 @@ def drawing(of):
 def table(of, all_of):
     height, near, of_kit = levels(of), reduced(of), kit()
     out = [
-        "| | Crate | Stands on, beside what these stand on | Of the kit | Called by tests |\n",
+        "| | Crate | Stands on, beside what these stand on | Of the kit | Called by `tests_..` |\n",
         "|---|---|---|---|---|\n",
     ]
     for name in sorted(of, key=lambda it: (-height[it], list(of).index(it))):
         tests = [it[6:] for it in all_of if it.startswith("tests_") and name in all_of[it]]
         told = {"mail_base": "all", "sendmail": "its own"}.get(name, ", ".join(tests))
+        told = told or "through those above"
         out.append(
             f"| {height[name]} | [{name}](../crates/{name}/README.md) | {', '.join(near[name])} "
             f"| {', '.join(of_kit[name])} | {told} |\n"
