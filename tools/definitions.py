@@ -26,13 +26,13 @@ SECTION = re.compile(r",? sections? (?=\d)")
 
 INTRODUCTION = """# Definitions
 
-`make pages` writes this page from the comments at the heads of the files in `specs/`: what each file
-of definitions is about, and behind the dash the standard from which it comes. *Guide* is the Sendmail
-Installation and Operation Guide. *Own*, and where no standard stands, is a choice of this program,
-whose reason is in [DECISIONS.md](DECISIONS.md), or a word that proofs alone need. The definitions
-themselves stand in [STATEMENT.md](STATEMENT.md), as far as the contract of the program cites them.
-A file that it doesn't cite has a star: other contracts and laws do. Those in `specs/inner/` aren't
-here, since only private contracts cite them.
+`make pages` writes this page from the comments at the heads of the files in `specs/`: what each
+file of definitions is about, and behind the dash the standard from which it comes. *Guide* is the
+Sendmail Installation and Operation Guide. *Own*, and where no standard stands, is a choice of this
+program, whose reason is in [DECISIONS.md](DECISIONS.md), or a word that proofs alone need. The
+definitions themselves stand in [STATEMENT.md](STATEMENT.md), as far as the contract of the program
+cites them. A file that it doesn't cite has a star: other contracts and laws do. Those in
+`specs/inner/` aren't here, since only private contracts cite them.
 
 Each definition is in terms of lists. Where it can be computed there is an `example` in its file, or
 in a file of examples in its crate's `proofs/`."""

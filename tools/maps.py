@@ -14,6 +14,7 @@ from crates import TOP
 MARKS = "<!-- files: begin -->\n", "<!-- files: end -->\n"
 HEAD = "## What is here\n\n"
 MOST, MANY = 130, 10
+ITEM = re.compile(r"(\s*)(pub(?:\(crate\))? )?(struct|enum|trait|fn|const|static) (\w+)")
 
 
 def items(text):
@@ -21,7 +22,7 @@ def items(text):
     block = []
     for line in text.splitlines():
         said = re.match(r"\s*///? ?(.*)", line)
-        item = re.match(r"(\s*)(pub(?:\(crate\))? )?(struct|enum|trait|fn|const|static) (\w+)", line)
+        item = ITEM.match(line)
         if said and not line.startswith("//!"):
             block.append(said[1])
         elif item and block:
