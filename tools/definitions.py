@@ -27,11 +27,11 @@ SECTION = re.compile(r",? sections? (?=\d)")
 INTRODUCTION = """# Definitions
 
 `make pages` writes this page from the comments at the heads of the files in `specs/`: what each
-file of definitions is about, and behind the dash the standard from which it comes. *Guide* is the
+file of definitions is about, and in parentheses the standard from which it comes. *Guide* is the
 Sendmail Installation and Operation Guide. *Own*, and where no standard stands, is a choice of this
-program, whose reason is in [DECISIONS.md](DECISIONS.md), or a word that proofs alone need. The
-definitions themselves stand in [STATEMENT.md](STATEMENT.md), as far as the contract of the program
-cites them. A file that it doesn't cite has a star: other contracts and laws do. Those in
+program, which the file names and [DECISIONS.md](DECISIONS.md) explains, or a word that proofs alone
+need. The definitions themselves stand in [STATEMENT.md](STATEMENT.md), as far as the contract of the
+program cites them. A file that it doesn't cite has a star: other contracts and laws do. Those in
 `specs/inner/` aren't here, since only private contracts cite them.
 
 Each definition is in terms of lists. Where it can be computed there is an `example` in its file, or
@@ -74,6 +74,13 @@ def first_sentence(text):
     return text
 
 
+def standards(said):
+    """The standards of a file; of what is chosen beside them only that there is something."""
+    parts = said.split("; ")
+    named = [it for it in parts if not re.search(r"\bown\b", it)]
+    return "; ".join([*named, "partly own"] if len(named) < len(parts) else named) if named else ""
+
+
 def parted(text):
     """What a file is about, and its standard, which may be empty."""
     text = GUIDE.sub("Guide", first_sentence(text))
@@ -82,16 +89,14 @@ def parted(text):
     for found in reversed(list(re.finditer(r" \(((?:[^()]|\([^()]*\))*)\)", text))):
         if STANDARD.search(found[1]):
             about = text[: found.start()] + text[found.end() :]
-            standard = re.sub(r"\b(is|are) (?:our|this program's) own\b", r"\1 own", found[1])
-            return about, re.sub(r"^(?:our|this program's) own$", "own", standard)
+            return about, standards(found[1])
     return text, ""
 
 
 def row(path, under):
     about, standard = parted(head(path))
     star = "" if path in under else "*"
-    behind = "" if standard in ("", "own") else f" — {standard}"
-    return f"- `{path.stem}`{star} {about}{behind}"
+    return f"- `{path.stem}`{star} {about}" + (f" ({standard})" if standard else "")
 
 
 def page():
