@@ -29,9 +29,10 @@ FILE = re.compile(r"[\w./-]+\.(?:rt|antt|scene|py|sh|md|cf)")
 NAME = re.compile(r"[A-Za-z_]\w*(?:(?:::|\.)[A-Za-z_]\w*)*")
 # A word that only a name has: with an underscore, or a capital behind a small letter.
 OWN = re.compile(r"\w_\w|[a-z][A-Z]")
-# Pages that a script writes, of which each name is taken from the tree, and those of the past.
+# Pages that a script writes, of which each name is taken from the tree, and those whose names are
+# of the past, or Sendmail's own.
 WRITTEN = ("docs/STATEMENT.md", "docs/DEFINITIONS.md")
-PAST = ("CHANGELOG.md",)
+OTHERS = ("CHANGELOG.md", "docs/MIGRATING.md")
 # What pages name that stands nowhere in the tree.
 ELSEWHERE = "tools/pages.txt"
 # So many words in a row are in no two pages, and so many are in all that one reads.
@@ -62,7 +63,7 @@ def known():
 
 def anchor(heading):
     """The name by which a heading is linked."""
-    text = re.sub(r"[`*_]|\[([^\]]*)\]\([^)]*\)", r"\1", heading).strip().lower()
+    text = re.sub(r"[`*]|\[([^\]]*)\]\([^)]*\)", r"\1", heading).strip().lower()
     return re.sub(r"[^\w\- ]", "", text).replace(" ", "-")
 
 
@@ -108,7 +109,7 @@ def prose(page):
 def lost(page, words, files):
     for number, line in prose(page):
         found = [it for it in LINK.findall(line) if lost_link(page, it)]
-        if page not in PAST:
+        if page not in OTHERS:
             found += [it for it in QUOTED.findall(line) if lost_name(it, words, files)]
         for it in found:
             yield f"{page}:{number}: {it} isn't there"
