@@ -32,7 +32,7 @@ OWN = re.compile(r"\w_\w|[a-z][A-Z]")
 # Pages that a script writes, of which each name is taken from the tree, and those whose names are
 # of the past, or Sendmail's own.
 WRITTEN = ("docs/STATEMENT.md", "docs/DEFINITIONS.md")
-OTHERS = ("CHANGELOG.md", "docs/MIGRATING.md")
+OTHERS = ("CHANGELOG.md", "crates/scenes/CASES.md", "docs/MIGRATING.md")
 # What pages name that stands nowhere in the tree.
 ELSEWHERE = "tools/pages.txt"
 # So many words in a row are in no two pages, and so many are in all that one reads.
