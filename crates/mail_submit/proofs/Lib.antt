@@ -1,0 +1,5 @@
+mod BufferLemmas
+mod ReadLemmas
+mod SubmitLemmas
+mod BehindLemmas
+mod Examples

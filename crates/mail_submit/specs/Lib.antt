@@ -1,0 +1,5 @@
+pub mod Examples
+pub mod Inputs
+pub mod Parts
+pub mod Submissions
+pub mod inner
