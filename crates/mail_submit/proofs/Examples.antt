@@ -23,7 +23,7 @@ split = record { headers = headers; body = codes "hello\r\n"; block = 56 }
 abbrev rest : List ℕ
 rest = codes "\r\nhello\r\n"
 
-head_or : ℕ → List ℕ → ℕ
+abbrev head_or : ℕ → List ℕ → ℕ
 head_or d [] = d
 head_or d (b ∷ bytes) = b
 
@@ -39,7 +39,7 @@ ends (b ∷ line) more is =
 are : AreHeaders headers
 are = one_header _ _ (unfolded _ refl) (one_header _ _ (unfolded _ refl) (one_header _ _ (unfolded _ refl) no_headers))
 
-split_is : IsSplit text split
+abbrev split_is : IsSplit text split
 split_is = record { rest = rest; whole = refl; are = are; ends = ends; body = behind_empty_line (codes "hello\r\n"); block = refl }
 
 recipients : sent.recipients ≡ recipients_of true headers

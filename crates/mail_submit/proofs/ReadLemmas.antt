@@ -206,9 +206,9 @@ return_line line is =
     let some : 0 < length line = positive line byte in
     sym (take_all (length line - 1 + 1) line (omega arith)) ∙ take_more line (length line - 1) 0 (omega arith) ∙ ap (λ b. take (length line - 1) line ++ b ∷ []) byte
   where
-  positive : (l : List ℕ) → get_or l (length l - 1) 0 ≡ 13 → 0 < length l
-  positive [] e = absurd (omega (arith, e))
-  positive (b ∷ l) e = omega arith
+    positive : (l : List ℕ) → get_or l (length l - 1) 0 ≡ 13 → 0 < length l
+    positive [] e = absurd (omega (arith, e))
+    positive (b ∷ l) e = omega arith
 
 -- an LF behind a CR, and both behind another line
 pub return_end : (line : List ℕ) → (get_or line (length line - 1) 0 == 13) ≡ true → line ++ 10 ∷ [] ≡ strip_carriage_return line ++ (13 ∷ 10 ∷ [])

@@ -39,9 +39,9 @@ pub first_fits : (header bytes : List ℕ) (places items : List Span) (place : S
 first_fits header bytes places items place bytes_is items_is apart first =
     fits items (places_fit header bytes places items bytes_is items_is apart) first
   where
-  fits : (ps : List Span) → All (λ (p : Span). p.start + p.length ≤ length bytes) ps → Some place ≡ slice_get ps 0 → place.start + place.length ≤ length bytes
-  fits [] all is = absurd (none-some place (sym is))
-  fits (p ∷ ps) all is = subst (λ o. IfSome o (λ (q : Span). q.start + q.length ≤ length bytes)) (sym is) (All-head (λ (q : Span). q.start + q.length ≤ length bytes) p ps all)
+    fits : (ps : List Span) → All (λ (p : Span). p.start + p.length ≤ length bytes) ps → Some place ≡ slice_get ps 0 → place.start + place.length ≤ length bytes
+    fits [] all is = absurd (none-some place (sym is))
+    fits (p ∷ ps) all is = subst (λ o. IfSome o (λ (q : Span). q.start + q.length ≤ length bytes)) (sym is) (All-head (λ (q : Span). q.start + q.length ≤ length bytes) p ps all)
 
 -- a header that names no recipient, and one that does
 pub names_none : (header : List ℕ) (list : List (List ℕ)) → is_addressed header ≡ false → list ≡ list ++ recipients_of_one header
@@ -78,8 +78,12 @@ length_here headers i d some = ap (λ hs. length (text_of hs)) (drop_more header
 
 without_less : (headers : List (List ℕ)) → length (text_of (without_bcc headers)) ≤ length (text_of headers)
 without_less headers =
-    omega (arith, length-flat_map with_end (without_bcc headers), length-flat_map with_end headers,
-    sum_by-filter_both is_bcc (λ h. not (is_bcc h)) (λ h. refl) (λ h. length (with_end h)) headers)
+    omega (
+      arith,
+      length-flat_map with_end (without_bcc headers),
+      length-flat_map with_end headers,
+      sum_by-filter_both is_bcc (λ h. not (is_bcc h)) (λ h. refl) (λ h. length (with_end h)) headers,
+    )
 
 -- what is sent is no larger than what came
 pub kept_less : (from_headers : Bool) (headers : List (List ℕ)) → length (text_of (kept_headers from_headers headers)) ≤ length (text_of headers)

@@ -141,10 +141,12 @@ impl Held {
 
     /// Makes what no LF ended a line.
     fn close(&mut self) -> Result<(), NoMemory>
-        ensures ok { OnOk result (self.new ≡ record self.old { buffer = record {
+        ensures ok { OnOk result (self.new ≡ record self.old {
+          buffer = record {
             text = self.old.buffer.text ++ with_end (strip_carriage_return self.old.buffer.line);
             line = [];
-        } }) }
+          };
+        }) }
         ensures behind { IsBehind self.old self.new }
         ensures ended { self.new.ended ≡ self.old.ended }
     {

@@ -30,11 +30,7 @@ pub fn submitted(text: &Text, from_headers: bool) -> Result<Submission, NoMemory
     })
 }
 
-fn recipients_of(
-    alloc: Global,
-    headers: &[Text],
-    from_headers: bool,
-) -> Result<Seq<Text>, NoMemory>
+fn recipients_of(alloc: Global, headers: &[Text], from_headers: bool) -> Result<Seq<Text>, NoMemory>
     ensures { IfOk result (λ texts. texts ≡ spec.recipients_of from_headers headers.now) }
 {
     if from_headers {
@@ -58,7 +54,13 @@ fn kept_headers(headers: Seq<Text>, from_headers: bool) -> Seq<Text>
 fn take_out_bcc(headers: &mut Vec<Text>)
     ensures { headers.new.items ≡ spec.without_bcc headers.old.items }
 {
-    headers.retain(|header| !is_bcc(header.bytes()));
+    headers.retain(|header| is_sent(header));
+}
+
+fn is_sent(header: &Text) -> bool
+    ensures { result ≡ not (spec.is_bcc header.now) }
+{
+    !is_bcc(header.bytes())
 }
 
 /// How many bytes headers have, each with CR LF.

@@ -77,7 +77,10 @@ fn is_within(alloc: Global, bytes: &[u8], most: u64) -> bool {
 fn sizes_are_counted(rt: HostRuntime) {
     for (at, row) in SIZES.iter().enumerate() {
         assert!(rt; is_within(rt.alloc(), row.0, row.1), "row {at}");
-        assert!(rt; row.1 == 0 || !is_within(rt.alloc(), row.0, row.1 - 1), "row {at} above");
+        assert!(rt;
+            row.1 == 0 || !is_within(rt.alloc(), row.0, row.1 - 1),
+            "row {at} above"
+        );
     }
 }
 
@@ -118,13 +121,21 @@ static ROWS: [(&[u8], bool, &[u8]); 9] = [
         true,
         b"cc: a,\r\n b (c), \"d\" <e@\r\n f>|{}a;b;e@ f; 30",
     ),
-    (b"To: us: a, b;\r\nBCC: c\r\n", true, b"To: us: a, b;|{}c; 15"),
+    (
+        b"To: us: a, b;\r\nBCC: c\r\n",
+        true,
+        b"To: us: a, b;|{}c; 15",
+    ),
     (
         b"From: Bob <bob@c>, x\r\nFrom: y\r\nResent-To: z\r\n\r\n",
         true,
         b"From: Bob <bob@c>, x|From: y|Resent-To: z|{}bob@c 47",
     ),
-    (b"From: a: b;\r\nFrom: y\r\n", true, b"From: a: b;|From: y|{} 22"),
+    (
+        b"From: a: b;\r\nFrom: y\r\n",
+        true,
+        b"From: a: b;|From: y|{} 22",
+    ),
     (b"\r\nTo: a\r\n", true, b"{To: a\r\n} 9"),
     (b"", true, b"{} 0"),
 ];

@@ -13,4 +13,4 @@ returns-clause-text c =
 pub returns-clause-whole : goal.returns-clause-whole
 returns-clause-whole c =
     let inside = c.self.inside in
-    c.len.ensures ∙ sym inside.bytes.ok.0 ∙ sym (whole_length inside.start inside.bytes.items) ∙ ap (λ (p : Parts). length (whole p)) c.self.view_is
+    c.len.ensures ∙ inside.bytes.ok.0 ∙ sym (whole_length inside.start inside.bytes.items) ∙ ap (λ (p : Parts). length (whole p)) c.self.view_is

@@ -1,4 +1,4 @@
-use Rattle.std.proofs.Common.{◌+◌, ◌-◌, length, drop, take, sym, subst, ◌∙◌, arith}
+use Rattle.std.proofs.Common.{◌+◌, ◌-◌, length, drop, take, sym, ap, subst, ◌∙◌, arith}
 use Rattle.std.specs.Prelude.{fold}
 use Rattle.std.proofs.lemmas.List.{length-drop, take_rest}
 use Rattle.mail_submit.specs.Inputs.{Stands, with_byte}
@@ -16,7 +16,7 @@ lines-preserved c =
     let taken = c.in_ok-taken.taken in
     let rest = take (length piece - place) (drop place piece) in
     record {
-      within = omega (arith, c.in_ok-taken.ensures.all, take_rest piece place, length-drop place piece);
+      within = omega (arith, c.in_ok-taken.ensures.all, ap length (take_rest piece place), length-drop place piece);
       stands = λ dot r s.
           subst (Stands c.take_line.new.self dot) (takes_more dot r piece rest place taken (take_rest piece place))
           (c.in_ok-taken.ensures.ok dot (fold (with_byte dot) r (take place piece)) (c.lines.invariant.stands dot r s));
