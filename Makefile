@@ -1,6 +1,6 @@
 # What the README names: `make run` and `make test`.
 
-.PHONY: pages run scene scenes statement test
+.PHONY: deb install pages run scene scenes statement test uninstall
 
 # Builds the proved program and answers one line of address test mode.
 run:
@@ -32,3 +32,13 @@ scene: crates/scenes/out/scenes
 
 crates/scenes/out/scenes: $(wildcard crates/*/src/*.rt)
 	cd crates/scenes && rt run < /dev/null > /dev/null
+
+# Installs the program that `make run` left, with its pages and units, below DESTDIR and PREFIX.
+install uninstall:
+	@DESTDIR='$(DESTDIR)' PREFIX='$(PREFIX)' HOST='$(HOST)' PROGRAM='$(PROGRAM)' SETUP='$(SETUP)' \
+	    sh packaging/install.sh $@
+
+# The Debian package, beside this folder.
+deb:
+	ln -sfn packaging/debian debian
+	dpkg-buildpackage -us -uc -b
