@@ -10,7 +10,7 @@ and of the line for inetd, at port 25 with /etc, /var/mail and /var/spool of the
 which wants root): clients send while the server is stopped and started again, and what was
 acknowledged must be in the boxes. `package` has dpkg-buildpackage make the Debian package, which is
 installed, tried, removed and purged over the files of this system, of which none is changed (by an
-overlay). What isn't there is skipped, and named. The script ends with status 1 at the first thing
+overlay). `minutes` types docs/TEN_MINUTES.md there. What isn't there is skipped, and named. The script ends with status 1 at the first thing
 that isn't so. Build the program first, by `make run`. This is no part of the gate.
 """
 
@@ -27,6 +27,7 @@ sys.path[:1] = [str(PLACE / name) for name in ("packaged", "served")]
 
 import checks  # noqa: E402
 import installing  # noqa: E402
+import minutes  # noqa: E402
 import package  # noqa: E402
 import running  # noqa: E402
 from sites import BUILT, Strange  # noqa: E402
@@ -40,6 +41,7 @@ PARTS = {
     "sockets": running.sockets,
     "inetd": running.by_inetd,
     "package": package.play,
+    "minutes": minutes.play,
 }
 
 
