@@ -41,7 +41,8 @@ def stored(entry, key):
 
 
 def read(entry, key):
-    return {f"{key} read": f'openat(AT_FDCWD</>, "{QUEUE}/df{entry}", O_RDONLY) = 6<{QUEUE}/df{entry}>'}
+    opened = f'openat(AT_FDCWD</>, "{QUEUE}/df{entry}", O_RDONLY)'
+    return {f"{key} read": f"{opened} = {made(f'df{entry}', 6)}"}
 
 
 def sample():
@@ -51,8 +52,8 @@ def sample():
         "accepted": f"accept4(4<socket:[20]>, NULL, NULL, SOCK_CLOEXEC) = {SESSION}",
     }
     lines |= stored(TWO, "part") | stored(ONE, "message")
-    final = f'sendto({SESSION}, "250 2.0.0 {ONE} Message accepted for delivery\\r\\n", 55, 0, NULL, 0)'
-    lines["final 250"] = f"{final} = 55"
+    final = f"250 2.0.0 {ONE} Message accepted for delivery\\r\\n"
+    lines["final 250"] = f'sendto({SESSION}, "{final}", 55, 0, NULL, 0) = 55'
     lines |= read(ONE, "message")
     lines["start"] = "clone3({flags=CLONE_VM|CLONE_VFORK, exit_signal=SIGCHLD}, 88) = 12"
     lines |= file_lines(f"tf{ONE}", "V1\\nv2\\ngmqueue\\n", "record control")
