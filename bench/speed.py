@@ -4,7 +4,7 @@
 Use: UNPACKED=FOLDER bench/speed.py [--messages N] [--rounds N] [--queue N] [--entries N,N]
 [--only WORD] [--write] [PROGRAM], as root. FOLDER has Debian's packages of both peers, of Dovecot
 and of what they stand on, unpacked (`dpkg-deb -x`); what isn't there is skipped. Each server is run
-by its own daemon, over a queue of its own in /var/tmp, with all of its syncs; none writes
+by its own daemon, over a queue of its own below /var/lib, with all of its syncs; none writes
 a log. Mail comes from Postfix's smtp-source. While receipt is measured none delivers: here the one
 runner is held by a program that doesn't end, Sendmail has DeliveryMode=queue, and Postfix has no
 queue manager. A queue is then delivered by a queue run (of Postfix, from the master's start) with
@@ -75,7 +75,8 @@ def taken(servers, rounds, measures, is_more_better):
     for _ in range(rounds):
         for server in servers:
             try:
-                found.setdefault(server.name, []).append(measures(server))
+                value = measures(server)
+                found.setdefault(server.name, []).append(value)
             except Strange as why:
                 print(f"left out: {why}", flush=True)
     best = max if is_more_better else min
@@ -185,7 +186,7 @@ def main():
     if not Path(words.program).exists() or not is_there(rows.SOURCE):
         print("skipped: no smtp-source, or no program, which `make run` builds")
         return 2
-    with tempfile.TemporaryDirectory(dir="/var/tmp") as folder, ExitStack() as ends:
+    with tempfile.TemporaryDirectory(dir="/var/lib") as folder, ExitStack() as ends:
         Path(folder).chmod(0o755)
         text = measured(words, Path(folder), ends)
     print(text)

@@ -12,6 +12,8 @@ from servers import below
 from sites import Strange
 
 SOURCE = "usr/sbin/smtp-source"
+# Seconds that one round may take.
+MOST = 600
 TICKS = os.sysconf("SC_CLK_TCK")
 
 
@@ -44,13 +46,13 @@ def send(server, to, messages, sessions, size, is_kept):
     words += ["-f", "bob@mx.example", "-t", to, f"127.0.0.1:{server.port}"]
     command = [str(Path(UNPACKED or "/", SOURCE)), *words]
     begun = time.monotonic()
-    ran = subprocess.run(
-        command,
-        env=dict(os.environ, LD_LIBRARY_PATH=":".join(paths)),
-        capture_output=True,
-        check=False,
-        timeout=1200,
-    )
+    libraries = dict(os.environ, LD_LIBRARY_PATH=":".join(paths))
+    try:
+        ran = subprocess.run(
+            command, env=libraries, capture_output=True, check=False, timeout=MOST
+        )
+    except subprocess.TimeoutExpired:
+        raise Strange(f"smtp-source to {server.name} takes more than {MOST} seconds") from None
     if ran.returncode:
         raise Strange(f"smtp-source to {server.name}: {ran.stderr.decode()[:200]}")
     return time.monotonic() - begun
