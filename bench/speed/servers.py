@@ -54,6 +54,7 @@ local_recipient_maps =
 transport_maps = inline:{{ {{mx.example=prog:}}, {{box.example=lmtp:unix:{1}}},
     {{peer.example=smtp:[127.0.0.1]:{2}}}, {{void.example=smtp:[127.0.0.1]:9}} }}
 disable_dns_lookups = yes
+in_flow_delay = 0s
 smtpd_peername_lookup = no
 smtpd_client_connection_count_limit = 0
 default_destination_concurrency_limit = {3}
