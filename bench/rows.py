@@ -81,7 +81,7 @@ class Kind:
 
 ONE = Kind("one host", "one.example", "eS\n", "row")
 EACH = Kind("a host each", "h{:05}.each.example", "eS\n", "start and record")
-LATER = Kind("a host each, deferred", "h{:05}.later.example", "eQ 450 4.0.0 later\n", "record")
+LATER = Kind("a host each, deferred", "h{:05}.later.example", "eQ later\n", "record")
 
 
 @dataclass(frozen=True)
