@@ -14,7 +14,7 @@ use Rattle.mail_core.specs.Sites.{Site}
 use Rattle.mail_core.specs.Guests.{Guest, grant_in, grants_of, with_line, line_in, lines_heard}
 use Rattle.mail_core.specs.Machine.{closes, Did, is_answered, limit_of, replies, says}
 use Rattle.mail_core.specs.Meant.{IsMadeAt}
-use Rattle.mail_core.specs.Messages.{Made}
+use Rattle.mail_made.specs.Messages.{Made}
 use Rattle.spool_store.specs.Entries.{Table}
 
 -- ---- what is told, and the machine's reply

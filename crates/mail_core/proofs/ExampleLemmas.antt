@@ -25,7 +25,8 @@ use Rattle.mail_core.specs.Guests.{Guest, grant_in, guest_of, is_passed, next_li
 use Rattle.mail_core.specs.Machine.{came, fits, Choice, Normal, OutOfMemory, Way, GoesOn, Leaves, Did, way_of, replies, by_choice, heard_line, id_by, is_answered, heard_where, answered, settled, settled_by, fresh_start, all_answered, Turn, at_moment, brought, moment_by, pieced, turned, run}
 use Rattle.mail_core.specs.States.{State, Step, cut, headed, still, followed}
 use Rattle.mail_core.specs.Beginning.{beginning, served}
-use Rattle.mail_core.specs.Messages.{Made, accept_of, is_spent, start}
+use Rattle.mail_made.specs.Messages.{Made, is_spent}
+use Rattle.mail_core.specs.Messages.{accept_of, start}
 use Rattle.mail_core.proofs.FollowLemmas.{run_more}
 use Rattle.mail_core.specs.Plans.{OfFloor, awaits}
 use Rattle.queue_run.specs.Deeds.{Asks}

@@ -23,7 +23,8 @@ use Rattle.mail_core.specs.States.{Finished, By, State, Step, followed}
 use Rattle.mail_core.specs.Machine.{id_by, Choice, Normal, OutOfMemory, Replied, GoesOn, Leaves, Turn, last_moment, moment_by, most_guests, run}
 use Rattle.mail_core.specs.Plans.{OfFloor, Serve}
 use Rattle.queue_run.specs.Deeds.{Asks}
-use Rattle.mail_core.specs.Messages.{accept_of, is_spent, last_id, start}
+use Rattle.mail_made.specs.Messages.{is_spent, last_id}
+use Rattle.mail_core.specs.Messages.{accept_of, start}
 use Rattle.mail_core.proofs.ExampleLemmas.{first_state, Comes, Talks, by_said, comes_said, heard_by, effects_by, in_one, all_left, answers_of, are_within, comes_more, comes_none, comes_short, grants_by, input, lacked, line_at, one, piece, piece_turn, plain, run_first, so_far, table_by, talks_last, talks_line, talks_within, way_by}
 
 abbrev site : Site

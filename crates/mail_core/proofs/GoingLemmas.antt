@@ -27,7 +27,8 @@ use Rattle.mail_core.specs.Causes.{HasCause, is_well}
 use Rattle.mail_core.specs.inner.Going.{LeadsTo, heard_chosen, begins_data, stays_open, way_after, is_onward}
 use Rattle.mail_core.specs.States.{Ending, Finished, SpoolFault, IdsSpent, FilesFault, NoMemory, Finish, By}
 use Rattle.mail_core.specs.Machine.{GoesOn, Leaves, Over, Did, way_of, does, says, closes, is_over, commits, accepts, heard_line, heard_where, Choice, Normal, OutOfMemory, Disconnects, SpoolFails, JudgeFails}
-use Rattle.mail_core.specs.Messages.{Made, accept_of, is_spent, last_id}
+use Rattle.mail_made.specs.Messages.{Made, is_spent, last_id}
+use Rattle.mail_core.specs.Messages.{accept_of}
 use Rattle.mail_core.proofs.RanLemmas.{AreOfFloor, IsEither, ran_join, ran_none, ran_floor, ran_done, ran_failed}
 use Rattle.mail_core.proofs.FollowLemmas.{table_more}
 

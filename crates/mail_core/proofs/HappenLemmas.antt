@@ -30,7 +30,7 @@ use Rattle.mail_core.specs.Holding.{can_claim, stored_at}
 use Rattle.mail_core.specs.Idling.{Carrying, Claiming, Idling, Quiet, Starving, Taken, carries, claimed, claims, ends_list, ending_by as run_ending, first_running, idle, quiet, stopped, stopped_by}
 use Rattle.mail_core.specs.Judges.{JudgeSeen}
 use Rattle.mail_core.specs.Machine.{AreOpen, at_moment}
-use Rattle.mail_core.specs.Messages.{last_id}
+use Rattle.mail_made.specs.Messages.{last_id}
 use Rattle.mail_core.specs.Plans.{OfFloor, OfRun, Origin, awaits, comes_from, reading_of}
 use Rattle.mail_core.specs.Resting.{IsCarryRead, IsRestRead, IsStopRead, IsTakenRead}
 use Rattle.mail_core.specs.Seen.{IsSparing, RanBy, beside, hands, seen}

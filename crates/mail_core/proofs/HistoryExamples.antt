@@ -1,5 +1,5 @@
 -- Histories, computed: of a queue of one entry.
-use Rattle.std.proofs.Common.{◌≡◌, ◌<◌, [], ◌∷◌, true, false, Some, None, refl, arith}
+use Rattle.std.proofs.Common.{◌≡◌, ◌<◌, inl, [], ◌∷◌, true, false, Some, None, refl, arith}
 use Rattle.std.proofs.lemmas.List.Elements.{All-cons, All-nil}
 use Rattle.mail_base.specs.Configs.{initial}
 use Rattle.mail_base.specs.declared.control.Control.{Control}
@@ -56,7 +56,7 @@ free control state = All-cons (λ (s : Stored). s.id < 8) (entry control state 7
 
 finished_past : (control : Control) → IsPast (finished control)
 unfolding last_moment
-finished_past control = record {
+finished_past control = inl (record {
   whole = refl;
   meant = (
     record {
@@ -69,11 +69,11 @@ finished_past control = record {
     tt,
   );
   free = free control Sent;
-}
+})
 
 -- each begins with what the one before left
 pub follows : (control : Control) → Chain (entry control Sent 7 ∷ []) (finished control ∷ idle control ∷ []) (table control Sent)
-follows control = (refl, (finished_past control, (refl, (record { whole = refl; meant = tt; free = free control Sent }, (refl, free control Sent)))))
+follows control = (refl, (finished_past control, (refl, (inl (record { whole = refl; meant = tt; free = free control Sent }), (refl, free control Sent)))))
 
 pub stops : (control : Control) (error : RouteError) → left_by (stopped control error) ≡ table control (Queued None)
 stops control error = (stop_leaves control error).1

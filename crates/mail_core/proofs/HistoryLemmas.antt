@@ -31,11 +31,12 @@ use Rattle.queue_table.proofs.SoundLemmas.{command_sound}
 use Rattle.queue_run.specs.Deeds.{Asks, Claims, Files, Frees, Launch, Polls, Starts, Talk, Talks}
 use Rattle.queue_run.specs.Results.{alike}
 use Rattle.queue_run.specs.Steps.{record_of}
-use Rattle.mail_core.specs.Acks.{AreAcked}
+use Rattle.mail_made.proofs.PartLemmas.{cuts_taken}
+use Rattle.mail_core.specs.Acks.{AreAcked, put_by}
 use Rattle.mail_core.specs.Attempts.{IsDelivery, IsEndRecorded, IsStart, IsTryOfRow, WereSent}
 use Rattle.mail_core.specs.Beginning.{Start, beginning, run_over, ticks}
 use Rattle.mail_core.specs.Effects.{Does, Effect, HangsUp, Sends, Takes, Ticks, commanded, table_after}
-use Rattle.mail_core.specs.Histories.{Chain, HasKept, HasRow, IsFree, IsPast, IsRowAt, IsUnrecorded, LeavesPast, Past, all_of, last_of, left_by}
+use Rattle.mail_core.specs.Histories.{Chain, HandsOver, HasKept, HasRow, IsFree, IsPast, IsRowAt, IsUnrecorded, LeavesPast, Past, all_of, hands_nothing, hands_one, last_of, left_by}
 use Rattle.mail_core.specs.Judges.{untold}
 use Rattle.mail_core.specs.Lasting.{Comes, IsSentAt, Lasts, RowCame, is_there, went_on}
 use Rattle.mail_core.specs.Machine.{Turn, run}
@@ -170,8 +171,22 @@ over_done site start turns meant sound =
       acked = acked_over untold site start turns meant;
     }
 
+-- what a run does that hands a message over
+handed_done : (site : Site) (table : Table) (effects : List Effect) → HandsOver site table effects → IsDone site table effects
+handed_done site table [] hands_nothing = record { fit = tt; good = tt; acked = tt }
+handed_done site table _ (hands_one moment message made taken) = record {
+  fit = (cuts_taken site.config site.maps moment message table.next made taken, tt);
+  good = (tt, tt);
+  acked = (tt, tt);
+}
+
 past_done : (p : Past) → IsPast p → IsSound p.start.table → IsDone p.site p.start.table (all_of p)
-past_done p is sound = subst (IsDone p.site p.start.table) is.whole (over_done p.site p.start p.turns is.meant sound)
+past_done p (inl is) sound = subst (IsDone p.site p.start.table) is.whole (over_done p.site p.start p.turns is.meant sound)
+past_done p (inr is) sound = handed_done p.site p.start.table (all_of p) is.hands
+
+past_free : (p : Past) → IsPast p → IsFree p.start.table
+past_free p (inl is) = is.free
+past_free p (inr is) = is.free
 
 -- ---- chains
 
@@ -188,7 +203,7 @@ record IsRunOf (p : Past) (later : List Past) (last : Table) : Type 0 where
 first_run : (entries : List Stored) (p : Past) (later : List Past) (last : Table) → AreSound entries → Chain entries (p ∷ later) last → IsRunOf p later last
 first_run entries p later last sound chain =
     let is = chain.1.0 in
-    let begins = sound_table p.start.table entries chain.0 is.free sound in
+    let begins = sound_table p.start.table entries chain.0 (past_free p is) sound in
     let done = past_done p is begins in
     let fit = fit_parts p.start.table p.done (last_of p.last) done.fit in
     record {
@@ -209,7 +224,7 @@ run_at entries (q ∷ before) p later last sound chain =
 
 -- up to a run a chain is one to the table of its beginning
 up_to : (entries : List Stored) (before : List Past) (p : Past) (later : List Past) (last : Table) → Chain entries (before ++ p ∷ later) last → Chain entries before p.start.table
-up_to entries [] p later last chain = (chain.0, chain.1.0.free)
+up_to entries [] p later last chain = (chain.0, past_free p chain.1.0)
 up_to entries (q ∷ before) p later last chain = (chain.0, (chain.1.0, up_to (left_by q).entries before p later last chain.1.1))
 
 pub chain_sound : (entries : List Stored) (runs : List Past) (last : Table) → AreSound entries → Chain entries runs last → IsSound last
@@ -237,6 +252,10 @@ module _ (p : Past) (later : List Past) (last : Table) (r : IsRunOf p later last
       let l = lasts_along command_goes T rest s (sound_after p.start.table done r.sound fit.0) fit.1 among in
       left_lasts s (subst (λ t. Lasts t s) (sym (ap (table_after p.start.table) whole ∙ table_more p.start.table done rest)) l)
 
+  -- what a command put in that was all that a run did
+  put_all : (command : Command) (s : Stored) → p.done ≡ Does (Asks command) ∷ [] → Contains (put_by p.start.table command) s → Lasts last s
+  put_all command s whole among = left_lasts s (subst (λ t. Lasts t s) (sym (ap (table_after p.start.table) whole)) (put_lasts p.start.table [] command [] s r.sound (subst (AreFit p.start.table) whole r.fit) among))
+
   -- a message that was acknowledged
   kept : (session id : ℕ) → IsId id → Contains p.done (Sends session (stored_text id) true) → HasKept p.start.table p.done last id
   kept session id within said =
@@ -261,6 +280,9 @@ module _ (before : List Past) (p : Past) (later : List Past) (last : Table) (cha
 
   pub kept_law : (session id : ℕ) → IsId id → Contains p.done (Sends session (stored_text id) true) → HasKept p.start.table p.done last id
   kept_law session id within said = kept p later last here session id within said
+
+  pub handed_over_law : (command : Command) (s : Stored) → p.done ≡ Does (Asks command) ∷ [] → Contains (put_by p.start.table command) s → Lasts last s
+  handed_over_law command s whole among = put_all p later last here command s whole among
 
   pub entries_law : (done rest : List Effect) (s : Stored) → p.done ≡ done ++ rest → Contains (table_after p.start.table done).entries s → Lasts last s
   entries_law done rest s whole among = since_lasts p later last here done rest s whole among
@@ -397,23 +419,25 @@ asks_so (Does (Starts id places start launch)) command is = cc is
 asks_so (Does (Polls id child poll)) command is = cc is
 asks_so (Does (Talks id places talk)) command is = cc is
 
-module _ (site : Site) (start : Start) (turns : List Turn) (meant : IsRunMeant untold site (beginning start) turns) (free : IsFree start.table) (told : Option FileMap) (files : FileMap) (is : told ≡ Some files) where
-  abbrev Whole : List Effect
-  Whole = (run_over site start turns).effects
+-- these effects are a past, wherever the last of them came to nothing
+abbrev ArePast : Site → Start → List Turn → List Effect → Type 0
+ArePast site start turns effects = (done : List Effect) (last : Option Command) → done ++ last_of last ≡ effects
+    → IsPast (record { site = site; start = start; turns = turns; done = done; last = last })
 
-  whole_past : StandsFor site.dirs (table_after start.table Whole) files → LeavesPast site start turns told
+module _ (site : Site) (start : Start) (turns : List Turn) (effects : List Effect) (past : ArePast site start turns effects) (told : Option FileMap) (files : FileMap) (is : told ≡ Some files) where
+  whole_past : StandsFor site.dirs (table_after start.table effects) files → LeavesPast site start turns told
   whole_past stands = record {
-    past = record { site = site; start = start; turns = turns; done = Whole; last = None };
+    past = record { site = site; start = start; turns = turns; done = effects; last = None };
     site_is = refl;
     start_is = refl;
     turns_are = refl;
-    is = record { whole = sym (append-nil Whole); meant = meant; free = free };
+    is = past effects None (append-nil effects);
     files = files;
     told_is = is;
     stands = stands;
   }
 
-  broken_past : LacksLast commanded site.dirs start.table Whole files → LeavesPast site start turns told
+  broken_past : LacksLast commanded site.dirs start.table effects files → LeavesPast site start turns told
   broken_past l =
       let now = table_after start.table l.done in
       let asks : l.last ≡ Does (Asks l.command) = asks_so l.last l.command l.asks in
@@ -423,7 +447,7 @@ module _ (site : Site) (start : Start) (turns : List Turn) (meant : IsRunMeant u
         site_is = refl;
         start_is = refl;
         turns_are = refl;
-        is = record { whole = l.whole ∙ ap (λ q. l.done ++ q ∷ []) asks; meant = meant; free = free };
+        is = past l.done (Some l.command) (sym (l.whole ∙ ap (λ q. l.done ++ q ∷ []) asks));
         files = files;
         told_is = is;
         stands = stands;
@@ -432,12 +456,18 @@ module _ (site : Site) (start : Start) (turns : List Turn) (meant : IsRunMeant u
       whole_past (subst (λ t. StandsFor site.dirs t files) (sym (ap (table_after start.table) l.whole ∙ table_last commanded start.table l.done l.last l.command l.asks)) stands))
       l.stands
 
-  leaves_past : (well : Bool) → Leaves commanded site.dirs start.table Whole well files → LeavesPast site start turns told
+  leaves_past : (well : Bool) → Leaves commanded site.dirs start.table effects well files → LeavesPast site start turns told
   leaves_past true stands = whole_past stands
-  leaves_past false left = ⊎_elim (λ (stands : StandsFor site.dirs (table_after start.table Whole) files). whole_past stands) (λ (l : LacksLast commanded site.dirs start.table Whole files). broken_past l) left
+  leaves_past false left = ⊎_elim (λ (stands : StandsFor site.dirs (table_after start.table effects) files). whole_past stands) (λ (l : LacksLast commanded site.dirs start.table effects files). broken_past l) left
 
 pub past_law : (site : Site) (start : Start) (turns : List Turn) (well : Bool) (told : Option FileMap) → IsRunMeant untold site (beginning start) turns → IsFree start.table → IsLeft site start.table (run_over site start turns).effects well told → LeavesPast site start turns told
-past_law site start turns well told meant free left = leaves_past site start turns meant free told left.files left.told_is well left.leaves
+past_law site start turns well told meant free left =
+    leaves_past site start turns (run_over site start turns).effects (λ done last whole. inl (record { whole = sym whole; meant = meant; free = free })) told left.files left.told_is well left.leaves
+
+-- so is what a run leaves that handed a message over
+pub handed_law : (site : Site) (start : Start) (effects : List Effect) (well : Bool) (told : Option FileMap) (files : FileMap) → HandsOver site start.table effects → IsFree start.table → told ≡ Some files → Leaves commanded site.dirs start.table effects well files → LeavesPast site start [] told
+handed_law site start effects well told files hands free is left =
+    leaves_past site start [] effects (λ done last whole. inr (record { unturned = refl; hands = subst (HandsOver site start.table) (sym whole) hands; free = free })) told files is well left
 
 -- the first free id that an opening finds is above those of each table for which the files stand
 pub free_law : (dirs : List (List ℕ)) (files : FileMap) (table : Table) (next : ℕ) → StandsFor dirs table files → IsNext dirs files next → All (λ (s : Stored). s.id < next) table.entries

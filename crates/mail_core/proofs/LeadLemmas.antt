@@ -36,9 +36,10 @@ use Rattle.mail_core.specs.States.{SpoolFault, IdsSpent, FilesFault, Finish, By,
 use Rattle.mail_core.proofs.WayLemmas.{goes_keeps}
 use Rattle.mail_core.specs.Judges.{JudgeSeen}
 use Rattle.mail_core.specs.Meant.{AreMeant, ArePieceMeant, IsMadeAt, IsMeant}
-use Rattle.mail_core.specs.Messages.{Made, accept_of, headed, is_spent, last_id}
+use Rattle.mail_made.specs.Messages.{Made, headed, is_spent, last_id}
+use Rattle.mail_core.specs.Messages.{accept_of}
 use Rattle.mail_core.specs.Acks.{AreAcked, HasMessage, IsAcked, latest_by, put_by}
-use Rattle.mail_core.proofs.PartLemmas.{cuts_taken}
+use Rattle.mail_made.proofs.PartLemmas.{cuts_taken}
 use Rattle.mail_core.proofs.FollowLemmas.{table_more}
 
 -- ---- what effects are

@@ -4,7 +4,6 @@ pub mod IdleLemmas
 pub mod ApartLemmas
 pub mod TurnedLemmas
 pub mod WayLemmas
-pub mod PartLemmas
 pub mod LeadLemmas
 pub mod TableLemmas
 pub mod EntryLemmas

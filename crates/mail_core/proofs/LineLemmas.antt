@@ -40,7 +40,7 @@ use Rattle.mail_core.specs.inner.Going.{IsMessageMeant, said_in, heard_chosen, i
 use Rattle.mail_core.specs.Guests.{grants_of, has_bytes_left, is_passed, with_line, lines_heard}
 use Rattle.mail_core.specs.Machine.{Choice, Normal, OutOfMemory, Disconnects, SpoolFails, JudgeFails, GoesOn, Did, answer_by, limit_of, question_here, is_over, says, closes, fails, replies, by_choice, heard_line, heard_where, id_by, is_answered, accepts, commits, fresh_start}
 use Rattle.mail_core.specs.States.{Cut, By, IdsSpent, SpoolFault}
-use Rattle.mail_core.specs.Messages.{is_spent}
+use Rattle.mail_made.specs.Messages.{is_spent}
 use Rattle.mail_core.specs.Standing.{Serves, Talks}
 use Rattle.mail_core.specs.inner.Handling.{IsReady}
 use Rattle.mail_core.proofs.AnswerLemmas.{IsReply, IsBye, IsSilent, answer_kept, lines_more, grants_more, unmade}

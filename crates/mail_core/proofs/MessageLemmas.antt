@@ -41,7 +41,8 @@ use Rattle.mail_core.specs.inner.Going.{LeadsTo, AnswersMessage, IsReset, is_onw
 use Rattle.mail_core.specs.States.{IdsSpent, By}
 use Rattle.mail_core.specs.Machine.{Normal, OutOfMemory, SpoolFails, GoesOn, Did, says, is_over, commits, accepts}
 use Rattle.mail_core.specs.Meant.{IsMadeAt}
-use Rattle.mail_core.specs.Messages.{IsTakenIn, Made, accept_of, headed, ids_for, is_spent, last_id}
+use Rattle.mail_made.specs.Messages.{IsTakenIn, Made, headed, ids_for, is_spent, last_id}
+use Rattle.mail_core.specs.Messages.{accept_of}
 use Rattle.mail_core.specs.Standing.{Serves, Stores}
 use Rattle.mail_core.proofs.SparingLemmas.{sparing_call}
 use Rattle.mail_core.proofs.GoingLemmas.{IsSpoken, does_says, does_spent, does_failed, does_accepts, accepts_guest, fails_guest}

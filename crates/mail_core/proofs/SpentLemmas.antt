@@ -39,7 +39,7 @@ use Rattle.queue_run.specs.Steps.{Begins, By as Halts, Closes, Dies, Ends, Exits
 use Rattle.mail_core.specs.Holding.{can_claim, stored_at, without_id}
 use Rattle.mail_core.specs.Idling.{Carrying, Claiming, Idling, Quiet, Starving, Taken, carries, claimed as claim_now, claims, ends_list, finish_of, first_running, idle, over_by, quiet, seat_for, steps, stopped, stopped_by}
 use Rattle.mail_core.specs.Judges.{JudgeSeen}
-use Rattle.mail_core.specs.Messages.{last_id}
+use Rattle.mail_made.specs.Messages.{last_id}
 use Rattle.mail_core.specs.Plans.{Once, Plan}
 use Rattle.mail_core.specs.Resting.{IsCarryMeant, IsClaimMeant, IsLuckMeant, IsRestMeant, IsStopMeant, IsTakenMeant, ground_at}
 use Rattle.mail_core.specs.Sites.{Site}

@@ -20,7 +20,8 @@ use Rattle.mail_core.specs.Guests.{Guest, is_passed, next_line, with_line}
 use Rattle.mail_core.specs.Machine.{all_answered, answer_by, answered, by_choice, Choice, closes, commits, Did, Disconnects, does, fails, fresh_start, GoesOn, heard_line, heard_where, id_by, is_answered, is_over, JudgeFails, Leaves, limit_of, Normal, OutOfMemory, Over, question_here, replies, says, settled_by, SpoolFails, Way}
 use Rattle.mail_core.specs.States.{By, Cut, FilesFault, Finish, IdsSpent, SpoolFault}
 use Rattle.mail_core.proofs.WayLemmas.{goes_keeps}
-use Rattle.mail_core.specs.Messages.{Made, accept_of, is_spent}
+use Rattle.mail_made.specs.Messages.{Made, is_spent}
+use Rattle.mail_core.specs.Messages.{accept_of}
 use Rattle.mail_core.specs.Told.{said_to, replies_of}
 
 same_number : (n : ℕ) → nat_eq n n ≡ true

@@ -47,7 +47,7 @@ use Rattle.mail_core.proofs.FollowLemmas.{table_more}
 use Rattle.mail_core.proofs.HeldLemmas.{AreGood, IsHeldBy, IsTrying, batches_more, held_more, idle_held, holding_more}
 use Rattle.mail_core.proofs.KindLemmas.{ArePeers, Facts, IsNext, IsTryOf, SendsBounce, SendsWarning, Ways, begun, buried, delivered, exited, finished, given_back, halted, let_go, lost, missed, outgrown, settled, waited, warned}
 use Rattle.mail_core.proofs.LeadLemmas.{AreFit}
-use Rattle.mail_core.proofs.PartLemmas.{cuts_of_rows}
+use Rattle.mail_made.proofs.PartLemmas.{cuts_of_rows}
 use Rattle.mail_core.specs.Keeping.{AreKeeping, IsHolding}
 
 -- ---- open entries

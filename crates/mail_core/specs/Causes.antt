@@ -10,7 +10,7 @@ use Rattle.mail_core.specs.declared.act.Act.{Act}
 use Rattle.mail_core.specs.declared.act.Act.TheVariants.{Went, Ended}
 use Rattle.mail_core.specs.declared.serving.CoreStop.{CoreStop}
 use Rattle.mail_core.specs.declared.serving.CoreStop.TheVariants as stops
-use Rattle.mail_core.specs.Messages.{last_id}
+use Rattle.mail_made.specs.Messages.{last_id}
 use Rattle.mail_core.specs.Seen.{Seen}
 use Rattle.mail_core.specs.States.{Ending, Finished, SpoolFault, IdsSpent, FilesFault, NoMemory, By, State}
 

@@ -1,12 +1,14 @@
 -- Histories of a queue: runs one after another, each over the entries that the one before it left
 -- (own).
-use Rattle.std.specs.Prelude.{◌≡◌, ℕ, ◌<◌, List, [], ◌∷◌, ◌++◌, Option, Some, None, All, Contains, slice_get}
+use Rattle.std.specs.Prelude.{◌≡◌, ◌⊎◌, ℕ, ◌<◌, List, [], ◌∷◌, ◌++◌, Option, Some, None, All, Contains, slice_get}
 use Rattle.mail_base.specs.declared.control.Row.{Row}
+use Rattle.mail_base.specs.declared.message.Message.{Message}
 use Rattle.spool_disk.specs.Disk.{FileMap}
 use Rattle.spool_store.specs.Entries.{Stored, Table}
 use Rattle.spool_store.specs.Settled.{StandsFor}
 use Rattle.queue_table.specs.Commands.{Command}
 use Rattle.queue_run.specs.Deeds.{Asks}
+use Rattle.mail_made.specs.Messages.{IsTakenIn, Made}
 use Rattle.mail_core.specs.Acks.{BeginsWith, put_by}
 use Rattle.mail_core.specs.Beginning.{Start, beginning, run_over}
 use Rattle.mail_core.specs.Effects.{Effect, Does, table_after}
@@ -14,6 +16,7 @@ use Rattle.mail_core.specs.Judges.{untold}
 use Rattle.mail_core.specs.Lasting.{Lasts, RowCame}
 use Rattle.mail_core.specs.Machine.{Turn}
 use Rattle.mail_core.specs.Meant.{IsRunMeant}
+use Rattle.mail_core.specs.Messages.{accept_of}
 use Rattle.mail_core.specs.Sites.{Site}
 
 -- ---- a run that is over
@@ -45,10 +48,28 @@ IsFree table = All (λ s. s.id < table.next) table.entries
 
 -- that is what the machine does at these turns, by choices that say what a judge may say and what
 -- the configuration does
-pub record IsPast (p : Past) : Type 0 where
+pub record IsRanPast (p : Past) : Type 0 where
   pub whole : (run_over p.site p.start p.turns).effects ≡ all_of p
   pub meant : IsRunMeant untold p.site (beginning p.start) p.turns
   pub free : IsFree p.start.table
+
+-- what a run asks that takes one message of a program over a table: nothing, or to take it in as
+-- what the configuration makes of it
+pub data HandsOver (site : Site) (table : Table) : List Effect → Type 0 where
+  hands_nothing : HandsOver site table []
+  hands_one : (moment : ℕ) (message : Message) (made : Made)
+      → IsTakenIn site.config site.maps moment message table.next made
+      → HandsOver site table (Does (Asks (accept_of site moment message made)) ∷ [])
+
+-- that is what such a run asked, without a turn of the machine
+pub record IsHandedPast (p : Past) : Type 0 where
+  pub unturned : p.turns ≡ []
+  pub hands : HandsOver p.site p.start.table (all_of p)
+  pub free : IsFree p.start.table
+
+-- it was a run of the machine, or one that handed a message over
+abbrev pub IsPast : Past → Type 0
+IsPast p = IsRanPast p ⊎ IsHandedPast p
 
 -- ---- runs one after another
 

@@ -21,7 +21,8 @@ use Rattle.queue_run.specs.Steps.{Luck}
 use Rattle.mail_core.specs.Effects.{Effect, Takes, Ticks, Sends, HangsUp, Does, speech}
 use Rattle.mail_core.specs.Guests.{Guest, newcomer, next_line, is_passed, has_bytes_left, with_bytes, with_line, guest_of, is_here, AreApart, without, with_guest}
 use Rattle.mail_core.specs.Idling.{Idling, ends_list, idle, stopped}
-use Rattle.mail_core.specs.Messages.{Made, accept_of, is_spent}
+use Rattle.mail_made.specs.Messages.{Made, is_spent}
+use Rattle.mail_core.specs.Messages.{accept_of}
 use Rattle.mail_core.specs.Plans.{Origin, OfFloor, OfRun, awaits, comes_from, reading_of}
 use Rattle.mail_core.specs.Sites.{Site}
 use Rattle.mail_core.specs.States.{By, Cut, FilesFault, Finish, IdsSpent, SpoolFault, State, Step, cut, followed, headed, still}

@@ -12,7 +12,7 @@ use Rattle.spool_store.specs.Entries.{Table}
 use Rattle.mail_core.specs.Guests.{Guest, guest_of, next_line, with_bytes}
 use Rattle.mail_core.specs.Judges.{JudgeSeen, Says}
 use Rattle.mail_core.specs.Machine.{Choice, Normal, OutOfMemory, Disconnects, SpoolFails, JudgeFails, Choices, Did, Turn, answer_by, answered, at_moment, fresh_start, question_here, turned}
-use Rattle.mail_core.specs.Messages.{IsTakenIn, Made, last_id}
+use Rattle.mail_made.specs.Messages.{IsTakenIn, Made, last_id}
 use Rattle.mail_core.specs.Plans.{reading_of}
 use Rattle.mail_core.specs.Resting.{IsRestMeant, IsRestRead, IsStopMeant, IsStopRead}
 use Rattle.mail_core.specs.Sites.{Site}

@@ -1,5 +1,4 @@
 pub mod Going
-pub mod Made
 pub mod Handling
 pub mod UnderWay
 pub mod Nexts

@@ -15,12 +15,15 @@ ghost use Rattle.spool_disk.specs.Disk.{FileMap};
 ghost use Rattle.spool_store.specs.Entries.{Stored, Table};
 ghost use Rattle.spool_store.specs.Openings.{IsNext};
 ghost use Rattle.spool_store.specs.Settled.{StandsFor};
+ghost use Rattle.queue_table.specs.Asked.{Leaves};
+ghost use Rattle.queue_table.specs.Commands.{Command};
 ghost use Rattle.queue_table.specs.Soundness.{IsSound};
-ghost use Rattle.queue_run.specs.Deeds.{Launch, Polls, Starts, Talk, Talks};
+ghost use Rattle.queue_run.specs.Deeds.{Asks, Launch, Polls, Starts, Talk, Talks};
+ghost use Rattle.mail_core.specs.Acks.{put_by};
 ghost use Rattle.mail_core.specs.Attempts.{IsDelivery, IsStart, IsTryOfRow, WereSent};
 ghost use Rattle.mail_core.specs.Beginning.{Start, beginning, run_over};
-ghost use Rattle.mail_core.specs.Effects.{Does, Effect, Sends, table_after};
-ghost use Rattle.mail_core.specs.Histories.{Chain, HasKept, HasRow, IsFree, IsRowAt, IsUnrecorded, LeavesPast, Past, all_of, left_by};
+ghost use Rattle.mail_core.specs.Effects.{Does, Effect, Sends, commanded, table_after};
+ghost use Rattle.mail_core.specs.Histories.{Chain, HandsOver, HasKept, HasRow, IsFree, IsRowAt, IsUnrecorded, LeavesPast, Past, all_of, left_by};
 ghost use Rattle.mail_core.specs.Judges.{untold};
 ghost use Rattle.mail_core.specs.Lasting.{IsSentAt, Lasts};
 ghost use Rattle.mail_core.specs.Machine.{Turn};
@@ -30,13 +33,18 @@ ghost use Rattle.mail_core.specs.Sites.{Site};
 
 /// What was acknowledged in any run is in the last table: where a run sent a final 250 before it
 /// ended, one of its commands put in a message whose first entry has the id that the 250 names, and
-/// of each entry of that message the last table has what became of it. So it has of each entry that
-/// was in the queue at any moment of any run.
+/// of each entry of that message the last table has what became of it. So it has of each entry of a
+/// message that a program handed over in a run that took it in, and of each entry that was in the
+/// queue at any moment of any run.
 pub fn a_history_keeps_what_was_acknowledged()
     ensures acknowledged { (before : List Past) (p : Past) (later : List Past) (last : Table)
         (session id : ℕ) → Chain [] (before ++ p ∷ later) last → IsId id
         → Contains p.done (Sends session (stored_text id) true)
         → HasKept p.start.table p.done last id }
+    ensures handed { (before : List Past) (p : Past) (later : List Past) (last : Table)
+        (command : Command) (s : Stored) → Chain [] (before ++ p ∷ later) last
+        → p.done ≡ Does (Asks command) ∷ [] → Contains (put_by p.start.table command) s
+        → Lasts last s }
     ensures entries { (before : List Past) (p : Past) (later : List Past) (last : Table)
         (done rest : List Effect) (s : Stored) → Chain [] (before ++ p ∷ later) last
         → p.done ≡ done ++ rest → Contains (table_after p.start.table done).entries s
@@ -112,12 +120,20 @@ pub fn a_history_ends_soundly()
 /// A stop of the machine at a call of the spool is no end of a run. What it leaves is what is left
 /// by the run over a spool of which this call fails, and each one after it: so the past that goes
 /// with an image of the files is that run's, and has what was done until the stop, and no more.
+///
+/// A run that takes one message of a program is a past too, whether it was refused, taken in, or
+/// lost in a fault of the spool.
 pub fn a_run_is_past()
     ensures past { (site : Site) (start : Start) (turns : List Turn) (well : Bool)
         (told : Option FileMap) → IsRunMeant untold site (beginning start) turns
         → IsFree start.table
         → IsLeft site start.table (run_over site start turns).effects well told
         → LeavesPast site start turns told }
+    ensures handed { (site : Site) (start : Start) (effects : List Effect) (well : Bool)
+        (told : Option FileMap) (files : FileMap) → HandsOver site start.table effects
+        → IsFree start.table → told ≡ Some files
+        → Leaves commanded site.dirs start.table effects well files
+        → LeavesPast site start [] told }
     ensures free { (dirs : List (List ℕ)) (files : FileMap) (table : Table) (next : ℕ)
         → StandsFor dirs table files → IsNext dirs files next
         → IsFree (record { entries = table.entries; next = next }) }

@@ -20,8 +20,8 @@ ghost use Rattle.mail_core.specs.Judges.{IsAsked, judging};
 ghost use Rattle.mail_core.specs.Guests.{Guest, lines_of, lines_heard};
 ghost use Rattle.mail_core.specs.Machine as machine;
 ghost use Rattle.mail_core.specs.Machine.{moment_by};
-ghost use Rattle.mail_core.specs.Messages.{headed};
-ghost use Rattle.mail_core.specs.inner.Made.{IsMade, LacksIds};
+ghost use Rattle.mail_made.specs.Messages.{headed};
+ghost use Rattle.mail_made.specs.Planned.{IsMade, LacksIds};
 ghost use Rattle.mail_base.specs.Drawing.{AreRows};
 ghost use Rattle.mail_base.specs.Texts.{IsHeader};
 ghost use Rattle.mail_base.specs.declared.message.Cut.{Cut as CutSeen};
@@ -31,12 +31,12 @@ ghost use Rattle.mail_core.specs.Standing.{Keeps, Serves, Talks};
 ghost use Rattle.mail_core.specs.inner.Handling.{IsReady};
 
 use crate::caller::Caller;
-use crate::message::{has_class, made};
 use crate::next::Next;
 use crate::serving::CoreStop;
 use crate::speech::say;
 use link_edge::Floor;
-use mail_base::{Config, Id, JudgeFault, Message, NoMemory, StoreFault, Text};
+use mail_base::{Config, JudgeFault, Message, NoMemory, StoreFault, Text};
+use mail_made::{has_class, planned};
 use map_tables::Maps;
 use queue_table::{Accepting, Table};
 use smtp_lines::{Line, last_asks};
@@ -139,7 +139,6 @@ impl Intake {
     }
 
     // Makes a message ready to be taken in.
-    #[tactic(auto, unfolding(crate::specs::Messages::last_id))]
     fn plan(
         &mut self,
         config: &Config,
@@ -162,19 +161,14 @@ impl Intake {
             → LacksIds config.now maps.now self.old.moment (store self.old.table).next message }
         ensures never { IsErrOf result SpoolBroke → ⊥ }
     {
-        let next = self.table.next();
-        if next > Id::MOST {
-            return Err(StoreFault::IdsSpent);
-        }
-        let (message, cuts) = made(
+        planned(
             self.alloc,
             config,
             maps,
+            &mut self.table,
             self.moment,
             message,
-            Id::new(next),
-        )?;
-        self.table.plan_accept(message, cuts.items(), self.moment)
+        )
     }
 
     // Takes a message in, and acknowledges it once it is in the queue. The text of its 250 is made

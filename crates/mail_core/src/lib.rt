@@ -14,7 +14,6 @@ mod intake;
 mod lanes;
 mod law;
 mod listing;
-mod message;
 mod next;
 mod serving;
 mod speech;
@@ -37,5 +36,4 @@ pub use law::{
     sessions_that_are_not_open_are_sent_nothing, tables_stay_sound,
     the_table_is_that_of_the_commands, what_is_said_are_the_replies, what_waits_longest_is_claimed,
 };
-pub use message::made;
 pub use serving::{Core, CoreStop};

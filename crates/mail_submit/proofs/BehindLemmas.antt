@@ -1,7 +1,6 @@
 -- That bytes stand behind those that were held.
-use Rattle.std.proofs.Common.{◌≡◌, ℕ, List, [], ◌∷◌, ◌++◌, Bool, Result, Ok, Err, OnOk, OnErr, refl, sym, ap, ◌∙◌}
+use Rattle.std.proofs.Common.{◌≡◌, ℕ, List, [], ◌++◌, Bool, Result, Ok, Err, OnOk, OnErr, refl, sym, ap, ◌∙◌}
 use Rattle.std.proofs.lemmas.List.{append-nil, append_assoc}
-use Rattle.mail_base.specs.Texts.{crlf}
 use Rattle.mail_submit.specs.Parts.{Parts}
 use Rattle.mail_submit.specs.declared.held.Held.{Held}
 use Rattle.mail_submit.specs.inner.Behind.{IsBehind}

@@ -1,12 +1,12 @@
 -- The worked example, computed.
-use Rattle.std.specs.Prelude.{◌≡◌, ℕ, List, [], ◌∷◌, ◌++◌, true, false, codes, refl}
+use Rattle.std.specs.Prelude.{◌≡◌, ℕ, List, [], ◌∷◌, true, false, codes, refl}
 use Rattle.std.proofs.Common.{ap, subst, sym}
 use Rattle.mail_base.specs.declared.message.Split.{Split}
 use Rattle.mail_header.specs.Headers.{AreHeaders, EndsHeaders, IsSplit, behind_empty_line, is_continuation, is_header, no_headers, one_header, unfolded}
 use Rattle.mail_header.specs.Places.{places_of}
 use Rattle.mail_submit.specs.Examples.{input, sent, text}
 use Rattle.mail_submit.specs.Inputs.{message_of, read}
-use Rattle.mail_submit.specs.Submissions.{IsSubmission, first_from, kept_headers, recipients_of}
+use Rattle.mail_submit.specs.Submissions.{IsSubmission, recipients_of}
 
 pub ended : (read true input).ended ≡ true
 ended = refl
@@ -53,6 +53,7 @@ submission = record {
   headers = refl;
   body = refl;
   size = refl;
+  block = refl;
   recipients = recipients;
   first_from = refl;
 }

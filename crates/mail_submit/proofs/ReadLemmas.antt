@@ -1,11 +1,11 @@
 -- How bytes of input are read, one by one and line by line.
-use Rattle.std.proofs.Common.{◌≡◌, ℕ, ◌+◌, ◌-◌, ◌<◌, ◌≤◌, ◌==◌, Bool, true, false, not, ◌&&◌, cond, List, [], ◌∷◌, ◌++◌, length, get_or, take, drop, Option, Some, None, Result, OnOk, refl, sym, ap, ◌∙◌, subst, arith}
+use Rattle.std.proofs.Common.{◌≡◌, ℕ, ◌+◌, ◌-◌, ◌<◌, ◌≤◌, ◌==◌, Bool, true, false, ◌&&◌, List, [], ◌∷◌, ◌++◌, length, get_or, take, drop, Some, None, Result, OnOk, refl, sym, ap, ◌∙◌, subst, arith}
 use Rattle.std.specs.Prelude.{fold}
-use Rattle.std.specs.List.{All, flat_map}
+use Rattle.std.specs.List.{All}
 use Rattle.std.specs.Str.Lines.{strip_carriage_return}
 use Rattle.std.proofs.lemmas.Bool.{cond-true, cond-false, cond_both, eqb-true, false_from_ne_true}
 use Rattle.std.proofs.lemmas.Slice.Eq.{bytes_eq-Decides}
-use Rattle.std.proofs.lemmas.List.{append-nil, append_assoc, get_or-take, length-append, length-take-le, take-append-drop, take_all, take_more}
+use Rattle.std.proofs.lemmas.List.{append-nil, append_assoc, get_or-take, length-take-le, take-append-drop, take_all, take_more}
 use Rattle.std.proofs.lemmas.List.Concat.{flat_map-append}
 use Rattle.std.proofs.lemmas.List.Elements.{All-from_get_or, All-head, All-tail}
 use Rattle.std.proofs.lemmas.List.Folds.{fold_stays}
@@ -14,7 +14,7 @@ use Rattle.std.proofs.lemmas.Result.{on_ok_weaker}
 use Rattle.bstr.specs.Find.{IsFirstByte, is_byte}
 use Rattle.mail_header.specs.Fields.{is_feed}
 use Rattle.mail_header.specs.Headers.{text_of, with_end}
-use Rattle.mail_submit.specs.Inputs.{Holds, Reading, Stands, counted, is_dot, is_last, last_line, message_of, nothing, read, size_of, with_byte, with_feed}
+use Rattle.mail_submit.specs.Inputs.{Holds, Reading, Stands, counted, is_dot, is_last, message_of, nothing, read, size_of, with_byte, with_feed}
 use Rattle.std.proofs.Math.Seq.{take-add}
 use Rattle.mail_submit.specs.Parts.{Parts}
 use Rattle.mail_submit.specs.declared.held.Held.{Held}

@@ -1,6 +1,6 @@
 -- What a message's text hands over.
-use Rattle.std.proofs.Common.{◌≡◌, ℕ, ◌+◌, ◌-◌, ◌<◌, ◌≤◌, Bool, true, false, not, List, [], ◌∷◌, ◌++◌, length, get_or, drop, map, Option, Some, None, refl, sym, ap, ◌∙◌, subst, arith}
-use Rattle.std.specs.Prelude.{IfSome, filter, option_map, slice_get}
+use Rattle.std.proofs.Common.{◌≡◌, ℕ, ◌+◌, ◌-◌, ◌<◌, ◌≤◌, Bool, true, false, not, List, [], ◌∷◌, ◌++◌, length, get_or, drop, map, Some, None, refl, sym, ap, ◌∙◌, subst, arith}
+use Rattle.std.specs.Prelude.{IfSome, option_map, slice_get}
 use Rattle.std.specs.List.{All}
 use Rattle.std.proofs.lemmas.Bool.{cond-true, cond-false}
 use Rattle.std.proofs.lemmas.Option.{none-some, slice_get-map}
@@ -101,13 +101,14 @@ size_is text split is kept =
 
 -- ---- one thing is handed over
 
-same : (a b : Submission) → a.headers ≡ b.headers → a.body ≡ b.body → a.size ≡ b.size → a.recipients ≡ b.recipients → a.first_from ≡ b.first_from → a ≡ b
-same a b headers body size recipients first_from =
+same : (a b : Submission) → a.headers ≡ b.headers → a.body ≡ b.body → a.size ≡ b.size → a.block ≡ b.block → a.recipients ≡ b.recipients → a.first_from ≡ b.first_from → a ≡ b
+same a b headers body size block recipients from =
     ap (λ x. record a { headers = x }) headers
     ∙ ap (λ x. record a { headers = b.headers; body = x }) body
     ∙ ap (λ x. record a { headers = b.headers; body = b.body; size = x }) size
-    ∙ ap (λ x. record a { headers = b.headers; body = b.body; size = b.size; recipients = x }) recipients
-    ∙ ap (λ x. record b { first_from = x }) first_from
+    ∙ ap (λ x. record a { headers = b.headers; body = b.body; size = b.size; block = x }) block
+    ∙ ap (λ x. record a { headers = b.headers; body = b.body; size = b.size; block = b.block; recipients = x }) recipients
+    ∙ ap (λ x. record b { first_from = x }) from
 
 module _ (text : List ℕ) (from_headers : Bool) (one other : Submission) (a : IsSubmission text from_headers one) (b : IsSubmission text from_headers other) (split : a.split ≡ b.split) where
   rests : a.is.rest ≡ b.is.rest
@@ -121,5 +122,6 @@ module _ (text : List ℕ) (from_headers : Bool) (one other : Submission) (a : I
       headers_are
       (a.body ∙ ap (λ (s : Split). s.body) split ∙ sym b.body)
       (a.size ∙ ap (λ h. length (text_of h ++ a.is.rest)) headers_are ∙ ap (λ r. length (text_of other.headers ++ r)) rests ∙ sym b.size)
+      (a.block ∙ ap (λ (s : Split). s.block) split ∙ sym b.block)
       (a.recipients ∙ ap (λ (s : Split). recipients_of from_headers s.headers) split ∙ sym b.recipients)
       (a.first_from ∙ ap (λ (s : Split). first_from s.headers) split ∙ sym b.first_from)

@@ -1,5 +1,5 @@
 -- A worked example: recipients come from headers, Bcc isn't sent, and the line `.` ends input.
-use Rattle.std.specs.Prelude.{ℕ, List, [], ◌∷◌, ◌++◌, None, codes}
+use Rattle.std.specs.Prelude.{ℕ, List, [], ◌∷◌, None, codes}
 use Rattle.mail_submit.specs.declared.submission.Submission.{Submission}
 
 abbrev pub input : List ℕ
@@ -15,6 +15,7 @@ sent = record {
   headers = codes "To: ann@mx.example" ∷ codes "Subject: hi" ∷ [];
   body = codes "hello\r\n";
   size = 42;
+  block = 56;
   recipients = codes "ann@mx.example" ∷ codes "cid@mx.example" ∷ [];
   first_from = None;
 }

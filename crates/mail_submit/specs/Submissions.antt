@@ -1,6 +1,6 @@
 -- A message that a program hands over, and who gets it (RFC 5322, sections 3.4 and 3.6.3; the
 -- manual page of Sendmail's own program, -t).
-use Rattle.std.specs.Prelude.{◌≡◌, ℕ, Bool, true, false, not, ◌||◌, List, [], ◌∷◌, ◌++◌, length, map, filter, flat_map, slice_get, slice_range, find, Option, Some, option_and_then, ◌+◌, if◌then◌else◌, codes, refl}
+use Rattle.std.specs.Prelude.{◌≡◌, ℕ, Bool, not, ◌||◌, List, [], ◌∷◌, ◌++◌, length, map, filter, flat_map, slice_get, slice_range, find, Option, Some, option_and_then, ◌+◌, if◌then◌else◌, codes, refl}
 use Rattle.mail_base.specs.declared.message.Split.{Split}
 use Rattle.mail_header.specs.declared.span.Span.{Span}
 use Rattle.mail_header.specs.Fields.{is_named}
@@ -61,6 +61,7 @@ pub record IsSubmission (text : List ℕ) (from_headers : Bool) (s : Submission)
   pub headers : s.headers ≡ kept_headers from_headers split.headers
   pub body : s.body ≡ split.body
   pub size : s.size ≡ length (text_of s.headers ++ is.rest)
+  pub block : s.block ≡ split.block
   pub recipients : s.recipients ≡ recipients_of from_headers split.headers
   pub first_from : s.first_from ≡ first_from split.headers
 

@@ -57,7 +57,16 @@ impl Input {
             (length self.new.buffer.text + length self.new.buffer.line ≤ most + 2) }
         ensures err { OnErr result (self.new ≡ self.old) }
     {
-        self.held.feed(piece, most)
+        let mark = self.held.buffer.mark();
+        let ended = self.held.ended;
+        match self.held.take_within(piece, most) {
+            Ok(()) => Ok(self.held.ended),
+            Err(fault) => {
+                self.held.buffer.back_to(mark);
+                self.held.ended = ended;
+                Err(fault)
+            }
+        }
     }
 
     /// The text of the message at the end of input, each line with CR LF. Bytes that no LF ended
@@ -74,6 +83,16 @@ impl Input {
             → OnOk result (Holds self.new dot []) }
         ensures err { OnErr result (self.new ≡ self.old) }
     {
-        self.held.end(most)
+        let mark = self.held.buffer.mark();
+        match self.held.end_within(most) {
+            Ok(()) => {
+                self.held.ended = false;
+                Ok(self.held.buffer.take_text())
+            }
+            Err(fault) => {
+                self.held.buffer.back_to(mark);
+                Err(fault)
+            }
+        }
     }
 }

@@ -13,11 +13,11 @@ mod line;
 mod reading;
 mod submission;
 mod submitting;
-#[cfg(test)]
-mod tests;
+mod words;
 
 pub use fault::InputFault;
 pub use input::Input;
 pub use law::{one_submission, worked_example};
 pub use submission::Submission;
 pub use submitting::submitted;
+pub use words::SubmitWords;

@@ -1,8 +1,8 @@
-ghost use Rattle.std.specs.Prelude.{◌≡◌, ◌+◌, ◌<◌, ◌≤◌, ◌++◌, ◌&&◌, [], ℕ, List, Bool, false, length, take, fold, IfOk, IfErr, OnOk, OnErr};
+ghost use Rattle.std.specs.Prelude.{◌≡◌, ◌+◌, ◌<◌, ◌≤◌, ◌++◌, ◌&&◌, [], ℕ, List, Bool, false, length, take, fold, IfOk, IfErr, OnOk};
 ghost use Rattle.std.specs.Str.Lines.{strip_carriage_return};
 ghost use Rattle.mail_header.specs.Headers.{with_end};
 ghost use Rattle.mail_submit.specs.Inputs as spec;
-ghost use Rattle.mail_submit.specs.Inputs.{Holds, Reading, Stands, counted, message_of, nothing, read, size_of, with_byte, with_feed};
+ghost use Rattle.mail_submit.specs.Inputs.{Reading, Stands, counted, message_of, nothing, size_of, with_byte, with_feed};
 ghost use Rattle.mail_submit.specs.declared.fault.InputFault.TheVariants.{TooLarge};
 ghost use Rattle.mail_submit.specs.inner.Behind.{IsBehind};
 
@@ -26,35 +26,8 @@ impl Held {
         }
     }
 
-    /// Takes a piece within a limit, and answers whether the line `.` ended input. After a fault
-    /// all is as before.
-    pub(crate) fn feed(&mut self, piece: &[u8], most: u64) -> Result<bool, InputFault>
-        ensures ok { (dot : Bool) (bytes : List ℕ) → Holds self.old dot bytes
-            → OnOk result (Holds self.new dot (bytes ++ piece.now)) }
-        ensures ended { (dot : Bool) (bytes : List ℕ) → Holds self.old dot bytes
-            → IfOk result (λ ended. ended ≡ (read dot (bytes ++ piece.now)).ended) }
-        ensures within { (dot : Bool) (bytes : List ℕ) → Holds self.old dot bytes
-            → OnOk result (size_of (read dot (bytes ++ piece.now)) ≤ most) }
-        ensures large { (dot : Bool) (bytes : List ℕ) → Holds self.old dot bytes
-            → IfErr result (λ fault. fault ≡ TooLarge
-            → most < size_of (read dot (bytes ++ piece.now))) }
-        ensures small { OnOk result
-            (length self.new.buffer.text + length self.new.buffer.line ≤ most + 2) }
-        ensures err { OnErr result (self.new ≡ self.old) }
-    {
-        let mark = self.buffer.mark();
-        let ended = self.ended;
-        match self.take_within(piece, most) {
-            Ok(()) => Ok(self.ended),
-            Err(fault) => {
-                self.buffer.back_to(mark);
-                self.ended = ended;
-                Err(fault)
-            }
-        }
-    }
-
-    fn take_within(&mut self, piece: &[u8], most: u64) -> Result<(), InputFault>
+    /// Takes a piece within a limit. After a fault bytes may stand behind those that were held.
+    pub(crate) fn take_within(&mut self, piece: &[u8], most: u64) -> Result<(), InputFault>
         ensures ok { OnOk result ((dot : Bool) (r : Reading) → Stands self.old dot r
             → Stands self.new dot (fold (with_byte dot) r piece.now)) }
         ensures within { OnOk result
@@ -154,33 +127,9 @@ impl Held {
         self.buffer.close(end)
     }
 
-    /// The message at the end of input, within a limit. Nothing of it is left. After a fault all
-    /// is as before.
-    pub(crate) fn end(&mut self, most: u64) -> Result<Text, InputFault>
-        ensures text { (dot : Bool) (bytes : List ℕ) → Holds self.old dot bytes
-            → IfOk result (λ text. text ≡ message_of dot (read dot bytes)) }
-        ensures within { IfOk result (λ text. length text ≤ most) }
-        ensures large { (dot : Bool) (bytes : List ℕ) → Holds self.old dot bytes
-            → IfErr result (λ fault. fault ≡ TooLarge
-            → most < length (message_of dot (read dot bytes))) }
-        ensures none { (dot : Bool) (bytes : List ℕ) → Holds self.old dot bytes
-            → OnOk result (Holds self.new dot []) }
-        ensures err { OnErr result (self.new ≡ self.old) }
-    {
-        let mark = self.buffer.mark();
-        match self.end_within(most) {
-            Ok(()) => {
-                self.ended = false;
-                Ok(self.buffer.take_text())
-            }
-            Err(fault) => {
-                self.buffer.back_to(mark);
-                Err(fault)
-            }
-        }
-    }
-
-    fn end_within(&mut self, most: u64) -> Result<(), InputFault>
+    /// Makes the message whole at the end of input, within a limit. After a fault bytes may stand
+    /// behind those that were held.
+    pub(crate) fn end_within(&mut self, most: u64) -> Result<(), InputFault>
         ensures text { (dot : Bool) (r : Reading) → Stands self.old dot r
             → OnOk result (self.new.buffer.text ≡ message_of dot r) }
         ensures within { OnOk result (length self.new.buffer.text ≤ most) }

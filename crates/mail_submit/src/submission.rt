@@ -10,6 +10,8 @@ pub struct Submission {
     /// The bytes of the message that is sent, with the end of each line and the line between headers
     /// and body.
     pub size: u64,
+    /// The bytes of the header block that was handed over: its lines with CR LF.
+    pub block: u64,
     /// The recipients that headers name, in order and as often as they are there.
     pub recipients: Seq<Text>,
     /// The first address of the first `From` header, if it has one.

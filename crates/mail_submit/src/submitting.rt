@@ -25,6 +25,7 @@ pub fn submitted(text: &Text, from_headers: bool) -> Result<Submission, NoMemory
         headers,
         body: split.body,
         size,
+        block: split.block,
         recipients,
         first_from,
     })

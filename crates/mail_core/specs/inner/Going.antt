@@ -22,7 +22,7 @@ use Rattle.mail_core.specs.Guests.{Guest, grants_of, has_bytes_left, with_bytes,
 use Rattle.mail_core.specs.Sites.{Site}
 use Rattle.mail_core.specs.Judges.{JudgeSeen}
 use Rattle.mail_core.specs.Meant.{AreMeant, IsMadeAt, IsMeant}
-use Rattle.mail_core.specs.Messages.{is_spent}
+use Rattle.mail_made.specs.Messages.{is_spent}
 use Rattle.mail_core.specs.Causes.{HasCause, ending_by, is_well}
 use Rattle.mail_core.specs.States.{Ending, By, Cut}
 use Rattle.mail_core.specs.Machine.{Choice, Normal, OutOfMemory, Disconnects, SpoolFails, JudgeFails, Way, GoesOn, Leaves, Over, Did, is_over, says, accepts, fails, fresh_start, by_choice, heard_line, heard_where, answered, all_answered}

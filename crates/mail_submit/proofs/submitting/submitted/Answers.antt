@@ -1,6 +1,6 @@
-use Rattle.std.proofs.Common.{◌≡◌, ◌+◌, ◌-◌, ◌≤◌, length, refl, ap, subst, sym, ◌∙◌, arith}
+use Rattle.std.proofs.Common.{◌+◌, ◌-◌, length, refl, ap, ◌∙◌, arith}
 use Rattle.mail_header.specs.Headers.{text_of}
-use Rattle.mail_submit.specs.Submissions.{first_from, kept_headers, recipients_of}
+use Rattle.mail_submit.specs.Submissions.{first_from, recipients_of}
 use Rattle.mail_submit.proofs.SubmitLemmas.{block_less, kept_less, size_is}
 use Rattle.mail_submit.proofs.submitting.submitted.Goals as goal
 
@@ -31,6 +31,7 @@ returns c =
       body = refl;
       size = ap (λ n. n + (c.len.result - split.block)) (c.text_length.ensures ∙ ap (λ hs. length (text_of hs)) c.items-3.ensures)
           ∙ ap (λ n. length (text_of c.kept_headers-headers.result) + (n - split.block)) c.len.ensures ∙ sizes;
+      block = refl;
       recipients = c.in_ok-recipients.ensures ∙ ap (recipients_of c.args.from_headers) c.items.ensures;
       first_from = c.in_ok-first_from.ensures ∙ ap first_from c.items-2.ensures;
     }

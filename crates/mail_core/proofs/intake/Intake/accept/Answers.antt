@@ -2,7 +2,7 @@ use Rattle.std.proofs.Common.{ℕ, ◌≤◌, List, false, refl, sym, ◌∙◌,
 use Rattle.std.proofs.lemmas.Result.{err_from_is_err_and}
 use Rattle.smtp_receive.specs.Replies.{stored_text}
 use Rattle.mail_core.specs.declared.next.Next.TheVariants.{Continue}
-use Rattle.mail_core.specs.Messages.{headed, last_id}
+use Rattle.mail_made.specs.Messages.{headed, last_id}
 use Rattle.mail_core.specs.Seen.{IsSparing}
 use Rattle.mail_core.proofs.SpeechLemmas.{told_as}
 use Rattle.mail_core.proofs.GoingLemmas.{spoken_of, ungranted}

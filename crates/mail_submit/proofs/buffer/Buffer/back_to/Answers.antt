@@ -1,6 +1,5 @@
 use Rattle.std.proofs.Common.{length, sym, subst, ap, ◌∙◌}
 use Rattle.std.specs.Prelude.{min}
-use Rattle.mail_submit.specs.Parts.{Parts}
 use Rattle.mail_submit.specs.inner.Fronts.{IsFront}
 use Rattle.mail_submit.proofs.BufferLemmas.{cut_back, parts}
 use Rattle.mail_submit.proofs.buffer.Buffer.back_to.Goals as goal

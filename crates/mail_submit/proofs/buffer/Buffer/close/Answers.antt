@@ -1,4 +1,4 @@
-use Rattle.std.proofs.Common.{◌≡◌, [], ◌++◌, length, sym, subst, ap, ◌∙◌, arith}
+use Rattle.std.proofs.Common.{◌≡◌, [], ◌++◌, length, subst, ap, ◌∙◌}
 use Rattle.mail_submit.specs.Parts.{Parts}
 use Rattle.mail_submit.proofs.BufferLemmas.{closed, parts}
 use Rattle.mail_submit.proofs.buffer.Buffer.close.Goals as goal

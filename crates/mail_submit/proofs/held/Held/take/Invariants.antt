@@ -1,4 +1,4 @@
-use Rattle.std.proofs.Common.{ℕ, ◌-◌, ◌≤◌, Bool, length, take}
+use Rattle.std.proofs.Common.{◌-◌, ◌≤◌, Bool, length, take}
 use Rattle.std.specs.Prelude.{fold}
 use Rattle.mail_submit.specs.Inputs.{Reading, Stands, with_byte}
 use Rattle.mail_submit.specs.inner.Behind.{IsBehind}

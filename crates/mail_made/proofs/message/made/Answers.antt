@@ -1,8 +1,8 @@
 -- The header has the dates and the id, and the parts are by the macros of the session.
 use Rattle.std.proofs.Common.{◌∙◌, ap, refl}
 use Rattle.queue_plan.specs.Rows.{distinct}
-use Rattle.mail_core.proofs.PartLemmas.{headed_of, taken_of}
-use Rattle.mail_core.proofs.message.made.Goals as goal
+use Rattle.mail_made.proofs.PartLemmas.{headed_of, taken_of}
+use Rattle.mail_made.proofs.message.made.Goals as goal
 
 pub returns-clause-is : goal.returns-clause-is
 returns-clause-is c = record {

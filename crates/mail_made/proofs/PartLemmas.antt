@@ -1,4 +1,4 @@
--- What is made of a message that is taken in, and groups of one line.
+-- What is made of a message that is taken in.
 use Rattle.std.proofs.Common.{◌≡◌, ℕ, ◌+◌, ◌<◌, ◌≤◌, List, [], ◌∷◌, length, Option, None, Result, Ok, Err, sym, ◌∙◌, ap, subst, arith}
 use Rattle.std.specs.Prelude.{IfOk}
 use Rattle.std.proofs.lemmas.Slice.Zip.{AllZip-long}
@@ -21,8 +21,9 @@ use Rattle.queue_table.specs.Soundness.{AreCuts}
 use Rattle.queue_table.specs.declared.accepting.Accepting.{Accepting}
 use Rattle.queue_table.specs.declared.table.Table.{Table as Kept}
 use Rattle.queue_plan.specs.Cuts.{AreForms, AreParts}
-use Rattle.mail_core.specs.Messages.{IsMessageMade, IsTakenIn, Made, dated_macros, headed, last_id, macros_seen, put_first}
-use Rattle.mail_core.specs.inner.Made.{IsMacros, IsMade, LacksIds}
+use Rattle.mail_made.specs.Messages.{IsMessageMade, IsTakenIn, Made, dated_macros, headed, last_id, macros_seen, put_first}
+use Rattle.mail_made.specs.Planned.{IsMade, LacksIds}
+use Rattle.mail_made.specs.inner.Dated.{IsMacros}
 
 -- where there is a row, one stays
 some_distinct : (rows : List Draw) → 1 ≤ length rows → 0 < length (distinct rows)

@@ -1,22 +1,13 @@
--- What is made of a message on its way into the queue. It need not be believed: only private
--- contracts cite it.
-use Rattle.std.specs.Prelude.{◌≡◌, ℕ, ◌+◌, ◌<◌, ◌≤◌, length}
+-- What is planned of a message that is to be taken into a table (own).
+use Rattle.std.specs.Prelude.{ℕ, ◌+◌, ◌<◌, ◌≤◌, length}
 use Rattle.mail_base.specs.Limits.{most_rows}
 use Rattle.mail_base.specs.declared.config.Config.{Config}
 use Rattle.mail_base.specs.declared.message.Message.{Message}
 use Rattle.map_tables.specs.Answers.{Loaded}
-use Rattle.ruleset_run.specs.Sites.{Macros}
 use Rattle.queue_table.specs.Calls.{IsAccepting}
 use Rattle.queue_table.specs.declared.accepting.Accepting.{Accepting}
 use Rattle.queue_table.specs.declared.table.Table.{Table as Kept}
-use Rattle.mail_core.specs.Messages.{AreDates, Dates, IsTakenIn, Made, dated_macros, headed, ids_for, last_id}
-
--- macros are those of a message with its dates at a moment and an id, over those of its session
-pub record IsMacros (session : Macros) (moment : ℕ) (message : Message) (id : ℕ)
-    (macros : Macros) : Type 0 where
-  pub dates : Dates
-  pub are : AreDates message moment dates
-  pub is : macros ≡ dated_macros session dates id
+use Rattle.mail_made.specs.Messages.{IsTakenIn, Made, headed, ids_for, last_id}
 
 -- what is planned takes a message in under that id, as what the configuration makes of it
 pub record IsMade (config : Config) (maps : Loaded) (moment id : ℕ) (kept : Kept)

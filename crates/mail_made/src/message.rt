@@ -2,8 +2,8 @@ ghost use Rattle.std.specs.Int.{w64};
 ghost use Rattle.std.specs.Prelude.{◌≡◌, ◌∷◌, ℕ, FitsSigned, IfOk};
 ghost use Rattle.mail_base.specs.Drawing.{AreRows};
 ghost use Rattle.queue_plan.specs.Cuts.{AreForms};
-ghost use Rattle.mail_core.specs.Messages.{IsMessageMade, put_first};
-ghost use Rattle.mail_core.specs.inner.Made.{IsMacros};
+ghost use Rattle.mail_made.specs.Messages.{IsMessageMade, put_first};
+ghost use Rattle.mail_made.specs.inner.Dated.{IsMacros};
 
 use cf_macros::{Form, date, session_macros};
 use mail_base::{Config, Cut, Id, Macros, Message, NoMemory, Seq, Text, TryCopy};
@@ -65,7 +65,7 @@ fn message_macros(
 }
 
 /// The class of a message has the range of its type: to read it says so.
-pub(crate) fn has_class(message: &Message)
+pub fn has_class(message: &Message)
     ensures { FitsSigned w64 message.now.class }
 {
     let _class = message.class;
