@@ -53,9 +53,12 @@ use sendmail_run::{Job, Outcome, sendmail};
 use spool_disk::Spool;
 use std::io::Write;
 use std::process::ExitCode;
+use told_devices::{Log, Told, ToldFloor, ToldQueue};
 
 const HELP: &[u8] = b"usage: sendmail -bt|-bs|-bp|-q|-qGname [-C file]
        sendmail -bd [-q30m] [-C file]
+       sendmail [-f sender] [-i] [-C file] address ..
+       sendmail -t [-f sender] [-i] [-C file] [address ..]
        sendmail --help|--version
 
   -bt      address test mode: answers each line of standard input
@@ -69,6 +72,12 @@ const HELP: &[u8] = b"usage: sendmail -bt|-bs|-bp|-q|-qGname [-C file]
   -q       delivers what is in the queue and is due, once
   -qGname  the same of one queue group
   -bp      prints what is in the queue
+  address  takes the message on standard input for these recipients, and puts it
+           into the queue
+  -t       takes it for those that its headers To, Cc and Bcc name, but not for
+           those that words name
+  -f sender  its sender; else the first address of From, or postmaster
+  -i       a line with a dot alone doesn't end it
   -C file  reads this configuration instead of /etc/mail/sendmail.cf
 
 In address test mode a line of input is the name of a ruleset, or more of them
@@ -84,10 +93,11 @@ and a delivery that was under way is made again by the next one.
 The exit status is 0 when the work is done. Each other end has a line on
 standard error:
   64 bad word            65 alias refused       66 no file
-  69 floor fault         70 turns spent         71 no memory
-  72 files fault         73 write fault         74 read fault
-  75 spool fault         76 input too large     77 ids spent
-  78 configuration line
+  67 recipient refused   69 floor fault         70 turns spent
+  71 no memory           72 files fault         73 write fault
+  74 read fault          75 spool fault         76 input too large
+  77 ids spent           78 configuration line  79 no recipient
+  80 message refused
 ";
 
 /// The most words whose places a `u32` can tell.
@@ -113,9 +123,11 @@ fn run(rt: &HostRuntime, words: &Seq<Text>) -> Outcome {
         return Outcome::Usage(u32::MAX);
     }
     if is_listing(rt, words) {
-        run_over(rt, words, &mut QueueView::new(rt.alloc(), b""))
+        run_over(rt, words, &mut QueueView::new(rt.alloc(), b""), None)
     } else {
-        run_over(rt, words, &mut QueueDirs::new(rt.alloc(), b""))
+        let log = Log::of_environment();
+        let dirs = QueueDirs::new(rt.alloc(), b"");
+        run_over(rt, words, &mut ToldQueue::new(rt.alloc(), dirs, log), log)
     }
 }
 
@@ -129,12 +141,17 @@ fn is_listing(rt: &HostRuntime, words: &Seq<Text>) -> bool
     }
 }
 
-fn run_over<D: Spool>(rt: &HostRuntime, words: &Seq<Text>, spool: &mut D) -> Outcome
+fn run_over<D: Spool>(
+    rt: &HostRuntime,
+    words: &Seq<Text>,
+    spool: &mut D,
+    log: Option<Log>,
+) -> Outcome
     requires { length words.now < 2 ^ 32 }
 {
     let wires = Wires::of(&rt.stdin(), &rt.stdout());
     let motion = Motion::new();
-    let mut floor = SystemFloor::new(
+    let site = SystemFloor::new(
         *rt,
         rt.stdin(),
         rt.stdout(),
@@ -142,19 +159,24 @@ fn run_over<D: Spool>(rt: &HostRuntime, words: &Seq<Text>, spool: &mut D) -> Out
         LIMITS,
         Some(&motion),
     );
+    let mut floor = ToldFloor::new(rt.alloc(), site, log);
     let outcome = sendmail(
         rt.alloc(),
         words,
         &mut DiskFiles::new(rt),
         spool,
         &mut floor,
-        &mut SystemSpawner::new(*rt, &motion),
-        &mut SystemDialer::new(*rt, &motion, Patience::of_environment()),
+        &mut Told::new(SystemSpawner::new(*rt, &motion), log),
+        &mut Told::new(
+            SystemDialer::new(*rt, &motion, Patience::of_environment()),
+            log,
+        ),
         &mut SystemClock::new(*rt),
         &mut InputStream::new(rt.stdin()),
         &mut OutputStream::new(rt.stdout()),
     );
     floor.finish();
+    floor.device.finish();
     outcome
 }
 

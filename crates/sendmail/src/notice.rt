@@ -1,4 +1,5 @@
 // The one line on standard error that says how a run ended.
+use mail_base::RouteError;
 use sendmail_run::Outcome;
 use std::io;
 use std::io::Write;
@@ -30,5 +31,21 @@ pub fn tell(errors: &mut impl Write, outcome: &Outcome) -> io::Result<()> {
         Outcome::TurnsSpent(_) => errors.write_all(b"sendmail: turns spent\n"),
         Outcome::SpoolFault => errors.write_all(b"sendmail: spool fault\n"),
         Outcome::IdsSpent => errors.write_all(b"sendmail: ids spent\n"),
+        Outcome::MessageRefused(code) => writeln!(errors, "sendmail: message refused: {code}"),
+        Outcome::NoRecipient => errors.write_all(b"sendmail: no recipient\n"),
+        Outcome::BadRecipient(number, error) => tell_refused(errors, *number, error),
     }
+}
+
+// The line of a recipient that is refused.
+fn tell_refused(errors: &mut impl Write, number: u64, error: &RouteError) -> io::Result<()> {
+    write!(
+        errors,
+        "sendmail: recipient {number} refused: {} ",
+        error.code
+    )?;
+    errors.write_all(error.status.bytes())?;
+    errors.write_all(b" ")?;
+    errors.write_all(error.text.bytes())?;
+    errors.write_all(b"\n")
 }

@@ -6,17 +6,21 @@ use crate::counting::{counted, counted_edge};
 use crate::descriptor::Descriptor;
 use crate::directory::names_in;
 use crate::path::{Path, dir_path, path_of};
-use mail_base::{EdgeFault, Failed, NoMemory, Seq, Text, TryCopy};
+use mail_base::{EdgeFault, Failed, Id, Kind, NoMemory, Seq, Text, TryCopy};
 use mail_edge::LARGEST_FILE;
 use spool_disk::{Spool, sorted_names};
 use std::alloc::Global;
+use told_devices::Look;
 
 /// Directories of a disk as a spool. Their files' names may have any bytes but NUL and `/`.
 ///
 /// A directory is opened and locked at its first use, and stays so to the end, so that it has one
 /// owner; one that another opening has locked is a fault, as are a directory that is absent, a file
 /// larger than 67,108,864 bytes and a disk without room. A file that is written belongs to its
-/// owner alone and is on the disk before the call answers, and so is a change of names.
+/// owner alone and is on the disk before the call answers, and so is a change of names. But what
+/// tidies a finished entry, its control file's last name and the removal of its body, waits for the
+/// next change of names there, and comes to the disk before anything is changed in another
+/// directory.
 #[derive(Drop)]
 pub struct QueueDirs<'a> {
     /// What stands before the name of each directory.
@@ -30,6 +34,8 @@ pub struct QueueDirs<'a> {
 struct Held {
     dir: Text,
     open: Descriptor,
+    /// Whether a name in it may not have reached the disk.
+    waits: bool,
 }
 
 impl<'a> QueueDirs<'a> {
@@ -90,7 +96,8 @@ impl<'a> QueueDirs<'a> {
     fn write(&mut self, dir: &Text, name: &Text, bytes: &[u8]) -> Result<(), EdgeFault>
         ensures { self.new.faults ≡ self.old.faults }
     {
-        self.hold(dir)?;
+        let place = self.hold(dir)?;
+        self.settle_others(place)?;
         write_file(&path_of(self.prefix, dir, name)?, bytes)?;
         Ok(())
     }
@@ -100,12 +107,13 @@ impl<'a> QueueDirs<'a> {
         ensures { self.new.faults ≡ self.old.faults }
     {
         let place = self.hold(dir)?;
-        let from = path_of(self.prefix, dir, from)?;
-        let to = path_of(self.prefix, dir, to)?;
-        if os::rename(&from, &to) != 0 {
+        self.settle_others(place)?;
+        let from_path = path_of(self.prefix, dir, from)?;
+        let to_path = path_of(self.prefix, dir, to)?;
+        if os::rename(&from_path, &to_path) != 0 {
             return Err(EdgeFault::Failed);
         }
-        self.sync(place)
+        self.settle(place, is_of(to, Kind::Sf))
     }
 
     // Takes a file away, if it is there.
@@ -113,17 +121,47 @@ impl<'a> QueueDirs<'a> {
         ensures { self.new.faults ≡ self.old.faults }
     {
         let place = self.hold(dir)?;
+        self.settle_others(place)?;
         let path = path_of(self.prefix, dir, name)?;
         if os::unlink(&path) != 0 && os::errno() != libc::ENOENT {
             return Err(EdgeFault::Failed);
         }
-        self.sync(place)
+        self.settle(place, is_of(name, Kind::Df))
     }
 
-    // Waits until the names in a directory have reached the disk.
-    fn sync(&self, place: usize) -> Result<(), EdgeFault> {
-        let held = self.held.get(place).ok_or(EdgeFault::Failed)?;
-        held.open.sync()?;
+    // Waits until the names in a directory have reached the disk, unless the change tidies alone.
+    fn settle(&mut self, place: usize, tidies: bool) -> Result<(), EdgeFault>
+        ensures { self.new.faults ≡ self.old.faults }
+    {
+        let held = self.held.get_mut(place).ok_or(EdgeFault::Failed)?;
+        held.waits = true;
+        if !tidies {
+            held.settle()?;
+        }
+        Ok(())
+    }
+
+    // Waits until the names in all other directories have reached the disk, so that what changes
+    // next in this one is there after them.
+    fn settle_others(&mut self, place: usize) -> Result<(), EdgeFault>
+        ensures { self.new.faults ≡ self.old.faults }
+    {
+        for (at, held) in self.held.iter_mut().enumerate() {
+            if at != place {
+                held.settle()?;
+            }
+        }
+        Ok(())
+    }
+}
+
+impl Held {
+    // Waits until the names in it have reached the disk.
+    fn settle(&mut self) -> Result<(), Failed> {
+        if self.waits {
+            self.open.sync()?;
+            self.waits = false;
+        }
         Ok(())
     }
 }
@@ -168,6 +206,12 @@ impl Spool for QueueDirs<'_> {
     ghost earlier = { λ s t u c le h. absurd h };
 }
 
+impl Look for QueueDirs<'_> {
+    fn look(&self, alloc: Global, dir: &Text, name: &Text) -> Result<Option<Text>, EdgeFault> {
+        read_file(alloc, &path_of(self.prefix, dir, name)?)
+    }
+}
+
 // Opens and locks a directory. Its name is copied first, so that what is locked is kept.
 fn locked(prefix: &[u8], dir: &Text) -> Result<Held, EdgeFault> {
     let open = Descriptor::to_dir(&dir_path(prefix, dir)?)?;
@@ -175,7 +219,16 @@ fn locked(prefix: &[u8], dir: &Text) -> Result<Held, EdgeFault> {
     Ok(Held {
         dir: dir.copy()?,
         open,
+        waits: false,
     })
+}
+
+// Whether a name is that of a file of this kind.
+fn is_of(name: &Text, kind: Kind) -> bool {
+    match Id::of(name) {
+        Some((found, _)) => found == kind,
+        None => false,
+    }
 }
 
 /// The bytes of a file, or `None` where it isn't there.

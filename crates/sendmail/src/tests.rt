@@ -3,7 +3,7 @@ use crate::notice::tell;
 use crate::peer::put_peer;
 use crate::queue_tests::is_so;
 use crate::stream::{InputStream, OutputStream};
-use mail_base::{EdgeFault, Failed, Text};
+use mail_base::{Cause, EdgeFault, Failed, RouteError, Status, Text};
 use mail_edge::{Files, Sink, Source};
 use sendmail_run::{Fault, Outcome};
 use std::io::{ErrorKind, Read, Write};
@@ -193,5 +193,28 @@ fn an_outcome_of_one_mode_has_a_status_and_a_line(rt: HostRuntime) -> Result<(),
     assert!(rt; is_told(&rt, &turns, 70, b"sendmail: turns spent\n"));
     assert!(rt; is_told(&rt, &Outcome::SpoolFault, 75, b"sendmail: spool fault\n"));
     assert!(rt; is_told(&rt, &Outcome::IdsSpent, 77, b"sendmail: ids spent\n"));
+    Ok(())
+}
+
+#[test]
+fn a_message_that_is_refused_has_a_status_and_a_line(rt: HostRuntime) -> Result<(), Fail> {
+    let error = RouteError {
+        code: 550,
+        status: Status::of(b"5.1.1").expect(&rt, "a status"),
+        text: Text::of(rt.alloc(), b"no such user")?,
+        cause: Cause::NotResolved,
+    };
+    let refused = Outcome::BadRecipient(2, error);
+    let large = Outcome::MessageRefused(552);
+    assert!(rt;
+        is_told(
+            &rt,
+            &refused,
+            67,
+            b"sendmail: recipient 2 refused: 550 5.1.1 no such user\n"
+        )
+    );
+    assert!(rt; is_told(&rt, &large, 80, b"sendmail: message refused: 552\n"));
+    assert!(rt; is_told(&rt, &Outcome::NoRecipient, 79, b"sendmail: no recipient\n"));
     Ok(())
 }

@@ -10,17 +10,22 @@ use Rattle.mail_core.specs.States.{SpoolFault}
 use Rattle.mail_core.specs.Causes.{is_judge_fault}
 use Rattle.mail_core.specs.declared.act.Act.{Act}
 use Rattle.mail_core.specs.Judges.{JudgeSeen}
+use Rattle.mail_core.specs.Plans.{Serve}
 use Rattle.mail_core.specs.Sites.{Site}
+use Rattle.mail_judge.specs.Judged.{Grounds}
+use Rattle.mail_submit.specs.declared.words.SubmitWords.{SubmitWords}
+use Rattle.submit_run.specs.declared.end.SubmitEnd.{SubmitEnd}
+use Rattle.submit_run.specs.declared.end.SubmitEnd.TheVariants as submit_ends
 use Rattle.queue_table.specs.Directories.{all_dirs, terms_of}
 use Rattle.mail_edge.specs.Moves.{Loses}
 use Rattle.mail_edge.specs.Seen.{FilesSeen, FileMap}
 use Rattle.sendmail_run.specs.declared.address_test.TestEnd.{TestEnd}
 use Rattle.sendmail_run.specs.declared.address_test.TestEnd.TheVariants as test_ends
-use Rattle.sendmail_run.specs.declared.command_line.Job.{Job}
-use Rattle.sendmail_run.specs.declared.command_line.Job.TheVariants.{Test, Session, Daemon, Run, List as Listing}
-use Rattle.sendmail_run.specs.declared.command_line.Mode.{Mode}
-use Rattle.sendmail_run.specs.declared.command_line.WordFault.{WordFault}
-use Rattle.sendmail_run.specs.declared.command_line.WordFault.TheVariants as word_faults
+use Rattle.command_line.specs.declared.mode.Job.{Job}
+use Rattle.command_line.specs.declared.mode.Job.TheVariants.{Test, Session, Daemon, Run, List as Listing, Submit}
+use Rattle.command_line.specs.declared.mode.Mode.{Mode}
+use Rattle.command_line.specs.declared.fault.WordFault.{WordFault}
+use Rattle.command_line.specs.declared.fault.WordFault.TheVariants as word_faults
 use Rattle.sendmail_run.specs.declared.fault.ConfigFault.{ConfigFault}
 use Rattle.sendmail_run.specs.declared.fault.ConfigFault.TheVariants as config_faults
 use Rattle.sendmail_run.specs.declared.fault.AliasesFault.{AliasesFault}
@@ -37,21 +42,24 @@ use Rattle.sendmail_run.specs.declared.outcome.Outcome.{Outcome}
 use Rattle.sendmail_run.specs.declared.outcome.Outcome.TheVariants as outcomes
 use Rattle.sendmail_run.specs.declared.serving_mode.ServeEnd.{ServeEnd}
 use Rattle.sendmail_run.specs.declared.serving_mode.ServeEnd.TheVariants as serve_ends
+use Rattle.sendmail_run.specs.declared.submit_mode.SubmitModeEnd.{SubmitModeEnd}
+use Rattle.sendmail_run.specs.declared.submit_mode.SubmitModeEnd.TheVariants as mode_ends
 use Rattle.sendmail_run.specs.declared.task.Task.{Task}
 use Rattle.sendmail_run.specs.declared.task.Task.TheVariants as tasks
 use Rattle.sendmail_run.specs.AliasFiles.{GiveNames, LoadsNames, first_fault, names_by, names_of, unless_fault}
 use Rattle.sendmail_run.specs.Beginning.{Begins, Says, said_by}
-use Rattle.sendmail_run.specs.CommandLines.{Fails, IsCommandLine}
+use Rattle.command_line.specs.CommandLines.{Fails, IsCommandLine}
 use Rattle.sendmail_run.specs.Devices.{World, streams_of, core_of}
 use Rattle.sendmail_run.specs.Listings.{Lists}
 use Rattle.sendmail_run.specs.MapFiles.{GiveMaps, Loads, first_missing, maps_by, maps_of, unless_missing}
-use Rattle.sendmail_run.specs.Outcomes.{of_aliases, of_config, of_list, of_maps, of_serving, of_test, of_words}
+use Rattle.sendmail_run.specs.Outcomes.{of_aliases, of_config, of_list, of_maps, of_serving, of_submission, of_submitting, of_test, of_words}
 use Rattle.sendmail_run.specs.Printing.{Basis, basis}
-use Rattle.sendmail_run.specs.Runs.{Completes, Ends, EndsAtAliases, EndsAtFile, EndsAtMaps, EndsAtWords, EndsAtWork, Finds, HasServed, HasTested, IsReady, IsShort, IsSound, IsWhole, NoneFailed, Works, WorksAt}
-use Rattle.sendmail_run.specs.Serving.{IsServedOut, Serves, grounds_of, judge_by, site_of}
+use Rattle.sendmail_run.specs.Runs.{Completes, Ends, EndsAtAliases, EndsAtFile, EndsAtMaps, EndsAtWords, EndsAtWork, Finds, HasServed, HasSubmitted, HasTested, IsReady, IsShort, IsSound, IsWhole, NoneFailed, Works, WorksAt}
+use Rattle.sendmail_run.specs.Serving.{IsOverQueue, IsServedOut, Serves, grounds_of, judge_by, site_of}
+use Rattle.sendmail_run.specs.Submitting.{EndsSo, Submits}
 use Rattle.sendmail_run.specs.Tasks.{door_of, plan_of}
 use Rattle.sendmail_run.specs.Testing.{IsLarge, Tests}
-use Rattle.sendmail_run.proofs.CommandLemmas.{one_mode, not_both}
+use Rattle.command_line.proofs.CommandLemmas.{one_mode, not_both}
 
 -- ---- a run that is ready, and in which no device fails, does the mode's whole work
 
@@ -62,6 +70,7 @@ whole_memory Session = inr (inl refl)
 whole_memory (Daemon wait) = inr (inl refl)
 whole_memory (Run group) = inr (inl refl)
 whole_memory Listing = inr refl
+whole_memory (Submit words) = inr (inl refl)
 
 words_whole : (words : List (List ℕ)) (job : Job) (mode : Mode) (fault : WordFault) → IsCommandLine words mode → Fails fault words → IsWhole job (of_words fault)
 words_whole words job mode (word_faults.At place) said refused = absurd (not_both words mode place said refused)
@@ -126,12 +135,12 @@ none_faulty files map config fault told none gives =
     let same : Err fault ≡ Ok (names_of map config) = sym here ∙ there in
     cc same
 
-aliases_whole : (config : Config) (before after : World) (map : FileMap) (fault : AliasesFault) → before.files.map ≡ Some map → first_fault map config.options.alias_files ≡ None → ¬ (Rose before.files.faults after.files.faults)
-    → LoadsNames config before.files after.files (Err fault) → IsWhole Session (of_aliases fault)
-aliases_whole config before after map (alias_faults.NoFile name) told none sound is = absurd (none_faulty before.files map config (alias_faults.NoFile name) told none is)
-aliases_whole config before after map (alias_faults.Refused name line) told none sound is = absurd (none_faulty before.files map config (alias_faults.Refused name line) told none is)
-aliases_whole config before after map alias_faults.FilesFault told none sound is = absurd (sound is)
-aliases_whole config before after map alias_faults.NoMemory told none sound is = inr (inl refl)
+aliases_whole : (config : Config) (before after : World) (job : Job) (map : FileMap) (fault : AliasesFault) → before.files.map ≡ Some map → first_fault map config.options.alias_files ≡ None → ¬ (Rose before.files.faults after.files.faults)
+    → LoadsNames config before.files after.files (Err fault) → IsWhole job (of_aliases fault)
+aliases_whole config before after job map (alias_faults.NoFile name) told none sound is = absurd (none_faulty before.files map config (alias_faults.NoFile name) told none is)
+aliases_whole config before after job map (alias_faults.Refused name line) told none sound is = absurd (none_faulty before.files map config (alias_faults.Refused name line) told none is)
+aliases_whole config before after job map alias_faults.FilesFault told none sound is = absurd (sound is)
+aliases_whole config before after job map alias_faults.NoMemory told none sound is = whole_memory job
 
 -- ---- the modes that serve
 
@@ -165,7 +174,7 @@ tested_whole config maps before after outcome short sound is = subst (λ (o : Ou
 
 served_whole : (map : FileMap) (config : Config) (task : Task) (maps : Loaded) (before after : World) (outcome : Outcome) → before.files.map ≡ Some map → first_fault map config.options.alias_files ≡ None → IsCalm config task before after
     → EndsAtAliases config before after outcome ⊎ HasServed task config maps before after outcome → IsWhole Session outcome
-served_whole map config task maps before after outcome told none calm (inl is) = subst (λ (o : Outcome). IsWhole Session o) (sym is.told) (aliases_whole config before after map is.fault told none calm.files is.loads)
+served_whole map config task maps before after outcome told none calm (inl is) = subst (λ (o : Outcome). IsWhole Session o) (sym is.told) (aliases_whole config before after Session map is.fault told none calm.files is.loads)
 served_whole map config task maps before after outcome told none calm (inr is) =
     subst (λ (o : Outcome). IsWhole Session o) (sym is.told) (serving_whole (judge_by (grounds_of config maps is.names) before.files) (site_of config maps (plan_of task)) task before after is.how refl calm is.serves)
 
@@ -180,6 +189,31 @@ listed_whole dirs before after list_ends.WriteFault sound is = absurd (sound.1 i
 listed_whole dirs before after list_ends.SpoolFault sound is = absurd (sound.0 is.writes.1)
 listed_whole dirs before after list_ends.NoMemory sound is = inr refl
 
+-- how a run over an opened queue ends that takes a message of a program
+submission_whole : (grounds : Grounds) (site : Site) (words : SubmitWords) (before after : World) (end : SubmitEnd) → ¬ (Rose before.files.faults after.files.faults) → NoneFailed (Submit words) before after → IsOverQueue site (core_of before) (Submits grounds site words before after end)
+    → IsWhole (Submit words) (of_submission end)
+submission_whole grounds site words before after submit_ends.Done files sound is = inl refl
+submission_whole grounds site words before after (submit_ends.MessageRefused code) files sound is = inr (inr (inr tt))
+submission_whole grounds site words before after submit_ends.NoRecipient files sound is = inr (inr (inr tt))
+submission_whole grounds site words before after (submit_ends.BadRecipient place error) files sound is = inr (inr (inr tt))
+submission_whole grounds site words before after submit_ends.ReadFault files sound is = absurd (sound.1 is.run.asked.1)
+submission_whole grounds site words before after submit_ends.SpoolFault files sound is = absurd (sound.0 is.run.asked.1)
+submission_whole grounds site words before after submit_ends.FilesFault files sound is = absurd (files is.run.asked.1)
+submission_whole grounds site words before after submit_ends.IdsSpent files sound is = inr (inr (inl refl))
+submission_whole grounds site words before after submit_ends.NoMemory files sound is = inr (inl refl)
+
+submitting_whole : (grounds : Grounds) (site : Site) (words : SubmitWords) (before after : World) (how : SubmitModeEnd) → ¬ (Rose before.files.faults after.files.faults) → NoneFailed (Submit words) before after → EndsSo grounds site words before after how
+    → IsWhole (Submit words) (of_submitting how)
+submitting_whole grounds site words before after mode_ends.NotOpened files sound is = absurd (sound.0 is.1)
+submitting_whole grounds site words before after mode_ends.NoMemory files sound is = inr (inl refl)
+submitting_whole grounds site words before after (mode_ends.Over end) files sound is = submission_whole grounds site words before after end files sound is
+
+submitted_whole : (map : FileMap) (config : Config) (words : SubmitWords) (maps : Loaded) (before after : World) (outcome : Outcome) → before.files.map ≡ Some map → first_fault map config.options.alias_files ≡ None → IsSound (Submit words) before after
+    → EndsAtAliases config before after outcome ⊎ HasSubmitted words config maps before after outcome → IsWhole (Submit words) outcome
+submitted_whole map config words maps before after outcome told none sound (inl is) = subst (λ (o : Outcome). IsWhole (Submit words) o) (sym is.told) (aliases_whole config before after (Submit words) map is.fault told none sound.files is.loads)
+submitted_whole map config words maps before after outcome told none sound (inr is) =
+    subst (λ (o : Outcome). IsWhole (Submit words) o) (sym is.told) (submitting_whole (grounds_of config maps is.names) (site_of config maps (Serve None)) words before after is.how sound.files sound.own is.ends)
+
 work_whole : (map : FileMap) (config : Config) (before after : World) (job : Job) (outcome : Outcome) → before.files.map ≡ Some map → Finds job map config before → IsSound job before after → Works job config before after outcome → IsWhole job outcome
 work_whole map config before after Test outcome told finds sound (inl is) = loads_whole map config before after Test outcome told finds.0 sound.files is
 work_whole map config before after Test outcome told finds sound (inr is) = tested_whole config is.maps before after outcome finds.1 sound is.work
@@ -189,6 +223,8 @@ work_whole map config before after (Daemon wait) outcome told finds sound is =
     task_whole map config (tasks.Daemon wait) before after outcome told finds (record { files = sound.files; spool = sound.own.1; floor = λ door. sound.own.0 }) is
 work_whole map config before after (Run group) outcome told finds sound is =
     task_whole map config (tasks.Run group) before after outcome told finds (record { files = sound.files; spool = sound.own; floor = λ door. absurd (false≢true door) }) is
+work_whole map config before after (Submit words) outcome told finds sound (inl is) = loads_whole map config before after (Submit words) outcome told finds.0 sound.files is
+work_whole map config before after (Submit words) outcome told finds sound (inr is) = submitted_whole map config words is.maps before after outcome told finds.1 sound is.work
 work_whole map config before after Listing outcome told finds sound is = subst (λ (o : Outcome). IsWhole Listing o) (sym is.told) (listed_whole (all_dirs (terms_of config)) before after is.how sound.own is.lists)
 
 -- what a run's end says of a run that is ready

@@ -1,21 +1,23 @@
 -- How a run ends, and what it leaves.
-use Rattle.std.proofs.Common.{◌≡◌, ℕ, ◌≤◌, false, List, Result, Ok, Err, refl, sym, ◌∙◌, subst, inl, inr}
+use Rattle.std.proofs.Common.{◌≡◌, ℕ, ◌≤◌, false, List, None, Result, Ok, Err, refl, sym, ◌∙◌, subst, inl, inr}
 use Rattle.std.proofs.Math.Nat.{le_refl}
 use Rattle.std.specs.Prelude.{IfSome}
 use Rattle.link_edge.specs.Heard.{Heard}
 use Rattle.mail_base.specs.declared.config.Config.{Config}
 use Rattle.mail_core.specs.declared.serving.CoreStop.TheVariants as stops
 use Rattle.mail_core.specs.Judges.{JudgeSeen}
+use Rattle.mail_core.specs.Plans.{Serve}
 use Rattle.mail_core.specs.Sites.{Site}
-use Rattle.mail_core.specs.Seen.{Beside, seen as core_seen}
-use Rattle.mail_edge.specs.Seen.{SourceSeen, SinkSeen, FilesSeen}
+use Rattle.mail_core.specs.Seen.{Beside, Hands, beside, seen as core_seen}
+use Rattle.mail_edge.specs.Seen.{ClockSeen, FilesSeen, SinkSeen, SourceSeen}
 use Rattle.spool_disk.specs.Spooled.{Spooled}
+use Rattle.mail_submit.specs.declared.words.SubmitWords.{SubmitWords}
 use Rattle.queue_table.specs.Directories.{all_dirs, terms_of}
 use Rattle.sendmail_run.specs.declared.address_test.TestEnd.{TestEnd}
-use Rattle.sendmail_run.specs.declared.command_line.Job.{Job}
-use Rattle.sendmail_run.specs.declared.command_line.Job.TheVariants.{Test, List as Listing}
-use Rattle.sendmail_run.specs.declared.command_line.Mode.{Mode}
-use Rattle.sendmail_run.specs.declared.command_line.WordFault.{WordFault}
+use Rattle.command_line.specs.declared.mode.Job.{Job}
+use Rattle.command_line.specs.declared.mode.Job.TheVariants.{Test, Session, Daemon, Run, List as Listing, Submit}
+use Rattle.command_line.specs.declared.mode.Mode.{Mode}
+use Rattle.command_line.specs.declared.fault.WordFault.{WordFault}
 use Rattle.sendmail_run.specs.declared.fault.ConfigFault.{ConfigFault}
 use Rattle.sendmail_run.specs.declared.aliases.Names.{Names}
 use Rattle.sendmail_run.specs.declared.fault.AliasesFault.{AliasesFault}
@@ -29,24 +31,43 @@ use Rattle.sendmail_run.specs.declared.outcome.Outcome.{Outcome}
 use Rattle.sendmail_run.specs.declared.outcome.Outcome.TheVariants as outcomes
 use Rattle.sendmail_run.specs.declared.serving_mode.ServeEnd.{ServeEnd}
 use Rattle.sendmail_run.specs.declared.serving_mode.ServeEnd.TheVariants as serve_ends
+use Rattle.sendmail_run.specs.declared.submit_mode.SubmitModeEnd.{SubmitModeEnd}
 use Rattle.sendmail_run.specs.declared.task.Task.{Task}
 use Rattle.sendmail_run.specs.AliasFiles.{LoadsNames, names_by}
 use Rattle.sendmail_run.specs.Beginning.{Begins}
-use Rattle.sendmail_run.specs.CommandLines.{Fails, IsCommandLine}
+use Rattle.command_line.specs.CommandLines.{Fails, IsCommandLine}
 use Rattle.sendmail_run.specs.Devices.{World, streams, world}
 use Rattle.sendmail_run.specs.Listings.{Lists}
 use Rattle.sendmail_run.specs.MapFiles.{Loads, maps_by}
 use Rattle.sendmail_run.specs.inner.AliasLoading as alias_loading
 use Rattle.sendmail_run.specs.inner.Loading.{Gives, is_files_fault}
-use Rattle.sendmail_run.specs.Outcomes.{of_aliases, of_config, of_list, of_maps, of_serving, of_test, of_words}
+use Rattle.sendmail_run.specs.Outcomes.{of_aliases, of_config, of_list, of_maps, of_serving, of_submitting, of_test, of_words}
 use Rattle.sendmail_run.specs.Printing.{basis}
 use Rattle.sendmail_run.specs.Rises.{Counts, RisesOnlyAt}
-use Rattle.sendmail_run.specs.Runs.{Ends, EndsAtMaps, IsUntouched, Stays, Works, WorksAt}
+use Rattle.sendmail_run.specs.Runs.{Ends, EndsAtMaps, IsUntouched, Stays, SubmitsAt, Works, WorksAt}
 use Rattle.sendmail_run.specs.Serving.{Serves, grounds_of, judge_by, site_of}
+use Rattle.sendmail_run.specs.Submitting.{EndsSo}
 use Rattle.sendmail_run.specs.Tasks.{plan_of}
 use Rattle.sendmail_run.specs.inner.Opened.{has_lost_files}
+use Rattle.sendmail_run.specs.inner.Submitted.{IsWellSaid, has_lost_files as has_lost_input}
 use Rattle.sendmail_run.specs.Testing.{Tests}
+use Rattle.command_line.proofs.LineLemmas.{submit_lines}
+use Rattle.sendmail_run.proofs.SubmitLemmas.{rises_files}
 use Rattle.sendmail_run.proofs.ServingLemmas.{left_alone, serves_later}
+
+-- ---- words
+
+-- words that are taken are in their form, where they hand mail over
+form_of : (words : List (List ℕ)) (mode : Mode) (job : Job) → mode.job ≡ job → IsCommandLine words mode → IsWellSaid job
+form_of words mode (Submit mail) is said = let lines = submit_lines words mode mail said is in record { addresses = lines.addresses; sender = lines.sender }
+form_of words mode Test is said = tt
+form_of words mode Session is said = tt
+form_of words mode (Daemon wait) is said = tt
+form_of words mode (Run group) is said = tt
+form_of words mode Listing is said = tt
+
+pub well_said : (words : List (List ℕ)) (mode : Mode) → IsCommandLine words mode → IsWellSaid mode.job
+well_said words mode said = form_of words mode mode.job refl said
 
 -- ---- each end of a run
 
@@ -65,7 +86,7 @@ ends_at_file words f0 f1 i o l s k mode fault outcome told said begins =
     inr (inl (record { mode = mode; said = said; fault = fault; told = told; begins = begins; untouched = untouched f0 f1 i o l s k }))
 
 -- files that were asked, and didn't fail, are as they were
-asked_same : (f0 f1 : FilesSeen) → Asks f0 f1 false → f1 ≡ f0
+pub asked_same : (f0 f1 : FilesSeen) → Asks f0 f1 false → f1 ≡ f0
 asked_same f0 f1 asks = λ i. record { map = asks.fixed i; faults = asks.calm refl i }
 
 -- files that gave a configuration are as they were
@@ -111,7 +132,7 @@ pub works_untested : (f0 f1 : FilesSeen) (i : SourceSeen) (o : SinkSeen) (l : He
     → IfSome f0.map (λ map. Gives {V = Loaded} (Err fault) (maps_by map config)) → Asks f0 f1 (is_files_fault {V = Loaded} (Err fault)) → Works Test config (world f0 i o l s k) (world f1 i o l s k) outcome
 works_untested f0 f1 i o l s k config fault outcome told given asks = inl (ends_at_maps f0 f1 i o l s k config fault outcome told given asks)
 
-loaded_maps : (config : Config) (f0 f1 : FilesSeen) (maps : Loaded) → IfSome f0.map (λ map. Gives (Ok maps) (maps_by map config)) → Loads config f0 f1 (Ok maps)
+pub loaded_maps : (config : Config) (f0 f1 : FilesSeen) (maps : Loaded) → IfSome f0.map (λ map. Gives (Ok maps) (maps_by map config)) → Loads config f0 f1 (Ok maps)
 loaded_maps config f0 f1 maps told = told
 
 -- an address test ends with the outcome of its end
@@ -126,14 +147,14 @@ pub works_listed : (f : FilesSeen) (i : SourceSeen) (o0 o1 : SinkSeen) (l : Hear
 works_listed f i o0 o1 l s0 s1 k config how outcome told lists = record { how = how; told = told; lists = lists; input = refl; floor = refl; clock = refl; hands = refl }
 
 -- the aliases and homes that files give, or why they give none, by what was asked of them
-loads_names : (config : Config) (f0 f1 : FilesSeen) (result : Result Names AliasesFault) → IfSome f0.map (λ map. alias_loading.Gives result (names_by map config)) → Asks f0 f1 (alias_loading.is_files_fault result) → LoadsNames config f0 f1 result
+pub loads_names : (config : Config) (f0 f1 : FilesSeen) (result : Result Names AliasesFault) → IfSome f0.map (λ map. alias_loading.Gives result (names_by map config)) → Asks f0 f1 (alias_loading.is_files_fault result) → LoadsNames config f0 f1 result
 loads_names config f0 f1 (Ok names) told asks = told
 loads_names config f0 f1 (Err (alias_faults.NoFile name)) told asks = told
 loads_names config f0 f1 (Err (alias_faults.Refused name line)) told asks = told
 loads_names config f0 f1 (Err alias_faults.FilesFault) told asks = asks.rose refl
 loads_names config f0 f1 (Err alias_faults.NoMemory) told asks = tt
 
-loaded_names : (config : Config) (f0 f1 : FilesSeen) (names : Names) → IfSome f0.map (λ map. alias_loading.Gives (Ok names) (names_by map config)) → LoadsNames config f0 f1 (Ok names)
+pub loaded_names : (config : Config) (f0 f1 : FilesSeen) (names : Names) → IfSome f0.map (λ map. alias_loading.Gives (Ok names) (names_by map config)) → LoadsNames config f0 f1 (Ok names)
 loaded_names config f0 f1 names told = told
 
 -- a mode that serves whose aliases aren't loaded ends with the outcome of this fault
@@ -168,9 +189,49 @@ works_served task f0 f1 f2 f3 i o l0 l1 s0 s1 k0 k1 config maps names how outcom
   });
 })
 
+-- a mode that takes a message of a program, whose maps can't be loaded, ends so
+pub submits_at_maps : (words : SubmitWords) (f0 f1 : FilesSeen) (i : SourceSeen) (o : SinkSeen) (l : Heard) (s : Spooled) (k : Beside) (config : Config) (fault : MapsFault) (outcome : Outcome) → outcome ≡ of_maps fault
+    → IfSome f0.map (λ map. Gives {V = Loaded} (Err fault) (maps_by map config)) → Asks f0 f1 (is_files_fault {V = Loaded} (Err fault)) → SubmitsAt words config (world f0 i o l s k) (world f1 i o l s k) outcome
+submits_at_maps words f0 f1 i o l s k config fault outcome told given asks = inl (ends_at_maps f0 f1 i o l s k config fault outcome told given asks)
+
+-- one whose aliases aren't loaded
+pub submits_at_aliases : (words : SubmitWords) (f0 f1 f2 : FilesSeen) (i : SourceSeen) (o : SinkSeen) (l : Heard) (s : Spooled) (k : Beside) (config : Config) (maps : Loaded) (fault : AliasesFault) (outcome : Outcome) → outcome ≡ of_aliases fault
+    → IfSome f0.map (λ map. Gives (Ok maps) (maps_by map config)) → Asks f0 f1 false
+    → IfSome f1.map (λ map. alias_loading.Gives {V = Names} (Err fault) (names_by map config)) → Asks f1 f2 (alias_loading.is_files_fault {V = Names} (Err fault)) → SubmitsAt words config (world f0 i o l s k) (world f2 i o l s k) outcome
+submits_at_aliases words f0 f1 f2 i o l s k config maps fault outcome told loaded calm given asks = inr (record {
+  maps = maps;
+  loads = loaded_maps config f0 f2 maps loaded;
+  work = inl (record {
+    fault = fault;
+    told = told;
+    loads = subst (λ (f : FilesSeen). LoadsNames config f f2 (Err fault)) (asked_same f0 f1 calm) (loads_names config f1 f2 (Err fault) given asks);
+    untouched = untouched f0 f2 i o l s k;
+  });
+})
+
+-- and one that has them
+pub submits_so : (words : SubmitWords) (f0 f1 f2 f3 : FilesSeen) (i0 i1 : SourceSeen) (o : SinkSeen) (l : Heard) (h : Hands) (s0 s1 : Spooled) (c0 c1 : ClockSeen) (config : Config) (maps : Loaded) (names : Names) (how : SubmitModeEnd) (outcome : Outcome) → outcome ≡ of_submitting how
+    → IfSome f0.map (λ map. Gives (Ok maps) (maps_by map config)) → Asks f0 f1 false → IfSome f1.map (λ map. alias_loading.Gives (Ok names) (names_by map config)) → Asks f1 f2 false
+    → EndsSo (grounds_of config maps names) (site_of config maps (Serve None)) words (world f2 i0 o l s0 (beside c0 h)) (world f3 i1 o l s1 (beside c1 h)) how
+    → SubmitsAt words config (world f0 i0 o l s0 (beside c0 h)) (world f3 i1 o l s1 (beside c1 h)) outcome
+submits_so words f0 f1 f2 f3 i0 i1 o l h s0 s1 c0 c1 config maps names how outcome told loaded calm given asks ends = inr (record {
+  maps = maps;
+  loads = loaded_maps config f0 f3 maps loaded;
+  work = inr (record {
+    names = names;
+    loads = subst (λ (f : FilesSeen). LoadsNames config f f3 (Ok names)) (asked_same f0 f1 calm) (loaded_names config f1 f3 names given);
+    how = how;
+    told = told;
+    ends = subst (λ (f : FilesSeen). EndsSo (grounds_of config maps names) (site_of config maps (Serve None)) words (world f i0 o l s0 (beside c0 h)) (world f3 i1 o l s1 (beside c1 h)) how) (asked_same f1 f2 asks ∙ asked_same f0 f1 calm) ends;
+    output = refl;
+    floor = refl;
+    hands = refl;
+  });
+})
+
 -- ---- what stays
 
-same_count : (fault outcome : Outcome) (n : ℕ) → Counts fault outcome n n
+pub same_count : (fault outcome : Outcome) (n : ℕ) → Counts fault outcome n n
 same_count fault outcome n = record { later = le_refl n; rises = inr refl }
 
 -- a device's count of faults rises only at the outcome that tells of it
@@ -286,6 +347,23 @@ stays_served j site task f0 f1 f2 f3 i o l0 l1 s0 s1 k0 k1 how outcome told calm
       spool = counts outcomes.SpoolFault outcome (of_serving how) s0.faults s1.faults told no_less.spool spool;
       spawner = no_less.spawner;
       dialer = no_less.dialer;
+    }
+
+-- a mode that takes a message of a program leaves the files, and counts a fault of files, input or
+-- spool only where it ended by it
+pub stays_submitted : (f0 f1 f2 f3 : FilesSeen) (i0 i1 : SourceSeen) (o : SinkSeen) (l : Heard) (h : Hands) (s0 s1 : Spooled) (c0 c1 : ClockSeen) (how : SubmitModeEnd) (outcome : Outcome) → outcome ≡ of_submitting how
+    → Asks f0 f1 false → Asks f1 f2 false → Asks f2 f3 (has_lost_input how) → i0.faults ≤ i1.faults → RisesOnlyAt outcomes.ReadFault (of_submitting how) i0.faults i1.faults → s0.faults ≤ s1.faults → RisesOnlyAt outcomes.SpoolFault (of_submitting how) s0.faults s1.faults
+    → Stays (world f0 i0 o l s0 (beside c0 h)) (world f3 i1 o l s1 (beside c1 h)) outcome
+stays_submitted f0 f1 f2 f3 i0 i1 o l h s0 s1 c0 c1 how outcome told calm asks lost later_input input later_spool spool =
+    let since : Asks f0 f3 (has_lost_input how) = subst (λ (f : FilesSeen). Asks f f3 (has_lost_input how)) (asked_same f1 f2 asks ∙ asked_same f0 f1 calm) lost in record {
+      map = since.fixed;
+      files = counts outcomes.FilesFault outcome (of_submitting how) f0.faults f3.faults told since.later (rises_files f0 f3 how since);
+      input = counts outcomes.ReadFault outcome (of_submitting how) i0.faults i1.faults told later_input input;
+      output = same_count outcomes.WriteFault outcome o.faults;
+      floor = same_count outcomes.FloorFault outcome l.faults;
+      spool = counts outcomes.SpoolFault outcome (of_submitting how) s0.faults s1.faults told later_spool spool;
+      spawner = le_refl h.spawner.faults;
+      dialer = le_refl h.dialer.faults;
     }
 
 -- what the work of a mode leaves, the run leaves that had its configuration

@@ -135,7 +135,7 @@ abbrev pub OnlyNow : Seen → Type 0
 OnlyNow a = (c : FileMap) → a.spool.left_since a.spool.moment c → a.spool.told ≡ Some c
 
 -- what holds over each table that the store held
-over : (site : Site) (a : Seen) (store : StoreSeen) (Run : Table → Type 0) → IsFound site.dirs a.spool.told store → ((table : Table) → Holds store table → Run table) → IsOverQueue site a Run
+pub over : (site : Site) (a : Seen) (store : StoreSeen) (Run : Table → Type 0) → IsFound site.dirs a.spool.told store → ((table : Table) → Holds store table → Run table) → IsOverQueue site a Run
 over site a store Run found runs = record {
   next = store.next;
   first = found.first;

@@ -1,4 +1,3 @@
-pub mod CommandLines
 pub mod Printing
 pub mod Devices
 pub mod Outcomes
@@ -10,5 +9,6 @@ pub mod Beginning
 pub mod MapFiles
 pub mod AliasFiles
 pub mod Listings
+pub mod Submitting
 pub mod Runs
 pub mod inner

@@ -1,10 +1,12 @@
 -- The outcomes of a run: what each step's own result is told as, and the status of each (sysexits;
 -- 76 and up where it has none; the outcomes are own).
 use Rattle.std.specs.Prelude.{ℕ}
+use Rattle.submit_run.specs.declared.end.SubmitEnd.{SubmitEnd}
+use Rattle.submit_run.specs.declared.end.SubmitEnd.TheVariants as submit_ends
 use Rattle.mail_core.specs.declared.serving.CoreStop.{CoreStop}
 use Rattle.mail_core.specs.declared.serving.CoreStop.TheVariants as stops
-use Rattle.sendmail_run.specs.declared.command_line.WordFault.{WordFault}
-use Rattle.sendmail_run.specs.declared.command_line.WordFault.TheVariants as word_faults
+use Rattle.command_line.specs.declared.fault.WordFault.{WordFault}
+use Rattle.command_line.specs.declared.fault.WordFault.TheVariants as word_faults
 use Rattle.sendmail_run.specs.declared.fault.ConfigFault.{ConfigFault}
 use Rattle.sendmail_run.specs.declared.fault.ConfigFault.TheVariants as config_faults
 use Rattle.sendmail_run.specs.declared.fault.AliasesFault.{AliasesFault}
@@ -17,8 +19,10 @@ use Rattle.sendmail_run.specs.declared.list_mode.ListEnd.{ListEnd}
 use Rattle.sendmail_run.specs.declared.list_mode.ListEnd.TheVariants as list_ends
 use Rattle.sendmail_run.specs.declared.serving_mode.ServeEnd.{ServeEnd}
 use Rattle.sendmail_run.specs.declared.serving_mode.ServeEnd.TheVariants as serve_ends
+use Rattle.sendmail_run.specs.declared.submit_mode.SubmitModeEnd.{SubmitModeEnd}
+use Rattle.sendmail_run.specs.declared.submit_mode.SubmitModeEnd.TheVariants as mode_ends
 use Rattle.sendmail_run.specs.declared.outcome.Outcome.{Outcome}
-use Rattle.sendmail_run.specs.declared.outcome.Outcome.TheVariants.{Done, Usage, NoFile, NoMemory, FilesFault, WriteFault, ReadFault, InputLarge, ConfigLine, AliasLine, FloorFault, TurnsSpent, SpoolFault, IdsSpent}
+use Rattle.sendmail_run.specs.declared.outcome.Outcome.TheVariants.{Done, Usage, NoFile, NoMemory, FilesFault, WriteFault, ReadFault, InputLarge, ConfigLine, AliasLine, FloorFault, TurnsSpent, SpoolFault, IdsSpent, MessageRefused, NoRecipient, BadRecipient}
 
 -- words that are refused
 abbrev pub of_words : WordFault → Outcome
@@ -76,6 +80,24 @@ of_serving serve_ends.Finished = Done
 of_serving (serve_ends.Over stop) = of_stop stop
 of_serving (serve_ends.TurnsSpent count) = TurnsSpent count
 
+-- the end of a run over an opened queue that takes a message of a program
+abbrev pub of_submission : SubmitEnd → Outcome
+of_submission submit_ends.Done = Done
+of_submission (submit_ends.MessageRefused code) = MessageRefused code
+of_submission submit_ends.NoRecipient = NoRecipient
+of_submission (submit_ends.BadRecipient place error) = BadRecipient place error
+of_submission submit_ends.ReadFault = ReadFault
+of_submission submit_ends.SpoolFault = SpoolFault
+of_submission submit_ends.FilesFault = FilesFault
+of_submission submit_ends.IdsSpent = IdsSpent
+of_submission submit_ends.NoMemory = NoMemory
+
+-- the end of a mode that does
+abbrev pub of_submitting : SubmitModeEnd → Outcome
+of_submitting mode_ends.NotOpened = SpoolFault
+of_submitting mode_ends.NoMemory = NoMemory
+of_submitting (mode_ends.Over end) = of_submission end
+
 -- the status that a program ends with
 abbrev pub status_of : Outcome → ℕ
 status_of Done = 0
@@ -91,4 +113,7 @@ status_of ReadFault = 74
 status_of SpoolFault = 75
 status_of InputLarge = 76
 status_of IdsSpent = 77
+status_of (MessageRefused code) = 80
+status_of NoRecipient = 79
+status_of (BadRecipient number error) = 67
 status_of (ConfigLine line fault) = 78

@@ -4,18 +4,21 @@ use Rattle.std.specs.Prelude.{◌≡◌, ℕ, ◌^◌, ◌<◌, ◌≤◌, List,
 use Rattle.mail_base.specs.declared.config.Config.{Config}
 use Rattle.mail_base.specs.Histories.{Rose}
 use Rattle.mail_edge.specs.Seen.{FileMap}
+use Rattle.mail_submit.specs.declared.words.SubmitWords.{SubmitWords}
 use Rattle.map_tables.specs.Answers.{Loaded}
+use Rattle.mail_core.specs.Plans.{Serve}
 use Rattle.queue_table.specs.Directories.{all_dirs, terms_of}
 use Rattle.sendmail_run.specs.declared.address_test.TestEnd.{TestEnd}
 use Rattle.sendmail_run.specs.declared.aliases.Names.{Names}
-use Rattle.sendmail_run.specs.declared.command_line.Job.{Job}
-use Rattle.sendmail_run.specs.declared.command_line.Job.TheVariants.{Test, Session, Daemon, Run, List as Listing}
-use Rattle.sendmail_run.specs.declared.command_line.Mode.{Mode}
-use Rattle.sendmail_run.specs.declared.command_line.WordFault.{WordFault}
+use Rattle.command_line.specs.declared.mode.Job.{Job}
+use Rattle.command_line.specs.declared.mode.Job.TheVariants.{Test, Session, Daemon, Run, List as Listing, Submit}
+use Rattle.command_line.specs.declared.mode.Mode.{Mode}
+use Rattle.command_line.specs.declared.fault.WordFault.{WordFault}
 use Rattle.sendmail_run.specs.declared.fault.AliasesFault.{AliasesFault}
 use Rattle.sendmail_run.specs.declared.fault.ConfigFault.{ConfigFault}
 use Rattle.sendmail_run.specs.declared.fault.MapsFault.{MapsFault}
 use Rattle.sendmail_run.specs.declared.list_mode.ListEnd.{ListEnd}
+use Rattle.sendmail_run.specs.declared.submit_mode.SubmitModeEnd.{SubmitModeEnd}
 use Rattle.sendmail_run.specs.declared.outcome.Outcome.{Outcome}
 use Rattle.sendmail_run.specs.declared.outcome.Outcome.TheVariants as ends
 use Rattle.sendmail_run.specs.declared.serving_mode.ServeEnd.{ServeEnd}
@@ -23,14 +26,15 @@ use Rattle.sendmail_run.specs.declared.task.Task.{Task}
 use Rattle.sendmail_run.specs.declared.task.Task.TheVariants as tasks
 use Rattle.sendmail_run.specs.AliasFiles.{LoadsNames, first_fault}
 use Rattle.sendmail_run.specs.Beginning.{Begins, said_by}
-use Rattle.sendmail_run.specs.CommandLines.{Fails, IsCommandLine}
+use Rattle.command_line.specs.CommandLines.{Fails, IsCommandLine}
 use Rattle.sendmail_run.specs.Listings.{Lists}
 use Rattle.sendmail_run.specs.Devices.{Streams, World, core_of, streams_of}
 use Rattle.sendmail_run.specs.MapFiles.{Loads, first_missing}
-use Rattle.sendmail_run.specs.Outcomes.{of_aliases, of_config, of_list, of_maps, of_serving, of_test, of_words}
+use Rattle.sendmail_run.specs.Outcomes.{of_aliases, of_config, of_list, of_maps, of_serving, of_submitting, of_test, of_words}
 use Rattle.sendmail_run.specs.Printing.{basis}
 use Rattle.sendmail_run.specs.Rises.{Counts}
 use Rattle.sendmail_run.specs.Serving.{IsLeftAlone, Serves, grounds_of, judge_by, site_of}
+use Rattle.sendmail_run.specs.Submitting.{EndsSo}
 use Rattle.sendmail_run.specs.Tasks.{plan_of}
 use Rattle.sendmail_run.specs.Testing.{Tests}
 
@@ -113,6 +117,26 @@ WorksAt task config before after outcome = EndsAtMaps config before after outcom
     ⊎ HasMaps config before after (λ maps. EndsAtAliases config before after outcome
     ⊎ HasServed task config maps before after outcome)
 
+-- a mode that takes a message of a program had its aliases and homes and did so, with these maps, and
+-- left the output, the floor, spawner and dialer alone
+pub record HasSubmitted (words : SubmitWords) (config : Config) (maps : Loaded)
+    (before after : World) (outcome : Outcome) : Type 0 where
+  pub names : Names
+  pub loads : LoadsNames config before.files after.files (Ok names)
+  pub how : SubmitModeEnd
+  pub told : outcome ≡ of_submitting how
+  pub ends : EndsSo (grounds_of config maps names) (site_of config maps (Serve None)) words before
+      after how
+  pub output : after.output ≡ before.output
+  pub floor : after.floor ≡ before.floor
+  pub hands : after.hands ≡ before.hands
+
+-- how such a mode ends
+abbrev pub SubmitsAt : SubmitWords → Config → World → World → Outcome → Type 0
+SubmitsAt words config before after outcome = EndsAtMaps config before after outcome
+    ⊎ HasMaps config before after (λ maps. EndsAtAliases config before after outcome
+    ⊎ HasSubmitted words config maps before after outcome)
+
 -- the queue was listed, and all devices but the spool and the output left alone
 pub record HasListed (config : Config) (before after : World) (outcome : Outcome) : Type 0 where
   pub how : ListEnd
@@ -134,6 +158,7 @@ Works (Daemon wait) config before after outcome =
 Works (Run group) config before after outcome =
     WorksAt (tasks.Run group) config before after outcome
 Works Listing config before after outcome = HasListed config before after outcome
+Works (Submit words) config before after outcome = SubmitsAt words config before after outcome
 
 -- the words were taken, the file that they name is a configuration, and the mode's work was done
 pub record EndsAtWork (words : List (List ℕ)) (before after : World)
@@ -172,8 +197,9 @@ pub record IsShort (left : Option (List ℕ)) : Type 0 where
   pub few : length bytes < 2 ^ 32
 
 -- what a mode wants, under a configuration over files: address test mode that no file of its maps
--- is missing, and a short input; the modes that serve that none is missing and that each alias file
--- is taken; and the listing nothing. Each takes any queue.
+-- is missing, and a short input; the modes that serve, and the one that takes a message of a
+-- program, that none is missing and that each alias file is taken; and the listing nothing. Each
+-- takes any queue.
 abbrev pub Finds : Job → FileMap → Config → World → Type 0
 Finds Test map config before = (first_missing map config ≡ None) × IsShort before.input.left
 Finds Session map config before =
@@ -183,6 +209,8 @@ Finds (Daemon wait) map config before =
 Finds (Run group) map config before =
     (first_missing map config ≡ None) × (first_fault map config.options.alias_files ≡ None)
 Finds Listing map config before = Unit {0}
+Finds (Submit words) map config before =
+    (first_missing map config ≡ None) × (first_fault map config.options.alias_files ≡ None)
 
 -- the words say this mode, they, the file and its lines are all taken, of files that are told, and
 -- the mode finds what it wants
@@ -208,14 +236,23 @@ NoneFailed (Daemon wait) before after = ¬ (Rose before.floor.faults after.floor
 NoneFailed (Run group) before after = ¬ (Rose before.spool.faults after.spool.faults)
 NoneFailed Listing before after = ¬ (Rose before.spool.faults after.spool.faults)
     × ¬ (Rose before.output.faults after.output.faults)
+NoneFailed (Submit words) before after = ¬ (Rose before.spool.faults after.spool.faults)
+    × ¬ (Rose before.input.faults after.input.faults)
 
 -- neither the files nor a device of the mode failed
 pub record IsSound (job : Job) (before after : World) : Type 0 where
   pub files : ¬ (Rose before.files.faults after.files.faults)
   pub own : NoneFailed job before after
 
+-- a message of a program was read, and refused as it is
+abbrev pub IsRefused : Outcome → Type 0
+IsRefused (ends.MessageRefused code) = Unit {0}
+IsRefused ends.NoRecipient = Unit {0}
+IsRefused (ends.BadRecipient place error) = Unit {0}
+IsRefused outcome = ⊥
+
 -- the whole work of a mode was done, or memory ran out; in a mode that serves 2^60 turns or the ids
--- may have been spent
+-- may have been spent; in one that takes a message of a program this was refused, or the ids spent
 abbrev pub IsWhole : Job → Outcome → Type 0
 IsWhole Test outcome = (outcome ≡ ends.Done) ⊎ (outcome ≡ ends.NoMemory)
 IsWhole Session outcome = (outcome ≡ ends.Done) ⊎ (outcome ≡ ends.NoMemory)
@@ -225,6 +262,8 @@ IsWhole (Daemon wait) outcome = (outcome ≡ ends.Done) ⊎ (outcome ≡ ends.No
 IsWhole (Run group) outcome = (outcome ≡ ends.Done) ⊎ (outcome ≡ ends.NoMemory)
     ⊎ (outcome ≡ ends.IdsSpent) ⊎ (outcome ≡ ends.TurnsSpent (2 ^ 60))
 IsWhole Listing outcome = (outcome ≡ ends.Done) ⊎ (outcome ≡ ends.NoMemory)
+IsWhole (Submit words) outcome = (outcome ≡ ends.Done) ⊎ (outcome ≡ ends.NoMemory)
+    ⊎ (outcome ≡ ends.IdsSpent) ⊎ IsRefused outcome
 
 -- a run that is ready for its mode, and in which no device of it fails, does the mode's whole work
 abbrev pub Completes : List (List ℕ) → World → World → Outcome → Type 0

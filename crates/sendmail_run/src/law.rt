@@ -1,6 +1,4 @@
-ghost use Rattle.std.specs.Prelude.{◌≡◌, ◌⊎◌, List, ℕ};
-ghost use Rattle.sendmail_run.specs.declared.command_line.Mode.{Mode};
-ghost use Rattle.sendmail_run.specs.CommandLines.{IsCommandLine, IsRefusedAt};
+ghost use Rattle.std.specs.Prelude.{◌≡◌, List, ℕ};
 ghost use Rattle.sendmail_run.specs.Printing.{Basis, Prints};
 
 /// Lines have one printed text at most.
@@ -17,16 +15,3 @@ pub fn some_text()
 {
     addr_test::some_text();
 }
-
-/// Words are a command line or are refused at a place, and never both; its mode and the place are
-/// the only ones.
-pub fn words_are_taken_or_refused()
-    ensures each { (words : List (List ℕ))
-        → ((mode : Mode) × IsCommandLine words mode) ⊎ ((place : ℕ) × IsRefusedAt words place) }
-    ensures apart { (words : List (List ℕ)) (mode : Mode) (place : ℕ) → IsCommandLine words mode
-        → ¬ (IsRefusedAt words place) }
-    ensures mode { (words : List (List ℕ)) (mode other : Mode) → IsCommandLine words mode
-        → IsCommandLine words other → mode ≡ other }
-    ensures place { (words : List (List ℕ)) (place other : ℕ) → IsRefusedAt words place
-        → IsRefusedAt words other → place ≡ other }
-{}

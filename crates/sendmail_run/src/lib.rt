@@ -4,7 +4,6 @@
 mod address_test;
 mod aliases;
 mod buffer;
-mod command_line;
 mod fault;
 mod input;
 mod law;
@@ -16,12 +15,13 @@ mod program;
 mod queue_listing;
 mod serving_mode;
 mod site;
+mod submit_mode;
 mod task;
 mod warning;
 
 pub use cf_reader::Fault;
-pub use command_line::{DEFAULT_FILE, Job, Mode, WordFault, words};
-pub use law::{one_text, some_text, words_are_taken_or_refused};
+pub use command_line::{DEFAULT_FILE, Job, Mode, WordFault, words, words_are_taken_or_refused};
+pub use law::{one_text, some_text};
 pub use outcome::Outcome;
 pub use program::sendmail;
 pub use queue_listing::listing;

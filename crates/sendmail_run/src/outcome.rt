@@ -2,13 +2,15 @@ ghost use Rattle.std.specs.Prelude.{◌≡◌};
 ghost use Rattle.sendmail_run.specs.Outcomes as spec;
 
 use crate::address_test::TestEnd;
-use crate::command_line::WordFault;
 use crate::fault::{AliasesFault, ConfigFault, MapsFault};
 use crate::list_mode::ListEnd;
 use crate::serving_mode::ServeEnd;
+use crate::submit_mode::SubmitModeEnd;
 use cf_reader::Fault;
-use mail_base::Text;
+use command_line::WordFault;
+use mail_base::{RouteError, Text};
 use mail_core::CoreStop;
+use submit_run::SubmitEnd;
 
 /// How a run ends.
 #[derive(Drop)]
@@ -45,6 +47,13 @@ pub enum Outcome {
     SpoolFault,
     /// A message came, or one was to be returned, that needs an id above 999,999,999,999.
     IdsSpent,
+    /// The message that was handed over is refused with this code: 552 where it or its header block
+    /// is too large, 554 where it has passed too many hosts.
+    MessageRefused(u16),
+    /// The message that was handed over has no recipient.
+    NoRecipient,
+    /// The recipient of this number, counted from 0, is refused with this error.
+    BadRecipient(u64, RouteError),
 }
 
 impl Outcome {
@@ -67,6 +76,9 @@ impl Outcome {
             Outcome::TurnsSpent(_) => 70,
             Outcome::SpoolFault => 75,
             Outcome::IdsSpent => 77,
+            Outcome::MessageRefused(_) => 80,
+            Outcome::NoRecipient => 79,
+            Outcome::BadRecipient(..) => 67,
         }
     }
 
@@ -154,6 +166,33 @@ impl Outcome {
             ServeEnd::Over(CoreStop::FilesFault) => Outcome::FilesFault,
             ServeEnd::Over(CoreStop::NoMemory) => Outcome::NoMemory,
             ServeEnd::TurnsSpent(count) => Outcome::TurnsSpent(count),
+        }
+    }
+    /// That of a run that opened the queue to take a message of a program.
+    pub(crate) fn of_submitting(how: SubmitModeEnd) -> Outcome
+        ensures { result ≡ spec.of_submitting how }
+    {
+        match how {
+            SubmitModeEnd::NotOpened => Outcome::SpoolFault,
+            SubmitModeEnd::NoMemory => Outcome::NoMemory,
+            SubmitModeEnd::Over(end) => Outcome::of_submission(end),
+        }
+    }
+
+    // That of one over the opened queue.
+    fn of_submission(end: SubmitEnd) -> Outcome
+        ensures { result ≡ spec.of_submission end }
+    {
+        match end {
+            SubmitEnd::Done => Outcome::Done,
+            SubmitEnd::MessageRefused(code) => Outcome::MessageRefused(code),
+            SubmitEnd::NoRecipient => Outcome::NoRecipient,
+            SubmitEnd::BadRecipient(place, error) => Outcome::BadRecipient(place, error),
+            SubmitEnd::ReadFault => Outcome::ReadFault,
+            SubmitEnd::SpoolFault => Outcome::SpoolFault,
+            SubmitEnd::FilesFault => Outcome::FilesFault,
+            SubmitEnd::IdsSpent => Outcome::IdsSpent,
+            SubmitEnd::NoMemory => Outcome::NoMemory,
         }
     }
 }

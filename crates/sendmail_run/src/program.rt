@@ -1,26 +1,31 @@
 ghost use Rattle.std.specs.Prelude.{◌≡◌, ◌<◌, ◌≤◌, ◌^◌, length, IfErr, OnOk};
-ghost use Rattle.mail_core.specs.Seen.{beside, hands};
+ghost use Rattle.link_edge.specs.Heard.{Heard};
+ghost use Rattle.mail_core.specs.Seen.{Hands, beside, hands};
+ghost use Rattle.submit_run.specs.Parties.{AreSaid};
 ghost use Rattle.mail_edge.specs.Seen.{SinkSeen, SourceSeen};
 ghost use Rattle.sendmail_run.specs.Beginning.{Begins};
 ghost use Rattle.sendmail_run.specs.Devices.{world};
 ghost use Rattle.sendmail_run.specs.Outcomes.{of_config};
 ghost use Rattle.sendmail_run.specs.Rises.{RisesOnlyAt};
-ghost use Rattle.sendmail_run.specs.Runs.{Completes, Ends, Stays, Works, WorksAt};
+ghost use Rattle.sendmail_run.specs.inner.Submitted.{IsWellSaid};
+ghost use Rattle.sendmail_run.specs.Runs.{Completes, Ends, Stays, SubmitsAt, Works, WorksAt};
 ghost use Rattle.sendmail_run.specs.declared.outcome.Outcome.TheVariants.{FilesFault};
 
 use crate::address_test::address_test;
 use crate::aliases::load_names;
-use crate::command_line::{Job, words};
 use crate::fault::ConfigFault;
 use crate::list_mode::list_mode;
 use crate::maps::load_maps;
 use crate::outcome::Outcome;
 use crate::serving_mode::serving_mode;
+use crate::submit_mode::submit_mode;
 use crate::task::Task;
 use cf_reader::{CfFault, read};
+use command_line::{Job, words};
 use link_edge::{Dialer, Floor};
 use mail_base::{Config, EdgeFault, Seq, Text};
 use mail_edge::{Clock, Files, Sink, Source};
+use mail_submit::SubmitWords;
 use spawn_edge::Spawner;
 use spool_disk::Spool;
 use std::alloc::Global;
@@ -28,11 +33,12 @@ use std::alloc::Global;
 /// The whole program, over its words without the program's name, and its devices.
 ///
 /// The steps are taken in this order, and the first refusal ends the run: the words, the
-/// configuration file, its lines, and then the work of the mode. Address test mode and the modes
-/// that serve read the files of maps in the order of K lines and the host table; the former then
-/// answers the lines of input, the latter read the alias files with the lines of each and the file
-/// of homes, and take the steps of [`serving_mode`]. The listing of the queue reads no more files,
-/// and takes the steps of [`list_mode`].
+/// configuration file, its lines, and then the work of the mode. Address test mode, the modes that
+/// serve and the one that takes a message of a program read the files of maps in the order of K
+/// lines and the host table; the first then answers the lines of input, the others read the alias
+/// files with the lines of each and the file of homes, and take the steps of [`serving_mode`] or of
+/// [`submit_mode`]. The listing of the queue reads no more files, and takes the steps of
+/// [`list_mode`].
 pub fn sendmail<F: Files, D: Spool, L: Floor, S: Spawner, N: Dialer, C: Clock, I: Source, O: Sink>(
     alloc: Global,
     arguments: &Seq<Text>,
@@ -146,7 +152,8 @@ fn work<F: Files, D: Spool, L: Floor, S: Spawner, N: Dialer, C: Clock, I: Source
     input: &mut I,
     output: &mut O,
 ) -> Outcome
-    requires { (C.seen clock.old).readings ≤ 2 ^ 63 }
+    requires said { IsWellSaid job }
+    requires readings { (C.seen clock.old).readings ≤ 2 ^ 63 }
     ensures works { Works job config.old
         (world (F.seen files.old) (I.seen input.old) (O.seen output.old)
         (L.seen floor.old) (D.seen spool.old)
@@ -191,6 +198,7 @@ fn work<F: Files, D: Spool, L: Floor, S: Spawner, N: Dialer, C: Clock, I: Source
             )
         }
         Job::List => Outcome::of_list(list_mode(alloc, config, spool, output)),
+        Job::Submit(words) => submitted(alloc, &words, config, files, spool, clock, input),
     }
 }
 
@@ -233,6 +241,47 @@ fn served<F: Files, D: Spool, L: Floor, S: Spawner, N: Dialer, C: Clock>(
     };
     Outcome::of_serving(serving_mode(
         alloc, task, config, &maps, &names, files, spool, floor, spawner, dialer, clock,
+    ))
+}
+
+// The mode that takes a message of a program, with the files of maps, aliases and homes that it reads
+// before it opens the queue.
+fn submitted<F: Files, D: Spool, C: Clock, I: Source>(
+    alloc: Global,
+    words: &SubmitWords,
+    config: &Config,
+    files: &mut F,
+    spool: &mut D,
+    clock: &mut C,
+    input: &mut I,
+) -> Outcome
+    requires words { AreSaid words.now }
+    requires readings { (C.seen clock.old).readings ≤ 2 ^ 63 }
+    ensures works { (output : SinkSeen) (floor : Heard) (hands : Hands)
+        → SubmitsAt words.now config.now
+        (world (F.seen files.old) (I.seen input.old) output floor (D.seen spool.old)
+        (beside (C.seen clock.old) hands))
+        (world (F.seen files.new) (I.seen input.new) output floor (D.seen spool.new)
+        (beside (C.seen clock.new) hands))
+        result }
+    ensures stays { (output : SinkSeen) (floor : Heard) (hands : Hands)
+        → Stays
+        (world (F.seen files.old) (I.seen input.old) output floor (D.seen spool.old)
+        (beside (C.seen clock.old) hands))
+        (world (F.seen files.new) (I.seen input.new) output floor (D.seen spool.new)
+        (beside (C.seen clock.new) hands))
+        result }
+{
+    let maps = match load_maps(alloc, config, files) {
+        Ok(maps) => maps,
+        Err(fault) => return Outcome::of_maps(fault),
+    };
+    let names = match load_names(alloc, config, files) {
+        Ok(names) => names,
+        Err(fault) => return Outcome::of_aliases(fault),
+    };
+    Outcome::of_submitting(submit_mode(
+        alloc, words, config, &maps, &names, files, spool, clock, input,
     ))
 }
 

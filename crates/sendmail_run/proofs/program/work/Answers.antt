@@ -1,9 +1,11 @@
 -- Each mode ends with its work.
-use Rattle.sendmail_run.specs.declared.command_line.Job.TheVariants.{Test, Session, Daemon, Run, List as Listing}
+use Rattle.command_line.specs.declared.mode.Job.TheVariants.{Test, Session, Daemon, Run, List as Listing, Submit}
 use Rattle.sendmail_run.specs.declared.outcome.Outcome.TheVariants.{ReadFault, SpoolFault, WriteFault}
+use Rattle.std.proofs.Common.{subst}
 use Rattle.mail_core.specs.Seen.{beside, hands}
 use Rattle.sendmail_run.specs.Devices.{world}
 use Rattle.sendmail_run.specs.Outcomes.{of_list, of_test}
+use Rattle.sendmail_run.specs.inner.Submitted.{IsWellSaid}
 use Rattle.sendmail_run.proofs.ProgramLemmas.{as_said, counts, stays_at_maps, stays_listed, stays_tested, works_listed, works_tested, works_untested}
 use Rattle.sendmail_run.proofs.program.work.Goals as goal
 
@@ -58,3 +60,13 @@ returns-in-List-clause-stays g c =
     stays_listed (g.F.Files.seen c.args.files.now) (g.I.Source.seen c.args.input.now) (g.O.Sink.seen c.args.output.now) (g.O.Sink.seen c.list_mode.new.output) (g.L.Floor.seen c.args.floor.now) (g.D.Spool.seen c.args.spool.now) (g.D.Spool.seen c.list_mode.new.spool) (beside (g.C.Clock.seen c.args.clock.now) (hands (g.S.Spawner.seen c.args.spawner.now) (g.N.Dialer.seen c.args.dialer.now))) c.of_list.result
     (counts WriteFault c.of_list.result (of_list c.list_mode.result) (g.O.Sink.seen c.args.output.now).faults (g.O.Sink.seen c.list_mode.new.output).faults c.of_list.ensures c.list_mode.ensures.output c.list_mode.ensures.written)
     (counts SpoolFault c.of_list.result (of_list c.list_mode.result) (g.D.Spool.seen c.args.spool.now).faults (g.D.Spool.seen c.list_mode.new.spool).faults c.of_list.ensures c.list_mode.ensures.spool c.list_mode.ensures.opened)
+
+pub submitted-requires : goal.submitted-requires
+submitted-requires g c = record { words = subst IsWellSaid c.in-Submit.is c.requires.said; readings = c.requires.readings }
+
+pub returns-in-Submit-clause-works : goal.returns-in-Submit-clause-works
+returns-in-Submit-clause-works g c =
+    as_said c.args.job (Submit c.in-Submit.words) c.args.config.now (world (g.F.Files.seen c.args.files.now) (g.I.Source.seen c.args.input.now) (g.O.Sink.seen c.args.output.now) (g.L.Floor.seen c.args.floor.now) (g.D.Spool.seen c.args.spool.now) (beside (g.C.Clock.seen c.args.clock.now) (hands (g.S.Spawner.seen c.args.spawner.now) (g.N.Dialer.seen c.args.dialer.now)))) (world (g.F.Files.seen c.submitted.new.files) (g.I.Source.seen c.submitted.new.input) (g.O.Sink.seen c.args.output.now) (g.L.Floor.seen c.args.floor.now) (g.D.Spool.seen c.submitted.new.spool) (beside (g.C.Clock.seen c.submitted.new.clock) (hands (g.S.Spawner.seen c.args.spawner.now) (g.N.Dialer.seen c.args.dialer.now)))) c.submitted.result c.in-Submit.is (c.submitted.ensures.works (g.O.Sink.seen c.args.output.now) (g.L.Floor.seen c.args.floor.now) (hands (g.S.Spawner.seen c.args.spawner.now) (g.N.Dialer.seen c.args.dialer.now)))
+
+pub returns-in-Submit-clause-stays : goal.returns-in-Submit-clause-stays
+returns-in-Submit-clause-stays g c = c.submitted.ensures.stays (g.O.Sink.seen c.args.output.now) (g.L.Floor.seen c.args.floor.now) (hands (g.S.Spawner.seen c.args.spawner.now) (g.N.Dialer.seen c.args.dialer.now))
