@@ -39,14 +39,13 @@ fn default_words(alloc: Global, sessions: u64) -> Result<Seq<Text>, NoMemory> {
     Ok(words)
 }
 
-/// The words of a session under the configuration of a run: its own, without its mode.
+/// The words of a session under the configuration of a run: those of its own that name the file.
 pub(crate) fn opening_words(alloc: Global, run: &Run) -> Result<Seq<Text>, NoMemory> {
     let mut words = Seq::new(alloc);
     words.push(Text::of(alloc, b"-bs")?)?;
     let mut is_name = false;
     for word in words_of(alloc, run, 1)?.items() {
-        let is_mode = word.bytes().starts_with(b"-b") || word.bytes().starts_with(b"-q");
-        if is_name || !is_mode {
+        if is_name || word.bytes().starts_with(b"-C") {
             words.push(Text::of(alloc, word.bytes())?)?;
         }
         is_name = !is_name && word.bytes() == b"-C".as_slice();

@@ -1,6 +1,6 @@
 //! The line on standard error that says how a run ended, as the program writes it behind its name.
 
-use mail_base::{NoMemory, Text};
+use mail_base::{NoMemory, RouteError, Text};
 use scene_text::put_number;
 use sendmail_run::Outcome;
 use std::alloc::Global;
@@ -17,6 +17,10 @@ pub(crate) fn told_of(alloc: Global, outcome: &Outcome) -> Result<Text, NoMemory
             add_number(&mut text, b"configuration line ", u64::from(*line))?;
             text.extend(fault.as_bytes())?;
         }
+        Outcome::MessageRefused(code) => {
+            add_number(&mut text, b"message refused: ", u64::from(*code))?;
+        }
+        Outcome::BadRecipient(number, error) => add_refused(&mut text, *number, error)?,
         _ => text.extend(plain(outcome).as_bytes())?,
     }
     Ok(text)
@@ -38,6 +42,15 @@ fn add_alias(text: &mut Text, name: &Text, line: u32) -> Result<(), NoMemory> {
     text.extend(b": alias refused")
 }
 
+fn add_refused(text: &mut Text, number: u64, error: &RouteError) -> Result<(), NoMemory> {
+    add_number(text, b"recipient ", number)?;
+    add_number(text, b" refused: ", u64::from(error.code))?;
+    text.extend(b" ")?;
+    text.extend(error.status.bytes())?;
+    text.extend(b" ")?;
+    text.extend(error.text.bytes())
+}
+
 fn plain(outcome: &Outcome) -> &'static str {
     match outcome {
         Outcome::NoMemory => "no memory",
@@ -49,6 +62,7 @@ fn plain(outcome: &Outcome) -> &'static str {
         Outcome::TurnsSpent(_) => "turns spent",
         Outcome::SpoolFault => "spool fault",
         Outcome::IdsSpent => "ids spent",
+        Outcome::NoRecipient => "no recipient",
         _ => "",
     }
 }

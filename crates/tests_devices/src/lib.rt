@@ -1,4 +1,5 @@
-//! Tests of the devices of the system for deliveries: child programs and lines to peers.
+//! Tests of the devices of the system for deliveries: child programs and lines to peers, and of
+//! what is told of devices.
 #![tactic(auto)]
 
 #[cfg(test)]
@@ -7,3 +8,5 @@ mod children;
 mod lines;
 #[cfg(test)]
 mod times;
+#[cfg(test)]
+mod told;

@@ -1,5 +1,5 @@
-//! Tests of the receipt of mail, of what a mailer gets of it, and of control texts, as tables. They
-//! stand apart from the libraries, which a check would else prove twice.
+//! Tests of the receipt of mail, of what programs hand over and what a mailer gets, and of control
+//! texts, as tables. They stand apart from the libraries, which a check would else prove twice.
 #![tactic(auto)]
 
 #[cfg(test)]
@@ -20,5 +20,7 @@ mod receive;
 mod received;
 #[cfg(test)]
 mod replies;
+#[cfg(test)]
+mod submitted;
 #[cfg(test)]
 mod talk;

@@ -1,0 +1,156 @@
+ghost use Rattle.std.specs.Prelude.{◌<◌};
+
+use mail_base::{NoMemory, Text};
+use mail_submit::{Input, InputFault, Submission, submitted};
+use std::alloc::Global;
+
+/// Input, whether the line `.` ends it, and the message.
+static INPUTS: [(&[u8], bool, &[u8]); 14] = [
+    (b"", true, b""),
+    (b"\n", true, b"\r\n"),
+    (b"a", true, b"a\r\n"),
+    (b"a\r", true, b"a\r\n"),
+    (b"a\nb\r\nc\n", true, b"a\r\nb\r\nc\r\n"),
+    (b"a\r\r\nb\rc\n", true, b"a\r\r\nb\rc\r\n"),
+    (b"a\n.\nmore\n", true, b"a\r\n"),
+    (b"a\r\n.\r\nmore", true, b"a\r\n"),
+    (b"a\n.", true, b"a\r\n"),
+    (b"a\n.\r", true, b"a\r\n"),
+    (b"a\n..\n.b\n", true, b"a\r\n..\r\n.b\r\n"),
+    (b"a\n.\nb", false, b"a\r\n.\r\nb\r\n"),
+    (b"a\n.", false, b"a\r\n.\r\n"),
+    (b"\r\n\r", true, b"\r\n\r\n"),
+];
+
+fn message_of(
+    alloc: Global,
+    row: &(&'static [u8], bool, &'static [u8]),
+    size: usize,
+) -> Result<Text, InputFault>
+    requires { 0 < size }
+{
+    let mut input = Input::new(alloc, row.1);
+    for piece in row.0.chunks(size) {
+        input.feed(piece, 1000)?;
+    }
+    input.end(1000)
+}
+
+fn is_read(
+    alloc: Global,
+    row: &(&'static [u8], bool, &'static [u8]),
+    size: usize,
+) -> Result<bool, InputFault>
+    requires { 0 < size }
+{
+    Ok(message_of(alloc, row, size)?.bytes() == row.2)
+}
+
+#[test]
+fn inputs_are_read(rt: HostRuntime) -> Result<(), InputFault> {
+    for (at, row) in INPUTS.iter().enumerate() {
+        assert!(rt; is_read(rt.alloc(), row, 1)?, "row {at} by bytes");
+        assert!(rt; is_read(rt.alloc(), row, 3)?, "row {at} by threes");
+        assert!(rt; is_read(rt.alloc(), row, 1000)?, "row {at} whole");
+    }
+    Ok(())
+}
+
+/// Input, and the least limit that it may have.
+static SIZES: [(&[u8], u64); 8] = [
+    (b"", 0),
+    (b"a\r", 1),
+    (b"a\n.", 3),
+    (b"a\n.\r", 3),
+    (b"a\n.\nmore", 3),
+    (b"a\n..", 5),
+    (b"a\nb\r\n", 6),
+    (b"\n", 2),
+];
+
+fn is_within(alloc: Global, bytes: &[u8], most: u64) -> bool {
+    let mut input = Input::new(alloc, true);
+    input.feed(bytes, most).is_ok()
+}
+
+#[test]
+fn sizes_are_counted(rt: HostRuntime) {
+    for (at, row) in SIZES.iter().enumerate() {
+        assert!(rt; is_within(rt.alloc(), row.0, row.1), "row {at}");
+        assert!(rt;
+            row.1 == 0 || !is_within(rt.alloc(), row.0, row.1 - 1),
+            "row {at} above"
+        );
+    }
+}
+
+fn show(text: &mut Text, submission: &Submission) -> Result<(), NoMemory> {
+    for header in submission.headers.items() {
+        text.extend(header.bytes())?;
+        text.push(b'|')?;
+    }
+    text.push(b'{')?;
+    text.extend(submission.body.bytes())?;
+    text.push(b'}')?;
+    for recipient in submission.recipients.items() {
+        text.extend(recipient.bytes())?;
+        text.push(b';')?;
+    }
+    if let Some(from) = &submission.first_from {
+        text.extend(from.bytes())?;
+    }
+    let number = format!(in text.allocator(); " {}", submission.size)?;
+    text.extend(number.as_bytes())
+}
+
+/// A message, whether recipients come from headers, and what is handed over.
+static ROWS: [(&[u8], bool, &[u8]); 9] = [
+    (
+        b"To: ann@mx.example\r\nBcc: <cid@mx.example>\r\nSubject: hi\r\n\r\nhello\r\n",
+        true,
+        b"To: ann@mx.example|Subject: hi|{hello\r\n}ann@mx.example;cid@mx.example; 42",
+    ),
+    (
+        b"To: ann@mx.example\r\nBcc: <cid@mx.example>\r\nSubject: hi\r\n\r\nhello\r\n",
+        false,
+        b"To: ann@mx.example|Bcc: <cid@mx.example>|Subject: hi|{hello\r\n} 65",
+    ),
+    (b"Subject: hi\r\n", true, b"Subject: hi|{} 13"),
+    (
+        b"cc: a,\r\n b (c), \"d\" <e@\r\n f>\r\n",
+        true,
+        b"cc: a,\r\n b (c), \"d\" <e@\r\n f>|{}a;b;e@ f; 30",
+    ),
+    (
+        b"To: us: a, b;\r\nBCC: c\r\n",
+        true,
+        b"To: us: a, b;|{}c; 15",
+    ),
+    (
+        b"From: Bob <bob@c>, x\r\nFrom: y\r\nResent-To: z\r\n\r\n",
+        true,
+        b"From: Bob <bob@c>, x|From: y|Resent-To: z|{}bob@c 47",
+    ),
+    (
+        b"From: a: b;\r\nFrom: y\r\n",
+        true,
+        b"From: a: b;|From: y|{} 22",
+    ),
+    (b"\r\nTo: a\r\n", true, b"{To: a\r\n} 9"),
+    (b"", true, b"{} 0"),
+];
+
+fn is_shown(alloc: Global, row: &(&'static [u8], bool, &'static [u8])) -> Result<bool, NoMemory> {
+    let submission = submitted(&Text::of(alloc, row.0)?, row.1)?;
+    let mut text = Text::new(alloc);
+    show(&mut text, &submission)?;
+    Ok(text.bytes() == row.2)
+}
+
+#[test]
+fn texts_are_submitted(rt: HostRuntime) -> Result<(), NoMemory> {
+    for (at, row) in ROWS.iter().enumerate() {
+        assert!(rt; is_shown(rt.alloc(), row)?, "row {at}");
+    }
+    Ok(())
+}
