@@ -6,8 +6,9 @@ where no other numbers are given. Clients send all the time, to a program, to pe
 to a peer that stalls, to one that refuses, to users who aren't there, and to some who are served the
 second time only. The parts, over one queue:
 
-`plain`: one process serves all of it. Its descriptors at the end must be those of the beginning, and
-its memory must have grown by at most 4,096 bytes for each entry that came.
+`plain`: one process serves all of it. Its descriptors at the end must be those of the beginning, but
+for a line to the peer that stalls, which it dials again and again, and its memory must have grown by
+at most 3,000 bytes for each entry that came.
 `descriptors`: it may have 40 descriptors, so sessions and mailers want more than there are.
 `disk`: the queue's disk, a small tmpfs (which wants root), is full for a third of the time.
 `end`: no client sends; the queue is run to its end, and what still waits for the peer that stalls is
@@ -65,13 +66,15 @@ def main():
         return 2
     enter()
     print(f"seed {said.seed}", flush=True)
-    with tempfile.TemporaryDirectory() as folder:
+    with tempfile.TemporaryDirectory(ignore_cleanup_errors=True) as folder:
         Path(folder).chmod(0o755)
         ground = Ground(Path(said.program).resolve(), Path(folder), bool(os.environ.get(INSIDE)))
         try:
             parts.play(ground, said.seconds, said.clients, random.Random(said.seed))
         except Strange as why:
             print(f"wrong: {why}")
+            if ground.errors.exists() and (text := ground.errors.read_text()):
+                print("the server's last words:", *text.splitlines()[-3:])
             return 1
         finally:
             ground.close()

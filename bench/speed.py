@@ -1,25 +1,32 @@
 #!/usr/bin/env python3
 """Measures the built program beside Sendmail's own and Postfix, as servers, in turns in one run.
 
-Use: UNPACKED=FOLDER bench/speed.py [--messages N] [--rounds N] [--queue N] [--entries N,N]
-[--only WORD] [--write] [PROGRAM], as root. FOLDER has Debian's packages of both peers, of Dovecot
-and of what they stand on, unpacked (`dpkg-deb -x`); what isn't there is skipped. Each server is run
+Use: UNPACKED=FOLDER bench/speed.py [--messages N] [--rounds N] [--queue N,N] [--entries N,N]
+[--slow MS] [--only WORD] [--write] [PROGRAM], as root. FOLDER has Debian's packages of both peers, of
+Dovecot and of what they stand on, as bench/speed/unpack.sh puts them there; what isn't there is
+skipped. The parts are receipt, slow, four, delivery, memory, start, turn and mode. Each server is run
 by its own daemon, over a queue of its own below /var/lib, with all of its syncs; none writes
 a log. Mail comes from Postfix's smtp-source. While receipt is measured none delivers: here the one
 runner is held by a program that doesn't end, Sendmail has DeliveryMode=queue, and Postfix has no
 queue manager. A queue is then delivered by a queue run (of Postfix, from the master's start) with
 20 runners at most, to a program that does nothing, to smtp-sink, and to Dovecot by LMTP. A start is
-one until the port is listened at, over a queue of which no entry is due. The last column is how
-many times better the program does than the better of its peers. With `--write` the table stands
+one until the port is listened at, over a queue of which no entry is due, and a turn a queue run over
+such a one. In `slow` each sync takes MS (4) longer, by a library that all load first (it wants cc); in
+`four` mail goes to four of the program at once, each with a queue of its own (docs/MANY.md), as it
+does to one of the peers. In `mode` 20,000 lines of address test mode are answered over a file that m4
+makes. The last column is how many times better the program does than the better of its peers. With
+`--write` the table stands
 between its marks in docs/BENCHMARKS.md. This is no part of the gate.
 """
 
 import argparse
 import os
+import shutil
+import subprocess
 import sys
 import tempfile
 import time
-from contextlib import ExitStack
+from contextlib import ExitStack, contextmanager
 from pathlib import Path
 
 sys.dont_write_bytecode = True
@@ -30,7 +37,7 @@ sys.path[:1] = [str(PLACE / name) for name in ("speed", "served", "peers", "clie
 import rows  # noqa: E402
 from installed import is_there  # noqa: E402
 from peers import Sink, dovecot, has_dovecot, has_sink  # noqa: E402
-from servers import Postfix, installed  # noqa: E402
+from servers import Four, Postfix, Server, installed  # noqa: E402
 from sites import BUILT, Strange  # noqa: E402
 
 PAGE = PLACE.parent / "docs/BENCHMARKS.md"
@@ -38,6 +45,8 @@ MARKS = "<!-- speed.py -->\n", "<!-- /speed.py -->\n"
 SESSIONS = (1, 10, 50)
 SIZES = (1000, 100_000)
 OPEN = 64
+LARGE = 16_000_000
+LINES = 20_000
 
 
 class Table:
@@ -83,9 +92,9 @@ def taken(servers, rounds, measures, is_more_better):
     return {name: best(values) for name, values in found.items()}
 
 
-def receipts(table, servers, words):
-    for size in SIZES:
-        for sessions in SESSIONS:
+def receipts(table, servers, words, sizes=SIZES, besides="", least=1):
+    for size in sizes:
+        for sessions in (it for it in SESSIONS if it >= least):
             for is_kept in (False, True):
                 how = "kept connections" if is_kept else "a connection a message"
                 values = taken(
@@ -94,17 +103,52 @@ def receipts(table, servers, words):
                     lambda it: rows.receipt(it, words, sessions, size, is_kept),
                     True,
                 )
-                what = f"receipt, {size // 1000} kB, {sessions} sessions, {how}"
+                what = f"receipt, {size // 1000} kB, {sessions} sessions, {how}{besides}"
                 table.add(what, "messages a second", values, True)
+
+
+@contextmanager
+def slowed(words, folder):
+    """While it lasts, each sync of each server takes longer. Gives what the rows say of it."""
+    source = PLACE / "speed/slow.c"
+    Server.slow = folder / "slow.so"
+    micros = f"-DMICROS={int(words.slow * 1000)}L"
+    subprocess.run(
+        ["cc", "-shared", "-fPIC", "-O1", micros, "-o", Server.slow, source], check=True
+    )
+    try:
+        yield f", each sync {words.slow:g} ms longer"
+    finally:
+        Server.slow = None
+
+
+def slow_receipts(table, servers, words):
+    if shutil.which("cc") is None:
+        print("skipped: no cc")
+        return
+    with slowed(words, servers[0].folder) as besides:
+        receipts(table, servers, words, SIZES[:1], besides)
+
+
+def four(table, servers, words):
+    """In the column of the program stand four of it."""
+    own = servers[0]
+    both = [Four(own.program, own.folder / "four", own.box, own.peer), *servers[1:]]
+    receipts(table, both, words, SIZES[:1], ", four daemons here", 4)
+    if shutil.which("cc") is not None:
+        with slowed(words, own.folder) as besides:
+            receipts(table, both, words, SIZES[:1], f", four daemons here{besides}", 4)
 
 
 def deliveries(table, servers, words):
     to = {"a program": "ann@mx.example"}
     to |= {"smtp-sink": "ann@peer.example"} if has_sink() else {}
     to |= {"Dovecot by LMTP": "ann@box.example"} if has_dovecot() else {}
-    for name, user in to.items():
-        values = taken(servers, words.rounds, lambda it: rows.delivery(it, words, user), False)
-        table.add(f"a queue of {words.queue} to {name}", "seconds", values, False)
+    for entries in map(int, words.queue.split(",")):
+        for name, user in to.items():
+            rounds = words.rounds if entries <= 1000 else 1
+            values = taken(servers, rounds, lambda it: rows.delivery(it, entries, user), False)
+            table.add(f"a queue of {entries:,} to {name}", "seconds", values, False)
 
 
 def memories(table, servers, _words):
@@ -112,6 +156,8 @@ def memories(table, servers, _words):
     for at, what in enumerate(("memory without work", f"memory with {OPEN} sessions")):
         values = {name: both[at] for name, both in found.items()}
         table.add(what, "KiB", values, False)
+    values = taken(servers, 1, lambda it: rows.body(it, LARGE), False)
+    table.add(f"memory with a body of {LARGE // 1_000_000} MB under way", "KiB", values, False)
 
 
 def starts(table, servers, words):
@@ -125,7 +171,40 @@ def starts(table, servers, words):
             table.add(f"{what}, {entries:,} entries that wait", unit, values, False)
 
 
-PARTS = {"receipt": receipts, "delivery": deliveries, "memory": memories, "start": starts}
+def turns(table, servers, words):
+    able = [server for server in servers if not isinstance(server, Postfix)]
+    for entries in map(int, words.entries.split(",")):
+        values = taken(able, 1, lambda it: rows.turn_over(it, entries), False)
+        table.add(f"queue run, {entries:,} entries that wait", "seconds", values, False)
+
+
+def modes(table, servers, words):
+    """Postfix has no such mode."""
+    able = [server for server in servers if not isinstance(server, Postfix)]
+    if not is_there("usr/bin/m4") or not is_there("usr/share/sendmail/cf/m4/cf.m4"):
+        return
+    config = rows.configuration(servers[0].folder)
+    found = {}
+    for _ in range(words.rounds):
+        for server in able:
+            both = rows.answers(server, config, LINES)
+            found.setdefault(server.name, []).append(both)
+    values_of = (f"`-bt`, {LINES:,} lines over m4's file", "seconds"), ("`-bt`, its memory", "KiB")
+    for at, (what, unit) in enumerate(values_of):
+        values = {name: min(both[at] for both in each) for name, each in found.items()}
+        table.add(what, unit, values, False)
+
+
+PARTS = {
+    "receipt": receipts,
+    "slow": slow_receipts,
+    "four": four,
+    "delivery": deliveries,
+    "memory": memories,
+    "start": starts,
+    "turn": turns,
+    "mode": modes,
+}
 
 
 def head_of(folder, words):
@@ -154,7 +233,8 @@ def parsed():
     parser = argparse.ArgumentParser(description=__doc__.splitlines()[0])
     parser.add_argument("--messages", type=int, default=2000)
     parser.add_argument("--rounds", type=int, default=3)
-    parser.add_argument("--queue", type=int, default=500)
+    parser.add_argument("--queue", default="500,10000")
+    parser.add_argument("--slow", type=float, default=4)
     parser.add_argument("--entries", default="10,10000,100000")
     parser.add_argument("--only", default="")
     parser.add_argument("--write", action="store_true")

@@ -3,11 +3,12 @@
 
 Use: bench/syncs.py [--messages N] [--sessions N] [--keep FILE] [PROGRAM], or bench/syncs.py
 --record FILE, or bench/syncs.py --self-test. It runs the program by `-bd` under `strace -f`, over a
-queue below the home folder, while N messages (10,000) come over N sessions at once (50), for a
-program, for a peer by SMTP and one by LMTP, some in several parts, some for nobody; it waits until
-the queue is empty, and reads what strace wrote down (or a record that was kept). Then this must be
-so of each entry, whose files are df (the body), tf (a control text that has no name yet), qf and sf
-(a control text, of an entry that waits or is finished), all in one directory of the queue:
+queue of two directories below the home folder, while N messages (10,000) come over N sessions at
+once (50), for a program, for a peer by SMTP and one by LMTP, some in several parts, some for
+nobody; it waits until the queue is empty, and reads what strace wrote down (or a record that was
+kept). Then this must be so of each entry, whose files are df (the body), tf (a control text that
+has no name yet), qf and sf (a control text, of an entry that waits or is finished), all in one
+directory of the queue:
 
 1. A file is *synced* where an fsync or fdatasync of it came back with 0 behind its last write, and
    a name where an fsync of its directory did so behind its renaming. A sync that failed, or that
@@ -21,9 +22,11 @@ so of each entry, whose files are df (the body), tf (a control text that has no 
 6. Where a control text names a parent and its revision (a part of a message, a bounce, a warning),
    its entry stands before the parent's text of that revision is renamed, which decides for all.
 7. Before df is removed, qf was renamed to sf, and the name of the last control text is synced.
+8. Where a name changed in a directory, that is synced before anything changes in another one.
 
-What comes behind these is tidying, which the next opening would do again: neither the renaming to
-sf nor the removal of df has to be synced. An entry that was there before the record began stands.
+What comes behind 1 to 7 is tidying, which the next opening would do again: neither the renaming to
+sf nor the removal of df has to be synced for itself; 8 keeps them in order. An entry that was there
+before the record began stands. A sync that covers several changes is counted for the last of them.
 The script prints how many syncs each step took and its calls that touch the disk, in order, and
 ends with status 1 where a rule is broken. `--self-test` tries it over a record by hand, from which
 lines are taken out. Build the program first, by `make run`. It wants strace. This is no part of the
@@ -101,12 +104,26 @@ def load(site, words):
         if client.why:
             raise Strange(f"a session broke: {client.why!r}")
     print(f"{words.messages} messages came in {time.monotonic() - begun:.0f} seconds", flush=True)
-    queue = site.folder / "queue"
     until = time.monotonic() + words.seconds
-    while any(name.startswith("qf") for name in os.listdir(queue)) and time.monotonic() < until:
+    while waiting(site) and time.monotonic() < until:
         time.sleep(1)
-    left = sum(name.startswith("qf") for name in os.listdir(queue))
+    left = waiting(site)
     print(f"{left} entries are left after {time.monotonic() - begun:.0f} seconds", flush=True)
+
+
+def waiting(site):
+    """How many entries wait."""
+    queues = (site.folder / "queue", site.folder / "boxes")
+    return sum(name.startswith("qf") for queue in queues for name in os.listdir(queue))
+
+
+def configured(folder):
+    """A mailer that takes no time, and a queue group with a directory of its own for boxes."""
+    config = folder / "served.cf"
+    group = f"Qboxes, P={folder}/boxes, R=4, I=1s\nMbox, P=[IPC], Q=boxes, "
+    text = config.read_text().replace(f"P={folder}/keeper", "P=/bin/true")
+    config.write_text(text.replace("Mbox, P=[IPC], ", group))
+    (folder / "boxes").mkdir()
 
 
 def traced(words, folder, record):
@@ -114,8 +131,7 @@ def traced(words, folder, record):
     peers.SLOWEST = 0
     peer, box = peers.Peer(), peers.Peer(folder / "box")
     site = Site(words.program, folder, peer.place, box.place)
-    config = folder / "served.cf"
-    config.write_text(config.read_text().replace(f"P={folder}/keeper", "P=/bin/true"))
+    configured(folder)
     command = ["strace", "-f", "--seccomp-bpf", "-y", "-s", "512", "-o", record, "-e"]
     command += [f"trace={CALLS}", *site.command("-bd"), "-q5s"]
     run = subprocess.Popen(command, stdin=subprocess.DEVNULL)

@@ -13,7 +13,7 @@ Mlocal, P=/bin/true, F=lsDFMA, A=true $u
 # What stands behind the good lines, the status, and a word of what is said.
 CASES = {
     "good": ("", 0, "it can be run"),
-    "an option": ("O LogLevel=9\n", 0, "ignored: O LogLevel=9\n    no log"),
+    "an option": ("O LogLevel=9\n", 0, "ignored: O LogLevel=9\n    no level"),
     "a milter": ("Xf, S=local:/x\n", 0, "ignored: Xf, S=local:/x\n    no milter"),
     "a certificate": ("O ServerKeyFile=/k\n", 0, "no TLS"),
     "a rule for a header": ("HTo: $>Check\n", 0, "rules for a header aren't run"),

@@ -6,6 +6,7 @@ configuration of the installation, and /var/mail and /var/spool are empty.
 
 import os
 import re
+import shlex
 import shutil
 import signal
 import smtplib
@@ -67,10 +68,22 @@ def by_inetd(program, folder):
     return inside("inetd", program, folder)
 
 
-def command_of(folder, unit):
-    """The words of a unit's ExecStart."""
+def parts(program, folder):
+    if packet_filter() is None:
+        return "skipped: no nft"
+    return inside("parts", program, folder)
+
+
+def packet_filter():
+    """The program nft, also where it was only unpacked."""
+    unpacked = Path(os.environ.get("UNPACKED", "/none"), "usr/sbin/nft")
+    return shutil.which("nft") or (str(unpacked) if unpacked.exists() else None)
+
+
+def command_of(folder, unit, word="ExecStart"):
+    """The words of a unit's ExecStart, or of another command of it."""
     text = (folder / "usr/lib/systemd/system" / unit).read_text()
-    return re.search(r"^ExecStart=(.*)$", text, re.MULTILINE)[1].split()
+    return shlex.split(re.search(rf"^{word}=(.*)$", text, re.MULTILINE)[1])
 
 
 class Client(threading.Thread):
@@ -127,17 +140,19 @@ def sent(clients):
     return {subject for client in clients for subject in client.acknowledged}
 
 
-def listed(folder):
-    ran = subprocess.run([folder / "usr/bin/mailq"], capture_output=True, text=True, check=False)
+def listed(folder, *more):
+    command = [folder / "usr/bin/mailq", *more]
+    ran = subprocess.run(command, capture_output=True, text=True, check=False)
     return ran.stdout.splitlines()
 
 
-def check(folder, clients, twice):
+def check(folder, clients, twice, queues=((),)):
     """Each message came; so many may have come again."""
     subjects = sent(clients)
     expect("how many were acknowledged", len(subjects), CLIENTS * EACH)
     come = ["Total requests: 0"]
-    wait_for("an empty queue", lambda: listed(folder) == come, 0.2)
+    for more in queues:
+        wait_for("an empty queue", lambda: listed(folder, *more) == come, 0.2)
     came = boxes()
     expect("what is lost", subjects - set(came), set())
     expect("what nobody sent", set(came) - subjects, set())
@@ -184,6 +199,46 @@ def mailers():
     return found
 
 
+def play_parts(folder):
+    """Four servers behind one port, each of which is stopped and started while clients send."""
+    unit, numbers = "sendmail-part@.service", range(1, 5)
+    subprocess.run(["mount", "-t", "tmpfs", "run", "/run"], check=True)
+    commands = {}
+    for number in numbers:
+        Path(f"/var/spool/mqueue{number}").mkdir(mode=0o700)
+        Path(f"/run/sendmail-part{number}").mkdir()
+        words = command_of(folder, unit, "ExecStartPre")
+        subprocess.run([it.replace("%i", str(number)) for it in words], check=True)
+        commands[number] = [it.replace("%i", str(number)) for it in command_of(folder, unit)]
+    runs = {number: subprocess.Popen(command) for number, command in commands.items()}
+    wait_for("four ports", lambda: all(is_heard(2500 + number) for number in numbers))
+    rules = folder / "usr/share/doc/sendmail-proved/examples/sendmail-parts.nft"
+    unpacked = Path(os.environ.get("UNPACKED", "/none"), "usr/lib/x86_64-linux-gnu")
+    libraries = dict(os.environ, LD_LIBRARY_PATH=str(unpacked)) if unpacked.exists() else None
+    subprocess.run([packet_filter(), "-f", rules], env=libraries, check=True)
+    clients = clients_at_once()
+    cut = 0
+    for number in numbers:
+        time.sleep(0.4)
+        cut += len(mailers())
+        runs[number].terminate()
+        expect("status of a server that is stopped", runs[number].wait(), -signal.SIGTERM)
+        runs[number] = subprocess.Popen(commands[number])
+    sent(clients)
+    time.sleep(1)
+    for run in runs.values():
+        run.terminate()
+        run.wait()
+    wait_for("the mailers' end", lambda: not mailers())
+    configs = [("-C", f"/run/sendmail-part{number}/sendmail.cf") for number in numbers]
+    for number, config in zip(numbers, configs):
+        subprocess.run([commands[number][0], "-q", *config], check=True)
+    shares = [len(list(Path(f"/var/spool/mqueue{number}").glob("sf*"))) for number in numbers]
+    expect("whether each of the four had mail", all(shares), True)
+    said = check(folder, clients, cut + len(shares) * 4, configs)
+    return f"{said}, {', '.join(map(str, shares))} of them by each"
+
+
 def drained(folder):
     """Runs the queue by the command of its unit."""
     ran = subprocess.run(command_of(folder, "sendmail-queue.service"), check=False)
@@ -220,7 +275,12 @@ def play_inetd(folder):
 
 if __name__ == "__main__":
     try:
-        part = {"server": play_server, "sockets": play_sockets, "inetd": play_inetd}[sys.argv[1]]
+        part = {
+            "server": play_server,
+            "parts": play_parts,
+            "sockets": play_sockets,
+            "inetd": play_inetd,
+        }[sys.argv[1]]
         print(part(Path(sys.argv[2])))
     except Strange as why:
         sys.exit(str(why))

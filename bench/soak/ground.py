@@ -66,19 +66,26 @@ class Server:
 
     def keep(self):
         while not self.is_over:
-            self.run = subprocess.Popen(
-                self.ground.command("-bd", "-q2s"),
-                env={"SENDMAIL_HASTE": HASTE},
-                stderr=subprocess.DEVNULL,
-                preexec_fn=self.limit,
-            )
+            with open(self.ground.errors, "ab") as errors:
+                self.run = subprocess.Popen(
+                    self.ground.command("-bd", "-q2s"),
+                    env={"SENDMAIL_HASTE": HASTE},
+                    stderr=errors,
+                    preexec_fn=self.limit,
+                )
             status = self.run.wait()
             if not self.is_over:
                 self.ends[status] += 1
                 time.sleep(0.3)
 
     def descriptors_open(self):
-        return sorted(os.readlink(path) for path in Path(f"/proc/{self.run.pid}/fd").iterdir())
+        found = []
+        for path in Path(f"/proc/{self.run.pid}/fd").iterdir():
+            try:
+                found.append(os.readlink(path))
+            except FileNotFoundError:
+                pass
+        return sorted(found)
 
     def memory(self):
         """The bytes that it has in memory."""
@@ -97,6 +104,7 @@ class Ground:
 
     def __init__(self, program, folder, has_disk):
         self.program, self.folder, self.has_disk = str(program), folder, has_disk
+        self.errors = folder / "errors"
         self.peer, self.box = Peer(), Peer(folder / "box")
         self.stall, self.refuse = Staller(), Refuser()
         self.port = free_port()

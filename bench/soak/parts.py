@@ -16,8 +16,10 @@ GOOD = ("ann@mx.example", "cid@mx.example", "fay@box.example", "dan@peer.example
 GOOD += ("later@mx.example", "later@peer.example")
 BAD = ("gone@mx.example", "gone@peer.example", "eve@refuse.example")
 STALLED = "eve@stall.example"
-# The bytes by which memory may grow for each entry.
-GROWTH = 4096
+# The bytes by which memory may grow for each entry, which stays in the server's table once it is
+# done: 1,700 to 2,200 were measured in loads of 300 to 1,000 entries one after another, with control
+# texts of 310 bytes, and half of that is for lists that grow by doubling.
+GROWTH = 3000
 DESCRIPTORS = 40
 # The seconds within which all is delivered that can be.
 LONGEST = 600
@@ -99,10 +101,11 @@ def plain(ground, tally, seconds, clients, chance):
     server = Server(ground)
     warm = tally.load(ground, "warm", clients, seconds / 6, chance)
     rest(ground)
-    before, held = server.descriptors_open(), server.memory()
+    before, held = idle_descriptors(server), server.memory()
     count = tally.load(ground, "plain", clients, seconds, chance)
     rest(ground)
-    expect("descriptors behind it", server.descriptors_open(), before)
+    left = Counter(server.descriptors_open()) - Counter(before)
+    expect(f"whether {dict(left)} is a line at most", left.total() < 2, True)
     grown = server.memory() - held
     entries = sum(1 for _ in ground.control_texts())
     expect("ends in it", server.stop(), Counter())
@@ -111,6 +114,17 @@ def plain(ground, tally, seconds, clients, chance):
     if grown > GROWTH * more:
         raise Strange(f"memory grew by {grown / more:,.0f} bytes an entry")
     print(f"  {grown / more:,.0f} bytes an entry of {more:,.0f}", flush=True)
+
+
+def idle_descriptors(server):
+    """Its descriptors while it dials nobody, as it does the peer that stalls: the fewest of some
+    seconds."""
+    found = []
+    until = time.monotonic() + 15
+    while time.monotonic() < until:
+        found.append(server.descriptors_open())
+        time.sleep(0.05)
+    return min(found, key=len)
 
 
 def rest(ground):

@@ -38,23 +38,33 @@ def probe(folder, rounds=50):
     return sorted(files)[rounds // 2], sorted(names)[rounds // 2]
 
 
+def shared(number, parts):
+    """A number in so many parts that are as equal as can be."""
+    return [number // parts + (part < number % parts) for part in range(parts)]
+
+
 def send(server, to, messages, sessions, size, is_kept):
-    """Hands over so many messages by smtp-source, and gives its seconds."""
+    """Hands over so many messages by smtp-source, one for each port of a server at once, as far as
+    there are sessions for them, and gives its seconds."""
     paths = [f"{UNPACKED or ''}/usr/lib/{name}" for name in ("postfix", "x86_64-linux-gnu")]
-    words = ["-d"] if is_kept else []
-    words += ["-s", str(sessions), "-m", str(messages), "-l", str(size), "-M", "c.example"]
-    words += ["-f", "bob@mx.example", "-t", to, f"127.0.0.1:{server.port}"]
-    command = [str(Path(UNPACKED or "/", SOURCE)), *words]
-    begun = time.monotonic()
     libraries = dict(os.environ, LD_LIBRARY_PATH=":".join(paths))
+    parts = min(len(server.ports), sessions)
+    begun, runs = time.monotonic(), []
+    each = zip(server.ports, shared(messages, parts), shared(sessions, parts))
+    for port, own, lines in each:
+        words = ["-d"] if is_kept else []
+        words += ["-s", str(lines), "-m", str(own), "-l", str(size), "-M", "c.example"]
+        words += ["-f", "bob@mx.example", "-t", to, f"127.0.0.1:{port}"]
+        command = [str(Path(UNPACKED or "/", SOURCE)), *words]
+        runs.append(subprocess.Popen(command, env=libraries, stderr=subprocess.PIPE))
     try:
-        ran = subprocess.run(
-            command, env=libraries, capture_output=True, check=False, timeout=MOST
-        )
+        said = [run.communicate(timeout=MOST)[1] for run in runs]
     except subprocess.TimeoutExpired:
+        for run in runs:
+            run.kill()
         raise Strange(f"smtp-source to {server.name} takes more than {MOST} seconds") from None
-    if ran.returncode:
-        raise Strange(f"smtp-source to {server.name}: {ran.stderr.decode()[:200]}")
+    if any(run.returncode for run in runs):
+        raise Strange(f"smtp-source to {server.name}: {b''.join(said).decode()[:200]}")
     return time.monotonic() - begun
 
 
@@ -71,13 +81,13 @@ def receipt(server, words, sessions, size, is_kept):
     return messages / taken
 
 
-def delivery(server, words, to):
+def delivery(server, entries, to):
     """The seconds that a queue takes to be empty."""
     server.clear()
     with server.receiving():
-        send(server, to, words.queue, 10, 1000, True)
-    if server.count() != words.queue:
-        raise Strange(f"{server.name} has {server.count()} entries, and not {words.queue}")
+        send(server, to, entries, 10, 1000, True)
+    if server.count() != entries:
+        raise Strange(f"{server.name} has {server.count()} entries, and not {entries}")
     return server.deliver()
 
 
@@ -115,6 +125,84 @@ def memories(server, sessions):
         for line in lines:
             line.close()
     return idle, busy
+
+
+def body(server, size):
+    """Memory while a message of so many bytes has come, whose end hasn't."""
+    server.clear()
+    with server.serving() as run:
+        with smtplib.SMTP("127.0.0.1", server.port, "c.example", 60) as session:
+            session.ehlo()
+            session.mail("bob@mx.example")
+            session.rcpt("ann@mx.example")
+            session.putcmd("data")
+            session.getreply()
+            session.sock.sendall(b"Subject: large\r\n\r\n" + (b"x" * 78 + b"\r\n") * (size // 80))
+            time.sleep(2)
+            found = memory(run)
+            session.sock.shutdown(socket.SHUT_RDWR)
+    return found
+
+
+def turn_over(server, entries):
+    """The seconds of a queue run over so many entries none of which is due."""
+    waits(server)
+    server.multiply(entries)
+    return server.finds_none()
+
+
+def configuration(folder):
+    """The file that m4 makes of a configuration's macros."""
+    source, config = folder / "mode.mc", folder / "mode.cf"
+    text = (Path(__file__).resolve().parent / "mode.mc").read_text()
+    source.write_text(text.replace("@DIR@", str(folder)))
+    macros = Path(UNPACKED or "/", "usr/share/sendmail/cf")
+    program = Path(UNPACKED or "/", "usr/bin/m4")
+    command = [program, f"-D_CF_DIR_={macros}/", macros / "m4/cf.m4", source]
+    ran = subprocess.run(command, capture_output=True, env=loaded(), check=True)
+    config.write_bytes(ran.stdout)
+    return config
+
+
+def loaded():
+    """An environment in which programs that were unpacked find their libraries."""
+    paths = {str(path.parent) for path in Path(UNPACKED or "/none").glob("usr/lib/**/*.so*")}
+    return dict(os.environ, LD_LIBRARY_PATH=":".join(sorted(paths)))
+
+
+def answers(server, config, lines):
+    """The seconds that address test mode takes for so many lines, and in another run of it its
+    greatest memory in KiB."""
+    quiet = {"stdout": subprocess.DEVNULL, "stderr": subprocess.DEVNULL}
+    quiet |= {"env": server.environment(), "stdin": subprocess.PIPE}
+    asked, ends = b"3,0 user@host.example\n" * lines, []
+    for _ in range(2):
+        begun = time.monotonic()
+        with subprocess.Popen(server.test_mode(config), **quiet) as run:
+            run.stdin.write(asked)
+            run.stdin.flush()
+            if ends:
+                greatest = most_of(run)
+            run.stdin.close()
+            run.wait(MOST)
+        if run.returncode:
+            raise Strange(f"-bt of {server.name} ends with status {run.returncode}")
+        ends.append(time.monotonic() - begun)
+    return ends[0], greatest
+
+
+def most_of(run):
+    """The greatest memory so far of a program that has answered all that it was asked: it sleeps,
+    and does nothing meanwhile."""
+    before = None
+    while True:
+        time.sleep(0.2)
+        fields = Path(f"/proc/{run.pid}/stat").read_text().rpartition(")")[2].split()
+        state, spent = fields[0], fields[11:13]
+        if state == "S" and spent == before:
+            text = Path(f"/proc/{run.pid}/status").read_text()
+            return int(text.partition("VmHWM:")[2].split()[0])
+        before = spent
 
 
 def waits(server):

@@ -1,7 +1,8 @@
-"""The three servers, each over a queue of its own below one folder.
+"""The three servers, each over a queue of its own below one folder, and four of the first as one.
 
 Each of them can be run so that it takes mail and delivers none (`receiving`), so that it delivers
-what is in its queue (`deliver`), and as a server that does both (`serving`).
+what is in its queue (`deliver`), as a server that does both (`serving`), and by a queue run that
+finds nothing due (`finds_none`). Where `slow` is set, what runs loads that library first.
 """
 
 import os
@@ -11,7 +12,7 @@ import signal
 import smtplib
 import subprocess
 import time
-from contextlib import contextmanager
+from contextlib import ExitStack, contextmanager
 from pathlib import Path
 
 from installed import UNPACKED, is_there, within
@@ -32,6 +33,7 @@ O Timeout.ident=0
 O Timeout.iconnect=5s
 O MaxQueueChildren=64
 O MaxRunnersPerQueue={runners}
+O MinQueueAge={age}
 O ServiceSwitchFile={folder}/switch
 O PidFile={folder}/pid
 """
@@ -54,6 +56,8 @@ local_recipient_maps =
 transport_maps = inline:{{ {{mx.example=prog:}}, {{box.example=lmtp:unix:{1}}},
     {{peer.example=smtp:[127.0.0.1]:{2}}}, {{void.example=smtp:[127.0.0.1]:9}} }}
 disable_dns_lookups = yes
+import_environment = MAIL_CONFIG TZ LD_PRELOAD
+message_size_limit = 0
 in_flow_delay = 0s
 smtpd_peername_lookup = no
 smtpd_client_connection_count_limit = 0
@@ -97,11 +101,25 @@ def below(number):
     return found
 
 
+def is_loaded(number, library):
+    """Whether a process, or one below it, has loaded a library."""
+    for place in below(number):
+        try:
+            if str(library) in Path(f"/proc/{place}/maps").read_text():
+                return True
+        except OSError:
+            pass
+    return False
+
+
 class Server:
     """What the three have in common."""
 
+    slow = None
+
     def __init__(self, folder, box, peer):
         self.folder, self.box, self.peer, self.port = folder, box, peer, free_port()
+        self.ports = [self.port]
         folder.mkdir()
         folder.chmod(0o755)
         self.clear()
@@ -113,9 +131,11 @@ class Server:
     @contextmanager
     def run(self, command):
         """A server that is up, and at its end killed with all that it began."""
-        with subprocess.Popen(command, env=self.environment(), **QUIET) as run:
+        with subprocess.Popen(command, env=self.surroundings(), **QUIET) as run:
             try:
                 wait_for(f"a port of {self.name}", lambda: is_heard(self.port), 0.001)
+                if self.slow and not is_loaded(run.pid, self.slow):
+                    raise Strange(f"{self.name} hasn't loaded {self.slow}")
                 yield run
             finally:
                 for number in reversed(below(run.pid)):
@@ -125,7 +145,11 @@ class Server:
                         pass
 
     def environment(self):
-        return None
+        return dict(os.environ)
+
+    def surroundings(self):
+        """The environment, with the library of a slow disk where that is asked for."""
+        return self.environment() | ({"LD_PRELOAD": str(self.slow)} if self.slow else {})
 
     @contextmanager
     def receiving(self):
@@ -184,6 +208,20 @@ class Ours(Server):
                 raise Strange(f"-q ends with status {ran.returncode}")
         return time.monotonic() - begun
 
+    def finds_none(self):
+        """The seconds of a queue run that finds nothing due."""
+        self.configure(RUNNERS, "1d")
+        command = [self.program, "-q", f"-C{self.folder}/speed.cf"]
+        begun = time.monotonic()
+        ran = subprocess.run(command, check=False, timeout=600, **QUIET)
+        if ran.returncode:
+            raise Strange(f"-q ends with status {ran.returncode}")
+        return time.monotonic() - begun
+
+    def test_mode(self, config):
+        """The command of address test mode."""
+        return [self.program, "-bt", f"-C{config}"]
+
     def count(self):
         return sum(name.startswith("qf") for name in os.listdir(self.folder / "queue"))
 
@@ -195,6 +233,34 @@ class Ours(Server):
         for number in range(1000, 1000 + entries - 1):
             (queue / f"qfw{number:012}").write_bytes(control)
             (queue / f"dfw{number:012}").write_bytes(body)
+
+
+class Four(Server):
+    """Four of the program, each with a queue and a port of its own."""
+
+    name = "here"
+
+    def __init__(self, program, folder, box, peer):
+        self.folder, self.port = folder, None
+        folder.mkdir()
+        folder.chmod(0o755)
+        self.parts = [Ours(program, folder / str(number), box, peer) for number in range(1, 5)]
+        self.ports = [part.port for part in self.parts]
+
+    def clear(self):
+        for part in self.parts:
+            part.clear()
+
+    @contextmanager
+    def receiving(self):
+        with ExitStack() as ends:
+            for part in self.parts:
+                part.slow = self.slow
+                ends.enter_context(part.receiving())
+            yield None
+
+    def count(self):
+        return sum(part.count() for part in self.parts)
 
 
 class Sendmail(Server):
@@ -219,8 +285,8 @@ class Sendmail(Server):
         own = [f"{self.folder}/sendmail", f"-C{self.folder}/speed.cf"]
         return ["unshare", "--uts", "sh", "-c", inner, *own, *words]
 
-    def configure(self, mode):
-        text = HEAD.format(mode=mode, runners=RUNNERS, folder=self.folder)
+    def configure(self, mode, age="0"):
+        text = HEAD.format(mode=mode, runners=RUNNERS, folder=self.folder, age=age)
         text += re.sub(r"^Mhold.*\n", "", (HERE / "speed.cf").read_text(), flags=re.MULTILINE)
         text = re.sub(r"^Rhold.*\n", "", text, flags=re.MULTILINE)
         values = {"DIR": self.folder, "PORT": self.port, "PEER": self.peer, "BOX": self.box}
@@ -237,12 +303,35 @@ class Sendmail(Server):
         self.configure("queue")
         begun = time.monotonic()
         while self.count():
-            run = subprocess.Popen(self.within("-q"), env=self.environment(), **QUIET)
+            run = subprocess.Popen(self.within("-q"), env=self.surroundings(), **QUIET)
             run.wait(600)
             time.sleep(0.001)
             if time.monotonic() - begun > 600:
                 raise Strange(f"{self.count()} entries are left by Sendmail")
         return time.monotonic() - begun
+
+    def finds_none(self):
+        """The same; it leaves that to processes which go on behind its end."""
+        self.configure("queue", "1d")
+        begun = time.monotonic()
+        subprocess.run(self.within("-q"), env=self.surroundings(), timeout=600, check=False, **QUIET)
+        wait_for("the end of a queue run", lambda: not self.is_busy(), 0.01)
+        return time.monotonic() - begun
+
+    def is_busy(self):
+        """Whether a process of this copy of the program is there."""
+        for path in Path("/proc").glob("[0-9]*/exe"):
+            try:
+                if os.readlink(path) == f"{self.folder}/sendmail":
+                    return True
+            except OSError:
+                pass
+        return False
+
+    def test_mode(self, config):
+        inner = 'hostname mx.example; exec "$0" "$@"'
+        own = [f"{self.folder}/sendmail", "-bt", f"-C{config}"]
+        return ["unshare", "--uts", "sh", "-c", inner, *own]
 
     def count(self):
         return sum(name.startswith("qf") for name in os.listdir(self.folder / "queue"))

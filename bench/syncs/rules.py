@@ -97,6 +97,10 @@ class Watch:
             self.send(call)
         elif call.name in RENAMINGS + REMOVALS:
             self.change(call)
+        elif "O_CREAT" in call.words:
+            for text, _ in call.texts():
+                if place := PLACE.fullmatch(text):
+                    self.order(place)
 
     def is_session(self, call):
         return call.file() in self.sessions
@@ -111,10 +115,17 @@ class Watch:
                     self.fail(f"a final 250 names {name}, which wasn't written")
                 self.need(self.entry(name), "a final 250")
 
+    def order(self, place):
+        """What changes in a directory comes behind the sync of every other."""
+        for other in self.waiting:
+            if other != place[1]:
+                self.fail(f"a change in {place[1]} comes before the sync of {other}")
+
     def change(self, call):
         places = [PLACE.fullmatch(text) for text, _ in call.texts()]
         if not all(places) or not places:
             return
+        self.order(places[0])
         kinds, entry = [place[2] for place in places], self.entry(places[0][3])
         if kinds == ["tf", "qf"]:
             self.decide(entry)
@@ -188,13 +199,18 @@ class Watch:
             entry.body_waits &= place[2] != "df"
             entry.draft_waits &= place[2] != "tf"
         elif call.name == "fsync":
-            for entry in self.waiting.pop(call.file(), {}).values():
+            waited = [*self.waiting.pop(call.file(), {}).values()]
+            for entry in waited:
                 entry.name_waits = False
+            for entry in waited[-1:]:
                 entry.trail.append("fsync directory")
 
     def wait(self, place, entry):
-        """A name in a directory changed, whose sync is waited for."""
-        self.waiting.setdefault(place[1], {})[entry.name] = entry
+        """A name in a directory changed, whose sync is waited for. A sync that covers several is
+        made for the last of them."""
+        waits = self.waiting.setdefault(place[1], {})
+        waits.pop(entry.name, None)
+        waits[entry.name] = entry
 
     def renamed(self, call):
         places = [PLACE.fullmatch(text) for text, _ in call.texts()]

@@ -85,6 +85,14 @@ WITHOUT = {
     ("final 250",): None,
     ("part read",): None,
 }
+OTHER = f'openat(AT_FDCWD</>, "/other/df{TWO}", O_WRONLY|O_CREAT|O_EXCL, 0600) = 6</other/df{TWO}>'
+# Whether a change in another directory may come at the end where these are taken out.
+ELSEWHERE = {
+    (): True,
+    ("finish directory",): True,
+    ("removal directory",): False,
+    ("finish directory", "removal directory"): False,
+}
 # What must be said where the line of the first name comes in front of that of the second.
 AHEAD = {
     ("final 250", "message directory"): "a final 250",
@@ -116,6 +124,10 @@ def wrong_samples():
         said = said_of(lines[key] for key in keys)
         if not any(wanted in text for text in said):
             yield f"'{name}' ahead of '{other}': {said}"
+    for names, may in ELSEWHERE.items():
+        said = said_of([*(line for key, line in lines.items() if key not in names), OTHER])
+        if bool(said) == may or said and "comes before the sync of /queue" not in said[0]:
+            yield f"a change in another directory without {names}: {said}"
     for names, wanted in WITHOUT.items():
         if wanted and names[0].endswith(("synced", "directory")):
             yield from wrong_shapes(lines, names)
