@@ -2,9 +2,9 @@
 
 .PHONY: deb install pages run scene scenes statement test uninstall
 
-# Builds the proved program and answers one line of address test mode.
+# Builds the proved program, prints one line of address test mode, and answers it.
 run:
-	cd crates/sendmail && rt run < stdin -- -bt -C$(CURDIR)/crates/sendmail/data/row1.cf
+	@cd crates/sendmail && cat stdin && rt run < stdin -- -bt -C$(CURDIR)/crates/sendmail/data/row1.cf
 
 # The gate.
 test:

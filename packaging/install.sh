@@ -18,9 +18,11 @@ units=$prefix/lib/systemd/system
 files() {
     echo "755 $program $prefix/sbin/sendmail"
     echo "755 packaging/bin/sendmail-check $prefix/sbin/sendmail-check"
+    echo "755 packaging/bin/sendmail-words $prefix/sbin/sendmail-words"
     echo "755 packaging/bin/mailq $prefix/bin/mailq"
     echo "755 packaging/bin/newaliases $prefix/bin/newaliases"
     echo "755 packaging/bin/mailbox $prefix/libexec/sendmail/mailbox"
+    echo "755 packaging/bin/sendmail-part $prefix/libexec/sendmail/sendmail-part"
     echo "755 packaging/setup.sh $share/setup.sh"
     for name in sendmail.cf aliases local-host-names; do
         echo "644 packaging/etc/$name $share/$name"
@@ -32,7 +34,9 @@ files() {
         echo "644 $name $units/${name##*/}"
     done
     echo "644 docs/MIGRATING.md $docs/MIGRATING.md"
-    for name in docs/examples/*.?? packaging/systemd/unprivileged.conf packaging/inetd.conf; do
+    echo "644 docs/MANY.md $docs/MANY.md"
+    for name in docs/examples/*.?? packaging/systemd/unprivileged.conf packaging/inetd.conf \
+        packaging/sendmail-parts.nft; do
         echo "644 $name $docs/examples/${name##*/}"
     done
 }
