@@ -193,7 +193,8 @@ class Page:
         whole = self.clauses + shown
         said = {it.meaning for one in whole for it in one.words if it.meaning}
         bound = {name for one in whole for name in one.bound}
-        self.names = Names(shown, {it.told for it in said if it.is_foreign} | bound)
+        crates = {it.crate for it in shown}
+        self.names = Names(shown, {it.told for it in said if it.is_foreign} | bound | crates)
         self.near = defaultdict(list)
         for definition in shown:
             self.near[definition.crate, definition.name].append(definition)
