@@ -41,6 +41,7 @@ pub fn some_text()
     ensures { (maps : Loaded) (config : Config) (lines : List (List ℕ))
         → (text : List ℕ) × (last : Config) × Printed maps config lines text last }
 {
+    // The law above, line by line.
     some_answer();
 }
 
@@ -55,5 +56,6 @@ pub fn one_text()
         → Printed maps config lines one last
         → Printed maps config lines another later → last ≡ later }
 {
+    // The law above, line by line.
     one_answer();
 }

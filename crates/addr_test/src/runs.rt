@@ -27,6 +27,7 @@ pub(crate) fn runs(
     ensures { IfOk result
         (RunsTyped maps.now config.now (names_in sets.now) (typed config.now address.now)) }
 {
+    // A law: what a cutting computes is what it means.
     computed();
     let address = Text::of(alloc, address)?;
     match typed_tokens(alloc, &address, &config.options.operator_chars, true) {

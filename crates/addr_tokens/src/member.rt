@@ -24,6 +24,7 @@ pub fn any_refused(alloc: Global, words: &[Text]) -> Result<bool, NoMemory>
 fn cannot_be_cut(alloc: Global, word: &Text) -> Result<bool, NoMemory>
     ensures { IfOk result (λ cannot. cannot ≡ spec.cannot_be_cut word.now) }
 {
+    // A law: what a cutting computes is what it means.
     computed();
     match tokens(alloc, word, &Text::new(alloc), false) {
         Ok(_) => Ok(false),

@@ -102,6 +102,7 @@ impl Aliases {
     pub(crate) fn have_members(&self)
         ensures { All HasMembers self.now }
     {
+        // Only what the type of its lines keeps is used.
         let _ = &self.lines;
     }
 }

@@ -69,6 +69,7 @@ fn step<F: Files>(
     ensures tellable { IfErr result IsTellable }
     ensures asks { Asks (F.seen files.old) (F.seen files.new) (is_files_fault result) }
 {
+    // Only its range is used: a place behind a member fits in a number.
     let _bound = frame.members.len();
     let Some(next) = frame.members.get(frame.next) else {
         return Ok(());
@@ -85,6 +86,7 @@ fn go_on(frame: Frame, opened: Option<Opened>, stack: &mut Vec<Frame>) -> Result
         ≡ frames_of opened ++ advanced frame ∷ reverse stack.old.items) }
     ensures short { OnOk result (IfSome opened (λ inner. length inner.members < 2 ^ 64)) }
 {
+    // Only its range is used: a place behind a member fits in a number.
     let _bound = frame.members.len();
     stack.push(Frame {
         next: frame.next + 1,
@@ -92,6 +94,7 @@ fn go_on(frame: Frame, opened: Option<Opened>, stack: &mut Vec<Frame>) -> Result
     })?;
     match opened {
         Some(inner) => {
+            // Only its range is used: so the depth of those below can be told.
             let _bound = inner.members.len();
             stack.push(Frame {
                 stand: inner.stand,

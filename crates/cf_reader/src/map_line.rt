@@ -139,6 +139,7 @@ fn column_number(value: &Text) -> Result<u8, LineStop>
     ensures { Reads result (first_fault ((faults.BadMap, spec.is_no_column (Some value.now)) ∷ []))
         (spec.column_or 0 (Some value.now)) }
 {
+    // A law: the number that is computed is the one that the text means.
     computed_values();
     match number(value, 99) {
         Ok(column) => Ok(column as u8),

@@ -107,6 +107,7 @@ fn stop_of_expansion(fault: ExpandFault) -> LineStop
 fn cut(alloc: Global, text: &Text, operators: &Text) -> Result<Seq<Lexeme>, LineStop>
     ensures { Makes result (sides.cut operators.now (Ok text.now)) }
 {
+    // A law: what a cutting computes is what it means.
     computed();
     match lexemes(alloc, text, operators, false) {
         Ok(lexemes) => Ok(lexemes),

@@ -13,6 +13,7 @@ pub fn one_header()
         → IsRewritten site macros mailer header one
         → IsRewritten site macros mailer header another → one ≡ another }
 {
+    // A law of ruleset_run: an address is rewritten in one way.
     one_rewriting();
 }
 
@@ -21,6 +22,7 @@ pub fn some_header()
     ensures { (site : Site) (macros : Macros) (mailer : Mailer) (header : List ℕ)
         → (text : List ℕ) × IsRewritten site macros mailer header text }
 {
+    // A law of ruleset_run: each address is rewritten, or refused.
     some_rewriting();
 }
 
@@ -36,5 +38,6 @@ pub fn only_joins()
         → AreApart 0 places (length header) → AreJoined site.operators header places
         → Fills site macros sets header 0 places text → text ≡ header }
 {
+    // A law of ruleset_run: an address is rewritten in one way.
     one_rewriting();
 }

@@ -127,6 +127,7 @@ impl ScriptDialer {
         ensures calls { self.new.calls ≡ self.old.calls }
         ensures starved { self.new.starved ≡ self.old.starved }
     {
+        // Only its range is used: the place behind a piece fits.
         let _bound = self.pieces.len();
         let Some(piece) = self.pieces.get(self.at) else {
             let none = Text::new(self.pieces.allocator());

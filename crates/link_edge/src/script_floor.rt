@@ -115,6 +115,7 @@ impl ScriptFloor {
         ensures starved { self.new.starved ≡ self.old.starved }
         ensures begun { self.new.begun ≡ self.old.begun }
     {
+        // Only its range is used: the place behind a step fits.
         let _bound = self.steps.len();
         let Some(step) = self.steps.get(self.at) else {
             self.told.pass(FloorEvent::Took(Event::Stops))?;

@@ -142,6 +142,7 @@ fn number_after(number: u64, told: &[FloorEvent]) -> u64
     requires { number ≤ length told.now }
     ensures { result ≡ number + 1 }
 {
+    // Only its range is used: the number after it fits.
     let _bound = told.len();
     number + 1
 }
@@ -151,6 +152,7 @@ fn owed(told: &Vec<FloorEvent>, live: &[u64], sound: &[u64]) -> usize
     requires { length told.now.items + length live.now + length sound.now ≤ vec_capacity told.now }
     ensures { result ≡ length live.now + length sound.now }
 {
+    // Only its range is used: the sum of what is in it fits.
     let _room = told.capacity();
     live.len() + sound.len()
 }

@@ -31,6 +31,7 @@ pub(crate) fn fixed_list(
         → site.plan ≡ Once (option_copied group.entry) → HoldsTable table.now entries
         → IfOk result (IsFixed site (option_copied group.entry) moment entries) }
 {
+    // A law: of two entries one goes first.
     entries_are_ordered();
     let due = in_order(alloc, table.entries(), config, group, moment)?;
     picked(alloc, due.as_slice(), &config.groups)

@@ -264,6 +264,7 @@ impl Intake {
             Ok(Did::Bye(text)) => Ok(part(floor, caller.number, &text)),
             Ok(Did::Taken) => Ok(Next::Continue),
             Ok(Did::Message(message)) => {
+                // A law: a message's class has the range of its type.
                 has_class(&message);
                 self.accept(floor, spool, config, maps, caller, message)
             }

@@ -126,6 +126,7 @@ pub fn rows_only_go_on()
         → (s : Stored) → Contains m.table.entries s
         → Lasts (run site m turns).state.table s }
 {
+    // A law of queue_table: no command takes a row out, or takes it back.
     rows_go_on();
 }
 
@@ -144,6 +145,7 @@ pub fn every_success_is_sent()
         → slice_get places at ≡ Some place → slice_get talk.results at ≡ Some Sent
         → IsSentAt (run site m turns).state.table id place }
 {
+    // A law of queue_table: no command takes a row out, or takes it back.
     rows_go_on();
 }
 
@@ -155,6 +157,7 @@ pub fn no_delivered_row_is_tried_again()
         → (run site m turns).effects ≡ done ++ (between ++ effect ∷ later)
         → IsSentAt (table_after m.table done) id place → IsTryOfRow effect id place → ⊥ }
 {
+    // A law of queue_table: no command takes a row out, or takes it back.
     rows_go_on();
 }
 

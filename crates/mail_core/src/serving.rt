@@ -373,6 +373,7 @@ impl Core {
         ensures own { (F.seen floor.new).faults ≡ (F.seen floor.old).faults }
         ensures begun { (F.seen floor.new).begun ≡ (F.seen floor.old).begun }
     {
+        // Whether it was told changes nothing: the session ends.
         let _told = part(floor, session, &self.full);
     }
 
@@ -430,6 +431,7 @@ impl Core {
         ensures callers { self.new.callers.items ≡ remove self.old.callers.items place }
         ensures same { self.new ≡ record self.old { callers = self.new.callers } }
     {
+        // It is over.
         let _caller = self.callers.remove(place);
     }
 

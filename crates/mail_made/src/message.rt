@@ -68,6 +68,7 @@ fn message_macros(
 pub fn has_class(message: &Message)
     ensures { FitsSigned w64 message.now.class }
 {
+    // Only its range is used: to read it tells it.
     let _class = message.class;
 }
 

@@ -65,6 +65,7 @@ fn attempt<N: Dialer>(
     match peers {
         [] => fail_all(rows, b"5.1.2", b"no host known", kit.rcpts.items()),
         [peer] => {
+            // There is no next host to go to.
             let _leaves = try_peer(dialer, peer, inbox, speech, kit, rows);
         }
         [peer, rest @ ..] => {
@@ -94,10 +95,12 @@ fn try_peer<N: Dialer>(
     match dialer.dial(peer) {
         Ok(line) => {
             let end = converse(dialer, line, inbox, speech, kit, rows);
+            // The rows have their results already.
             let _said = part(dialer, line, &kit.quit, end.quits);
             end.leaves
         }
         Err(_fault) => {
+            // A fault leaves the host for the next one, whatever rows it has.
             let _whole = pass(rows, &broken(b"device fault"), kit.rcpts.items());
             true
         }

@@ -20,6 +20,7 @@ pub fn one_delivery()
         → IsDelivery speech letter peers missed others after flaw ends
         → map answer_of events ≡ map answer_of others → (events ≡ others) × (rows ≡ ends) }
 {
+    // A law of smtp_lines: bytes begin with one reply at most.
     one_reply();
 }
 

@@ -53,6 +53,7 @@ pub(crate) fn reserve(table: &Table, id: &Id, places: &Seq<u32>) -> Result<Reser
     ensures control { (h : Held) → Contains (store table.now).entries h → h.entry.id ≡ id.now
         → IfOk result (λ r. r.room.control ≡ h.entry.control) }
 {
+    // Only clauses are used: one entry has an id, and its control has a text.
     let _held = table.entries();
     table.reserve(id, places)
 }

@@ -80,6 +80,7 @@ impl Table {
             ↔ (Id.MOST + 1 < (store self.old).next + sum_by (λ back. length back.cuts) bounces) }
         ensures never { IsErrOf result Broke → ⊥ }
     {
+        // Only clauses are used: one entry has an id, and its control has a text.
         let _ = self.queue.entries();
         match bounces.into_vec().pop() {
             Some(back) => self.plan_bounce(id, back, moment),
@@ -151,6 +152,7 @@ impl Table {
             ↔ (Id.MOST + 1 < (store self.old).next + sum_by (λ back. length back.cuts) warnings) }
         ensures never { IsErrOf result Broke → ⊥ }
     {
+        // Only clauses are used: one entry has an id, and its control has a text.
         let _ = self.queue.entries();
         match warnings.into_vec().pop() {
             Some(back) => self.plan_notice(id, back, moment),
@@ -242,6 +244,7 @@ impl Table {
             → CarriesOut self.old self.new command result (D.seen spool.old) (D.seen spool.new) }
         ensures only { OnErr result (IsErrOf result Broke) }
     {
+        // A law: the store that holds a table holds the next one behind a commit.
         holding_goes_on();
         match self.queue.commit_under(spool, parcel) {
             Ok(_id) => Ok(()),

@@ -161,6 +161,8 @@ impl Table {
             (((store self.old).broken ≡ true)
             ⊎ Rose (D.seen spool.old).faults (D.seen spool.new).faults) }
     {
+        // A law: the store holds the table behind a replaced control. Of the entries only clauses
+        // are used.
         holding_goes_on();
         let _held = self.queue.entries();
         let room = reserved.recorded(&self.terms, outcomes, moment);
@@ -204,6 +206,7 @@ impl Table {
             (((store self.old).broken ≡ true)
             ⊎ Rose (D.seen spool.old).faults (D.seen spool.new).faults) }
     {
+        // A law: the store holds the table behind a finish.
         holding_goes_on();
         self.queue.finish(spool, id)
     }

@@ -140,6 +140,7 @@ impl Table {
             (((store self.old).broken ≡ true)
             ⊎ Rose (D.seen spool.old).faults (D.seen spool.new).faults) }
     {
+        // A law: the store that holds a table holds the next one behind a commit.
         holding_goes_on();
         self.queue.commit(spool, accepting.parcel)
     }

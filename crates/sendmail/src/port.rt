@@ -383,6 +383,7 @@ impl Port {
         if place < self.sessions.len() {
             let Session { number: _, link } = self.sessions.remove(place);
             self.closed = self.closed.saturating_add(1);
+            // Without room it parts at once.
             let _ = self.parting.push(Parting::new(link));
         }
     }

@@ -6,6 +6,7 @@ pub fn one_text()
     ensures { (basis : Basis) (lines : List (List ℕ)) (one another : List ℕ)
         → Prints basis lines one → Prints basis lines another → one ≡ another }
 {
+    // The law of addr_test, over what a run reads.
     addr_test::one_text();
 }
 
@@ -13,5 +14,6 @@ pub fn one_text()
 pub fn some_text()
     ensures { (basis : Basis) (lines : List (List ℕ)) → (text : List ℕ) × Prints basis lines text }
 {
+    // The law of addr_test, over what a run reads.
     addr_test::some_text();
 }

@@ -71,6 +71,7 @@ pub(crate) fn opened<D: Spool, C: Clock>(
         Ok(queue) => queue,
         Err(fault) => return Err(not_opened(fault)),
     };
+    // A law: what an opening leaves is settled, with the table that the files stood for.
     opening_settles();
     match core_over(alloc, task, config, queue, clock) {
         Ok(core) => Ok(core),

@@ -127,6 +127,7 @@ fn opened_table<D: Spool>(
         Ok(queue) => queue,
         Err(fault) => return Err(not_opened(fault)),
     };
+    // A law: what an opening leaves is settled, with the table that the files stood for.
     opening_settles();
     let Ok(table) = Table::over(queue, config) else {
         return Err(SubmitModeEnd::NoMemory);

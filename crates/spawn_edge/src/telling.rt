@@ -132,6 +132,7 @@ fn number_after(number: u64, told: &[SpawnEvent]) -> u64
     requires { number ≤ length told.now }
     ensures { result ≡ number + 1 }
 {
+    // Only its range is used: the number after it fits.
     let _bound = told.len();
     number + 1
 }
@@ -141,6 +142,7 @@ fn owed(told: &Vec<SpawnEvent>, running: &[u64]) -> usize
     requires { length told.now.items + length running.now ≤ vec_capacity told.now }
     ensures { result ≡ length running.now }
 {
+    // Only its range is used: the sum of what is in it fits.
     let _room = told.capacity();
     running.len()
 }

@@ -21,6 +21,7 @@ fn add_name(name: &Text, dir: usize, out: &mut Seq<Named>) -> Result<(), NoMemor
     match Id::of(name) {
         None => Ok(()),
         Some(file) => {
+            // Only its range is used: it is an id.
             let _within = file.1.number();
             out.push(Named {
                 dir,

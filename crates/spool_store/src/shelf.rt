@@ -188,6 +188,7 @@ impl Shelf {
         ensures within { IsId id }
         ensures below { id < self.now.next }
     {
+        // Only clauses are used: each id is below the first free one.
         let _ = self.items();
         Id::new(id.number())
     }
