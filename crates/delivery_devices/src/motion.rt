@@ -2,22 +2,39 @@
 use std::cell::Cell;
 
 /// Whether something moves in a run. Its devices share it: a floor doesn't wait while runners work,
-/// and a poll of a child waits where nothing else was done.
+/// and where children alone run one device waits a little. That is the floor, if there is one that
+/// hears its sessions meanwhile, and else the poll of a child.
 #[derive(Drop)]
 pub struct Motion {
     /// Whether something was done since a child was last found running.
     moved: Cell<bool>,
     /// Whether a child or a line was asked for something since the floor's last turn.
     worked: Cell<bool>,
+    /// Whether a floor waits in place of the polls of children.
+    floored: Cell<bool>,
+    /// How many milliseconds the floor's next turn may wait while runners work.
+    pause: Cell<u32>,
 }
 
 impl Motion {
-    /// One of a run in which nothing was done.
+    /// One of a run in which nothing was done, and whose floor, if it has one, waits by itself.
     pub fn new() -> Motion {
         Motion {
             moved: Cell::new(false),
             worked: Cell::new(false),
+            floored: Cell::new(false),
+            pause: Cell::new(0),
         }
+    }
+
+    /// From now on a floor waits in place of the polls of children.
+    pub fn note_floor(&self) {
+        self.floored.set(true);
+    }
+
+    /// Whether a floor waits in place of the polls of children.
+    pub fn has_floor(&self) -> bool {
+        self.floored.get()
     }
 
     /// Something was done.
@@ -30,13 +47,24 @@ impl Motion {
         self.worked.set(true);
     }
 
+    /// The floor's next turn may wait so many milliseconds.
+    pub fn note_pause(&self, millis: u32) {
+        self.pause.set(millis);
+    }
+
     /// Whether something was done since this was last asked.
     pub fn take_move(&self) -> bool {
         self.moved.replace(false)
     }
 
-    /// Whether a child or a line was asked for something since this was last asked.
-    pub fn take_work(&self) -> bool {
-        self.worked.replace(false)
+    /// How many milliseconds the floor's next turn may wait, where a child or a line was asked for
+    /// something since this was last asked.
+    pub fn take_work(&self) -> Option<u32> {
+        let pause = self.pause.replace(0);
+        if self.worked.replace(false) {
+            Some(pause)
+        } else {
+            None
+        }
     }
 }

@@ -18,7 +18,7 @@ const ENVIRONMENT: &[u8] = b"AGENT=sendmail\0";
 const DIRECTORY: &[u8] = b"/";
 
 /// The longest wait of a poll, in milliseconds.
-const LONGEST_WAIT: u64 = 5;
+const LONGEST_WAIT: u32 = 5;
 
 /// A child that wasn't found over.
 #[derive(Clone, Copy)]
@@ -33,7 +33,8 @@ struct Child {
 /// room for the input are wanting.
 ///
 /// A poll never waits for a child. One that finds its child running where nothing was done since
-/// the poll before waits 1 to 5 milliseconds, so that a run with nothing else to do doesn't spin.
+/// the poll before waits 1 to 5 milliseconds, or lets the floor wait that long for its sessions, so
+/// that a run with nothing else to do doesn't spin.
 /// A child that a signal ended is a fault of the poll that finds that.
 pub struct SystemSpawner<'a> {
     rt: HostRuntime,
@@ -41,8 +42,8 @@ pub struct SystemSpawner<'a> {
     children: Vec<Child>,
     /// How many were started.
     started: u64,
-    /// How long the last poll waited.
-    wait: u64,
+    /// How many milliseconds the last poll waited, or let the floor wait.
+    wait: u32,
     faults: u64,
 }
 
@@ -121,7 +122,8 @@ impl<'a> SystemSpawner<'a> {
         }
     }
 
-    // Waits a little, unless something was done since the last child was found running.
+    // Waits a little, or lets the floor do so, unless something was done since the last child was
+    // found running.
     fn rest(&mut self)
         ensures { self.new.faults ≡ self.old.faults }
     {
@@ -134,7 +136,11 @@ impl<'a> SystemSpawner<'a> {
             .saturating_mul(2)
             .saturating_add(1)
             .min(LONGEST_WAIT);
-        thread::sleep(&self.rt, Duration::from_millis(self.wait));
+        if self.motion.has_floor() {
+            self.motion.note_pause(self.wait);
+        } else {
+            thread::sleep(&self.rt, Duration::from_millis(u64::from(self.wait)));
+        }
     }
 }
 

@@ -14,7 +14,8 @@ use std::io;
 use std::io::{ErrorKind, Read, Write};
 
 /// One session on a reader and a writer, or, once it began at a port, many there. A floor at a port
-/// that shares what moves with the devices of deliveries doesn't wait while these work.
+/// that shares what moves with the devices of deliveries waits while these work as long as they let
+/// it.
 pub struct SystemFloor<'a, R, W> {
     site: Site<'a, R, W>,
     begun: Begun,
@@ -115,6 +116,7 @@ impl<R: Read, W: Write> Site<'_, R, W> {
                     ErrorKind::InvalidInput,
                 ))?;
                 self.port = Some(Port::bind(&self.rt, address, *port, most, self.limits)?);
+                lead(self.motion);
                 Ok(())
             }
         }
@@ -127,8 +129,8 @@ impl<R: Read, W: Write> Site<'_, R, W> {
         match &mut self.port {
             None => self.standard.turn(buf),
             Some(port) => {
-                if is_busy(self.motion) {
-                    port.hasten();
+                if let Some(millis) = pause_of(self.motion) {
+                    port.hasten(millis);
                 }
                 match port.turn(&self.rt, buf) {
                     Ok(turn) => {
@@ -182,11 +184,19 @@ impl<R: Read, W: Write> Floor for SystemFloor<'_, R, W> {
     }
 }
 
-// Whether the devices of deliveries worked since this was last asked.
-fn is_busy(motion: Option<&Motion>) -> bool {
+// How many milliseconds a turn may wait where the devices of deliveries worked since this was last
+// asked.
+fn pause_of(motion: Option<&Motion>) -> Option<u32> {
     match motion {
         Some(motion) => motion.take_work(),
-        None => false,
+        None => None,
+    }
+}
+
+// Tells the devices of deliveries that the floor waits for all.
+fn lead(motion: Option<&Motion>) {
+    if let Some(motion) = motion {
+        motion.note_floor();
     }
 }
 

@@ -439,14 +439,19 @@ const SLOW: Limits = Limits {
     ..LIMITS
 };
 
-// Whether a hundred idle turns, between which a delivery works, take a few seconds at most.
+// Whether a hundred idle turns, between which a delivery works, take a few seconds at most, and one
+// for which a child lets it wait takes that long.
 fn hastens(rt: &HostRuntime) -> io::Result<bool> {
     let motion = Motion::new();
     let writer = Vec::new(rt.alloc());
     let mut floor = SystemFloor::new(*rt, b"".as_slice(), writer, None, SLOW, Some(&motion));
     let start = Instant::now(rt)?;
     let idle = begins(rt, &mut floor) && (0..100u32).all(|_| is_idle(&motion, &mut floor));
-    Ok(idle && start.elapsed(rt)?.as_secs() < 10)
+    let hasty = start.elapsed(rt)?.as_secs() < 10;
+    let start = Instant::now(rt)?;
+    motion.note_pause(100);
+    let still = is_idle(&motion, &mut floor) && motion.has_floor();
+    Ok(idle && hasty && still && start.elapsed(rt)?.as_millis() >= 100)
 }
 
 fn begins(rt: &HostRuntime, floor: &mut SystemFloor<'_, &[u8], Vec<u8>>) -> bool {

@@ -122,9 +122,9 @@ impl Port {
         self.parting.len()
     }
 
-    /// The next turn doesn't wait.
-    pub fn hasten(&mut self) {
-        self.wait = 0;
+    /// The next turn waits so many milliseconds at most.
+    pub fn hasten(&mut self, millis: u32) {
+        self.wait = i32::try_from(millis).unwrap_or(0);
     }
 
     /// Waits a little for something to come, unless the turn before had something. Behind several

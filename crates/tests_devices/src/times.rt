@@ -41,6 +41,9 @@ fn what_moves_is_told_once(rt: HostRuntime) {
     motion.note_work();
     assert!(rt; !motion.take_move());
     motion.note_move();
-    assert!(rt; motion.take_move() && motion.take_work());
-    assert!(rt; !motion.take_move() && !motion.take_work());
+    assert!(rt; motion.take_move() && motion.take_work() == Some(0));
+    motion.note_pause(5);
+    assert!(rt; !motion.take_move() && motion.take_work().is_none());
+    motion.note_work();
+    assert!(rt; motion.take_work() == Some(0) && !motion.has_floor());
 }
