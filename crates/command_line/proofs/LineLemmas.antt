@@ -10,7 +10,8 @@ use Rattle.mail_submit.specs.declared.words.SubmitWords.{SubmitWords}
 use Rattle.command_line.specs.declared.mode.Job.{Job}
 use Rattle.command_line.specs.declared.mode.Job.TheVariants.{Submit}
 use Rattle.command_line.specs.declared.mode.Mode.{Mode}
-use Rattle.command_line.specs.MailWords.{MailWord, Gathers, Ignores, IgnoresToo, Sends, SendsApart, Names, AreLines, IsMail, addresses_in, is_address, is_dashed, is_one_line, is_sender, senders_in}
+use Rattle.mail_submit.specs.Said.{AreSaid}
+use Rattle.command_line.specs.MailWords.{MailWord, Gathers, Ignores, IgnoresToo, Sends, SendsApart, Names, IsMail, addresses_in, is_address, is_dashed, is_one_line, is_sender, senders_in}
 use Rattle.command_line.specs.CommandLines.{Asks, IsCommandLine, mail_in, untimed}
 
 line_of : (text : List ℕ) → has_lf text ≡ false → IsLine text
@@ -60,12 +61,12 @@ sender_lines (SendsApart other is ∷ options) (Some text) more e = subst IsLine
 sender_lines (Names address is ∷ options) (Some text) more e = sender_lines options (Some text) more e
 
 -- mail that options speak of is made of lines
-mail_lines : (options : List MailWord) (words : SubmitWords) → IsMail options words → AreLines words
+mail_lines : (options : List MailWord) (words : SubmitWords) → IsMail options words → AreSaid words
 mail_lines options words is = record {
   addresses = subst (All IsAddress) is.addresses (addresses_lines options);
   sender = sender_lines options words.sender [] (is.sender ∙ sym (append-nil (option_to_list words.sender)));
 }
 
 -- and so is that of a command line
-pub submit_lines : (line : List (List ℕ)) (mode : Mode) (words : SubmitWords) → IsCommandLine line mode → mode.job ≡ Submit words → AreLines words
+pub submit_lines : (line : List (List ℕ)) (mode : Mode) (words : SubmitWords) → IsCommandLine line mode → mode.job ≡ Submit words → AreSaid words
 submit_lines line mode words is job = mail_lines (flat_map mail_in is.flags) words (subst (λ (j : Job). Asks is.flags (untimed j)) job is.job).mail

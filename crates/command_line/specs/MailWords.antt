@@ -1,12 +1,13 @@
 -- The words of a run that hands mail over (Sendmail Installation and Operation Guide, "Command Line
 -- Flags": `-t`, `-f`, `-i` and `-oi`; what is refused, and where, is our own).
-use Rattle.std.specs.Prelude.{◌≡◌, ◌&&◌, ◌||◌, ◌==◌, ℕ, Bool, true, false, not, List, [], ◌∷◌, ◌++◌, codes, option_to_list, None, refl, All, IfSome}
+use Rattle.std.specs.Prelude.{◌≡◌, ◌&&◌, ◌||◌, ◌==◌, ℕ, Bool, true, false, not, List, [], ◌∷◌, ◌++◌, codes, option_to_list, None, refl}
 use Rattle.std.specs.Option.{is_some}
 use Rattle.std.specs.List.{flat_map}
-use Rattle.mail_base.specs.Texts.{IsAddress, IsLine, has_lf, without_angles}
+use Rattle.mail_base.specs.Texts.{has_lf}
 use Rattle.mail_base.specs.Configs.{default_options}
 use Rattle.addr_tokens.specs.Reader.{cut}
 use Rattle.addr_tokens.specs.Scans.{most_tokens}
+use Rattle.mail_submit.specs.Said.{bracketed}
 use Rattle.mail_submit.specs.declared.words.SubmitWords.{SubmitWords}
 
 -- ---- texts
@@ -25,15 +26,11 @@ is_dashed (first ∷ others) = first == 45
 abbrev pub is_address : List ℕ → Bool
 is_address word = not (is_dashed word) && is_one_line word
 
--- the path of a sender: the text in one pair of brackets (60 and 62), as it was or not
-abbrev pub path_of : List ℕ → List ℕ
-path_of text = 60 ∷ without_angles text ++ 62 ∷ []
-
 -- a text that a `-f` takes: a line whose path can be cut into tokens, under the operators that
 -- addresses have where no configuration names others; `<>` is the null sender
 abbrev pub is_sender : List ℕ → Bool
 is_sender text =
-    is_one_line text && is_some (cut default_options.operator_chars true (path_of text))
+    is_one_line text && is_some (cut default_options.operator_chars true (bracketed text))
 
 -- ---- options
 
@@ -99,11 +96,6 @@ addresses_in (Names address is) = address ∷ []
 
 -- ---- what they say together
 
--- each address is one line that isn't empty, and the sender is one line
-pub record AreLines (words : SubmitWords) : Type 0 where
-  pub addresses : All IsAddress words.addresses
-  pub sender : IfSome words.sender IsLine
-
 -- what options of mail say: the line `.` ends the input where neither `-i` nor `-oi` is there, the
 -- sender is the text of the `-f`, and the addresses stand in their order
 pub record IsMail (options : List MailWord) (words : SubmitWords) : Type 0 where
@@ -124,10 +116,7 @@ has_some (first ∷ others) = true
 abbrev pub names_someone : SubmitWords → Bool
 names_someone words = words.from_headers || has_some words.addresses
 
-example : (path_of (codes "ann@mx") ≡ codes "<ann@mx>")
-    × (path_of (codes "<ann@mx>") ≡ codes "<ann@mx>")
-    × (path_of (codes "<") ≡ codes "<<>")
-    × (is_address (codes "ann") ≡ true)
+example : (is_address (codes "ann") ≡ true)
     × (is_address (codes "a\nb") ≡ false)
     × (is_address (codes "-a") ≡ false)
     × (is_address [] ≡ false)
@@ -135,4 +124,4 @@ example : (path_of (codes "ann@mx") ≡ codes "<ann@mx>")
     × (is_sender (codes "bob@c.example") ≡ true)
     × (is_sender (codes "bob(") ≡ false)
 unfolding cut most_tokens
-example = (refl, refl, refl, refl, refl, refl, refl, refl, refl, refl)
+example = (refl, refl, refl, refl, refl, refl, refl)

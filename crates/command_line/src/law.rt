@@ -2,7 +2,7 @@ ghost use Rattle.std.specs.Prelude.{◌≡◌, ◌⊎◌, List, ℕ};
 ghost use Rattle.command_line.specs.declared.mode.Mode.{Mode};
 ghost use Rattle.command_line.specs.declared.mode.Job.TheVariants.{Submit};
 ghost use Rattle.command_line.specs.CommandLines.{IsCommandLine, IsRefusedAt};
-ghost use Rattle.command_line.specs.MailWords.{AreLines};
+ghost use Rattle.mail_submit.specs.Said.{AreSaid};
 ghost use Rattle.mail_submit.specs.declared.words.SubmitWords.{SubmitWords};
 
 /// Words are a command line or are refused at a place, and never both; its mode and the place are
@@ -22,5 +22,5 @@ pub fn words_are_taken_or_refused()
 /// neither they nor the sender hold an LF.
 pub fn submitted_words_are_lines()
     ensures { (words : List (List ℕ)) (mode : Mode) (mail : SubmitWords) → IsCommandLine words mode
-        → mode.job ≡ Submit mail → AreLines mail }
+        → mode.job ≡ Submit mail → AreSaid mail }
 {}

@@ -1,11 +1,11 @@
 ghost use Rattle.std.specs.Prelude.{◌≡◌, IfOk};
-ghost use Rattle.command_line.specs.MailWords.{is_dashed, is_one_line, is_sender, names_someone, no_mail, path_of};
+ghost use Rattle.command_line.specs.MailWords.{is_dashed, is_one_line, is_sender, names_someone, no_mail};
 ghost use Rattle.command_line.specs.inner.Words.{Adds, is_mail, with_address, with_headers, with_mail, with_no_dot, with_sender, with_text};
 
 use crate::fault::WordFault;
 use addr_tokens::{cut, default_operators};
-use mail_base::{NoMemory, Seq, Text, without_angles};
-use mail_submit::SubmitWords;
+use mail_base::{NoMemory, Seq, Text};
+use mail_submit::{SubmitWords, bracketed};
 use std::alloc::Global;
 
 /// Nothing is said of mail that is handed over.
@@ -145,17 +145,7 @@ fn is_sender(alloc: Global, text: &[u8]) -> Result<bool, NoMemory>
     if !is_one_line(text) {
         return Ok(false);
     }
-    let path = path_of(alloc, text)?;
+    let path = bracketed(alloc, text)?;
     let operators = Text::of(alloc, default_operators())?;
     Ok(cut(alloc, &path, &operators, true)?.is_some())
-}
-
-// The path of a sender: in one pair of brackets, as it was or not.
-fn path_of(alloc: Global, text: &[u8]) -> Result<Text, NoMemory>
-    ensures { IfOk result (λ path. path ≡ path_of text.now) }
-{
-    let mut path = Text::of(alloc, b"<")?;
-    path.extend(without_angles(text))?;
-    path.push(b'>')?;
-    Ok(path)
 }

@@ -40,7 +40,8 @@ use Rattle.mail_core.specs.inner.Handling.{Behaves, HasAt, IsOpened, IsPlaceOf, 
 use Rattle.mail_core.specs.Causes.{EndsSo, HasCause, ending_by, ending_of, is_well}
 use Rattle.mail_core.specs.inner.Going.{Feeds, way_after, is_onward}
 use Rattle.mail_core.specs.Guests.{Guest, newcomer, with_bytes, guest_of, is_here, without, with_guest}
-use Rattle.mail_core.specs.Machine.{AreOpen, Opening, Replied, Dropped, Choices, Way, GoesOn, Leaves, Over, Did, all_answered, most_guests, turned_away, welcomed, opened, brought, pieced, handled, at_moment, last_moment, moment_by}
+use Rattle.mail_made.specs.Moments.{last_moment}
+use Rattle.mail_core.specs.Machine.{AreOpen, Opening, Replied, Dropped, Choices, Way, GoesOn, Leaves, Over, Did, all_answered, most_guests, turned_away, welcomed, opened, brought, pieced, handled, at_moment, moment_by}
 use Rattle.mail_core.specs.States.{Ending, By, Seat, State, Step, still}
 use Rattle.mail_core.specs.Judges.{JudgeSeen}
 use Rattle.mail_core.specs.Meant.{ArePieceMeant, IsEventMeant}

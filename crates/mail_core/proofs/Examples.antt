@@ -20,7 +20,8 @@ use Rattle.mail_core.specs.Sites.{Site}
 use Rattle.mail_core.specs.Effects.{Effect, Takes, Ticks, Does, Sends, HangsUp}
 use Rattle.mail_core.specs.Guests.{Guest, newcomer}
 use Rattle.mail_core.specs.States.{Finished, By, State, Step, followed}
-use Rattle.mail_core.specs.Machine.{id_by, Choice, Normal, OutOfMemory, Replied, GoesOn, Leaves, Turn, last_moment, moment_by, most_guests, run}
+use Rattle.mail_made.specs.Moments.{last_moment}
+use Rattle.mail_core.specs.Machine.{id_by, Choice, Normal, OutOfMemory, Replied, GoesOn, Leaves, Turn, moment_by, most_guests, run}
 use Rattle.mail_core.specs.Plans.{OfFloor, Serve}
 use Rattle.queue_run.specs.Deeds.{Asks}
 use Rattle.mail_made.specs.Messages.{is_spent, last_id}

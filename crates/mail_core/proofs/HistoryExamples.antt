@@ -17,7 +17,7 @@ use Rattle.mail_core.specs.Beginning.{run_over, served}
 use Rattle.mail_core.specs.Effects.{Does, Takes, Ticks}
 use Rattle.mail_core.specs.Histories.{Chain, IsFree, IsPast, Past, all_of, left_by}
 use Rattle.mail_core.specs.Idling.{Claiming}
-use Rattle.mail_core.specs.Machine.{last_moment}
+use Rattle.mail_made.specs.Moments.{last_moment}
 use Rattle.mail_core.specs.Plans.{OfRun, Once, Serve}
 use Rattle.mail_core.proofs.IdlingExamples.{entry, listed, refused, rests, site, table}
 

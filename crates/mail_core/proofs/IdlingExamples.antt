@@ -19,7 +19,8 @@ use Rattle.queue_run.specs.Steps.{Closes, Records, StillRuns}
 use Rattle.mail_core.specs.Beginning.{Start, beginning, run_over, served}
 use Rattle.mail_core.specs.Effects.{Takes, Ticks, Does}
 use Rattle.mail_core.specs.Idling.{Carrying, Claiming, Quiet}
-use Rattle.mail_core.specs.Machine.{Turn, last_moment, turned}
+use Rattle.mail_made.specs.Moments.{last_moment}
+use Rattle.mail_core.specs.Machine.{Turn, turned}
 use Rattle.mail_core.specs.Plans.{OfFloor, OfRun, Once, Plan, Serve}
 use Rattle.mail_core.specs.Sites.{Site}
 use Rattle.mail_core.specs.States.{By, Cut, Finished, Seat}

@@ -2,7 +2,7 @@
 -- are the choices at an event: whether a text could be sent, where memory was wanting, what the
 -- judge said, how the step of a runner went, and that the spool failed, or files that the judge
 -- reads (own; the replies are those of RFC 5321).
-use Rattle.std.specs.Prelude.{ℕ, ◌≤◌, nat_le, List, [], ◌∷◌, ◌++◌, length, fold, max, min, Option, Some, None, is_some, Bool, true, false, not, ◌&&◌, if◌then◌else◌}
+use Rattle.std.specs.Prelude.{ℕ, ◌≤◌, nat_le, List, [], ◌∷◌, ◌++◌, length, fold, max, Option, Some, None, is_some, Bool, true, false, not, ◌&&◌, if◌then◌else◌}
 use Rattle.link_edge.specs.declared.event.Event.{Event}
 use Rattle.link_edge.specs.declared.event.Event.TheVariants.{Opens, Brings, Closes, Rests, Stops}
 use Rattle.smtp_lines.specs.declared.line.Line.{Line}
@@ -302,13 +302,9 @@ pub record Turn : Type 0 where
   pub origin : Origin
   pub choices : Choices event
 
--- the beginning of the year 3000: a later reading counts as that
-unfoldable pub last_moment : ℕ
-last_moment = 32_503_680_000
-
 -- the moment of an event: the greatest reading so far
 abbrev pub moment_by : ℕ → ℕ → ℕ
-moment_by latest reading = max latest (min reading last_moment)
+moment_by latest reading = max latest (moment_of reading)
 
 -- the clock was read
 abbrev pub at_moment : State → ℕ → State

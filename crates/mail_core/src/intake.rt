@@ -36,16 +36,13 @@ use crate::serving::CoreStop;
 use crate::speech::say;
 use link_edge::Floor;
 use mail_base::{Config, JudgeFault, Message, NoMemory, StoreFault, Text};
-use mail_made::{has_class, planned};
+use mail_made::{has_class, moment_of, planned};
 use map_tables::Maps;
 use queue_table::{Accepting, Table};
 use smtp_lines::{Line, last_asks};
 use smtp_receive::{Did, Judge, out_of_memory};
 use spool_disk::Spool;
 use std::alloc::Global;
-
-/// The beginning of the year 3000. A later reading of the clock counts as that.
-const LAST_MOMENT: u64 = 32_503_680_000;
 
 /// What takes messages into the queue: its table, the moment of the event, and the text of
 /// 452 4.3.1, which is kept so that to send it takes no memory.
@@ -75,7 +72,7 @@ impl Intake {
         ensures range { self.new.moment < 2 ^ 64 }
         ensures moment { self.new ≡ record self.old { moment = moment_by self.old.moment reading } }
     {
-        self.moment = self.moment.max(reading.min(LAST_MOMENT));
+        self.moment = self.moment.max(moment_of(reading));
     }
 
     // Says a reply to a session that goes on.

@@ -4,10 +4,11 @@ ghost use Rattle.mail_base.specs.Notes.{is_status};
 ghost use Rattle.mail_base.specs.declared.draw.Draw.{Draw as TheDraw};
 ghost use Rattle.alias_expand.specs.Rows.{is_files_fault};
 ghost use Rattle.smtp_receive.specs.declared.judge.Verdict.TheVariants.{No};
-ghost use Rattle.mail_judge.specs.Judged.{error_of as error_seen, error_with};
+ghost use Rattle.mail_judge.specs.Judged as spec;
+ghost use Rattle.mail_judge.specs.Judged.{error_of as error_seen};
 
 use alias_expand::ExpandRefusal;
-use mail_base::{Cause, JudgeFault, RouteError, Status, Text};
+use mail_base::{Cause, JudgeFault, NoMemory, RouteError, Status, Text};
 use smtp_receive::Verdict;
 use std::alloc::Global;
 
@@ -48,7 +49,7 @@ pub fn error_of(alloc: Global, refusal: ExpandRefusal) -> Result<RouteError, Jud
     }
 }
 
-// An error with this reply.
+// The same as a judge's answer.
 fn told(
     alloc: Global,
     code: u16,
@@ -57,8 +58,22 @@ fn told(
     cause: Cause,
 ) -> Result<RouteError, JudgeFault>
     requires { IsTrue (is_status status.now) }
-    ensures says { IfOk result (λ error. error ≡ error_with code status.now text.now cause) }
+    ensures says { IfOk result (λ error. error ≡ spec.error_with code status.now text.now cause) }
     ensures calm { is_calm result ≡ true }
+{
+    Ok(error_with(alloc, code, status, text, cause)?)
+}
+
+/// The error of a reply of one line: its code, its status, its text, and what brought it.
+pub fn error_with(
+    alloc: Global,
+    code: u16,
+    status: &'static [u8],
+    text: &'static [u8],
+    cause: Cause,
+) -> Result<RouteError, NoMemory>
+    requires { IsTrue (is_status status.now) }
+    ensures { IfOk result (λ error. error ≡ spec.error_with code status.now text.now cause) }
 {
     let text = Text::of(alloc, text)?;
     Ok(RouteError {

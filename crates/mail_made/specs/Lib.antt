@@ -1,3 +1,4 @@
 pub mod Messages
+pub mod Moments
 pub mod Planned
 pub mod inner

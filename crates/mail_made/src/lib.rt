@@ -4,7 +4,9 @@
 #![tactic(auto)]
 
 mod message;
+mod moment;
 mod plan;
 
 pub use message::{has_class, made};
+pub use moment::moment_of;
 pub use plan::planned;

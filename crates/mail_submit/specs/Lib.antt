@@ -1,5 +1,6 @@
 pub mod Examples
 pub mod Inputs
 pub mod Parts
+pub mod Said
 pub mod Submissions
 pub mod inner

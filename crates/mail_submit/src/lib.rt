@@ -20,4 +20,4 @@ pub use input::Input;
 pub use law::{one_submission, worked_example};
 pub use submission::Submission;
 pub use submitting::submitted;
-pub use words::SubmitWords;
+pub use words::{SubmitWords, bracketed};

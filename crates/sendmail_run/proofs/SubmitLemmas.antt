@@ -29,7 +29,8 @@ use Rattle.queue_table.proofs.DirLemmas.{each_is_there}
 use Rattle.queue_run.specs.Deeds.{Asks as AsksDeed}
 use Rattle.submit_run.specs.Ends.{HasCome, IsMessage, Seen as Handed, seen as handed_seen}
 use Rattle.submit_run.specs.Ends as submit
-use Rattle.submit_run.specs.Taken.{Counts, IsBroken, IsSpent, IsStored, MayTake, is_committed}
+use Rattle.submit_run.specs.Inputs.{TakesSome}
+use Rattle.submit_run.specs.Taken.{Counts, IsBroken, IsReadAtMostOnce, IsSpent, IsStored, MayTake, is_committed}
 use Rattle.submit_run.specs.declared.end.SubmitEnd.{SubmitEnd}
 use Rattle.submit_run.specs.declared.end.SubmitEnd.TheVariants as ends
 use Rattle.mail_core.specs.Effects.{Does, commanded}
@@ -97,7 +98,7 @@ module _ (config : Config) (maps : Loaded) (names : Names) (words : SubmitWords)
   come_so : (outcome : Result Message SubmitEnd) → HasCome grounds words a b outcome → HasCome grounds words (handed_of first) (handed_of last) outcome
   come_so outcome c = record { text = c.text; read = c.read; is = c.is }
 
-  module _ (taken : IsTakenOver site.dirs s0 s1) (sparing : IsSparing site.dirs s0 s1 true) (spare : IsSparing site.dirs s1 s2 false) (calm : s1.faults ≡ s0.faults) (table : Table) where
+  module _ (taken : IsTakenOver site.dirs s0 s1) (sparing : IsSparing site.dirs s0 s1 true) (spare : IsSparing site.dirs s1 s2 false) (calm : s1.faults ≡ s0.faults) (takes : TakesSome i0 i1) (clock : IsReadAtMostOnce c0 c1) (table : Table) where
     spared_so : IsSparing site.dirs s0 s2 false
     spared_so = sparing_join site.dirs s0 s1 s2 false sparing spare
 
@@ -111,6 +112,8 @@ module _ (config : Config) (maps : Loaded) (names : Names) (words : SubmitWords)
           (subst (λ (s : Spooled). Moves s0 s (StandsFor site.dirs table) (StandsFor site.dirs table) (IsFront commanded site.dirs table [])) (sym same)
           (opened_either site.dirs s0 s1 s2 taken table (IsFront commanded site.dirs table []) (none_front site.dirs table)));
       spared = spared_so;
+      takes = takes;
+      clock = clock;
     }
 
     done_so : (kept : Kept) → IsMessage grounds words a b (λ message. IsStored config maps table message c0 c1 site.dirs s1 s2 kept) → Submits grounds site words first last ends.Done table
@@ -122,6 +125,8 @@ module _ (config : Config) (maps : Loaded) (names : Names) (words : SubmitWords)
           spool = then_moves site.dirs s0 s1 s2 taken table (IsSettled site.dirs (after table command)) (IsEitherTable site.dirs table (after table command)) (Leaves commanded site.dirs table (Does (AsksDeed command) ∷ []) true) (IsFront commanded site.dirs table (Does (AsksDeed command) ∷ []))
               (λ f s. inl s) (λ f s. s.stands) (one_front site.dirs table command) d.is.moves;
           spared = spared_so;
+          takes = takes;
+          clock = clock;
         }
 
     broken_so : IsMessage grounds words a b (λ message. IsBroken config maps table message c0 c1 site.dirs s1 s2) → Submits grounds site words first last ends.SpoolFault table
@@ -133,6 +138,8 @@ module _ (config : Config) (maps : Loaded) (names : Names) (words : SubmitWords)
           spool = then_moves site.dirs s0 s1 s2 taken table (IsEitherTable site.dirs table (after table command)) (IsEitherTable site.dirs table (after table command)) (Leaves commanded site.dirs table (Does (AsksDeed command) ∷ []) false) (IsFront commanded site.dirs table (Does (AsksDeed command) ∷ []))
               (λ f s. inl s) (one_lacks site.dirs table command) (one_front site.dirs table command) d.is.moves;
           spared = spared_so;
+          takes = takes;
+          clock = clock;
         }
 
     spent_so : (s2 ≡ s1) → IsMessage grounds words a b (λ message. IsSpent config maps table message c0 c1) → Submits grounds site words first last ends.IdsSpent table
@@ -151,10 +158,10 @@ module _ (config : Config) (maps : Loaded) (names : Names) (words : SubmitWords)
     submits_so ends.NoMemory kept same e = unasked ends.NoMemory refl (same refl) refl
 
   -- over each table for which the files stand
-  pub ends_over : (store : StoreSeen) (kept : Kept) (end : SubmitEnd) → IsFound site.dirs s0.told store → IsTakenOver site.dirs s0 s1 → IsSparing site.dirs s0 s1 true → IsSparing site.dirs s1 s2 false → s1.faults ≡ s0.faults → (is_committed end ≡ false → s2 ≡ s1)
+  pub ends_over : (store : StoreSeen) (kept : Kept) (end : SubmitEnd) → IsFound site.dirs s0.told store → IsTakenOver site.dirs s0 s1 → IsSparing site.dirs s0 s1 true → IsSparing site.dirs s1 s2 false → s1.faults ≡ s0.faults → TakesSome i0 i1 → IsReadAtMostOnce c0 c1 → (is_committed end ≡ false → s2 ≡ s1)
       → ((table : Table) → Holds store table → submit.Ends grounds words site.dirs table a b kept end) → EndsSo grounds site words first last (mode_ends.Over end)
-  ends_over store kept end found taken sparing spare calm same each =
-      over site (core_of first) store (Submits grounds site words first last end) found (λ table holds. submits_so taken sparing spare calm table end kept same (each table holds))
+  ends_over store kept end found taken sparing spare calm takes clock same each =
+      over site (core_of first) store (Submits grounds site words first last end) found (λ table holds. submits_so taken sparing spare calm takes clock table end kept same (each table holds))
 
 -- ---- where the queue is opened
 

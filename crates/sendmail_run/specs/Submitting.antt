@@ -14,8 +14,8 @@ use Rattle.spool_store.specs.Settled.{StandsFor}
 use Rattle.queue_table.specs.Asked.{IsFront, Leaves}
 use Rattle.queue_run.specs.Deeds.{Asks}
 use Rattle.submit_run.specs.Ends.{HasCome, Seen as Handed, seen as handed_seen}
-use Rattle.submit_run.specs.Inputs.{IsLarge}
-use Rattle.submit_run.specs.Taken.{IsAskedAt}
+use Rattle.submit_run.specs.Inputs.{IsLarge, TakesSome}
+use Rattle.submit_run.specs.Taken.{IsAskedAt, IsReadAtMostOnce}
 use Rattle.submit_run.specs.declared.end.SubmitEnd.{SubmitEnd}
 use Rattle.submit_run.specs.declared.end.SubmitEnd.TheVariants as ends
 use Rattle.mail_core.specs.Effects.{Does, Effect, commanded}
@@ -95,7 +95,7 @@ is_well end = true
 
 -- such a run over a table: what it asked; the files stand for the table after that, or where the
 -- spool failed for it before; and so they do in each image that a stop leaves. What no call touches
--- stays, whatever the files are
+-- stays, whatever the files are. Of the input a front was taken, and the clock is read once at most
 pub record Submits (grounds : Grounds) (site : Site) (words : SubmitWords) (before after : World)
     (end : SubmitEnd) (table : Table) : Type 0 where
   pub effects : List Effect
@@ -105,6 +105,8 @@ pub record Submits (grounds : Grounds) (site : Site) (words : SubmitWords) (befo
       (Leaves commanded site.dirs table effects (is_well end))
       (IsFront commanded site.dirs table effects)
   pub spared : IsSparing site.dirs before.spool after.spool false
+  pub takes : TakesSome before.input after.input
+  pub clock : IsReadAtMostOnce before.clock after.clock
 
 -- ---- the end of the mode
 

@@ -1,7 +1,7 @@
 ghost use Rattle.std.specs.Prelude.{◌≡◌, ◌<◌, ◌≤◌, ◌^◌, length, IfErr, OnOk};
 ghost use Rattle.link_edge.specs.Heard.{Heard};
 ghost use Rattle.mail_core.specs.Seen.{Hands, beside, hands};
-ghost use Rattle.submit_run.specs.Parties.{AreSaid};
+ghost use Rattle.mail_submit.specs.Said.{AreSaid};
 ghost use Rattle.mail_edge.specs.Seen.{SinkSeen, SourceSeen};
 ghost use Rattle.sendmail_run.specs.Beginning.{Begins};
 ghost use Rattle.sendmail_run.specs.Devices.{world};

@@ -8,7 +8,7 @@ ghost use Rattle.queue_table.specs.Calls.{store};
 ghost use Rattle.queue_table.specs.Directories.{all_dirs, terms_of};
 ghost use Rattle.mail_core.specs.Plans.{Serve};
 ghost use Rattle.mail_core.specs.Seen.{Hands, IsSparing, beside};
-ghost use Rattle.submit_run.specs.Parties.{AreSaid};
+ghost use Rattle.mail_submit.specs.Said.{AreSaid};
 ghost use Rattle.submit_run.specs.Taken.{MayTake};
 ghost use Rattle.submit_run.specs.declared.end.SubmitEnd.{SubmitEnd as SubmitEndSeen};
 ghost use Rattle.sendmail_run.specs.Devices.{world};

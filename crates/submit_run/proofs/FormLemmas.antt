@@ -14,7 +14,8 @@ use Rattle.mail_submit.specs.Submissions.{IsSubmission, address_at, addresses_in
 use Rattle.mail_submit.specs.declared.submission.Submission.{Submission}
 use Rattle.mail_submit.specs.declared.words.SubmitWords.{SubmitWords}
 use Rattle.smtp_receive.proofs.PathLemmas.{brackets_form}
-use Rattle.submit_run.specs.Parties.{AreSaid, bracketed, is_kept, is_left_out, recipients_of, sender_of}
+use Rattle.mail_submit.specs.Said.{AreSaid, bracketed}
+use Rattle.submit_run.specs.Parties.{is_kept, is_left_out, recipients_of, sender_of}
 use Rattle.submit_run.specs.inner.Steps.{IsSound}
 use Rattle.submit_run.proofs.StoringLemmas.{NotLf, plain_byte, plain_line}
 

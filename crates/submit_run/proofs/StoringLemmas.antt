@@ -29,7 +29,8 @@ use Rattle.spool_store.specs.Moves.{Moves}
 use Rattle.spool_store.specs.Parts.{IsEitherTable}
 use Rattle.spool_store.specs.Settled.{IsSettled, StandsFor}
 use Rattle.spool_store.specs.Stores.{Agrees, Holds, KeepsOthers, StoreSeen}
-use Rattle.submit_run.specs.Taken.{IsAskedAt, IsBroken, IsSpent, IsStored, last_moment, moment_of}
+use Rattle.mail_made.specs.Moments.{moment_of}
+use Rattle.submit_run.specs.Taken.{IsAskedAt, IsBroken, IsSpent, IsStored}
 use Rattle.submit_run.specs.inner.Storing.{IsFit}
 
 -- ---- the message
@@ -80,16 +81,12 @@ rose_of old mid a b same whole (inr r) = r
 
 -- ---- the moment
 
-moment_is : (moment reading : ℕ) → moment ≡ min reading 32503680000 → moment ≡ moment_of reading
-unfolding last_moment
-moment_is moment reading is = is
-
 module _ (config : Config) (maps : Loaded) (table : Table) (message : Message) (c d : ClockSeen) (moment : ℕ) where
-  pub asked_at : (reading : ℕ) → Gains c.told d.told (reading ∷ []) → d.readings ≡ c.readings + 1 → moment ≡ min reading 32503680000 → IsAskedAt config maps table message c d moment
+  pub asked_at : (reading : ℕ) → Gains c.told d.told (reading ∷ []) → d.readings ≡ c.readings + 1 → moment ≡ moment_of reading → IsAskedAt config maps table message c d moment
   asked_at reading told counted is = record {
     reading = reading;
     clock = record { told = told; readings = counted };
-    moment_is = moment_is moment reading is;
+    moment_is = is;
   }
 
   module _ (old mid : Kept) (terms : old.terms ≡ terms_of config) (same : IsSame old mid) (holds : HoldsTable old table) (asked : IsAskedAt config maps table message c d moment) where

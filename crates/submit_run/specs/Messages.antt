@@ -5,7 +5,6 @@ use Rattle.std.specs.Prelude.{◌≡◌, ℕ, false, ◌==◌, List, [], length,
 use Rattle.mail_base.specs.Limits.{most_headers}
 use Rattle.mail_base.specs.declared.config.Config.{Config}
 use Rattle.mail_base.specs.declared.draw.Draw.{Draw}
-use Rattle.mail_base.specs.declared.message.Marks.{Marks}
 use Rattle.mail_base.specs.declared.message.Message.{Message}
 use Rattle.mail_edge.specs.Seen.{FileMap}
 use Rattle.mail_header.specs.Fields.{class_in, hops_of}
@@ -14,6 +13,7 @@ use Rattle.mail_judge.specs.Judged.{Grounds}
 use Rattle.mail_submit.specs.Submissions.{IsSubmission}
 use Rattle.mail_submit.specs.declared.submission.Submission.{Submission}
 use Rattle.mail_submit.specs.declared.words.SubmitWords.{SubmitWords}
+use Rattle.smtp_receive.specs.Dialogue.{no_marks}
 use Rattle.submit_run.specs.Parties.{kept, recipients_of, sender_of}
 use Rattle.submit_run.specs.Rows.{Draws}
 use Rattle.submit_run.specs.declared.end.SubmitEnd.{SubmitEnd}
@@ -34,9 +34,6 @@ refused_with None recipients = if length recipients == 0 then Some NoRecipient e
 abbrev pub refusal_of : Config → SubmitWords → Submission → Option SubmitEnd
 refusal_of config words s =
     refused_with (code_of config s) (recipients_of words s.recipients)
-
-abbrev pub no_marks : Marks
-no_marks = record { bounce = false; double = false; warned = false }
 
 -- the message of a submission with its sender and the rows of its recipients
 abbrev pub message_with : Config → List ℕ → Submission → List Draw → Message

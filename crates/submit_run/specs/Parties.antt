@@ -1,16 +1,13 @@
 -- Who sends a message that is handed over, and who gets it (the manual page of Sendmail's own
 -- program, -f and -t; that the sender is the first of the header From where -f isn't there, and
 -- postmaster where there is none, and the macros r and s, are own).
-use Rattle.std.specs.Prelude.{◌≡◌, ℕ, Bool, true, false, not, ◌&&◌, ◌==◌, List, [], ◌∷◌, ◌++◌, All, filter, length, Option, Some, None, IfSome, unwrap_or, if◌then◌else◌, codes, refl}
+use Rattle.std.specs.Prelude.{◌≡◌, ℕ, Bool, true, false, not, ◌&&◌, ◌==◌, List, [], ◌∷◌, filter, length, Option, Some, None, unwrap_or, if◌then◌else◌, codes, refl}
 use Rattle.std.specs.List.{list_any}
 use Rattle.std.specs.Str.{str_eq_ignore_ascii_case}
-use Rattle.mail_base.specs.Texts.{IsAddress, IsLine, without_angles}
+use Rattle.mail_base.specs.Texts.{without_angles}
 use Rattle.mail_base.specs.declared.message.Kept.{Kept}
+use Rattle.mail_submit.specs.Said.{bracketed}
 use Rattle.mail_submit.specs.declared.words.SubmitWords.{SubmitWords}
-
--- a text in angles (60 and 62), of which it has one pair already or none
-abbrev pub bracketed : List ℕ → List ℕ
-bracketed text = 60 ∷ without_angles text ++ 62 ∷ []
 
 -- the sender: that of -f, else the first address of the header From, else postmaster
 abbrev pub sender_of : SubmitWords → Option (List ℕ) → List ℕ
@@ -36,12 +33,6 @@ recipients_of words found =
 -- what is kept of a message's session: the macros r and s, and no address of a peer
 abbrev pub kept : Kept
 kept = record { protocol = codes "SUBMIT"; helo = codes "localhost"; client = [] }
-
--- the words of a run that hands a message over: each address is one line that isn't empty, and the
--- sender is one line
-pub record AreSaid (words : SubmitWords) : Type 0 where
-  pub addresses : All IsAddress words.addresses
-  pub sender : IfSome words.sender IsLine
 
 abbrev words_with : Bool → Option (List ℕ) → List (List ℕ) → SubmitWords
 words_with from_headers sender addresses = record {

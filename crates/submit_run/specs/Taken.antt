@@ -1,11 +1,12 @@
 -- A message that is handed over is taken into the queue by one command, or not (RFC 5321, section
--- 4.2.5; the moment's limit is own).
-use Rattle.std.specs.Prelude.{◌≡◌, ◌⊎◌, ℕ, ◌+◌, ◌≤◌, min, List, [], ◌∷◌, Bool, true, false}
+-- 4.2.5).
+use Rattle.std.specs.Prelude.{◌≡◌, ◌⊎◌, ℕ, ◌+◌, ◌≤◌, List, [], ◌∷◌, Bool, true, false}
 use Rattle.mail_base.specs.Histories.{Gains, Rose}
 use Rattle.mail_base.specs.declared.config.Config.{Config}
 use Rattle.mail_base.specs.declared.message.Message.{Message}
 use Rattle.mail_edge.specs.Seen.{ClockSeen}
 use Rattle.mail_made.specs.Messages.{IsTakenIn, Made, accept_under}
+use Rattle.mail_made.specs.Moments.{moment_of}
 use Rattle.mail_made.specs.Planned.{LacksIds}
 use Rattle.map_tables.specs.Answers.{Loaded}
 use Rattle.queue_table.specs.Calls.{AreDirs, HoldsTable, Tallies, store}
@@ -29,13 +30,6 @@ pub record MayTake (config : Config) (kept : Kept) (spooled : Spooled) : Type 0 
   pub tallied : Tallies kept spooled
 
 -- ---- the moment
-
--- the beginning of the year 3000: a later reading of the clock counts as that
-unfoldable pub last_moment : ℕ
-last_moment = 32_503_680_000
-
-abbrev pub moment_of : ℕ → ℕ
-moment_of reading = min reading last_moment
 
 -- the clock was read once, and said this
 pub record IsReadOnce (before after : ClockSeen) (reading : ℕ) : Type 0 where

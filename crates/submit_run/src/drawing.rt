@@ -1,13 +1,11 @@
-ghost use Rattle.std.specs.Prelude.{◌≡◌, ◌+◌, ◌++◌, [], nat_lt, All, Err, IfOk, IsTrue, List, OnOk, false, length};
+ghost use Rattle.std.specs.Prelude.{◌≡◌, ◌+◌, ◌++◌, [], nat_lt, All, Err, IfOk, List, OnOk, false, length};
 ghost use Rattle.mail_base.specs.Drawing.{AreRows};
 ghost use Rattle.mail_base.specs.Limits.{most_rows, recipient_limit};
-ghost use Rattle.mail_base.specs.Notes.{is_status};
 ghost use Rattle.mail_base.specs.Texts.{IsAddress, IsBracketed};
 ghost use Rattle.cf_macros.specs.SessionMacros.{session_macros as session_macros_of};
 ghost use Rattle.mail_edge.specs.Asking.{Asks};
 ghost use Rattle.alias_expand.specs.Rows.{is_files_fault};
 ghost use Rattle.mail_base.specs.declared.draw.Draw.{Draw as TheDraw};
-ghost use Rattle.mail_judge.specs.Judged.{error_with};
 ghost use Rattle.submit_run.specs.Parties.{kept as kept_of};
 ghost use Rattle.submit_run.specs.Rows as spec;
 ghost use Rattle.submit_run.specs.inner.Steps.{AreGathered, Gathers, RefusesBy, Tells, has_files_fault};
@@ -17,10 +15,10 @@ use crate::message::kept;
 use alias_expand::{Aliases, ExpandRefusal, Homes, expand, one_expansion};
 use cf_macros::session_macros;
 use mail_base::{
-    Cause, Config, Draw, JudgeFault, MOST_ROWS, Macros, NoMemory, RouteError, Seq, Status, Text,
+    Cause, Config, Draw, JudgeFault, MOST_ROWS, Macros, NoMemory, RouteError, Seq, Text,
 };
 use mail_edge::Files;
-use mail_judge::error_of;
+use mail_judge::{error_of, error_with};
 use map_tables::Maps;
 use std::alloc::Global;
 use std::mem;
@@ -185,7 +183,7 @@ fn is_program(recipient: &[u8]) -> bool
 fn no_program(alloc: Global) -> Result<RouteError, NoMemory>
     ensures { IfOk result (λ error. error ≡ spec.no_program) }
 {
-    told(
+    error_with(
         alloc,
         550,
         b"5.2.4",
@@ -197,25 +195,5 @@ fn no_program(alloc: Global) -> Result<RouteError, NoMemory>
 fn too_many(alloc: Global) -> Result<RouteError, NoMemory>
     ensures { IfOk result (λ error. error ≡ spec.too_many) }
 {
-    told(alloc, 452, b"4.5.3", b"Too many recipients", Cause::Work)
-}
-
-// An error with this reply.
-fn told(
-    alloc: Global,
-    code: u16,
-    status: &'static [u8],
-    text: &'static [u8],
-    cause: Cause,
-) -> Result<RouteError, NoMemory>
-    requires { IsTrue (is_status status.now) }
-    ensures { IfOk result (λ error. error ≡ error_with code status.now text.now cause) }
-{
-    let text = Text::of(alloc, text)?;
-    Ok(RouteError {
-        code,
-        status: Status::of(status).unwrap(),
-        text,
-        cause,
-    })
+    error_with(alloc, 452, b"4.5.3", b"Too many recipients", Cause::Work)
 }

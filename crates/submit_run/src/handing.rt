@@ -1,11 +1,8 @@
 ghost use Rattle.std.specs.Prelude.{◌≡◌, ◌≤◌, length, IfOk, None};
-ghost use Rattle.mail_base.specs.Limits.{most_headers};
-ghost use Rattle.mail_header.specs.Fields.{hops_of};
-ghost use Rattle.mail_header.specs.Gatherings.{is_above};
 ghost use Rattle.mail_edge.specs.Asking.{Asks};
 ghost use Rattle.submit_run.specs.Rows.{grounds_of};
 ghost use Rattle.submit_run.specs.Messages as spec;
-ghost use Rattle.submit_run.specs.Parties.{AreSaid};
+ghost use Rattle.mail_submit.specs.Said.{AreSaid};
 ghost use Rattle.submit_run.specs.inner.Steps.{IsSound, Tells, has_files_fault};
 ghost use Rattle.submit_run.specs.inner.Storing.{IsFit};
 
@@ -14,11 +11,11 @@ use crate::drawing::rows_of;
 use crate::message::message_with;
 use crate::parties::{recipients_of, sender_of};
 use alias_expand::{Aliases, Homes};
-use mail_base::{Config, MOST_HEADERS, Message, Seq, Text};
+use mail_base::{Config, MOST_HEADERS, Message, Text};
 use mail_edge::Files;
-use mail_header::hops;
 use mail_submit::{Submission, SubmitWords, submitted};
 use map_tables::Maps;
+use smtp_receive::has_looped;
 use std::alloc::Global;
 
 /// The message that a text is which is handed over under these words, or why it isn't taken.
@@ -121,13 +118,4 @@ fn code_of(config: &Config, submission: &Submission) -> Option<u16>
         return Some(554);
     }
     None
-}
-
-// Whether a message has passed more hosts than it may.
-#[tactic(auto, unfolding(mail_base::specs::Limits::most_headers))]
-fn has_looped(headers: &Seq<Text>, most: u64) -> bool
-    requires { length headers.now ≤ most_headers }
-    ensures { result ≡ is_above most (hops_of headers.now) }
-{
-    u64::from(hops(headers)) > most
 }

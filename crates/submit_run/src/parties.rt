@@ -2,7 +2,7 @@ ghost use Rattle.std.specs.Prelude.{◌≡◌, ◌∷◌, ◌++◌, [], IfOk, On
 ghost use Rattle.submit_run.specs.Parties as spec;
 
 use mail_base::{NoMemory, Seq, Text, TryCopy, without_angles};
-use mail_submit::SubmitWords;
+use mail_submit::{SubmitWords, bracketed};
 use std::alloc::Global;
 
 /// Who gets a message whose headers name these addresses.
@@ -91,14 +91,4 @@ fn text_or<'a>(text: &'a Option<Text>, other: &'a [u8]) -> &'a [u8]
         Some(text) => text.bytes(),
         None => other,
     }
-}
-
-// A text in angles, of which it has one pair already or none.
-fn bracketed(alloc: Global, text: &[u8]) -> Result<Text, NoMemory>
-    ensures { IfOk result (λ all. all ≡ spec.bracketed text.now) }
-{
-    let mut all = Text::of(alloc, b"<")?;
-    all.extend(without_angles(text))?;
-    all.push(b'>')?;
-    Ok(all)
 }

@@ -11,14 +11,11 @@ ghost use Rattle.submit_run.specs.declared.end.SubmitEnd.TheVariants.{SpoolFault
 use crate::SubmitEnd;
 use mail_base::{Config, Message, StoreFault};
 use mail_edge::Clock;
-use mail_made::{has_class, planned};
+use mail_made::{has_class, moment_of, planned};
 use map_tables::Maps;
 use queue_table::Table;
 use spool_disk::Spool;
 use std::alloc::Global;
-
-/// The beginning of the year 3000. A later reading of the clock counts as that.
-const LAST_MOMENT: u64 = 32_503_680_000;
 
 /// Takes a message into the table by one command, at the moment that the clock says.
 pub(crate) fn stored<D: Spool, C: Clock>(
@@ -48,7 +45,7 @@ pub(crate) fn stored<D: Spool, C: Clock>(
         (KeepsOthers (store table.old).dirs f) (KeepsOthers (store table.old).dirs f) }
 {
     has_class(&message);
-    let moment = clock.now().min(LAST_MOMENT);
+    let moment = moment_of(clock.now());
     match planned(alloc, config, maps, table, moment, message) {
         Ok(accepting) => match table.accept_planned(spool, accepting) {
             Ok(_) => SubmitEnd::Done,

@@ -9,7 +9,7 @@ ghost use Rattle.submit_run.specs.Ends.{Ends, seen};
 ghost use Rattle.submit_run.specs.Rows.{grounds_of};
 ghost use Rattle.submit_run.specs.Taken.{Counts, IsReadAtMostOnce, MayTake, is_committed, is_files_fault};
 ghost use Rattle.submit_run.specs.Inputs.{TakesSome};
-ghost use Rattle.submit_run.specs.Parties.{AreSaid};
+ghost use Rattle.mail_submit.specs.Said.{AreSaid};
 ghost use Rattle.submit_run.specs.declared.end.SubmitEnd.TheVariants.{ReadFault, SpoolFault};
 
 use crate::SubmitEnd;

@@ -3,7 +3,7 @@
 use Rattle.std.specs.Prelude.{Bool, false}
 use Rattle.command_line.specs.declared.mode.Job.{Job}
 use Rattle.command_line.specs.declared.mode.Job.TheVariants.{Submit}
-use Rattle.submit_run.specs.Parties.{AreSaid}
+use Rattle.mail_submit.specs.Said.{AreSaid}
 use Rattle.submit_run.specs.Taken.{is_files_fault}
 use Rattle.sendmail_run.specs.declared.submit_mode.SubmitModeEnd.{SubmitModeEnd}
 use Rattle.sendmail_run.specs.declared.submit_mode.SubmitModeEnd.TheVariants as ends

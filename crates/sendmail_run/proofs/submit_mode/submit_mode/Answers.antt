@@ -17,6 +17,6 @@ returns-clause-ends g c = λ output floor hands.
     ends_over config c.args.maps.now c.args.names.now words (g.F.Files.seen c.args.files.now) (g.F.Files.seen c.submit-end.new.files) (g.I.Source.seen c.args.input.now) (g.I.Source.seen c.submit-end.new.input) output floor hands
     (g.D.Spool.seen c.args.spool.now) (g.D.Spool.seen c.opened_table.new.spool) (g.D.Spool.seen c.submit-end.new.spool) (g.C.Clock.seen c.args.clock.now) (g.C.Clock.seen c.submit-end.new.clock)
     (store c.in-Ok.table) c.submit-end.new.table c.submit-end.result opened.found opened.taken opened.sparing
-    (spares_by (all_dirs (terms_of config)) (store c.in-Ok.table).dirs (g.D.Spool.seen c.opened_table.new.spool) (g.D.Spool.seen c.submit-end.new.spool) opened.dirs c.submit-end.ensures.frame) opened.kept
+    (spares_by (all_dirs (terms_of config)) (store c.in-Ok.table).dirs (g.D.Spool.seen c.opened_table.new.spool) (g.D.Spool.seen c.submit-end.new.spool) opened.dirs c.submit-end.ensures.frame) opened.kept c.submit-end.ensures.takes c.submit-end.ensures.clock
     (λ e. ap g.D.Spool.seen (c.submit-end.ensures.untouched e))
     (λ table holds. subst (λ (d : List (List ℕ)). Ends (grounds_of config c.args.maps.now c.args.names.now) words d table a b c.submit-end.new.table c.submit-end.result) opened.dirs (c.submit-end.ensures.ends table holds))
