@@ -32,9 +32,9 @@ struct Child {
 /// where the program can't be run, where an argument has a NUL, or where memory, descriptors or
 /// room for the input are wanting.
 ///
-/// A poll never waits for a child. One that finds its child running where nothing was done since
-/// the poll before waits 1 to 5 milliseconds, or lets the floor wait that long for its sessions, so
-/// that a run with nothing else to do doesn't spin.
+/// A poll never waits for a child. Where nothing was done since, and as many polls as there are
+/// children found theirs running, the last of them waits 1 to 5 milliseconds, or lets the floor wait
+/// that long for its sessions, so that a run with nothing else to do doesn't spin.
 /// A child that a signal ended is a fault of the poll that finds that.
 pub struct SystemSpawner<'a> {
     rt: HostRuntime,
@@ -42,7 +42,9 @@ pub struct SystemSpawner<'a> {
     children: Vec<Child>,
     /// How many were started.
     started: u64,
-    /// How many milliseconds the last poll waited, or let the floor wait.
+    /// How many polls in a row found their child running, and nothing done meanwhile.
+    still: usize,
+    /// How many milliseconds was waited last.
     wait: u32,
     faults: u64,
 }
@@ -55,6 +57,7 @@ impl Drop for SystemSpawner<'_> {
             motion: _,
             children: _,
             started: _,
+            still: _,
             wait: _,
             faults: _,
         } = self;
@@ -69,6 +72,7 @@ impl<'a> SystemSpawner<'a> {
             motion,
             children: Vec::new(rt.alloc()),
             started: 0,
+            still: 0,
             wait: 0,
             faults: 0,
         }
@@ -122,15 +126,21 @@ impl<'a> SystemSpawner<'a> {
         }
     }
 
-    // Waits a little, or lets the floor do so, unless something was done since the last child was
-    // found running.
+    // Waits a little, or lets the floor do so, where all children were found running and nothing was
+    // done since.
     fn rest(&mut self)
         ensures { self.new.faults ≡ self.old.faults }
     {
         if self.motion.take_move() {
+            self.still = 0;
             self.wait = 0;
             return;
         }
+        self.still = self.still.saturating_add(1);
+        if self.still < self.children.len() {
+            return;
+        }
+        self.still = 0;
         self.wait = self
             .wait
             .saturating_mul(2)
