@@ -31,8 +31,8 @@ pub(crate) fn ending(message: &Gathering, limit: u64) -> End
     End::Whole
 }
 
-/// Whether a message has passed more hosts than it may, by its headers `Received` (RFC 5321, section
-/// 6.3). More headers than a header block has bytes are none that were gathered.
+/// Whether a message has passed more hosts than it may, by its headers `Received` (RFC 5321,
+/// section 6.3). More headers than a header block has bytes are none that were gathered.
 #[tactic(auto, unfolding(mail_base::specs::Limits::most_headers))]
 pub fn has_looped(headers: &Seq<Text>, most: u64) -> bool
     ensures { length headers.now ≤ most_headers

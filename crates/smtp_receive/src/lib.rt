@@ -14,6 +14,7 @@ mod session;
 mod steps;
 
 pub use did::Did;
+pub use ending::has_looped;
 pub use judge::{Judge, Verdict};
 pub use law::{
     a_final_reply_tells_its_message, lines_are_split_by_the_grammar, messages_are_split,
