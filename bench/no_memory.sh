@@ -8,36 +8,10 @@
 # of the gate.
 set -euo pipefail
 . "$(dirname "$0")/session.sh"
+source=$PWD/../../bench/no_memory/fail.c
 cd data
 
-cat > "$work/fail.c" <<'C'
-#define _GNU_SOURCE
-#include <dlfcn.h>
-#include <fcntl.h>
-#include <stdlib.h>
-#include <unistd.h>
-
-static int is_due(void) {
-    static long calls, due;
-    if (due == 0) due = atol(getenv("FAIL_AT"));
-    if (++calls != due) return 0;
-    close(open(getenv("FAIL_MARK"), O_CREAT | O_WRONLY, 0600));
-    return 1;
-}
-
-void *malloc(size_t size) {
-    static void *(*real)(size_t);
-    if (!real) real = dlsym(RTLD_NEXT, "malloc");
-    return is_due() ? NULL : real(size);
-}
-
-void *realloc(void *old, size_t size) {
-    static void *(*real)(void *, size_t);
-    if (!real) real = dlsym(RTLD_NEXT, "realloc");
-    return is_due() ? NULL : real(old, size);
-}
-C
-cc -shared -fPIC -O1 -o "$work/fail.so" "$work/fail.c" -ldl
+cc -shared -fPIC -O1 -o "$work/fail.so" "$source" -ldl
 
 # Runs the program in a mode with its allocation of that number failing. It ends with status 1 where there is none.
 run() {

@@ -36,7 +36,7 @@ impl Bad {
     pub fn text(self) -> &'static str {
         match self {
             Bad::NoMemory => "no memory",
-            Bad::NoFile => "a file beside it can't be read",
+            Bad::NoFile => "it or a file beside it can't be read",
             Bad::Large => "a text is too long, or there are too many lines",
             Bad::Unknown => "no line begins with this word",
             Bad::NotOpen => "nothing above takes this line",
