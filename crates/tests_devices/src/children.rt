@@ -3,9 +3,10 @@ use delivery_devices::{Motion, SystemSpawner};
 use mail_base::{Failed, NoMemory, Seq, Text};
 use spawn_edge::Spawner;
 use std::alloc::Global;
-use std::fs;
 use std::net::TcpListener;
 use std::test::Fail;
+use std::time::Duration;
+use std::{fs, thread};
 
 /// What a program reads.
 #[derive(Clone, Copy)]
@@ -161,7 +162,7 @@ fn start(
 
 // Polls a child until it is over.
 fn polled(spawner: &mut SystemSpawner<'_>, child: u64) -> End {
-    for _ in 0..4000u32 {
+    for _ in 0..40_000u32 {
         match spawner.finished(child) {
             Ok(None) => {}
             Ok(Some(status)) => return End::Over(status),
@@ -259,5 +260,63 @@ fn two_thousand_children_leave_nothing(rt: HostRuntime) -> Result<(), Fail> {
     assert!(rt; ends_many(&rt, &mut spawner));
     assert_eq!(rt; lowest(&rt)?, before);
     assert!(rt; fs::read(&rt, "/proc/thread-self/children")?.is_empty());
+    Ok(())
+}
+
+/// A program that runs for a while.
+const LONG: Run = Run {
+    name: "",
+    program: b"/bin/sleep",
+    args: &[b"2"],
+    input: Input::Bytes(b""),
+    end: End::Over(0),
+};
+
+/// How many milliseconds a floor may wait behind each poll of two children that run, by turns.
+const PAUSES: &[u32] = &[0, 0, 1, 0, 3, 0, 5, 0, 5];
+
+// The floor's pause behind a poll that finds its child running.
+fn pause_behind(spawner: &mut SystemSpawner<'_>, motion: &Motion, child: u64) -> Option<u32> {
+    match spawner.finished(child) {
+        Ok(None) => motion.take_work(),
+        _ => None,
+    }
+}
+
+// Whether the floor may wait as long as `PAUSES` says.
+fn pauses(spawner: &mut SystemSpawner<'_>, motion: &Motion) -> bool {
+    let mut turn = 0u64;
+    for pause in PAUSES {
+        if pause_behind(spawner, motion, 1 + turn % 2) != Some(*pause) {
+            return false;
+        }
+        turn += 1;
+    }
+    true
+}
+
+// Whether a child ends within ten seconds.
+fn ends_soon(rt: &HostRuntime, spawner: &mut SystemSpawner<'_>, child: u64) -> bool {
+    for _ in 0..100u32 {
+        match spawner.finished(child) {
+            Ok(None) => thread::sleep(rt, Duration::from_millis(100)),
+            Ok(Some(status)) => return End::Over(status) == LONG.end,
+            Err(Failed) => return false,
+        }
+    }
+    false
+}
+
+#[test]
+fn the_floor_waits_once_for_all_children(rt: HostRuntime) -> Result<(), Fail> {
+    let motion = Motion::new();
+    motion.note_floor();
+    let mut spawner = SystemSpawner::new(rt, &motion);
+    let none = Text::new(rt.alloc());
+    for _ in 0..2u32 {
+        start(&mut spawner, rt.alloc(), &LONG, &none)?;
+    }
+    assert!(rt; pauses(&mut spawner, &motion));
+    assert!(rt; (1..3u64).all(|child| ends_soon(&rt, &mut spawner, child)));
     Ok(())
 }
