@@ -22,6 +22,7 @@ use Rattle.mail_core.specs.Effects.{Effect, Takes, Ticks, Sends, HangsUp, Does, 
 use Rattle.mail_core.specs.Guests.{Guest, newcomer, next_line, is_passed, has_bytes_left, with_bytes, with_line, guest_of, is_here, AreApart, without, with_guest}
 use Rattle.mail_core.specs.Idling.{Idling, ends_list, idle, stopped}
 use Rattle.mail_made.specs.Messages.{Made, is_spent}
+use Rattle.mail_made.specs.Moments.{moment_of}
 use Rattle.mail_core.specs.Messages.{accept_of}
 use Rattle.mail_core.specs.Plans.{Origin, OfFloor, OfRun, awaits, comes_from, reading_of}
 use Rattle.mail_core.specs.Sites.{Site}
