@@ -9,7 +9,7 @@ use std::os::fd::{AsRawFd, OwnedFd};
 use std::os::unix::net::UnixListener;
 use std::test::Fail;
 use std::time::Instant;
-use std::{fs, io};
+use std::{fs, io, process};
 
 /// The path of the peer's socket, where it has one.
 const PATH: &str = "/tmp/sendmail-lines-of-a-test";
@@ -26,7 +26,7 @@ enum At {
 #[derive(Drop)]
 enum Far {
     Host(TcpListener),
-    Path(UnixListener),
+    Path(UnixListener, String),
 }
 
 impl Far {
@@ -38,18 +38,27 @@ impl Far {
                 Ok(listener) => Ok(Far::Host(listener)),
                 Err(_) => Ok(Far::Host(TcpListener::bind(rt, ("127.0.0.1", 0))?)),
             },
-            At::Path => {
-                // One that an earlier run left.
-                let _ = fs::remove_file(rt, PATH);
-                Ok(Far::Path(UnixListener::bind(rt, PATH)?))
-            }
+            At::Path => match Far::listen_at(rt, format!(in rt.alloc(); "{PATH}")?) {
+                Ok(far) => Ok(far),
+                // Another user's lies there.
+                Err(_) => {
+                    let number = process::id(rt.process());
+                    Far::listen_at(rt, format!(in rt.alloc(); "{PATH}-{number}")?)
+                }
+            },
         }
+    }
+
+    fn listen_at(rt: &HostRuntime, path: String) -> io::Result<Far> {
+        // One that an earlier run left.
+        let _ = fs::remove_file(rt, path.as_str());
+        Ok(Far::Path(UnixListener::bind(rt, path.as_str())?, path))
     }
 
     fn descriptor(&self) -> i32 {
         match self {
             Far::Host(listener) => listener.as_raw_fd(),
-            Far::Path(listener) => listener.as_raw_fd(),
+            Far::Path(listener, _) => listener.as_raw_fd(),
         }
     }
 
@@ -60,14 +69,14 @@ impl Far {
                 let text = format!(in alloc; "{}", address.ip())?;
                 Ok(host(alloc, text.as_bytes(), address.port())?)
             }
-            Far::Path(_) => Ok(Peer::Path(text_of(alloc, PATH.as_bytes())?)),
+            Far::Path(_, path) => Ok(Peer::Path(text_of(alloc, path.as_bytes())?)),
         }
     }
 
     fn accept(&self) -> io::Result<TcpStream> {
         match self {
             Far::Host(listener) => Ok(listener.accept()?.0),
-            Far::Path(listener) => Ok(TcpStream::from(OwnedFd::from(listener.accept()?.0))),
+            Far::Path(listener, _) => Ok(TcpStream::from(OwnedFd::from(listener.accept()?.0))),
         }
     }
 }
