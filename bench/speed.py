@@ -5,8 +5,8 @@ Use: UNPACKED=FOLDER bench/speed.py [--messages N] [--rounds N] [--queue N,N] [-
 [--slow MS] [--only WORD] [--write] [PROGRAM], as root. FOLDER has Debian's packages of both peers, of
 Dovecot and of what they stand on, as bench/speed/unpack.sh puts them there; what isn't there is
 skipped. The parts are receipt, slow, four, delivery, memory, start, turn and mode. Each server is run
-by its own daemon, over a queue of its own below /var/lib, with all of its syncs; none writes
-a log. Mail comes from Postfix's smtp-source. While receipt is measured none delivers: here the one
+by its own daemon, over a queue of its own in a new folder of the root, with all of its syncs; none
+writes a log. Nothing is removed before the end: ext4 makes files slowly where it lost many of late. Mail comes from Postfix's smtp-source. While receipt is measured none delivers: here the one
 runner is held by a program that doesn't end, Sendmail has DeliveryMode=queue, and Postfix has no
 queue manager. A queue is then delivered by a queue run (of Postfix, from the master's start) with
 20 runners at most, to a program that does nothing, to smtp-sink, and to Dovecot by LMTP. A start is
@@ -209,14 +209,14 @@ PARTS = {
 
 def head_of(folder, words):
     """What the table is of."""
-    file, name = rows.probe(folder)
+    made, file, name = rows.probe(folder)
     cpu = next(line for line in open("/proc/cpuinfo", encoding="ascii") if "model name" in line)
     load = os.getloadavg()[0]
     return (
         f"Taken on {time.strftime('%d %B %Y', time.gmtime())}, on {os.cpu_count()} processors "
-        f"({cpu.partition(': ')[2].strip()}) with a load of {load:.1f}.\nA sync of a new file of "
-        f"1 kB took {file:.2f} ms in the middle, one of a directory {name:.2f}. The best of "
-        f"{words.rounds} rounds,\n{words.messages} messages a round.\n"
+        f"({cpu.partition(': ')[2].strip()}) with a load of {load:.1f}.\nIn the middle the making of "
+        f"a file took {made:.2f} ms, its sync with 1 kB {file:.2f}, one of a directory {name:.2f}.\n"
+        f"The best of {words.rounds} rounds, {words.messages} messages a round.\n"
     )
 
 
@@ -266,7 +266,7 @@ def main():
     if not Path(words.program).exists() or not is_there(rows.SOURCE):
         print("skipped: no smtp-source, or no program, which `make run` builds")
         return 2
-    with tempfile.TemporaryDirectory(dir="/var/lib") as folder, ExitStack() as ends:
+    with tempfile.TemporaryDirectory(dir="/") as folder, ExitStack() as ends:
         Path(folder).chmod(0o755)
         text = measured(words, Path(folder), ends)
     print(text)

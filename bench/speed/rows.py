@@ -18,13 +18,15 @@ TICKS = os.sysconf("SC_CLK_TCK")
 
 
 def probe(folder, rounds=50):
-    """The median milliseconds of a sync of a new file of 1 kB, and of its directory behind a
-    renaming."""
+    """The median milliseconds of the making of a file, of its sync with 1 kB, and of that of its
+    directory behind a renaming."""
     place = os.open(folder, os.O_RDONLY | os.O_DIRECTORY)
-    files, names = [], []
+    made, files, names = [], [], []
     for number in range(rounds):
         path = f"{folder}/probe{number}"
+        begun = time.perf_counter()
         file = os.open(path, os.O_WRONLY | os.O_CREAT | os.O_EXCL)
+        made.append((time.perf_counter() - begun) * 1000)
         os.write(file, b"x" * 1024)
         for kept, descriptor in ((files, file), (names, place)):
             begun = time.perf_counter()
@@ -33,9 +35,8 @@ def probe(folder, rounds=50):
             if descriptor == file:
                 os.rename(path, path + ".new")
         os.close(file)
-        os.unlink(path + ".new")
     os.close(place)
-    return sorted(files)[rounds // 2], sorted(names)[rounds // 2]
+    return [sorted(them)[rounds // 2] for them in (made, files, names)]
 
 
 def shared(number, parts):

@@ -125,7 +125,10 @@ class Server:
         self.clear()
 
     def clear(self):
-        shutil.rmtree(self.folder / "queue", ignore_errors=True)
+        """A new queue. The one before stays until the end of all: a file system may make new files slowly
+        where it has just lost many."""
+        if (self.folder / "queue").exists():
+            (self.folder / "queue").rename(self.folder / f"old{time.monotonic_ns()}")
         (self.folder / "queue").mkdir()
 
     @contextmanager

@@ -285,12 +285,11 @@ fn pause_behind(spawner: &mut SystemSpawner<'_>, motion: &Motion, child: u64) ->
 
 // Whether the floor may wait as long as `PAUSES` says.
 fn pauses(spawner: &mut SystemSpawner<'_>, motion: &Motion) -> bool {
-    let mut turn = 0u64;
-    for pause in PAUSES {
-        if pause_behind(spawner, motion, 1 + turn % 2) != Some(*pause) {
+    for (turn, pause) in PAUSES.iter().enumerate() {
+        let child = if turn % 2 == 0 { 1 } else { 2 };
+        if pause_behind(spawner, motion, child) != Some(*pause) {
             return false;
         }
-        turn += 1;
     }
     true
 }
