@@ -12,6 +12,7 @@ run`; it wants cc. This is no part of the gate.
 """
 
 import os
+import re
 import shutil
 import subprocess
 import sys
@@ -23,11 +24,12 @@ from pathlib import Path
 sys.dont_write_bytecode = True
 # In place of this folder, whose queue.py would stand for that of Python.
 PLACE = Path(__file__).resolve().parent
-sys.path[:1] = [str(PLACE / name) for name in ("served", "peers")]
+sys.path[:1] = [str(PLACE / name) for name in ("served", "peers", "clients")]
 
 from peers import Peer  # noqa: E402
 from sites import BUILT, Site, Strange, expect  # noqa: E402
 
+ROW = re.compile(r"^R\w*:<?(?P<user>[^>\n]*)>?\ne(?P<state>\w)", re.MULTILINE)
 USERS = ("ann@mx.example", "ann@peer.example", "ann@box.example")
 
 
@@ -72,8 +74,8 @@ class Ground:
 
     def waiting(self):
         """The recipients whose rows wait."""
-        rows = self.site.rows()
-        return {user for (_, user), state in rows.items() if state == "Q"}
+        texts = [path.read_text("latin-1") for path in (self.folder / "queue").glob("qf*")]
+        return {row["user"] for text in texts for row in ROW.finditer(text) if row["state"] == "Q"}
 
 
 def tried(ground, number):

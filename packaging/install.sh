@@ -35,6 +35,7 @@ files() {
     done
     echo "644 docs/MIGRATING.md $docs/MIGRATING.md"
     echo "644 docs/MANY.md $docs/MANY.md"
+    echo "644 docs/COMPARED.md $docs/COMPARED.md"
     for name in docs/examples/*.?? packaging/systemd/unprivileged.conf packaging/inetd.conf \
         packaging/sendmail-parts.nft; do
         echo "644 $name $docs/examples/${name##*/}"
