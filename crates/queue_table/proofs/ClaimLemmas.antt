@@ -1,12 +1,16 @@
 -- The least of the entries that may be claimed.
-use Rattle.std.proofs.Common.{◌≡◌, ◌⊎◌, inl, inr, ⊎_elim, ℕ, ◌+◌, ◌<◌, List, length, get_or, Option, None, Some, Bool, true, false, not, ◌&&◌, eqb, if◌then◌else◌, map, refl, sym, ◌∙◌, ap, subst, arith, true≢false}
+use Rattle.std.proofs.Common.{◌≡◌, ◌⊎◌, inl, inr, ⊎_elim, ℕ, ◌+◌, ◌<◌, List, [], ◌∷◌, length, get_or, cond, Option, None, Some, Bool, true, false, not, ◌&&◌, eqb, if◌then◌else◌, map, refl, sym, ◌∙◌, ap, subst, arith, true≢false}
 use Rattle.std.proofs.lemmas.Bool.{cases_eq, eqb-true}
-use Rattle.std.proofs.lemmas.List.Elements.{All-map}
+use Rattle.std.proofs.lemmas.List.Elements.{All-head, All-map, All-tail}
+use Rattle.std.specs.Map.{lookup}
+use Rattle.std.specs.Prelude.{All}
 use Rattle.mail_base.specs.declared.control.Control.{Control}
 use Rattle.spool_store.specs.Stores.{recontrolled, refinished}
 use Rattle.spool_store.specs.declared.held.Held.{Held}
-use Rattle.queue_table.specs.Claims.{IsLeast, IsQuiet, is_held, may_claim}
+use Rattle.queue_table.specs.Claims.{IsFull, IsLeast, IsQuiet, has_room, is_free, is_held, may_claim, or_lane}
 use Rattle.queue_table.specs.Order.{IsBefore}
+use Rattle.queue_table.specs.declared.waiting.Holder.{Holder}
+use Rattle.queue_table.specs.declared.waiting.Lane.{Lane}
 use Rattle.queue_table.specs.declared.waiting.Waiting.{Waiting}
 use Rattle.queue_table.specs.inner.Least.{IsLeastAt, IsLeastUpTo}
 use Rattle.queue_table.proofs.OrderLemmas.{goes_on, not_itself}
@@ -98,3 +102,24 @@ finished_same w moment h false nay = nay
 pub finish_quiet : (w : Waiting) (entries : List Held) (id : ℕ) → IsQuiet w entries → IsQuiet w (map (refinished id) entries)
 finish_quiet w entries id quiet = λ m lt. All-map (λ (h : Held). may_claim w m h ≡ false) (refinished id) entries
     (λ k d within. finished_same w m (get_or entries k d) (eqb (get_or entries k d).entry.id id) (quiet m lt k d within))
+
+-- a value that passes or another one, neither of which has room
+neither : (holders : List Holder) (other lane : Lane) (rest : Option Lane) (b : Bool) → has_room holders lane ≡ false → has_room holders (or_lane other rest) ≡ false → has_room holders (or_lane other (cond b (Some lane) rest)) ≡ false
+neither holders other lane rest true this later = this
+neither holders other lane rest false this later = later
+
+-- where no lane has room, that of a name has none
+none_at : (holders : List Holder) (other : Lane) (pairs : List (List ℕ × Lane)) (test : List ℕ → Bool) → has_room holders other ≡ false → All (λ (p : List ℕ × Lane). has_room holders p.1 ≡ false) pairs → has_room holders (or_lane other (lookup test pairs)) ≡ false
+none_at holders other [] test full all = full
+none_at holders other (p ∷ ps) test full all =
+    neither holders other p.1 (lookup test ps) (test p.0)
+    (All-head (λ (q : List ℕ × Lane). has_room holders q.1 ≡ false) p ps all)
+    (none_at holders other ps test full (All-tail (λ (q : List ℕ × Lane). has_room holders q.1 ≡ false) p ps all))
+
+no_room : (held room : Bool) → room ≡ false → (not held && room) ≡ false
+no_room true room e = refl
+no_room false room e = e
+
+-- so nothing is free
+pub none_free : (w : Waiting) → IsFull w → (h : Held) → is_free w h ≡ false
+none_free w full h = no_room (is_held w.holders h.entry.id) _ (none_at w.holders w.other w.lanes _ full.0 full.1)

@@ -25,6 +25,11 @@ is_held holders id = list_any (λ h. eqb h.id id) holders
 abbrev pub has_room : List Holder → Lane → Bool
 has_room holders lane = nat_lt (count_by (λ h. bytes_eq h.lane lane.group) holders) lane.runners
 
+-- no lane has room
+abbrev pub IsFull : Waiting → Type 0
+IsFull w =
+    (has_room w.holders w.other ≡ false) × All (λ p. has_room w.holders p.1 ≡ false) w.lanes
+
 -- nobody holds the entry, and its lane has room
 abbrev pub is_free : Waiting → Held → Bool
 is_free w h =

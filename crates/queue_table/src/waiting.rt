@@ -1,8 +1,9 @@
-ghost use Rattle.std.specs.Prelude.{◌≡◌, ◌+◌, ◌<◌, ◌≤◌, ℕ, [], ◌∷◌, ◌++◌, List, All, OnOk, OnErr, true, false, length, filter, map, not, eqb, bytes_eq, get_or};
+ghost use Rattle.std.specs.Prelude.{◌≡◌, ◌↔◌, ◌+◌, ◌<◌, ◌≤◌, ℕ, [], ◌∷◌, ◌++◌, List, All, IsTrue, OnOk, OnErr, true, false, length, filter, map, not, eqb, bytes_eq, get_or};
 ghost use Rattle.mail_base.specs.declared.control.Control.{Control};
 ghost use Rattle.spool_store.specs.Stores.{recontrolled, refinished};
 ghost use Rattle.spool_store.specs.declared.held.Held.{Held as HeldSeen};
-ghost use Rattle.queue_table.specs.Claims.{IsLeastDue, IsQuiet, has_room, is_free, is_held, lane_of, may_claim};
+ghost use Rattle.queue_table.specs.Claims.{IsFull, IsLeastDue, IsQuiet, has_room, is_free, is_held, lane_of, may_claim};
+ghost use Rattle.queue_table.specs.declared.waiting.Lane.{Lane as LaneSeen};
 ghost use Rattle.queue_table.specs.declared.waiting.Waiting.{Waiting as WaitingSeen};
 ghost use Rattle.queue_table.specs.inner.Least.{IsLeastAt};
 
@@ -126,6 +127,10 @@ impl Waiting {
         if moment < self.quiet {
             return None;
         }
+        if self.is_full() {
+            self.quiet = u64::MAX;
+            return None;
+        }
         if let Some(place) = self.least_place(entries, moment) {
             return Some(at(entries, place).entry.id);
         }
@@ -133,10 +138,40 @@ impl Waiting {
         None
     }
 
+    /// Whether no lane has room: then nothing is free, whatever the table holds. It looks at each
+    /// lane once, and takes no memory.
+    pub fn is_full(&self) -> bool
+        ensures is { IsTrue result ↔ IsFull self.now }
+        ensures none { result ≡ true → (h : HeldSeen) → is_free self.now h ≡ false }
+    {
+        if has_room(self.holders.items(), &self.other) {
+            return false;
+        }
+        for place in 0..self.lanes.len() {
+            if self.has_room_at(place) {
+                return false;
+            }
+        }
+        true
+    }
+
+    // Whether the lane at a place among those with names has room.
+    fn has_room_at(&self, place: usize) -> bool
+        requires { place < length self.now.lanes }
+        ensures { (d : List ℕ × LaneSeen)
+            → result ≡ has_room self.now.holders (get_or self.now.lanes place d).1 }
+    {
+        let (_group, lane) = self.lanes.at(place).unwrap();
+        has_room(self.holders.items(), lane)
+    }
+
     // The lane of a group.
     fn lane(&self, group: &Text) -> &Lane
         ensures { result.now ≡ lane_of self.now group.now }
     {
+        if self.lanes.is_empty() {
+            return &self.other;
+        }
         match self.lanes.get(group) {
             Some(lane) => lane,
             None => &self.other,
@@ -148,32 +183,39 @@ impl Waiting {
     pub fn is_free(&self, held: &Held) -> bool
         ensures { result ≡ is_free self.now held.now }
     {
+        self.has_place(held, self.lane(&held.entry.control.group))
+    }
+
+    // The same of an entry whose lane is known.
+    fn has_place(&self, held: &Held, lane: &Lane) -> bool
+        requires { lane.now ≡ lane_of self.now held.now.entry.control.group }
+        ensures { result ≡ is_free self.now held.now }
+    {
         if is_held(self.holders.items(), held.entry.id) {
             return false;
         }
-        has_room(self.holders.items(), self.lane(&held.entry.control.group))
+        has_room(self.holders.items(), lane)
     }
 
-    // Whether an entry may be claimed at a moment.
+    // Whether an entry may be claimed at a moment. Of a large queue most are not due.
     fn may_claim(&self, held: &Held, moment: u64) -> bool
         ensures { result ≡ may_claim self.now moment held.now }
     {
-        if !self.is_free(held) {
-            return false;
-        }
         let lane = self.lane(&held.entry.control.group);
-        due(&held.entry.control, moment, lane.wait)
+        due(&held.entry.control, moment, lane.wait) && self.has_place(held, lane)
     }
 
-    // A moment before which an entry may not be claimed.
-    fn claim_from(&self, held: &Held) -> u64
-        ensures { (moment : ℕ) → moment < result → may_claim self.now moment held.now ≡ false }
+    // A moment before which an entry may not be claimed, where others may not before a moment.
+    fn claim_from(&self, held: &Held, others: u64) -> u64
+        ensures own { (moment : ℕ) → moment < result → may_claim self.now moment held.now ≡ false }
+        ensures others { result ≤ others }
     {
-        if !self.is_free(held) {
-            return u64::MAX;
-        }
         let lane = self.lane(&held.entry.control.group);
-        due_from(&held.entry.control, lane.wait)
+        let from = due_from(&held.entry.control, lane.wait);
+        if from < others && self.has_place(held, lane) {
+            return from;
+        }
+        others
     }
 
     // A moment before which none of these may be claimed.
@@ -183,7 +225,7 @@ impl Waiting {
     {
         let mut quiet = u64::MAX;
         for held in entries {
-            quiet = earlier(quiet, self.claim_from(held));
+            quiet = self.claim_from(held, quiet);
         }
         quiet
     }
@@ -212,17 +254,22 @@ impl Waiting {
         ensures { IsLeastAt self.now moment entries.now (place + 1) result }
     {
         let held = at(entries, place);
-        if !self.may_claim(held, moment) {
-            return least;
-        }
         match least {
             Some(first) => {
-                if before(&held.entry, &at(entries, first).entry) {
-                    return Some(place);
+                if !before(&held.entry, &at(entries, first).entry) {
+                    return Some(first);
                 }
-                Some(first)
+                if !self.may_claim(held, moment) {
+                    return Some(first);
+                }
+                Some(place)
             }
-            None => Some(place),
+            None => {
+                if !self.may_claim(held, moment) {
+                    return None;
+                }
+                Some(place)
+            }
         }
     }
 }
@@ -242,14 +289,6 @@ fn at(entries: &[Held], place: usize) -> &Held
     ensures { (d : HeldSeen) → result.now ≡ get_or entries.now place d }
 {
     &entries[place]
-}
-
-// The earlier of two moments.
-fn earlier(one: u64, other: u64) -> u64
-    ensures one { result ≤ one }
-    ensures other { result ≤ other }
-{
-    if one < other { one } else { other }
 }
 
 fn is_held(holders: &[Holder], id: Id) -> bool
