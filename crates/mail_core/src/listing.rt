@@ -12,6 +12,9 @@ pub(crate) fn first_listed(waiting: &Waiting, ids: &[Id], entries: &[Held]) -> O
     requires ascending { AreAscending entries.now }
     ensures { IsListNext waiting.now entries.now ids.now result }
 {
+    if waiting.is_full() {
+        return None;
+    }
     for place in 0..ids.len() {
         let id = ids[place];
         if may_begin(waiting, entries, id) {

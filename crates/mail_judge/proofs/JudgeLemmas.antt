@@ -104,15 +104,15 @@ module _ (grounds : Grounds) (files : Option FileMap) (macros : Macros) (path se
       is_checked error (subst (λ (x : Option RouteError). Checks grounds.config grounds.maps macros (codes "check_rcpt") path x) is asked)
 
   -- it has rows
-  pub by_rows : (at : Grounds) → at ≡ grounds → (rows : List Draw) → Expands (site_in at macros) files path sender (Ok rows) → Accepts → Judges grounds files macros path sender (Rows rows)
-  by_rows at same rows holds c = goes rows c (subst (λ (x : Grounds). Expands (site_in x macros) files path sender (Ok rows)) same holds)
+  pub by_rows : (rows : List Draw) → Expands (site_in grounds macros) files path sender (Ok rows) → Accepts → Judges grounds files macros path sender (Rows rows)
+  by_rows rows holds c = goes rows c holds
 
   -- its aliases give it no rows
-  pub by_refusal : (at : Grounds) → at ≡ grounds → (refusal : ExpandRefusal) (result : Result Verdict JudgeFault) → HoldsOf (Err refusal) (Expands (site_in at macros) files path sender) → IfOk result (Tells refusal) → Accepts → IfOk result (Judges grounds files macros path sender)
-  by_refusal at same refusal (Err fault) holds tells c = tt
-  by_refusal at same refusal (Ok verdict) holds tells c = by_error refusal verdict tells (λ error e is.
+  pub by_refusal : (refusal : ExpandRefusal) (result : Result Verdict JudgeFault) → HoldsOf (Err refusal) (Expands (site_in grounds macros) files path sender) → IfOk result (Tells refusal) → Accepts → IfOk result (Judges grounds files macros path sender)
+  by_refusal refusal (Err fault) holds tells c = tt
+  by_refusal refusal (Ok verdict) holds tells c = by_error refusal verdict tells (λ error e is.
       subst (Judges grounds files macros path sender) is
-      (is_refused refusal error c (held (Expands (site_in grounds macros) files path sender) refusal error e (subst (λ (x : Grounds). HoldsOf (Err refusal) (Expands (site_in x macros) files path sender)) same holds)) e))
+      (is_refused refusal error c (held (Expands (site_in grounds macros) files path sender) refusal error e holds) e))
 
 -- ---- what a judge is
 

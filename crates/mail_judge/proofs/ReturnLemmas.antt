@@ -93,22 +93,21 @@ held P refusals.NoMemory m p = absurd m
 
 module _ (grounds : Grounds) (files : Option FileMap) (macros : Macros) (address sender : List ℕ) where
   -- the macros are those of the configuration, and the sender is the null sender
-  here : (at : Grounds) → at ≡ grounds → macros ≡ grounds.config.macros → sender ≡ null_sender → (outcome : Outcome) → Expands (site_in at macros) files address sender outcome → Expands (returning_site grounds) files address null_sender outcome
-  here at same set null outcome holds =
-      let stands : Expands (site_in grounds macros) files address sender outcome = subst (λ (x : Grounds). Expands (site_in x macros) files address sender outcome) same holds in
-      let sent : Expands (site_in grounds macros) files address null_sender outcome = subst (λ (s : List ℕ). Expands (site_in grounds macros) files address s outcome) null stands in
+  here : macros ≡ grounds.config.macros → sender ≡ null_sender → (outcome : Outcome) → Expands (site_in grounds macros) files address sender outcome → Expands (returning_site grounds) files address null_sender outcome
+  here set null outcome holds =
+      let sent : Expands (site_in grounds macros) files address null_sender outcome = subst (λ (s : List ℕ). Expands (site_in grounds macros) files address s outcome) null holds in
       subst (λ (m : Macros). Expands (site_in grounds m) files address null_sender outcome) set sent
 
   -- its aliases give it rows
-  pub by_rows : (at : Grounds) → at ≡ grounds → macros ≡ grounds.config.macros → sender ≡ null_sender → (rows : List Draw) → Expands (site_in at macros) files address sender (Ok rows) → ReturnsTo grounds files address rows
-  by_rows at same set null rows holds = by_aliases rows (here at same set null (Ok rows) holds)
+  pub by_rows : macros ≡ grounds.config.macros → sender ≡ null_sender → (rows : List Draw) → Expands (site_in grounds macros) files address sender (Ok rows) → ReturnsTo grounds files address rows
+  by_rows set null rows holds = by_aliases rows (here set null (Ok rows) holds)
 
   -- they give it none
-  pub by_refusal : (at : Grounds) → at ≡ grounds → macros ≡ grounds.config.macros → sender ≡ null_sender → (refusal : ExpandRefusal) (result : Result (List Draw) JudgeFault) → HoldsOf (refused refusal) (Expands (site_in at macros) files address sender) → IfOk result (λ rows. IsMeant (refused refusal)) → IfOk result (IsItself (site_in grounds macros) address) → IfOk result (ReturnsTo grounds files address)
-  by_refusal at same set null refusal (Err fault) holds meant itself = tt
-  by_refusal at same set null refusal (Ok rows) holds meant itself =
-      let mine : Expands (site_in at macros) files address sender (refused refusal) = held (Expands (site_in at macros) files address sender) refusal meant holds in
-      as_itself refusal rows (here at same set null (refused refusal) mine) (subst (λ (m : Macros). IsItself (site_in grounds m) address rows) set itself)
+  pub by_refusal : macros ≡ grounds.config.macros → sender ≡ null_sender → (refusal : ExpandRefusal) (result : Result (List Draw) JudgeFault) → HoldsOf (refused refusal) (Expands (site_in grounds macros) files address sender) → IfOk result (λ rows. IsMeant (refused refusal)) → IfOk result (IsItself (site_in grounds macros) address) → IfOk result (ReturnsTo grounds files address)
+  by_refusal set null refusal (Err fault) holds meant itself = tt
+  by_refusal set null refusal (Ok rows) holds meant itself =
+      let mine : Expands (site_in grounds macros) files address sender (refused refusal) = held (Expands (site_in grounds macros) files address sender) refusal meant holds in
+      as_itself refusal rows (here set null (refused refusal) mine) (subst (λ (m : Macros). IsItself (site_in grounds m) address rows) set itself)
 
 pub refusal_form : (site : Site) (address : List ℕ) (result : Result (List Draw) JudgeFault) → IsAddress address → IfOk result (IsItself site address) → IfOk result AreDrawn
 refusal_form site address (Err fault) form itself = tt

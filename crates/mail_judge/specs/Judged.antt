@@ -45,14 +45,17 @@ abbrev pub error_with : ℕ → List ℕ → List ℕ → Cause → RouteError
 error_with code status text cause =
     record { code = code; status = status; text = text; cause = cause }
 
+-- more recipients or rows come, or more files are read, than may be
+abbrev pub too_many : RouteError
+too_many = error_with 452 (codes "4.5.3") (codes "Too many recipients") Work
+
 -- with what a recipient is refused that has no rows; a fault of files and want of memory refuse
 -- none, and the cause is the nearest one of a route
 abbrev pub error_of : ExpandRefusal → Option RouteError
 error_of (refusals.Refuses error) = Some error
 error_of refusals.TooDeep =
     Some (error_with 554 (codes "5.4.6") (codes "Aliases too deep") Deep)
-error_of refusals.TooMany =
-    Some (error_with 452 (codes "4.5.3") (codes "Too many recipients") Work)
+error_of refusals.TooMany = Some too_many
 error_of (refusals.IncludeAbsent name) =
     Some (error_with 550 (codes "5.2.4") (codes "Include file absent") FileMailer)
 error_of refusals.NoOne =

@@ -12,7 +12,6 @@ use crate::grounds::Grounds;
 use crate::law::one_judgement;
 use crate::refused::refused;
 use addr_route::check;
-use alias_expand::expand;
 use cf_macros::session_macros;
 use mail_base::{JudgeFault, Kept, Macros, NoMemory, RouteError, Text};
 use mail_edge::Files;
@@ -143,17 +142,7 @@ fn drawn<F: Files>(
     ensures form { IfOk result (λ verdict. IsFormedSaid (OfRecipient verdict)) }
     ensures asks { Asks (F.seen files.old) (F.seen files.new) (not (is_calm result)) }
 {
-    match expand(
-        alloc,
-        grounds.aliases,
-        grounds.homes,
-        grounds.config,
-        grounds.maps,
-        macros,
-        files,
-        path,
-        sender,
-    ) {
+    match grounds.expand(alloc, macros, files, path, sender) {
         Ok(rows) => Ok(Verdict::Rows(rows)),
         Err(refusal) => refused(alloc, refusal),
     }

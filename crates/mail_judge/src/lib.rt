@@ -13,4 +13,4 @@ mod returns;
 pub use grounds::Grounds;
 pub use judge::Rules;
 pub use law::{each_question_is_judged, each_receiver_has_rows, one_judgement, one_return};
-pub use refused::{error_of, error_with};
+pub use refused::{error_of, error_with, too_many};

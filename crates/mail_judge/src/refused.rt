@@ -29,7 +29,7 @@ pub fn error_of(alloc: Global, refusal: ExpandRefusal) -> Result<RouteError, Jud
     match refusal {
         ExpandRefusal::Refuses(error) => Ok(error),
         ExpandRefusal::TooDeep => told(alloc, 554, b"5.4.6", b"Aliases too deep", Cause::Deep),
-        ExpandRefusal::TooMany => told(alloc, 452, b"4.5.3", b"Too many recipients", Cause::Work),
+        ExpandRefusal::TooMany => Ok(too_many(alloc)?),
         ExpandRefusal::IncludeAbsent(_) => told(
             alloc,
             550,
@@ -49,7 +49,14 @@ pub fn error_of(alloc: Global, refusal: ExpandRefusal) -> Result<RouteError, Jud
     }
 }
 
-// The same as a judge's answer.
+/// The error where more recipients or rows come, or more files are read, than may be.
+pub fn too_many(alloc: Global) -> Result<RouteError, NoMemory>
+    ensures { IfOk result (λ error. error ≡ spec.too_many) }
+{
+    error_with(alloc, 452, b"4.5.3", b"Too many recipients", Cause::Work)
+}
+
+// The error of a reply of one line, as the answer of a judge.
 fn told(
     alloc: Global,
     code: u16,

@@ -13,7 +13,7 @@ use crate::grounds::Grounds;
 use crate::judge::Rules;
 use crate::law::one_return;
 use addr_route::route;
-use alias_expand::{ExpandRefusal, expand, null_sender_stays};
+use alias_expand::{ExpandRefusal, null_sender_stays};
 use mail_base::{Draw, Draws, JudgeFault, Macros, NoMemory, Seq, Text, TryCopy};
 use mail_edge::Files;
 use std::alloc::Global;
@@ -72,17 +72,7 @@ fn drawn<F: Files>(
 {
     // A law: the rows of a null sender have it.
     null_sender_stays();
-    match expand(
-        alloc,
-        grounds.aliases,
-        grounds.homes,
-        grounds.config,
-        grounds.maps,
-        macros,
-        files,
-        address,
-        sender,
-    ) {
+    match grounds.expand(alloc, macros, files, address, sender) {
         Ok(rows) => Ok(rows),
         Err(refusal) => instead(alloc, grounds, macros, address, &refusal),
     }

@@ -25,6 +25,7 @@ use crate::aliases::Names;
 use crate::site::queue_dirs;
 use mail_base::{Config, StoreFault};
 use mail_edge::{Clock, Files, Source};
+use mail_judge::Grounds;
 use mail_submit::SubmitWords;
 use map_tables::Maps;
 use queue_table::Table;
@@ -80,18 +81,9 @@ pub fn submit_mode<F: Files, D: Spool, C: Clock, I: Source>(
         Ok(table) => table,
         Err(end) => return end,
     };
+    let grounds = Grounds::new(config, maps, &names.aliases, &names.homes);
     let end = submit(
-        alloc,
-        words,
-        &names.aliases,
-        &names.homes,
-        config,
-        maps,
-        files,
-        &mut table,
-        spool,
-        clock,
-        input,
+        alloc, words, &grounds, files, &mut table, spool, clock, input,
     );
     SubmitModeEnd::Over(end)
 }

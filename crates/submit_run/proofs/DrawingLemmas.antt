@@ -7,17 +7,14 @@ use Rattle.mail_base.specs.Drawing.{AreRows, IsDrawn}
 use Rattle.mail_base.specs.Limits.{most_rows, recipient_limit}
 use Rattle.mail_base.specs.declared.draw.Draw.{Draw}
 use Rattle.mail_base.specs.declared.route.RouteError.{RouteError}
-use Rattle.mail_base.specs.declared.config.Config.{Config}
 use Rattle.cf_macros.specs.SessionMacros.{session_macros}
-use Rattle.map_tables.specs.Answers.{Loaded}
 use Rattle.ruleset_run.specs.Sites.{Macros}
-use Rattle.alias_expand.specs.declared.aliases.Alias.{Alias}
-use Rattle.alias_expand.specs.Rows.{Expands, HoldsOf, site_of}
+use Rattle.alias_expand.specs.Rows.{Expands, HoldsOf}
 use Rattle.alias_expand.specs.declared.refusal.ExpandRefusal.{ExpandRefusal}
 use Rattle.alias_expand.specs.declared.refusal.ExpandRefusal.TheVariants as refusals
 use Rattle.mail_edge.specs.Seen.{FileMap}
-use Rattle.mail_judge.specs.Judged.{Grounds, error_of}
-use Rattle.submit_run.specs.Rows.{Draws, DrawsOne, draws, draws_none, goes, grounds_of, is_program, is_refused, joined, no_program, runs, site_under, stops}
+use Rattle.mail_judge.specs.Judged.{Grounds, error_of, site_in}
+use Rattle.submit_run.specs.Rows.{Draws, DrawsOne, draws, draws_none, goes, is_program, is_refused, joined, no_program, runs, site_under, stops}
 use Rattle.submit_run.specs.Parties.{kept}
 use Rattle.submit_run.specs.inner.Steps.{AreGathered, Gathers, RefusesBy, Tells}
 use Rattle.submit_run.specs.declared.end.SubmitEnd.{SubmitEnd}
@@ -34,9 +31,9 @@ told_of P refusals.FilesFault error is p = absurd (cc is)
 told_of P refusals.NoMemory error is p = absurd (cc is)
 
 -- what an address comes to under the macros of a sender
-pub under_sender : (aliases : List Alias) (homes : List (List ℕ × List ℕ)) (config : Config) (maps : Loaded) (macros : Macros) (files : Option FileMap) (recipient sender : List ℕ) (result : Result (List Draw) ExpandRefusal) → macros ≡ session_macros config kept sender
-    → HoldsOf result (Expands (site_of aliases homes config maps macros) files recipient sender) → HoldsOf result (Expands (site_under (grounds_of config maps aliases homes) sender) files recipient sender)
-under_sender aliases homes config maps macros files recipient sender result is h = subst (λ (m : Macros). HoldsOf result (Expands (site_of aliases homes config maps m) files recipient sender)) is h
+pub under_sender : (grounds : Grounds) (macros : Macros) (files : Option FileMap) (recipient sender : List ℕ) (result : Result (List Draw) ExpandRefusal) → macros ≡ session_macros grounds.config kept sender
+    → HoldsOf result (Expands (site_in grounds macros) files recipient sender) → HoldsOf result (Expands (site_under grounds sender) files recipient sender)
+under_sender grounds macros files recipient sender result is h = subst (λ (m : Macros). HoldsOf result (Expands (site_in grounds m) files recipient sender)) is h
 
 module _ (grounds : Grounds) (files : Option FileMap) (sender : List ℕ) where
   -- ---- one recipient

@@ -3,25 +3,17 @@
 -- 4.5.3.1.10; the limit of rows, and that a program is no recipient, are own).
 use Rattle.std.specs.Prelude.{◌≡◌, ℕ, ◌+◌, Bool, true, false, ◌||◌, ◌==◌, nat_le, nat_lt, List, [], ◌∷◌, ◌++◌, length, Option, Some, Result, Ok, Err, if◌then◌else◌, codes, refl}
 use Rattle.mail_base.specs.Limits.{most_rows, recipient_limit}
-use Rattle.mail_base.specs.declared.config.Config.{Config}
 use Rattle.mail_base.specs.declared.draw.Draw.{Draw}
-use Rattle.mail_base.specs.declared.route.Cause.TheVariants.{FileMailer, Work}
+use Rattle.mail_base.specs.declared.route.Cause.TheVariants.{FileMailer}
 use Rattle.mail_base.specs.declared.route.RouteError.{RouteError}
 use Rattle.cf_macros.specs.SessionMacros.{session_macros}
 use Rattle.mail_edge.specs.Seen.{FileMap}
 use Rattle.alias_expand.specs.Rows.{Expands, Site}
-use Rattle.alias_expand.specs.declared.aliases.Alias.{Alias}
 use Rattle.alias_expand.specs.declared.refusal.ExpandRefusal.{ExpandRefusal}
-use Rattle.mail_judge.specs.Judged.{Grounds, error_of, error_with, site_in}
-use Rattle.map_tables.specs.Answers.{Loaded}
+use Rattle.mail_judge.specs.Judged.{Grounds, error_of, error_with, site_in, too_many}
 use Rattle.submit_run.specs.Parties.{kept}
 use Rattle.submit_run.specs.declared.end.SubmitEnd.{SubmitEnd}
 use Rattle.submit_run.specs.declared.end.SubmitEnd.TheVariants.{BadRecipient}
-
--- what recipients are drawn by
-abbrev pub grounds_of : Config → Loaded → List Alias → List (List ℕ × List ℕ) → Grounds
-grounds_of config maps aliases homes =
-    record { config = config; maps = maps; aliases = aliases; homes = homes }
 
 -- what the rows of a sender's recipients stand on
 abbrev pub site_under : Grounds → List ℕ → Site
@@ -34,9 +26,6 @@ is_program (b ∷ recipient) = b == 124
 
 abbrev pub no_program : RouteError
 no_program = error_with 550 (codes "5.2.4") (codes "File delivery not supported") FileMailer
-
-abbrev pub too_many : RouteError
-too_many = error_with 452 (codes "4.5.3") (codes "Too many recipients") Work
 
 -- the rows so far and those of the recipient of this place, counted from 0, unless one of both is
 -- above its limit

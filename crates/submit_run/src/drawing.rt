@@ -12,14 +12,11 @@ ghost use Rattle.submit_run.specs.inner.Steps.{AreGathered, Gathers, RefusesBy, 
 
 use crate::SubmitEnd;
 use crate::message::kept;
-use alias_expand::{Aliases, ExpandRefusal, Homes, expand, one_expansion};
+use alias_expand::ExpandRefusal;
 use cf_macros::session_macros;
-use mail_base::{
-    Cause, Config, Draw, JudgeFault, MOST_ROWS, Macros, NoMemory, RouteError, Seq, Text,
-};
+use mail_base::{Cause, Draw, JudgeFault, MOST_ROWS, Macros, NoMemory, RouteError, Seq, Text};
 use mail_edge::Files;
-use mail_judge::{error_of, error_with};
-use map_tables::Maps;
+use mail_judge::{Grounds, error_of, error_with, too_many};
 use std::alloc::Global;
 use std::mem;
 
@@ -27,44 +24,36 @@ use std::mem;
 /// that is refused.
 pub(crate) fn rows_of<F: Files>(
     alloc: Global,
-    aliases: &Aliases,
-    homes: &Homes,
-    config: &Config,
-    maps: &Maps,
+    grounds: &Grounds,
     files: &mut F,
     recipients: &[Text],
     sender: &Text,
 ) -> Result<Seq<Draw>, SubmitEnd>
     requires recipients { All IsAddress recipients.now }
     requires sender { IsBracketed sender.now }
-    ensures draws { Tells (spec.Draws (spec.grounds_of config.now maps.now aliases.now homes.now)
-        (F.seen files.old).map sender.now 0 [] recipients.now) result }
+    ensures draws { Tells (spec.Draws grounds.now (F.seen files.old).map sender.now 0 []
+        recipients.now) result }
     ensures form { IfOk result (AreGathered (length recipients.now)) }
     ensures asks { Asks (F.seen files.old) (F.seen files.new) (has_files_fault result) }
 {
     let kept = kept(alloc)?;
-    let macros = session_macros(alloc, config, &kept, sender)?;
-    draw_all(
-        alloc, aliases, homes, config, maps, &macros, files, recipients, sender,
-    )
+    let macros = session_macros(alloc, grounds.config(), &kept, sender)?;
+    draw_all(alloc, grounds, &macros, files, recipients, sender)
 }
 
 fn draw_all<F: Files>(
     alloc: Global,
-    aliases: &Aliases,
-    homes: &Homes,
-    config: &Config,
-    maps: &Maps,
+    grounds: &Grounds,
     macros: &Macros,
     files: &mut F,
     recipients: &[Text],
     sender: &Text,
 ) -> Result<Seq<Draw>, SubmitEnd>
-    requires macros { macros.now ≡ session_macros_of config.now kept_of sender.now }
+    requires macros { macros.now ≡ session_macros_of grounds.now.config kept_of sender.now }
     requires recipients { All IsAddress recipients.now }
     requires sender { IsBracketed sender.now }
-    ensures draws { Tells (spec.Draws (spec.grounds_of config.now maps.now aliases.now homes.now)
-        (F.seen files.old).map sender.now 0 [] recipients.now) result }
+    ensures draws { Tells (spec.Draws grounds.now (F.seen files.old).map sender.now 0 []
+        recipients.now) result }
     ensures form { IfOk result (AreGathered (length recipients.now)) }
     ensures asks { Asks (F.seen files.old) (F.seen files.new) (has_files_fault result) }
 {
@@ -72,10 +61,7 @@ fn draw_all<F: Files>(
     'recipients: for (place, recipient) in recipients.iter().enumerate() {
         draw_one(
             alloc,
-            aliases,
-            homes,
-            config,
-            maps,
+            grounds,
             macros,
             files,
             place as u64,
@@ -90,10 +76,7 @@ fn draw_all<F: Files>(
 // Adds the rows of the recipient of this place.
 fn draw_one<F: Files>(
     alloc: Global,
-    aliases: &Aliases,
-    homes: &Homes,
-    config: &Config,
-    maps: &Maps,
+    grounds: &Grounds,
     macros: &Macros,
     files: &mut F,
     place: u64,
@@ -101,22 +84,22 @@ fn draw_one<F: Files>(
     sender: &Text,
     rows: &mut Seq<Draw>,
 ) -> Result<(), SubmitEnd>
-    requires macros { macros.now ≡ session_macros_of config.now kept_of sender.now }
+    requires macros { macros.now ≡ session_macros_of grounds.now.config kept_of sender.now }
     requires recipient { IsAddress recipient.now }
     requires sender { IsBracketed sender.now }
-    ensures draws { Gathers place (spec.DrawsOne
-        (spec.grounds_of config.now maps.now aliases.now homes.now) (F.seen files.old).map sender.now
-        place rows.old recipient.now) result rows.new }
+    ensures draws { Gathers place (spec.DrawsOne grounds.now (F.seen files.old).map
+        sender.now place rows.old recipient.now) result rows.new }
     ensures form { AreGathered place rows.old → OnOk result (AreGathered (place + 1) rows.new) }
     ensures asks { Asks (F.seen files.old) (F.seen files.new) (has_files_fault result) }
 {
     if is_program(recipient.bytes()) {
         return Err(SubmitEnd::BadRecipient(place, no_program(alloc)?));
     }
-    match expand(
-        alloc, aliases, homes, config, maps, macros, files, recipient, sender,
-    ) {
-        Ok(more) => add(alloc, config.options.recipient_limit(), place, rows, more),
+    match grounds.expand(alloc, macros, files, recipient, sender) {
+        Ok(more) => {
+            let limit = grounds.config().options.recipient_limit();
+            add(alloc, limit, place, rows, more)
+        }
         Err(refusal) => refused(alloc, place, refusal),
     }
 }
@@ -190,10 +173,4 @@ fn no_program(alloc: Global) -> Result<RouteError, NoMemory>
         b"File delivery not supported",
         Cause::FileMailer,
     )
-}
-
-fn too_many(alloc: Global) -> Result<RouteError, NoMemory>
-    ensures { IfOk result (λ error. error ≡ spec.too_many) }
-{
-    error_with(alloc, 452, b"4.5.3", b"Too many recipients", Cause::Work)
 }

@@ -1,6 +1,5 @@
 ghost use Rattle.std.specs.Prelude.{◌≡◌, ◌≤◌, length, IfOk, None};
 ghost use Rattle.mail_edge.specs.Asking.{Asks};
-ghost use Rattle.submit_run.specs.Rows.{grounds_of};
 ghost use Rattle.submit_run.specs.Messages as spec;
 ghost use Rattle.mail_submit.specs.Said.{AreSaid};
 ghost use Rattle.submit_run.specs.inner.Steps.{IsSound, Tells, has_files_fault};
@@ -10,11 +9,10 @@ use crate::SubmitEnd;
 use crate::drawing::rows_of;
 use crate::message::message_with;
 use crate::parties::{recipients_of, sender_of};
-use alias_expand::{Aliases, Homes};
 use mail_base::{Config, MOST_HEADERS, Message, Text};
 use mail_edge::Files;
+use mail_judge::Grounds;
 use mail_submit::{Submission, SubmitWords, submitted};
-use map_tables::Maps;
 use smtp_receive::has_looped;
 use std::alloc::Global;
 
@@ -22,48 +20,38 @@ use std::alloc::Global;
 pub(crate) fn handed_over<F: Files>(
     alloc: Global,
     words: &SubmitWords,
-    aliases: &Aliases,
-    homes: &Homes,
-    config: &Config,
-    maps: &Maps,
+    grounds: &Grounds,
     files: &mut F,
     text: &Text,
 ) -> Result<Message, SubmitEnd>
     requires words { AreSaid words.now }
-    ensures comes { Tells (spec.IsHandedOver (grounds_of config.now maps.now aliases.now homes.now)
-        (F.seen files.old).map words.now text.now) result }
+    ensures comes { Tells (spec.IsHandedOver grounds.now (F.seen files.old).map words.now
+        text.now) result }
     ensures form { IfOk result IsFit }
     ensures asks { Asks (F.seen files.old) (F.seen files.new) (has_files_fault result) }
 {
     let submission = submitted(text, words.from_headers)?;
-    come(
-        alloc, words, aliases, homes, config, maps, files, submission,
-    )
+    come(alloc, words, grounds, files, submission)
 }
 
 // The message that a submission is, or why it isn't taken.
 fn come<F: Files>(
     alloc: Global,
     words: &SubmitWords,
-    aliases: &Aliases,
-    homes: &Homes,
-    config: &Config,
-    maps: &Maps,
+    grounds: &Grounds,
     files: &mut F,
     submission: Submission,
 ) -> Result<Message, SubmitEnd>
     requires words { AreSaid words.now }
     requires sound { IsSound submission }
-    ensures comes { Tells (spec.Comes (grounds_of config.now maps.now aliases.now homes.now)
-        (F.seen files.old).map words.now submission) result }
+    ensures comes { Tells (spec.Comes grounds.now (F.seen files.old).map words.now
+        submission) result }
     ensures form { IfOk result IsFit }
     ensures asks { Asks (F.seen files.old) (F.seen files.new) (has_files_fault result) }
 {
-    match code_of(config, &submission) {
+    match code_of(grounds.config(), &submission) {
         Some(code) => Err(SubmitEnd::MessageRefused(code)),
-        None => drawn(
-            alloc, words, aliases, homes, config, maps, files, submission,
-        ),
+        None => drawn(alloc, words, grounds, files, submission),
     }
 }
 
@@ -71,18 +59,15 @@ fn come<F: Files>(
 fn drawn<F: Files>(
     alloc: Global,
     words: &SubmitWords,
-    aliases: &Aliases,
-    homes: &Homes,
-    config: &Config,
-    maps: &Maps,
+    grounds: &Grounds,
     files: &mut F,
     submission: Submission,
 ) -> Result<Message, SubmitEnd>
     requires words { AreSaid words.now }
     requires sound { IsSound submission }
-    requires passed { spec.code_of config.now submission ≡ None }
-    ensures comes { Tells (spec.Comes (grounds_of config.now maps.now aliases.now homes.now)
-        (F.seen files.old).map words.now submission) result }
+    requires passed { spec.code_of grounds.now.config submission ≡ None }
+    ensures comes { Tells (spec.Comes grounds.now (F.seen files.old).map words.now
+        submission) result }
     ensures form { IfOk result IsFit }
     ensures asks { Asks (F.seen files.old) (F.seen files.new) (has_files_fault result) }
 {
@@ -91,17 +76,8 @@ fn drawn<F: Files>(
         return Err(SubmitEnd::NoRecipient);
     }
     let sender = sender_of(alloc, words, &submission.first_from)?;
-    let rows = rows_of(
-        alloc,
-        aliases,
-        homes,
-        config,
-        maps,
-        files,
-        recipients.items(),
-        &sender,
-    )?;
-    let message = message_with(alloc, config, submission, sender, rows)?;
+    let rows = rows_of(alloc, grounds, files, recipients.items(), &sender)?;
+    let message = message_with(alloc, grounds.config(), submission, sender, rows)?;
     Ok(message)
 }
 

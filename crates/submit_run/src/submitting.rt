@@ -6,7 +6,6 @@ ghost use Rattle.spool_store.specs.Moves.{Moves};
 ghost use Rattle.spool_store.specs.Stores.{KeepsOthers};
 ghost use Rattle.queue_table.specs.Calls.{HoldsTable, IsSame, Stays, Tallies, store};
 ghost use Rattle.submit_run.specs.Ends.{Ends, seen};
-ghost use Rattle.submit_run.specs.Rows.{grounds_of};
 ghost use Rattle.submit_run.specs.Taken.{Counts, IsReadAtMostOnce, MayTake, is_committed, is_files_fault};
 ghost use Rattle.submit_run.specs.Inputs.{TakesSome};
 ghost use Rattle.mail_submit.specs.Said.{AreSaid};
@@ -16,11 +15,9 @@ use crate::SubmitEnd;
 use crate::handing::handed_over;
 use crate::reading::{ReadEnd, text_of_input};
 use crate::storing::stored;
-use alias_expand::{Aliases, Homes};
-use mail_base::Config;
 use mail_edge::{Clock, Files, Source};
+use mail_judge::Grounds;
 use mail_submit::SubmitWords;
-use map_tables::Maps;
 use queue_table::Table;
 use spool_disk::Spool;
 use std::alloc::Global;
@@ -38,10 +35,7 @@ use std::alloc::Global;
 pub fn submit<F: Files, D: Spool, C: Clock, I: Source>(
     alloc: Global,
     words: &SubmitWords,
-    aliases: &Aliases,
-    homes: &Homes,
-    config: &Config,
-    maps: &Maps,
+    grounds: &Grounds,
     files: &mut F,
     table: &mut Table,
     spool: &mut D,
@@ -49,11 +43,10 @@ pub fn submit<F: Files, D: Spool, C: Clock, I: Source>(
     input: &mut I,
 ) -> SubmitEnd
     requires words { AreSaid words.now }
-    requires table { MayTake config.now table.old (D.seen spool.old) }
+    requires table { MayTake grounds.now.config table.old (D.seen spool.old) }
     requires readings { (C.seen clock.old).readings < 2 ^ 64 - 1 }
-    ensures ends { (entries : Entries) → HoldsTable table.old entries → Ends
-        (grounds_of config.now maps.now aliases.now homes.now) words.now (store table.old).dirs
-        entries
+    ensures ends { (entries : Entries) → HoldsTable table.old entries → Ends grounds.now
+        words.now (store table.old).dirs entries
         (seen (F.seen files.old) (I.seen input.old) (D.seen spool.old) (C.seen clock.old))
         (seen (F.seen files.new) (I.seen input.new) (D.seen spool.new) (C.seen clock.new))
         table.new result }
@@ -70,6 +63,7 @@ pub fn submit<F: Files, D: Spool, C: Clock, I: Source>(
         → Moves (D.seen spool.old) (D.seen spool.new) (λ g. g ≡ f)
         (KeepsOthers (store table.old).dirs f) (KeepsOthers (store table.old).dirs f) }
 {
+    let config = grounds.config();
     let most = config.options.message_limit();
     let text = match text_of_input(alloc, words.dot, most, input) {
         Ok(text) => text,
@@ -77,8 +71,8 @@ pub fn submit<F: Files, D: Spool, C: Clock, I: Source>(
         Err(ReadEnd::ReadFault) => return SubmitEnd::ReadFault,
         Err(ReadEnd::NoMemory) => return SubmitEnd::NoMemory,
     };
-    match handed_over(alloc, words, aliases, homes, config, maps, files, &text) {
-        Ok(message) => stored(alloc, config, maps, table, spool, clock, message),
+    match handed_over(alloc, words, grounds, files, &text) {
+        Ok(message) => stored(alloc, config, grounds.maps(), table, spool, clock, message),
         Err(end) => end,
     }
 }

@@ -1,10 +1,13 @@
 -- None of those before may be claimed.
-use Rattle.std.proofs.Common.{◌∙◌, subst}
+use Rattle.std.proofs.Common.{◌∙◌, get_or, subst}
 use Rattle.std.proofs.lemmas.List.{get_or_default}
 use Rattle.std.proofs.lemmas.List.Elements.{All-nil}
 use Rattle.mail_core.specs.inner.Nexts.{IsBusy, MayBegin}
 use Rattle.mail_core.proofs.ListLemmas.{first_at, passed_all, passed_more}
 use Rattle.mail_core.proofs.listing.first_listed.Goals as goal
+
+pub returns-then-is_full : goal.returns-then-is_full
+returns-then-is_full c = λ k d within j e there same. c.is_full.ensures.none c.if-is_full.true (get_or c.args.entries.now j e)
 
 pub loop-place-init : goal.loop-place-init
 loop-place-init c = All-nil (IsBusy c.args.waiting.now c.args.entries.now)

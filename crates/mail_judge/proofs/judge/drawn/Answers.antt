@@ -4,7 +4,7 @@ use Rattle.mail_judge.proofs.judge.drawn.Goals as goal
 pub returns-in-Ok-clause-judged : goal.returns-in-Ok-clause-judged
 returns-in-Ok-clause-judged g c = λ accepts.
     let a = c.args in
-    by_rows a.grounds.now (g.F.Files.seen a.files.now).map a.macros.now a.path.now a.sender.now _ c.grounds.view_is c.in-Ok.rows c.in-Ok.ensures.rows accepts
+    by_rows a.grounds.now (g.F.Files.seen a.files.now).map a.macros.now a.path.now a.sender.now c.in-Ok.rows c.in-Ok.ensures.rows accepts
 
 pub returns-in-Ok-clause-form : goal.returns-in-Ok-clause-form
 returns-in-Ok-clause-form g c = c.in-Ok.ensures.forms (address_form c.args.path.now c.requires.path) c.requires.sender
@@ -12,7 +12,7 @@ returns-in-Ok-clause-form g c = c.in-Ok.ensures.forms (address_form c.args.path.
 pub returns-in-Err-clause-judged : goal.returns-in-Err-clause-judged
 returns-in-Err-clause-judged g c = λ accepts.
     let a = c.args in
-    by_refusal a.grounds.now (g.F.Files.seen a.files.now).map a.macros.now a.path.now a.sender.now _ c.grounds.view_is c.in-Err.refusal c.refused.result c.in-Err.ensures.rows c.refused.ensures.says accepts
+    by_refusal a.grounds.now (g.F.Files.seen a.files.now).map a.macros.now a.path.now a.sender.now c.in-Err.refusal c.refused.result c.in-Err.ensures.rows c.refused.ensures.says accepts
 
 pub returns-in-Err-clause-form : goal.returns-in-Err-clause-form
 returns-in-Err-clause-form g c = refused_form c.in-Err.refusal c.refused.result c.in-Err.ensures.refusal c.refused.ensures.says

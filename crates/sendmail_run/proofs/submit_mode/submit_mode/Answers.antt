@@ -1,5 +1,6 @@
 -- The run over the queue that was opened.
 use Rattle.std.proofs.Common.{List, ℕ, ap, subst}
+use Rattle.mail_judge.specs.Judged.{Grounds}
 use Rattle.queue_table.specs.Calls.{store}
 use Rattle.queue_table.specs.Directories.{all_dirs, terms_of}
 use Rattle.submit_run.specs.Ends.{Ends, seen}
@@ -19,4 +20,5 @@ returns-clause-ends g c = λ output floor hands.
     (store c.in-Ok.table) c.submit-end.new.table c.submit-end.result opened.found opened.taken opened.sparing
     (spares_by (all_dirs (terms_of config)) (store c.in-Ok.table).dirs (g.D.Spool.seen c.opened_table.new.spool) (g.D.Spool.seen c.submit-end.new.spool) opened.dirs c.submit-end.ensures.frame) opened.kept c.submit-end.ensures.takes c.submit-end.ensures.clock
     (λ e. ap g.D.Spool.seen (c.submit-end.ensures.untouched e))
-    (λ table holds. subst (λ (d : List (List ℕ)). Ends (grounds_of config c.args.maps.now c.args.names.now) words d table a b c.submit-end.new.table c.submit-end.result) opened.dirs (c.submit-end.ensures.ends table holds))
+    (λ table holds. subst (λ (d : List (List ℕ)). Ends (grounds_of config c.args.maps.now c.args.names.now) words d table a b c.submit-end.new.table c.submit-end.result) opened.dirs
+    (subst (λ (q : Grounds). Ends q words (store c.in-Ok.table).dirs table a b c.submit-end.new.table c.submit-end.result) c.new-grounds.ensures (c.submit-end.ensures.ends table holds)))

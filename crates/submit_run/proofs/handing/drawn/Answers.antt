@@ -4,8 +4,10 @@ use Rattle.std.specs.Prelude.{All}
 use Rattle.std.proofs.lemmas.Bool.{false≢true}
 use Rattle.std.proofs.lemmas.Result.{err_from_is_err_and}
 use Rattle.mail_base.specs.Texts.{IsAddress, IsBracketed}
+use Rattle.mail_base.specs.declared.config.Config.{Config}
+use Rattle.submit_run.specs.Messages.{message_with}
 use Rattle.submit_run.specs.Parties.{recipients_of as who}
-use Rattle.submit_run.specs.Rows.{Draws, grounds_of}
+use Rattle.submit_run.specs.Rows.{Draws}
 use Rattle.submit_run.specs.inner.Steps.{AreGathered, Tells}
 use Rattle.submit_run.proofs.FormLemmas.{recipients_form, sender_form}
 use Rattle.submit_run.proofs.HandingLemmas.{all_good, message_fit, nobody, one_bad, rows_form, same_list}
@@ -14,7 +16,7 @@ use Rattle.submit_run.proofs.handing.drawn.Goals as goal
 pub returns-then-is_empty-clause-comes : goal.returns-then-is_empty-clause-comes
 returns-then-is_empty-clause-comes g c =
     let a = c.args in
-    nobody (grounds_of a.config.now a.maps.now a.aliases.now a.homes.now) (g.F.Files.seen a.files.now).map a.words.now a.submission c.in_ok-recipients.recipients c.requires.passed
+    nobody a.grounds.now (g.F.Files.seen a.files.now).map a.words.now a.submission c.in_ok-recipients.recipients c.requires.passed
     (c.in_ok-recipients.ensures ∙ ap (who a.words.now) c.items.ensures) (c.if-is_empty.ensures.0 refl)
 
 pub rows_of-requires-clause-recipients : goal.rows_of-requires-clause-recipients
@@ -31,19 +33,19 @@ pub returns-in_err-rows-clause-comes : goal.returns-in_err-rows-clause-comes
 returns-in_err-rows-clause-comes g c =
     let a = c.args in
     let p = err_from_is_err_and c.from_residual-in_err-rows.result c.from_residual-in_err-rows.ensures.1 in
-    rw (p.1, p.2) (one_bad (grounds_of a.config.now a.maps.now a.aliases.now a.homes.now) (g.F.Files.seen a.files.now).map a.words.now a.submission c.in_ok-recipients.recipients c.in_ok-sender.sender c.requires.passed
+    rw (p.1, p.2) (one_bad a.grounds.now (g.F.Files.seen a.files.now).map a.words.now a.submission c.in_ok-recipients.recipients c.in_ok-sender.sender c.requires.passed
     (c.in_ok-recipients.ensures ∙ ap (who a.words.now) c.items.ensures) (λ e. false≢true (c.if-is_empty.ensures.1 e)) c.in_ok-sender.ensures c.in_err-rows.field-0.0
-    (same_list (λ (q : List (List ℕ)). Tells (Draws (grounds_of a.config.now a.maps.now a.aliases.now a.homes.now) (g.F.Files.seen a.files.now).map c.in_ok-sender.sender 0 [] q) (Err c.in_err-rows.field-0.0)) c.items-2.ensures c.in_err-rows.ensures.draws))
+    (same_list (λ (q : List (List ℕ)). Tells (Draws a.grounds.now (g.F.Files.seen a.files.now).map c.in_ok-sender.sender 0 [] q) (Err c.in_err-rows.field-0.0)) c.items-2.ensures c.in_err-rows.ensures.draws))
 
 pub returns-clause-comes : goal.returns-clause-comes
 returns-clause-comes g c =
     let a = c.args in
-    all_good (grounds_of a.config.now a.maps.now a.aliases.now a.homes.now) (g.F.Files.seen a.files.now).map a.words.now a.submission c.in_ok-recipients.recipients c.in_ok-sender.sender c.requires.passed
+    all_good a.grounds.now (g.F.Files.seen a.files.now).map a.words.now a.submission c.in_ok-recipients.recipients c.in_ok-sender.sender c.requires.passed
     (c.in_ok-recipients.ensures ∙ ap (who a.words.now) c.items.ensures) (λ e. false≢true (c.if-is_empty.ensures.1 e)) c.in_ok-sender.ensures c.in_ok-rows.rows _
-    (subst (λ (q : List (List ℕ)). Draws (grounds_of a.config.now a.maps.now a.aliases.now a.homes.now) (g.F.Files.seen a.files.now).map c.in_ok-sender.sender 0 [] q (Ok c.in_ok-rows.rows)) c.items-2.ensures c.in_ok-rows.ensures.draws) c.in_ok-message.ensures
+    (subst (λ (q : List (List ℕ)). Draws a.grounds.now (g.F.Files.seen a.files.now).map c.in_ok-sender.sender 0 [] q (Ok c.in_ok-rows.rows)) c.items-2.ensures c.in_ok-rows.ensures.draws) (c.in_ok-message.ensures ∙ ap (λ (q : Config). message_with q c.in_ok-sender.sender a.submission c.in_ok-rows.rows) c.config.ensures)
 
 pub returns-clause-form : goal.returns-clause-form
 returns-clause-form g c =
     let a = c.args in
-    message_fit a.config.now c.in_ok-sender.sender a.submission c.in_ok-rows.rows _ c.requires.sound
-    (rows_form c.in_ok-recipients.recipients c.in_ok-rows.rows (λ e. false≢true (c.if-is_empty.ensures.1 e)) (subst (λ (q : List (List ℕ)). AreGathered (length q) c.in_ok-rows.rows) c.items-2.ensures c.in_ok-rows.ensures.form)) c.in_ok-message.ensures
+    message_fit a.grounds.now.config c.in_ok-sender.sender a.submission c.in_ok-rows.rows _ c.requires.sound
+    (rows_form c.in_ok-recipients.recipients c.in_ok-rows.rows (λ e. false≢true (c.if-is_empty.ensures.1 e)) (subst (λ (q : List (List ℕ)). AreGathered (length q) c.in_ok-rows.rows) c.items-2.ensures c.in_ok-rows.ensures.form)) (c.in_ok-message.ensures ∙ ap (λ (q : Config). message_with q c.in_ok-sender.sender a.submission c.in_ok-rows.rows) c.config.ensures)
