@@ -3,53 +3,24 @@
 
 ghost use Rattle.std.specs.Prelude.{◌<◌, ◌^◌, length};
 
-// The tests of the devices stand here, since no other crate can import a program.
+// Its tests stand here, since no other crate can import a program.
 
-mod clock;
-mod counting;
-mod descriptor;
-mod directory;
-mod disk;
-mod floor;
-#[cfg(test)]
-mod floor_tests;
-mod limits;
-mod link;
 mod notice;
-mod parting;
-mod path;
-mod peer;
-mod port;
-mod queue_dirs;
-#[cfg(test)]
-mod queue_tests;
-mod queue_view;
-mod standard;
-#[cfg(test)]
-mod standard_tests;
-mod stream;
 #[cfg(test)]
 mod tests;
-#[cfg(test)]
-mod view_tests;
-mod waiting;
 #[cfg(test)]
 mod whole_tests;
 mod words;
 
-use crate::clock::SystemClock;
-use crate::disk::DiskFiles;
-use crate::floor::SystemFloor;
-use crate::limits::LIMITS;
 use crate::notice::tell;
-use crate::queue_dirs::QueueDirs;
-use crate::queue_view::QueueView;
-use crate::standard::Wires;
-use crate::stream::{InputStream, OutputStream};
-use crate::words::{Asked, read_words};
+use crate::words::{Asked, read_words, word_count};
 use delivery_devices::{Motion, Patience, SystemDialer, SystemSpawner};
 use mail_base::{Seq, Text};
+use queue_devices::{QueueDirs, QueueView};
 use sendmail_run::{Job, Outcome, sendmail};
+use session_devices::{
+    DiskFiles, InputStream, LIMITS, OutputStream, SystemClock, SystemFloor, Wires,
+};
 use spool_disk::Spool;
 use std::io::Write;
 use std::process::ExitCode;
@@ -113,7 +84,7 @@ fn main(rt: HostRuntime) -> ExitCode {
         Err(outcome) => outcome,
     };
     // Nobody can be told that standard error failed.
-    let _ = tell(&mut rt.stderr(), &outcome);
+    let _ = tell(&mut rt.stderr(), &outcome, word_count());
     ExitCode::from(outcome.status())
 }
 

@@ -4,10 +4,13 @@ use sendmail_run::Outcome;
 use std::io;
 use std::io::Write;
 
-/// Writes the line that says how a run ended; nothing for one that is done.
-pub fn tell(errors: &mut impl Write, outcome: &Outcome) -> io::Result<()> {
+/// Writes the line that says how a run of so many words ended; nothing for one that is done.
+pub fn tell(errors: &mut impl Write, outcome: &Outcome, words: usize) -> io::Result<()> {
     match outcome {
         Outcome::Done => Ok(()),
+        Outcome::Usage(place) if *place as usize == words => {
+            writeln!(errors, "sendmail: bad word {place}: a word is missing")
+        }
         Outcome::Usage(place) => writeln!(errors, "sendmail: bad word {place}"),
         Outcome::NoFile(name) => {
             errors.write_all(b"sendmail: no file ")?;

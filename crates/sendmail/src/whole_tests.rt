@@ -1,19 +1,14 @@
 // The program's own call over the real devices.
 ghost use Rattle.std.specs.Prelude.{◌<◌, ◌^◌, IfOk, length};
 
-use crate::clock::SystemClock;
-use crate::disk::DiskFiles;
-use crate::floor::SystemFloor;
-use crate::limits::LIMITS;
-use crate::queue_dirs::QueueDirs;
-use crate::queue_tests::make_empty;
-use crate::queue_view::QueueView;
-use crate::standard::Wires;
-use crate::stream::{InputStream, OutputStream};
 use delivery_devices::{Motion, PATIENCE, SystemDialer, SystemSpawner};
 use mail_base::{NoMemory, Seq, Text};
 use mail_edge::Clock;
+use queue_devices::{QueueDirs, QueueView};
 use sendmail_run::sendmail;
+use session_devices::{
+    DiskFiles, InputStream, LIMITS, OutputStream, SystemClock, SystemFloor, Wires,
+};
 use spool_disk::Spool;
 use std::io::{PipeReader, PipeWriter, Read, Write};
 use std::test::Fail;
@@ -69,6 +64,14 @@ const BEHIND: &[u8] = b"\nK0\nN0\nP30022\nc0\n\
     eQ\n\
     HSubject: hi\n\
     .\n";
+
+// Makes an empty directory at that path.
+fn make_empty(rt: &HostRuntime, path: &str) -> io::Result<()> {
+    if fs::exists(rt, path)? {
+        fs::remove_dir_all(rt, path)?;
+    }
+    fs::create_dir_all(rt, path)
+}
 
 // An empty queue, and a configuration beside it.
 fn make_site(rt: &HostRuntime) -> io::Result<()> {

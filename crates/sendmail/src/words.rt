@@ -38,6 +38,11 @@ pub fn read_words(rt: &HostRuntime) -> Result<Asked, Outcome> {
     })
 }
 
+/// How many words stand after the program's name.
+pub fn word_count() -> usize {
+    os::arg_count().saturating_sub(1)
+}
+
 // The place of the first word that isn't text, counted from 0 behind the program's name.
 fn bad_word() -> u32 {
     let mut word = [0u8; 4096];

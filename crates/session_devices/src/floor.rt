@@ -1,4 +1,4 @@
-// The program's floor: standard input and output, or a port. It tells nothing but how it was begun
+// The real floor: standard input and output, or a port. It tells nothing but how it was begun
 // and its counts.
 ghost use Rattle.std.specs.Prelude.{◌≡◌, ◌≤◌, IfOk, None, length};
 ghost use Rattle.link_edge.specs.Turns.{Fits};
@@ -80,13 +80,13 @@ impl<'a, R: Read, W: Write> SystemFloor<'a, R, W> {
     }
 
     /// How often `begin` and `turn` failed.
-    #[cfg(test)]
-    pub fn faults(&self) -> u64 {
+    pub fn faults(&self) -> u64
+        ensures { result ≡ self.now.faults }
+    {
         self.faults
     }
 
-    /// The port that is listened at, where it is one.
-    #[cfg(test)]
+    /// The port that is listened at; `NotConnected` where none is.
     pub fn port(&self) -> io::Result<u16> {
         match &self.site.port {
             Some(port) => Ok(port.address()?.port()),
@@ -95,7 +95,6 @@ impl<'a, R: Read, W: Write> SystemFloor<'a, R, W> {
     }
 
     /// How many sessions at the port were hung up and aren't over yet.
-    #[cfg(test)]
     pub fn parting(&self) -> usize {
         match &self.site.port {
             Some(port) => port.parting(),

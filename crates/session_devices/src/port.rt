@@ -117,7 +117,6 @@ impl Port {
     }
 
     /// How many sessions were hung up and aren't over yet.
-    #[cfg(test)]
     pub fn parting(&self) -> usize {
         self.parting.len()
     }

@@ -8,7 +8,7 @@ use mail_edge::{Sink, Source};
 use std::io;
 use std::io::{ErrorKind, Read, Write};
 
-/// A reader as a source.
+/// A reader as a source. Its reads are made again where a signal came.
 #[derive(Drop)]
 pub struct InputStream<R> {
     reader: R,
@@ -16,6 +16,7 @@ pub struct InputStream<R> {
 }
 
 impl<R> InputStream<R> {
+    /// One of which nothing was taken yet.
     pub fn new(reader: R) -> InputStream<R> {
         InputStream { reader, faults: 0 }
     }
@@ -52,6 +53,7 @@ pub struct OutputStream<W> {
 }
 
 impl<W> OutputStream<W> {
+    /// One to which nothing was given yet.
     pub fn new(writer: W) -> OutputStream<W> {
         OutputStream { writer, faults: 0 }
     }

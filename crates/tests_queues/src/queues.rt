@@ -1,7 +1,6 @@
-use crate::descriptor::Descriptor;
-use crate::queue_dirs::QueueDirs;
-use mail_base::{EdgeFault, Seq, Text};
+use mail_base::{EdgeFault, Failed, Seq, Text};
 use mail_edge::LARGEST_FILE;
+use queue_devices::{Descriptor, QueueDirs, directory_line};
 use spool_disk::Spool;
 use std::alloc::Global;
 use std::fs::File;
@@ -51,28 +50,27 @@ pub fn wrong_step(
 }
 
 fn answer(rt: &HostRuntime, spool: &mut QueueDirs<'_>, step: Step) -> Answer {
+    let alloc = rt.alloc();
     match step {
-        Step::Writes(name, bytes) => writes(spool, name, bytes),
-        Step::Renames(from, to) => renames(spool, from, to),
-        Step::Removes(name) => removes(spool, name),
-        Step::Holds(name, bytes) => holds(spool, name, Some(bytes)),
-        Step::Lacks(name) => holds(spool, name, None),
-        Step::Lists(names) => lists(spool, names),
+        Step::Writes(name, bytes) => writes(alloc, spool, name, bytes),
+        Step::Renames(from, to) => renames(alloc, spool, from, to),
+        Step::Removes(name) => removes(alloc, spool, name),
+        Step::Holds(name, bytes) => holds(alloc, spool, name, Some(bytes)),
+        Step::Lacks(name) => holds(alloc, spool, name, None),
+        Step::Lists(names) => lists(alloc, spool, names),
         Step::IsPrivate(path) => Ok(is_private(rt, path)),
-        Step::IsAlone => Ok(faults_of_another(rt.alloc()) == 3),
+        Step::IsAlone => Ok(faults_of_another(alloc) == 3),
     }
 }
 
-fn writes(spool: &mut QueueDirs<'_>, name: &[u8], bytes: &[u8]) -> Answer {
-    let alloc = spool.allocator();
+fn writes(alloc: Global, spool: &mut QueueDirs<'_>, name: &[u8], bytes: &[u8]) -> Answer {
     let name = Text::of(alloc, name)?;
     let bytes = Text::of(alloc, bytes)?;
     spool.write_new(&Text::new(alloc), &name, &bytes)?;
     Ok(true)
 }
 
-fn renames(spool: &mut QueueDirs<'_>, from: &[u8], to: &[u8]) -> Answer {
-    let alloc = spool.allocator();
+fn renames(alloc: Global, spool: &mut QueueDirs<'_>, from: &[u8], to: &[u8]) -> Answer {
     let from = Text::of(alloc, from)?;
     let to = Text::of(alloc, to)?;
     if from.bytes() == to.bytes() {
@@ -82,15 +80,13 @@ fn renames(spool: &mut QueueDirs<'_>, from: &[u8], to: &[u8]) -> Answer {
     Ok(true)
 }
 
-fn removes(spool: &mut QueueDirs<'_>, name: &[u8]) -> Answer {
-    let alloc = spool.allocator();
+fn removes(alloc: Global, spool: &mut QueueDirs<'_>, name: &[u8]) -> Answer {
     let name = Text::of(alloc, name)?;
     spool.remove(&Text::new(alloc), &name)?;
     Ok(true)
 }
 
-fn holds(spool: &mut QueueDirs<'_>, name: &[u8], wanted: Option<&[u8]>) -> Answer {
-    let alloc = spool.allocator();
+fn holds(alloc: Global, spool: &mut QueueDirs<'_>, name: &[u8], wanted: Option<&[u8]>) -> Answer {
     let name = Text::of(alloc, name)?;
     let there = spool.read(alloc, &Text::new(alloc), &name)?;
     Ok(is_so(&there, wanted))
@@ -105,8 +101,7 @@ pub fn is_so(there: &Option<Text>, wanted: Option<&[u8]>) -> bool {
     }
 }
 
-fn lists(spool: &mut QueueDirs<'_>, wanted: &[u8]) -> Answer {
-    let alloc = spool.allocator();
+fn lists(alloc: Global, spool: &mut QueueDirs<'_>, wanted: &[u8]) -> Answer {
     let names: Seq<Text> = spool.list(alloc, &Text::new(alloc))?;
     Ok(are_names(names.items(), wanted))
 }
@@ -265,9 +260,9 @@ fn wrong_in_spool(rt: &HostRuntime, spool: &mut QueueDirs<'_>, scene: &Scene) ->
 // How many of three calls fail of another spool over the directory.
 fn faults_of_another(alloc: Global) -> u64 {
     let mut other = QueueDirs::new(alloc, ROOT.as_bytes());
-    let _ = lists(&mut other, b"");
-    let _ = writes(&mut other, b"dfw1", b"other mail");
-    let _ = removes(&mut other, b"dfw1");
+    let _ = lists(alloc, &mut other, b"");
+    let _ = writes(alloc, &mut other, b"dfw1", b"other mail");
+    let _ = removes(alloc, &mut other, b"dfw1");
     other.faults()
 }
 
@@ -325,4 +320,18 @@ fn a_full_disk_is_a_fault(rt: HostRuntime) {
     assert!(rt;
         Descriptor::to_change(b"/dev/full").is_ok_and(|full| full.write_all(b"V1\n").is_err())
     );
+}
+
+// Whether this line is that of a directory of the queue with this error.
+fn is_line(error: i32, wanted: &[u8]) -> bool {
+    match directory_line(b"/q", error) {
+        Ok(line) => line.as_slice() == wanted,
+        Err(Failed) => false,
+    }
+}
+
+#[test]
+fn a_directory_that_cannot_be_had_has_a_line(rt: HostRuntime) {
+    assert!(rt; is_line(libc::EAGAIN, b"sendmail: /q: owned by another process\n"));
+    assert!(rt; is_line(libc::ENOENT, b"sendmail: /q: No such file or directory\n"));
 }

@@ -13,6 +13,7 @@ pub struct SystemClock {
 }
 
 impl SystemClock {
+    /// One that wasn't read yet.
     pub fn new(rt: HostRuntime) -> SystemClock
         ensures { result.readings ≡ 0 }
     {

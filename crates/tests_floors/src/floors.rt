@@ -1,10 +1,8 @@
-use crate::clock::SystemClock;
-use crate::floor::SystemFloor;
-use crate::limits::{LIMITS, Limits};
 use delivery_devices::Motion;
 use link_edge::{Floor, Place, Turn};
 use mail_base::{NoMemory, Text};
 use mail_edge::Clock;
+use session_devices::{LIMITS, Limits, SystemClock, SystemFloor};
 use std::io;
 use std::io::{ErrorKind, Read, Write};
 use std::net::TcpStream;

@@ -1,7 +1,6 @@
-use crate::queue_dirs::QueueDirs;
-use crate::queue_tests::{Answer, Step, are_names, is_so, make_empty, wrong_step};
-use crate::queue_view::QueueView;
+use crate::queues::{Answer, Step, are_names, is_so, make_empty, wrong_step};
 use mail_base::{EdgeFault, Text};
+use queue_devices::{QueueDirs, QueueView};
 use spool_disk::Spool;
 use std::alloc::Global;
 use std::fs;

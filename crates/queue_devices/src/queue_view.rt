@@ -7,6 +7,7 @@ use crate::descriptor::Descriptor;
 use crate::directory::names_in;
 use crate::path::{dir_path, path_of};
 use crate::queue_dirs::read_file;
+use crate::refusal::noted;
 use mail_base::{EdgeFault, Failed, Id, Kind, NoMemory, Seq, Text};
 use spool_disk::{MemSpool, Spool, sorted_names};
 use std::alloc::Global;
@@ -32,6 +33,7 @@ pub struct QueueView<'a> {
 }
 
 impl<'a> QueueView<'a> {
+    /// One that changed nothing yet. The prefix stands before the name of each directory.
     pub fn new(alloc: Global, prefix: &'a [u8]) -> QueueView<'a> {
         QueueView {
             alloc,
@@ -130,7 +132,8 @@ impl Spool for QueueView<'_> {
 // twice: control files come of the first time, and all others of the second. The body of a control
 // file was there before it, so it is seen, unless the entry is finished by then.
 fn names_seen(alloc: Global, prefix: &[u8], dir: &Text) -> Result<Vec<Text>, EdgeFault> {
-    let open = Descriptor::to_dir(&dir_path(prefix, dir)?)?;
+    let path = dir_path(prefix, dir)?;
+    let open = noted(&path, Descriptor::to_dir(&path))?;
     let mut names = Vec::new(alloc);
     add_names(names_in(alloc, &open)?, true, &mut names)?;
     add_names(names_in(alloc, &open)?, false, &mut names)?;

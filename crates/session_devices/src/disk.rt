@@ -9,7 +9,8 @@ use std::fs::File;
 use std::io::ErrorKind;
 use std::{io, rt};
 
-/// The files of a disk.
+/// The files of a disk, by names that are text. One of more than 67,108,864 bytes is a fault, and so is
+/// a name that isn't UTF-8; one that isn't there is none.
 #[derive(Drop)]
 pub struct DiskFiles<'a, R> {
     rt: &'a R,
@@ -17,6 +18,7 @@ pub struct DiskFiles<'a, R> {
 }
 
 impl<'a, R> DiskFiles<'a, R> {
+    /// One that read nothing yet.
     pub fn new(rt: &'a R) -> DiskFiles<'a, R> {
         DiskFiles { rt, faults: 0 }
     }

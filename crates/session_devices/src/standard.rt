@@ -23,6 +23,7 @@ pub struct Wires {
 }
 
 impl Wires {
+    /// Those of a reader and a writer that are open.
     pub fn of<I: AsFd + AsRawFd, O: AsRawFd>(input: &I, output: &O) -> Wires {
         Wires {
             input: input.as_raw_fd(),

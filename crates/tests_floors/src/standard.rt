@@ -1,9 +1,7 @@
-use crate::floor::SystemFloor;
-use crate::floor_tests::{SILENT, brings, next, reads};
-use crate::limits::{LIMITS, Limits};
-use crate::standard::Wires;
+use crate::floors::{SILENT, brings, next, reads};
 use link_edge::{Floor, Place, Turn};
 use mail_base::{NoMemory, Text};
+use session_devices::{LIMITS, Limits, SystemFloor, Wires};
 use std::io;
 use std::io::{Read, Write};
 use std::net::{TcpListener, TcpStream};

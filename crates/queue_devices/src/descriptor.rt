@@ -37,31 +37,32 @@ impl Descriptor {
         opened(path, flags).map_err(|_| Failed)
     }
 
-    /// Opens a file that is there for writing.
-    #[cfg(test)]
+    /// Opens a file that is there for writing, as a device whose disk is full.
     pub fn to_change(path: &[u8]) -> Result<Descriptor, Failed> {
         opened(path, libc::O_WRONLY).map_err(|_| Failed)
     }
 
-    /// Opens a directory.
-    pub fn to_dir(path: &[u8]) -> Result<Descriptor, Failed> {
+    /// Opens a directory, or answers the number of the error.
+    pub fn to_dir(path: &[u8]) -> Result<Descriptor, i32> {
         for _ in 0..u64::MAX {
             let fd = os::open_dir_at(libc::AT_FDCWD, path);
             if fd >= 0 {
                 return Ok(Descriptor { fd });
             }
-            if os::errno() != libc::EINTR {
-                break;
+            let error = os::errno();
+            if error != libc::EINTR {
+                return Err(error);
             }
         }
-        Err(Failed)
+        Err(libc::EINTR)
     }
 
-    /// Locks it, or fails where it is locked through another opening of it.
-    pub fn lock(&self) -> Result<(), Failed> {
+    /// Locks it, or answers the number of the error: `EAGAIN` where it is locked through another
+    /// opening of it.
+    pub fn lock(&self) -> Result<(), i32> {
         match libc::flock(self.fd, libc::LOCK_EX | libc::LOCK_NB) {
             0 => Ok(()),
-            _ => Err(Failed),
+            _ => Err(os::errno()),
         }
     }
 

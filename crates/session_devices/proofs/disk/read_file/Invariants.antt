@@ -1,5 +1,5 @@
 use Rattle.std.proofs.Common.{◌≤◌, vec_len}
-use Rattle.sendmail.proofs.disk.read_file.Given as goal
+use Rattle.session_devices.proofs.disk.read_file.Given as goal
 
 abbrev pub invariant-reading : goal.invariant-reading
 invariant-reading g l = vec_len l.bytes ≤ 67_108_864

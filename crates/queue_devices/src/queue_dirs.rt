@@ -6,6 +6,7 @@ use crate::counting::{counted, counted_edge};
 use crate::descriptor::Descriptor;
 use crate::directory::names_in;
 use crate::path::{Path, dir_path, path_of};
+use crate::refusal::noted;
 use mail_base::{EdgeFault, Failed, Id, Kind, NoMemory, Seq, Text, TryCopy};
 use mail_edge::LARGEST_FILE;
 use spool_disk::{Spool, sorted_names};
@@ -16,11 +17,11 @@ use told_devices::Look;
 ///
 /// A directory is opened and locked at its first use, and stays so to the end, so that it has one
 /// owner; one that another opening has locked is a fault, as are a directory that is absent, a file
-/// larger than 67,108,864 bytes and a disk without room. A file that is written belongs to its
-/// owner alone and is on the disk before the call answers, and so is a change of names. But what
-/// tidies a finished entry, its control file's last name and the removal of its body, waits for the
-/// next change of names there, and comes to the disk before anything is changed in another
-/// directory.
+/// larger than 67,108,864 bytes and a disk without room. A directory that can't be opened or locked
+/// has a line on standard error. A file that is written belongs to its owner alone and is on the
+/// disk before the call answers, and so is a change of names. But what tidies a finished entry, its
+/// control file's last name and the removal of its body, waits for the next change of names there,
+/// and comes to the disk before anything is changed in another directory.
 #[derive(Drop)]
 pub struct QueueDirs<'a> {
     /// What stands before the name of each directory.
@@ -39,6 +40,7 @@ struct Held {
 }
 
 impl<'a> QueueDirs<'a> {
+    /// One that holds no directory yet. The prefix stands before the name of each.
     pub fn new(alloc: Global, prefix: &'a [u8]) -> QueueDirs<'a> {
         QueueDirs {
             prefix,
@@ -47,15 +49,10 @@ impl<'a> QueueDirs<'a> {
         }
     }
 
-    /// Where its memory comes from.
-    #[cfg(test)]
-    pub fn allocator(&self) -> Global {
-        *self.held.allocator()
-    }
-
     /// How many calls failed.
-    #[cfg(test)]
-    pub fn faults(&self) -> u64 {
+    pub fn faults(&self) -> u64
+        ensures { result ≡ self.now.faults }
+    {
         self.faults
     }
 
@@ -214,8 +211,9 @@ impl Look for QueueDirs<'_> {
 
 // Opens and locks a directory. Its name is copied first, so that what is locked is kept.
 fn locked(prefix: &[u8], dir: &Text) -> Result<Held, EdgeFault> {
-    let open = Descriptor::to_dir(&dir_path(prefix, dir)?)?;
-    open.lock()?;
+    let path = dir_path(prefix, dir)?;
+    let open = noted(&path, Descriptor::to_dir(&path))?;
+    noted(&path, open.lock())?;
     Ok(Held {
         dir: dir.copy()?,
         open,
