@@ -1,3 +1,4 @@
+use crate::again::{Course, left_out, unlisted};
 use link_edge::{DialEvent, Dialer, Peer, ScriptDialer};
 use mail_base::{Failed, NoMemory, Seq, Text, TryCopy};
 use std::alloc::{AllocError, Global};
@@ -126,6 +127,15 @@ const ROWS: &[Row] = &[
         told: b"1+/s !h26 2+h27 2>a 1>b 1x 2x ",
         faults: 1,
     },
+    // Peers without pieces say nothing.
+    Row {
+        pieces: &[],
+        failing: &[],
+        acts: &[Act::Dial(25), Act::Read(1), Act::Read(1)],
+        went: b"1+ 1> 1> ",
+        told: b"1+h25 1> 1> ",
+        faults: 0,
+    },
 ];
 
 fn numbers(alloc: Global, numbers: &[u64]) -> Result<Seq<u64>, AllocError> {
@@ -150,18 +160,19 @@ fn peer(alloc: Global, port: u16) -> Result<Peer, NoMemory> {
     })
 }
 
-// Does these acts, and gives how they went.
-fn went(alloc: Global, dialer: &mut ScriptDialer, acts: &[Act]) -> Result<Text, NoMemory> {
-    let mut text = Text::new(alloc);
+// Does these acts, and adds how they went.
+fn play(dialer: &mut ScriptDialer, acts: &[Act], went: &mut Course) -> Result<(), NoMemory> {
     for act in acts {
+        let call = dialer.calls.calls;
         match act {
-            Act::Dial(port) => dial(dialer, *port, &mut text)?,
-            Act::Read(line) => read(dialer, *line, &mut text)?,
-            Act::Write(line, bytes) => write(dialer, *line, bytes, &mut text)?,
-            Act::Close(line) => close(dialer, *line, &mut text)?,
+            Act::Dial(port) => dial(dialer, *port, &mut went.text)?,
+            Act::Read(line) => read(dialer, *line, &mut went.text)?,
+            Act::Write(line, bytes) => write(dialer, *line, bytes, &mut went.text)?,
+            Act::Close(line) => close(dialer, *line, &mut went.text)?,
         }
+        went.note(call)?;
     }
-    Ok(text)
+    Ok(())
 }
 
 fn dial(dialer: &mut ScriptDialer, port: u16, went: &mut Text) -> Result<(), NoMemory> {
@@ -257,6 +268,15 @@ fn write_peer(text: &mut Text, peer: &Peer) -> Result<(), NoMemory> {
     text.push(b' ')
 }
 
+// What a dialer told that lacked no memory.
+fn whole(alloc: Global, dialer: &ScriptDialer) -> Result<Text, NoMemory> {
+    let (_shown, hidden) = failures(dialer);
+    if dialer.starved > 0 || hidden > 0 {
+        return Err(NoMemory);
+    }
+    told(alloc, dialer.seen())
+}
+
 // How many failed calls were told, and how many weren't.
 fn failures(dialer: &ScriptDialer) -> (u64, u64) {
     let mut shown = 0u64;
@@ -277,29 +297,60 @@ fn failures(dialer: &ScriptDialer) -> (u64, u64) {
 }
 
 impl Row {
-    fn dialer(&self, alloc: Global) -> Result<ScriptDialer, NoMemory> {
-        let failing = numbers(alloc, self.failing)?;
+    fn dialer(&self, alloc: Global, failing: &[u64]) -> Result<ScriptDialer, NoMemory> {
+        let failing = numbers(alloc, failing)?;
         Ok(ScriptDialer::new(alloc, texts(alloc, self.pieces)?, failing))
     }
 
-    // Each failed call is told or counted, also where memory was wanting; where it wasn't, all is
-    // as the row has it.
+    // Where memory wasn't wanting, all is as the row has it. Where it was, each failed call is told
+    // or counted all the same, and all is as where those calls are listed.
     fn is_played(&self, alloc: Global, dialer: &mut ScriptDialer) -> Result<bool, NoMemory> {
-        let went = went(alloc, dialer, self.acts)?;
+        let mut went = Course::new(alloc);
+        play(dialer, self.acts, &mut went)?;
         let (shown, hidden) = failures(dialer);
-        if dialer.starved > 0 || hidden > 0 {
-            return Ok(shown.saturating_add(hidden) == dialer.calls.faults);
-        }
+        Ok(
+            shown.saturating_add(hidden) == dialer.calls.faults
+                && dialer.starved == unlisted(&went.failed, self.failing)
+                && (dialer.starved > 0 || hidden > 0 || self.is_whole(alloc, dialer, &went)?)
+                && self.is_repeated(alloc, dialer, &went)?,
+        )
+    }
+
+    fn is_whole(
+        &self,
+        alloc: Global,
+        dialer: &ScriptDialer,
+        went: &Course,
+    ) -> Result<bool, NoMemory> {
         let told = told(alloc, dialer.seen())?;
         Ok(
-            went.bytes() == self.went
+            went.text.bytes() == self.went
                 && told.bytes() == self.told
-                && (shown, dialer.calls.faults) == (self.faults, self.faults),
+                && dialer.calls.faults == self.faults,
+        )
+    }
+
+    fn is_repeated(
+        &self,
+        alloc: Global,
+        dialer: &ScriptDialer,
+        first: &Course,
+    ) -> Result<bool, NoMemory> {
+        let mut listed = self.dialer(alloc, first.failed.items())?;
+        let mut again = Course::new(alloc);
+        play(&mut listed, self.acts, &mut again)?;
+        let whole = whole(alloc, &listed)?;
+        let told = told(alloc, dialer.seen())?;
+        let (_shown, hidden) = failures(dialer);
+        Ok(
+            again.text == first.text
+                && listed.calls.faults == dialer.calls.faults
+                && left_out(&told, &whole) == Some(hidden),
         )
     }
 
     fn plays(&self, alloc: Global) -> Result<bool, NoMemory> {
-        let mut dialer = self.dialer(alloc)?;
+        let mut dialer = self.dialer(alloc, self.failing)?;
         self.is_played(alloc, &mut dialer)
     }
 }

@@ -1,3 +1,4 @@
+use crate::again::unlisted;
 use link_edge::{Event, Floor, FloorEvent, OneFloor, Place, ScriptFloor, Step, Turn};
 use mail_base::{Failed, NoMemory, Seq, Text, TryCopy};
 use mail_edge::{MemSink, MemSource, Source};
@@ -16,6 +17,15 @@ enum Act {
     Turns(u32),
     Send(u64, &'static [u8]),
     HangUp(u64),
+}
+
+impl Act {
+    fn times(self) -> u32 {
+        match self {
+            Act::Turns(turns) => turns,
+            _ => 1,
+        }
+    }
 }
 
 // How an act went.
@@ -46,12 +56,19 @@ impl Answer {
 
 // A floor that is sent to, and hung up, only where it may be.
 trait Driven: Floor {
+    // How many calls there were that may fail: to begin it and of turns, and of sends.
+    fn calls(&self) -> (u64, u64);
+
     fn say(&mut self, session: u64, bytes: &Text) -> Answer;
 
     fn part(&mut self, session: u64) -> Answer;
 }
 
 impl Driven for ScriptFloor {
+    fn calls(&self) -> (u64, u64) {
+        (self.turns.calls, self.sends.calls)
+    }
+
     fn say(&mut self, session: u64, bytes: &Text) -> Answer {
         if !self.is_sound(session) {
             return Answer::Barred;
@@ -70,6 +87,10 @@ impl Driven for ScriptFloor {
 
 // It tells nothing, so that nothing bars a call.
 impl Driven for OneFloor<MemSource, MemSink> {
+    fn calls(&self) -> (u64, u64) {
+        (0, 0)
+    }
+
     fn say(&mut self, session: u64, bytes: &Text) -> Answer {
         Answer::of(self.send(session, bytes))
     }
@@ -80,27 +101,52 @@ impl Driven for OneFloor<MemSource, MemSink> {
     }
 }
 
-// Does these acts, and gives what was heard, a word for each turn and for each call that failed or
-// may not be made.
-fn heard<F: Driven>(alloc: Global, floor: &mut F, acts: &[Act]) -> Result<Text, NoMemory> {
-    let mut text = Text::new(alloc);
-    for act in acts {
-        let answer = done(floor, *act, &mut text)?;
-        text.extend(answer.word())?;
-    }
-    Ok(text)
+// What was heard, a word for each turn and for each call that failed or may not be made, and which
+// turns and sends failed.
+#[derive(Drop)]
+struct Hearing {
+    text: Text,
+    turns: Seq<u64>,
+    sends: Seq<u64>,
 }
 
-// Does an act. A turn that fails is heard at its place.
+impl Hearing {
+    fn new(alloc: Global) -> Hearing {
+        Hearing {
+            text: Text::new(alloc),
+            turns: Seq::new(alloc),
+            sends: Seq::new(alloc),
+        }
+    }
+
+    // Adds the word of an answer, and where that is a failure the call, which came behind so many.
+    fn note(&mut self, act: Act, answer: Answer, calls: (u64, u64)) -> Result<(), NoMemory> {
+        self.text.extend(answer.word())?;
+        match (answer, act) {
+            (Answer::Failed, Act::Send(_, _)) => self.sends.push(calls.1),
+            (Answer::Failed, _) => self.turns.push(calls.0),
+            _ => Ok(()),
+        }
+    }
+}
+
+// Does these acts, and adds what was heard.
+fn play<F: Driven>(floor: &mut F, acts: &[Act], heard: &mut Hearing) -> Result<(), NoMemory> {
+    for act in acts {
+        for _ in 0..act.times() {
+            let calls = floor.calls();
+            let answer = done(floor, *act, &mut heard.text)?;
+            heard.note(*act, answer, calls)?;
+        }
+    }
+    Ok(())
+}
+
+// Does an act once. A turn that brings something is heard at its place.
 fn done<F: Driven>(floor: &mut F, act: Act, heard: &mut Text) -> Result<Answer, NoMemory> {
     match act {
         Act::Begin => Ok(Answer::of(floor.begin(&Place::Standard, 0))),
-        Act::Turns(turns) => {
-            for _ in 0..turns {
-                hear(floor, heard)?;
-            }
-            Ok(Answer::Done)
-        }
+        Act::Turns(_) => hear(floor, heard),
         Act::Send(session, bytes) => {
             let bytes = Text::of(heard.allocator(), bytes)?;
             Ok(floor.say(session, &bytes))
@@ -109,16 +155,18 @@ fn done<F: Driven>(floor: &mut F, act: Act, heard: &mut Text) -> Result<Answer, 
     }
 }
 
-fn hear<F: Floor>(floor: &mut F, heard: &mut Text) -> Result<(), NoMemory> {
+fn hear<F: Floor>(floor: &mut F, heard: &mut Text) -> Result<Answer, NoMemory> {
     let mut buf = [0u8; 64];
-    match floor.turn(&mut buf) {
+    let written = match floor.turn(&mut buf) {
         Ok(Turn::Opened(session, count)) => write_event(heard, session, b'+', &buf[..count]),
         Ok(Turn::Piece(session, count)) => write_event(heard, session, b'>', &buf[..count]),
         Ok(Turn::Closed(session)) => write_event(heard, session, b'-', b""),
         Ok(Turn::Idle) => heard.extend(b"rest "),
         Ok(Turn::Stop) => heard.extend(b"stop "),
-        Err(_) => heard.extend(b"fail "),
-    }
+        Err(Failed) => return Ok(Answer::Failed),
+    };
+    written?;
+    Ok(Answer::Done)
 }
 
 // What a floor told, a word for each event.
@@ -174,7 +222,7 @@ impl Move {
 }
 
 // A floor by its steps and its failing turns and sends, and what is done with it; what was heard of
-// it, what it told, and its counts of faults: of turns, of sends, and of those for want of memory.
+// it, what it told, and its counts of faults: of turns and of sends.
 #[derive(Clone, Copy)]
 struct ScriptRow {
     moves: &'static [Move],
@@ -183,7 +231,7 @@ struct ScriptRow {
     acts: &'static [Act],
     heard: &'static [u8],
     told: &'static [u8],
-    faults: (u64, u64, u64),
+    faults: (u64, u64),
 }
 
 const TWO_SESSIONS: &[Move] = &[
@@ -208,7 +256,7 @@ const SCRIPTS: &[ScriptRow] = &[
         acts: &[Act::Begin, Act::Turns(8)],
         heard: b"1+192.0.2.1 2+::1 1>NOOP 2>QUIT 1- rest stop stop ",
         told: b"1+192.0.2.1 2+::1 1>NOOP 2>QUIT 1- rest stop stop ",
-        faults: (0, 0, 0),
+        faults: (0, 0),
     },
     // Sends and hang-ups are told. A session is sent to until a send failed, and hung up once.
     ScriptRow {
@@ -226,7 +274,7 @@ const SCRIPTS: &[ScriptRow] = &[
         ],
         heard: b"1+192.0.2.1 2+::1 fail no no 1>NOOP rest ",
         told: b"1+192.0.2.1 2+::1 1<220 2! 2x 1>NOOP rest ",
-        faults: (0, 1, 0),
+        faults: (0, 1),
     },
     // Turns fail as they are listed, and the next one goes on.
     ScriptRow {
@@ -236,7 +284,7 @@ const SCRIPTS: &[ScriptRow] = &[
         acts: &[Act::Begin, Act::Turns(3)],
         heard: b"fail 1+192.0.2.1 fail 2+::1 ",
         told: b"1+192.0.2.1 2+::1 ",
-        faults: (2, 0, 0),
+        faults: (2, 0),
     },
     // An address with an LF opens nothing, and bytes that don't fit come in pieces.
     ScriptRow {
@@ -250,14 +298,24 @@ const SCRIPTS: &[ScriptRow] = &[
         acts: &[Act::Turns(5)],
         heard: LONG_BYTES,
         told: LONG_BYTES,
-        faults: (0, 0, 0),
+        faults: (0, 0),
+    },
+    // Without steps it stops at once.
+    ScriptRow {
+        moves: &[],
+        turns: &[],
+        sends: &[],
+        acts: &[Act::Turns(1)],
+        heard: b"stop ",
+        told: b"stop ",
+        faults: (0, 0),
     },
 ];
 
 impl ScriptRow {
-    fn floor(&self, alloc: Global) -> Result<ScriptFloor, NoMemory> {
-        let turns = calls(alloc, self.turns)?;
-        let sends = calls(alloc, self.sends)?;
+    fn floor(&self, alloc: Global, turns: &[u64], sends: &[u64]) -> Result<ScriptFloor, NoMemory> {
+        let turns = calls(alloc, turns)?;
+        let sends = calls(alloc, sends)?;
         Ok(ScriptFloor::new(alloc, steps(alloc, self.moves)?, turns, sends))
     }
 }
@@ -270,19 +328,66 @@ fn steps(alloc: Global, moves: &[Move]) -> Result<Seq<Step>, NoMemory> {
     Ok(steps)
 }
 
+// What a floor told that lacked no memory.
+fn whole(alloc: Global, floor: &ScriptFloor) -> Result<Text, NoMemory> {
+    if floor.starved > 0 {
+        return Err(NoMemory);
+    }
+    told(alloc, floor.seen())
+}
+
 impl ScriptRow {
+    // Where memory wasn't wanting, all is as the row has it. Where it was, all is as where the calls
+    // that failed are listed.
     fn is_played(&self, alloc: Global, floor: &mut ScriptFloor) -> Result<bool, NoMemory> {
-        let heard = heard(alloc, floor, self.acts)?;
+        let mut heard = Hearing::new(alloc);
+        play(floor, self.acts, &mut heard)?;
+        let unlisted = unlisted(&heard.turns, self.turns).saturating_add(unlisted(
+            &heard.sends,
+            self.sends,
+        ));
+        Ok(
+            floor.starved == unlisted
+                && (floor.starved > 0 || self.is_whole(alloc, floor, &heard)?)
+                && self.is_repeated(alloc, floor, &heard)?,
+        )
+    }
+
+    fn is_whole(
+        &self,
+        alloc: Global,
+        floor: &ScriptFloor,
+        heard: &Hearing,
+    ) -> Result<bool, NoMemory> {
         let told = told(alloc, floor.seen())?;
         Ok(
-            heard.bytes() == self.heard
+            heard.text.bytes() == self.heard
                 && told.bytes() == self.told
-                && (floor.turns.faults, floor.sends.faults, floor.starved) == self.faults,
+                && (floor.turns.faults, floor.sends.faults) == self.faults,
+        )
+    }
+
+    fn is_repeated(
+        &self,
+        alloc: Global,
+        floor: &ScriptFloor,
+        first: &Hearing,
+    ) -> Result<bool, NoMemory> {
+        let mut listed = self.floor(alloc, first.turns.items(), first.sends.items())?;
+        let mut again = Hearing::new(alloc);
+        play(&mut listed, self.acts, &mut again)?;
+        let whole = whole(alloc, &listed)?;
+        let told = told(alloc, floor.seen())?;
+        Ok(
+            again.text == first.text
+                && told == whole
+                && listed.turns.faults == floor.turns.faults
+                && listed.sends.faults == floor.sends.faults,
         )
     }
 
     fn plays(&self, alloc: Global) -> Result<bool, NoMemory> {
-        let mut floor = self.floor(alloc)?;
+        let mut floor = self.floor(alloc, self.turns, self.sends)?;
         self.is_played(alloc, &mut floor)
     }
 }
@@ -360,8 +465,9 @@ impl OneRow {
         alloc: Global,
         floor: &mut OneFloor<MemSource, MemSink>,
     ) -> Result<bool, NoMemory> {
-        let heard = heard(alloc, floor, self.acts)?;
-        Ok(heard.bytes() == self.heard)
+        let mut heard = Hearing::new(alloc);
+        play(floor, self.acts, &mut heard)?;
+        Ok(heard.text.bytes() == self.heard)
     }
 
     fn is_written(&self, floor: &OneFloor<MemSource, MemSink>) -> bool {

@@ -1,3 +1,4 @@
+use crate::again::{Course, left_out, unlisted};
 use mail_base::{Failed, NoMemory, Seq, Text};
 use spawn_edge::{Life, Poll, ScriptSpawner, SpawnEvent, Spawner, Start};
 use std::alloc::{AllocError, Global};
@@ -116,22 +117,23 @@ const ROWS: &[Row] = &[
     },
 ];
 
-fn spawner(alloc: Global, failing: &[u64]) -> Result<ScriptSpawner, AllocError> {
+fn spawner_of(alloc: Global, failing: &[u64]) -> Result<ScriptSpawner, AllocError> {
     let lives = Seq::from_vec(Vec::from_slice(alloc, LIVES)?);
     let failing = Seq::from_vec(Vec::from_slice(alloc, failing)?);
     Ok(ScriptSpawner::new(alloc, lives, failing))
 }
 
-// Does these acts, and gives how they went.
-fn went(alloc: Global, spawner: &mut ScriptSpawner, acts: &[Act]) -> Result<Text, NoMemory> {
-    let mut text = Text::new(alloc);
+// Does these acts, and adds how they went.
+fn play(spawner: &mut ScriptSpawner, acts: &[Act], went: &mut Course) -> Result<(), NoMemory> {
     for act in acts {
+        let call = spawner.calls.calls;
         match act {
-            Act::Start(program) => begin(spawner, program, &mut text)?,
-            Act::Poll(child) => poll(spawner, *child, &mut text)?,
+            Act::Start(program) => begin(spawner, program, &mut went.text)?,
+            Act::Poll(child) => poll(spawner, *child, &mut went.text)?,
         }
+        went.note(call)?;
     }
-    Ok(text)
+    Ok(())
 }
 
 fn begin(spawner: &mut ScriptSpawner, program: &[u8], went: &mut Text) -> Result<(), NoMemory> {
@@ -210,6 +212,15 @@ fn write_texts(text: &mut Text, start: &Start) -> Result<(), NoMemory> {
     text.push(b' ')
 }
 
+// What a spawner told that lacked no memory.
+fn whole(alloc: Global, spawner: &ScriptSpawner) -> Result<Text, NoMemory> {
+    let (_shown, hidden) = failures(spawner);
+    if spawner.starved > 0 || hidden > 0 {
+        return Err(NoMemory);
+    }
+    told(alloc, spawner.seen())
+}
+
 // How many failed calls were told, and how many weren't.
 fn failures(spawner: &ScriptSpawner) -> (u64, u64) {
     let mut shown = 0u64;
@@ -229,24 +240,55 @@ fn failures(spawner: &ScriptSpawner) -> (u64, u64) {
 }
 
 impl Row {
-    // Each failed call is told or counted, also where memory was wanting; where it wasn't, all is
-    // as the row has it.
+    // Where memory wasn't wanting, all is as the row has it. Where it was, each failed call is told
+    // or counted all the same, and all is as where those calls are listed.
     fn is_played(&self, alloc: Global, spawner: &mut ScriptSpawner) -> Result<bool, NoMemory> {
-        let went = went(alloc, spawner, self.acts)?;
+        let mut went = Course::new(alloc);
+        play(spawner, self.acts, &mut went)?;
         let (shown, hidden) = failures(spawner);
-        if spawner.starved > 0 || hidden > 0 {
-            return Ok(shown.saturating_add(hidden) == spawner.calls.faults);
-        }
+        Ok(
+            shown.saturating_add(hidden) == spawner.calls.faults
+                && spawner.starved == unlisted(&went.failed, self.failing)
+                && (spawner.starved > 0 || hidden > 0 || self.is_whole(alloc, spawner, &went)?)
+                && self.is_repeated(alloc, spawner, &went)?,
+        )
+    }
+
+    fn is_whole(
+        &self,
+        alloc: Global,
+        spawner: &ScriptSpawner,
+        went: &Course,
+    ) -> Result<bool, NoMemory> {
         let told = told(alloc, spawner.seen())?;
         Ok(
-            went.bytes() == self.went
+            went.text.bytes() == self.went
                 && told.bytes() == self.told
-                && (shown, spawner.calls.faults) == (self.faults, self.faults),
+                && spawner.calls.faults == self.faults,
+        )
+    }
+
+    fn is_repeated(
+        &self,
+        alloc: Global,
+        spawner: &ScriptSpawner,
+        first: &Course,
+    ) -> Result<bool, NoMemory> {
+        let mut listed = spawner_of(alloc, first.failed.items())?;
+        let mut again = Course::new(alloc);
+        play(&mut listed, self.acts, &mut again)?;
+        let whole = whole(alloc, &listed)?;
+        let told = told(alloc, spawner.seen())?;
+        let (_shown, hidden) = failures(spawner);
+        Ok(
+            again.text == first.text
+                && listed.calls.faults == spawner.calls.faults
+                && left_out(&told, &whole) == Some(hidden),
         )
     }
 
     fn plays(&self, alloc: Global) -> Result<bool, NoMemory> {
-        let mut spawner = spawner(alloc, self.failing)?;
+        let mut spawner = spawner_of(alloc, self.failing)?;
         self.is_played(alloc, &mut spawner)
     }
 }

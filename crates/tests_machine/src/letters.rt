@@ -1,120 +1,154 @@
-//! Messages by chance, and how a client says them.
+//! What a client says in a session, by chance: one message or more, with errors among them.
 
 use crate::chance::drawn;
 use std::alloc::AllocError;
-
-/// Whom a message is from.
-#[derive(Clone, Copy, PartialEq, Eq)]
-pub(crate) enum Sender {
-    /// A user of this host.
-    Here,
-    /// One of a host that is reached by SMTP.
-    Far,
-    /// Nobody, as returned mail is.
-    Nobody,
-}
 
 /// A message of a session, which has its like nowhere: each address, the subject and each line of
 /// the body name session and number.
 #[derive(Clone, Copy)]
 pub(crate) struct Letter {
-    pub session: u64,
-    pub number: u64,
-    pub sender: Sender,
-    /// Whether it is declared as 8BITMIME, in a session that says EHLO.
-    pub eight: bool,
+    session: u64,
+    number: u64,
+    /// The host of its sender, to whom programs or peers bring what is returned.
+    host: &'static str,
     /// How many recipients it has at this host, and whether one more elsewhere.
-    pub here: u64,
-    pub far: bool,
+    here: u64,
+    far: bool,
     /// How many lines of its body stand behind the first, which begins with a dot.
-    pub lines: u64,
+    lines: u64,
+}
+
+// The first of the eight places at which the numbers of a message are drawn, or with 0 of a session.
+fn place_of(session: u64, number: u64) -> u64 {
+    session
+        .saturating_mul(64)
+        .saturating_add(number.saturating_mul(8))
 }
 
 impl Letter {
-    /// The message of that number of a session. One from afar has one recipient.
+    /// The message of that number of a session.
     pub(crate) fn of(seed: u64, session: u64, number: u64) -> Letter {
         let place = place_of(session, number);
-        let sender = match drawn(seed, place, 6) {
-            0 => Sender::Nobody,
-            1 => Sender::Far,
-            _ => Sender::Here,
-        };
-        let most = if sender == Sender::Far { 2 } else { 4 };
-        let here = drawn(seed, place.saturating_add(1), most);
-        let also = sender != Sender::Far && drawn(seed, place.saturating_add(2), 3) == 0;
+        let here = drawn(seed, place, 4);
+        let is_here = drawn(seed, place.saturating_add(1), 6) > 0;
         Letter {
             session,
             number,
-            sender,
-            eight: is_extended(seed, session) && drawn(seed, place.saturating_add(3), 3) == 0,
+            host: if is_here { "mx.example" } else { "c.example" },
             here,
-            far: here == 0 || also,
-            lines: drawn(seed, place.saturating_add(4), 5),
+            far: here == 0 || drawn(seed, place.saturating_add(2), 3) == 0,
+            lines: drawn(seed, place.saturating_add(3), 5),
         }
     }
 
-    /// How many entries it becomes: the recipients at this host are one, and the other is one.
-    pub(crate) fn parts(self) -> u64 {
-        if self.here > 0 && self.far { 2 } else { 1 }
+    /// The message that a user is the sender or a recipient of, by the name.
+    pub(crate) fn named(seed: u64, user: &str) -> Option<Letter> {
+        let mut words = user.split('-');
+        let _kind = words.next()?;
+        let session = words.next()?.parse().unwrap_or(0);
+        let number = words.next()?.parse().unwrap_or(0);
+        Some(Letter::of(seed, session, number))
     }
 
-    /// Adds the path of its sender.
-    pub(crate) fn put_sender(self, out: &mut String) -> Result<(), AllocError> {
+    /// Adds its recipients, each behind these words and before those of its host.
+    pub(crate) fn put_rows(
+        self,
+        out: &mut String,
+        front: &str,
+        here: &str,
+        far: &str,
+    ) -> Result<(), AllocError> {
         let (session, number) = (self.session, self.number);
-        match self.sender {
-            Sender::Here => write!(out, "<s{session}x{number}@mx.example>"),
-            Sender::Far => write!(out, "<s{session}x{number}@c.example>"),
-            Sender::Nobody => out.push_str("<>"),
+        for place in 0..self.here {
+            write!(out, "{front}u-{session}-{number}-{place}{here}")?;
         }
+        if self.far {
+            write!(out, "{front}f-{session}-{number}{far}")?;
+        }
+        Ok(())
     }
 
-    /// Adds the header that it comes with.
-    pub(crate) fn put_subject(self, out: &mut String) -> Result<(), AllocError> {
+    /// Adds its header and its body, each line with that end, and the dot at the front of one
+    /// behind these words.
+    pub(crate) fn put_text(self, out: &mut String, dot: &str, end: &str) -> Result<(), AllocError> {
         let (session, number) = (self.session, self.number);
-        write!(out, "Subject: {session}x{number}")
-    }
-
-    /// Adds its body, each line behind these bytes where it begins with a dot, and before that end.
-    pub(crate) fn put_body(self, out: &mut String, dot: &str, end: &str) -> Result<(), AllocError> {
-        let (session, number) = (self.session, self.number);
-        write!(out, "{dot}.first of {session}x{number}{end}")?;
+        write!(
+            out,
+            "Subject: {session}-{number}{end}{end}{dot}.first of {session}-{number}{end}"
+        )?;
         for line in 0..self.lines {
-            write!(out, "{line} of {session}x{number}{end}")?;
+            write!(out, "{line} of {session}-{number}{end}")?;
         }
         Ok(())
     }
 
     /// Adds the lines by which a client sends it, up to the final dot.
     pub(crate) fn put_lines(self, out: &mut String) -> Result<(), AllocError> {
-        let (session, number) = (self.session, self.number);
-        out.push_str("MAIL FROM:")?;
-        self.put_sender(out)?;
-        out.push_str(if self.eight {
-            " BODY=8BITMIME\r\n"
-        } else {
-            "\r\n"
-        })?;
-        for place in 0..self.here {
-            write!(out, "RCPT TO:<u{session}x{number}x{place}@mx.example>\r\n")?;
-        }
-        if self.far {
-            write!(out, "RCPT TO:<f{session}x{number}@far.example>\r\n")?;
-        }
+        let (session, number, host) = (self.session, self.number, self.host);
+        write!(out, "MAIL FROM:<s-{session}-{number}@{host}>\r\n")?;
+        self.put_rows(out, "RCPT TO:<", "@mx.example>\r\n", "@far.example>\r\n")?;
         out.push_str("DATA\r\n")?;
-        self.put_subject(out)?;
-        out.push_str("\r\n\r\n")?;
-        self.put_body(out, ".", "\r\n")
+        self.put_text(out, ".", "\r\n")
     }
 }
 
-/// The first of the places at which the numbers of a message are drawn, or with 0 of a session.
-pub(crate) fn place_of(session: u64, number: u64) -> u64 {
-    session
-        .saturating_mul(64)
-        .saturating_add(number.saturating_mul(8))
+/// The client of a session: how many messages it begins, how many of them it brings to their final
+/// dots, whether it says QUIT then, and else whether its peer closes it.
+#[derive(Clone, Copy)]
+pub(crate) struct Client {
+    seed: u64,
+    session: u64,
+    begun: u64,
+    pub finished: u64,
+    quits: bool,
+    pub closes: bool,
 }
 
-/// Whether a session says EHLO, and not HELO.
-pub(crate) fn is_extended(seed: u64, session: u64) -> bool {
-    drawn(seed, place_of(session, 0), 2) == 0
+// Lines that are refused, or that change nothing.
+static ERRORS: [&str; 8] = [
+    "FOO\r\n",
+    "RCPT TO:<early@mx.example>\r\n",
+    "MAIL FROM:<no\r\n",
+    "DATA\r\n",
+    "MAIL FROM:<bob@c.example>\r\nMAIL FROM:<bob@c.example>\r\nRSET\r\n",
+    "MAIL FROM:<bob@c.example>\r\nRCPT TO:<no@mx.example>\r\nDATA\r\nRSET\r\n",
+    "MAIL FROM:<bob@c.example> SIZE=99999999\r\n",
+    "VRFY ann\r\nHELP\r\nNOOP\r\n",
+];
+
+impl Client {
+    /// The client of a session: of eight one stays and one closes in the midst of its last message,
+    /// one stays and one closes behind it, and four quit.
+    pub(crate) fn of(seed: u64, session: u64) -> Client {
+        let place = place_of(session, 0);
+        let begun = drawn(seed, place, 3).saturating_add(1);
+        let end = drawn(seed, place.saturating_add(1), 8);
+        Client {
+            seed,
+            session,
+            begun,
+            finished: if end < 2 {
+                begun.saturating_sub(1)
+            } else {
+                begun
+            },
+            quits: end > 3,
+            closes: end == 1 || end == 3,
+        }
+    }
+
+    /// Adds all that it says.
+    pub(crate) fn put(self, out: &mut String) -> Result<(), AllocError> {
+        let session = self.session;
+        write!(out, "EHLO c{session}.example\r\n")?;
+        for number in 1..=self.begun {
+            let place = place_of(session, number).saturating_add(4);
+            if let Some(error) = ERRORS.get(drawn(self.seed, place, 20) as usize) {
+                out.push_str(error)?;
+            }
+            Letter::of(self.seed, session, number).put_lines(out)?;
+            out.push_str(if number <= self.finished { ".\r\n" } else { "" })?;
+        }
+        out.push_str(if self.quits { "QUIT\r\n" } else { "" })
+    }
 }

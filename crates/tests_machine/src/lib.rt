@@ -5,40 +5,20 @@
 #[cfg(test)]
 mod alone;
 #[cfg(test)]
-mod beside;
+mod attempts;
 #[cfg(test)]
 mod chance;
 #[cfg(test)]
-mod children;
-#[cfg(test)]
-mod courses;
-#[cfg(test)]
 mod delivered;
 #[cfg(test)]
-mod entries;
-#[cfg(test)]
-mod fates;
-#[cfg(test)]
-mod found;
-#[cfg(test)]
-mod full;
-#[cfg(test)]
-mod handed;
-#[cfg(test)]
-mod kept;
-#[cfg(test)]
 mod letters;
+#[cfg(test)]
+mod lives;
 #[cfg(test)]
 mod machines;
 #[cfg(test)]
 mod mixing;
 #[cfg(test)]
-mod peers;
-#[cfg(test)]
-mod runs;
-#[cfg(test)]
-mod stops;
-#[cfg(test)]
-mod talks;
+mod rows;
 #[cfg(test)]
 mod told;

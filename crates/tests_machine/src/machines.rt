@@ -2,11 +2,12 @@
 
 ghost use Rattle.std.specs.Prelude.{◌<◌, ◌≤◌, ◌^◌, length};
 
+use crate::lives::{failing_of, lives_of, pieces_of};
 use link_edge::{ScriptDialer, ScriptFloor, Step};
 use mail_base::{NoMemory, Seq, Text};
 use mail_edge::{MemClock, MemFiles, MemSink, SureFiles, SureSource};
 use sendmail_run::{DEFAULT_FILE, Outcome, sendmail};
-use spawn_edge::{Life, ScriptSpawner};
+use spawn_edge::ScriptSpawner;
 use spool_disk::MemSpool;
 use std::alloc::Global;
 use std::test::Fail;
@@ -49,14 +50,27 @@ impl Machine {
         }
     }
 
-    /// Runs the program by these words under this configuration, and says how it ends.
-    pub(crate) fn run(&mut self, alloc: Global, words: &str, config: &str) -> Result<u8, Fail> {
+    /// Children and peers that go by chance from now on, of which some fail, if any do.
+    pub(crate) fn equip(&mut self, alloc: Global, seed: u64, fails: bool) -> Result<(), NoMemory> {
+        let lives = lives_of(alloc, seed, fails)?;
+        let failing = failing_of(alloc, seed, fails)?;
+        let pieces = pieces_of(alloc, seed, fails)?;
+        self.spawner = ScriptSpawner::new(alloc, lives, failing);
+        self.dialer = ScriptDialer::new(alloc, pieces, Seq::new(alloc));
+        Ok(())
+    }
+
+    /// Runs the program by these words, to a good end.
+    pub(crate) fn run(&mut self, alloc: Global, words: &str) -> Result<(), Fail> {
         let words = words_of(alloc, words)?;
+        let mut files = files_of(alloc)?;
         if words.len() > 100 || self.clock.readings > 0 {
             return Err("a long line, or a clock that was read".into());
         }
-        let mut files = files_of(alloc, config)?;
-        Ok(self.outcome(alloc, &words, &mut files).status())
+        match self.outcome(alloc, &words, &mut files).status() {
+            0 => Ok(()),
+            _ => Err("the run did not end well".into()),
+        }
     }
 
     fn outcome(&mut self, alloc: Global, words: &Seq<Text>, files: &mut MemFiles) -> Outcome
@@ -80,13 +94,11 @@ impl Machine {
     }
 }
 
-/// Two groups, of which programs are in the first, and peers in the other.
-pub(crate) static GROUPS: &str = "Qmqueue, Path=/q, Runners=8\nQbulk, Path=/q/bulk, Runners=4\n";
-
-static FRONT: &str = "Cwmx.example\nDwmx\nDjmx.example\nO QueueDirectory=/q\n\
-    O HostsFile=/hosts\nO OperatorChars=.:%@!^/[]+\n";
-
-static BEHIND: &str = "HReceived: from $s by $j with $r id $i; $b\n\
+// Two groups, of which programs are in the first, with eight runners, and peers in the other.
+static CONFIG: &[u8] = b"Cwmx.example\nDwmx\nDjmx.example\nO QueueDirectory=/q\n\
+    O HostsFile=/hosts\nO OperatorChars=.:%@!^/[]+\n\
+    Qmqueue, Path=/q, Runners=8\nQbulk, Path=/q/bulk, Runners=4\n\
+    HReceived: from $s by $j with $r id $i; $b\n\
     Mlocal, P=/bin/mail, F=lsDFMAw5n, A=mail -d $u\n\
     Mprog, P=/bin/sh, F=lsDFMn, A=sh -c $u\n\
     Msmtp, P=[IPC], F=mDFMuX, Q=bulk, A=TCP $h\n\
@@ -95,19 +107,13 @@ static BEHIND: &str = "HReceived: from $s by $j with $r id $i; $b\n\
     R$+\t$#local $: $1\nSfinal=4\nR$+ < @ $+ >\t$1 @ $2\n\
     Scheck_rcpt\nR< no @ mx.example >\t$#error $@ 5.7.1 $: not here\n";
 
-static HOSTS: &str = "127.0.0.1 far.example\n127.0.0.1 c.example\n";
+static HOSTS: &[u8] = b"127.0.0.1 far.example\n127.0.0.1 c.example\n";
 
-// The configuration with these lines before its mailers, and the host table.
-fn files_of(alloc: Global, lines: &str) -> Result<MemFiles, Fail> {
-    let mut config = Text::of(alloc, FRONT.as_bytes())?;
-    config.extend(lines.as_bytes())?;
-    config.extend(BEHIND.as_bytes())?;
+// The configuration and the host table.
+fn files_of(alloc: Global) -> Result<MemFiles, Fail> {
     let mut named = Seq::new(alloc);
-    named.push((Text::of(alloc, DEFAULT_FILE)?, config))?;
-    named.push((
-        Text::of(alloc, b"/hosts")?,
-        Text::of(alloc, HOSTS.as_bytes())?,
-    ))?;
+    named.push((Text::of(alloc, DEFAULT_FILE)?, Text::of(alloc, CONFIG)?))?;
+    named.push((Text::of(alloc, b"/hosts")?, Text::of(alloc, HOSTS)?))?;
     let sure = SureFiles::new(named).ok_or("a large text")?;
     Ok(MemFiles::new(sure, Seq::new(alloc)))
 }

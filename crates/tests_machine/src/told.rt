@@ -1,86 +1,67 @@
 //! What was said to sessions, as a floor tells it.
 
 use link_edge::FloorEvent;
-use mail_base::{NoMemory, Seq, Text};
-use std::alloc::Global;
-
-/// A message that was acknowledged: its session, which of the messages of that it is, and its id.
-#[derive(Clone, Copy)]
-pub(crate) struct Ack {
-    pub session: u64,
-    pub number: u64,
-    pub id: u64,
-}
+use mail_base::{NoMemory, Text};
 
 // The twelve digits of the id that a final 250 names, and what stands behind them.
-fn id_in(reply: &[u8]) -> Option<(&[u8], &[u8])> {
-    let rest = reply.strip_prefix(b"250 2.0.0 w")?;
+fn id_in(reply: &Text) -> Option<(&[u8], &[u8])> {
+    let rest = reply.bytes().strip_prefix(b"250 2.0.0 w")?;
     rest.split_at_checked(12)
 }
 
-// The number that digits write.
-fn number_of(digits: &[u8]) -> u64 {
-    let mut number = 0u64;
-    for digit in digits {
-        number = number
-            .saturating_mul(10)
-            .saturating_add(digit.saturating_sub(b'0') as u64);
+fn put_reply(said: &mut Text, reply: &Text) -> Result<(), NoMemory> {
+    match id_in(reply) {
+        Some((_digits, behind)) => {
+            said.extend(b"250 2.0.0 #")?;
+            said.extend(behind)
+        }
+        None => said.extend(reply.bytes()),
     }
-    number
 }
 
-/// The messages that were acknowledged, in the order of their 250s.
-pub(crate) fn acks_of(alloc: Global, events: &[FloorEvent]) -> Result<Seq<Ack>, NoMemory> {
-    let mut acks = Seq::new(alloc);
+/// Adds all that was said to a session, and that it was hung up. In the place of each id stands a
+/// `#`.
+pub(crate) fn put_said(
+    said: &mut Text,
+    events: &[FloorEvent],
+    session: u64,
+) -> Result<(), NoMemory> {
     for event in events {
-        if let FloorEvent::Sent(session, bytes) = event {
-            if let Some((digits, _behind)) = id_in(bytes.bytes()) {
-                let number = acks_to(&acks, *session).saturating_add(1);
-                let id = number_of(digits);
-                acks.push(Ack {
-                    session: *session,
-                    number,
-                    id,
-                })?;
-            }
+        match event {
+            FloorEvent::Sent(to, reply) if *to == session => put_reply(said, reply)?,
+            FloorEvent::HungUp(to) if *to == session => said.extend(b"hung up")?,
+            _ => {}
         }
     }
-    Ok(acks)
+    Ok(())
 }
 
-fn acks_to(acks: &Seq<Ack>, session: u64) -> u64 {
+/// How many messages of a session are among these.
+pub(crate) fn count_of(names: &[(u64, u64)], session: u64) -> u64 {
     let mut count = 0u64;
-    for ack in acks.items() {
-        if ack.session == session {
+    for name in names {
+        if name.0 == session {
             count = count.saturating_add(1);
         }
     }
     count
 }
 
-/// All that was said to a session, and that it was hung up. In the place of each id stands a `#`.
-pub(crate) fn said_to(
-    alloc: Global,
+/// Adds the messages that were acknowledged, in the order of their 250s, each by its session and
+/// its number there; and the ids that were told.
+pub(crate) fn put_acks(
+    names: &mut Vec<(u64, u64)>,
+    ids: &mut Text,
     events: &[FloorEvent],
-    session: u64,
-) -> Result<Text, NoMemory> {
-    let mut said = Text::new(alloc);
+) -> Result<(), NoMemory> {
     for event in events {
-        match event {
-            FloorEvent::Sent(to, bytes) if *to == session => put_reply(&mut said, bytes.bytes())?,
-            FloorEvent::HungUp(to) if *to == session => said.extend(b"hung up")?,
-            _ => {}
+        if let FloorEvent::Sent(session, reply) = event {
+            if let Some((digits, _behind)) = id_in(reply) {
+                ids.extend(digits)?;
+                let number = count_of(names, *session).saturating_add(1);
+                names.push((*session, number))?;
+            }
         }
     }
-    Ok(said)
-}
-
-fn put_reply(said: &mut Text, reply: &[u8]) -> Result<(), NoMemory> {
-    match id_in(reply) {
-        Some((_digits, behind)) => {
-            said.extend(b"250 2.0.0 #")?;
-            said.extend(behind)
-        }
-        None => said.extend(reply),
-    }
+    Ok(())
 }

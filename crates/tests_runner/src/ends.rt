@@ -2,7 +2,6 @@
 
 use crate::entries::{Letter, from_bob};
 use crate::runs::{Case, NOTHING, is_told};
-use crate::telling::Telling;
 use std::alloc::Global;
 use std::test::Fail;
 
@@ -304,7 +303,7 @@ fn goes(alloc: Global, row: &Row) -> Result<bool, Fail> {
         lives: row.8,
         says: "",
     };
-    is_told(alloc, &case, NOTHING, Telling::Short, row.9)
+    is_told(alloc, &case, NOTHING, true, row.9)
 }
 
 #[test]

@@ -3,59 +3,36 @@
 
 use crate::entries::{Letter, from_bob};
 use crate::runs::{Case, Device, Failing, is_told};
-use crate::telling::Telling;
 use std::alloc::Global;
 use std::test::Fail;
 
-// The statuses 0, 75 and 67, of which the last is returned.
-fn fates() -> Case {
-    Case {
-        lines: "",
-        letter: from_bob("ann bob cid"),
-        moment: 1_767_225_610,
-        ids: "1",
-        lives: "0 75 67",
-        says: "",
-    }
-}
-
-fn delivery() -> Case {
-    Case {
-        lines: "",
-        letter: from_bob("<ann@far.example>"),
-        moment: 1_767_225_610,
-        ids: "1",
-        lives: "",
-        says: "220 hi\r\n|250 hi\r\n|250 ok\r\n|250 ok\r\n|354 go\r\n|250 ok\r\n",
-    }
-}
-
-// The rows of the sender are read from a file.
-fn receiver() -> Case {
-    let letter = Letter {
-        sender: "<olga@mx.example>",
-        ..from_bob("cid")
+// Three rows of which the last is returned (3), a delivery (d), or a receiver whose rows are read from
+// a file (r).
+fn case_of(letter: u8) -> Case {
+    let (sender, rows, lives, says) = match letter {
+        b'3' => ("<bob@c.example>", "ann bob cid", "0 75 67", ""),
+        b'd' => (
+            "<bob@c.example>",
+            "<ann@far.example>",
+            "",
+            "220 hi\r\n|250 hi\r\n|250 ok\r\n|250 ok\r\n|354 go\r\n|250 ok\r\n",
+        ),
+        _ => ("<olga@mx.example>", "cid", "67", ""),
     };
     Case {
         lines: "",
-        letter,
+        letter: Letter {
+            sender,
+            ..from_bob(rows)
+        },
         moment: 1_767_225_610,
         ids: "1",
-        lives: "67",
-        says: "",
+        lives,
+        says,
     }
 }
 
-fn case_of(letter: u8) -> Case {
-    match letter {
-        b'3' => fates(),
-        b'd' => delivery(),
-        _ => receiver(),
-    }
-}
-
-/// Three rows (3), a delivery (d) or a receiver (r); the device; the number of the call; and what
-/// happens.
+/// The case, the device, the number of the call, and what happens.
 type Row = (u8, Device, u64, &'static str);
 
 static ROWS: [Row; 44] = [
@@ -280,7 +257,7 @@ fn goes(alloc: Global, row: &Row) -> Result<bool, Fail> {
         device: row.1,
         call: row.2,
     };
-    is_told(alloc, &case_of(row.0), failing, Telling::Answers, row.3)
+    is_told(alloc, &case_of(row.0), failing, false, row.3)
 }
 
 #[test]

@@ -7,8 +7,6 @@ mod ends;
 #[cfg(test)]
 mod entries;
 #[cfg(test)]
-mod examples;
-#[cfg(test)]
 mod faults;
 #[cfg(test)]
 mod peers;

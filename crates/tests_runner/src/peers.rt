@@ -2,7 +2,6 @@
 
 use crate::entries::{Letter, from_bob};
 use crate::runs::{Case, NOTHING, is_told};
-use crate::telling::Telling;
 use std::alloc::Global;
 use std::test::Fail;
 
@@ -186,7 +185,7 @@ fn goes(alloc: Global, row: &Row) -> Result<bool, Fail> {
         lives: "",
         says: row.4,
     };
-    is_told(alloc, &case, NOTHING, Telling::Short, row.5)
+    is_told(alloc, &case, NOTHING, true, row.5)
 }
 
 #[test]

@@ -3,7 +3,6 @@
 
 use crate::entries::from_bob;
 use crate::runs::{Case, NOTHING, is_told};
-use crate::telling::Telling;
 use std::alloc::Global;
 use std::test::Fail;
 
@@ -176,7 +175,7 @@ fn goes(alloc: Global, row: &Row) -> Result<bool, Fail> {
         lives: row.3,
         says: "",
     };
-    is_told(alloc, &case, NOTHING, Telling::Short, row.4)
+    is_told(alloc, &case, NOTHING, true, row.4)
 }
 
 #[test]

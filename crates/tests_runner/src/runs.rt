@@ -6,7 +6,7 @@ ghost use Rattle.spawn_edge.specs.Lives.{script_spawned};
 ghost use Rattle.runner_samples.specs.Runs.{IsStanding, IsUnderWay};
 
 use crate::entries::{Letter, files_for};
-use crate::telling::{Before, Teller, Telling};
+use crate::telling::{Teller, entry_of, revision_of};
 use crate::worlds::{World, files_of, world_with};
 use link_edge::ScriptDialer;
 use mail_base::{Draws, NoMemory, Seq, Text, TryCopy};
@@ -16,7 +16,7 @@ use queue_run::{Did, Runner};
 use queue_table::Table;
 use runner_samples::{advance, claimed, id_of, opened};
 use spawn_edge::{Life, ScriptSpawner};
-use spool_disk::{File, MemSpool, Spool};
+use spool_disk::{File, MemSpool, Spool, StopSpool};
 use std::alloc::Global;
 use std::test::Fail;
 
@@ -89,25 +89,15 @@ impl Drop for Bench {
     }
 }
 
-fn life_of(word: &str) -> Result<Life, Fail> {
-    match word.strip_prefix("~") {
-        Some(status) => Ok(Life {
-            polls: 1,
-            status: status.parse().map_err(|_| "no status")?,
-        }),
-        None => Ok(Life {
-            polls: 0,
-            status: word.parse().map_err(|_| "no status")?,
-        }),
-    }
-}
-
-fn lives_of(alloc: Global, words: &str) -> Result<Seq<Life>, Fail> {
+fn lives_of(alloc: Global, words: &str) -> Result<Seq<Life>, NoMemory> {
     let mut lives = Seq::new(alloc);
     for word in words.split(' ') {
-        if !word.is_empty() {
-            lives.push(life_of(word)?)?;
-        }
+        let (polls, digits) = match word.strip_prefix("~") {
+            Some(digits) => (1, digits),
+            None => (0, word),
+        };
+        let status = digits.parse().unwrap_or(0);
+        lives.push(Life { polls, status })?;
     }
     Ok(lives)
 }
@@ -120,8 +110,8 @@ fn pieces_of(alloc: Global, says: &str) -> Result<Seq<Text>, NoMemory> {
     Ok(pieces)
 }
 
-/// The devices of a case.
-pub(crate) fn bench_of(alloc: Global, case: &Case, failing: Failing) -> Result<Bench, Fail> {
+// The devices of a case.
+fn bench_of(alloc: Global, case: &Case, failing: Failing) -> Result<Bench, Fail> {
     let lives = lives_of(alloc, case.lives)?;
     let pieces = pieces_of(alloc, case.says)?;
     Ok(Bench {
@@ -151,7 +141,7 @@ fn stepped<D: Spool, W: Draws>(
     ensures fixed { W.fixed draws.new ≡ W.fixed draws.old }
 {
     for _ in 0..100u32 {
-        let before = Before::of(table, &runner.id());
+        let before = revision_of(entry_of(table, &runner.id()));
         let answer = advance(
             alloc,
             table,
@@ -164,8 +154,8 @@ fn stepped<D: Spool, W: Draws>(
             runner,
             moment,
         );
-        teller.step(spawner, dialer, &answer)?;
-        teller.changes(table, &runner.id(), before)?;
+        let entry = entry_of(table, &runner.id());
+        teller.step(spawner, dialer, &answer, entry, before)?;
         match answer {
             Ok(Did::Free) => return Ok(true),
             Ok(Did::Began | Did::Waits | Did::Recorded | Did::Gave) => {}
@@ -245,8 +235,8 @@ fn run_with<D: Spool>(
     )
 }
 
-/// Claims the entries of a case, and steps each.
-pub(crate) fn run<D: Spool>(
+// Claims the entries of a case, and steps each.
+fn run<D: Spool>(
     alloc: Global,
     world: &World,
     table: &mut Table,
@@ -275,55 +265,52 @@ pub(crate) fn tell_files(
     files: Seq<File>,
     teller: &mut Teller,
 ) -> Result<(), Fail> {
-    let copied = files.copy()?;
     let mut spool = MemSpool::of(alloc, files, Seq::new(alloc))?;
-    match opened(alloc, &mut spool, &world.config) {
-        Ok(table) => {
-            teller.entries(&table)?;
-            teller.bodies(&table, copied.items())?;
-            Ok(())
-        }
-        Err(_) => Err(Fail::from("no table")),
-    }
+    let told = match opened(alloc, &mut spool, &world.config) {
+        Ok(table) => teller.entries(&table),
+        Err(_) => teller.told.push_str("no table"),
+    };
+    Ok(told?)
 }
 
-/// Runs a case over a spool of these files in which a call fails, and gives the files that are
-/// left.
+/// Runs a case over a spool of these files in which a call fails, and which stops behind so many
+/// calls that change files.
 pub(crate) fn run_over(
     alloc: Global,
     world: &World,
     files: Seq<File>,
     case: &Case,
     failing: Failing,
+    passes: u64,
     teller: &mut Teller,
-) -> Result<Seq<File>, Fail> {
-    let mut spool = MemSpool::of(alloc, files, failing.calls(alloc, Device::Spool)?)?;
+) -> Result<StopSpool, Fail> {
     let mut bench = bench_of(alloc, case, failing)?;
+    let spool = MemSpool::of(alloc, files, failing.calls(alloc, Device::Spool)?)?;
+    let mut spool = StopSpool::new(spool, passes);
     teller.turn();
-    match opened(alloc, &mut spool, &world.config) {
-        Ok(mut table) => {
-            run(
-                alloc, world, &mut table, &mut spool, &mut bench, case, teller,
-            )?
-        }
-        Err(_) => teller.told.extend(b"not opened ")?,
-    }
-    Ok(spool.files()?)
+    let ran = match opened(alloc, &mut spool, &world.config) {
+        Ok(mut table) => run(
+            alloc, world, &mut table, &mut spool, &mut bench, case, teller,
+        ),
+        Err(_) => teller.unopened(),
+    };
+    ran?;
+    Ok(spool)
 }
 
-/// Whether that is told of a case in which a call fails, and of the files that are left.
+/// Whether that is told of a case in which a call fails, and of the files that are left; or less of
+/// it, where it isn't told whole.
 pub(crate) fn is_told(
     alloc: Global,
     case: &Case,
     failing: Failing,
-    telling: Telling,
+    is_whole: bool,
     wanted: &str,
 ) -> Result<bool, Fail> {
     let world = world_with(alloc, case.lines)?;
+    let mut teller = Teller::new(alloc, is_whole);
     let files = files_for(alloc, &case.letter)?;
-    let mut teller = Teller::new(alloc, telling);
-    let left = run_over(alloc, &world, files, case, failing, &mut teller)?;
-    tell_files(alloc, &world, left, &mut teller)?;
-    let told = &teller.told;
-    Ok(told.bytes() == wanted.as_bytes())
+    let spool = run_over(alloc, &world, files, case, failing, u64::MAX, &mut teller)?;
+    tell_files(alloc, &world, spool.spool.files()?, &mut teller)?;
+    Ok(teller.told.as_str() == wanted)
 }
