@@ -5,16 +5,16 @@ Use: bench/packaged.py [--only WORD] [PROGRAM]
 
 `install` puts it below a folder and takes it away again. `pages` shows each manual page without a
 warning. `checks` asks sendmail-check about configurations with each kind of fault. `units` has
-systemd-analyze verify each unit. `server`, `parts`, `sockets` and `inetd` run the very commands of the units
-and of the line for inetd, at port 25 with /etc, /var/mail and /var/spool of their own (by `unshare`,
-which wants root): clients send while the server is stopped and started again, and what was
-acknowledged must be in the boxes. `package` has dpkg-buildpackage make the Debian package, which is
-installed, tried, removed and purged over the files of this system, of which none is changed (by an
-overlay). `minutes` types docs/TEN_MINUTES.md there, from the installation on. `clone`, which is played
-by that very word alone, types all of it, with the clone of this checkout's last commit and its `make
-run`: hours, or a minute where that was proved on this machine. What isn't there is skipped, and named.
-The script ends with status 1 at the first thing that isn't so. Build the program first, by `make run`.
-This is no part of the gate.
+systemd-analyze verify each unit. `server`, `parts`, `sockets` and `inetd` run the very commands of
+the units and of the line for inetd, at port 25 with /etc, /var/mail and /var/spool of their own (by
+`unshare`, which wants root): clients send while the server is stopped and started again, and what
+was acknowledged must be in the boxes. `package` has dpkg-buildpackage make the Debian package,
+which is installed, tried, removed and purged over the files of this system, of which none is
+changed (by an overlay). `minutes` types docs/TEN_MINUTES.md there, from the installation on.
+`clone`, which is played by that very word alone, types all of it, with the clone of this checkout's
+last commit and its `make run`: hours, or some minutes where the gate proved that on this machine.
+What isn't there is skipped, and named. The script ends with status 1 at the first thing that isn't
+so. Build the program first, by `make run`. This is no part of the gate.
 """
 
 import argparse

@@ -2,21 +2,23 @@
 """Measures the built program beside Sendmail's own and Postfix, as servers, in turns in one run.
 
 Use: UNPACKED=FOLDER bench/speed.py [--messages N] [--rounds N] [--queue N,N] [--entries N,N]
-[--slow MS] [--only WORD] [--write] [PROGRAM], as root. FOLDER has Debian's packages of both peers, of
-Dovecot and of what they stand on, as bench/speed/unpack.sh puts them there; what isn't there is
-skipped. The parts are receipt, slow, four, delivery, memory, start, turn and mode. Each server is run
-by its own daemon, over a queue of its own in a new folder of the root, with all of its syncs; none
-writes a log. Nothing is removed before the end: ext4 makes files slowly where it lost many of late. Mail comes from Postfix's smtp-source. While receipt is measured none delivers: here the one
-runner is held by a program that doesn't end, Sendmail has DeliveryMode=queue, and Postfix has no
-queue manager. A queue is then delivered by a queue run (of Postfix, from the master's start) with
-20 runners at most, to a program that does nothing, to smtp-sink, and to Dovecot by LMTP. A start is
-one until the port is listened at, over a queue of which no entry is due, and a turn a queue run over
-such a one. In `slow` each sync takes MS (4) longer, by a library that all load first (it wants cc); in
-`four` mail goes to four of the program at once, each with a queue of its own (docs/MANY.md), as it
-does to one of the peers. In `mode` 20,000 lines of address test mode are answered over a file that m4
-makes. The last column is how many times better the program does than the better of its peers. With
-`--write` the table stands
-between its marks in docs/BENCHMARKS.md. This is no part of the gate.
+[--slow MS] [--place DIR] [--only WORD] [--write] [PROGRAM], as root. FOLDER has Debian's packages
+of both peers, of Dovecot and of what they stand on, as bench/speed/unpack.sh puts them there; what
+isn't there is skipped. The parts are receipt, slow, four, delivery, memory, start, turn and mode.
+Each server is run by its own daemon, over a queue of its own in a new folder of DIR (the root),
+with all of its syncs; none writes a log. Nothing is removed before the end: ext4 makes files slowly
+where it lost many of late, and where it is mounted with `discard` a removal and a renaming wait for
+the disk. Mail comes from Postfix's smtp-source. While receipt is measured none delivers: here the
+one runner is held by a program that doesn't end, Sendmail has DeliveryMode=queue, and Postfix has
+no queue manager. A queue is then delivered by a queue run (of Postfix, from the master's start)
+with 20 runners at most, to a program that does nothing, to smtp-sink, and to Dovecot by LMTP. A
+start is one until the port is listened at, over a queue of which no entry is due, and a turn a
+queue run over such a one. In `slow` each sync takes MS (4) longer, by a library that all load first
+(it wants cc); in `four` mail goes to four of the program at once, each with a queue of its own
+(docs/MANY.md), as it does to one of the peers. In `mode` 20,000 lines of address test mode are
+answered over a file that m4 makes. The last column is how many times better the program does than
+the better of its peers. With `--write` the table stands between its marks in docs/BENCHMARKS.md.
+This is no part of the gate.
 """
 
 import argparse
@@ -209,13 +211,14 @@ PARTS = {
 
 def head_of(folder, words):
     """What the table is of."""
-    made, file, name = rows.probe(folder)
+    made, file, name, replaced, removed = rows.probe(folder)
     cpu = next(line for line in open("/proc/cpuinfo", encoding="ascii") if "model name" in line)
     load = os.getloadavg()[0]
     return (
         f"Taken on {time.strftime('%d %B %Y', time.gmtime())}, on {os.cpu_count()} processors "
         f"({cpu.partition(': ')[2].strip()}) with a load of {load:.1f}.\nIn the middle the making of "
-        f"a file took {made:.2f} ms, its sync with 1 kB {file:.2f}, one of a directory {name:.2f}.\n"
+        f"a file took {made:.2f} ms, its sync with 1 kB {file:.2f}, one of a directory {name:.2f},\n"
+        f"a renaming over a file {replaced:.2f}, a removal {removed:.2f}.\n"
         f"The best of {words.rounds} rounds, {words.messages} messages a round.\n"
     )
 
@@ -235,6 +238,7 @@ def parsed():
     parser.add_argument("--rounds", type=int, default=3)
     parser.add_argument("--queue", default="500,10000")
     parser.add_argument("--slow", type=float, default=4)
+    parser.add_argument("--place", default="/")
     parser.add_argument("--entries", default="10,10000,100000")
     parser.add_argument("--only", default="")
     parser.add_argument("--write", action="store_true")
@@ -266,7 +270,7 @@ def main():
     if not Path(words.program).exists() or not is_there(rows.SOURCE):
         print("skipped: no smtp-source, or no program, which `make run` builds")
         return 2
-    with tempfile.TemporaryDirectory(dir="/") as folder, ExitStack() as ends:
+    with tempfile.TemporaryDirectory(dir=words.place) as folder, ExitStack() as ends:
         Path(folder).chmod(0o755)
         text = measured(words, Path(folder), ends)
     print(text)

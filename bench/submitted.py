@@ -5,10 +5,10 @@ queue.
 Use: bench/submitted.py [PROGRAM]
 
 Python's subprocess, git's send-email, cron's words, bsd-mailx, mutt and msmtp's words, each as its
-documents say; what isn't installed is skipped. Then one more under a server that owns the queue,
-which must end with 75 and leave the queue as it is, and be taken by the server's port. It prints a
-line for each, and ends with status 1 at the first that isn't as it must be. Build the program first,
-by `make run`. This is no part of the gate.
+documents say; what isn't installed is skipped. Then ten at once by `flock`, and one more under a
+server that owns the queue, which must end with 75 and leave the queue as it is, and be taken by the
+server's port. It prints a line for each, and ends with status 1 at the first that isn't as it must
+be. Build the program first, by `make run`. This is no part of the gate.
 """
 
 import email.message
@@ -155,7 +155,8 @@ def under_a_server(site):
         ran = subprocess.run(
             [site.plain, "ann@mx.example"], input=b"hi\n", capture_output=True, timeout=60, check=False
         )
-        expect("beside a server", (ran.returncode, ran.stderr), (75, b"sendmail: spool fault\n"))
+        owned = f"sendmail: {site.queue}: owned by another process\nsendmail: spool fault\n"
+        expect("beside a server", (ran.returncode, ran.stderr.decode()), (75, owned))
         with smtplib.SMTP("127.0.0.1", site.port, "c.example", 60) as session:
             session.sendmail("bob@mx.example", ["ann@mx.example"], "Subject: port\r\n\r\nhello\r\n")
     finally:

@@ -17,26 +17,31 @@ MOST = 600
 TICKS = os.sysconf("SC_CLK_TCK")
 
 
+def timed(times, call, *words):
+    """Does a call, and adds its milliseconds."""
+    begun = time.perf_counter()
+    given = call(*words)
+    times.append((time.perf_counter() - begun) * 1000)
+    return given
+
+
 def probe(folder, rounds=50):
     """The median milliseconds of the making of a file, of its sync with 1 kB, and of that of its
-    directory behind a renaming."""
+    directory behind a renaming; of a renaming over a file, and of a removal."""
     place = os.open(folder, os.O_RDONLY | os.O_DIRECTORY)
-    made, files, names = [], [], []
-    for number in range(rounds):
-        path = f"{folder}/probe{number}"
-        begun = time.perf_counter()
-        file = os.open(path, os.O_WRONLY | os.O_CREAT | os.O_EXCL)
-        made.append((time.perf_counter() - begun) * 1000)
+    made, files, names, replaced, removed = [], [], [], [], []
+    for number in range(2 * rounds):
+        path, last = f"{folder}/probe", f"{folder}/probe{number % rounds}"
+        file = timed(made, os.open, path, os.O_WRONLY | os.O_CREAT | os.O_EXCL)
         os.write(file, b"x" * 1024)
-        for kept, descriptor in ((files, file), (names, place)):
-            begun = time.perf_counter()
-            os.fsync(descriptor)
-            kept.append((time.perf_counter() - begun) * 1000)
-            if descriptor == file:
-                os.rename(path, path + ".new")
+        timed(files, os.fsync, file)
+        timed(replaced if number >= rounds else [], os.rename, path, last)
+        timed(names, os.fsync, place)
         os.close(file)
+    for number in range(rounds):
+        timed(removed, os.unlink, f"{folder}/probe{number}")
     os.close(place)
-    return [sorted(them)[rounds // 2] for them in (made, files, names)]
+    return [sorted(them)[len(them) // 2] for them in (made, files, names, replaced, removed)]
 
 
 def shared(number, parts):

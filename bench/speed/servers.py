@@ -177,9 +177,9 @@ class Ours(Server):
         super().__init__(*places)
         self.program = str(program)
 
-    def configure(self, runners, interval="1s"):
+    def configure(self, runners, interval="1s", age="0s"):
         text = (HERE / "speed.cf").read_text()
-        text += f"Qmqueue, P=@DIR@/queue, R={runners}, I={interval}\n"
+        text += f"O MinQueueAge={age}\nQmqueue, P=@DIR@/queue, R={runners}, I={interval}\n"
         values = {"DIR": self.folder, "PORT": self.port, "PEER": self.peer, "BOX": self.box}
         for name, value in values.items():
             text = text.replace(f"@{name}@", str(value))
@@ -213,7 +213,7 @@ class Ours(Server):
 
     def finds_none(self):
         """The seconds of a queue run that finds nothing due."""
-        self.configure(RUNNERS, "1d")
+        self.configure(RUNNERS, "1d", "1d")
         command = [self.program, "-q", f"-C{self.folder}/speed.cf"]
         begun = time.monotonic()
         ran = subprocess.run(command, check=False, timeout=600, **QUIET)
