@@ -2,8 +2,10 @@
 
 .PHONY: deb install pages run scene scenes statement test uninstall
 
-# Builds the proved program, prints one line of address test mode, and answers it.
+# Builds the proved program, prints one line of address test mode, and answers it. What `rt ci` has
+# proved of the same texts on this machine is taken over.
 run:
+	-@python3 tools/libs.py > /dev/null 2>&1
 	@cd crates/sendmail && cat stdin && rt run < stdin -- -bt -C$(CURDIR)/crates/sendmail/data/row1.cf
 
 # The gate.
